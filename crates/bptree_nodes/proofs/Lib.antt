@@ -1,0 +1,9 @@
+pub mod Around
+pub mod Ascending
+pub mod Equal
+pub mod Found
+pub mod Laws
+pub mod Locating
+pub mod Pairs
+pub mod Parted
+pub mod Search

@@ -1,0 +1,9 @@
+pub mod Contents
+pub mod Keys
+pub mod Places
+pub mod Inner
+pub mod Leaf
+pub mod LeafLends
+pub mod LeafResults
+pub mod Locate
+pub mod Taken
