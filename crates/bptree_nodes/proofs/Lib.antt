@@ -7,3 +7,4 @@ pub mod Locating
 pub mod Pairs
 pub mod Parted
 pub mod Search
+pub mod Updates

@@ -2,6 +2,7 @@
 #![tactic(auto)]
 
 mod compares;
+pub mod contents;
 pub mod entry_ref;
 pub mod inner_node;
 pub mod key;

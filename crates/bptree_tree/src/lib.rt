@@ -1,4 +1,7 @@
-//! A tree over one sorted vector.
+//! An ordered map in memory that is one strictly ascending list of pairs.
+//!
+//! For now it keeps one private sorted vector: a look-up costs the logarithm of the length, and an insertion moves the
+//! pairs behind its place.
 #![tactic(auto)]
 
 pub mod iterator;
@@ -6,7 +9,7 @@ pub mod iterator;
 ghost use Rattle.std.specs.Prelude.{◌≡◌, [], false, length, slice_get, IfOk, IfErr, IsTrue, IsOk, ◌↔◌};
 ghost use Rattle.std.specs.Option.{option_map, option_copied};
 ghost use Rattle.std.specs.Map.Iter.{ShowsInOrder, deref_pair};
-ghost use Rattle.bptree_nodes.specs.Contents.{has, value, put};
+ghost use Rattle.bptree_nodes.specs.Contents.{IsAscending, has, value, put};
 ghost use Rattle.bptree_nodes.specs.Places.{IsPlaceOf};
 ghost use Rattle.bptree_tree.specs.Refusal.{pair_of};
 
@@ -16,14 +19,16 @@ use std::alloc::AllocError;
 use std::marker::Model;
 use std::mem;
 
-/// A pair that was not stored.
+/// Why a pair was not stored. It hands key and value back.
 #[derive(Debug, Drop)]
 pub enum InsertError<K, V> {
+    /// A request for memory was refused.
     OutOfMemory(K, V),
+    /// The tree has `usize::MAX` pairs, and none with this key.
     Full(K, V),
 }
 
-/// A tree.
+/// Pairs of a key and a value, in the strictly ascending order of their keys, over a store of nodes.
 #[derive(Drop)]
 pub struct BPlusTree<S: NodeStore> {
     store: S,
@@ -42,6 +47,7 @@ impl<S: NodeStore> Model for BPlusTree<S> {
 }
 
 impl<S: NodeStore> BPlusTree<S> {
+    /// A tree with no pairs. It takes no memory for now.
     pub fn new(store: S) -> Result<Self, AllocError>
         ensures { IfOk result (λ tree. tree.contents ≡ []) }
     {
@@ -49,18 +55,22 @@ impl<S: NodeStore> BPlusTree<S> {
         Ok(BPlusTree { store, pairs })
     }
 
+    /// The number of pairs.
     pub fn len(&self) -> usize
-        ensures { result ≡ length self.now.contents }
+        ensures value { result ≡ length self.now.contents }
+        ensures ascending { IsAscending S.K.cmp self.now.contents }
     {
         self.pairs.len()
     }
 
+    /// Whether there are no pairs.
     pub fn is_empty(&self) -> bool
         ensures { IsTrue result ↔ (self.now.contents ≡ []) }
     {
         self.pairs.is_empty()
     }
 
+    /// The value at a key equal to `k`.
     pub fn get(&self, k: &S::K) -> Option<&S::V>
         ensures { option_copied result ≡ value S.K.cmp self.now.contents k.now }
     {
@@ -70,6 +80,7 @@ impl<S: NodeStore> BPlusTree<S> {
         }
     }
 
+    /// The pair with the least key.
     pub fn first(&self) -> Option<(&S::K, &S::V)>
         ensures { option_map (λ pair. (pair.0.now, pair.1.now)) result ≡ slice_get self.now.contents 0 }
     {
@@ -79,13 +90,19 @@ impl<S: NodeStore> BPlusTree<S> {
         }
     }
 
+    /// The pairs in the order of their keys. It takes no memory, and neither do its steps.
     pub fn iter(&self) -> Iter<'_, S>
         ensures rest { result ≡ self.now.contents }
+        ensures ascending { IsAscending S.K.cmp self.now.contents }
         ensures runs { ShowsInOrder (deref_pair {K = S.K} {X = S.V}) }
     {
         Iter::new(&self.pairs)
     }
 
+    /// Puts `v` at `k`, and hands back the value that was there.
+    ///
+    /// A key that equals `k` stays, and its value alone is replaced: that takes no memory and is never refused. A pair
+    /// with a new key can be refused: for want of memory, or in a tree of `usize::MAX` pairs. Then nothing has changed.
     pub fn insert(&mut self, k: S::K, v: S::V) -> Result<Option<S::V>, InsertError<S::K, S::V>>
         ensures ok { IfOk result (λ old. (old ≡ value S.K.cmp self.old.contents k) × (self.new.contents ≡ put S.K.cmp self.old.contents k v)) }
         ensures err { IfErr result (λ refusal. (pair_of refusal ≡ (k, v)) × (self.new.contents ≡ self.old.contents)) }

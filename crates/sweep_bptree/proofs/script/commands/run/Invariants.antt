@@ -1,0 +1,12 @@
+use Rattle.std.proofs.Common.{◌≡◌, ◌++◌, length, vec_len}
+use Rattle.std.specs.Vec.Iter.{into_iter_items}
+use Rattle.sweep_bptree.specs.Steps.{Run}
+use Rattle.sweep_bptree.proofs.script.commands.run.Given as goal
+
+-- the commands so far were carried out
+abbrev pub invariant-loop-command : goal.invariant-loop-command
+invariant-loop-command g l =
+    (goal.iterator-loop-command g).can_next l.command-iterator × (goal.iterator-loop-command g).is_finite l.command-iterator
+    × (l.fn.commands.items ≡ l.yielded ++ into_iter_items l.command-iterator)
+    × (vec_len l.replies ≡ length l.yielded)
+    × Run g.S.K.Ord.cmp l.initial.tree.contents l.yielded l.replies.items l.tree.contents

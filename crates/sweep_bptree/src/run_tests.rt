@@ -1,0 +1,142 @@
+//! Trees and lists of commands, with answers that are known from outside.
+ghost use Rattle.std.proofs.Common.{rules};
+
+use crate::script::{Command, Reply, run};
+use bptree_nodes::key::{Key, Tuple2};
+use bptree_stores::node_stores::NodeStoreVec;
+use bptree_tree::BPlusTree;
+use std::alloc::AllocError;
+use std::iter::ExactSizeIterator;
+use std::test::Fail;
+
+// A key whose letter takes no part in the order.
+#[derive(Debug, Drop)]
+#[derive_where(Clone, PartialEq, Eq, PartialOrd, Ord)]
+struct Numbered {
+    number: u64,
+    #[derive_where(skip(EqHashOrd))]
+    letter: char,
+}
+
+impl Key for Numbered {
+    ghost clone_is_equal = { Prim.search rules };
+}
+
+fn key_of(number: u64, letter: char) -> Numbered {
+    Numbered { number, letter }
+}
+
+#[test]
+fn a_tree_holds_what_was_put(rt: HostRuntime) -> Result<(), Fail> {
+    let mut tree = BPlusTree::new(NodeStoreVec::new(rt.alloc()))?;
+    assert!(rt; tree.is_empty());
+    assert_eq!(rt; tree.first(), None);
+    assert_eq!(rt; tree.iter().next(), None);
+    for (key, value, old) in [(2u64, 20, None), (1, 10, None), (2, 21, Some(20))] {
+        assert_eq!(rt; tree.insert(key, value).ok(), Some(old));
+    }
+    assert_eq!(rt; tree.get(&2), Some(&21));
+    assert_eq!(rt; tree.get(&3), None);
+    assert_eq!(rt; tree.len(), 2);
+    assert!(rt; !tree.is_empty());
+    assert_eq!(rt; tree.first(), Some((&1, &10)));
+    let mut pairs = tree.iter();
+    assert_eq!(rt; pairs.len(), 2);
+    assert_eq!(rt; pairs.next(), Some((&1, &10)));
+    assert_eq!(rt; pairs.next(), Some((&2, &21)));
+    assert_eq!(rt; pairs.len(), 0);
+    assert_eq!(rt; pairs.next(), None);
+    Ok(())
+}
+
+#[test]
+fn an_equal_key_stays(rt: HostRuntime) -> Result<(), Fail> {
+    let mut tree = BPlusTree::new(NodeStoreVec::new(rt.alloc()))?;
+    assert_eq!(rt; tree.insert(key_of(1, 'a'), 10).ok(), Some(None));
+    assert_eq!(rt; tree.insert(key_of(1, 'b'), 20).ok(), Some(Some(10)));
+    let stored = tree.first().map(|(key, value)| (key.letter, *value));
+    assert_eq!(rt; stored, Some(('a', 20)));
+    Ok(())
+}
+
+#[test]
+fn a_run_answers_each_command(rt: HostRuntime) -> Result<(), Fail> {
+    let mut tree = BPlusTree::new(NodeStoreVec::new(rt.alloc()))?;
+    let commands = vec![in rt.alloc();
+        Command::First,
+        Command::Insert(key_of(1, 'a'), 10),
+        Command::Insert(key_of(1, 'b'), 20),
+        Command::First,
+        Command::Get(key_of(1, 'c')),
+        Command::Get(key_of(2, 'a')),
+        Command::Len,
+    ]?;
+    let (replies, error) = run(rt.alloc(), &mut tree, commands);
+    assert!(rt; error.is_none());
+    let wanted = [
+        "pair none",
+        "value none",
+        "value 10",
+        "pair 1 a 20",
+        "value 20",
+        "value none",
+        "number 1",
+    ];
+    assert_eq!(rt; replies.len(), wanted.len());
+    for (reply, wanted) in replies.iter().zip(wanted) {
+        let shown = match reply {
+            Reply::Value(None) => format!(in rt.alloc(); "value none")?,
+            Reply::Value(Some(value)) => format!(in rt.alloc(); "value {value}")?,
+            Reply::Pair(None) => format!(in rt.alloc(); "pair none")?,
+            Reply::Pair(Some((key, value))) => {
+                format!(in rt.alloc(); "pair {} {} {value}", key.number, key.letter)?
+            }
+            Reply::Number(number) => format!(in rt.alloc(); "number {number}")?,
+            Reply::OutOfMemory => format!(in rt.alloc(); "out of memory")?,
+            Reply::Full => format!(in rt.alloc(); "full")?,
+        };
+        assert_eq!(rt; shown.as_str(), wanted);
+    }
+    Ok(())
+}
+
+// Whether a clone is equal to the key, and the key is found under it in a tree of two keys.
+fn is_found_by_clone<K: Key>(
+    rt: &impl AllocGlobal,
+    small: K,
+    great: K,
+) -> Result<bool, AllocError> {
+    let clone = great.clone()?;
+    if small >= great || clone != great {
+        return Ok(false);
+    }
+    let mut tree = BPlusTree::new(NodeStoreVec::new(rt.alloc()))?;
+    if tree.insert(great, 2).is_err() || tree.insert(small, 1).is_err() {
+        return Ok(false);
+    }
+    Ok(tree.get(&clone).copied() == Some(2) && tree.first().map(|(_, value)| *value) == Some(1))
+}
+
+#[test]
+fn each_kind_of_key_is_found(rt: HostRuntime) -> Result<(), Fail> {
+    assert!(rt; is_found_by_clone(&rt, 1u8, 2)?);
+    assert!(rt; is_found_by_clone(&rt, 1u16, 2)?);
+    assert!(rt; is_found_by_clone(&rt, 1u32, 2)?);
+    assert!(rt; is_found_by_clone(&rt, 1u64, 2)?);
+    assert!(rt; is_found_by_clone(&rt, 1u128, 2)?);
+    assert!(rt; is_found_by_clone(&rt, 1usize, 2)?);
+    assert!(rt; is_found_by_clone(&rt, -2i8, -1)?);
+    assert!(rt; is_found_by_clone(&rt, -2i16, -1)?);
+    assert!(rt; is_found_by_clone(&rt, -2i32, -1)?);
+    assert!(rt; is_found_by_clone(&rt, -2i64, -1)?);
+    assert!(rt; is_found_by_clone(&rt, -2i128, -1)?);
+    assert!(rt; is_found_by_clone(&rt, -2isize, -1)?);
+    assert!(rt; is_found_by_clone(&rt, false, true)?);
+    assert!(rt; is_found_by_clone(&rt, 'a', 'b')?);
+    let hello = String::from_str(rt.alloc(), "hello")?;
+    let world = String::from_str(rt.alloc(), "world")?;
+    assert!(rt; is_found_by_clone(&rt, hello, world)?);
+    assert!(rt; is_found_by_clone(&rt, (1u8, 'b'), (2, 'a'))?);
+    assert!(rt; is_found_by_clone(&rt, Tuple2(1u64), Tuple2(2))?);
+    Ok(())
+}

@@ -1,0 +1,4 @@
+//! Lists of commands on a tree.
+mod commands;
+
+pub use commands::{Command, Reply, run};
