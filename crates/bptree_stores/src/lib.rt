@@ -1,4 +1,6 @@
-//! Where a B+ tree keeps its nodes.
+//! Where a B+ tree keeps its nodes: a store, and one over vectors.
 #![tactic(auto)]
 
+pub mod node_store_vec;
 pub mod node_stores;
+pub mod place;

@@ -1,45 +1,177 @@
-//! What a tree stands on.
-use bptree_nodes::key::Key;
-use std::alloc::Global;
-use std::marker::PhantomData;
+//! What a tree asks of a store.
+ghost use Rattle.std.specs.Prelude.{◌≡◌, ℕ, IfOk, IfErr, OnErr, IfSome, IsTrue, ◌↔◌, MatchOption, []};
+ghost use Rattle.std.specs.Borrow.{Lends, sem};
+ghost use Rattle.bptree_nodes.specs.Inner.{Inner};
+ghost use Rattle.bptree_nodes.specs.Leaf.{Leaf};
+ghost use Rattle.bptree_nodes.specs.Slot.{Slot, Slots, Free, Held, Present, IsPresent, IsEmpty, UpdatesInner, UpdatesLeaf};
+ghost use Rattle.bptree_nodes.specs.contracts.inner_node.InnerNode.{the_row as inner_row};
+ghost use Rattle.bptree_nodes.specs.contracts.leaf_node.LeafNode.{the_row as leaf_row};
+ghost use Rattle.bptree_stores.specs.Hint.{HoldsKey};
 
-/// Where a tree keeps its nodes.
+use bptree_arguments::argument::Argument;
+use bptree_nodes::inner_node::InnerNode;
+use bptree_nodes::key::Key;
+use bptree_nodes::leaf_node::LeafNode;
+use bptree_nodes::node_id::{InnerNodeId, LeafNodeId};
+use std::alloc::{AllocError, Global};
+
+/// Inner nodes and leaves, each under a number. A number is free, held, or present with its node.
+///
+/// A call changes what stands under the one number that it names or answers, and a refused call changes nothing.
 pub trait NodeStore: Drop {
+    /// The keys of the nodes.
     type K: Key;
 
+    /// The values of the leaves.
     type V: Drop;
 
-    fn empty(alloc: Global) -> Self;
+    /// The summaries of the inner nodes.
+    type Argument: Argument<Self::K>;
 
+    // What stands under each number.
+    ghost slots: { Self → Slots (Inner Self.K Self.Argument) (Leaf Self.K Self.V) };
+
+    // The store with the inner node under a number written.
+    ghost with_inner: { Self → ℕ → Inner Self.K Self.Argument → Self };
+
+    // The store with the leaf under a number written.
+    ghost with_leaf: { Self → ℕ → Leaf Self.K Self.V → Self };
+
+    /// The greatest number of keys of an inner node.
+    fn inner_n() -> u16
+        ensures { result ≡ 64 }
+    {
+        64
+    }
+
+    /// The greatest number of pairs of a leaf.
+    fn leaf_n() -> u16
+        ensures { result ≡ 64 }
+    {
+        64
+    }
+
+    /// A store with no node and no number held, which takes memory from `alloc` as it grows. It takes none now.
+    fn empty(alloc: Global) -> Self
+        ensures { IsEmpty (slots result) };
+
+    /// The allocator that the store was given.
     fn allocator(&self) -> Global;
-}
 
-/// A store over vectors.
-#[derive(Drop)]
-pub struct NodeStoreVec<K, V> {
-    alloc: Global,
-    of: PhantomData<(K, V)>,
-}
+    /// Whether no node is present and no number held.
+    fn is_empty(&self) -> bool
+        ensures { IsTrue result ↔ IsEmpty (slots self.now) };
 
-impl<K: Key, V: Drop> NodeStoreVec<K, V> {
-    pub fn new(alloc: Global) -> Self {
-        NodeStoreVec {
-            alloc,
-            of: PhantomData,
-        }
+    /// Puts an inner node under a free number. A refusal hands the box back.
+    fn add_inner(
+        &mut self,
+        node: Box<InnerNode<Self::K, Self::Argument>>,
+    ) -> Result<InnerNodeId, Box<InnerNode<Self::K, Self::Argument>>>
+        ensures was_free { IfOk result (λ id. (slots self.old).inner id.0 ≡ Free) }
+        ensures updates { IfOk result (λ id. UpdatesInner (slots self.old) (slots self.new) id.0 (Present node.value)) }
+        ensures refused { OnErr result (slots self.new ≡ slots self.old) }
+        ensures handed_back { IfErr result (λ back. back ≡ node) };
+
+    /// Holds a free number for an inner node.
+    fn reserve_inner(&mut self) -> Result<InnerNodeId, AllocError>
+        ensures was_free { IfOk result (λ id. (slots self.old).inner id.0 ≡ Free) }
+        ensures updates { IfOk result (λ id. UpdatesInner (slots self.old) (slots self.new) id.0 Held) }
+        ensures refused { OnErr result (slots self.new ≡ slots self.old) };
+
+    /// Holds a free number for a leaf.
+    fn reserve_leaf(&mut self) -> Result<LeafNodeId, AllocError>
+        ensures was_free { IfOk result (λ id. (slots self.old).leaf id.0 ≡ Free) }
+        ensures updates { IfOk result (λ id. UpdatesLeaf (slots self.old) (slots self.new) id.0 Held) }
+        ensures refused { OnErr result (slots self.new ≡ slots self.old) };
+
+    /// Puts a leaf with no pairs and no links under a free number.
+    fn new_empty_leaf(&mut self) -> Result<LeafNodeId, AllocError>
+        ensures was_free { IfOk result (λ id. (slots self.old).leaf id.0 ≡ Free) }
+        ensures updates { IfOk result (λ id. UpdatesLeaf (slots self.old) (slots self.new) id.0 (Present (record { pairs = []; previous = None; next = None }))) }
+        ensures refused { OnErr result (slots self.new ≡ slots self.old) }
+    {
+        let leaf = LeafNode::new(self.allocator())?;
+        let id = self.reserve_leaf()?;
+        self.assign_leaf(id, leaf);
+        Ok(id)
     }
-}
 
-impl<K: Key, V: Drop> NodeStore for NodeStoreVec<K, V> {
-    type K = K;
+    /// The inner node under a number.
+    fn get_inner(&self, id: InnerNodeId) -> &InnerNode<Self::K, Self::Argument>
+        requires { IsPresent ((slots self.now).inner id.0) }
+        ensures { (slots self.now).inner id.0 ≡ Present result.now };
 
-    type V = V;
+    /// The inner node under a number, for writing.
+    fn get_mut_inner(&mut self, id: InnerNodeId) -> &mut InnerNode<Self::K, Self::Argument>
+        requires { IsPresent ((slots self.old).inner id.0) }
+        ensures* writes_back { sem 𝓛 (Lends Self.row (inner_row Self.K.row Self.Argument.row) self.entry result (with_inner self.old id.0)) }
+        ensures value { (slots self.old).inner id.0 ≡ Present result.now };
 
-    fn empty(alloc: Global) -> Self {
-        NodeStoreVec::new(alloc)
-    }
+    /// The leaf under a number.
+    fn get_leaf(&self, id: LeafNodeId) -> &LeafNode<Self::K, Self::V>
+        requires { IsPresent ((slots self.now).leaf id.0) }
+        ensures { (slots self.now).leaf id.0 ≡ Present result.now };
 
-    fn allocator(&self) -> Global {
-        self.alloc
-    }
+    /// The leaf under a number, for writing.
+    fn get_mut_leaf(&mut self, id: LeafNodeId) -> &mut LeafNode<Self::K, Self::V>
+        requires { IsPresent ((slots self.old).leaf id.0) }
+        ensures* writes_back { sem 𝓛 (Lends Self.row (leaf_row Self.K.row Self.V.row) self.entry result (with_leaf self.old id.0)) }
+        ensures value { (slots self.old).leaf id.0 ≡ Present result.now };
+
+    /// The inner node under a number, where one is present.
+    fn try_get_inner(&self, id: InnerNodeId) -> Option<&InnerNode<Self::K, Self::Argument>>
+        ensures { MatchOption result (¬ (IsPresent ((slots self.now).inner id.0))) (λ node. (slots self.now).inner id.0 ≡ Present node.now) };
+
+    /// The leaf under a number, where one is present.
+    fn try_get_leaf(&self, id: LeafNodeId) -> Option<&LeafNode<Self::K, Self::V>>
+        ensures { MatchOption result (¬ (IsPresent ((slots self.now).leaf id.0))) (λ leaf. (slots self.now).leaf id.0 ≡ Present leaf.now) };
+
+    /// Takes an inner node out. Its number is held.
+    fn take_inner(&mut self, id: InnerNodeId) -> Box<InnerNode<Self::K, Self::Argument>>
+        requires { IsPresent ((slots self.old).inner id.0) }
+        ensures value { (slots self.old).inner id.0 ≡ Present result.value }
+        ensures updates { UpdatesInner (slots self.old) (slots self.new) id.0 Held };
+
+    /// Takes a leaf out. Its number is held.
+    fn take_leaf(&mut self, id: LeafNodeId) -> Box<LeafNode<Self::K, Self::V>>
+        requires { IsPresent ((slots self.old).leaf id.0) }
+        ensures value { (slots self.old).leaf id.0 ≡ Present result.value }
+        ensures updates { UpdatesLeaf (slots self.old) (slots self.new) id.0 Held };
+
+    /// Puts an inner node under a held number.
+    fn put_back_inner(&mut self, id: InnerNodeId, node: Box<InnerNode<Self::K, Self::Argument>>)
+        requires { (slots self.old).inner id.0 ≡ Held }
+        ensures { UpdatesInner (slots self.old) (slots self.new) id.0 (Present node.value) };
+
+    /// Puts a leaf under a held number.
+    fn assign_leaf(&mut self, id: LeafNodeId, leaf: Box<LeafNode<Self::K, Self::V>>)
+        requires { (slots self.old).leaf id.0 ≡ Held }
+        ensures { UpdatesLeaf (slots self.old) (slots self.new) id.0 (Present leaf.value) };
+
+    /// Frees a held number of an inner node.
+    fn release_inner(&mut self, id: InnerNodeId)
+        requires { (slots self.old).inner id.0 ≡ Held }
+        ensures { UpdatesInner (slots self.old) (slots self.new) id.0 Free };
+
+    /// Frees a held number of a leaf.
+    fn release_leaf(&mut self, id: LeafNodeId)
+        requires { (slots self.old).leaf id.0 ≡ Held }
+        ensures { UpdatesLeaf (slots self.old) (slots self.new) id.0 Free };
+
+    /// Remembers a leaf as a hint, whether or not one is present under the number.
+    fn cache_leaf(&self, id: LeafNodeId);
+
+    /// The remembered leaf, where it is still present and no other leaf can hold the key.
+    fn try_cache(&self, k: &Self::K) -> Option<LeafNodeId>
+        ensures { IfSome result (λ id. HoldsKey Self.K.cmp ((slots self.now).leaf id.0) k.now) };
+
+    // A write to a present inner node changes what stands under its number alone.
+    ghost with_inner_updates: { (s : Self) (id : ℕ) (node : Inner Self.K Self.Argument)
+        → IsPresent ((slots s).inner id)
+        → UpdatesInner (slots s) (slots (with_inner s id node)) id (Present node) };
+
+    // A write to a present leaf changes what stands under its number alone.
+    ghost with_leaf_updates: { (s : Self) (id : ℕ) (leaf : Leaf Self.K Self.V)
+        → IsPresent ((slots s).leaf id)
+        → UpdatesLeaf (slots s) (slots (with_leaf s id leaf)) id (Present leaf) };
 }

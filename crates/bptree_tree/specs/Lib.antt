@@ -1,2 +1,4 @@
+pub mod Order
 pub mod Refusal
+pub mod Shape
 pub mod Tree

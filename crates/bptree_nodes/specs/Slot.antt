@@ -1,0 +1,41 @@
+-- What stands under the numbers of a store.
+use Rattle.std.specs.Prelude.{◌≡◌, ◌≢◌, ℕ}
+
+-- under a number stands nothing, a reservation, or a node
+pub data Slot (N : Type 0) : Type 0 where
+  Free : Slot N
+  Held : Slot N
+  Present : N → Slot N
+
+module _ {N : Type 0} where
+  -- a node stands there
+  abbrev pub IsPresent : Slot N → Type 0
+  IsPresent Free = ⊥
+  IsPresent Held = ⊥
+  IsPresent (Present _) = Unit {0}
+
+  -- the new numbers have this under the number, and every other number keeps what it had
+  pub record Updates (old new : ℕ → Slot N) (number : ℕ) (slot : Slot N) : Type 0 where
+    pub changed : new number ≡ slot
+    pub others : (other : ℕ) → other ≢ number → new other ≡ old other
+
+-- what stands under the numbers of inner nodes and under those of leaves
+pub record Slots (I L : Type 0) : Type 0 where
+  pub inner : ℕ → Slot I
+  pub leaf : ℕ → Slot L
+
+module _ {I L : Type 0} where
+  -- one number of an inner node changed, and no other number
+  pub record UpdatesInner (old new : Slots I L) (number : ℕ) (slot : Slot I) : Type 0 where
+    pub inner : Updates old.inner new.inner number slot
+    pub leaf : new.leaf ≡ old.leaf
+
+  -- one number of a leaf changed, and no other number
+  pub record UpdatesLeaf (old new : Slots I L) (number : ℕ) (slot : Slot L) : Type 0 where
+    pub leaf : Updates old.leaf new.leaf number slot
+    pub inner : new.inner ≡ old.inner
+
+  -- every number is free
+  pub record IsEmpty (slots : Slots I L) : Type 0 where
+    pub inner : (number : ℕ) → slots.inner number ≡ Free
+    pub leaf : (number : ℕ) → slots.leaf number ≡ Free

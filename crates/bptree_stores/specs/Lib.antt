@@ -1,0 +1,3 @@
+pub mod Hint
+pub mod Place
+pub mod StoreVec

@@ -1,0 +1,214 @@
+//! A store over two vectors.
+ghost use Rattle.std.specs.Prelude.{◌≡◌, ◌↔◌, ℕ, IsTrue, IfOk};
+ghost use Rattle.bptree_nodes.specs.Slot.{Free, IsEmpty};
+ghost use Rattle.bptree_stores.specs.Place.{slot_at};
+
+use crate::node_stores::NodeStore;
+use crate::place::Place;
+use bptree_arguments::argument::Argument;
+use bptree_nodes::inner_node::InnerNode;
+use bptree_nodes::key::Key;
+use bptree_nodes::leaf_node::LeafNode;
+use bptree_nodes::node_id::{InnerNodeId, LeafNodeId};
+use std::alloc::{AllocError, Global};
+use std::cell::Cell;
+use std::mem;
+
+// Whether no number is present or held.
+fn are_vacant<N>(places: &[Place<N>]) -> bool
+    ensures { IsTrue result ↔ ((id : ℕ) → slot_at places.now id ≡ Free) }
+{
+    for place in places {
+        match place {
+            Place::Vacant => {}
+            _ => return false,
+        }
+    }
+    true
+}
+
+/// Nodes in two vectors of boxes, under their places. A released number is not given out again.
+///
+/// A new number takes amortised constant time, and moves no node.
+#[derive(Drop)]
+pub struct NodeStoreVec<K: Key, V, A: Argument<K> = ()> {
+    inner_nodes: Vec<Place<InnerNode<K, A>>>,
+    leaf_nodes: Vec<Place<LeafNode<K, V>>>,
+    alloc: Global,
+    cached_leaf: Cell<usize>,
+}
+
+impl<K: Key, V: Drop, A: Argument<K>> NodeStoreVec<K, V, A> {
+    ghost use Rattle.bptree_stores.specs.StoreVec.{slots};
+
+    /// A store with no node and no number held. It takes no memory now.
+    pub fn new(alloc: Global) -> Self
+        ensures { IsEmpty (slots result) }
+    {
+        NodeStoreVec::empty(alloc)
+    }
+
+    /// The same, with room for so many numbers of each kind before it grows.
+    pub fn with_capacity(alloc: Global, capacity: usize) -> Result<Self, AllocError>
+        ensures { IfOk result (λ store. IsEmpty (slots store)) }
+    {
+        Ok(NodeStoreVec {
+            inner_nodes: Vec::with_capacity(alloc, capacity)?,
+            leaf_nodes: Vec::with_capacity(alloc, capacity)?,
+            alloc,
+            cached_leaf: Cell::new(usize::MAX),
+        })
+    }
+}
+
+impl<K: Key, V: Drop, A: Argument<K>> NodeStore for NodeStoreVec<K, V, A> {
+    ghost use Rattle.std.specs.Prelude.{◌≡◌, ℕ, IfOk, IfErr, OnErr};
+    ghost use Rattle.bptree_nodes.specs.Slot.{Free, Held, Present, UpdatesInner, UpdatesLeaf};
+    ghost use Rattle.bptree_stores.specs.StoreVec.{slots, vec_with_leaf, vec_with_leaf_updates, vec_with_inner, vec_with_inner_updates};
+
+    type K = K;
+
+    type V = V;
+
+    type Argument = A;
+
+    ghost slots = { slots };
+
+    ghost with_inner = { vec_with_inner };
+
+    ghost with_leaf = { vec_with_leaf };
+
+    fn empty(alloc: Global) -> Self {
+        NodeStoreVec {
+            inner_nodes: Vec::new(alloc),
+            leaf_nodes: Vec::new(alloc),
+            alloc,
+            cached_leaf: Cell::new(usize::MAX),
+        }
+    }
+
+    fn allocator(&self) -> Global {
+        self.alloc
+    }
+
+    fn is_empty(&self) -> bool {
+        are_vacant(self.inner_nodes.as_slice()) && are_vacant(self.leaf_nodes.as_slice())
+    }
+
+    fn add_inner(
+        &mut self,
+        node: Box<InnerNode<K, A>>,
+    ) -> Result<InnerNodeId, Box<InnerNode<K, A>>>
+        ensures was_free { IfOk result (λ id. (slots self.old).inner id.0 ≡ Free) }
+        ensures updates { IfOk result (λ id. UpdatesInner (slots self.old) (slots self.new) id.0 (Present node.value)) }
+        ensures refused { OnErr result (slots self.new ≡ slots self.old) }
+        ensures handed_back { IfErr result (λ back. back ≡ node) }
+    {
+        if self.inner_nodes.reserve(1).is_err() {
+            return Err(node);
+        }
+        let id = InnerNodeId::from_usize(self.inner_nodes.len());
+        self.inner_nodes.push_reserved(Place::Occupied(node));
+        Ok(id)
+    }
+
+    fn reserve_inner(&mut self) -> Result<InnerNodeId, AllocError> {
+        let id = InnerNodeId::from_usize(self.inner_nodes.len());
+        self.inner_nodes.push(Place::Reserved)?;
+        Ok(id)
+    }
+
+    fn reserve_leaf(&mut self) -> Result<LeafNodeId, AllocError> {
+        let id = LeafNodeId::from_usize(self.leaf_nodes.len());
+        self.leaf_nodes.push(Place::Reserved)?;
+        Ok(id)
+    }
+
+    fn get_inner(&self, id: InnerNodeId) -> &InnerNode<K, A> {
+        self.inner_nodes[id.as_usize()].node()
+    }
+
+    fn get_mut_inner(&mut self, id: InnerNodeId) -> &mut InnerNode<K, A> {
+        self.inner_nodes[id.as_usize()].node_mut()
+    }
+
+    fn get_leaf(&self, id: LeafNodeId) -> &LeafNode<K, V> {
+        self.leaf_nodes[id.as_usize()].node()
+    }
+
+    fn get_mut_leaf(&mut self, id: LeafNodeId) -> &mut LeafNode<K, V> {
+        self.leaf_nodes[id.as_usize()].node_mut()
+    }
+
+    fn try_get_inner(&self, id: InnerNodeId) -> Option<&InnerNode<K, A>> {
+        match self.inner_nodes.get(id.as_usize()) {
+            Some(Place::Occupied(node)) => Some(node),
+            _ => None,
+        }
+    }
+
+    fn try_get_leaf(&self, id: LeafNodeId) -> Option<&LeafNode<K, V>> {
+        match self.leaf_nodes.get(id.as_usize()) {
+            Some(Place::Occupied(leaf)) => Some(leaf),
+            _ => None,
+        }
+    }
+
+    fn take_inner(&mut self, id: InnerNodeId) -> Box<InnerNode<K, A>> {
+        match mem::replace(&mut self.inner_nodes[id.as_usize()], Place::Reserved) {
+            Place::Occupied(node) => node,
+            _ => unreachable!(),
+        }
+    }
+
+    fn take_leaf(&mut self, id: LeafNodeId) -> Box<LeafNode<K, V>> {
+        match mem::replace(&mut self.leaf_nodes[id.as_usize()], Place::Reserved) {
+            Place::Occupied(leaf) => leaf,
+            _ => unreachable!(),
+        }
+    }
+
+    fn put_back_inner(&mut self, id: InnerNodeId, node: Box<InnerNode<K, A>>)
+        requires { (slots self.old).inner id.0 ≡ Held }
+        ensures { UpdatesInner (slots self.old) (slots self.new) id.0 (Present node.value) }
+    {
+        self.inner_nodes[id.as_usize()] = Place::Occupied(node);
+    }
+
+    fn assign_leaf(&mut self, id: LeafNodeId, leaf: Box<LeafNode<K, V>>)
+        requires { (slots self.old).leaf id.0 ≡ Held }
+        ensures { UpdatesLeaf (slots self.old) (slots self.new) id.0 (Present leaf.value) }
+    {
+        self.leaf_nodes[id.as_usize()] = Place::Occupied(leaf);
+    }
+
+    fn release_inner(&mut self, id: InnerNodeId) {
+        self.inner_nodes[id.as_usize()] = Place::Vacant;
+    }
+
+    fn release_leaf(&mut self, id: LeafNodeId) {
+        self.leaf_nodes[id.as_usize()] = Place::Vacant;
+    }
+
+    fn cache_leaf(&self, id: LeafNodeId) {
+        self.cached_leaf.set(id.as_usize());
+    }
+
+    fn try_cache(&self, k: &K) -> Option<LeafNodeId> {
+        let id = LeafNodeId::from_usize(self.cached_leaf.get());
+        match self.try_get_leaf(id) {
+            Some(leaf) => {
+                if leaf.in_range(k) {
+                    Some(id)
+                } else {
+                    None
+                }
+            }
+            None => None,
+        }
+    }
+
+    ghost with_inner_updates = { vec_with_inner_updates };
+
+    ghost with_leaf_updates = { vec_with_leaf_updates };
+}
