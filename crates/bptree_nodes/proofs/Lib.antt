@@ -6,4 +6,5 @@ pub mod Laws
 pub mod Locating
 pub mod Pairs
 pub mod Parted
+pub mod PieceLemmas
 pub mod Search
