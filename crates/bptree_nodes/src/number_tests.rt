@@ -29,8 +29,10 @@ fn tells_the_kind_of_a_number(rt: HostRuntime) {
     assert_eq!(rt; inner(7).leaf_id(), None);
     assert_eq!(rt; leaf(7).leaf_id(), Some(LeafNodeId::from_usize(7)));
     assert_eq!(rt; leaf(7).inner_id(), None);
-    assert_eq!(rt; inner(7).inner_id_unchecked().as_usize(), 7);
-    assert_eq!(rt; leaf(7).leaf_id_unchecked().as_usize(), 7);
+    let known_inner = NodeId::Inner(InnerNodeId::from_usize(7));
+    assert_eq!(rt; known_inner.inner_id_unchecked().as_usize(), 7);
+    let known_leaf = NodeId::Leaf(LeafNodeId::from_usize(7));
+    assert_eq!(rt; known_leaf.leaf_id_unchecked().as_usize(), 7);
     assert_eq!(rt; InnerNodeId::INVALID.as_usize(), 18446744073709551615);
     assert_eq!(rt; InnerNodeId::default(), InnerNodeId::INVALID);
     assert_eq!(rt; NodeId::default(), NodeId::Inner(InnerNodeId::INVALID));
