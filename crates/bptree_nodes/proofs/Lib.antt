@@ -7,6 +7,7 @@ pub mod LeafContents
 pub mod Locating
 pub mod Pairs
 pub mod Parted
+pub mod PieceLemmas
 pub mod Search
 pub mod Updates
 pub mod Steps

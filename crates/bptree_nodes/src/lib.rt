@@ -10,4 +10,7 @@ pub mod leaf_node;
 mod moves;
 pub mod node_id;
 #[cfg(test)]
+mod number_tests;
+pub mod pieces;
+#[cfg(test)]
 mod tests;
