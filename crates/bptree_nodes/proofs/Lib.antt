@@ -8,6 +8,5 @@ pub mod Locating
 pub mod Pairs
 pub mod Parted
 pub mod PieceLemmas
-pub mod Search
 pub mod Updates
 pub mod Steps

@@ -9,3 +9,4 @@ pub mod LeafLends
 pub mod LeafResults
 pub mod Locate
 pub mod Taken
+pub mod Slot

@@ -87,7 +87,7 @@ pub trait NodeStore: Drop {
     /// Puts a leaf with no pairs and no links under a free number.
     fn new_empty_leaf(&mut self) -> Result<LeafNodeId, AllocError>
         ensures was_free { IfOk result (λ id. (slots self.old).leaf id.0 ≡ Free) }
-        ensures updates { IfOk result (λ id. UpdatesLeaf (slots self.old) (slots self.new) id.0 (Present (record { pairs = []; previous = None; next = None }))) }
+        ensures updates { IfOk result (λ id. UpdatesLeaf (slots self.old) (slots self.new) id.0 (Present (record { pairs = []; prev = None; next = None }))) }
         ensures refused { OnErr result (slots self.new ≡ slots self.old) }
     {
         let leaf = LeafNode::new(self.allocator())?;
