@@ -10,3 +10,5 @@ pub mod Parted
 pub mod PieceLemmas
 pub mod Updates
 pub mod Steps
+pub mod Separators
+pub mod Splits

@@ -1,3 +1,4 @@
+pub mod Leaves
 pub mod Order
 pub mod Refusal
 pub mod Shape

@@ -4,7 +4,9 @@
 //! pairs behind its place.
 #![tactic(auto)]
 
+pub mod descent;
 pub mod iterator;
+pub mod reading;
 
 ghost use Rattle.std.specs.Prelude.{◌≡◌, [], false, length, slice_get, IfOk, IfErr, IsTrue, IsOk, ◌↔◌};
 ghost use Rattle.std.specs.Option.{option_map, option_copied};

@@ -1,0 +1,5 @@
+pub mod Ordered
+pub mod Walk
+pub mod Down
+pub mod Spot
+pub mod Hinted

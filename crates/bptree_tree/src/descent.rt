@@ -1,0 +1,27 @@
+//! Ways down a tree that stands in a store.
+ghost use Rattle.std.specs.Prelude.{◌≡◌, List, ◌∷◌, ◌++◌, []};
+ghost use Rattle.bptree_nodes.specs.declared.node_id.LeafNodeId.{LeafNodeId};
+ghost use Rattle.bptree_tree.specs.Leaves.{Stands, IsLeafFor};
+ghost use Rattle.bptree_tree.specs.Shape.{leaves_at};
+
+use bptree_nodes::node_id::{LeafNodeId, NodeId};
+use bptree_stores::node_stores::NodeStore;
+
+/// The leaf that a key belongs to, in the tree of a height under a number.
+pub fn find_leaf<S: NodeStore>(
+    store: &S,
+    id: NodeId,
+    height: usize,
+    key: &S::K,
+) -> LeafNodeId
+    requires { Stands S.K.cmp (S.slots store.now) height id }
+    ensures { IsLeafFor S.K.cmp (S.slots store.now) height id key.now result }
+{
+    match id {
+        NodeId::Leaf(leaf) => leaf,
+        NodeId::Inner(inner) => {
+            let (_, child) = store.get_inner(inner).locate_child(key);
+            find_leaf(store, child, height - 1, key)
+        }
+    }
+}
