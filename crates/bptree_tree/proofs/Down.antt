@@ -35,6 +35,19 @@ module _ {K V A : Type 0} (slots : Slots (Inner K A) (Leaf K V)) where
   pub pairs_of_all : (h : ℕ) (cs : List NodeId) → pairs_of slots (flat (leaves_at slots h) cs) ≡ flat (pairs_at slots h) cs
   pairs_of_all h cs = of_all h (pairs_of_leaves h) cs
 
+  -- a leaf of a child is a leaf of the node
+  abbrev pub stands_above : (h : ℕ) (id : InnerNodeId) (node : Inner K A) (e : slots.inner id.0 ≡ Present node) (i : ℕ) (child : NodeId) (leaf : LeafNodeId) → i < length node.children → slice_get node.children i ≡ Some child → StandsIn slots h child leaf → StandsIn slots (suc h) (kind.Inner id) leaf
+  stands_above h id node e i child leaf within read in' =
+      let left = flat (leaves_at slots h) (take i node.children) in
+      let right = flat (leaves_at slots h) (drop (suc i) node.children) in
+      let same : get_or node.children i child ≡ child = get_or_from_slice_get node.children i child child read in
+      record {
+        before = left ++ in'.before;
+        after = in'.after ++ right;
+        leaves = rw e (flat_parts (leaves_at slots h) node.children i child within ∙ rw (same, in'.leaves) (ap (λ rest. left ++ rest) (append_assoc in'.before (leaf ∷ in'.after) right) ∙ sym (append_assoc left in'.before (leaf ∷ (in'.after ++ right)))));
+        present = in'.present;
+      }
+
 module _ {K V A : Type 0} {cmp : K → K → Ordering} (total : IsTotalOrder cmp) (slots : Slots (Inner K A) (Leaf K V)) where
   -- an inner node that was read, with its children one level below
   pub record InnerAt (h : ℕ) (id : InnerNodeId) (node : Inner K A) : Type 0 where
@@ -80,29 +93,15 @@ module _ {K V A : Type 0} {cmp : K → K → Ordering} (total : IsTotalOrder cmp
         (record { least = 16; low = there.0; high = there.1; tree = subst (λ c. IsTree cmp slots 16 at.below c there.0 there.1) same there.2 })
 
   module _ (h : ℕ) (id : InnerNodeId) (node : Inner K A) (e : slots.inner id.0 ≡ Present node) where
-    -- a leaf of a child is a leaf of the node
-    pub stands_above : (i : ℕ) (child : NodeId) (leaf : LeafNodeId) → i < length node.children → slice_get node.children i ≡ Some child → StandsIn slots h child leaf → StandsIn slots (suc h) (kind.Inner id) leaf
-    stands_above i child leaf within read in' =
-        let left = flat (leaves_at slots h) (take i node.children) in
-        let right = flat (leaves_at slots h) (drop (suc i) node.children) in
-        let same : get_or node.children i child ≡ child = get_or_from_slice_get node.children i child child read in
-        record {
-          before = left ++ in'.before;
-          after = in'.after ++ right;
-          leaves = rw e (flat_parts (leaves_at slots h) node.children i child within ∙ rw (same, in'.leaves) (ap (λ rest. left ++ rest) (append_assoc in'.before (leaf ∷ in'.after) right) ∙ sym (append_assoc left in'.before (leaf ∷ (in'.after ++ right)))));
-          present = in'.present;
-        }
-
     -- the leaf for a key below the child that it leads to is the leaf for it below the node
     pub leaf_for_above : (k : K) (lo hi : Option K) (i : ℕ) (child : NodeId) (leaf : LeafNodeId) → Chain cmp (IsTree cmp slots 16 h) node.keys node.children lo hi → Leads cmp k node.keys i
         → i < length node.children → slice_get node.children i ≡ Some child → IsLeafFor cmp slots h child k leaf → IsLeafFor cmp slots (suc h) (kind.Inner id) k leaf
-    unfolding stands_above
     leaf_for_above k lo hi i child leaf chain leads within read for' =
         let inside = λ (c : NodeId) (a b : Option K) (u : IsTree cmp slots 16 h c a b). tree_inside total slots 16 h c a b u in
         let left = flat (leaves_at slots h) (take i node.children) in
         let right = flat (leaves_at slots h) (drop (suc i) node.children) in
         record {
-          stands = stands_above i child leaf within read for'.stands;
+          stands = stands_above slots h id node e i child leaf within read for'.stands;
           smaller =
             rw (flat-append (λ (l : LeafNodeId). leaf_pairs (slots.leaf l.0)) left for'.stands.before, pairs_of_all slots h (take i node.children))
             (AllByRecursion-append (λ p. cmp p.0 k ≡ Less) (flat (pairs_at slots h) (take i node.children)) (pairs_of slots for'.stands.before)

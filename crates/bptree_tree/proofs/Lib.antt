@@ -3,3 +3,4 @@ pub mod Walk
 pub mod Down
 pub mod Spot
 pub mod Hinted
+pub mod Ends

@@ -1,5 +1,5 @@
 -- Where a leaf stands in the order of a tree's leaves.
-use Rattle.std.specs.Prelude.{◌≡◌, ℕ, List, ◌∷◌, ◌++◌, Option}
+use Rattle.std.specs.Prelude.{◌≡◌, ℕ, List, [], ◌∷◌, ◌++◌, Option}
 use Rattle.std.specs.declared.cmp.Ordering.{Ordering}
 use Rattle.std.specs.declared.cmp.Ordering.TheVariants.{Less, Greater}
 use Rattle.bptree_nodes.specs.Inner.{Inner}
@@ -22,6 +22,15 @@ module _ {K V A : Type 0} (slots : Slots (Inner K A) (Leaf K V)) where
     pub after : List LeafNodeId
     pub leaves : leaves_at slots h root ≡ before ++ leaf ∷ after
     pub present : IsPresent (slots.leaf leaf.0)
+
+  -- no leaf stands before it, or after it
+  pub record IsFirstLeaf (h : ℕ) (root : NodeId) (leaf : LeafNodeId) : Type 0 where
+    pub stands : StandsIn h root leaf
+    pub first : stands.before ≡ []
+
+  pub record IsLastLeaf (h : ℕ) (root : NodeId) (leaf : LeafNodeId) : Type 0 where
+    pub stands : StandsIn h root leaf
+    pub last : stands.after ≡ []
 
 module _ {K V A : Type 0} (cmp : K → K → Ordering) (slots : Slots (Inner K A) (Leaf K V)) where
   -- a tree with its keys between some bounds

@@ -1,7 +1,7 @@
 //! Ways down a tree that stands in a store.
 ghost use Rattle.std.specs.Prelude.{◌≡◌, List, ◌∷◌, ◌++◌, []};
 ghost use Rattle.bptree_nodes.specs.declared.node_id.LeafNodeId.{LeafNodeId};
-ghost use Rattle.bptree_tree.specs.Leaves.{Stands, IsLeafFor};
+ghost use Rattle.bptree_tree.specs.Leaves.{Stands, IsLeafFor, IsFirstLeaf, IsLastLeaf};
 ghost use Rattle.bptree_tree.specs.Shape.{leaves_at};
 
 use bptree_nodes::node_id::{LeafNodeId, NodeId};
@@ -22,6 +22,35 @@ pub fn find_leaf<S: NodeStore>(
         NodeId::Inner(inner) => {
             let (_, child) = store.get_inner(inner).locate_child(key);
             find_leaf(store, child, height - 1, key)
+        }
+    }
+}
+
+/// The first leaf of the tree of a height under a number.
+pub fn first_leaf<S: NodeStore>(store: &S, id: NodeId, height: usize) -> LeafNodeId
+    requires { Stands S.K.cmp (S.slots store.now) height id }
+    ensures { IsFirstLeaf (S.slots store.now) height id result }
+{
+    match id {
+        NodeId::Leaf(leaf) => leaf,
+        NodeId::Inner(inner) => {
+            let child = store.get_inner(inner).child_id(0);
+            first_leaf(store, child, height - 1)
+        }
+    }
+}
+
+/// The last leaf of the tree of a height under a number.
+pub fn last_leaf<S: NodeStore>(store: &S, id: NodeId, height: usize) -> LeafNodeId
+    requires { Stands S.K.cmp (S.slots store.now) height id }
+    ensures { IsLastLeaf (S.slots store.now) height id result }
+{
+    match id {
+        NodeId::Leaf(leaf) => leaf,
+        NodeId::Inner(inner) => {
+            let node = store.get_inner(inner);
+            let child = node.child_id(node.len());
+            last_leaf(store, child, height - 1)
         }
     }
 }

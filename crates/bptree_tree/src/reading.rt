@@ -1,11 +1,11 @@
 //! Reads of a tree that stands in a store.
-ghost use Rattle.std.specs.Prelude.{◌≡◌, Some};
-ghost use Rattle.std.specs.Option.{option_copied};
+ghost use Rattle.std.specs.Prelude.{◌≡◌, ◌-◌, Some, length, slice_get};
+ghost use Rattle.std.specs.Option.{option_copied, option_map};
 ghost use Rattle.bptree_nodes.specs.Contents.{value};
 ghost use Rattle.bptree_tree.specs.Leaves.{Stands, IsLeafFor};
 ghost use Rattle.bptree_tree.specs.Shape.{pairs_at, IsWellShaped};
 
-use crate::descent::find_leaf;
+use crate::descent::{find_leaf, first_leaf, last_leaf};
 use bptree_nodes::node_id::{LeafNodeId, NodeId};
 use bptree_stores::node_stores::NodeStore;
 
@@ -37,4 +37,22 @@ pub fn get<'a, S: NodeStore>(
     let leaf = leaf_for(store, root, height, key);
     let (_, value) = store.get_leaf(leaf).locate_slot_with_value(key);
     value
+}
+
+/// The pair with the least key.
+pub fn first<S: NodeStore>(store: &S, root: NodeId, height: usize) -> Option<(&S::K, &S::V)>
+    requires { IsWellShaped S.K.cmp S.Argument.is_summary (S.slots store.now) height root }
+    ensures { option_map (λ pair. (pair.0.now, pair.1.now)) result ≡ slice_get (pairs_at (S.slots store.now) height root) 0 }
+{
+    let leaf = first_leaf(store, root, height);
+    store.get_leaf(leaf).try_data_at(0)
+}
+
+/// The pair with the greatest key.
+pub fn last<S: NodeStore>(store: &S, root: NodeId, height: usize) -> Option<(&S::K, &S::V)>
+    requires { IsWellShaped S.K.cmp S.Argument.is_summary (S.slots store.now) height root }
+    ensures { option_map (λ pair. (pair.0.now, pair.1.now)) result ≡ slice_get (pairs_at (S.slots store.now) height root) (length (pairs_at (S.slots store.now) height root) - 1) }
+{
+    let leaf = store.get_leaf(last_leaf(store, root, height));
+    leaf.try_data_at(leaf.len().saturating_sub(1))
 }
