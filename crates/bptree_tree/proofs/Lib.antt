@@ -4,3 +4,4 @@ pub mod Down
 pub mod Spot
 pub mod Hinted
 pub mod Ends
+pub mod Started

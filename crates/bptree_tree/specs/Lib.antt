@@ -3,3 +3,4 @@ pub mod Order
 pub mod Refusal
 pub mod Shape
 pub mod Tree
+pub mod NodeTree

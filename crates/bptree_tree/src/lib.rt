@@ -7,6 +7,7 @@
 pub mod descent;
 pub mod iterator;
 pub mod reading;
+pub mod tree;
 
 ghost use Rattle.std.specs.Prelude.{◌≡◌, [], false, length, slice_get, IfOk, IfErr, IsTrue, IsOk, ◌↔◌};
 ghost use Rattle.std.specs.Option.{option_map, option_copied};

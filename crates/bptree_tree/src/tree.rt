@@ -1,0 +1,121 @@
+//! A tree over the nodes of a store.
+ghost use Rattle.std.specs.Prelude.{◌≡◌, ◌-◌, [], length, slice_get, IfOk, IsTrue, ◌↔◌};
+ghost use Rattle.std.specs.Map.{keys_of};
+ghost use Rattle.std.specs.Option.{option_map, option_copied};
+ghost use Rattle.bptree_nodes.specs.Contents.{IsAscending, value};
+ghost use Rattle.bptree_nodes.specs.Slot.{IsEmpty};
+ghost use Rattle.bptree_tree.specs.Shape.{IsWellShaped};
+
+use crate::reading;
+use bptree_nodes::node_id::NodeId;
+use bptree_stores::node_stores::NodeStore;
+use std::alloc::AllocError;
+use std::marker::Model;
+
+/// Pairs of a key and a value, in the strictly ascending order of their keys, in the nodes of a store.
+#[derive(Drop)]
+pub struct BPlusTree<S: NodeStore> {
+    store: S,
+    root: NodeId,
+    height: usize,
+    len: usize,
+    root_argument: S::Argument,
+}
+
+impl<S: NodeStore> Model for BPlusTree<S> {
+    ghost use Rattle.std.specs.Prelude.{◌≡◌, length};
+    ghost use Rattle.std.specs.Map.{keys_of};
+    ghost use Rattle.bptree_tree.specs.Shape.{pairs_at, IsWellShaped};
+    ghost use Rattle.bptree_tree.specs.NodeTree.{NodeTree};
+
+    ghost Value = { NodeTree S S.K S.V S.Argument };
+
+    ghost view = { λ tree. record { contents = pairs_at (S.slots tree.store) tree.height tree.root; store = tree.store; root = tree.root; height = tree.height; root_argument = tree.root_argument } };
+
+    ghost invariant = { λ tree. IsWellShaped S.K.cmp S.Argument.is_summary (S.slots tree.store) tree.height tree.root
+        × (tree.len ≡ length (pairs_at (S.slots tree.store) tree.height tree.root))
+        × S.Argument.is_summary tree.root_argument (keys_of (pairs_at (S.slots tree.store) tree.height tree.root)) };
+}
+
+impl<S: NodeStore> BPlusTree<S> {
+    /// A tree with no pairs. Its one leaf takes memory.
+    pub fn new(mut store: S) -> Result<Self, AllocError>
+        requires { IsEmpty (S.slots store) }
+        ensures { IfOk result (λ tree. tree.contents ≡ []) }
+    {
+        let leaf = store.new_empty_leaf()?;
+        Ok(BPlusTree {
+            store,
+            root: NodeId::Leaf(leaf),
+            height: 0,
+            len: 0,
+            root_argument: S::Argument::default(),
+        })
+    }
+
+    /// The number of pairs.
+    pub fn len(&self) -> usize
+        ensures value { result ≡ length self.now.contents }
+        ensures ascending { IsAscending S.K.cmp self.now.contents }
+    {
+        self.len
+    }
+
+    /// Whether there are no pairs.
+    pub fn is_empty(&self) -> bool
+        ensures { IsTrue result ↔ (self.now.contents ≡ []) }
+    {
+        self.len == 0
+    }
+
+    /// The value at a key equal to `k`.
+    pub fn get(&self, k: &S::K) -> Option<&S::V>
+        ensures { option_copied result ≡ value S.K.cmp self.now.contents k.now }
+    {
+        reading::get(&self.store, self.root, self.height, k)
+    }
+
+    /// The pair with the least key.
+    pub fn first(&self) -> Option<(&S::K, &S::V)>
+        ensures { option_map (λ pair. (pair.0.now, pair.1.now)) result ≡ slice_get self.now.contents 0 }
+    {
+        reading::first(&self.store, self.root, self.height)
+    }
+
+    /// The pair with the greatest key.
+    pub fn last(&self) -> Option<(&S::K, &S::V)>
+        ensures { option_map (λ pair. (pair.0.now, pair.1.now)) result ≡ slice_get self.now.contents (length self.now.contents - 1) }
+    {
+        reading::last(&self.store, self.root, self.height)
+    }
+
+    /// A summary of all keys; of no keys what `Default` makes.
+    pub fn root_argument(&self) -> &S::Argument
+        ensures value { result.now ≡ self.now.root_argument }
+        ensures summary { S.Argument.is_summary result.now (keys_of self.now.contents) }
+    {
+        &self.root_argument
+    }
+
+    /// The store that holds the nodes: they are those of this tree, and no others.
+    pub fn node_store(&self) -> &S
+        ensures value { result.now ≡ self.now.store }
+        ensures shape { IsWellShaped S.K.cmp S.Argument.is_summary (S.slots self.now.store) self.now.height self.now.root }
+    {
+        &self.store
+    }
+
+    /// The number of the root.
+    pub fn root_id(&self) -> NodeId
+        ensures { result ≡ self.now.root }
+    {
+        self.root
+    }
+
+    /// The number of levels of inner nodes.
+    pub fn height(&self) -> usize
+        ensures { result ≡ self.now.height }
+    {
+        self.height
+    }
+}
