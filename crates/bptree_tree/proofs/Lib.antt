@@ -5,3 +5,5 @@ pub mod Spot
 pub mod Hinted
 pub mod Ends
 pub mod Started
+pub mod Alike
+pub mod Lent

@@ -4,3 +4,4 @@ pub mod Refusal
 pub mod Shape
 pub mod Tree
 pub mod NodeTree
+pub mod Lending

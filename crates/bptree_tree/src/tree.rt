@@ -119,3 +119,23 @@ impl<S: NodeStore> BPlusTree<S> {
         self.height
     }
 }
+
+impl<S: NodeStore> BPlusTree<S> {
+    ghost use Rattle.std.specs.Borrow.{LendsIf, sem};
+    ghost use Rattle.std.specs.Option.{option_copied_mut};
+    ghost use Rattle.bptree_nodes.specs.Contents.{value};
+    ghost use Rattle.bptree_tree.specs.Lending.{tree_written};
+    ghost use Rattle.bptree_tree.specs.contracts.tree.BPlusTree.{the_row};
+
+    /// The value at a key equal to `k`, for writing.
+    pub fn get_mut(&mut self, k: &S::K) -> Option<&mut S::V>
+        ensures* writes_back { sem 𝓛 (LendsIf (the_row S.row S.K.row S.V.row S.Argument.row S.NodeStore S.K.Clone S.K.Ord.own S.K.PartialEq S.K.PartialOrd.own S.Argument.Argument.own S.Argument.Clone S.Argument.Default) S.V.row self.entry result (tree_written S.K.cmp S.slots S.with_leaf self.old k.now) self.old) }
+        ensures value { option_copied_mut result ≡ value S.K.cmp self.old.contents k.now }
+    {
+        let leaf = reading::leaf_for(&self.store, self.root, self.height, k);
+        match self.store.get_leaf(leaf).locate_slot(k) {
+            Ok(slot) => Some(self.store.get_mut_leaf(leaf).value_at_mut(slot)),
+            Err(_) => None,
+        }
+    }
+}
