@@ -5,3 +5,6 @@ pub mod Shape
 pub mod Tree
 pub mod NodeTree
 pub mod Lending
+pub mod Change
+pub mod Edit
+pub mod Path

@@ -5,6 +5,7 @@
 #![tactic(auto)]
 
 pub mod descent;
+pub mod insertion;
 pub mod iterator;
 pub mod reading;
 pub mod tree;

@@ -1,0 +1,56 @@
+-- What a change of inner nodes does to the slots of a store.
+use Rattle.std.specs.Prelude.{◌≡◌, ℕ, suc, ◌+◌, ◌≤◌, ◌<◌, List, [], ◌∷◌, ◌++◌, length}
+use Rattle.std.specs.List.{insert}
+use Rattle.bptree_nodes.specs.Inner.{Inner}
+use Rattle.bptree_nodes.specs.Leaf.{Leaf}
+use Rattle.bptree_nodes.specs.Slot.{Slots, Present, IsPresent, Updates}
+use Rattle.bptree_nodes.specs.declared.node_id.InnerNodeId.{InnerNodeId}
+use Rattle.bptree_nodes.specs.declared.node_id.NodeId.{NodeId}
+use Rattle.bptree_nodes.specs.declared.node_id.NodeId.TheVariants as kind
+use Rattle.bptree_tree.specs.declared.insertion.Outcome.{Outcome}
+use Rattle.bptree_tree.specs.declared.insertion.Outcome.TheVariants.{Done, Split}
+
+module _ {K V A : Type 0} (old new : Slots (Inner K A) (Leaf K V)) where
+  -- a separator and the child behind it go into a node that has room
+  pub record Links (id : InnerNodeId) (place : ℕ) (separator : K) (child : NodeId) (was : Inner K A) : Type 0 where
+    pub is : Inner K A
+    pub sets : Updates old.inner new.inner id.0 (Present is)
+    pub leaf : new.leaf ≡ old.leaf
+    pub keys : is.keys ≡ insert was.keys place separator
+    pub children : is.children ≡ insert was.children (suc place) child
+    pub arguments : length is.arguments ≡ length is.children
+    pub room : length was.keys < 64
+
+  -- they go into a full node, which is split
+  pub record Splits (id : InnerNodeId) (place : ℕ) (separator : K) (child : NodeId) (was : Inner K A) (up : K) (number : InnerNodeId) : Type 0 where
+    pub left : Inner K A
+    pub right : Inner K A
+    pub absent : IsPresent (old.inner number.0) → ⊥
+    pub at_left : new.inner id.0 ≡ Present left
+    pub at_right : new.inner number.0 ≡ Present right
+    pub others : (n : ℕ) → (n ≡ id.0 → ⊥) → (n ≡ number.0 → ⊥) → new.inner n ≡ old.inner n
+    pub leaf : new.leaf ≡ old.leaf
+    pub keys : left.keys ++ (up ∷ right.keys) ≡ insert was.keys place separator
+    pub children : left.children ++ right.children ≡ insert was.children (suc place) child
+    pub left_children : length left.children ≡ length left.keys + 1
+    pub left_arguments : length left.arguments ≡ length left.children
+    pub right_arguments : length right.arguments ≡ length right.children
+    pub left_least : 16 ≤ length left.keys
+    pub left_most : length left.keys ≤ 64
+    pub right_least : 16 ≤ length right.keys
+    pub right_most : length right.keys ≤ 64
+
+  abbrev pub Takes : InnerNodeId → ℕ → K → NodeId → Inner K A → Outcome K → Type 0
+  Takes id place separator child was Done = Links id place separator child was
+  Takes id place separator child was (Split up (kind.Inner number)) = Splits id place separator child was up number
+  Takes id place separator child was (Split up (kind.Leaf number)) = ⊥
+
+  -- a new node stands above two others
+  pub record Roots (id : InnerNodeId) (left : NodeId) (separator : K) (right : NodeId) : Type 0 where
+    pub is : Inner K A
+    pub absent : IsPresent (old.inner id.0) → ⊥
+    pub sets : Updates old.inner new.inner id.0 (Present is)
+    pub leaf : new.leaf ≡ old.leaf
+    pub keys : is.keys ≡ separator ∷ []
+    pub children : is.children ≡ left ∷ right ∷ []
+    pub arguments : length is.arguments ≡ 2
