@@ -8,3 +8,4 @@ pub mod Lending
 pub mod Change
 pub mod Edit
 pub mod Path
+pub mod Span

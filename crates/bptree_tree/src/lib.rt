@@ -7,6 +7,7 @@
 pub mod descent;
 pub mod insertion;
 pub mod iterator;
+pub mod node_iterator;
 pub mod reading;
 pub mod tree;
 

@@ -1,0 +1,29 @@
+use Rattle.std.proofs.Common.{◌≡◌, ◌<◌, ◌∙◌, sym, ap, arith, length, slice_get, Some}
+use Rattle.bptree_tree.proofs.SpanLemmas.{FrontStep-from}
+use Rattle.bptree_tree.proofs.node_iterator.IterIterator.next.Goals as goal
+
+pub data_at-pair-requires : goal.data_at-pair-requires
+data_at-pair-requires g c =
+    let step = FrontStep-from _ _ _ _ _ _ _ _ c.self.invariant (omega arith) c.front_place-from.ensures in
+    let leaf : c.leaf_at.result.now ≡ step.leaf = cc (c.leaf_at.ensures, step.found) in
+    rw leaf step.within
+
+pub overflow_add-self : goal.overflow_add-self
+overflow_add-self g c =
+    let step = FrontStep-from _ _ _ _ _ _ _ _ c.self.invariant (omega arith) c.front_place-from.ensures in
+    let leaf : c.leaf_at.result.now ≡ step.leaf = cc (c.leaf_at.ensures, step.found) in
+    let within : c.front_place-from.result.1 < length c.leaf_at.result.now.pairs = rw leaf step.within in
+    omega (arith, c.data_at-pair.ensures.fits)
+
+pub invariant_of-self : goal.invariant_of-self
+invariant_of-self g c =
+    let step = FrontStep-from _ _ _ _ _ _ _ _ c.self.invariant (omega arith) c.front_place-from.ensures in
+    step.between
+
+pub returns-clause-steps : goal.returns-clause-steps
+returns-clause-steps g c =
+    let step = FrontStep-from _ _ _ _ _ _ _ _ c.self.invariant (omega arith) c.front_place-from.ensures in
+    let leaf : c.leaf_at.result.now ≡ step.leaf = cc (c.leaf_at.ensures, step.found) in
+    let got : slice_get step.leaf.pairs c.front_place-from.result.1 ≡ Some (c.data_at-pair.result.0.now, c.data_at-pair.result.1.now) = rw leaf at c.data_at-pair.ensures.value in
+    let pair : step.pair ≡ (c.data_at-pair.result.0.now, c.data_at-pair.result.1.now) = cc (got, step.got) in
+    sym c.self.view_is ∙ rw pair at step.first

@@ -1,0 +1,75 @@
+-- Leaves that follow one another by their links, and the pairs between two places in them.
+use Rattle.std.specs.Prelude.{◌≡◌, ℕ, zero, suc, ◌+◌, ◌<◌, ◌≤◌, ◌≢◌, IsSome, List, [], ◌∷◌, ◌++◌, length, take, drop, Option, Some, None}
+use Rattle.std.specs.Option.{option_map_or}
+use Rattle.bptree_nodes.specs.declared.node_id.LeafNodeId.{LeafNodeId}
+use Rattle.bptree_nodes.specs.Inner.{Inner}
+use Rattle.bptree_nodes.specs.Leaf.{Leaf}
+use Rattle.bptree_nodes.specs.Slot.{Slot, Slots, Free, Held, Present}
+
+module _ {K V : Type 0} (leaves : LeafNodeId → Option (Leaf K V)) where
+  -- From place `from` of the leaf `front`, along the leaves `ids` after it, up to place `to` of the
+  -- leaf `back`, stand the pairs xs.
+  abbrev pub IsSpan : LeafNodeId → ℕ → List LeafNodeId → LeafNodeId → ℕ → List (K × V) → Type 0
+  IsSpan front from [] back to xs = (leaf : Leaf K V) × (leaves front ≡ Some leaf) × (back ≡ front)
+      × (from ≤ to) × (to ≤ length leaf.pairs) × (xs ≡ drop from (take to leaf.pairs))
+  IsSpan front from (id ∷ ids) back to xs = (leaf : Leaf K V) × (after : Leaf K V)
+      × (leaves front ≡ Some leaf) × (leaf.next ≡ Some id)
+      × (leaves id ≡ Some after) × (after.prev ≡ Some front)
+      × (from ≤ length leaf.pairs) × (0 < length leaf.pairs)
+      × (ys : List (K × V)) × (xs ≡ drop from leaf.pairs ++ ys) × IsSpan id 0 ids back to ys
+
+  -- the pairs of a leaf from a place on, and then what `rest` gives from the start of the next leaf
+  abbrev pub pairs_of : (LeafNodeId → ℕ → List (K × V)) → Option (Leaf K V) → ℕ → List (K × V)
+  pairs_of rest None from = []
+  pairs_of rest (Some leaf) from = drop from leaf.pairs ++ option_map_or (λ id. rest id 0) leaf.next []
+
+  -- the pairs of so many leaves, from place `from` of the leaf `id` on
+  abbrev pub pairs_from : ℕ → LeafNodeId → ℕ → List (K × V)
+  pairs_from zero id from = []
+  pairs_from (suc count) id from = pairs_of (pairs_from count) (leaves id) from
+
+  -- the first `len` pairs from place `from` of the leaf `front` on: no leaf but the first and the last
+  -- is without one
+  abbrev pub pairs_left : LeafNodeId → ℕ → ℕ → List (K × V)
+  pairs_left front from len = take len (pairs_from (len + 2) front from)
+
+  -- an iterator between these two places has `len` pairs left
+  pub record IsBetween (front : LeafNodeId) (from : ℕ) (back : LeafNodeId) (to len : ℕ) : Type 0 where
+    pub ids : List LeafNodeId
+    pub span : IsSpan front from ids back to (pairs_left front from len)
+    pub counted : len ≡ length (pairs_left front from len)
+
+  -- a step from this place of a leaf on stays in a leaf
+  pub record CanGoOn (id : LeafNodeId) (offset : ℕ) : Type 0 where
+    pub leaf : Leaf K V
+    pub found : leaves id ≡ Some leaf
+    pub next : offset ≡ length leaf.pairs → IsSome leaf.next
+
+  -- The place is the one at hand, or where that is the end of its leaf, the start of the next one.
+  pub record IsFrontPlace (id : LeafNodeId) (offset : ℕ) (id' : LeafNodeId) (offset' : ℕ) : Type 0 where
+    pub leaf : Leaf K V
+    pub found : leaves id ≡ Some leaf
+    pub over : offset ≡ length leaf.pairs → (leaf.next ≡ Some id') × (offset' ≡ 0)
+    pub here : offset ≢ length leaf.pairs → (id' ≡ id) × (offset' ≡ offset)
+
+  -- a step back from this place of a leaf stays in a leaf
+  pub record CanGoBack (id : LeafNodeId) (offset : ℕ) : Type 0 where
+    pub leaf : Leaf K V
+    pub found : leaves id ≡ Some leaf
+    pub prev : offset ≡ 0 → (before : LeafNodeId) × (leaf.prev ≡ Some before) × IsSome (leaves before)
+
+  -- The place is the one at hand, or where that is the start of its leaf, the end of the one before.
+  pub record IsBackPlace (id : LeafNodeId) (offset : ℕ) (id' : LeafNodeId) (offset' : ℕ) : Type 0 where
+    pub leaf : Leaf K V
+    pub found : leaves id ≡ Some leaf
+    pub over : offset ≡ 0 → (leaf.prev ≡ Some id') × (before : Leaf K V) × (leaves id' ≡ Some before) × (offset' ≡ length before.pairs)
+    pub here : offset ≢ 0 → (id' ≡ id) × (offset' ≡ offset)
+
+-- the leaf that stands under a number, if one does
+abbrev pub leaf_of : {K V : Type 0} → Slot (Leaf K V) → Option (Leaf K V)
+leaf_of Free = None
+leaf_of Held = None
+leaf_of (Present leaf) = Some leaf
+
+abbrev pub leaves_of : {K V A : Type 0} → Slots (Inner K A) (Leaf K V) → LeafNodeId → Option (Leaf K V)
+leaves_of slots id = leaf_of (slots.leaf id.0)
