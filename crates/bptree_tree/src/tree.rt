@@ -1,11 +1,14 @@
 //! A tree over the nodes of a store.
 ghost use Rattle.std.specs.Prelude.{◌≡◌, ◌-◌, [], length, slice_get, IfOk, IsTrue, ◌↔◌};
 ghost use Rattle.std.specs.Map.{keys_of};
+ghost use Rattle.std.specs.Map.Iter.{ShowsInOrder, deref_pair};
 ghost use Rattle.std.specs.Option.{option_map, option_copied};
 ghost use Rattle.bptree_nodes.specs.Contents.{IsAscending, value};
 ghost use Rattle.bptree_nodes.specs.Slot.{IsEmpty};
 ghost use Rattle.bptree_tree.specs.Shape.{IsWellShaped};
 
+use crate::descent::{first_leaf, last_leaf};
+use crate::node_iterator::Iter;
 use crate::reading;
 use bptree_nodes::node_id::NodeId;
 use bptree_stores::node_stores::NodeStore;
@@ -87,6 +90,18 @@ impl<S: NodeStore> BPlusTree<S> {
         ensures { option_map (λ pair. (pair.0.now, pair.1.now)) result ≡ slice_get self.now.contents (length self.now.contents - 1) }
     {
         reading::last(&self.store, self.root, self.height)
+    }
+
+    /// The pairs in the order of their keys. It takes no memory, and neither do its steps.
+    pub fn iter(&self) -> Iter<'_, S>
+        ensures rest { result ≡ self.now.contents }
+        ensures ascending { IsAscending S.K.cmp self.now.contents }
+        ensures runs { ShowsInOrder (deref_pair {K = S.K} {X = S.V}) }
+    {
+        let front = first_leaf(&self.store, self.root, self.height);
+        let back = last_leaf(&self.store, self.root, self.height);
+        let to = self.store.get_leaf(back).len();
+        Iter::new(&self.store, front, 0, back, to, self.len)
     }
 
     /// A summary of all keys; of no keys what `Default` makes.
