@@ -8,3 +8,6 @@ mod session;
 
 pub use error::ServeError;
 pub use session::{parts_are_lines, serve};
+
+#[cfg(test)]
+mod tests;
