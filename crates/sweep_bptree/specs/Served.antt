@@ -8,7 +8,7 @@ use Rattle.sweep_bptree.specs.Clipped.{clipped_after}
 use Rattle.sweep_bptree.specs.Lines.{ended_lines, last_line, lines_of}
 use Rattle.sweep_bptree.specs.Sent.{AppendsBeginning}
 
--- the lines that were read: those that a line feed ended, and last bytes without one only where nothing of the input is left
+-- the lines that were read: those that a line feed ended, and last bytes without one only where no input is left
 abbrev pub AreLinesRead : List (List ℕ) → List ℕ → Option (List ℕ) → Type 0
 AreLinesRead lines read left = (lines ≡ ended_lines read) ⊎ ((lines ≡ lines_of read) × IsAtEnd left)
 
@@ -19,12 +19,16 @@ Answered input left old new = (read : List ℕ) × Consumes input left read × I
 -- what was written when serving ended early: after `Io` a beginning of the answers to the lines read, and after
 -- `OutOfMemory` the whole answers to the first of them
 abbrev pub EndedBy : ServeError → Option (List ℕ) → Option (List ℕ) → Option (List ℕ) → Option (List ℕ) → Type 0
-EndedBy Io input left old new = (read : List ℕ) × (lines : List (List ℕ)) × Consumes input left read × AreLinesRead lines read left
+EndedBy Io input left old new =
+    (read : List ℕ) × (lines : List (List ℕ)) × Consumes input left read × AreLinesRead lines read left
     × AppendsBeginning old new (answers [] lines)
-EndedBy OutOfMemory input left old new = (read : List ℕ) × (lines : List (List ℕ)) × Consumes input left read × AreLinesRead lines read left
+EndedBy OutOfMemory input left old new =
+    (read : List ℕ) × (lines : List (List ℕ)) × Consumes input left read × AreLinesRead lines read left
     × (n : ℕ) × Appends old new (answers [] (take n lines))
 
-abbrev pub Serves : {T : Type 0} → Option (List ℕ) → Option (List ℕ) → Option (List ℕ) → Option (List ℕ) → Result T ServeError → Type 0
+-- either of them
+abbrev pub Serves : {T : Type 0} → Option (List ℕ) → Option (List ℕ) → Option (List ℕ) → Option (List ℕ)
+    → Result T ServeError → Type 0
 Serves input left old new r = MatchResult r (λ _. Answered input left old new) (λ e. EndedBy e input left old new)
 
 -- a text was written, or a beginning of it after `Io`
@@ -33,8 +37,10 @@ EndsAt Io old new bytes = AppendsBeginning old new bytes
 EndsAt OutOfMemory old new bytes = Appends old new bytes
 
 -- a piece of the input was answered, or a beginning of it
-abbrev pub AnswersPiece : {T : Type 0} → Option (List ℕ) → Option (List ℕ) → List (ℕ × ℕ) → List ℕ → List ℕ → Result T ServeError → Type 0
-AnswersPiece old new pairs kept bytes r = MatchResult r (λ _. Appends old new (answers pairs (clipped_after kept bytes)))
+abbrev pub AnswersPiece : {T : Type 0} → Option (List ℕ) → Option (List ℕ) → List (ℕ × ℕ) → List ℕ → List ℕ
+    → Result T ServeError → Type 0
+AnswersPiece old new pairs kept bytes r =
+    MatchResult r (λ _. Appends old new (answers pairs (clipped_after kept bytes)))
     (λ e. (n : ℕ) × EndsAt e old new (answers pairs (clipped_after kept (take n bytes))))
 
 -- after the end of the input what was kept of a line was answered, or not
@@ -42,5 +48,8 @@ abbrev pub BreaksLast : ServeError → Option (List ℕ) → Option (List ℕ) �
 BreaksLast Io old new bytes = AppendsBeginning old new bytes
 BreaksLast OutOfMemory old new bytes = Appends old new []
 
-abbrev pub AnswersLast : {T : Type 0} → Option (List ℕ) → Option (List ℕ) → List (ℕ × ℕ) → List ℕ → Result T ServeError → Type 0
-AnswersLast old new pairs kept r = MatchResult r (λ _. Appends old new (answers pairs (last_line kept))) (λ e. BreaksLast e old new (answers pairs (last_line kept)))
+abbrev pub AnswersLast : {T : Type 0} → Option (List ℕ) → Option (List ℕ) → List (ℕ × ℕ) → List ℕ
+    → Result T ServeError → Type 0
+AnswersLast old new pairs kept r =
+    let last = answers pairs (last_line kept) in
+    MatchResult r (λ _. Appends old new last) (λ e. BreaksLast e old new last)

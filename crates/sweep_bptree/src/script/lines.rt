@@ -42,9 +42,11 @@ fn answer_kept<W: Write>(
     writer: &mut W,
     held: &mut Held,
 ) -> Result<(), ServeError>
-    ensures replies { Replies (W.contents writer.old) (W.contents writer.new) held.old.items held.new.items
+    ensures replies { Replies (W.contents writer.old) (W.contents writer.new)
+        held.old.items held.new.items
         (answer tree.old.contents (take KEPT (line.old.items ++ piece.now))) result }
-    ensures pairs { OnOk result (tree.new.contents ≡ pairs_after tree.old.contents (take KEPT (line.old.items ++ piece.now))) }
+    ensures pairs { OnOk result (tree.new.contents
+        ≡ pairs_after tree.old.contents (take KEPT (line.old.items ++ piece.now))) }
     ensures line { OnOk result (line.new.items ≡ []) }
 {
     if line.is_empty() {
@@ -65,9 +67,10 @@ pub fn take_lines<W: Write>(
     held: &mut Held,
 ) -> Result<(), ServeError>
     requires { array_vec_len line.old ≤ KEPT }
-    ensures replies { RepliesTo (W.contents writer.old) (W.contents writer.new) held.old.items held.new.items
-        tree.old.contents line.old.items bytes.now result }
-    ensures pairs { OnOk result (tree.new.contents ≡ pairs_after_all tree.old.contents (clipped_after line.old.items bytes.now)) }
+    ensures replies { RepliesTo (W.contents writer.old) (W.contents writer.new)
+        held.old.items held.new.items tree.old.contents line.old.items bytes.now result }
+    ensures pairs { OnOk result (tree.new.contents
+        ≡ pairs_after_all tree.old.contents (clipped_after line.old.items bytes.now)) }
     ensures line { OnOk result (line.new.items ≡ clipped_rest line.old.items bytes.now) }
 {
     let mut rest = bytes;

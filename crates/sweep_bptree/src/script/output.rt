@@ -32,7 +32,8 @@ pub fn write_whole<W: Write>(writer: &mut W, bytes: &[u8]) -> Result<(), ServeEr
 
 /// Writes all that is held.
 pub fn drain<W: Write>(writer: &mut W, held: &mut Held) -> Result<(), ServeError>
-    ensures ok { OnOk result (Appends (W.contents writer.old) (W.contents writer.new) held.old.items) }
+    ensures ok { OnOk result (Appends (W.contents writer.old) (W.contents writer.new)
+        held.old.items) }
     ensures empty { OnOk result (held.new.items ≡ []) }
     ensures err { IfErr result (λ e. (e ≡ ServeError.Io)
         × AppendsBeginning (W.contents writer.old) (W.contents writer.new) held.old.items) }

@@ -27,6 +27,7 @@ fn send_number<W: Write>(writer: &mut W, held: &mut Held, n: u64) -> Result<(), 
     let mut digits = ArrayString::<{ DIGITS }>::new();
     match write!(digits, "{n}") {
         Ok(()) => send(writer, held, digits.as_str().as_bytes()),
+        // Never met: each number has room.
         Err(_) => Err(ServeError::Io),
     }
 }
@@ -135,7 +136,8 @@ fn carry_out<W: Write>(
 ) -> Result<(), ServeError>
     ensures replies { Replies (W.contents writer.old) (W.contents writer.new)
         held.old.items held.new.items (reply_to tree.old.contents (Some request)) result }
-    ensures pairs { OnOk result (tree.new.contents ≡ pairs_with tree.old.contents (Some request)) }
+    ensures pairs { OnOk result
+        (tree.new.contents ≡ pairs_with tree.old.contents (Some request)) }
 {
     match request {
         Request::Put(key, value) => put_pair(tree, key, value, writer, held),
@@ -153,7 +155,8 @@ fn reply_line<W: Write>(
 ) -> Result<(), ServeError>
     ensures replies { Replies (W.contents writer.old) (W.contents writer.new)
         held.old.items held.new.items (reply_to tree.old.contents (request_of line.now)) result }
-    ensures pairs { OnOk result (tree.new.contents ≡ pairs_with tree.old.contents (request_of line.now)) }
+    ensures pairs { OnOk result
+        (tree.new.contents ≡ pairs_with tree.old.contents (request_of line.now)) }
 {
     match read_request(line) {
         None => send(writer, held, b"bad"),

@@ -29,9 +29,11 @@ fn answer_piece<W: Write>(
 ) -> Result<(), ServeError>
     requires empty { held.old.items ≡ [] }
     requires kept { array_vec_len line.old ≤ KEPT }
-    ensures answers { AnswersPiece (W.contents writer.old) (W.contents writer.new) tree.old.contents line.old.items bytes.now result }
+    ensures answers { AnswersPiece (W.contents writer.old) (W.contents writer.new)
+        tree.old.contents line.old.items bytes.now result }
     ensures empty { OnOk result (held.new.items ≡ []) }
-    ensures pairs { OnOk result (tree.new.contents ≡ pairs_after_all tree.old.contents (clipped_after line.old.items bytes.now)) }
+    ensures pairs { OnOk result (tree.new.contents
+        ≡ pairs_after_all tree.old.contents (clipped_after line.old.items bytes.now)) }
     ensures line { OnOk result (line.new.items ≡ clipped_rest line.old.items bytes.now) }
 {
     match take_lines(tree, line, bytes, writer, held) {
@@ -46,7 +48,8 @@ fn answer_piece<W: Write>(
 
 fn flush_all<W: Write>(writer: &mut W) -> Result<(), ServeError>
     ensures ok { OnOk result (Keeps (W.contents writer.old) (W.contents writer.new)) }
-    ensures err { IfErr result (λ e. (e ≡ ServeError.Io) × Keeps (W.contents writer.old) (W.contents writer.new)) }
+    ensures err { IfErr result (λ e. (e ≡ ServeError.Io)
+        × Keeps (W.contents writer.old) (W.contents writer.new)) }
 {
     match writer.flush() {
         Ok(()) => Ok(()),
@@ -62,7 +65,8 @@ fn answer_last<W: Write>(
     held: &mut Held,
 ) -> Result<(), ServeError>
     requires { held.old.items ≡ [] }
-    ensures { AnswersLast (W.contents writer.old) (W.contents writer.new) tree.old.contents line.now result }
+    ensures { AnswersLast (W.contents writer.old) (W.contents writer.new)
+        tree.old.contents line.now result }
 {
     if line.is_empty() {
         return flush_all(writer);
@@ -77,7 +81,8 @@ fn serve_pieces<R: Read, W: Write>(
     reader: &mut R,
     writer: &mut W,
 ) -> Result<(), ServeError>
-    ensures { Serves (R.remaining reader.old) (R.remaining reader.new) (W.contents writer.old) (W.contents writer.new) result }
+    ensures { Serves (R.remaining reader.old) (R.remaining reader.new)
+        (W.contents writer.old) (W.contents writer.new) result }
 {
     let Ok(mut tree) = BPlusTree::new(NodeStoreVec::new(alloc)) else {
         return Err(ServeError::OutOfMemory);

@@ -91,7 +91,10 @@ fn inputs(rt: HostRuntime) {
             "put 18446744073709551615 18446744073709551615\nput 18446744073709551615 184467440737095516150\nlen",
             "new\nbad\n1\n",
         ),
-        ("put 1 10\nPUT 1 11\nget 1\n\nget 1\n", "new\nbad\n10\nbad\n10\n"),
+        (
+            "put 1 10\nPUT 1 11\nget 1\n\nget 1\n",
+            "new\nbad\n10\nbad\n10\n",
+        ),
     ] {
         let taken = answers_to(&rt, rt.alloc(), input.as_bytes());
         assert_eq!(rt; taken.as_slice(), output.as_bytes(), "{input:?}");
@@ -176,8 +179,16 @@ fn failing_writers(rt: HostRuntime) {
         let mut source = input.as_bytes();
         let mut sink = new_sink(rt.alloc(), step, room, can_flush);
         let result = serve(rt.alloc(), &mut source, &mut sink);
-        assert_eq!(rt; result, Err(ServeError::Io), "{input:?} with room for {room}");
-        assert_eq!(rt; sink.bytes.as_slice(), written.as_bytes(), "{input:?} with room for {room}");
+        assert_eq!(rt;
+            result,
+            Err(ServeError::Io),
+            "{input:?} with room for {room}"
+        );
+        assert_eq!(rt;
+            sink.bytes.as_slice(),
+            written.as_bytes(),
+            "{input:?} with room for {room}"
+        );
     }
 }
 
@@ -198,7 +209,11 @@ fn failing_readers(rt: HostRuntime) {
         let mut sink = new_sink(rt.alloc(), 100, 100, true);
         let result = serve(rt.alloc(), &mut source, &mut sink);
         assert_eq!(rt; result, Err(ServeError::Io), "{input:?} after {good} reads");
-        assert_eq!(rt; sink.bytes.as_slice(), written.as_bytes(), "{input:?} after {good} reads");
+        assert_eq!(rt;
+            sink.bytes.as_slice(),
+            written.as_bytes(),
+            "{input:?} after {good} reads"
+        );
     }
 }
 
