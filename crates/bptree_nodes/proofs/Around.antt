@@ -35,6 +35,9 @@ module _ {K V : Type 0} (cmp : K → K → Ordering) (k : K) (before l after : L
   pub value_around : value cmp (before ++ (l ++ after)) k ≡ value cmp l k
   value_around = lookup_past cmp k Less before (l ++ after) refl smaller ∙ value_before cmp k l after greater
 
+  pub set_value_around : (v : V) → set_value (λ key. is_eq (cmp key k)) (before ++ (l ++ after)) v ≡ before ++ (set_value (λ key. is_eq (cmp key k)) l v ++ after)
+  set_value_around v = set_value_past cmp k Less before (l ++ after) v refl smaller ∙ ap (λ rest. before ++ rest) (set_value_before cmp k l after v greater)
+
   pub pairs_below_around : pairs_below cmp (before ++ (l ++ after)) k ≡ before ++ pairs_below cmp l k
   pairs_below_around = rw (filter-append, filter-append, filter_all cmp k is_lt Less before refl smaller, filter_none cmp k is_lt Greater after refl greater, append-nil) refl
 
