@@ -80,7 +80,7 @@ module _ {K V : Type 0} (cmp : K → K → Ordering) (total : IsTotalOrder cmp) 
       (ascending_in_gap before after k v (sorted_tail cmp p.0 (keys_of (before ++ after)) ascending) smaller.1 greater)
 
   -- after a greater key each key is greater
-  greater_after : (p : K × V) (l : List (K × V)) (k : K) → IsAscending cmp (p ∷ l) → cmp p.0 k ≡ Greater → AllAnswer cmp k Greater l
+  pub greater_after : (p : K × V) (l : List (K × V)) (k : K) → IsAscending cmp (p ∷ l) → cmp p.0 k ≡ Greater → AllAnswer cmp k Greater l
   greater_after p l k ascending greater = all_pairs (λ key. cmp p.0 key ≡ Less) (λ key. cmp key k ≡ Greater) (λ key less. greater_turned cmp total k key (total.trans k p.0 key (less_turned cmp total p.0 k greater) less)) l (sorted_head cmp p.0 (keys_of l) ascending)
 
   -- with no equal key, the list is the smaller keys and then the greater: by the answer of the first key

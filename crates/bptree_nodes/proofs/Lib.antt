@@ -3,8 +3,10 @@ pub mod Ascending
 pub mod Equal
 pub mod Found
 pub mod Laws
+pub mod LeafContents
 pub mod Locating
 pub mod Pairs
 pub mod Parted
 pub mod Search
 pub mod Updates
+pub mod Steps

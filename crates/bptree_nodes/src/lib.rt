@@ -7,6 +7,8 @@ pub mod entry_ref;
 pub mod inner_node;
 pub mod key;
 pub mod leaf_node;
+#[cfg(test)]
+mod leaf_tests;
 mod moves;
 pub mod node_id;
 #[cfg(test)]

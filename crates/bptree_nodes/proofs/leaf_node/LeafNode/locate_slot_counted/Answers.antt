@@ -1,0 +1,15 @@
+use Rattle.std.proofs.Common.{◌≡◌, arith}
+use Rattle.std.specs.Map.{keys_of}
+use Rattle.std.proofs.lemmas.Slice.Zip.{firsts-zip}
+use Rattle.bptree_nodes.proofs.LeafContents.{found_pair, place_of_locate}
+use Rattle.bptree_nodes.proofs.leaf_node.LeafNode.locate_slot_counted.Goals as goal
+
+pub returns-clause-found : goal.returns-clause-found
+returns-clause-found g c =
+    let keys = c.deref.ensures.value in
+    rw (← c.self.view_is) (found_pair g.K.Ord.cmp c.args.key.now c.self.inside.keys.items c.self.inside.values.items c.locate_counted.result (omega arith) (rw keys at c.locate_counted.ensures.in_range) (rw keys at c.locate_counted.ensures.found))
+
+pub returns-clause-place : goal.returns-clause-place
+returns-clause-place g c = λ ascending.
+    let keys : keys_of c.args.self.now.pairs ≡ c.deref.result.now = rw (← c.self.view_is, c.deref.ensures.value) (firsts-zip c.self.inside.keys.items c.self.inside.values.items (omega arith)) in
+    rw (c.locate_counted.ensures.ascending (rw keys at ascending), ← keys) (place_of_locate g.K.Ord.cmp g.met.K.Ord.total c.args.key.now c.args.self.now.pairs ascending)

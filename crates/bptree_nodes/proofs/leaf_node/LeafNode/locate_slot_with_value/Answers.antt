@@ -1,0 +1,21 @@
+use Rattle.std.proofs.Common.{sym}
+use Rattle.bptree_nodes.proofs.Found.{gap_at}
+use Rattle.bptree_nodes.proofs.LeafContents.{value_of_pair, place_is_below}
+use Rattle.bptree_nodes.proofs.Parted.{value_gap}
+use Rattle.bptree_nodes.proofs.leaf_node.LeafNode.locate_slot_with_value.Goals as goal
+
+pub returns-in-Ok-clause-contents : goal.returns-in-Ok-clause-contents
+returns-in-Ok-clause-contents g c = λ ascending.
+    let cmp = g.K.Ord.cmp in
+    let total = g.met.K.Ord.total in
+    let l = c.args.self.now.pairs in
+    let k = c.args.key.now in
+    let found = c.in-Ok.ensures.found in
+    (place_is_below cmp total l ascending k c.in-Ok.slot found, sym (value_of_pair cmp total l ascending k c.in-Ok.slot _ found c.data_at.ensures.value))
+
+pub returns-in-Err-clause-contents : goal.returns-in-Err-clause-contents
+returns-in-Err-clause-contents g c = λ ascending.
+    let l = c.args.self.now.pairs in
+    let place = c.in-Err.ensures.place ascending in
+    let gap = gap_at g.K.Ord.cmp g.met.K.Ord.total l ascending c.args.key.now c.in-Err.slot place.0 place.1 in
+    (place.1, sym (value_gap g.K.Ord.cmp l _ _ c.args.key.now gap.1))
