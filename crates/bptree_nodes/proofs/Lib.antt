@@ -2,9 +2,12 @@ pub mod Around
 pub mod Ascending
 pub mod Equal
 pub mod Found
+pub mod Iterables
 pub mod Laws
 pub mod Locating
 pub mod Pairs
 pub mod Parted
 pub mod PieceLemmas
 pub mod Search
+pub mod Separators
+pub mod Splits

@@ -4,6 +4,8 @@
 mod compares;
 pub mod entry_ref;
 pub mod inner_node;
+#[cfg(test)]
+mod inner_tests;
 pub mod key;
 pub mod leaf_node;
 mod moves;
