@@ -14,8 +14,8 @@ module _ {X : Type 0} where
 
   -- a list, cut round one of its elements
   pub around_element : (xs : List X) (n m : ℕ) (x : X) → slice_get xs n ≡ Some x → m ≡ n + 1 → take n xs ++ x ∷ drop m xs ≡ xs
-  around_element [] n m x h e = absurd (let z : Some x ≡ Some x = refl in cc)
-  around_element (y ∷ xs) zero m x h e = let one : m ≡ suc zero = omega arith in rw one (let same : y ≡ x = cc in ap (λ z. z ∷ xs) (sym same))
+  around_element [] n m x h e = cc
+  around_element (y ∷ xs) zero m x h e = let one : m ≡ suc zero = omega arith in rw one (cc)
   around_element (y ∷ xs) (suc n) zero x h e = absurd (omega arith)
   around_element (y ∷ xs) (suc n) (suc m) x h e = ap (λ zs. y ∷ zs) (around_element xs n m x h (omega arith))
 
