@@ -1,6 +1,8 @@
 pub mod Contents
 pub mod Keys
 pub mod Places
+pub mod Numbers
+pub mod Pieces
 pub mod Inner
 pub mod Leaf
 pub mod LeafLends

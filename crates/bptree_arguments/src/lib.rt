@@ -1,0 +1,6 @@
+//! What an inner node keeps of each child beside its number: summaries of the child's keys.
+#![tactic(auto)]
+
+pub mod argument;
+#[cfg(test)]
+mod tests;

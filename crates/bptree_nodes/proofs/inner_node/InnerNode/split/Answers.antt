@@ -1,0 +1,27 @@
+use Rattle.std.proofs.Common.{refl, arith}
+use Rattle.std.proofs.lemmas.List.{take-append-drop}
+use Rattle.bptree_nodes.proofs.Splits.{around_element, splits_by_table}
+use Rattle.bptree_nodes.proofs.inner_node.InnerNode.split.Goals as goal
+
+pub returns-clause-keys : goal.returns-clause-keys
+returns-clause-keys g c =
+    let cut = c.insert_and_take_middle-promoted.ensures in
+    rw (← c.self.view_is, cut.kept, cut.moved) (around_element _ 32 33 _ cut.middle refl)
+
+pub returns-clause-children : goal.returns-clause-children
+returns-clause-children g c =
+    let cut = c.insert_and_cut_children.ensures in
+    rw (← c.self.view_is, cut.kept, cut.moved) (take-append-drop 33 _)
+
+pub returns-clause-arguments : goal.returns-clause-arguments
+returns-clause-arguments g c =
+    let cut = c.insert_and_cut.ensures in
+    rw (← c.self.view_is, cut.kept, cut.moved) (take-append-drop 33 _)
+
+pub returns-clause-table : goal.returns-clause-table
+returns-clause-table g c =
+    let up = c.insert_and_take_middle-promoted.ensures.middle in
+    let children = c.insert_and_cut_children.ensures in
+    let arguments = c.insert_and_cut.ensures in
+    let full = rw (← c.self.view_is) at c.requires.full in
+    rw (← c.self.view_is) (splits_by_table c.args.slot c.args.key c.args.child c.args.argument _ _ _ _ (omega (arith, full)) (omega (arith, full)) (omega (arith, full)) (omega arith) up children.kept arguments.kept children.moved arguments.moved)
