@@ -2,13 +2,14 @@ pub mod Around
 pub mod Ascending
 pub mod Equal
 pub mod Found
+pub mod Iterables
 pub mod Laws
 pub mod LeafContents
 pub mod Locating
 pub mod Pairs
 pub mod Parted
 pub mod PieceLemmas
-pub mod Updates
-pub mod Steps
 pub mod Separators
 pub mod Splits
+pub mod Steps
+pub mod Updates

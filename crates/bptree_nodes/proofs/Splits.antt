@@ -3,7 +3,7 @@ use Rattle.std.proofs.Common.{◌≡◌, ℕ, ◌+◌, ◌-◌, ◌<◌, ◌≤�
 use Rattle.std.specs.List.{insert, slice_get}
 use Rattle.std.proofs.lemmas.List.{take-append-drop, take-take}
 use Rattle.bptree_nodes.specs.declared.node_id.NodeId.{NodeId}
-use Rattle.bptree_nodes.specs.Inner.{Inner, StandsAt, SplitsByTable}
+use Rattle.bptree_nodes.specs.Inner.{Inner, SplitsByTable}
 use Rattle.bptree_nodes.proofs.Pairs.{parts, slice_get-take}
 
 module _ {X : Type 0} where
@@ -14,8 +14,8 @@ module _ {X : Type 0} where
 
   -- a list, cut round one of its elements
   pub around_element : (xs : List X) (n m : ℕ) (x : X) → slice_get xs n ≡ Some x → m ≡ n + 1 → take n xs ++ x ∷ drop m xs ≡ xs
-  around_element [] n m x h e = absurd (let z : Some x ≡ Some x = refl in cc)
-  around_element (y ∷ xs) zero m x h e = let one : m ≡ suc zero = omega arith in rw one (let same : y ≡ x = cc in ap (λ z. z ∷ xs) (sym same))
+  around_element [] n m x h e = cc
+  around_element (y ∷ xs) zero m x h e = let one : m ≡ suc zero = omega arith in rw one (cc)
   around_element (y ∷ xs) (suc n) zero x h e = absurd (omega arith)
   around_element (y ∷ xs) (suc n) (suc m) x h e = ap (λ zs. y ∷ zs) (around_element xs n m x h (omega arith))
 
@@ -55,18 +55,27 @@ module _ {K A : Type 0} (slot : ℕ) (key : K) (child : NodeId) (argument : A) (
       → right.children ≡ drop 33 (insert old.children (slot + 1) child) → right.arguments ≡ drop 33 (insert old.arguments (slot + 1) argument)
       → SplitsByTable slot key child argument old left promoted right
   splits_by_table n m a h up lc la rc ra = record {
-    low = λ l. (sym (behind_new old.keys slot 31 key (omega arith) (omega arith)) ∙ up, record {
-      among_children = rw lc (new_in_left old.children (slot + 1) 33 child (omega arith) (omega arith));
-      among_arguments = rw la (new_in_left old.arguments (slot + 1) 33 argument (omega arith) (omega arith));
-    });
-    middle = λ l. (let same : Some promoted ≡ Some key = sym up ∙ (ap (λ i. slice_get (insert old.keys i key) 32) l ∙ at_new old.keys 32 key (omega arith)) in cc, record {
-      among_children = rw rc (new_in_right old.children (slot + 1) 33 0 child (omega arith) (omega arith));
-      among_arguments = rw ra (new_in_right old.arguments (slot + 1) 33 0 argument (omega arith) (omega arith));
-    });
-    high = λ l. (sym (before_new old.keys slot 32 key l (omega arith)) ∙ up, record {
-      among_children = rw rc (new_in_right old.children (slot + 1) 33 (slot - 32) child (omega arith) (omega arith));
-      among_arguments = rw ra (new_in_right old.arguments (slot + 1) 33 (slot - 32) argument (omega arith) (omega arith));
-    });
+    low = λ l. (
+      sym (behind_new old.keys slot 31 key (omega arith) (omega arith)) ∙ up,
+      record {
+        among_children = rw lc (new_in_left old.children (slot + 1) 33 child (omega arith) (omega arith));
+        among_arguments = rw la (new_in_left old.arguments (slot + 1) 33 argument (omega arith) (omega arith));
+      },
+    );
+    middle = λ l. (
+      let same : Some promoted ≡ Some key = sym up ∙ (ap (λ i. slice_get (insert old.keys i key) 32) l ∙ at_new old.keys 32 key (omega arith)) in cc,
+      record {
+        among_children = rw rc (new_in_right old.children (slot + 1) 33 0 child (omega arith) (omega arith));
+        among_arguments = rw ra (new_in_right old.arguments (slot + 1) 33 0 argument (omega arith) (omega arith));
+      },
+    );
+    high = λ l. (
+      sym (before_new old.keys slot 32 key l (omega arith)) ∙ up,
+      record {
+        among_children = rw rc (new_in_right old.children (slot + 1) 33 (slot - 32) child (omega arith) (omega arith));
+        among_arguments = rw ra (new_in_right old.arguments (slot + 1) 33 (slot - 32) argument (omega arith) (omega arith));
+      },
+    );
   }
 
 -- what the check tries at each goal of an inner node

@@ -1,12 +1,12 @@
 pub mod Contents
-pub mod Keys
-pub mod Places
-pub mod Numbers
-pub mod Pieces
 pub mod Inner
+pub mod Keys
 pub mod Leaf
 pub mod LeafLends
 pub mod LeafResults
 pub mod Locate
-pub mod Taken
+pub mod Numbers
+pub mod Pieces
+pub mod Places
 pub mod Slot
+pub mod Taken

@@ -1,6 +1,9 @@
-//! An ordered map in memory, kept in a B+ tree, and a program's lines over it.
+//! An ordered map in memory, kept in a B+ tree, with lists of commands and lines of text over it.
 #![tactic(auto)]
 
 #[cfg(test)]
 mod run_tests;
 pub mod script;
+pub mod tree;
+
+pub use tree::{BPlusTree, Key, NodeStore, NodeStoreVec};

@@ -1,4 +1,15 @@
-//! Lists of commands on a tree.
+//! Lists of commands on a tree, and lines of text on a tree of numbers.
+
 mod commands;
+mod error;
+mod lines;
+mod output;
+mod reply;
+mod session;
 
 pub use commands::{Command, Reply, run};
+pub use error::ServeError;
+pub use session::{parts_are_lines, serve};
+
+#[cfg(test)]
+mod tests;

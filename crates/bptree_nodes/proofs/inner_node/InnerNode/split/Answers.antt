@@ -1,4 +1,4 @@
-use Rattle.std.proofs.Common.{◌+◌, take, drop, insert, refl, arith}
+use Rattle.std.proofs.Common.{refl, arith}
 use Rattle.std.proofs.lemmas.List.{take-append-drop}
 use Rattle.bptree_nodes.proofs.Splits.{around_element, splits_by_table}
 use Rattle.bptree_nodes.proofs.inner_node.InnerNode.split.Goals as goal

@@ -1,0 +1,154 @@
+-- What lines are read as requests.
+use Rattle.std.proofs.Common.{◌≡◌, ℕ, ◌^◌, ◌<◌, ◌≤◌, List, [], ◌∷◌, ◌++◌, length, get_or, ◌==◌, true, refl, ◌∙◌, sym, ap, arith, Some, None, codes, decimal, lit<, inl, inr, subst, append_assoc, length-append}
+use Rattle.std.specs.Prelude.{Option, bytes_eq, option_map, option_and_then}
+use Rattle.std.proofs.lemmas.Bool.{cases_Bool}
+use Rattle.std.proofs.lemmas.Bool.Decides.{nat_tests}
+use Rattle.std.proofs.lemmas.Fmt.{decimal-digits_value, digits_decimal, digits_value-decimal, decimal_nonempty, first_decimal, decimal_digit, length-decimal-le}
+use Rattle.std.proofs.lemmas.List.Splits.{slice_split-cons_no, join_with_byte-slice_split}
+use Rattle.std.proofs.lemmas.Slice.Eq.{bytes_eq-Decides}
+use Rattle.std.specs.List.{join_with_byte, onto_first}
+use Rattle.std.specs.Str.{all_ascii_digits}
+use Rattle.std.specs.Str.Parse.{digits_value}
+use Rattle.bptree_requests.proofs.NumberLemmas.{digits_model}
+use Rattle.bptree_requests.specs.Number.{number_of}
+use Rattle.bptree_requests.specs.Request.{words, request_from, request_of, line_of, FitsRequest}
+use Rattle.bptree_requests.specs.declared.Request.{Request}
+use Rattle.bptree_requests.specs.declared.TheConstants.{LONGEST_LINE}
+use Rattle.bptree_requests.specs.declared.Request.TheVariants.{Put, Get, Len, All as AllPairs}
+
+-- a word that writes a number is its decimal text
+pub number_of-some : (word : List ℕ) (n : ℕ) → number_of word ≡ Some n → (word ≡ decimal n) × (n < 2 ^ 64)
+unfolding number_of
+number_of-some word n h =
+    elim (cases_Bool (all_ascii_digits word)) [
+      | inl digits ↦
+          let some : 0 < length word = grind (arith, nat_tests) in
+          let plain : get_or word 0 0 ≡ 48 → length word ≡ 1 = λ e. grind (arith, nat_tests) in
+          let small : digits_value 10 word < 2 ^ 64 = grind (arith, nat_tests) in
+          let is : digits_value 10 word ≡ n = grind (arith, nat_tests) in
+          (sym (decimal-digits_value digits_model word digits some plain small) ∙ ap decimal is, rw is at small)
+      | inr other ↦ absurd (grind (arith, nat_tests))
+    ]
+
+-- the decimal text of a number writes it
+pub number_of-decimal : (n : ℕ) → n < 2 ^ 64 → number_of (decimal n) ≡ Some n
+unfolding number_of
+number_of-decimal n small =
+    let digits = digits_decimal digits_model n small in
+    let value = digits_value-decimal digits_model n small in
+    let some = decimal_nonempty n small in
+    elim (cases_Bool (n == 0)) [
+      | inl zero_case ↦ let e : n ≡ 0 = grind (arith, nat_tests) in rw e (rw (decimal_digit 0 (lit< tt)) refl)
+      | inr other ↦
+          let first = first_decimal n (grind (arith, nat_tests)) small in
+          grind (arith, nat_tests)
+    ]
+
+-- digits end at a space
+words_digits : (ds rest : List ℕ) → all_ascii_digits ds ≡ true → words (ds ++ 32 ∷ rest) ≡ ds ∷ words rest
+unfolding words
+words_digits [] rest h = refl
+words_digits (d ∷ ds) rest h =
+    let digit : all_ascii_digits ds ≡ true = grind (arith, nat_tests) in
+    slice_split-cons_no _ d (ds ++ 32 ∷ rest) (grind (arith, nat_tests)) ∙ ap (onto_first d) (words_digits ds rest digit)
+
+words_digits_end : (ds : List ℕ) → all_ascii_digits ds ≡ true → words ds ≡ ds ∷ []
+unfolding words
+words_digits_end [] h = refl
+words_digits_end (d ∷ ds) h =
+    let digit : all_ascii_digits ds ≡ true = grind (arith, nat_tests) in
+    slice_split-cons_no _ d ds (grind (arith, nat_tests)) ∙ ap (onto_first d) (words_digits_end ds digit)
+
+-- the words of the line that writes a request
+pub request_of-line : (r : Request) → FitsRequest r → request_of (line_of r) ≡ Some r
+unfolding words request_of
+request_of-line (Put k v) fits =
+    let dk = digits_decimal digits_model k fits.0 in
+    let dv = digits_decimal digits_model v fits.1 in
+    let e : words (line_of (Put k v)) ≡ codes "put" ∷ decimal k ∷ decimal v ∷ [] =
+    ap (λ ws. codes "put" ∷ ws) (ap words (append_assoc (decimal k) (32 ∷ []) (decimal v)) ∙ words_digits (decimal k) (decimal v) dk ∙ ap (λ ws. decimal k ∷ ws) (words_digits_end (decimal v) dv)) in
+    ap request_from e ∙ rw (number_of-decimal k fits.0, number_of-decimal v fits.1) refl
+request_of-line (Get k) fits =
+    let dk = digits_decimal digits_model k fits in
+    let e : words (line_of (Get k)) ≡ codes "get" ∷ decimal k ∷ [] = ap (λ ws. codes "get" ∷ ws) (words_digits_end (decimal k) dk) in
+    ap request_from e ∙ rw (number_of-decimal k fits) refl
+request_of-line Len fits = refl
+request_of-line AllPairs fits = refl
+
+put-some : (o p : Option ℕ) (r : Request) → option_and_then (λ k. option_map (λ v. Put k v) p) o ≡ Some r
+    → (k : ℕ) × (v : ℕ) × (o ≡ Some k) × (p ≡ Some v) × (Put k v ≡ r)
+put-some None p r h = absurd (cc h)
+put-some (Some k) None r h = absurd (cc h)
+put-some (Some k) (Some v) r h = (k, v, refl, refl, cc h)
+
+get-some : (o : Option ℕ) (r : Request) → option_map (λ k. Get k) o ≡ Some r → (k : ℕ) × (o ≡ Some k) × (Get k ≡ r)
+get-some None r h = absurd (cc h)
+get-some (Some k) r h = (k, refl, cc h)
+
+get-line : (name k : List ℕ) (n : ℕ) (r : Request) → name ≡ codes "get" → (k ≡ decimal n) × (n < 2 ^ 64) → Get n ≡ r
+    → (name ++ 32 ∷ k ≡ line_of r) × FitsRequest r
+get-line name k n r is number e = let P : Request → Type 0 = λ r. (name ++ 32 ∷ k ≡ line_of r) × FitsRequest r in
+    subst P e (rw (is, number.0) refl, number.1)
+
+put-line : (name k v : List ℕ) (m n : ℕ) (r : Request) → name ≡ codes "put" → (k ≡ decimal m) × (m < 2 ^ 64) → (v ≡ decimal n) × (n < 2 ^ 64) → Put m n ≡ r
+    → (name ++ 32 ∷ (k ++ 32 ∷ v) ≡ line_of r) × FitsRequest r
+put-line name k v m n r is key value e = let P : Request → Type 0 = λ r. (name ++ 32 ∷ (k ++ 32 ∷ v) ≡ line_of r) × FitsRequest r in
+    subst P e (rw (is, key.0, value.0) (ap (λ rest. codes "put " ++ rest) (sym (append_assoc (decimal m) (32 ∷ []) (decimal n)))), (key.1, value.1))
+
+-- words that make a request are those of the line that writes it
+request_from-some : (ws : List (List ℕ)) (r : Request) → request_from ws ≡ Some r → (join_with_byte 32 ws ≡ line_of r) × FitsRequest r
+request_from-some [] r h = absurd (cc h)
+request_from-some (name ∷ []) r h = elim (cases_Bool (bytes_eq name (codes "len"))) [
+  | inl e ↦
+      let n = (bytes_eq-Decides name (codes "len")).0 e in
+      let is : Len ≡ r = cc (rw e at h) in
+      (n ∙ ap line_of is, let P : Request → Type 0 = λ r. FitsRequest r in subst P is tt)
+  | inr e ↦ elim (cases_Bool (bytes_eq name (codes "all"))) [
+    | inl f ↦
+        let n = (bytes_eq-Decides name (codes "all")).0 f in
+        let is : AllPairs ≡ r = cc (rw (e, f) at h) in
+        (n ∙ ap line_of is, let P : Request → Type 0 = λ r. FitsRequest r in subst P is tt)
+    | inr f ↦ absurd (cc (rw (e, f) at h))
+  ]
+]
+request_from-some (name ∷ k ∷ []) r h = elim (cases_Bool (bytes_eq name (codes "get"))) [
+  | inl e ↦
+      let g = get-some (number_of k) r (rw e at h) in
+      get-line name k g.0 r ((bytes_eq-Decides name (codes "get")).0 e) (number_of-some k g.0 g.1) g.2
+  | inr e ↦ absurd (cc (rw e at h))
+]
+request_from-some (name ∷ k ∷ v ∷ []) r h = elim (cases_Bool (bytes_eq name (codes "put"))) [
+  | inl e ↦
+      let g = put-some (number_of k) (number_of v) r (rw e at h) in
+      put-line name k v g.0 g.1 r ((bytes_eq-Decides name (codes "put")).0 e) (number_of-some k g.0 g.2) (number_of-some v g.1 g.3) g.4
+  | inr e ↦ absurd (cc (rw e at h))
+]
+request_from-some (name ∷ k ∷ v ∷ more ∷ rest) r h = absurd (cc h)
+
+-- a line that is read as a request is the line that writes it
+pub request_of-some : (line : List ℕ) (r : Request) → request_of line ≡ Some r → (line ≡ line_of r) × FitsRequest r
+unfolding request_of words
+request_of-some line r h =
+    let d = request_from-some (words line) r h in
+    (sym (join_with_byte-slice_split 32 line) ∙ d.0, d.1)
+
+-- a line that is read as a request is not longer
+length-line_of : (r : Request) → FitsRequest r → length (line_of r) ≤ LONGEST_LINE
+length-line_of (Put k v) fits =
+    let a = length-decimal-le 20 k (omega arith) (omega arith) fits.0 in
+    let b = length-decimal-le 20 v (omega arith) (omega arith) fits.1 in
+    omega (arith, length-append (decimal k ++ 32 ∷ []) (decimal v), length-append (decimal k) (32 ∷ []))
+length-line_of (Get k) fits = let a = length-decimal-le 20 k (omega arith) (omega arith) fits in omega arith
+length-line_of Len fits = omega arith
+length-line_of AllPairs fits = omega arith
+
+option_none : (o : Option Request) → ((r : Request) → o ≡ Some r → ⊥) → o ≡ None
+option_none None h = refl
+option_none (Some r) h = absurd (h r refl)
+
+pub request_of-long : (line : List ℕ) → LONGEST_LINE < length line → request_of line ≡ None
+request_of-long line long = option_none (request_of line) (λ r h.
+    let d = request_of-some line r h in
+    let few = length-line_of r d.1 in
+    let same = ap length d.0 in
+    omega arith)

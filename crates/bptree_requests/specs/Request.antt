@@ -1,0 +1,42 @@
+-- Lines as requests.
+use Rattle.std.specs.Prelude.{ℕ, ◌<◌, ◌^◌, List, [], ◌∷◌, ◌++◌, ◌==◌, if◌then◌else◌, Option, Some, None, option_map, option_and_then, bytes_eq, codes, decimal}
+use Rattle.std.specs.List.{slice_split}
+use Rattle.bptree_requests.specs.Number.{number_of}
+use Rattle.bptree_requests.specs.declared.Request.{Request}
+use Rattle.bptree_requests.specs.declared.Request.TheVariants.{Put, Get, Len, All}
+
+-- the line that writes a request
+abbrev pub line_of : Request → List ℕ
+line_of (Put k v) = codes "put " ++ decimal k ++ codes " " ++ decimal v
+line_of (Get k) = codes "get " ++ decimal k
+line_of Len = codes "len"
+line_of All = codes "all"
+
+-- its numbers fit 64 bits
+abbrev pub FitsRequest : Request → Type 0
+FitsRequest (Put k v) = (k < 2 ^ 64) × (v < 2 ^ 64)
+FitsRequest (Get k) = k < 2 ^ 64
+FitsRequest Len = Unit {0}
+FitsRequest All = Unit {0}
+
+-- the words of a line, with one space between two
+unfoldable pub words : List ℕ → List (List ℕ)
+words line = slice_split (λ b. b == 32) line
+
+-- the request that a command's name and its words make
+abbrev pub request_from : List (List ℕ) → Option Request
+request_from [] = None
+request_from (name ∷ []) = if bytes_eq name (codes "len") then Some Len else (if bytes_eq name (codes "all") then Some All else None)
+request_from (name ∷ k ∷ []) = if bytes_eq name (codes "get") then option_map (λ k. Get k) (number_of k) else None
+request_from (name ∷ k ∷ v ∷ []) =
+    if bytes_eq name (codes "put") then option_and_then (λ k. option_map (λ v. Put k v) (number_of v)) (number_of k) else None
+request_from (name ∷ k ∷ v ∷ more ∷ rest) = None
+
+-- the request that a line writes, or none
+unfoldable pub request_of : List ℕ → Option Request
+request_of line = request_from (words line)
+
+-- the words of what follows a space, if a space is there
+abbrev pub words_after : Option (List ℕ) → List (List ℕ)
+words_after None = []
+words_after (Some rest) = words rest

@@ -1,0 +1,127 @@
+//! Lines of text as requests to a map from numbers to numbers.
+#![tactic(auto)]
+
+ghost use Rattle.std.specs.Prelude.{◌≡◌, [], ◌∷◌};
+ghost use Rattle.std.specs.Option.{option_copied};
+ghost use Rattle.bptree_requests.specs.Law.{OneWriting, LongLinesAreNone};
+ghost use Rattle.bptree_requests.specs.Number.{number_of};
+ghost use Rattle.bptree_requests.specs.Request.{words, words_after, request_from, request_of};
+
+/// How many bytes the longest line has that is a request.
+pub const LONGEST_LINE: usize = 45;
+
+/// What a line asks of a map.
+#[derive(Clone, Copy, Debug, PartialEq, Eq)]
+pub enum Request {
+    /// `put k v`: v becomes the value at k.
+    Put(u64, u64),
+    /// `get k`: the value at k.
+    Get(u64),
+    /// `len`: the number of pairs.
+    Len,
+    /// `all`: all pairs.
+    All,
+}
+
+/// The number that a word writes: `0`, or a digit 1 to 9 and then digits, below 2 to the power of 64. A sign, a leading
+/// zero and any byte that is no digit make it none. Each byte is looked at once.
+#[tactic(auto, unfolding(crate::specs::Number::number_of))]
+pub fn number(word: &[u8]) -> Option<u64>
+    ensures { result ≡ number_of word.now }
+{
+    if word.is_empty() {
+        return None;
+    }
+    if word[0] == b'0' && word.len() > 1 {
+        return None;
+    }
+    let mut value = 0u64;
+    for byte in word {
+        if !byte.is_ascii_digit() {
+            return None;
+        }
+        let digit = u64::from(*byte - b'0');
+        if value > u64::MAX / 10 {
+            return None;
+        }
+        if value * 10 > u64::MAX - digit {
+            return None;
+        }
+        value = value * 10 + digit;
+    }
+    Some(value)
+}
+
+// The first word, and what follows the space after it.
+fn first_word(line: &[u8]) -> (&[u8], Option<&[u8]>)
+    ensures { words line.now ≡ result.0.now ∷ words_after (option_copied result.1) }
+{
+    for (i, byte) in line.iter().enumerate() {
+        if *byte == b' ' {
+            return (&line[..i], Some(&line[i + 1..]));
+        }
+    }
+    (line, None)
+}
+
+/// The request that a line writes, or none. One space stands between two words, and none before the first or after the
+/// last. The line comes without its line feed.
+pub fn read_request(line: &[u8]) -> Option<Request>
+    ensures { result ≡ request_of line.now }
+{
+    let (name, rest) = first_word(line);
+    let Some(rest) = rest else {
+        return bare_request(name);
+    };
+    let (first, rest) = first_word(rest);
+    let Some(rest) = rest else {
+        return key_request(name, first);
+    };
+    let (second, rest) = first_word(rest);
+    match rest {
+        None => pair_request(name, first, second),
+        Some(_) => None,
+    }
+}
+
+fn bare_request(name: &[u8]) -> Option<Request>
+    ensures { result ≡ request_from (name.now ∷ []) }
+{
+    if name == b"len".as_slice() {
+        Some(Request::Len)
+    } else if name == b"all".as_slice() {
+        Some(Request::All)
+    } else {
+        None
+    }
+}
+
+fn key_request(name: &[u8], key: &[u8]) -> Option<Request>
+    ensures { result ≡ request_from (name.now ∷ key.now ∷ []) }
+{
+    if name == b"get".as_slice() {
+        Some(Request::Get(number(key)?))
+    } else {
+        None
+    }
+}
+
+fn pair_request(name: &[u8], key: &[u8], value: &[u8]) -> Option<Request>
+    ensures { result ≡ request_from (name.now ∷ key.now ∷ value.now ∷ []) }
+{
+    if name == b"put".as_slice() {
+        Some(Request::Put(number(key)?, number(value)?))
+    } else {
+        None
+    }
+}
+
+/// A line is read as a request exactly where it is the line that writes the request and its numbers fit 64 bits.
+pub fn one_writing()
+    ensures { OneWriting }
+{}
+
+/// A line of more than `LONGEST_LINE` bytes is no request.
+pub fn long_lines_are_none()
+    ensures { LongLinesAreNone }
+{}

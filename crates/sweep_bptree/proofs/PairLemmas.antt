@@ -1,0 +1,19 @@
+-- The text of all pairs, pair by pair.
+use Rattle.std.proofs.Common.{◌≡◌, ℕ, List, [], ◌∷◌, ◌++◌, map, Bool, true, false, refl, ap, append-nil}
+use Rattle.std.specs.List.{join_with_byte}
+use Rattle.sweep_bptree.specs.Answers.{pair_text, item_text, pairs_text}
+
+-- the pairs that are left of a list
+abbrev pub items_text : Bool → List (ℕ × ℕ) → List ℕ
+items_text is_first [] = []
+items_text is_first (pair ∷ pairs) = item_text is_first pair ++ items_text false pairs
+
+-- a pair after the first, and those after it
+joined_items : (pair : ℕ × ℕ) (pairs : List (ℕ × ℕ)) → pair_text pair ++ items_text false pairs ≡ join_with_byte 44 (map pair_text (pair ∷ pairs))
+joined_items pair [] = append-nil (pair_text pair)
+joined_items pair (next ∷ pairs) = ap (λ t. pair_text pair ++ (44 ∷ t)) (joined_items next pairs)
+
+-- pairs, where there are some
+pub items_text-is : (pairs : List (ℕ × ℕ)) → (pairs ≡ [] → ⊥) → items_text true pairs ≡ pairs_text pairs
+items_text-is [] some = absurd (some refl)
+items_text-is (pair ∷ pairs) some = joined_items pair pairs

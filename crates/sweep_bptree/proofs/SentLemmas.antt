@@ -1,0 +1,70 @@
+-- What goes to a writer in parts.
+use Rattle.std.proofs.Common.{◌≡◌, ℕ, ◌-◌, ◌≤◌, List, [], ◌++◌, length, take, drop, Option, sym, ap, ◌∙◌, append_assoc, append-nil, arith, length-drop, take-append-drop}
+use Rattle.std.proofs.lemmas.List.{take_all}
+use Rattle.std.proofs.KnownBytes.{Appends-nil, Appends-trans}
+use Rattle.std.specs.Io.KnownBytes.{Appends}
+use Rattle.std.specs.Prelude.{Result, Ok, Err}
+use Rattle.sweep_bptree.specs.Sent.{AppendsBeginning, Sends, SendsOrFails, Breaks, Replies}
+use Rattle.sweep_bptree.specs.declared.script.error.ServeError.{ServeError}
+use Rattle.sweep_bptree.specs.declared.script.error.ServeError.TheVariants.{Io, OutOfMemory}
+
+-- one more write
+pub wrote_more : (a b c : Option (List ℕ)) (bytes rest : List ℕ) (n : ℕ) → n ≤ length rest
+    → (front : List ℕ) × (bytes ≡ front ++ rest) × Appends a b front → Appends b c (take n rest)
+    → (front : List ℕ) × (bytes ≡ front ++ take (length rest - n) (drop n rest)) × Appends a c front
+wrote_more a b c bytes rest n fits so_far h =
+    let whole : take (length rest - n) (drop n rest) ≡ drop n rest = take_all _ _ (omega (arith, length-drop n rest)) in (
+      so_far.0 ++ take n rest,
+      so_far.1 ∙ ap (λ t. so_far.0 ++ t) (sym (take-append-drop n rest) ∙ ap (λ t. take n rest ++ t) (sym whole)) ∙ sym (append_assoc so_far.0 (take n rest) _),
+      Appends-trans a b c so_far.0 (take n rest) so_far.2 h,
+    )
+
+-- a beginning of a text is one of a longer text
+pub AppendsBeginning-longer : (a b : Option (List ℕ)) (text more : List ℕ) → AppendsBeginning a b text → AppendsBeginning a b (text ++ more)
+AppendsBeginning-longer a b text more h = (h.0, h.1 ++ more, ap (λ t. t ++ more) h.2 ∙ append_assoc h.0 h.1 more, h.3)
+
+-- one text after another
+pub Sends-then : (a b c : Option (List ℕ)) (h i j t u : List ℕ) → Sends a b h i t → Sends b c i j u → Sends a c h j (t ++ u)
+Sends-then a b c h i j t u x y = (x.0 ++ y.0, sym (append_assoc h t u) ∙ ap (λ s. s ++ u) x.1 ∙ append_assoc x.0 i u ∙ ap (λ s. x.0 ++ s) y.1 ∙ sym (append_assoc x.0 y.0 j), Appends-trans a b c x.0 y.0 x.2 y.2)
+
+-- the second text is cut off
+pub Sends-cut : (a b c : Option (List ℕ)) (h i t u : List ℕ) → Sends a b h i t → AppendsBeginning b c (i ++ u) → AppendsBeginning a c (h ++ (t ++ u))
+Sends-cut a b c h i t u x y = (x.0 ++ y.0, y.1, sym (append_assoc h t u) ∙ ap (λ s. s ++ u) x.1 ∙ append_assoc x.0 i u ∙ ap (λ s. x.0 ++ s) y.2 ∙ sym (append_assoc x.0 y.0 y.1), Appends-trans a b c x.0 y.0 x.2 y.3)
+
+-- the first of two texts is cut off
+pub Sends-cut_first : (a b : Option (List ℕ)) (h t u : List ℕ) → AppendsBeginning a b (h ++ t) → AppendsBeginning a b (h ++ (t ++ u))
+Sends-cut_first a b h t u x = (x.0, x.1 ++ u, sym (append_assoc h t u) ∙ ap (λ s. s ++ u) x.2 ∙ append_assoc x.0 x.1 u, x.3)
+
+-- nothing was sent
+pub Sends-nothing : (a : Option (List ℕ)) (h : List ℕ) → Sends a a h h []
+Sends-nothing a h = ([], append-nil h, Appends-nil a)
+
+-- a text was sent, and then another or not
+pub SendsOrFails-then : {T : Type 0} → (a b c : Option (List ℕ)) (h i j t u : List ℕ) (r : Result T ServeError)
+    → Sends a b h i t → SendsOrFails b c i j u r → SendsOrFails a c h j (t ++ u) r
+SendsOrFails-then a b c h i j t u (Ok x) p q = Sends-then a b c h i j t u p q
+SendsOrFails-then a b c h i j t u (Err e) p q = (q.0, Sends-cut a b c h i t u p q.1)
+
+-- the first of two texts failed
+pub SendsOrFails-cut : {T : Type 0} → (a b : Option (List ℕ)) (h j t u : List ℕ) (e f : ServeError) (r : Result T ServeError)
+    → r ≡ Err f → f ≡ e → (e ≡ Io) × AppendsBeginning a b (h ++ t) → SendsOrFails a b h j (t ++ u) r
+SendsOrFails-cut a b h j t u e f r is same q = rw (is, same) (q.0, Sends-cut_first a b h t u q.1)
+
+-- a send is a reply
+pub Replies-from_sends : {T : Type 0} → (a b : Option (List ℕ)) (h i t : List ℕ) (r : Result T ServeError) → SendsOrFails a b h i t r → Replies a b h i t r
+Replies-from_sends a b h i t (Ok x) q = q
+Replies-from_sends a b h i t (Err e) q = rw q.0 q.1
+
+-- a reply and then a send
+pub Replies-then : {T : Type 0} → (a b c : Option (List ℕ)) (h i j t u : List ℕ) (r : Result T ServeError)
+    → Sends a b h i t → SendsOrFails b c i j u r → Replies a c h j (t ++ u) r
+Replies-then a b c h i j t u r p q = Replies-from_sends a c h j (t ++ u) r (SendsOrFails-then a b c h i j t u r p q)
+
+Breaks-longer : (e : ServeError) (a b : Option (List ℕ)) (h i t u : List ℕ) → Breaks e a b h i t → Breaks e a b h i (t ++ u)
+Breaks-longer Io a b h i t u q = Sends-cut_first a b h t u q
+Breaks-longer OutOfMemory a b h i t u q = q
+
+-- the reply broke off
+pub Replies-cut : {T : Type 0} → (a b : Option (List ℕ)) (h j t u : List ℕ) (e f : ServeError) (r : Result T ServeError)
+    → r ≡ Err f → f ≡ e → Breaks e a b h j t → Replies a b h j (t ++ u) r
+Replies-cut a b h j t u e f r is same q = rw (is, same) (Breaks-longer e a b h j t u q)

@@ -1,0 +1,193 @@
+-- What is answered to pieces of an input.
+use Rattle.std.proofs.Common.{◌≡◌, ℕ, List, [], ◌∷◌, ◌++◌, length, take, drop, refl, sym, ap, ◌∙◌, append_assoc, append-nil, arith, subst, inl, inr, Option, take-append-drop}
+use Rattle.std.specs.Prelude.{Result, Ok, Err, OnOk, IfErr}
+use Rattle.std.proofs.lemmas.List.{take_all}
+use Rattle.std.proofs.Math.Seq.{take-append_seam}
+use Rattle.std.specs.Io.KnownBytes.{Appends, Consumes, IsAtEnd, Keeps}
+use Rattle.std.proofs.KnownBytes.{Appends-nil, Appends-trans, Appends-kept, Consumes-nil, Consumes-trans, Consumes-kept}
+use Rattle.sweep_bptree.proofs.SentLemmas.{AppendsBeginning-longer}
+use Rattle.sweep_bptree.proofs.LineLemmas.{answers-append, clipped_after-append, clipped_rest-append, pairs_after_all-append, ended_after-append, answers-clipped, pairs_after_all-clipped, clipped_rest-is, answer-take}
+use Rattle.sweep_bptree.specs.Answers.{answer, answers, pairs_after_all, text}
+use Rattle.sweep_bptree.specs.declared.script.lines.TheConstants.{KEPT}
+use Rattle.sweep_bptree.specs.Clipped.{clipped_after, clipped_rest}
+use Rattle.sweep_bptree.specs.Lines.{ended_after, rest_after, ended_lines, last_line, lines_of}
+use Rattle.sweep_bptree.specs.Sent.{Sends, Breaks, AppendsBeginning}
+use Rattle.sweep_bptree.specs.Served.{EndedBy, Serves, EndsAt, AnswersPiece, BreaksLast, AnswersLast}
+use Rattle.sweep_bptree.specs.declared.script.error.ServeError.{ServeError}
+use Rattle.sweep_bptree.specs.declared.script.error.ServeError.TheVariants.{Io, OutOfMemory}
+
+-- what is held is written
+drained : (a b c : Option (List ℕ)) (i t : List ℕ) → Sends a b [] i t → Appends b c i → Appends a c t
+drained a b c i t sent rest = let P : List ℕ → Type 0 = λ l. Appends a c l in subst P (sym sent.1) (Appends-trans a b c sent.0 i sent.2 rest)
+
+-- or a beginning of it
+drained_cut : (a b c : Option (List ℕ)) (i t : List ℕ) → Sends a b [] i t → AppendsBeginning b c i → AppendsBeginning a c t
+drained_cut a b c i t sent rest =
+    (sent.0 ++ rest.0, rest.1, sent.1 ∙ ap (λ l. sent.0 ++ l) rest.2 ∙ sym (append_assoc sent.0 rest.0 rest.1), Appends-trans a b c sent.0 rest.0 sent.2 rest.3)
+
+-- a piece was answered, and what is held was written or not
+pub piece_done : {T : Type 0} → (a b c : Option (List ℕ)) (i : List ℕ) (pairs : List (ℕ × ℕ)) (kept bytes : List ℕ) (r : Result T ServeError)
+    → Sends a b [] i (answers pairs (clipped_after kept bytes)) → OnOk r (Appends b c i) → IfErr r (λ e. (e ≡ Io) × AppendsBeginning b c i)
+    → AnswersPiece a c pairs kept bytes r
+piece_done a b c i pairs kept bytes (Ok x) sent ok err = drained a b c i _ sent ok
+piece_done a b c i pairs kept bytes (Err e) sent ok err =
+    (length bytes, rw (err.0, take_all (length bytes) bytes (omega arith)) (drained_cut a b c i _ sent err.1))
+
+-- memory was refused on the way, and what is held could not be written
+pub piece_cut : {T : Type 0} → (a b c : Option (List ℕ)) (i : List ℕ) (pairs : List (ℕ × ℕ)) (kept bytes : List ℕ) (n : ℕ) (e f : ServeError) (r : Result T ServeError)
+    → r ≡ Err f → f ≡ e → Sends a b [] i (answers pairs (clipped_after kept (take n bytes))) → (e ≡ Io) × AppendsBeginning b c i
+    → AnswersPiece a c pairs kept bytes r
+piece_cut a b c i pairs kept bytes n e f r is same sent cut = rw (is, same, cut.0) (n, drained_cut a b c i _ sent cut.1)
+
+last_line-some : (line : List ℕ) → (length line ≡ 0 → ⊥) → last_line line ≡ line ∷ []
+last_line-some [] some = absurd (some refl)
+last_line-some (b ∷ bs) some = refl
+
+last_answer : (pairs : List (ℕ × ℕ)) (line : List ℕ) → (length line ≡ 0 → ⊥) → answers pairs (last_line line) ≡ answer pairs line
+last_answer pairs line some = ap (answers pairs) (last_line-some line some) ∙ append-nil (answer pairs line)
+
+nothing_left : (front held : List ℕ) → [] ≡ front ++ held → front ≡ []
+nothing_left [] held e = refl
+nothing_left (b ∷ front) held e = cc e
+
+-- the last line's answer broke off
+last_broken_by : (e : ServeError) (a b : Option (List ℕ)) (i t : List ℕ) → Breaks e a b [] i t → BreaksLast e a b t
+last_broken_by Io a b i t broke = broke
+last_broken_by OutOfMemory a b i t broke = let P : List ℕ → Type 0 = λ l. Appends a b l in subst P (nothing_left broke.0 i broke.1) broke.2
+
+pub last_broken : {T : Type 0} → (a b : Option (List ℕ)) (i : List ℕ) (pairs : List (ℕ × ℕ)) (line : List ℕ) (e f : ServeError) (r : Result T ServeError)
+    → (length line ≡ 0 → ⊥) → r ≡ Err f → f ≡ e → Breaks e a b [] i (answer pairs line) → AnswersLast a b pairs line r
+last_broken a b i pairs line e f r some is same broke = rw (is, same, last_answer pairs line some) (last_broken_by e a b i _ broke)
+
+-- the last line was answered, but what is held could not be written
+pub last_cut : {T : Type 0} → (a b c : Option (List ℕ)) (i : List ℕ) (pairs : List (ℕ × ℕ)) (line : List ℕ) (e f : ServeError) (r : Result T ServeError)
+    → (length line ≡ 0 → ⊥) → r ≡ Err f → f ≡ e → Sends a b [] i (answer pairs line) → (e ≡ Io) × AppendsBeginning b c i → AnswersLast a c pairs line r
+last_cut a b c i pairs line e f r some is same sent cut = rw (is, same, cut.0, last_answer pairs line some) (drained_cut a b c i _ sent cut.1)
+
+-- the last line was answered, and the writer flushed or not
+pub last_done : {T : Type 0} → (a b c d : Option (List ℕ)) (i : List ℕ) (pairs : List (ℕ × ℕ)) (line : List ℕ) (r : Result T ServeError)
+    → (length line ≡ 0 → ⊥) → Sends a b [] i (answer pairs line) → Appends b c i → OnOk r (Keeps c d) → IfErr r (λ e. (e ≡ Io) × Keeps c d) → AnswersLast a d pairs line r
+last_done a b c d i pairs line (Ok x) some sent wrote ok err = rw (last_answer pairs line some) (Appends-kept a c d _ (drained a b c i _ sent wrote) ok)
+last_done a b c d i pairs line (Err e) some sent wrote ok err =
+    rw (err.0, last_answer pairs line some) (answer pairs line, [], sym (append-nil (answer pairs line)), Appends-kept a c d _ (drained a b c i _ sent wrote) err.1)
+
+-- there was no last line
+pub last_none : {T : Type 0} → (a b : Option (List ℕ)) (pairs : List (ℕ × ℕ)) (line : List ℕ) (r : Result T ServeError)
+    → line ≡ [] → OnOk r (Keeps a b) → IfErr r (λ e. (e ≡ Io) × Keeps a b) → AnswersLast a b pairs line r
+last_none a b pairs line (Ok x) none ok err = rw none (Appends-kept a a b [] (Appends-nil a) ok)
+last_none a b pairs line (Err e) none ok err = rw (err.0, none) ([], [], refl, Appends-kept a a b [] (Appends-nil a) err.1)
+
+-- ---- the whole input
+
+-- what is answered to all that was read goes on what was answered to a part
+ended_answers : (xs ys : List ℕ) → answers [] (ended_lines (xs ++ ys)) ≡ answers [] (ended_lines xs) ++ answers (pairs_after_all [] (ended_lines xs)) (ended_after (rest_after [] xs) ys)
+ended_answers xs ys = ap (answers []) (ended_after-append [] xs ys) ∙ answers-append [] (ended_lines xs) (ended_after (rest_after [] xs) ys)
+
+first_lines : (xs ys : List ℕ) → take (length (ended_lines xs)) (ended_lines (xs ++ ys)) ≡ ended_lines xs
+first_lines xs ys = ap (take (length (ended_lines xs))) (ended_after-append [] xs ys) ∙ take-append_seam (ended_lines xs) (ended_after (rest_after [] xs) ys)
+
+-- what was answered to what was read, and to more
+joined : (read more : List ℕ) → answers [] (clipped_after [] read) ++ answers (pairs_after_all [] (clipped_after [] read)) (clipped_after (clipped_rest [] read) more)
+    ≡ answers [] (ended_lines (read ++ more))
+joined read more =
+    sym (ap (answers []) (clipped_after-append [] read more) ∙ answers-append [] (clipped_after [] read) (clipped_after (clipped_rest [] read) more))
+    ∙ answers-clipped [] [] (read ++ more)
+
+pieces : (read chunk : List ℕ) (k : ℕ) → read ++ chunk ≡ (read ++ take k chunk) ++ drop k chunk
+pieces read chunk k = ap (λ t. read ++ t) (sym (take-append-drop k chunk)) ∙ sym (append_assoc read (take k chunk) (drop k chunk))
+
+-- nothing was read
+pub ended_at_start : (a o : Option (List ℕ)) → EndedBy OutOfMemory a a o o
+ended_at_start a o = ([], [], Consumes-nil a, inl refl, 0, Appends-nil o)
+
+-- the reader failed, or gave no end
+pub ended_by_reader : (a b c o n : Option (List ℕ)) (read : List ℕ) → Consumes a b read → Keeps b c → Appends o n (answers [] (clipped_after [] read)) → EndedBy Io a c o n
+ended_by_reader a b c o n read consumed keeps wrote = (
+  read,
+  ended_lines read,
+  Consumes-kept a b c read consumed keeps,
+  inl refl,
+  (answers [] (clipped_after [] read), [], sym (answers-clipped [] [] read) ∙ sym (append-nil _), wrote),
+)
+
+-- a beginning of what follows
+begun : (o m n : Option (List ℕ)) (t u : List ℕ) → Appends o m t → AppendsBeginning m n u → AppendsBeginning o n (t ++ u)
+begun o m n t u wrote cut = (t ++ cut.0, cut.1, ap (λ l. t ++ l) cut.2 ∙ sym (append_assoc t cut.0 cut.1), Appends-trans o m n t cut.0 wrote cut.3)
+
+-- a piece of the input broke off
+pub ended_by_piece : (e : ServeError) (a b c o m n : Option (List ℕ)) (read chunk : List ℕ) → Consumes a b read → Consumes b c chunk → Appends o m (answers [] (clipped_after [] read))
+    → ((k : ℕ) × EndsAt e m n (answers (pairs_after_all [] (clipped_after [] read)) (clipped_after (clipped_rest [] read) (take k chunk)))) → EndedBy e a c o n
+ended_by_piece Io a b c o m n read chunk first second wrote cut =
+    let front = read ++ take cut.0 chunk in
+    let more = answers (pairs_after_all [] (ended_lines front)) (ended_after (rest_after [] front) (drop cut.0 chunk)) in
+    let whole : answers [] (ended_lines (read ++ chunk)) ≡ answers [] (ended_lines front) ++ more = ap (λ t. answers [] (ended_lines t)) (pieces read chunk cut.0) ∙ ended_answers front (drop cut.0 chunk) in
+    let P : List ℕ → Type 0 = λ t. AppendsBeginning o n t in (
+      read ++ chunk,
+      ended_lines (read ++ chunk),
+      Consumes-trans a b c read chunk first second,
+      inl refl,
+      subst P (sym whole) (AppendsBeginning-longer o n (answers [] (ended_lines front)) more (subst P (joined read (take cut.0 chunk)) (begun o m n _ _ wrote cut.1))),
+    )
+ended_by_piece OutOfMemory a b c o m n read chunk first second wrote cut =
+    let front = read ++ take cut.0 chunk in
+    let same : take (length (ended_lines front)) (ended_lines (read ++ chunk)) ≡ ended_lines front =
+    ap (λ t. take (length (ended_lines front)) (ended_lines t)) (pieces read chunk cut.0) ∙ first_lines front (drop cut.0 chunk) in
+    let P : List ℕ → Type 0 = λ t. Appends o n t in (
+      read ++ chunk,
+      ended_lines (read ++ chunk),
+      Consumes-trans a b c read chunk first second,
+      inl refl,
+      length (ended_lines front),
+      subst P (joined read (take cut.0 chunk) ∙ sym (ap (answers []) same)) (Appends-trans o m n _ _ wrote cut.1),
+    )
+
+-- what is kept of the last line is answered as it is
+last_clipped : (pairs : List (ℕ × ℕ)) (rest : List ℕ) → answers pairs (last_line (take KEPT rest)) ≡ answers pairs (last_line rest)
+last_clipped pairs [] = refl
+last_clipped pairs (b ∷ bs) = ap (λ t. t ++ []) (answer-take pairs (b ∷ bs))
+
+whole_text : (read : List ℕ) → answers [] (clipped_after [] read) ++ answers (pairs_after_all [] (clipped_after [] read)) (last_line (clipped_rest [] read)) ≡ text read
+whole_text read =
+    ap (λ t. t ++ answers (pairs_after_all [] (clipped_after [] read)) (last_line (clipped_rest [] read))) (answers-clipped [] [] read)
+    ∙ ap (λ ps. answers [] (ended_lines read) ++ answers ps (last_line (clipped_rest [] read))) (pairs_after_all-clipped [] [] read)
+    ∙ ap (λ l. answers [] (ended_lines read) ++ answers (pairs_after_all [] (ended_lines read)) (last_line l)) (clipped_rest-is [] read)
+    ∙ ap (λ t. answers [] (ended_lines read) ++ t) (last_clipped (pairs_after_all [] (ended_lines read)) (rest_after [] read))
+    ∙ sym (answers-append [] (ended_lines read) (last_line (rest_after [] read)))
+
+-- the input ended
+pub served_last : {T : Type 0} → (a b c o m n : Option (List ℕ)) (read : List ℕ) (r : Result T ServeError) → Consumes a b read → Consumes b c [] → IsAtEnd c
+    → Appends o m (answers [] (clipped_after [] read)) → AnswersLast m n (pairs_after_all [] (clipped_after [] read)) (clipped_rest [] read) r → Serves a c o n r
+served_last a b c o m n read (Ok x) first second end wrote last =
+    let P : List ℕ → Type 0 = λ t. Appends o n t in
+    let Q : List ℕ → Type 0 = λ t. Consumes a c t in
+    (read, subst Q (append-nil read) (Consumes-trans a b c read [] first second), end, subst P (whole_text read) (Appends-trans o m n _ _ wrote last))
+served_last a b c o m n read (Err Io) first second end wrote last =
+    let P : List ℕ → Type 0 = λ t. AppendsBeginning o n t in
+    let Q : List ℕ → Type 0 = λ t. Consumes a c t in
+    (read, lines_of read, subst Q (append-nil read) (Consumes-trans a b c read [] first second), inr (refl, end), subst P (whole_text read) (begun o m n _ _ wrote last))
+served_last a b c o m n read (Err OutOfMemory) first second end wrote last =
+    let P : List ℕ → Type 0 = λ t. Appends o n t in
+    let Q : List ℕ → Type 0 = λ t. Consumes a c t in (
+      read,
+      ended_lines read,
+      subst Q (append-nil read) (Consumes-trans a b c read [] first second),
+      inl refl,
+      length (ended_lines read),
+      subst P (append-nil _ ∙ answers-clipped [] [] read ∙ sym (ap (answers []) (take_all (length (ended_lines read)) (ended_lines read) (omega arith)))) (Appends-trans o m n _ _ wrote last),
+    )
+
+-- one more piece was answered
+pub answered_more : (o m n : Option (List ℕ)) (read chunk : List ℕ) → Appends o m (answers [] (clipped_after [] read))
+    → Appends m n (answers (pairs_after_all [] (clipped_after [] read)) (clipped_after (clipped_rest [] read) chunk)) → Appends o n (answers [] (clipped_after [] (read ++ chunk)))
+answered_more o m n read chunk first second =
+    let P : List ℕ → Type 0 = λ t. Appends o n t in
+    subst P (sym (ap (answers []) (clipped_after-append [] read chunk) ∙ answers-append [] (clipped_after [] read) (clipped_after (clipped_rest [] read) chunk))) (Appends-trans o m n _ _ first second)
+
+pub pairs_then : (pairs : List (ℕ × ℕ)) (read chunk kept : List ℕ) → kept ≡ clipped_rest [] read
+    → pairs ≡ pairs_after_all (pairs_after_all [] (clipped_after [] read)) (clipped_after kept chunk) → pairs ≡ pairs_after_all [] (clipped_after [] (read ++ chunk))
+pairs_then pairs read chunk kept same h =
+    h ∙ ap (λ l. pairs_after_all (pairs_after_all [] (clipped_after [] read)) (clipped_after l chunk)) same
+    ∙ sym (ap (pairs_after_all []) (clipped_after-append [] read chunk) ∙ pairs_after_all-append [] (clipped_after [] read) (clipped_after (clipped_rest [] read) chunk))
+
+pub rest_then : (line kept read chunk : List ℕ) → kept ≡ clipped_rest [] read → line ≡ clipped_rest kept chunk → line ≡ clipped_rest [] (read ++ chunk)
+rest_then line kept read chunk same h = h ∙ ap (λ l. clipped_rest l chunk) same ∙ sym (clipped_rest-append [] read chunk)

@@ -1,0 +1,5 @@
+use Rattle.sweep_bptree.proofs.LineLemmas.{parts_are_lines_lem}
+use Rattle.sweep_bptree.proofs.script.session.parts_are_lines.Goals as goal
+
+pub returns : goal.returns
+returns c = parts_are_lines_lem

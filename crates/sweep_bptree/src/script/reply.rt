@@ -1,0 +1,181 @@
+// The answers to lines.
+ghost use Rattle.std.specs.Prelude.{◌≡◌, [], ◌∷◌, ◌++◌, codes, decimal, OnOk};
+ghost use Rattle.std.specs.Ordering.{nat_cmp};
+ghost use Rattle.bptree_nodes.specs.Contents.{value};
+ghost use Rattle.bptree_requests.specs.Request.{request_of};
+ghost use Rattle.sweep_bptree.specs.Answers.{pair_text, item_text, pairs_text, old_text, value_text, put_text, pairs_with_put, reply_to, pairs_with, answer, pairs_after};
+ghost use Rattle.sweep_bptree.specs.Sent.{SendsOrFails, Replies};
+
+use crate::script::error::ServeError;
+use crate::script::output::{Held, send};
+use crate::tree::{BPlusTree, InsertError, NodeStoreVec};
+use arrayvec::ArrayString;
+use bptree_requests::{Request, read_request};
+use std::fmt::Write as _;
+use std::io::Write;
+
+/// The tree that lines are carried out on.
+pub type NumberTree = BPlusTree<NodeStoreVec<u64, u64>>;
+
+/// How many digits the greatest number has.
+const DIGITS: usize = 20;
+
+fn send_number<W: Write>(writer: &mut W, held: &mut Held, n: u64) -> Result<(), ServeError>
+    ensures { SendsOrFails (W.contents writer.old) (W.contents writer.new)
+        held.old.items held.new.items (decimal n) result }
+{
+    let mut digits = ArrayString::<{ DIGITS }>::new();
+    match write!(digits, "{n}") {
+        Ok(()) => send(writer, held, digits.as_str().as_bytes()),
+        // Never met: each number has room.
+        Err(_) => Err(ServeError::Io),
+    }
+}
+
+fn send_old<W: Write>(writer: &mut W, held: &mut Held, old: Option<u64>) -> Result<(), ServeError>
+    ensures { SendsOrFails (W.contents writer.old) (W.contents writer.new)
+        held.old.items held.new.items (old_text old) result }
+{
+    match old {
+        None => send(writer, held, b"new"),
+        Some(old) => {
+            send(writer, held, b"old ")?;
+            send_number(writer, held, old)
+        }
+    }
+}
+
+fn send_value<W: Write>(
+    writer: &mut W,
+    held: &mut Held,
+    value: Option<u64>,
+) -> Result<(), ServeError>
+    ensures { SendsOrFails (W.contents writer.old) (W.contents writer.new)
+        held.old.items held.new.items (value_text value) result }
+{
+    match value {
+        None => send(writer, held, b"none"),
+        Some(value) => send_number(writer, held, value),
+    }
+}
+
+fn send_pair<W: Write>(
+    writer: &mut W,
+    held: &mut Held,
+    key: u64,
+    value: u64,
+) -> Result<(), ServeError>
+    ensures { SendsOrFails (W.contents writer.old) (W.contents writer.new)
+        held.old.items held.new.items (pair_text (key, value)) result }
+{
+    send_number(writer, held, key)?;
+    send(writer, held, b" ")?;
+    send_number(writer, held, value)
+}
+
+// A pair, after a comma where it is not the first.
+fn send_item<W: Write>(
+    writer: &mut W,
+    held: &mut Held,
+    is_first: bool,
+    key: u64,
+    value: u64,
+) -> Result<(), ServeError>
+    ensures { SendsOrFails (W.contents writer.old) (W.contents writer.new)
+        held.old.items held.new.items (item_text is_first (key, value)) result }
+{
+    if is_first {
+        return send_pair(writer, held, key, value);
+    }
+    send(writer, held, b",")?;
+    send_pair(writer, held, key, value)
+}
+
+fn send_pairs<W: Write>(
+    writer: &mut W,
+    held: &mut Held,
+    tree: &NumberTree,
+) -> Result<(), ServeError>
+    ensures { SendsOrFails (W.contents writer.old) (W.contents writer.new)
+        held.old.items held.new.items (pairs_text tree.now.contents) result }
+{
+    if tree.is_empty() {
+        return send(writer, held, b"empty");
+    }
+    let mut is_first = true;
+    for (key, value) in tree.iter() {
+        send_item(writer, held, is_first, *key, *value)?;
+        is_first = false;
+    }
+    Ok(())
+}
+
+fn put_pair<W: Write>(
+    tree: &mut NumberTree,
+    key: u64,
+    value: u64,
+    writer: &mut W,
+    held: &mut Held,
+) -> Result<(), ServeError>
+    ensures replies { Replies (W.contents writer.old) (W.contents writer.new)
+        held.old.items held.new.items (put_text tree.old.contents key) result }
+    ensures pairs { OnOk result (tree.new.contents ≡ pairs_with_put tree.old.contents key value) }
+{
+    match tree.insert(key, value) {
+        Ok(old) => send_old(writer, held, old),
+        Err(InsertError::Full(_, _)) => send(writer, held, b"full"),
+        Err(InsertError::OutOfMemory(_, _)) => Err(ServeError::OutOfMemory),
+    }
+}
+
+fn carry_out<W: Write>(
+    tree: &mut NumberTree,
+    request: Request,
+    writer: &mut W,
+    held: &mut Held,
+) -> Result<(), ServeError>
+    ensures replies { Replies (W.contents writer.old) (W.contents writer.new)
+        held.old.items held.new.items (reply_to tree.old.contents (Some request)) result }
+    ensures pairs { OnOk result
+        (tree.new.contents ≡ pairs_with tree.old.contents (Some request)) }
+{
+    match request {
+        Request::Put(key, value) => put_pair(tree, key, value, writer, held),
+        Request::Get(key) => send_value(writer, held, tree.get(&key).copied()),
+        Request::Len => send_number(writer, held, tree.len() as u64),
+        Request::All => send_pairs(writer, held, tree),
+    }
+}
+
+fn reply_line<W: Write>(
+    tree: &mut NumberTree,
+    line: &[u8],
+    writer: &mut W,
+    held: &mut Held,
+) -> Result<(), ServeError>
+    ensures replies { Replies (W.contents writer.old) (W.contents writer.new)
+        held.old.items held.new.items (reply_to tree.old.contents (request_of line.now)) result }
+    ensures pairs { OnOk result
+        (tree.new.contents ≡ pairs_with tree.old.contents (request_of line.now)) }
+{
+    match read_request(line) {
+        None => send(writer, held, b"bad"),
+        Some(request) => carry_out(tree, request, writer, held),
+    }
+}
+
+/// Carries out a line, and sends the answer with a line feed.
+#[tactic(auto, unfolding(crate::specs::Answers::pairs_after))]
+pub fn answer_line<W: Write>(
+    tree: &mut NumberTree,
+    line: &[u8],
+    writer: &mut W,
+    held: &mut Held,
+) -> Result<(), ServeError>
+    ensures replies { Replies (W.contents writer.old) (W.contents writer.new)
+        held.old.items held.new.items (answer tree.old.contents line.now) result }
+    ensures pairs { OnOk result (tree.new.contents ≡ pairs_after tree.old.contents line.now) }
+{
+    reply_line(tree, line, writer, held)?;
+    send(writer, held, b"\n")
+}

@@ -1,0 +1,11 @@
+//! The tree, its nodes, its stores and its iterators.
+
+pub use bptree_nodes::inner_node::{InnerMergeResult, InnerNode};
+pub use bptree_nodes::key::{Key, Tuple2};
+pub use bptree_nodes::leaf_node::{LeafDeleteResult, LeafNode, LeafUpsertResult};
+pub use bptree_nodes::node_id::{InnerNodeId, LeafNodeId, NodeId};
+pub use bptree_nodes::{entry_ref, inner_node, leaf_node, node_id};
+pub use bptree_stores::node_stores;
+pub use bptree_stores::node_stores::{NodeStore, NodeStoreVec};
+pub use bptree_tree::iterator::Iter;
+pub use bptree_tree::{BPlusTree, InsertError, iterator};
