@@ -9,3 +9,4 @@ pub mod Spans
 pub mod Spot
 pub mod Started
 pub mod Walk
+pub mod LeafEdit

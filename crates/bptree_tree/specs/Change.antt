@@ -1,14 +1,22 @@
--- What a change of inner nodes does to the slots of a store.
-use Rattle.std.specs.Prelude.{◌≡◌, ℕ, suc, ◌+◌, ◌≤◌, ◌<◌, List, [], ◌∷◌, ◌++◌, length}
+-- What a change of nodes does to the slots of a store.
+use Rattle.std.specs.Prelude.{◌≡◌, ℕ, suc, ◌+◌, ◌≤◌, ◌<◌, List, [], ◌∷◌, ◌++◌, length, Option, Some, None}
+use Rattle.std.specs.declared.cmp.Ordering.{Ordering}
+use Rattle.std.specs.declared.cmp.Ordering.TheVariants.{Equal}
 use Rattle.std.specs.List.{insert}
 use Rattle.bptree_nodes.specs.Inner.{Inner}
 use Rattle.bptree_nodes.specs.Leaf.{Leaf}
-use Rattle.bptree_nodes.specs.Slot.{Slots, Present, IsPresent, Updates}
+use Rattle.bptree_nodes.specs.Slot.{Slots, Present, IsPresent, Updates, UpdatesLeaf}
 use Rattle.bptree_nodes.specs.declared.node_id.InnerNodeId.{InnerNodeId}
+use Rattle.bptree_nodes.specs.declared.node_id.LeafNodeId.{LeafNodeId}
 use Rattle.bptree_nodes.specs.declared.node_id.NodeId.{NodeId}
 use Rattle.bptree_nodes.specs.declared.node_id.NodeId.TheVariants as kind
 use Rattle.bptree_tree.specs.declared.insertion.Outcome.{Outcome}
 use Rattle.bptree_tree.specs.declared.insertion.Outcome.TheVariants.{Done, Split}
+
+-- pairs whose first key is a separator
+abbrev pub StartsAt : {K V : Type 0} → (K → K → Ordering) → K → List (K × V) → Type 0
+StartsAt cmp separator [] = ⊥
+StartsAt cmp separator (p ∷ ps) = cmp separator p.0 ≡ Equal
 
 module _ {K V A : Type 0} (old new : Slots (Inner K A) (Leaf K V)) where
   -- a separator and the child behind it go into a node that has room
@@ -54,3 +62,27 @@ module _ {K V A : Type 0} (old new : Slots (Inner K A) (Leaf K V)) where
     pub keys : is.keys ≡ separator ∷ []
     pub children : is.children ≡ left ∷ right ∷ []
     pub arguments : length is.arguments ≡ 2
+
+  -- the pairs of a full leaf, with one more, are shared between it and a new leaf behind it
+  pub record SplitsLeaf (leaf fresh : LeafNodeId) (was : Leaf K V) (now left right : List (K × V)) : Type 0 where
+    pub absent : IsPresent (old.leaf fresh.0) → ⊥
+    pub at_left : new.leaf leaf.0 ≡ Present (record was { pairs = left; next = Some fresh })
+    pub at_right : new.leaf fresh.0 ≡ Present (record { pairs = right; prev = Some leaf; next = was.next })
+    pub others : (n : ℕ) → (n ≡ leaf.0 → ⊥) → (n ≡ fresh.0 → ⊥) → new.leaf n ≡ old.leaf n
+    pub inner : new.inner ≡ old.inner
+    pub parts : left ++ right ≡ now
+    pub left_least : 16 ≤ length left
+    pub left_most : length left ≤ 64
+    pub right_least : 16 ≤ length right
+    pub right_most : length right ≤ 64
+
+  -- a leaf now names another as the one before it
+  pub record Names (leaf prev : LeafNodeId) : Type 0 where
+    pub was : Leaf K V
+    pub here : old.leaf leaf.0 ≡ Present was
+    pub sets : UpdatesLeaf old new leaf.0 (Present (record was { prev = Some prev }))
+
+  -- the leaf that a link names, where it names one, has a new leaf before it
+  abbrev pub Mends : Option LeafNodeId → LeafNodeId → Type 0
+  Mends None fresh = new ≡ old
+  Mends (Some leaf) fresh = Names leaf fresh
