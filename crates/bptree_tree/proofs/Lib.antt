@@ -7,3 +7,4 @@ pub mod Ends
 pub mod Started
 pub mod Alike
 pub mod Lent
+pub mod Frame
