@@ -10,3 +10,4 @@ pub mod Spot
 pub mod Started
 pub mod Walk
 pub mod LeafEdit
+pub mod Frame
