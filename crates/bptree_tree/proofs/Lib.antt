@@ -11,3 +11,5 @@ pub mod Started
 pub mod Walk
 pub mod LeafEdit
 pub mod Frame
+pub mod Fullness
+pub mod Bared

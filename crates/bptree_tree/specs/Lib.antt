@@ -9,3 +9,5 @@ pub mod Refusal
 pub mod Shape
 pub mod Span
 pub mod Tree
+pub mod Bare
+pub mod Rooms
