@@ -8,3 +8,4 @@ pub mod Started
 pub mod Alike
 pub mod Lent
 pub mod LeafEdit
+pub mod Mended
