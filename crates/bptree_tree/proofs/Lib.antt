@@ -9,3 +9,4 @@ pub mod Alike
 pub mod Lent
 pub mod LeafEdit
 pub mod Mended
+pub mod Rooted
