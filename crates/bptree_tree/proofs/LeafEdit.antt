@@ -12,7 +12,7 @@ use Rattle.std.proofs.lemmas.Map.Keys.{sorted_head}
 use Rattle.bptree_nodes.specs.Contents.{IsAscending, pairs_below, pairs_above, has, put}
 use Rattle.bptree_nodes.specs.Inner.{Inner}
 use Rattle.bptree_nodes.specs.Leaf.{Leaf}
-use Rattle.bptree_nodes.specs.Slot.{Slot, Slots, Free, Held, Present, IsPresent, UpdatesLeaf}
+use Rattle.bptree_nodes.specs.Slot.{Slot, Slots, Present, IsPresent, UpdatesLeaf}
 use Rattle.bptree_nodes.specs.declared.node_id.LeafNodeId.{LeafNodeId}
 use Rattle.bptree_nodes.specs.declared.node_id.NodeId.TheVariants as kind
 use Rattle.bptree_nodes.proofs.Around.{put_around}
@@ -25,6 +25,7 @@ use Rattle.bptree_tree.specs.Edit.{IsLocal, Edits}
 use Rattle.bptree_tree.specs.Order.{AtLeast, AtMost, Under, Within, Between}
 use Rattle.bptree_tree.specs.Shape.{leaf_pairs, leaf_count, stands, IsTree}
 use Rattle.bptree_tree.specs.declared.insertion.Outcome.TheVariants.{Done, Split}
+use Rattle.bptree_tree.proofs.Mended.{absent_stands}
 use Rattle.bptree_tree.proofs.Ordered.{all_so, not_less_back, smaller_before, ascending_after}
 use Rattle.bptree_tree.proofs.Spot.{ascending_before}
 
@@ -58,11 +59,6 @@ module _ {K V : Type 0} (P : K → Type 0) where
 -- a pair that is put looks no further than between the smaller and the greater keys
 pub put_is_local : {K V : Type 0} (cmp : K → K → Ordering) (k : K) (v : V) → IsLocal cmp k (λ l. put cmp l k v)
 put_is_local cmp k v = record { around = λ before l after smaller greater. put_around cmp k before l after smaller greater v }
-
-absent_stands : {N : Type 0} (slot : Slot N) → (IsPresent slot → ⊥) → stands slot ≡ 0
-absent_stands Free absent = refl
-absent_stands Held absent = refl
-absent_stands (Present node) absent = absurd (absent tt)
 
 all_both : {X : Type 0} (P Q : X → Type 0) (xs : List X) → AllByRecursion P xs → AllByRecursion Q xs → AllByRecursion (λ x. P x × Q x) xs
 all_both P Q [] first second = tt

@@ -13,3 +13,5 @@ pub mod LeafEdit
 pub mod Frame
 pub mod Fullness
 pub mod Bared
+pub mod Mended
+pub mod Rooted
