@@ -8,3 +8,4 @@ pub mod Started
 pub mod Alike
 pub mod Lent
 pub mod Frame
+pub mod Widen
