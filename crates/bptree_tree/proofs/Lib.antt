@@ -9,3 +9,4 @@ pub mod Alike
 pub mod Lent
 pub mod Frame
 pub mod Widen
+pub mod Lift

@@ -1,5 +1,5 @@
 -- One level of an edit: from a child of an inner node to the node.
-use Rattle.std.proofs.Common.{◌≡◌, ℕ, zero, suc, ◌+◌, ◌-◌, ◌<◌, ◌≤◌, cond, List, [], ◌∷◌, ◌++◌, length, map, get_or, take, drop, refl, sym, ap, subst, ◌∙◌, arith, Option, Some, eqb, append_assoc, slice_get}
+use Rattle.std.proofs.Common.{◌≡◌, ℕ, zero, suc, ◌+◌, ◌<◌, ◌≤◌, cond, List, [], ◌∷◌, ◌++◌, length, map, get_or, take, drop, refl, sym, ap, subst, ◌∙◌, arith, Option, Some, eqb, append_assoc, slice_get}
 use Rattle.std.specs.declared.cmp.Ordering.{Ordering}
 use Rattle.std.specs.Cmp.{IsTotalOrder}
 use Rattle.std.specs.List.{AllByRecursion, AllZip, insert}
@@ -128,10 +128,6 @@ leads_within cmp k [] i h = omega arith
 leads_within cmp k (s ∷ ss) zero h = omega arith
 leads_within cmp k (s ∷ ss) (suc i) h = omega (arith, leads_within cmp k ss i h.1)
 
--- no key is lost
-pub less_none : (n : ℕ) → n - 0 ≡ n
-less_none n = omega arith
-
 -- a node that can be reached, and the child that the key leads to
 module _ {K V A : Type 0} {cmp : K → K → Ordering} (slots : Slots (Inner K A) (Leaf K V)) (m : ℕ) (id : InnerNodeId) (k : K) (node : Inner K A) (i : ℕ) (child : NodeId)
     (can : CanReach cmp slots (suc m) (kind.Inner id) k) (is : slots.inner id.0 ≡ Present node) (leads : Leads cmp k node.keys i) where
@@ -179,8 +175,11 @@ module _ {K V A : Type 0} {cmp : K → K → Ordering} (total' : IsTotalOrder cm
   abbrev there : NodeId
   there = get_or node.children i child
 
+  here : there ≡ child
+  here = get_or_from_slice_get node.children i child child read
+
   at_there : (outcome : Outcome K) → At child outcome → At there outcome
-  at_there outcome e = subst (λ c. At c outcome) (sym (get_or_from_slice_get node.children i child child read)) e
+  at_there outcome e = subst (λ c. At c outcome) (sym here) e
 
   place : i < length node.children
   place = child_place old m id k node i child can is leads
@@ -265,11 +264,11 @@ module _ {K V A : Type 0} {cmp : K → K → Ordering} (total' : IsTotalOrder cm
       }
 
   -- what the node does not reach its child does not reach
-  pub below_leaves : (x : ℕ) → leaf_count old (suc m) (kind.Inner id) x ≡ 0 → leaf_count old m there x ≡ 0
-  below_leaves x none = omega (arith, in_total (λ c. leaf_count old m c x) node.children i child place, rw is at none)
+  pub below_leaves : (x : ℕ) → leaf_count old (suc m) (kind.Inner id) x ≡ 0 → leaf_count old m child x ≡ 0
+  below_leaves x none = subst (λ c. leaf_count old m c x ≡ 0) here (omega (arith, in_total (λ c. leaf_count old m c x) node.children i child place, rw is at none))
 
-  pub below_inners : (x : ℕ) → inner_count old (suc m) (kind.Inner id) x ≡ 0 → inner_count old m there x ≡ 0
-  below_inners x none = omega (arith, in_total (λ c. inner_count old m c x) node.children i child place, rw is at none)
+  pub below_inners : (x : ℕ) → inner_count old (suc m) (kind.Inner id) x ≡ 0 → inner_count old m child x ≡ 0
+  below_inners x none = subst (λ c. inner_count old m c x ≡ 0) here (omega (arith, in_total (λ c. inner_count old m c x) node.children i child place, rw is at none))
 
   -- where every value is a summary of every list, as many values as children are summaries of them
   pub summed_of : ((a : A) (keys : List K) → is_summary a keys) → (slots : Slots (Inner K A) (Leaf K V)) (arguments : List A) (cs : List NodeId) → length arguments ≡ length cs
@@ -279,7 +278,6 @@ module _ {K V A : Type 0} {cmp : K → K → Ordering} (total' : IsTotalOrder cm
   -- the node as it was, over a child that was not split
   pub node_done : ((a : A) (keys : List K) → is_summary a keys) → At child Done → Edits cmp is_summary edit 0 old new (suc m) (kind.Inner id) k leaf fresh Done
   node_done every at =
-      let e = at_there Done at in
       let grown = grown_done at in
       let stays : new.inner id.0 ≡ Present node = node_stays Done at in
       record {
@@ -290,11 +288,11 @@ module _ {K V A : Type 0} {cmp : K → K → Ordering} (total' : IsTotalOrder cm
         pairs = rw (stays, is) grown.pairs;
         leaves = λ x. rw (stays, is) (grown.leaves x);
         inners = λ x. rw (stays, is) (omega (arith, grown.inners x));
-        other_leaves = λ x none some. e.other_leaves x (below_leaves x none) some;
-        other_inners = λ x none some. e.other_inners x (below_inners x none) some;
+        other_leaves = λ x none some. at.other_leaves x (below_leaves x none) some;
+        other_inners = λ x none some. at.other_inners x (below_inners x none) some;
         order = rw (stays, is) grown.order;
-        links = e.links;
-        untouched = e.untouched;
+        links = at.links;
+        untouched = at.untouched;
         summed = λ s.
             let both : AllZip is_summary node.arguments (map (λ c. keys_of (pairs_at old m c)) node.children) × AllByRecursion (IsSummed old is_summary m) node.children = rw is at s in
             let long = AllZip-length is_summary node.arguments (map (λ c. keys_of (pairs_at old m c)) node.children) both.0 ∙ length-map node.children (λ c. keys_of (pairs_at old m c)) in
