@@ -10,3 +10,4 @@ pub mod Lent
 pub mod Frame
 pub mod Widen
 pub mod Lift
+pub mod Along
