@@ -15,3 +15,6 @@ pub mod Fullness
 pub mod Bared
 pub mod Mended
 pub mod Rooted
+pub mod Widen
+pub mod Lift
+pub mod Along

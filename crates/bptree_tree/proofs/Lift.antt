@@ -1,0 +1,196 @@
+-- The node above a child that was split: it takes the new child, and may be split in turn.
+use Rattle.std.proofs.Common.{◌≡◌, ℕ, suc, ◌+◌, ◌≤◌, inl, inr, true, cond, List, [], ◌∷◌, ◌++◌, length, map, refl, sym, ap, subst, ◌∙◌, arith, Option, Some, eqb, slice_get}
+use Rattle.std.specs.declared.cmp.Ordering.{Ordering}
+use Rattle.std.specs.Cmp.{IsTotalOrder}
+use Rattle.std.specs.List.{AllByRecursion, AllZip, insert}
+use Rattle.std.specs.Map.{keys_of}
+use Rattle.std.proofs.lemmas.Bool.{eq-eqb}
+use Rattle.std.proofs.lemmas.Bool.Decides.{eqb_tells}
+use Rattle.std.proofs.lemmas.List.Edits.{length-insert}
+use Rattle.bptree_nodes.specs.Inner.{Inner}
+use Rattle.bptree_nodes.specs.Leaf.{Leaf}
+use Rattle.bptree_nodes.specs.Slot.{Slot, Slots, Present, IsPresent, Updates}
+use Rattle.bptree_nodes.specs.declared.node_id.InnerNodeId.{InnerNodeId}
+use Rattle.bptree_nodes.specs.declared.node_id.LeafNodeId.{LeafNodeId}
+use Rattle.bptree_nodes.specs.declared.node_id.NodeId.{NodeId}
+use Rattle.bptree_nodes.specs.declared.node_id.NodeId.TheVariants as kind
+use Rattle.bptree_nodes.proofs.PieceLemmas.{AllByRecursion-left, AllByRecursion-right}
+use Rattle.bptree_tree.specs.Change.{Links, Splits, Takes}
+use Rattle.bptree_tree.specs.Edit.{IsLocal, CanReach, Extends, LinksAt, Edits}
+use Rattle.bptree_tree.specs.Order.{flat, total, Within, Between, Chain, Leads}
+use Rattle.bptree_tree.specs.Shape.{inner_keys, inner_children, pairs_at, leaves_at, leaf_count, inner_count, stands, IsTree, IsSummed}
+use Rattle.bptree_tree.specs.declared.insertion.Outcome.{Outcome}
+use Rattle.bptree_tree.specs.declared.insertion.Outcome.TheVariants.{Done, Split}
+use Rattle.bptree_tree.proofs.Frame.{stands_le, stands_if_absent, flat_same, total_same, each_keeps, Chain-so, Same, all_same}
+use Rattle.bptree_tree.proofs.Hinted.{total-append}
+use Rattle.bptree_tree.proofs.Ordered.{all_so, AtLeast-up}
+use Rattle.bptree_tree.proofs.Walk.{flat-append}
+use Rattle.bptree_tree.proofs.Widen.{leads_within, own_inners, node_stays, Grown, grown_split, below_leaves, below_inners, summed_of}
+
+-- the links where leaves stay
+links_moved : {K V A : Type 0} (old new after : Slots (Inner K A) (Leaf K V)) (leaf : LeafNodeId) (fresh : List LeafNodeId) → ((n : ℕ) → after.leaf n ≡ new.leaf n) → LinksAt old new leaf fresh → LinksAt old after leaf fresh
+links_moved old new after leaf [] e links = rw (e leaf.0) links
+links_moved old new after leaf (f ∷ []) e links = rw (e leaf.0, e f.0) links
+links_moved old new after leaf (f ∷ g ∷ more) e links = absurd links
+
+-- a node's children, cut at a separator
+pub chain_cut : {C K : Type 0} {cmp : K → K → Ordering} (total' : IsTotalOrder cmp) (P : C → Option K → Option K → Type 0) (ks : List K) (up : K) (ls : List K) (cs ds : List C) (lo hi : Option K)
+    → Chain cmp P (ks ++ (up ∷ ls)) (cs ++ ds) lo hi → length cs ≡ length ks + 1 → Chain cmp P ks cs lo (Some up) × Between cmp lo hi up × Chain cmp P ls ds (Some up) hi
+chain_cut total' P ks up ls [] ds lo hi h e = absurd (omega arith)
+chain_cut total' P [] up ls (c ∷ []) ds lo hi h e = h
+chain_cut total' P [] up ls (c ∷ d ∷ cs) ds lo hi h e = absurd (omega arith)
+chain_cut total' P (k ∷ ks) up ls (c ∷ cs) ds lo hi h e =
+    let r = chain_cut total' P ks up ls cs ds (Some k) hi h.2 (omega arith) in
+    ((h.0, (h.1.0, r.1.0), r.0), (AtLeast-up total' lo k up h.1.0 r.1.0, r.1.1), r.2)
+
+-- a node that is written anew stands as before
+same_stands : {N : Type 0} (f g : ℕ → Slot N) (id : ℕ) (x y : N) → f id ≡ Present x → Updates f g id (Present y) → (n : ℕ) → stands (g n) ≡ stands (f n)
+same_stands f g id x y e u n = elim (eqb_tells n id) [ inl h ↦ (rw h.1 (rw (e, u.changed) refl)) | inr h ↦ ap stands (u.others n h.1) ]
+
+module _ {K V A : Type 0} {cmp : K → K → Ordering} (total' : IsTotalOrder cmp) (is_summary : A → List K → Type 0) (edit : List (K × V) → List (K × V)) (old new after : Slots (Inner K A) (Leaf K V))
+    (m : ℕ) (id : InnerNodeId) (k : K) (node : Inner K A) (i : ℕ) (child : NodeId) (leaf : LeafNodeId) (fresh : List LeafNodeId) (local : IsLocal cmp k edit)
+    (can : CanReach cmp old (suc m) (kind.Inner id) k) (is : old.inner id.0 ≡ Present node) (leads : Leads cmp k node.keys i) (read : slice_get node.children i ≡ Some child)
+    (every : (a : A) (keys : List K) → is_summary a keys) (s : K) (right : NodeId) (at : Edits cmp is_summary edit 0 old new m child k leaf fresh (Split s right)) where
+  abbrev ks : List K
+  ks = insert node.keys i s
+
+  abbrev cs : List NodeId
+  cs = insert node.children (suc i) right
+
+  grown : Grown total' is_summary edit old new m id k node i child leaf fresh local can is leads read ks cs
+  grown = grown_split total' is_summary edit old new m id k node i child leaf fresh local can is leads read s right at
+
+  stays : new.inner id.0 ≡ Present node
+  stays = node_stays total' is_summary edit old new m id k node i child leaf fresh local can is leads read (Split s right) at
+
+  own : (x : ℕ) → cond (eqb id.0 x) 1 0 + total (λ c. inner_count old m c x) node.children ≤ stands (old.inner x)
+  own x = own_inners old m id k node i child can is leads x
+
+  apart : total (λ c. inner_count new m c id.0) cs ≡ 0
+  apart =
+      let h = own id.0 in
+      let own_one = rw (eq-eqb id.0 id.0 refl) at h in
+      omega (arith, own_one, stands_le (old.inner id.0), stands_le (new.inner id.0), grown.inners id.0)
+
+  not_node : (x : ℕ) → 1 ≤ total (λ c. inner_count new m c x) cs → x ≡ id.0 → ⊥
+  not_node x some q = let z : 1 ≤ total (λ c. inner_count new m c id.0) cs = subst (λ y. 1 ≤ total (λ c. inner_count new m c y) cs) q some in omega (arith, apart)
+
+  not_absent : (x y : ℕ) → 1 ≤ total (λ c. inner_count new m c x) cs → (IsPresent (new.inner y) → ⊥) → x ≡ y → ⊥
+  not_absent x y some absent q =
+      let z : stands (new.inner x) ≡ 0 = ap (λ n. stands (new.inner n)) q ∙ stands_if_absent (new.inner y) absent in omega (arith, own x, grown.inners x)
+
+  other_than_node : (x : ℕ) → inner_count old (suc m) (kind.Inner id) x ≡ 0 → x ≡ id.0 → ⊥
+  other_than_node x none q = let e : eqb id.0 x ≡ true = eq-eqb id.0 x (sym q) in let y = rw (is, e) at none in omega arith
+
+  kept_inners : (x : ℕ) → inner_count old (suc m) (kind.Inner id) x ≡ 0 → IsPresent (old.inner x) → new.inner x ≡ old.inner x
+  kept_inners x none some = at.other_inners x (below_inners total' is_summary edit old new m id k node i child leaf fresh local can is leads read x none) some
+
+  kept_leaves : (x : ℕ) → leaf_count old (suc m) (kind.Inner id) x ≡ 0 → IsPresent (old.leaf x) → new.leaf x ≡ old.leaf x
+  kept_leaves x none some = at.other_leaves x (below_leaves total' is_summary edit old new m id k node i child leaf fresh local can is leads read x none) some
+
+  -- the store is changed once more, where the grown children do not reach
+  module _ (leaf_same : (x : ℕ) → after.leaf x ≡ new.leaf x) (agrees : (x : ℕ) → 1 ≤ total (λ c. inner_count new m c x) cs → after.inner x ≡ new.inner x) where
+    all : AllByRecursion (Same cmp is_summary new after m) cs
+    all = all_same cmp is_summary new after m cs ((λ x some. leaf_same x), agrees)
+
+    chain : (lo hi : Option K) → Chain cmp (IsTree cmp old 16 m) node.keys node.children lo hi → Within cmp lo hi k → Chain cmp (IsTree cmp after 16 m) ks cs lo hi
+    chain lo hi c w = Chain-so cmp (IsTree cmp new 16 m) (IsTree cmp after 16 m) ks cs lo hi (all_so _ _ (λ c s a b. s.tree 16 a b) cs all) (grown.chain lo hi c w)
+
+    pairs : flat (pairs_at after m) cs ≡ edit (flat (pairs_at old m) node.children)
+    pairs = flat_same (pairs_at new m) (pairs_at after m) cs (all_so _ _ (λ c s. s.pairs) cs all) ∙ grown.pairs
+
+    leaves : (x : ℕ) → total (λ c. leaf_count after m c x) cs + stands (old.leaf x) ≡ total (λ c. leaf_count old m c x) node.children + stands (after.leaf x)
+    leaves x = omega (arith, grown.leaves x, ap stands (leaf_same x), total_same (λ c. leaf_count new m c x) (λ c. leaf_count after m c x) cs (all_so _ _ (λ c s. s.leaves x) cs all))
+
+    inners : (x : ℕ) → total (λ c. inner_count after m c x) cs + stands (old.inner x) ≡ total (λ c. inner_count old m c x) node.children + stands (new.inner x)
+    inners x = omega (arith, grown.inners x, total_same (λ c. inner_count new m c x) (λ c. inner_count after m c x) cs (all_so _ _ (λ c s. s.inners x) cs all))
+
+    order : Extends (flat (leaves_at old m) node.children) leaf fresh (flat (leaves_at after m) cs)
+    order = subst (Extends (flat (leaves_at old m) node.children) leaf fresh) (sym (flat_same (leaves_at new m) (leaves_at after m) cs (all_so _ _ (λ c s. s.order) cs all))) grown.order
+
+    summed : IsSummed old is_summary (suc m) (kind.Inner id) → AllByRecursion (IsSummed after is_summary m) cs
+    summed h =
+        let both : AllZip is_summary node.arguments (map (λ c. keys_of (pairs_at old m c)) node.children) × AllByRecursion (IsSummed old is_summary m) node.children = rw is at h in
+        each_keeps (IsSummed new is_summary m) (IsSummed after is_summary m) cs (all_so _ _ (λ c s. s.summed) cs all) (grown.summed both.1)
+
+    zipped : (arguments : List A) (ds : List NodeId) → length arguments ≡ length ds → AllZip is_summary arguments (map (λ c. keys_of (pairs_at after m c)) ds)
+    zipped arguments ds long = summed_of total' is_summary edit old new m id k node i child leaf fresh local can is leads read every after arguments ds long
+
+    links : LinksAt old after leaf fresh
+    links = links_moved old new after leaf fresh leaf_same at.links
+
+  -- a node with room takes the child
+  pub node_links : Links new after id i s right node → Edits cmp is_summary edit 0 old after (suc m) (kind.Inner id) k leaf fresh Done
+  node_links link =
+      let leaf_same = λ (x : ℕ). ap (λ (f : ℕ → Slot (Leaf K V)). f x) link.leaf in
+      let agrees = λ (x : ℕ) (some : 1 ≤ total (λ c. inner_count new m c x) cs). link.sets.others x (not_node x some) in
+      let long : length ks ≡ length node.keys + 1 = length-insert node.keys i s (leads_within cmp k node.keys i leads) in
+      record {
+        tree = λ least lo hi t w.
+            let c = subst (λ (x : Slot (Inner K A)). Chain cmp (IsTree cmp old 16 m) (inner_keys x) (inner_children x) lo hi) is t.1 in
+            let low : least ≤ length node.keys = subst (λ (x : Slot (Inner K A)). least ≤ length (inner_keys x)) is t.2 in
+            rw link.sets.changed (rw (link.keys, link.children) (tt, chain leaf_same agrees lo hi c w, omega (arith, low, long), omega (arith, link.room, long)));
+        pairs = rw (link.sets.changed, is) (rw link.children (pairs leaf_same agrees));
+        leaves = λ x. rw (link.sets.changed, is) (rw link.children (leaves leaf_same agrees x));
+        inners = λ x. rw (link.sets.changed, is) (rw link.children (omega (arith, inners leaf_same agrees x, same_stands new.inner after.inner id.0 node link.is stays link.sets x)));
+        other_leaves = λ x none some. leaf_same x ∙ kept_leaves x none some;
+        other_inners = λ x none some. link.sets.others x (other_than_node x none) ∙ kept_inners x none some;
+        order = rw (link.sets.changed, is) (rw link.children (order leaf_same agrees));
+        links = links leaf_same agrees;
+        untouched = λ x other some. leaf_same x ∙ at.untouched x other some;
+        summed = λ h. rw link.sets.changed (zipped leaf_same agrees link.is.arguments link.is.children link.arguments, rw link.children (summed leaf_same agrees h));
+      }
+
+  -- a full node takes it and is split
+  pub node_splits : (up : K) (number : InnerNodeId) → Splits new after id i s right node up number → Edits cmp is_summary edit 0 old after (suc m) (kind.Inner id) k leaf fresh (Split up (kind.Inner number))
+  node_splits up number split =
+      let leaf_same = λ (x : ℕ). ap (λ (f : ℕ → Slot (Leaf K V)). f x) split.leaf in
+      let agrees = λ (x : ℕ) (some : 1 ≤ total (λ c. inner_count new m c x) cs). split.others x (not_node x some) (not_absent x number.0 some split.absent) in
+      let first = split.left.children in
+      let second = split.right.children in
+      let joined : first ++ second ≡ cs = split.children in
+      record {
+        tree = λ least lo hi t w.
+            let c = subst (λ (x : Slot (Inner K A)). Chain cmp (IsTree cmp old 16 m) (inner_keys x) (inner_children x) lo hi) is t.1 in
+            let whole : Chain cmp (IsTree cmp after 16 m) (split.left.keys ++ (up ∷ split.right.keys)) (first ++ second) lo hi = rw (split.keys, split.children) (chain leaf_same agrees lo hi c w) in
+            let cut = chain_cut total' (IsTree cmp after 16 m) split.left.keys up split.right.keys first second lo hi whole split.left_children in
+            rw (split.at_left, split.at_right)
+            ((tt, cut.0, split.left_least, split.left_most), cut.1, (tt, cut.2, split.right_least, split.right_most));
+        pairs = rw (split.at_left, split.at_right, is)
+            (sym (flat-append (pairs_at after m) first second) ∙ (ap (flat (pairs_at after m)) joined ∙ pairs leaf_same agrees));
+        leaves = λ x. rw (split.at_left, split.at_right, is)
+            (omega (arith, leaves leaf_same agrees x, total-append (λ c. leaf_count after m c x) first second, ap (total (λ c. leaf_count after m c x)) joined));
+        inners = λ x. rw (split.at_left, split.at_right, is)
+            (omega (arith, inners leaf_same agrees x, total-append (λ c. inner_count after m c x) first second, ap (total (λ c. inner_count after m c x)) joined, more x));
+        other_leaves = λ x none some. leaf_same x ∙ kept_leaves x none some;
+        other_inners = λ x none some.
+            let e : new.inner x ≡ old.inner x = kept_inners x none some in
+            split.others x (other_than_node x none) (λ q. split.absent (subst (λ n. IsPresent (new.inner n)) q (subst IsPresent (sym e) some))) ∙ e;
+        order = rw (split.at_left, split.at_right, is)
+            (subst (Extends (flat (leaves_at old m) node.children) leaf fresh)
+              (sym (sym (flat-append (leaves_at after m) first second) ∙ ap (flat (leaves_at after m)) joined)) (order leaf_same agrees));
+        links = links leaf_same agrees;
+        untouched = λ x other some. leaf_same x ∙ at.untouched x other some;
+        summed = λ h.
+            let all' : AllByRecursion (IsSummed after is_summary m) (first ++ second) = rw joined (summed leaf_same agrees h) in
+            rw (split.at_left, split.at_right)
+            ((zipped leaf_same agrees split.left.arguments first split.left_arguments, AllByRecursion-left (IsSummed after is_summary m) first second all'),
+             (zipped leaf_same agrees split.right.arguments second split.right_arguments, AllByRecursion-right (IsSummed after is_summary m) first second all'));
+      }
+      where
+        more : (x : ℕ) → stands (after.inner x) ≡ stands (new.inner x) + cond (eqb number.0 x) 1 0
+        more x =
+            elim (eqb_tells number.0 x) [
+              inl h ↦ (let f : stands (new.inner x) ≡ 0 = ap (λ n. stands (new.inner n)) (sym h.1) ∙ stands_if_absent (new.inner number.0) split.absent in
+                       let g : stands (after.inner x) ≡ 1 = ap (λ n. stands (after.inner n)) (sym h.1) ∙ ap stands split.at_right in
+                       rw h.0 (omega arith))
+            | inr h ↦ (elim (eqb_tells id.0 x) [
+                inl p ↦ (let f : stands (new.inner x) ≡ 1 = ap (λ n. stands (new.inner n)) (sym p.1) ∙ ap stands stays in
+                         let g : stands (after.inner x) ≡ 1 = ap (λ n. stands (after.inner n)) (sym p.1) ∙ ap stands split.at_left in
+                         rw h.0 (omega arith))
+              | inr p ↦ (rw h.0 (let f = split.others x (λ q. p.1 (sym q)) (λ q. h.1 (sym q)) in omega (arith, ap stands f))) ]) ]
+
+  pub node_takes : (outcome : Outcome K) → Takes new after id i s right node outcome → Edits cmp is_summary edit 0 old after (suc m) (kind.Inner id) k leaf fresh outcome
+  node_takes Done link = node_links link
+  node_takes (Split up (kind.Inner number)) split = node_splits up number split
+  node_takes (Split up (kind.Leaf number)) split = absurd split
