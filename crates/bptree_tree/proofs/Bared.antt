@@ -39,7 +39,7 @@ same_bare f g e = λ i n. bare_slot (e i n)
 pub bare_of : {I L : Type 0} (old new : Slots I L) → new ≡ old → bare new ≡ bare old
 bare_of old new e = ap bare e
 
-same_node : {N : Type 0} (slot : Slot N) (a b : N) → slot ≡ Present a → slot ≡ Present b → a ≡ b
+pub same_node : {N : Type 0} (slot : Slot N) (a b : N) → slot ≡ Present a → slot ≡ Present b → a ≡ b
 same_node slot a b e f = let z : Present a ≡ Present b = sym e ∙ f in cc
 
 module _ {K V A : Type 0} (f m g : Slots (Inner K A) (Leaf K V)) (id : InnerNodeId) (place : ℕ) (s : K) (child : NodeId) (a : A) (was from : Inner K A)

@@ -18,3 +18,5 @@ pub mod Rooted
 pub mod Widen
 pub mod Lift
 pub mod Along
+pub mod LeafPlaces
+pub mod LeafCut

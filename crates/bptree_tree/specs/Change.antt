@@ -3,6 +3,7 @@ use Rattle.std.specs.Prelude.{◌≡◌, ℕ, suc, ◌+◌, ◌≤◌, ◌<◌, 
 use Rattle.std.specs.declared.cmp.Ordering.{Ordering}
 use Rattle.std.specs.declared.cmp.Ordering.TheVariants.{Equal}
 use Rattle.std.specs.List.{insert}
+use Rattle.bptree_nodes.specs.Contents.{put}
 use Rattle.bptree_nodes.specs.Inner.{Inner}
 use Rattle.bptree_nodes.specs.Leaf.{Leaf}
 use Rattle.bptree_nodes.specs.Slot.{Slots, Present, IsPresent, Updates, UpdatesLeaf}
@@ -86,3 +87,15 @@ module _ {K V A : Type 0} (old new : Slots (Inner K A) (Leaf K V)) where
   abbrev pub Mends : Option LeafNodeId → LeafNodeId → Type 0
   Mends None fresh = new ≡ old
   Mends (Some leaf) fresh = Names leaf fresh
+
+-- a full leaf takes a pair and is split; its outcome names the new leaf
+pub record IsLeafSplit {K V A : Type 0} (cmp : K → K → Ordering) (old new : Slots (Inner K A) (Leaf K V)) (leaf : LeafNodeId) (k : K) (v : V) (outcome : Outcome K) : Type 0 where
+  pub fresh : LeafNodeId
+  pub separator : K
+  pub was : Leaf K V
+  pub left : List (K × V)
+  pub right : List (K × V)
+  pub is : outcome ≡ Split separator (kind.Leaf fresh)
+  pub here : old.leaf leaf.0 ≡ Present was
+  pub splits : SplitsLeaf old new leaf fresh was (put cmp was.pairs k v) left right
+  pub starts : StartsAt cmp separator right

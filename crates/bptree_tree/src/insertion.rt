@@ -1,10 +1,11 @@
 //! Insertion into a tree that stands in a store.
-ghost use Rattle.std.specs.Prelude.{◌≡◌, ◌+◌, ◌≤◌, IfOk, IfErr, OnErr, ℕ, false, length, is_some, ◌&&◌, ◌==◌, ◌∷◌, [], Some};
-ghost use Rattle.bptree_nodes.specs.Contents.{IsAscending, has, put};
+ghost use Rattle.std.specs.Prelude.{◌≡◌, ◌+◌, ◌≤◌, IfOk, IfErr, OnErr, ℕ, false, length, is_some, ◌&&◌, ◌==◌, ◌∷◌, [], Some, take, drop, insert};
+ghost use Rattle.bptree_nodes.specs.Contents.{IsAscending, below, has, put};
+ghost use Rattle.bptree_nodes.specs.Leaf.{split_place};
 ghost use Rattle.bptree_nodes.specs.Inner.{Inner};
 ghost use Rattle.bptree_nodes.specs.Slot.{IsPresent, Present};
 ghost use Rattle.bptree_tree.specs.Bare.{bare, IsShell, KeepsHeld, splits_at, is_full_node};
-ghost use Rattle.bptree_tree.specs.Change.{Takes};
+ghost use Rattle.bptree_tree.specs.Change.{StartsAt, Takes, IsLeafSplit};
 ghost use Rattle.bptree_tree.specs.Leaves.{Stands};
 ghost use Rattle.bptree_tree.specs.Rooms.{Holds, HoldsIf, IsReadyIf, HasRoom, GivesBack, IsElsewhere, IsUsed, is_split};
 ghost use Rattle.bptree_tree.specs.Shape.{inner_arguments, inner_keys, inner_children, leaf_pairs};
@@ -98,11 +99,21 @@ fn give_back<S: NodeStore>(store: &mut S, room: Option<Room<S::K, S::Argument>>)
 }
 
 // A clone of the key that will be the first of the right part, where a full leaf is split with a new key at the slot.
-fn separator<S: NodeStore>(store: &S, id: LeafNodeId, slot: usize, key: &S::K) -> Result<S::K, AllocError> {
+fn separator<S: NodeStore>(
+    store: &S,
+    id: LeafNodeId,
+    slot: usize,
+    key: &S::K,
+) -> Result<S::K, AllocError>
+    requires present { IsPresent ((S.slots store.now).leaf id.0) }
+    requires full { length (leaf_pairs ((S.slots store.now).leaf id.0)) ≡ 64 }
+    requires slot { slot ≤ 64 }
+    ensures { IfOk result (λ separator. (value : S.V) → StartsAt S.K.cmp separator (drop (split_place slot) (insert (leaf_pairs ((S.slots store.now).leaf id.0)) slot (key.now, value)))) }
+{
     if slot == 32 {
         return key.clone();
     }
-    store.get_leaf(id).keys()[32].clone()
+    store.get_leaf(id).data_at(32).0.clone()
 }
 
 // Splits a full leaf, and puts the pair into one of the parts.
@@ -111,10 +122,17 @@ fn split_leaf<S: NodeStore>(
     id: LeafNodeId,
     key: S::K,
     value: S::V,
-) -> Result<Outcome<S::K>, (S::K, S::V)> {
-    let Err(slot) = store.get_leaf(id).locate_slot(&key) else {
-        unreachable!()
-    };
+) -> Result<Outcome<S::K>, (S::K, S::V)>
+    requires present { IsPresent ((S.slots store.old).leaf id.0) }
+    requires full { length (leaf_pairs ((S.slots store.old).leaf id.0)) ≡ 64 }
+    requires absent { has S.K.cmp (leaf_pairs ((S.slots store.old).leaf id.0)) key ≡ false }
+    requires ascending { IsAscending S.K.cmp (leaf_pairs ((S.slots store.old).leaf id.0)) }
+    ensures split { IfOk result (IsLeafSplit S.K.cmp (bare (S.slots store.old)) (bare (S.slots store.new)) id key value) }
+    ensures held { KeepsHeld (S.slots store.old) (S.slots store.new) }
+    ensures refused { OnErr result (S.slots store.new ≡ S.slots store.old) }
+    ensures handed_back { IfErr result (λ pair. pair ≡ (key, value)) }
+{
+    let slot = gap(store.get_leaf(id), &key);
     let Ok(separator) = separator(store, id, slot, &key) else {
         return Err((key, value));
     };
@@ -129,6 +147,19 @@ fn split_leaf<S: NodeStore>(
     store.assign_leaf(id, leaf);
     store.assign_leaf(fresh, right);
     Ok(Outcome::Split(separator, NodeId::Leaf(fresh)))
+}
+
+// The place where an absent key would go in a leaf.
+fn gap<K: Ord + Drop, V: Drop>(leaf: &LeafNode<K, V>, key: &K) -> usize
+    requires absent { has K.cmp leaf.now.pairs key.now ≡ false }
+    requires ascending { IsAscending K.cmp leaf.now.pairs }
+    ensures value { result ≡ length (below K.cmp leaf.now.pairs key.now) }
+    ensures fits { result ≤ length leaf.now.pairs }
+{
+    match leaf.locate_slot(key) {
+        Ok(slot) => slot,
+        Err(slot) => slot,
+    }
 }
 
 // Puts a separator and the child behind it into an inner node, which is split where it is full.
