@@ -20,3 +20,4 @@ pub mod Lift
 pub mod Along
 pub mod LeafPlaces
 pub mod LeafCut
+pub mod PutSteps

@@ -11,3 +11,4 @@ pub mod Span
 pub mod Tree
 pub mod Bare
 pub mod Rooms
+pub mod Puts

@@ -1,12 +1,14 @@
 //! Insertion into a tree that stands in a store.
-ghost use Rattle.std.specs.Prelude.{◌≡◌, ◌+◌, ◌≤◌, IfOk, IfErr, OnErr, ℕ, false, length, is_some, ◌&&◌, ◌==◌, ◌∷◌, [], Some, take, drop, insert};
+ghost use Rattle.std.specs.Prelude.{◌≡◌, ◌+◌, ◌≤◌, IfOk, IfErr, OnErr, ℕ, List, false, length, is_some, ◌&&◌, ◌==◌, ◌∷◌, [], Some, take, drop, insert};
 ghost use Rattle.bptree_nodes.specs.Contents.{IsAscending, below, has, put};
 ghost use Rattle.bptree_nodes.specs.Leaf.{split_place};
 ghost use Rattle.bptree_nodes.specs.Inner.{Inner};
 ghost use Rattle.bptree_nodes.specs.Slot.{IsPresent, Present};
 ghost use Rattle.bptree_tree.specs.Bare.{bare, IsShell, KeepsHeld, splits_at, is_full_node};
 ghost use Rattle.bptree_tree.specs.Change.{StartsAt, Takes, IsLeafSplit};
+ghost use Rattle.bptree_tree.specs.Edit.{CanReach};
 ghost use Rattle.bptree_tree.specs.Leaves.{Stands};
+ghost use Rattle.bptree_tree.specs.Puts.{IsFullFor, PutsAt};
 ghost use Rattle.bptree_tree.specs.Rooms.{Holds, HoldsIf, IsReadyIf, HasRoom, GivesBack, IsElsewhere, IsUsed, is_split};
 ghost use Rattle.bptree_tree.specs.Shape.{inner_arguments, inner_keys, inner_children, leaf_pairs};
 
@@ -207,12 +209,19 @@ fn put_at<S: NodeStore>(
     height: usize,
     key: S::K,
     value: S::V,
-) -> Result<Outcome<S::K>, (S::K, S::V)> {
+) -> Result<Outcome<S::K>, (S::K, S::V)>
+    requires every { (a : S.Argument) → (keys : List S.K) → S.Argument.is_summary a keys }
+    requires reach { CanReach S.K.cmp (bare (S.slots store.old)) height id key }
+    requires full { IsFullFor S.K.cmp (bare (S.slots store.old)) height id key }
+    ensures puts { IfOk result (PutsAt S.K.cmp S.Argument.is_summary (S.slots store.old) (S.slots store.new) height id key value) }
+    ensures refused { OnErr result (S.slots store.new ≡ S.slots store.old) }
+    ensures handed_back { IfErr result (λ pair. pair ≡ (key, value)) }
+{
     let inner = match id {
         NodeId::Leaf(leaf) => return split_leaf(store, leaf, key, value),
         NodeId::Inner(inner) => inner,
     };
-    let (place, child) = store.get_inner(inner).locate_child(&key);
+    let (place, child) = inner_at(store, inner).locate_child(&key);
     let Ok(room) = hold_beside(store, inner, child, height - 1, &key) else {
         return Err((key, value));
     };
