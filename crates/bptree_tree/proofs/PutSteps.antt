@@ -111,7 +111,7 @@ module _ {K V A : Type 0} {cmp : K → K → Ordering} (total : IsTotalOrder cmp
   child_reached = rw same_nodes (step_child (bare old) h k id node i can is leads child read)
 
   pub child_full : IsFullFor cmp (bare old) h (kind.Inner id) k → IsFullFor cmp (bare mid) (h - 1) child k
-  child_full full = rw same_nodes (λ leaf below. full leaf (step_leads (bare old) h k id node i can is leads child read leaf below))
+  child_full full = subst (λ (s : Slots (Inner K A) (Leaf K V)). IsFullFor cmp s (h - 1) child k) (sym same_nodes) (λ leaf below. full leaf (step_leads (bare old) h k id node i can is leads child read leaf below))
 
   splits_is : splits_at cmp (bare old) k h (kind.Inner id) ≡ (length node.keys == 64) && splits_at cmp (bare old) k (h - 1) child
   splits_is = splits_node total (bare old) k h id node i child (can_stands (bare old) h k (kind.Inner id) can) is place read
