@@ -9,6 +9,7 @@ pub mod Spans
 pub mod Spot
 pub mod Started
 pub mod Walk
+pub mod Ways
 pub mod LeafEdit
 pub mod Frame
 pub mod Fullness
@@ -21,3 +22,4 @@ pub mod Along
 pub mod LeafPlaces
 pub mod LeafCut
 pub mod PutSteps
+pub mod WholePut

@@ -147,7 +147,7 @@ each_counted P [] each = tt
 each_counted P (x ∷ xs) each =
     (each x (rw (eq-eqb x.0 x.0 refl) (omega arith)), each_counted P xs (λ l some. each l (omega (arith, some))))
 
-one_at : (a b : ℕ) → a ≡ b → ◌≡◌ {A = ℕ} (cond (eqb a b) 1 0) 1
+pub one_at : (a b : ℕ) → a ≡ b → ◌≡◌ {A = ℕ} (cond (eqb a b) 1 0) 1
 one_at a b e = rw (eq-eqb a b e) refl
 
 module _ {K V A : Type 0} (old new : Slots (Inner K A) (Leaf K V)) where

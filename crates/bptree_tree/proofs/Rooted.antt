@@ -70,7 +70,7 @@ module _ {K V A : Type 0} (cmp : K → K → Ordering) (is_summary : A → List 
   }
 
   -- a leaf that is reached is present
-  present_leaf : (h : ℕ) (root : NodeId) → IsWellShaped cmp is_summary slots h root → (n : ℕ) → 1 ≤ count_of (leaves_at slots h root) n → IsPresent (slots.leaf n)
+  pub present_leaf : (h : ℕ) (root : NodeId) → IsWellShaped cmp is_summary slots h root → (n : ℕ) → 1 ≤ count_of (leaves_at slots h root) n → IsPresent (slots.leaf n)
   present_leaf h root w n some = present_if_stands (slots.leaf n) (omega (arith, some, w.leaves n, count_leaves slots h root n))
 
   -- all of a tree's shape but its links

@@ -2,6 +2,7 @@
 ghost use Rattle.std.specs.Prelude.{◌≡◌, List, ◌∷◌, ◌++◌, []};
 ghost use Rattle.bptree_nodes.specs.declared.node_id.LeafNodeId.{LeafNodeId};
 ghost use Rattle.bptree_tree.specs.Leaves.{Stands, IsLeafFor, IsFirstLeaf, IsLastLeaf};
+ghost use Rattle.bptree_tree.specs.Path.{LeadsTo};
 ghost use Rattle.bptree_tree.specs.Shape.{leaves_at};
 
 use bptree_nodes::node_id::{LeafNodeId, NodeId};
@@ -15,7 +16,8 @@ pub fn find_leaf<S: NodeStore>(
     key: &S::K,
 ) -> LeafNodeId
     requires { Stands S.K.cmp (S.slots store.now) height id }
-    ensures { IsLeafFor S.K.cmp (S.slots store.now) height id key.now result }
+    ensures leaf { IsLeafFor S.K.cmp (S.slots store.now) height id key.now result }
+    ensures way { LeadsTo S.K.cmp (S.slots store.now) key.now height id result }
 {
     match id {
         NodeId::Leaf(leaf) => leaf,

@@ -1,16 +1,17 @@
 //! Insertion into a tree that stands in a store.
-ghost use Rattle.std.specs.Prelude.{◌≡◌, ◌+◌, ◌≤◌, IfOk, IfErr, OnErr, ℕ, List, false, length, is_some, ◌&&◌, ◌==◌, ◌∷◌, [], Some, take, drop, insert};
+ghost use Rattle.std.specs.Prelude.{◌≡◌, ◌+◌, ◌≤◌, ◌<◌, ◌^◌, IfOk, IfErr, OnErr, IfSome, ℕ, List, false, length, is_some, ◌&&◌, ◌==◌, ◌∷◌, [], Some, take, drop, insert};
 ghost use Rattle.bptree_nodes.specs.Contents.{IsAscending, below, has, put};
 ghost use Rattle.bptree_nodes.specs.Leaf.{split_place};
 ghost use Rattle.bptree_nodes.specs.Inner.{Inner};
 ghost use Rattle.bptree_nodes.specs.Slot.{IsPresent, Present};
 ghost use Rattle.bptree_tree.specs.Bare.{bare, IsShell, KeepsHeld, splits_at, is_full_node};
-ghost use Rattle.bptree_tree.specs.Change.{StartsAt, Takes, IsLeafSplit};
+ghost use Rattle.bptree_tree.specs.Change.{StartsAt, Takes, IsLeafSplit, Roots, Mends};
 ghost use Rattle.bptree_tree.specs.Edit.{CanReach};
 ghost use Rattle.bptree_tree.specs.Leaves.{Stands};
+ghost use Rattle.bptree_tree.specs.Path.{LeadsTo};
 ghost use Rattle.bptree_tree.specs.Puts.{IsFullFor, PutsAt};
-ghost use Rattle.bptree_tree.specs.Rooms.{Holds, HoldsIf, IsReadyIf, HasRoom, GivesBack, IsElsewhere, IsUsed, is_split};
-ghost use Rattle.bptree_tree.specs.Shape.{inner_arguments, inner_keys, inner_children, leaf_pairs};
+ghost use Rattle.bptree_tree.specs.Rooms.{Holds, HoldsIf, IsReady, IsReadyIf, HasRoom, GivesBack, IsElsewhere, IsUsed, is_split};
+ghost use Rattle.bptree_tree.specs.Shape.{inner_arguments, inner_keys, inner_children, leaf_pairs, leaf_next, pairs_at, IsWellShaped};
 
 use bptree_nodes::inner_node::InnerNode;
 use bptree_nodes::leaf_node::LeafNode;
@@ -85,6 +86,24 @@ fn hold_beside<S: NodeStore>(
     ensures refused { OnErr result (S.slots store.new ≡ S.slots store.old) }
 {
     if !inner_at(store, id).is_full() || !will_split(store, child, below, key) {
+        return Ok(None);
+    }
+    Ok(Some(hold_room(store)?))
+}
+
+// Holds a number for a new root, where the root will be split.
+fn hold_root<S: NodeStore>(
+    store: &mut S,
+    root: NodeId,
+    height: usize,
+    key: &S::K,
+) -> Result<Option<Room<S::K, S::Argument>>, AllocError>
+    requires { Stands S.K.cmp (bare (S.slots store.old)) height root }
+    ensures room { IfOk result (HoldsIf (S.slots store.old) (S.slots store.new)) }
+    ensures when { IfOk result (λ room. is_some room ≡ splits_at S.K.cmp (bare (S.slots store.old)) key.now height root) }
+    ensures refused { OnErr result (S.slots store.new ≡ S.slots store.old) }
+{
+    if !will_split(store, root, height, key) {
         return Ok(None);
     }
     Ok(Some(hold_room(store)?))
@@ -232,6 +251,84 @@ fn put_at<S: NodeStore>(
         Ok(Outcome::Done) => {
             give_back(store, room);
             Ok(Outcome::Done)
+        }
+        Err(pair) => {
+            give_back(store, room);
+            Err(pair)
+        }
+    }
+}
+
+// A new root above the old one and the node to its right.
+fn grow_root<S: NodeStore>(
+    store: &mut S,
+    room: Room<S::K, S::Argument>,
+    left: NodeId,
+    separator: S::K,
+    right: NodeId,
+) -> InnerNodeId
+    requires { IsReady (S.slots store.old) room }
+    ensures roots { Roots (bare (S.slots store.old)) (bare (S.slots store.new)) result left separator right }
+    ensures value { result ≡ room.id }
+    ensures updates { IsPresent ((S.slots store.new).inner result.0) }
+    ensures others { (n : ℕ) → (n ≡ result.0 → ⊥) → (S.slots store.new).inner n ≡ (S.slots store.old).inner n }
+    ensures leaves { (S.slots store.new).leaf ≡ (S.slots store.old).leaf }
+{
+    let Room { id, mut node } = room;
+    node.adopt(left, S::Argument::default());
+    node.push(separator, right, S::Argument::default());
+    store.put_back_inner(id, node);
+    id
+}
+
+// The leaf that stood behind a leaf names the new one between them.
+fn mend<S: NodeStore>(store: &mut S, leaf: LeafNodeId, next: Option<LeafNodeId>)
+    requires leaf { IsPresent ((S.slots store.old).leaf leaf.0) }
+    requires next { IfSome next (λ next. IsPresent ((S.slots store.old).leaf next.0)) }
+    ensures { (fresh : LeafNodeId) → leaf_next ((S.slots store.old).leaf leaf.0) ≡ Some fresh → Mends (S.slots store.old) (S.slots store.new) next fresh }
+{
+    let fresh = store.get_leaf(leaf).next();
+    if let Some(next) = next {
+        store.get_mut_leaf(next).set_prev(fresh);
+    }
+}
+
+/// Puts a pair with a new key into a whole tree, whose leaf for the key is full. It answers the root and the height.
+///
+/// It takes memory for one node on each level that is split, and for a clone of one key. Where some of it is refused,
+/// the pair comes back, and no slot of the store has changed.
+pub fn put_whole<S: NodeStore>(
+    store: &mut S,
+    root: NodeId,
+    height: usize,
+    leaf: LeafNodeId,
+    key: S::K,
+    value: S::V,
+) -> Result<(NodeId, usize), (S::K, S::V)>
+    requires every { (a : S.Argument) → (keys : List S.K) → S.Argument.is_summary a keys }
+    requires shape { IsWellShaped S.K.cmp S.Argument.is_summary (S.slots store.old) height root }
+    requires few { length (pairs_at (S.slots store.old) height root) < 2 ^ 64 }
+    requires way { LeadsTo S.K.cmp (S.slots store.old) key height root leaf }
+    requires full { length (leaf_pairs ((S.slots store.old).leaf leaf.0)) ≡ 64 }
+    requires absent { has S.K.cmp (leaf_pairs ((S.slots store.old).leaf leaf.0)) key ≡ false }
+    ensures put { IfOk result (λ top. IsWellShaped S.K.cmp S.Argument.is_summary (S.slots store.new) top.1 top.0 × (pairs_at (S.slots store.new) top.1 top.0 ≡ put S.K.cmp (pairs_at (S.slots store.old) height root) key value)) }
+    ensures refused { OnErr result (S.slots store.new ≡ S.slots store.old) }
+    ensures handed_back { IfErr result (λ pair. pair ≡ (key, value)) }
+{
+    let next = store.get_leaf(leaf).next();
+    let Ok(room) = hold_root(store, root, height, &key) else {
+        return Err((key, value));
+    };
+    match put_at(store, root, height, key, value) {
+        Ok(Outcome::Done) => {
+            give_back(store, room);
+            mend(store, leaf, next);
+            Ok((root, height))
+        }
+        Ok(Outcome::Split(separator, right)) => {
+            let id = grow_root(store, room.unwrap(), root, separator, right);
+            mend(store, leaf, next);
+            Ok((NodeId::Inner(id), height + 1))
         }
         Err(pair) => {
             give_back(store, room);
