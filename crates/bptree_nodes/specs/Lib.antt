@@ -1,3 +1,4 @@
+pub mod Clones
 pub mod Contents
 pub mod Keys
 pub mod Places
