@@ -41,14 +41,14 @@ pub trait NodeStore: Drop {
     fn inner_n() -> u16
         ensures { result ≡ 64 }
     {
-        64
+        InnerNode::<Self::K, Self::Argument>::max_capacity()
     }
 
     /// The greatest number of pairs of a leaf.
     fn leaf_n() -> u16
         ensures { result ≡ 64 }
     {
-        64
+        LeafNode::<Self::K, Self::V>::max_capacity()
     }
 
     /// A store with no node and no number held, which takes memory from `alloc` as it grows. It takes none now.
@@ -174,4 +174,19 @@ pub trait NodeStore: Drop {
     ghost with_leaf_updates: { (s : Self) (id : ℕ) (leaf : Leaf Self.K Self.V)
         → IsPresent ((slots s).leaf id)
         → UpdatesLeaf (slots s) (slots (with_leaf s id leaf)) id (Present leaf) };
+}
+
+/// A store that can be cloned.
+///
+/// A clone that succeeds has the same numbers present and held, and under each present number a clone of its node. The
+/// two share nothing.
+pub trait CloneStore: NodeStore + Clone
+where
+    Self::V: Clone,
+{
+    ghost use Rattle.bptree_nodes.specs.Clones.{IsInnerClone, IsLeafClone};
+    ghost use Rattle.bptree_stores.specs.Clones.{IsSlotsClone};
+
+    ghost clone_has_same_numbers: { (store copy : Self) → Self.is_clone store copy
+        → IsSlotsClone (IsInnerClone Self.K.is_clone Self.Argument.is_clone) (IsLeafClone Self.K.is_clone Self.V.is_clone) (Self.slots store) (Self.slots copy) };
 }
