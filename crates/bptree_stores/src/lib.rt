@@ -4,3 +4,5 @@
 pub mod node_store_vec;
 pub mod node_stores;
 pub mod place;
+#[cfg(test)]
+mod store_tests;
