@@ -194,9 +194,10 @@ impl<K: Key, V: Drop, A: Argument<K>> NodeStore for NodeStoreVec<K, V, A> {
 
     fn try_cache(&self, k: &K) -> Option<LeafNodeId> {
         let id = LeafNodeId::from_usize(self.cached_leaf.get());
-        match self.try_get_leaf(id) {
-            Some(leaf) => { if leaf.in_range(k) { Some(id) } else { None } }
-            None => None,
+        if self.try_get_leaf(id)?.in_range(k) {
+            Some(id)
+        } else {
+            None
         }
     }
 
