@@ -29,7 +29,9 @@ fn are_vacant<N>(places: &[Place<N>]) -> bool
 
 /// Nodes in two vectors of boxes, under their places. A released number is not given out again.
 ///
-/// A new number takes amortised constant time, and moves no node.
+/// A new number takes amortised constant time, and moves no node. `is_empty` looks at every number that was given out,
+/// and a clone copies every node; `try_cache` compares the key with at most two others. Each other call takes constant
+/// time. A store that is dropped drops each node that is present.
 #[derive(Drop)]
 pub struct NodeStoreVec<K: Key, V, A: Argument<K> = ()> {
     inner_nodes: Vec<Place<InnerNode<K, A>>>,
@@ -48,7 +50,7 @@ impl<K: Key, V: Drop, A: Argument<K>> NodeStoreVec<K, V, A> {
         NodeStoreVec::empty(alloc)
     }
 
-    /// The same, with room for so many numbers of each kind before it grows.
+    /// The same, with room for so many numbers of each kind before a vector grows.
     pub fn with_capacity(alloc: Global, capacity: usize) -> Result<Self, AllocError>
         ensures empty { IfOk result (λ store. IsEmpty (slots store)) }
         ensures room { IfOk result (HasRoomFor capacity) }
@@ -211,6 +213,7 @@ impl<K: Key, V: Clone, A: Argument<K>> Clone for NodeStoreVec<K, V, A> {
 
     ghost is_clone = { IsStoreClone K.is_clone V.is_clone A.is_clone };
 
+    /// A store of clones, which remembers the same hint. A refusal drops the clones made so far.
     fn clone(&self) -> Result<Self, AllocError> {
         Ok(NodeStoreVec {
             inner_nodes: self.inner_nodes.clone()?,

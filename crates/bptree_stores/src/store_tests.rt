@@ -57,6 +57,7 @@ fn value_at<S: NodeStore<K = u64, V = u64>>(store: &S, id: LeafNodeId, key: u64)
     leaf.locate_slot_with_value(&key).1.copied()
 }
 
+// Takes the number of a leaf through all its states.
 fn walk_leaf<S: NodeStore<K = u64, V = u64>>(
     rt: &impl Abort,
     store: &mut S,
@@ -80,6 +81,7 @@ fn walk_leaf<S: NodeStore<K = u64, V = u64>>(
     Ok(())
 }
 
+// An inner node of one key.
 fn node_over_two(alloc: Global, key: u64) -> Result<Box<InnerNode<u64, ()>>, AllocError> {
     let keys = vec![in alloc; key]?;
     let children = vec![in alloc; leaf_of(0), leaf_of(1)]?;
@@ -92,6 +94,7 @@ fn key_of<S: NodeStore<K = u64>>(store: &S, id: InnerNodeId) -> Option<u64> {
     store.try_get_inner(id)?.keys().first().copied()
 }
 
+// Takes the number of an inner node through all its states.
 fn walk_inner<S: NodeStore<K = u64, Argument = ()>>(
     rt: &impl Abort,
     store: &mut S,
@@ -128,6 +131,11 @@ fn write_in_place<S: NodeStore<K = u64, V = u64, Argument = ()>>(
     Ok(())
 }
 
+// The greatest sizes of the nodes of a store.
+fn sizes<S: NodeStore>() -> (u16, u16) {
+    (S::inner_n(), S::leaf_n())
+}
+
 #[test]
 fn walks_through_the_states_of_a_number(rt: HostRuntime) -> Result<(), Fail> {
     let mut store = NodeStoreVec::<u64, u64>::new(rt.alloc());
@@ -139,10 +147,6 @@ fn walks_through_the_states_of_a_number(rt: HostRuntime) -> Result<(), Fail> {
     write_in_place(&rt, &mut store)?;
     assert_eq!(rt; sizes::<NodeStoreVec<u64, u64>>(), (64, 64));
     Ok(())
-}
-
-fn sizes<S: NodeStore>() -> (u16, u16) {
-    (S::inner_n(), S::leaf_n())
 }
 
 // A leaf of 2, 4, .. 128 between two others.
@@ -162,6 +166,7 @@ fn hits<S: NodeStore<K = u64>>(store: &S, id: LeafNodeId) -> [bool; 4] {
     [0, 2, 128, 129].map(|key| store.try_cache(&key) == Some(id))
 }
 
+// Remembers a held number, a leaf with and without links, and the greatest number.
 fn hints<S: NodeStore<K = u64, V = u64>>(rt: &impl Abort, store: &mut S) -> Result<(), AllocError> {
     assert_eq!(rt; store.try_cache(&2), None);
     let leaf = even_leaf(store.allocator())?;
@@ -214,28 +219,29 @@ impl Key for CountedKey {
     ghost clone_is_equal = { Prim.search rules };
 }
 
+fn counted_key(counter: &Counted) -> Result<CountedKey, AllocError> {
+    Ok(CountedKey {
+        number: 1,
+        counted: counter.clone()?,
+    })
+}
+
+// A leaf of one pair, both of which count their drops.
 fn counted_leaf(
     alloc: Global,
     counter: &Counted,
 ) -> Result<Box<LeafNode<CountedKey, Counted>>, AllocError> {
-    let key = CountedKey {
-        number: 1,
-        counted: counter.clone()?,
-    };
     let mut leaf = LeafNode::new(alloc)?;
-    let _ = leaf.try_upsert(key, counter.clone()?);
+    let _ = leaf.try_upsert(counted_key(counter)?, counter.clone()?);
     Ok(leaf)
 }
 
+// An inner node whose one key counts its drop.
 fn counted_node(
     alloc: Global,
     counter: &Counted,
 ) -> Result<Box<InnerNode<CountedKey, ()>>, AllocError> {
-    let key = CountedKey {
-        number: 1,
-        counted: counter.clone()?,
-    };
-    let keys = vec![in alloc; key]?;
+    let keys = vec![in alloc; counted_key(counter)?]?;
     let children = vec![in alloc; leaf_of(0), leaf_of(1)]?;
     let arguments = vec![in alloc; (), ()]?;
     InnerNode::new(alloc, keys, children, arguments)
@@ -276,6 +282,7 @@ fn a_dropped_store_drops_each_of_its_nodes_once(rt: HostRuntime) -> Result<(), F
     Ok(())
 }
 
+// Puts a word into a leaf, where it stands.
 fn put_word<S: NodeStore<K = String, V = u64>>(
     store: &mut S,
     id: LeafNodeId,
