@@ -1,3 +1,4 @@
+pub mod Clones
 pub mod Contents
 pub mod Inner
 pub mod Keys

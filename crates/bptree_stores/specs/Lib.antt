@@ -1,3 +1,5 @@
+pub mod Clones
 pub mod Hint
 pub mod Place
+pub mod PlaceClones
 pub mod StoreVec

@@ -28,9 +28,9 @@ module _ {N : Type 0} where
   pub IsPresent-below : (places : List (Place N)) (i : ℕ) → IsPresent (slot_at places i) → i < length places
   IsPresent-below places i h =
       elim (cases_lt i (length places)) [
-        inl below ↦ below
-      | inr past ↦
-          absurd (let P : Place N → Type 0 = λ p. IsPresent (slot_of p) in subst P (get_or_past places i Vacant past) h)
+        | inl below ↦ below
+        | inr past ↦
+            absurd (let P : Place N → Type 0 = λ p. IsPresent (slot_of p) in subst P (get_or_past places i Vacant past) h)
       ]
 
   pub slot_at-set_same : (places : List (Place N)) (i : ℕ) (p : Place N) → i < length places → slot_at (slice_set places i p) i ≡ slot_of p

@@ -1,5 +1,5 @@
 -- What a store in vectors means, and that store with a node changed.
-use Rattle.std.specs.Prelude.{◌≡◌, ℕ, slice_index_or, refl}
+use Rattle.std.specs.Prelude.{◌≡◌, ◌≤◌, ℕ, slice_index_or, vec_capacity, refl}
 use Rattle.std.proofs.Common.{sym, ap, ◌∙◌}
 use Rattle.std.specs.Vec.{with_item}
 use Rattle.bptree_nodes.specs.Inner.{Inner}
@@ -14,6 +14,11 @@ module _ {K V A : Type 0} where
   abbrev pub slots : NodeStoreVec K V A → Slots (Inner K A) (Leaf K V)
   slots s = record { inner = slot_at s.inner_nodes.items; leaf = slot_at s.leaf_nodes.items }
 
+  -- so many numbers of each kind can be given out before a vector grows
+  pub record HasRoomFor (capacity : ℕ) (s : NodeStoreVec K V A) : Type 0 where
+    pub inner : capacity ≤ vec_capacity s.inner_nodes
+    pub leaf : capacity ≤ vec_capacity s.leaf_nodes
+
   abbrev pub vec_with_leaf : NodeStoreVec K V A → ℕ → Leaf K V → NodeStoreVec K V A
   vec_with_leaf s id leaf = record s { leaf_nodes = with_item s.leaf_nodes id (with_node (slice_index_or s.leaf_nodes.items id Vacant) leaf) }
 
@@ -23,7 +28,7 @@ module _ {K V A : Type 0} where
       let place = slice_index_or places id Vacant in
       record {
         leaf = rw (sym (slot_of-with_node place leaf present)) (Updates-set places id (with_node place leaf) (IsPresent-below places id present));
-        inner = refl
+        inner = refl;
       }
 
   -- the store with a leaf changed, as a write to the place at the number leaves it
@@ -41,7 +46,7 @@ module _ {K V A : Type 0} where
       let place = slice_index_or places id Vacant in
       record {
         inner = rw (sym (slot_of-with_node place node present)) (Updates-set places id (with_node place node) (IsPresent-below places id present));
-        leaf = refl
+        leaf = refl;
       }
 
   -- the store with an inner node changed, as a write to the place at the number leaves it

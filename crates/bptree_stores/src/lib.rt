@@ -3,4 +3,6 @@
 
 pub mod node_store_vec;
 pub mod node_stores;
-pub mod place;
+mod place;
+#[cfg(test)]
+mod store_tests;

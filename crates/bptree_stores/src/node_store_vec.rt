@@ -3,7 +3,7 @@ ghost use Rattle.std.specs.Prelude.{◌≡◌, ◌↔◌, ℕ, IsTrue, IfOk};
 ghost use Rattle.bptree_nodes.specs.Slot.{Free, IsEmpty};
 ghost use Rattle.bptree_stores.specs.Place.{slot_at};
 
-use crate::node_stores::NodeStore;
+use crate::node_stores::{CloneStore, NodeStore};
 use crate::place::Place;
 use bptree_arguments::argument::Argument;
 use bptree_nodes::inner_node::InnerNode;
@@ -29,7 +29,9 @@ fn are_vacant<N>(places: &[Place<N>]) -> bool
 
 /// Nodes in two vectors of boxes, under their places. A released number is not given out again.
 ///
-/// A new number takes amortised constant time, and moves no node.
+/// A new number takes amortised constant time, and moves no node. `is_empty` looks at every number that was given out,
+/// and a clone copies every node; `try_cache` compares the key with at most two others. Each other call takes constant
+/// time. A store that is dropped drops each node that is present.
 #[derive(Drop)]
 pub struct NodeStoreVec<K: Key, V, A: Argument<K> = ()> {
     inner_nodes: Vec<Place<InnerNode<K, A>>>,
@@ -39,7 +41,7 @@ pub struct NodeStoreVec<K: Key, V, A: Argument<K> = ()> {
 }
 
 impl<K: Key, V: Drop, A: Argument<K>> NodeStoreVec<K, V, A> {
-    ghost use Rattle.bptree_stores.specs.StoreVec.{slots};
+    ghost use Rattle.bptree_stores.specs.StoreVec.{slots, HasRoomFor};
 
     /// A store with no node and no number held. It takes no memory now.
     pub fn new(alloc: Global) -> Self
@@ -48,9 +50,10 @@ impl<K: Key, V: Drop, A: Argument<K>> NodeStoreVec<K, V, A> {
         NodeStoreVec::empty(alloc)
     }
 
-    /// The same, with room for so many numbers of each kind before it grows.
+    /// The same, with room for so many numbers of each kind before a vector grows.
     pub fn with_capacity(alloc: Global, capacity: usize) -> Result<Self, AllocError>
-        ensures { IfOk result (λ store. IsEmpty (slots store)) }
+        ensures empty { IfOk result (λ store. IsEmpty (slots store)) }
+        ensures room { IfOk result (HasRoomFor capacity) }
     {
         Ok(NodeStoreVec {
             inner_nodes: Vec::with_capacity(alloc, capacity)?,
@@ -95,10 +98,7 @@ impl<K: Key, V: Drop, A: Argument<K>> NodeStore for NodeStoreVec<K, V, A> {
         are_vacant(self.inner_nodes.as_slice()) && are_vacant(self.leaf_nodes.as_slice())
     }
 
-    fn add_inner(
-        &mut self,
-        node: Box<InnerNode<K, A>>,
-    ) -> Result<InnerNodeId, Box<InnerNode<K, A>>>
+    fn add_inner(&mut self, node: Box<InnerNode<K, A>>) -> Result<InnerNodeId, Box<InnerNode<K, A>>>
         ensures was_free { IfOk result (λ id. (slots self.old).inner id.0 ≡ Free) }
         ensures updates { IfOk result (λ id. UpdatesInner (slots self.old) (slots self.new) id.0 (Present node.value)) }
         ensures refused { OnErr result (slots self.new ≡ slots self.old) }
@@ -196,19 +196,36 @@ impl<K: Key, V: Drop, A: Argument<K>> NodeStore for NodeStoreVec<K, V, A> {
 
     fn try_cache(&self, k: &K) -> Option<LeafNodeId> {
         let id = LeafNodeId::from_usize(self.cached_leaf.get());
-        match self.try_get_leaf(id) {
-            Some(leaf) => {
-                if leaf.in_range(k) {
-                    Some(id)
-                } else {
-                    None
-                }
-            }
-            None => None,
+        if self.try_get_leaf(id)?.in_range(k) {
+            Some(id)
+        } else {
+            None
         }
     }
 
     ghost with_inner_updates = { vec_with_inner_updates };
 
     ghost with_leaf_updates = { vec_with_leaf_updates };
+}
+
+impl<K: Key, V: Clone, A: Argument<K>> Clone for NodeStoreVec<K, V, A> {
+    ghost use Rattle.bptree_stores.specs.PlaceClones.{IsStoreClone};
+
+    ghost is_clone = { IsStoreClone K.is_clone V.is_clone A.is_clone };
+
+    /// A store of clones, which remembers the same hint. A refusal drops the clones made so far.
+    fn clone(&self) -> Result<Self, AllocError> {
+        Ok(NodeStoreVec {
+            inner_nodes: self.inner_nodes.clone()?,
+            leaf_nodes: self.leaf_nodes.clone()?,
+            alloc: self.alloc,
+            cached_leaf: Cell::new(self.cached_leaf.get()),
+        })
+    }
+}
+
+impl<K: Key, V: Clone, A: Argument<K>> CloneStore for NodeStoreVec<K, V, A> {
+    ghost use Rattle.bptree_stores.specs.PlaceClones.{slots_of_clone};
+
+    ghost clone_has_same_numbers = { slots_of_clone K.is_clone V.is_clone A.is_clone };
 }

@@ -17,7 +17,8 @@ use std::alloc::{AllocError, Global};
 
 /// Inner nodes and leaves, each under a number. A number is free, held, or present with its node.
 ///
-/// A call changes what stands under the one number that it names or answers, and a refused call changes nothing.
+/// A call changes what stands under the one number that it names or answers. A call on `&self` and a refused call change
+/// nothing. Only the calls that answer a new number can be refused.
 pub trait NodeStore: Drop {
     /// The keys of the nodes.
     type K: Key;
@@ -41,21 +42,21 @@ pub trait NodeStore: Drop {
     fn inner_n() -> u16
         ensures { result ≡ 64 }
     {
-        64
+        InnerNode::<Self::K, Self::Argument>::max_capacity()
     }
 
     /// The greatest number of pairs of a leaf.
     fn leaf_n() -> u16
         ensures { result ≡ 64 }
     {
-        64
+        LeafNode::<Self::K, Self::V>::max_capacity()
     }
 
     /// A store with no node and no number held, which takes memory from `alloc` as it grows. It takes none now.
     fn empty(alloc: Global) -> Self
         ensures { IsEmpty (slots result) };
 
-    /// The allocator that the store was given.
+    /// The allocator that the store was given, for nodes to put into it.
     fn allocator(&self) -> Global;
 
     /// Whether no node is present and no number held.
@@ -72,13 +73,13 @@ pub trait NodeStore: Drop {
         ensures refused { OnErr result (slots self.new ≡ slots self.old) }
         ensures handed_back { IfErr result (λ back. back ≡ node) };
 
-    /// Holds a free number for an inner node.
+    /// Holds a free number for an inner node, so that `put_back_inner` can't be refused.
     fn reserve_inner(&mut self) -> Result<InnerNodeId, AllocError>
         ensures was_free { IfOk result (λ id. (slots self.old).inner id.0 ≡ Free) }
         ensures updates { IfOk result (λ id. UpdatesInner (slots self.old) (slots self.new) id.0 Held) }
         ensures refused { OnErr result (slots self.new ≡ slots self.old) };
 
-    /// Holds a free number for a leaf.
+    /// Holds a free number for a leaf, so that `assign_leaf` can't be refused.
     fn reserve_leaf(&mut self) -> Result<LeafNodeId, AllocError>
         ensures was_free { IfOk result (λ id. (slots self.old).leaf id.0 ≡ Free) }
         ensures updates { IfOk result (λ id. UpdatesLeaf (slots self.old) (slots self.new) id.0 Held) }
@@ -126,13 +127,13 @@ pub trait NodeStore: Drop {
     fn try_get_leaf(&self, id: LeafNodeId) -> Option<&LeafNode<Self::K, Self::V>>
         ensures { MatchOption result (¬ (IsPresent ((slots self.now).leaf id.0))) (λ leaf. (slots self.now).leaf id.0 ≡ Present leaf.now) };
 
-    /// Takes an inner node out. Its number is held.
+    /// Takes an inner node out. Its number is held, until the node is put back or the number released.
     fn take_inner(&mut self, id: InnerNodeId) -> Box<InnerNode<Self::K, Self::Argument>>
         requires { IsPresent ((slots self.old).inner id.0) }
         ensures value { (slots self.old).inner id.0 ≡ Present result.value }
         ensures updates { UpdatesInner (slots self.old) (slots self.new) id.0 Held };
 
-    /// Takes a leaf out. Its number is held.
+    /// Takes a leaf out. Its number is held, until a leaf is assigned to it or it is released.
     fn take_leaf(&mut self, id: LeafNodeId) -> Box<LeafNode<Self::K, Self::V>>
         requires { IsPresent ((slots self.old).leaf id.0) }
         ensures value { (slots self.old).leaf id.0 ≡ Present result.value }
@@ -148,20 +149,21 @@ pub trait NodeStore: Drop {
         requires { (slots self.old).leaf id.0 ≡ Held }
         ensures { UpdatesLeaf (slots self.old) (slots self.new) id.0 (Present leaf.value) };
 
-    /// Frees a held number of an inner node.
+    /// Frees a held number of an inner node. Whether it is given out again is the store's choice.
     fn release_inner(&mut self, id: InnerNodeId)
         requires { (slots self.old).inner id.0 ≡ Held }
         ensures { UpdatesInner (slots self.old) (slots self.new) id.0 Free };
 
-    /// Frees a held number of a leaf.
+    /// Frees a held number of a leaf. Whether it is given out again is the store's choice.
     fn release_leaf(&mut self, id: LeafNodeId)
         requires { (slots self.old).leaf id.0 ≡ Held }
         ensures { UpdatesLeaf (slots self.old) (slots self.new) id.0 Free };
 
-    /// Remembers a leaf as a hint, whether or not one is present under the number.
+    /// Remembers the number of a leaf as a hint. Any number will do, since `try_cache` trusts none.
     fn cache_leaf(&self, id: LeafNodeId);
 
-    /// The remembered leaf, where it is still present and no other leaf can hold the key.
+    /// The remembered leaf, where one is present under that number and no leaf beside it can hold the key. A store may
+    /// forget the number at any time.
     fn try_cache(&self, k: &Self::K) -> Option<LeafNodeId>
         ensures { IfSome result (λ id. HoldsKey Self.K.cmp ((slots self.now).leaf id.0) k.now) };
 
@@ -174,4 +176,18 @@ pub trait NodeStore: Drop {
     ghost with_leaf_updates: { (s : Self) (id : ℕ) (leaf : Leaf Self.K Self.V)
         → IsPresent ((slots s).leaf id)
         → UpdatesLeaf (slots s) (slots (with_leaf s id leaf)) id (Present leaf) };
+}
+
+/// A store that can be cloned.
+///
+/// A clone that succeeds has the same numbers present and held, and under each present number a clone of its node.
+pub trait CloneStore: NodeStore + Clone
+where
+    Self::V: Clone,
+{
+    ghost use Rattle.bptree_nodes.specs.Clones.{IsInnerClone, IsLeafClone};
+    ghost use Rattle.bptree_stores.specs.Clones.{IsSlotsClone};
+
+    ghost clone_has_same_numbers: { (store copy : Self) → Self.is_clone store copy
+        → IsSlotsClone (IsInnerClone Self.K.is_clone Self.Argument.is_clone) (IsLeafClone Self.K.is_clone Self.V.is_clone) (Self.slots store) (Self.slots copy) };
 }

@@ -5,6 +5,8 @@ ghost use Rattle.bptree_nodes.specs.Slot.{Slot, Present, IsPresent};
 ghost use Rattle.bptree_stores.specs.Place.{slot_of, with_node};
 ghost use Rattle.bptree_stores.specs.contracts.place.Place.{the_row};
 
+use std::alloc::AllocError;
+
 /// What stands under a number.
 #[derive(Drop)]
 pub enum Place<N> {
@@ -37,6 +39,20 @@ impl<N> Place<N> {
         match self {
             Place::Occupied(node) => node.as_mut(),
             _ => unreachable!(),
+        }
+    }
+}
+
+impl<N: Clone> Clone for Place<N> {
+    ghost use Rattle.bptree_stores.specs.PlaceClones.{IsPlaceClone};
+
+    ghost is_clone = { IsPlaceClone N.is_clone };
+
+    fn clone(&self) -> Result<Self, AllocError> {
+        match self {
+            Place::Vacant => Ok(Place::Vacant),
+            Place::Reserved => Ok(Place::Reserved),
+            Place::Occupied(node) => Ok(Place::Occupied(node.clone()?)),
         }
     }
 }

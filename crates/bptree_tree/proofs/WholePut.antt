@@ -7,7 +7,7 @@ use Rattle.std.proofs.lemmas.Bool.{cases_eq}
 use Rattle.bptree_nodes.specs.Contents.{has, put}
 use Rattle.bptree_nodes.specs.Inner.{Inner}
 use Rattle.bptree_nodes.specs.Leaf.{Leaf}
-use Rattle.bptree_nodes.specs.Slot.{Slot, Slots, Free, Held, Present, IsPresent}
+use Rattle.bptree_nodes.specs.Slot.{Slot, Slots, Free, Held, Present, IsPresent, UpdatesInner}
 use Rattle.bptree_nodes.specs.declared.node_id.InnerNodeId.{InnerNodeId}
 use Rattle.bptree_nodes.specs.declared.node_id.LeafNodeId.{LeafNodeId}
 use Rattle.bptree_nodes.specs.declared.node_id.NodeId.{NodeId}
@@ -17,11 +17,12 @@ use Rattle.bptree_tree.specs.Change.{Roots, Mends}
 use Rattle.bptree_tree.specs.Edit.{CanReach, Edits, LinksAt}
 use Rattle.bptree_tree.specs.Path.{LeadsTo}
 use Rattle.bptree_tree.specs.Puts.{IsFullFor, PutsAt}
-use Rattle.bptree_tree.specs.Rooms.{HoldsIf, IsReady, GivesBack, is_split}
-use Rattle.bptree_tree.specs.Shape.{leaf_pairs, leaf_next, pairs_at, leaves_at, IsWellShaped}
+use Rattle.bptree_tree.specs.Rooms.{Holds, HoldsIf, IsReady, GivesBack, is_split}
+use Rattle.bptree_tree.specs.Shape.{leaf_pairs, leaf_next, pairs_at, leaves_at, AreLinked, IsWellShaped}
 use Rattle.bptree_tree.specs.declared.insertion.Outcome.{Outcome}
 use Rattle.bptree_tree.specs.declared.insertion.Outcome.TheVariants.{Done, Split}
 use Rattle.bptree_tree.specs.declared.insertion.Room.{Room}
+use Rattle.bptree_tree.proofs.Bared.{present_bare, same_bare}
 use Rattle.bptree_tree.proofs.Hinted.{total-append, count_of, first_or, linked_next}
 use Rattle.bptree_tree.proofs.Mended.{one_at}
 use Rattle.bptree_tree.proofs.PutSteps.{bare_held}
@@ -102,7 +103,7 @@ module _ {K V A : Type 0} {cmp : K → K → Ordering} (total : IsTotalOrder cmp
           next_counted : (next : LeafNodeId) → leaf_next (old.leaf leaf.0) ≡ Some next → 1 ≤ count_of (leaves_at old h root) next.0
           next_counted next e =
               let order = whole_edits.order in
-              let links = subst (λ ids. Rattle.bptree_tree.specs.Shape.AreLinked old None ids None) order.was shape.linked in
+              let links = subst (λ ids. AreLinked old None ids None) order.was shape.linked in
               let first = sym (linked_next old None order.before leaf order.after None links) ∙ e in
               omega (arith, head_is order.after next first, ap (λ ids. count_of ids next.0) order.was, total-append (λ (l : LeafNodeId). cond (eqb l.0 next.0) 1 0) order.before (leaf ∷ order.after))
 
@@ -111,7 +112,7 @@ module _ {K V A : Type 0} {cmp : K → K → Ordering} (total : IsTotalOrder cmp
               elim (cases_eq next.0 leaf.0) [
                 | inl same ↦ rw same leaf_stands
                 | inr other ↦ (let here = present_leaf cmp is_summary old h root shape next.0 (next_counted next e) in
-                    rw leaves (Rattle.bptree_tree.proofs.Bared.present_bare (new.leaf next.0) (rw (whole_edits.untouched next.0 other here) here)))
+                    rw leaves (present_bare (new.leaf next.0) (rw (whole_edits.untouched next.0 other here) here)))
               ]
 
         pub next_there : (at : Slots (Inner K A) (Leaf K V)) → at.leaf ≡ new.leaf → (next : Option LeafNodeId) → leaf_next (old.leaf leaf.0) ≡ next → IfSome next (λ l. IsPresent (at.leaf l.0))
@@ -163,7 +164,7 @@ module _ {K V A : Type 0} {cmp : K → K → Ordering} (total : IsTotalOrder cmp
         has_root = split_is (Split s right) puts when
 
         module _ (r : Room K A) (there : room ≡ Some r) where
-          held_room : Rattle.bptree_tree.specs.Rooms.Holds old mid r
+          held_room : Holds old mid r
           held_room = subst (λ (x : Option (Room K A)). HoldsIf old mid x) there holds
 
           pub root_ready : IsReady new r
@@ -194,3 +195,16 @@ module _ {K V A : Type 0} {cmp : K → K → Ordering} (total : IsTotalOrder cmp
             whole_rises every =
                 (whole_split cmp is_summary (λ l. put cmp l k v) old (bare new) h root k leaf puts.fresh shape (λ n. bare_free (new.leaf n)) (λ n. bare_free (new.inner n)) grown final s right id (whole_edits (Split s right) puts) roots_grown mends_grown every,
                  split_pairs cmp is_summary (λ l. put cmp l k v) old (bare new) h root k leaf puts.fresh shape (λ n. bare_free (new.leaf n)) (λ n. bare_free (new.inner n)) grown final s right id (whole_edits (Split s right) puts) roots_grown mends_grown)
+
+-- a new root is put under a number that was held
+pub roots_of : {K V A : Type 0} (old new : Slots (Inner K A) (Leaf K V)) (id : InnerNodeId) (left : NodeId) (s : K) (right : NodeId) (now : Inner K A) → old.inner id.0 ≡ Held → UpdatesInner old new id.0 (Present now)
+    → now.keys ≡ s ∷ [] → now.children ≡ left ∷ right ∷ [] → length now.arguments ≡ 2 → Roots (bare old) (bare new) id left s right
+roots_of {K} {V} {A} old new id left s right now held put keys children arguments = record {
+  is = now;
+  absent = λ p. subst (λ (x : Slot (Inner K A)). IsPresent (bare_slot x)) held p;
+  sets = record { changed = ap bare_slot put.inner.changed; others = λ n ne. ap bare_slot (put.inner.others n ne) };
+  leaf = same_bare old.leaf new.leaf put.leaf;
+  keys = keys;
+  children = children;
+  arguments = arguments;
+}

@@ -1,46 +1,75 @@
-use Rattle.std.proofs.Common.{rules, ◌≡◌, ◌+◌, ◌≤◌, ◌<◌, ◌^◌, IfOk, IfErr, OnErr, IfSome, ℕ, List, false, length, is_some, ◌&&◌, ◌==◌, ◌∷◌, [], Some, take, drop, insert, ◌-◌, ◌*◌, ◌/◌, ◌%◌, Bool, true, nat_eq, nat_lt, ◌++◌, slice_index_or, slice_set, bit_and, bit_or, Fits, w8, w32, w64, Bor, MutBor}
-use Rattle.bptree_nodes.specs.Contents.{IsAscending, below, has, put}
-use Rattle.bptree_nodes.specs.Leaf.{split_place}
-use Rattle.bptree_nodes.specs.Inner.{Inner}
-use Rattle.bptree_nodes.specs.Slot.{IsPresent, Present}
-use Rattle.bptree_tree.specs.Bare.{bare, IsShell, KeepsHeld, splits_at, is_full_node}
-use Rattle.bptree_tree.specs.Change.{StartsAt, Takes, IsLeafSplit, Roots, Mends}
-use Rattle.bptree_tree.specs.Edit.{CanReach}
+use Rattle.std.proofs.Common.{◌≡◌, ◌∙◌, sym, arith, ◌+◌, ◌<◌}
+use Rattle.bptree_tree.specs.Bare.{bare}
 use Rattle.bptree_tree.specs.Leaves.{Stands}
-use Rattle.bptree_tree.specs.Path.{LeadsTo}
-use Rattle.bptree_tree.specs.Puts.{IsFullFor, PutsAt}
-use Rattle.bptree_tree.specs.Rooms.{Holds, HoldsIf, IsReady, IsReadyIf, HasRoom, GivesBack, IsElsewhere, IsUsed, is_split}
-use Rattle.bptree_tree.specs.Shape.{inner_arguments, inner_keys, inner_children, leaf_pairs, leaf_next, pairs_at, IsWellShaped}
+use Rattle.bptree_tree.specs.declared.insertion.Outcome.TheVariants.{Done, Split}
+use Rattle.bptree_tree.proofs.Along.{can_stands}
+use Rattle.bptree_tree.proofs.Rooted.{low_tree, reach_of}
+use Rattle.bptree_tree.proofs.WholePut.{bare_whole, whole_reach, whole_full, next_seen, next_there, leaves_given, whole_stays, whole_rises}
 use Rattle.bptree_tree.proofs.insertion.put_whole.Goals as goal
 
--- src/insertion.rt:319:20
 pub hold_root-requires : goal.hold_root-requires
-hold_root-requires g c = ?
+hold_root-requires g c =
+    let cmp = g.S.K.Ord.cmp in
+    let sum = g.S.Argument.Argument.is_summary in
+    let old = g.S.NodeStore.slots c.args.store.now in
+    rw (bare_whole g.met.S.K.Ord.total sum old old c.args.height c.args.root c.args.key c.args.leaf c.requires.shape)
+    (can_stands old c.args.height c.args.key c.args.root (reach_of cmp sum old c.args.height c.args.root c.args.key c.requires.shape))
 
--- src/insertion.rt:322:11
 pub put_at-requires-clause-reach : goal.put_at-requires-clause-reach
-put_at-requires-clause-reach g c = ?
+put_at-requires-clause-reach g c =
+    let old = g.S.NodeStore.slots c.args.store.now in
+    let mid = g.S.NodeStore.slots c.hold_root.new.store in
+    whole_reach g.met.S.K.Ord.total g.S.Argument.Argument.is_summary old mid c.args.height c.args.root c.args.key c.args.leaf c.requires.shape c.in-Ok.room c.in-Ok.ensures.room
 
--- src/insertion.rt:322:11
 pub put_at-requires-clause-full : goal.put_at-requires-clause-full
-put_at-requires-clause-full g c = ?
+put_at-requires-clause-full g c =
+    let old = g.S.NodeStore.slots c.args.store.now in
+    let mid = g.S.NodeStore.slots c.hold_root.new.store in
+    whole_full g.met.S.K.Ord.total g.S.Argument.Argument.is_summary old mid c.args.height c.args.root c.args.key c.args.leaf c.requires.shape c.in-Ok.room c.in-Ok.ensures.room c.requires.way c.requires.full c.requires.absent
 
--- src/insertion.rt:325:13
 pub mend-requires-clause-next : goal.mend-requires-clause-next
-mend-requires-clause-next g c = ?
+mend-requires-clause-next g c =
+    let old = g.S.NodeStore.slots c.args.store.now in
+    let mid = g.S.NodeStore.slots c.hold_root.new.store in
+    let new = g.S.NodeStore.slots c.put_at.new.store in
+    let puts = rw c.in-Ok-Done.field-0-is at c.in-Ok-Done.ensures.puts in
+    let next = next_seen (old.leaf c.args.leaf.0) c.get_leaf.result.now c.get_leaf.ensures ∙ sym c.next-next.ensures in
+    let given = g.S.NodeStore.slots c.give_back.new.store in
+    next_there g.met.S.K.Ord.total g.S.Argument.Argument.is_summary old mid c.args.height c.args.root c.args.key c.args.leaf c.requires.shape c.in-Ok.room c.in-Ok.ensures.room c.requires.way c.args.value new Done puts given (leaves_given g.met.S.K.Ord.total g.S.Argument.Argument.is_summary old mid c.args.height c.args.root c.args.key c.args.leaf c.requires.shape c.in-Ok.room c.in-Ok.ensures.room c.requires.way c.args.value new puts c.in-Ok.ensures.when given given c.give_back.ensures c.next-next.result next ?) c.next-next.result next
 
--- src/insertion.rt:330:13
 pub mend-requires-in-Ok-Split-clause-next : goal.mend-requires-in-Ok-Split-clause-next
-mend-requires-in-Ok-Split-clause-next g c = ?
+mend-requires-in-Ok-Split-clause-next g c =
+    let old = g.S.NodeStore.slots c.args.store.now in
+    let mid = g.S.NodeStore.slots c.hold_root.new.store in
+    let new = g.S.NodeStore.slots c.put_at.new.store in
+    let puts = rw c.in-Ok-Split.field-0-is at c.in-Ok-Split.ensures.puts in
+    let next = next_seen (old.leaf c.args.leaf.0) c.get_leaf.result.now c.get_leaf.ensures ∙ sym c.next-next.ensures in
+    let r = c.unwrap.result in
+    let grown = g.S.NodeStore.slots c.grow_root-id.new.store in
+    next_there g.met.S.K.Ord.total g.S.Argument.Argument.is_summary old mid c.args.height c.args.root c.args.key c.args.leaf c.requires.shape c.in-Ok.room c.in-Ok.ensures.room c.requires.way c.args.value new (Split c.in-Ok-Split.separator c.in-Ok-Split.right) puts grown c.grow_root-id.ensures.leaves c.next-next.result next
 
--- src/insertion.rt:331:36
 pub overflow_add-result : goal.overflow_add-result
-overflow_add-result g c = ?
+overflow_add-result g c =
+    let low = low_tree g.S.K.Ord.cmp g.S.Argument.Argument.is_summary (g.S.NodeStore.slots c.args.store.now) c.args.height c.args.root c.requires.shape c.requires.few in
+    omega (arith, low)
 
--- src/insertion.rt:300:1
 pub returns-in-Ok-Done-clause-put : goal.returns-in-Ok-Done-clause-put
-returns-in-Ok-Done-clause-put g c = ?
+returns-in-Ok-Done-clause-put g c =
+    let old = g.S.NodeStore.slots c.args.store.now in
+    let mid = g.S.NodeStore.slots c.hold_root.new.store in
+    let new = g.S.NodeStore.slots c.put_at.new.store in
+    let puts = rw c.in-Ok-Done.field-0-is at c.in-Ok-Done.ensures.puts in
+    let next = next_seen (old.leaf c.args.leaf.0) c.get_leaf.result.now c.get_leaf.ensures ∙ sym c.next-next.ensures in
+    whole_stays g.met.S.K.Ord.total g.S.Argument.Argument.is_summary old mid c.args.height c.args.root c.args.key c.args.leaf c.requires.shape c.in-Ok.room c.in-Ok.ensures.room c.requires.way c.args.value new puts c.in-Ok.ensures.when (g.S.NodeStore.slots c.give_back.new.store) (g.S.NodeStore.slots c.mend.new.store) c.give_back.ensures c.next-next.result next c.mend.ensures
 
--- src/insertion.rt:300:1
 pub returns-in-Ok-Split-clause-put : goal.returns-in-Ok-Split-clause-put
-returns-in-Ok-Split-clause-put g c = ?
+returns-in-Ok-Split-clause-put g c =
+    let old = g.S.NodeStore.slots c.args.store.now in
+    let mid = g.S.NodeStore.slots c.hold_root.new.store in
+    let new = g.S.NodeStore.slots c.put_at.new.store in
+    let puts = rw c.in-Ok-Split.field-0-is at c.in-Ok-Split.ensures.puts in
+    let next = next_seen (old.leaf c.args.leaf.0) c.get_leaf.result.now c.get_leaf.ensures ∙ sym c.next-next.ensures in
+    let r = c.unwrap.result in
+    let root = c.grow_root-id.ensures in
+    whole_rises g.met.S.K.Ord.total g.S.Argument.Argument.is_summary old mid c.args.height c.args.root c.args.key c.args.leaf c.requires.shape c.in-Ok.room c.in-Ok.ensures.room c.requires.way c.args.value new c.in-Ok-Split.separator c.in-Ok-Split.right puts c.in-Ok.ensures.when r ? (g.S.NodeStore.slots c.grow_root-id.new.store) (g.S.NodeStore.slots c.mend-in-Ok-Split.new.store) c.grow_root-id.result root.value root.roots root.updates root.others root.leaves
+      c.next-next.result next c.mend-in-Ok-Split.ensures c.requires.every
