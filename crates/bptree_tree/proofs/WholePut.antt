@@ -119,82 +119,85 @@ module _ {K V A : Type 0} {cmp : K → K → Ordering} (total : IsTotalOrder cmp
         next_there at leaves None is = tt
         next_there at leaves (Some next) is = next_stands at leaves next is
 
-      split_is : (outcome : Outcome K) → PutsAt cmp is_summary mid new h root k v outcome → is_some room ≡ splits_at cmp (bare old) k h root → is_some room ≡ is_split outcome
-      split_is outcome puts when = when ∙ (ap (λ (x : Slots (Inner K A) (Leaf K V)). splits_at cmp x k h root) (bare_whole ∙ sym bare_ready) ∙ sym puts.split)
+      module _ (v : V) (new : Slots (Inner K A) (Leaf K V)) where
+        split_is : (outcome : Outcome K) → PutsAt cmp is_summary mid new h root k v outcome → is_some room ≡ splits_at cmp (bare old) k h root → is_some room ≡ is_split outcome
+        split_is outcome puts when = when ∙ (ap (λ (x : Slots (Inner K A) (Leaf K V)). splits_at cmp x k h root) (bare_whole ∙ sym bare_ready) ∙ sym puts.split)
 
-      -- the root stands as before
-      module _ (puts : PutsAt cmp is_summary mid new h root k v Done) (when : is_some room ≡ splits_at cmp (bare old) k h root) (given final : Slots (Inner K A) (Leaf K V)) (gives : GivesBack new given room)
-          (next : Option LeafNodeId) (is : leaf_next (old.leaf leaf.0) ≡ next) (mends : (fresh : LeafNodeId) → leaf_next (given.leaf leaf.0) ≡ Some fresh → Mends given final next fresh) where
-        no_room : (r : Option (Room K A)) → is_some r ≡ false → HoldsIf old mid r → GivesBack new given r → (mid ≡ old) × (given ≡ new)
-        no_room None w holds gives = (holds, gives)
-        no_room (Some r) w holds gives = absurd (true≢false w)
+        -- the root stands as before
+        module _ (puts : PutsAt cmp is_summary mid new h root k v Done) (when : is_some room ≡ splits_at cmp (bare old) k h root) (given : Slots (Inner K A) (Leaf K V)) (gives : GivesBack new given room) where
+          no_room : (r : Option (Room K A)) → is_some r ≡ false → HoldsIf old mid r → GivesBack new given r → (mid ≡ old) × (given ≡ new)
+          no_room None w holds gives = (holds, gives)
+          no_room (Some r) w holds gives = absurd (true≢false w)
 
-        same : (mid ≡ old) × (given ≡ new)
-        same = no_room room (split_is Done puts when) holds gives
+          same : (mid ≡ old) × (given ≡ new)
+          same = no_room room (split_is Done puts when) holds gives
 
-        held : KeepsHeld old new
-        held = subst (λ (s : Slots (Inner K A) (Leaf K V)). KeepsHeld s new) same.0 puts.held
+          held : KeepsHeld old new
+          held = subst (λ (s : Slots (Inner K A) (Leaf K V)). KeepsHeld s new) same.0 puts.held
 
-        no_leaf : (n : ℕ) → new.leaf n ≡ Held → ⊥
-        no_leaf n e = shape.no_leaf_held n (held.leaf_only n e)
+          no_leaf : (n : ℕ) → new.leaf n ≡ Held → ⊥
+          no_leaf n e = shape.no_leaf_held n (held.leaf_only n e)
 
-        no_inner : (n : ℕ) → new.inner n ≡ Held → ⊥
-        no_inner n e = shape.no_inner_held n (held.inner_only n e)
+          no_inner : (n : ℕ) → new.inner n ≡ Held → ⊥
+          no_inner n e = shape.no_inner_held n (held.inner_only n e)
 
-        edits_done : Edits cmp is_summary (λ l. put cmp l k v) 0 old new h root k leaf (puts.fresh ∷ []) Done
-        edits_done = subst (λ (s : Slots (Inner K A) (Leaf K V)). Edits cmp is_summary (λ l. put cmp l k v) 0 old s h root k leaf (puts.fresh ∷ []) Done) (bare_same new no_inner no_leaf) (whole_edits Done puts)
+          edits_done : Edits cmp is_summary (λ l. put cmp l k v) 0 old new h root k leaf (puts.fresh ∷ []) Done
+          edits_done = subst (λ (s : Slots (Inner K A) (Leaf K V)). Edits cmp is_summary (λ l. put cmp l k v) 0 old s h root k leaf (puts.fresh ∷ []) Done) (bare_same new no_inner no_leaf) (whole_edits v new Done puts)
 
-        mends_done : Mends new final (leaf_next (old.leaf leaf.0)) puts.fresh
-        mends_done =
-            rw is
-            (subst (λ (s : Slots (Inner K A) (Leaf K V)). Mends s final next puts.fresh) same.1
-            (mends puts.fresh (fresh_behind Done puts given (ap (λ (s : Slots (Inner K A) (Leaf K V)). s.leaf) same.1))))
+          pub leaves_given : given.leaf ≡ new.leaf
+          leaves_given = ap (λ (s : Slots (Inner K A) (Leaf K V)). s.leaf) same.1
 
-        pub whole_stays : IsWellShaped cmp is_summary final h root × (pairs_at final h root ≡ put cmp (pairs_at old h root) k v)
-        whole_stays =
-            (whole_grown cmp is_summary (λ l. put cmp l k v) old new h root k leaf puts.fresh shape no_leaf no_inner final edits_done mends_done,
-             grown_pairs cmp is_summary (λ l. put cmp l k v) old new h root k leaf puts.fresh shape no_leaf no_inner final edits_done mends_done)
+          module _ (final : Slots (Inner K A) (Leaf K V)) (next : Option LeafNodeId) (is : leaf_next (old.leaf leaf.0) ≡ next) (mends : (fresh : LeafNodeId) → leaf_next (given.leaf leaf.0) ≡ Some fresh → Mends given final next fresh) where
+            mends_done : Mends new final (leaf_next (old.leaf leaf.0)) puts.fresh
+            mends_done =
+                rw is
+                (subst (λ (s : Slots (Inner K A) (Leaf K V)). Mends s final next puts.fresh) same.1
+                (mends puts.fresh (fresh_behind v new Done puts given (ap (λ (s : Slots (Inner K A) (Leaf K V)). s.leaf) same.1))))
 
-        pub leaves_given : given.leaf ≡ new.leaf
-        leaves_given = ap (λ (s : Slots (Inner K A) (Leaf K V)). s.leaf) same.1
+            pub whole_stays : IsWellShaped cmp is_summary final h root × (pairs_at final h root ≡ put cmp (pairs_at old h root) k v)
+            whole_stays =
+                (whole_grown cmp is_summary (λ l. put cmp l k v) old new h root k leaf puts.fresh shape no_leaf no_inner final edits_done mends_done,
+                 grown_pairs cmp is_summary (λ l. put cmp l k v) old new h root k leaf puts.fresh shape no_leaf no_inner final edits_done mends_done)
 
-      -- a new root stands above
-      module _ (s : K) (right : NodeId) (puts : PutsAt cmp is_summary mid new h root k v (Split s right)) (when : is_some room ≡ splits_at cmp (bare old) k h root) where
-        pub has_root : is_some room ≡ true
-        has_root = split_is (Split s right) puts when
+        -- a new root stands above
+        module _ (s : K) (right : NodeId) (puts : PutsAt cmp is_summary mid new h root k v (Split s right)) (when : is_some room ≡ splits_at cmp (bare old) k h root) where
+          pub has_root : is_some room ≡ true
+          has_root = split_is (Split s right) puts when
 
-        module _ (r : Room K A) (there : room ≡ Some r) where
-          held_room : Holds old mid r
-          held_room = subst (λ (x : Option (Room K A)). HoldsIf old mid x) there holds
+          module _ (r : Room K A) (there : room ≡ Some r) where
+            held_room : Holds old mid r
+            held_room = subst (λ (x : Option (Room K A)). HoldsIf old mid x) there holds
 
-          pub root_ready : IsReady new r
-          root_ready = record { held = puts.held.inner_kept r.id.0 held_room.now.inner.changed; shell = held_room.shell }
+            pub root_ready : IsReady new r
+            root_ready = record { held = puts.held.inner_kept r.id.0 held_room.now.inner.changed; shell = held_room.shell }
 
-          module _ (grown final : Slots (Inner K A) (Leaf K V)) (id : InnerNodeId) (number : id ≡ r.id) (roots : Roots (bare new) (bare grown) id root s right) (stands : IsPresent (grown.inner id.0))
-              (others : (n : ℕ) → (n ≡ id.0 → ⊥) → grown.inner n ≡ new.inner n) (leaves : grown.leaf ≡ new.leaf)
-              (next : Option LeafNodeId) (is : leaf_next (old.leaf leaf.0) ≡ next) (mends : (fresh : LeafNodeId) → leaf_next (grown.leaf leaf.0) ≡ Some fresh → Mends grown final next fresh) where
-            no_leaf_then : (n : ℕ) → grown.leaf n ≡ Held → ⊥
-            no_leaf_then n e =
-                shape.no_leaf_held n
-                (ap (λ (f : ℕ → Slot (Leaf K V)). f n) (sym held_room.now.leaf) ∙ puts.held.leaf_only n (ap (λ (f : ℕ → Slot (Leaf K V)). f n) (sym leaves) ∙ e))
+            module _ (grown final : Slots (Inner K A) (Leaf K V)) (id : InnerNodeId) (number : id ≡ r.id) (roots : Roots (bare new) (bare grown) id root s right) (stands : IsPresent (grown.inner id.0))
+                (others : (n : ℕ) → (n ≡ id.0 → ⊥) → grown.inner n ≡ new.inner n) (leaves : grown.leaf ≡ new.leaf)
+                (next : Option LeafNodeId) (is : leaf_next (old.leaf leaf.0) ≡ next) (mends : (fresh : LeafNodeId) → leaf_next (grown.leaf leaf.0) ≡ Some fresh → Mends grown final next fresh) where
+              no_leaf_then : (n : ℕ) → grown.leaf n ≡ Held → ⊥
+              no_leaf_then n e =
+                  shape.no_leaf_held n
+                  (ap (λ (f : ℕ → Slot (Leaf K V)). f n) (sym held_room.now.leaf) ∙ puts.held.leaf_only n (ap (λ (f : ℕ → Slot (Leaf K V)). f n) (sym leaves) ∙ e))
 
-            no_inner_then : (n : ℕ) → grown.inner n ≡ Held → ⊥
-            no_inner_then n e =
-                elim (cases_eq n id.0) [
-                  | inl here ↦ subst (λ (x : Slot (Inner K A)). IsPresent x) (ap grown.inner (sym here) ∙ e) stands
-                  | inr other ↦ shape.no_inner_held n (sym (held_room.now.inner.others n (λ q. other (q ∙ ap (λ (x : InnerNodeId). x.0) (sym number)))) ∙ puts.held.inner_only n (sym (others n other) ∙ e))
-                ]
+              no_inner_then : (n : ℕ) → grown.inner n ≡ Held → ⊥
+              no_inner_then n e =
+                  elim (cases_eq n id.0) [
+                    | inl here ↦ subst (λ (x : Slot (Inner K A)). IsPresent x) (ap grown.inner (sym here) ∙ e) stands
+                    | inr other ↦ shape.no_inner_held n (sym (held_room.now.inner.others n (λ q. other (q ∙ ap (λ (x : InnerNodeId). x.0) (sym number)))) ∙ puts.held.inner_only n (sym (others n other) ∙ e))
+                  ]
 
-            roots_grown : Roots (bare new) grown id root s right
-            roots_grown = subst (λ (x : Slots (Inner K A) (Leaf K V)). Roots (bare new) x id root s right) (bare_same grown no_inner_then no_leaf_then) roots
+              roots_grown : Roots (bare new) grown id root s right
+              roots_grown = subst (λ (x : Slots (Inner K A) (Leaf K V)). Roots (bare new) x id root s right) (bare_same grown no_inner_then no_leaf_then) roots
 
-            mends_grown : Mends grown final (leaf_next (old.leaf leaf.0)) puts.fresh
-            mends_grown = rw is (mends puts.fresh (fresh_behind (Split s right) puts grown leaves))
+              mends_grown : Mends grown final (leaf_next (old.leaf leaf.0)) puts.fresh
+              mends_grown = rw is (mends puts.fresh (fresh_behind v new (Split s right) puts grown leaves))
 
-            pub whole_rises : ((a : A) (keys : List K) → is_summary a keys) → IsWellShaped cmp is_summary final (suc h) (kind.Inner id) × (pairs_at final (suc h) (kind.Inner id) ≡ put cmp (pairs_at old h root) k v)
-            whole_rises every =
-                (whole_split cmp is_summary (λ l. put cmp l k v) old (bare new) h root k leaf puts.fresh shape (λ n. bare_free (new.leaf n)) (λ n. bare_free (new.inner n)) grown final s right id (whole_edits (Split s right) puts) roots_grown mends_grown every,
-                 split_pairs cmp is_summary (λ l. put cmp l k v) old (bare new) h root k leaf puts.fresh shape (λ n. bare_free (new.leaf n)) (λ n. bare_free (new.inner n)) grown final s right id (whole_edits (Split s right) puts) roots_grown mends_grown)
+              pub whole_rises : ((a : A) (keys : List K) → is_summary a keys) → IsWellShaped cmp is_summary final (h + 1) (kind.Inner id) × (pairs_at final (h + 1) (kind.Inner id) ≡ put cmp (pairs_at old h root) k v)
+              whole_rises every =
+                  let up : suc h ≡ h + 1 = omega arith in
+                  subst (λ n. IsWellShaped cmp is_summary final n (kind.Inner id) × (pairs_at final n (kind.Inner id) ≡ put cmp (pairs_at old h root) k v)) up
+                  (whole_split cmp is_summary (λ l. put cmp l k v) old (bare new) h root k leaf puts.fresh shape (λ n. bare_free (new.leaf n)) (λ n. bare_free (new.inner n)) grown final s right id (whole_edits v new (Split s right) puts) roots_grown mends_grown every,
+                   split_pairs cmp is_summary (λ l. put cmp l k v) old (bare new) h root k leaf puts.fresh shape (λ n. bare_free (new.leaf n)) (λ n. bare_free (new.inner n)) grown final s right id (whole_edits v new (Split s right) puts) roots_grown mends_grown)
 
 -- a new root is put under a number that was held
 pub roots_of : {K V A : Type 0} (old new : Slots (Inner K A) (Leaf K V)) (id : InnerNodeId) (left : NodeId) (s : K) (right : NodeId) (now : Inner K A) → old.inner id.0 ≡ Held → UpdatesInner old new id.0 (Present now)

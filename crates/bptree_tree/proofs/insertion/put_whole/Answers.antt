@@ -35,7 +35,7 @@ mend-requires-clause-next g c =
     let puts = rw c.in-Ok-Done.field-0-is at c.in-Ok-Done.ensures.puts in
     let next = next_seen (old.leaf c.args.leaf.0) c.get_leaf.result.now c.get_leaf.ensures ∙ sym c.next-next.ensures in
     let given = g.S.NodeStore.slots c.give_back.new.store in
-    next_there g.met.S.K.Ord.total g.S.Argument.Argument.is_summary old mid c.args.height c.args.root c.args.key c.args.leaf c.requires.shape c.in-Ok.room c.in-Ok.ensures.room c.requires.way c.args.value new Done puts given (leaves_given g.met.S.K.Ord.total g.S.Argument.Argument.is_summary old mid c.args.height c.args.root c.args.key c.args.leaf c.requires.shape c.in-Ok.room c.in-Ok.ensures.room c.requires.way c.args.value new puts c.in-Ok.ensures.when given given c.give_back.ensures c.next-next.result next ?) c.next-next.result next
+    next_there g.met.S.K.Ord.total g.S.Argument.Argument.is_summary old mid c.args.height c.args.root c.args.key c.args.leaf c.requires.shape c.in-Ok.room c.in-Ok.ensures.room c.requires.way c.args.value new Done puts given (leaves_given g.met.S.K.Ord.total g.S.Argument.Argument.is_summary old mid c.args.height c.args.root c.args.key c.args.leaf c.requires.shape c.in-Ok.room c.in-Ok.ensures.room c.requires.way c.args.value new puts c.in-Ok.ensures.when given c.give_back.ensures) c.next-next.result next
 
 pub mend-requires-in-Ok-Split-clause-next : goal.mend-requires-in-Ok-Split-clause-next
 mend-requires-in-Ok-Split-clause-next g c =
@@ -60,7 +60,7 @@ returns-in-Ok-Done-clause-put g c =
     let new = g.S.NodeStore.slots c.put_at.new.store in
     let puts = rw c.in-Ok-Done.field-0-is at c.in-Ok-Done.ensures.puts in
     let next = next_seen (old.leaf c.args.leaf.0) c.get_leaf.result.now c.get_leaf.ensures ∙ sym c.next-next.ensures in
-    whole_stays g.met.S.K.Ord.total g.S.Argument.Argument.is_summary old mid c.args.height c.args.root c.args.key c.args.leaf c.requires.shape c.in-Ok.room c.in-Ok.ensures.room c.requires.way c.args.value new puts c.in-Ok.ensures.when (g.S.NodeStore.slots c.give_back.new.store) (g.S.NodeStore.slots c.mend.new.store) c.give_back.ensures c.next-next.result next c.mend.ensures
+    whole_stays g.met.S.K.Ord.total g.S.Argument.Argument.is_summary old mid c.args.height c.args.root c.args.key c.args.leaf c.requires.shape c.in-Ok.room c.in-Ok.ensures.room c.requires.way c.args.value new puts c.in-Ok.ensures.when (g.S.NodeStore.slots c.give_back.new.store) c.give_back.ensures (g.S.NodeStore.slots c.mend.new.store) c.next-next.result next c.mend.ensures
 
 pub returns-in-Ok-Split-clause-put : goal.returns-in-Ok-Split-clause-put
 returns-in-Ok-Split-clause-put g c =
@@ -71,5 +71,5 @@ returns-in-Ok-Split-clause-put g c =
     let next = next_seen (old.leaf c.args.leaf.0) c.get_leaf.result.now c.get_leaf.ensures ∙ sym c.next-next.ensures in
     let r = c.unwrap.result in
     let root = c.grow_root-id.ensures in
-    whole_rises g.met.S.K.Ord.total g.S.Argument.Argument.is_summary old mid c.args.height c.args.root c.args.key c.args.leaf c.requires.shape c.in-Ok.room c.in-Ok.ensures.room c.requires.way c.args.value new c.in-Ok-Split.separator c.in-Ok-Split.right puts c.in-Ok.ensures.when r ? (g.S.NodeStore.slots c.grow_root-id.new.store) (g.S.NodeStore.slots c.mend-in-Ok-Split.new.store) c.grow_root-id.result root.value root.roots root.updates root.others root.leaves
+    whole_rises g.met.S.K.Ord.total g.S.Argument.Argument.is_summary old mid c.args.height c.args.root c.args.key c.args.leaf c.requires.shape c.in-Ok.room c.in-Ok.ensures.room c.requires.way c.args.value new c.in-Ok-Split.separator c.in-Ok-Split.right puts c.in-Ok.ensures.when r c.unwrap.ensures (g.S.NodeStore.slots c.grow_root-id.new.store) (g.S.NodeStore.slots c.mend-in-Ok-Split.new.store) c.grow_root-id.result root.value root.roots root.updates root.others root.leaves
       c.next-next.result next c.mend-in-Ok-Split.ensures c.requires.every
