@@ -23,3 +23,4 @@ pub mod LeafPlaces
 pub mod LeafCut
 pub mod PutSteps
 pub mod WholePut
+pub mod Upserted

@@ -1,6 +1,6 @@
 //! Insertion into a tree that stands in a store.
 ghost use Rattle.std.specs.Prelude.{◌≡◌, ◌+◌, ◌≤◌, ◌<◌, ◌^◌, IfOk, IfErr, OnErr, IfSome, ℕ, List, false, length, is_some, ◌&&◌, ◌==◌, ◌∷◌, [], Some, take, drop, insert};
-ghost use Rattle.bptree_nodes.specs.Contents.{IsAscending, below, has, put};
+ghost use Rattle.bptree_nodes.specs.Contents.{IsAscending, below, has, put, value};
 ghost use Rattle.bptree_nodes.specs.Leaf.{split_place};
 ghost use Rattle.bptree_nodes.specs.Inner.{Inner};
 ghost use Rattle.bptree_nodes.specs.Slot.{IsPresent, Present};
@@ -14,7 +14,8 @@ ghost use Rattle.bptree_tree.specs.Rooms.{Holds, HoldsIf, IsReady, IsReadyIf, Ha
 ghost use Rattle.bptree_tree.specs.Shape.{inner_arguments, inner_keys, inner_children, leaf_pairs, leaf_next, pairs_at, IsWellShaped};
 
 use bptree_nodes::inner_node::InnerNode;
-use bptree_nodes::leaf_node::LeafNode;
+use crate::descent::find_leaf;
+use bptree_nodes::leaf_node::{LeafNode, LeafUpsertResult};
 use bptree_nodes::node_id::{InnerNodeId, LeafNodeId, NodeId};
 use bptree_stores::node_stores::NodeStore;
 use std::alloc::AllocError;
@@ -333,6 +334,36 @@ pub fn put_whole<S: NodeStore>(
         Err(pair) => {
             give_back(store, room);
             Err(pair)
+        }
+    }
+}
+
+/// Puts a pair into a whole tree. It answers the value that stood at the key, the root and the height.
+///
+/// An equal key stays, and its value alone is replaced. A refusal hands the pair back, and no slot has changed.
+pub fn upsert<S: NodeStore>(
+    store: &mut S,
+    root: NodeId,
+    height: usize,
+    k: S::K,
+    v: S::V,
+) -> Result<(Option<S::V>, NodeId, usize), (S::K, S::V)>
+    requires every { (a : S.Argument) → (keys : List S.K) → S.Argument.is_summary a keys }
+    requires shape { IsWellShaped S.K.cmp S.Argument.is_summary (S.slots store.old) height root }
+    requires few { length (pairs_at (S.slots store.old) height root) < 2 ^ 64 }
+    ensures was { IfOk result (λ done. done.0 ≡ value S.K.cmp (pairs_at (S.slots store.old) height root) k) }
+    ensures put { IfOk result (λ done. IsWellShaped S.K.cmp S.Argument.is_summary (S.slots store.new) done.2 done.1 × (pairs_at (S.slots store.new) done.2 done.1 ≡ put S.K.cmp (pairs_at (S.slots store.old) height root) k v)) }
+    ensures refused { OnErr result (S.slots store.new ≡ S.slots store.old) }
+    ensures handed_back { IfErr result (λ pair. pair ≡ (k, v)) }
+    ensures absent { OnErr result (has S.K.cmp (pairs_at (S.slots store.old) height root) k ≡ false) }
+{
+    let leaf = find_leaf(store, root, height, &k);
+    match store.get_mut_leaf(leaf).try_upsert(k, v) {
+        LeafUpsertResult::Inserted => Ok((None, root, height)),
+        LeafUpsertResult::Updated(was) => Ok((Some(was), root, height)),
+        LeafUpsertResult::IsFull(_, k, v) => {
+            let (root, height) = put_whole(store, root, height, leaf, k, v)?;
+            Ok((None, root, height))
         }
     }
 }
