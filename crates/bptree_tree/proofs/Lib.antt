@@ -24,3 +24,4 @@ pub mod LeafCut
 pub mod PutSteps
 pub mod WholePut
 pub mod Upserted
+pub mod Counted

@@ -1,13 +1,16 @@
 //! A tree over the nodes of a store.
-ghost use Rattle.std.specs.Prelude.{◌≡◌, ◌-◌, [], length, slice_get, IfOk, IsTrue, ◌↔◌};
+ghost use Rattle.std.specs.Prelude.{◌≡◌, ◌-◌, [], List, false, length, slice_get, IfOk, IfErr, IsTrue, IsOk, ◌↔◌};
 ghost use Rattle.std.specs.Map.{keys_of};
 ghost use Rattle.std.specs.Map.Iter.{ShowsInOrder, deref_pair};
 ghost use Rattle.std.specs.Option.{option_map, option_copied};
-ghost use Rattle.bptree_nodes.specs.Contents.{IsAscending, value};
+ghost use Rattle.bptree_nodes.specs.Contents.{IsAscending, has, value, put};
 ghost use Rattle.bptree_nodes.specs.Slot.{IsEmpty};
+ghost use Rattle.bptree_tree.specs.Refusal.{pair_of};
 ghost use Rattle.bptree_tree.specs.Shape.{IsWellShaped};
 
 use crate::descent::{first_leaf, last_leaf};
+use crate::InsertError;
+use crate::insertion::upsert;
 use crate::node_iterator::Iter;
 use crate::reading;
 use bptree_nodes::node_id::NodeId;
@@ -102,6 +105,35 @@ impl<S: NodeStore> BPlusTree<S> {
         let back = last_leaf(&self.store, self.root, self.height);
         let to = self.store.get_leaf(back).len();
         Iter::new(&self.store, front, 0, back, to, self.len)
+    }
+
+    /// Puts `v` at `k`, and hands back the value that was there.
+    ///
+    /// A key that equals `k` stays, and its value alone is replaced: that takes no memory and is never refused. A new key
+    /// takes memory only where a leaf is full: for one node on each level that is split, and for a clone of one key. A pair
+    /// with a new key can be refused: for want of memory, or in a tree of `usize::MAX` pairs. Then nothing has changed.
+    pub fn insert(&mut self, k: S::K, v: S::V) -> Result<Option<S::V>, InsertError<S::K, S::V>>
+        // Summaries are not kept up, so that each value must be one of every list of keys.
+        requires summaries { (a : S.Argument) → (keys : List S.K) → S.Argument.is_summary a keys }
+        ensures ok { IfOk result (λ old. (old ≡ value S.K.cmp self.old.contents k) × (self.new.contents ≡ put S.K.cmp self.old.contents k v)) }
+        ensures err { IfErr result (λ refusal. (pair_of refusal ≡ (k, v)) × (self.new.contents ≡ self.old.contents)) }
+        ensures present { IsTrue (has S.K.cmp self.old.contents k) → IsOk result }
+        ensures full { (result ≡ Err (InsertError.Full k v)) ↔ ((length self.old.contents ≡ usize.MAX) × (has S.K.cmp self.old.contents k ≡ false)) }
+    {
+        if self.len == usize::MAX && self.get(&k).is_none() {
+            return Err(InsertError::Full(k, v));
+        }
+        match upsert(&mut self.store, self.root, self.height, k, v) {
+            Ok((was, root, height)) => {
+                self.root = root;
+                self.height = height;
+                if was.is_none() {
+                    self.len += 1;
+                }
+                Ok(was)
+            }
+            Err((k, v)) => Err(InsertError::OutOfMemory(k, v)),
+        }
     }
 
     /// A summary of all keys; of no keys what `Default` makes.
