@@ -100,10 +100,13 @@ module _ {K V A : Type 0} (cmp : K → K → Ordering) (is_summary : A → List 
   leaf_same : (least : ℕ) (id : LeafNodeId) (lo hi : Option K) → IsTree cmp was least 0 (kind.Leaf id) lo hi → IsTree cmp now least 0 (kind.Leaf id) lo hi
   leaf_same least id lo hi t =
       let a = alike id.0 in
-      let long : length (leaf_pairs (new id.0)) ≡ length (leaf_pairs (old id.0)) = sym (length-keys_of (leaf_pairs (new id.0))) ∙ (ap length a.keys ∙ length-keys_of (leaf_pairs (old id.0))) in
-      (present_where (old id.0) (new id.0) a.stands t.0,
-       all_keys_of (Within cmp lo hi) (leaf_pairs (new id.0)) (rw a.keys (keys_all (Within cmp lo hi) (leaf_pairs (old id.0)) t.1)),
-       rw a.keys t.2, rw long t.3, rw long t.4)
+      let long : length (leaf_pairs (new id.0)) ≡ length (leaf_pairs (old id.0)) = sym (length-keys_of (leaf_pairs (new id.0))) ∙ (ap length a.keys ∙ length-keys_of (leaf_pairs (old id.0))) in (
+        present_where (old id.0) (new id.0) a.stands t.0,
+        all_keys_of (Within cmp lo hi) (leaf_pairs (new id.0)) (rw a.keys (keys_all (Within cmp lo hi) (leaf_pairs (old id.0)) t.1)),
+        rw a.keys t.2,
+        rw long t.3,
+        rw long t.4,
+      )
 
   -- the tree stays
   pub tree_same : (least h : ℕ) (id : NodeId) (lo hi : Option K) → IsTree cmp was least h id lo hi → IsTree cmp now least h id lo hi

@@ -74,7 +74,8 @@ module _ {K V A : Type 0} (f m g : Slots (Inner K A) (Leaf K V)) (id : InnerNode
     splits_of keys all_children left_size right_size =
         subst (λ w. Splits (bare f) (bare g) id place s child w up number) same
         (record {
-          left = left; right = right;
+          left = left;
+          right = right;
           absent = absent_if_held (f.inner number.0) held;
           at_left = ap bare_slot (new.inner.others id.0 apart ∙ put.inner.changed);
           at_right = ap bare_slot new.inner.changed;
@@ -85,6 +86,8 @@ module _ {K V A : Type 0} (f m g : Slots (Inner K A) (Leaf K V)) (id : InnerNode
           left_children = omega (arith, left_size.children, left_size.keys);
           left_arguments = omega (arith, left_size.children, left_size.arguments);
           right_arguments = omega (arith, right_size.children, right_size.arguments);
-          left_least = omega (arith, left_size.keys); left_most = omega (arith, left_size.keys);
-          right_least = omega (arith, right_size.keys); right_most = omega (arith, right_size.keys);
+          left_least = omega (arith, left_size.keys);
+          left_most = omega (arith, left_size.keys);
+          right_least = omega (arith, right_size.keys);
+          right_most = omega (arith, right_size.keys);
         })

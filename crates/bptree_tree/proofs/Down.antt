@@ -60,8 +60,11 @@ module _ {K V A : Type 0} {cmp : K → K → Ordering} (total : IsTotalOrder cmp
   pub inner_at : (h : ℕ) (id : InnerNodeId) (node : Inner K A) → Stands cmp slots h (kind.Inner id) → slots.inner id.0 ≡ Present node → InnerAt h id node
   inner_at zero id node s e = absurd s.tree
   inner_at (suc h) id node s e = record {
-    below = h; above = refl; low = s.low; high = s.high;
-    chain = subst (λ (x : Slot (Inner K A)). Chain cmp (IsTree cmp slots 16 h) (inner_keys x) (inner_children x) s.low s.high) e s.tree.1
+    below = h;
+    above = refl;
+    low = s.low;
+    high = s.high;
+    chain = subst (λ (x : Slot (Inner K A)). Chain cmp (IsTree cmp slots 16 h) (inner_keys x) (inner_children x) s.low s.high) e s.tree.1;
   }
 
   pub inner_present : (h : ℕ) (id : InnerNodeId) → Stands cmp slots h (kind.Inner id) → IsPresent (slots.inner id.0) × (0 < h)
@@ -103,12 +106,12 @@ module _ {K V A : Type 0} {cmp : K → K → Ordering} (total : IsTotalOrder cmp
         record {
           stands = stands_above slots h id node e i child leaf within read for'.stands;
           smaller =
-            rw (flat-append (λ (l : LeafNodeId). leaf_pairs (slots.leaf l.0)) left for'.stands.before, pairs_of_all slots h (take i node.children))
-            (AllByRecursion-append (λ p. cmp p.0 k ≡ Less) (flat (pairs_at slots h) (take i node.children)) (pairs_of slots for'.stands.before)
+              rw (flat-append (λ (l : LeafNodeId). leaf_pairs (slots.leaf l.0)) left for'.stands.before, pairs_of_all slots h (take i node.children))
+              (AllByRecursion-append (λ p. cmp p.0 k ≡ Less) (flat (pairs_at slots h) (take i node.children)) (pairs_of slots for'.stands.before)
               (chain_smaller total (pairs_at slots h) (IsTree cmp slots 16 h) inside k node.keys node.children lo hi i chain leads) for'.smaller);
           greater =
-            rw (flat-append (λ (l : LeafNodeId). leaf_pairs (slots.leaf l.0)) for'.stands.after right, pairs_of_all slots h (drop (suc i) node.children))
-            (AllByRecursion-append (λ p. cmp p.0 k ≡ Greater) (pairs_of slots for'.stands.after) (flat (pairs_at slots h) (drop (suc i) node.children))
+              rw (flat-append (λ (l : LeafNodeId). leaf_pairs (slots.leaf l.0)) for'.stands.after right, pairs_of_all slots h (drop (suc i) node.children))
+              (AllByRecursion-append (λ p. cmp p.0 k ≡ Greater) (pairs_of slots for'.stands.after) (flat (pairs_at slots h) (drop (suc i) node.children))
               for'.greater (chain_greater total (pairs_at slots h) (IsTree cmp slots 16 h) inside k node.keys node.children lo hi i chain leads));
         }
 

@@ -99,9 +99,10 @@ module _ {K V A : Type 0} (cmp : K → K → Ordering) (is_summary : A → List 
 
   same_each : (h : ℕ) → ((id : NodeId) → AgreesAt h id → Same h id) → (cs : List NodeId) → Agrees h cs → AllByRecursion (Same h) cs
   same_each h below [] a = tt
-  same_each h below (c ∷ cs) a =
-      (below c ((λ n some. a.0 n (omega arith)), (λ n some. a.1 n (omega arith))),
-       same_each h below cs ((λ n some. a.0 n (omega arith)), (λ n some. a.1 n (omega arith))))
+  same_each h below (c ∷ cs) a = (
+    below c ((λ n some. a.0 n (omega arith)), (λ n some. a.1 n (omega arith))),
+    same_each h below cs ((λ n some. a.0 n (omega arith)), (λ n some. a.1 n (omega arith))),
+  )
 
   same_leaf : (id : LeafNodeId) → AgreesAt 0 (kind.Leaf id) → Same 0 (kind.Leaf id)
   same_leaf id a =
@@ -123,14 +124,19 @@ module _ {K V A : Type 0} (cmp : K → K → Ordering) (is_summary : A → List 
         pairs = rw e (flat_same (pairs_at old h) (pairs_at new h) cs (all_so _ _ (λ c s. s.pairs) cs all));
         order = rw e (flat_same (leaves_at old h) (leaves_at new h) cs (all_so _ _ (λ c s. s.order) cs all));
         tree = λ least lo hi t.
-            rw e (t.0,
+            rw e (
+              t.0,
               Chain-so cmp (IsTree cmp old 16 h) (IsTree cmp new 16 h) (inner_keys (old.inner id.0)) cs lo hi (all_so _ _ (λ c s a b. s.tree 16 a b) cs all) t.1,
-              t.2, t.3);
+              t.2,
+              t.3,
+            );
         leaves = λ n. rw e (total_same (λ c. leaf_count old h c n) (λ c. leaf_count new h c n) cs (all_so _ _ (λ c s. s.leaves n) cs all));
         inners = λ n. rw e (ap (λ x. cond (eqb id.0 n) 1 0 + x) (total_same (λ c. inner_count old h c n) (λ c. inner_count new h c n) cs (all_so _ _ (λ c s. s.inners n) cs all)));
         summed = λ s.
-            rw e (rw (map_same (λ c. keys_of (pairs_at old h c)) (λ c. keys_of (pairs_at new h c)) cs (all_so _ _ (λ c s. ap keys_of s.pairs) cs all)) s.0,
-              each_keeps (IsSummed old is_summary h) (IsSummed new is_summary h) cs (all_so _ _ (λ c s. s.summed) cs all) s.1);
+            rw e (
+              rw (map_same (λ c. keys_of (pairs_at old h c)) (λ c. keys_of (pairs_at new h c)) cs (all_so _ _ (λ c s. ap keys_of s.pairs) cs all)) s.0,
+              each_keeps (IsSummed old is_summary h) (IsSummed new is_summary h) cs (all_so _ _ (λ c s. s.summed) cs all) s.1,
+            );
       }
 
   pub same : (h : ℕ) (id : NodeId) → AgreesAt h id → Same h id
@@ -152,11 +158,14 @@ module _ {K V A : Type 0} (cmp : K → K → Ordering) (is_summary : A → List 
       → EachBut (Same h) cs i
   others_same h [] i d below l m a b = tt
   others_same h (c ∷ cs) zero d below l m a b =
-      all_same h cs
-      ((λ n some. a n (omega (arith, l n, stands_le (old.leaf n))) (present_if_stands (old.leaf n) (omega (arith, l n)))),
-       (λ n some. b n (omega (arith, m n, stands_le (old.inner n))) (present_if_stands (old.inner n) (omega (arith, m n)))))
-  others_same h (c ∷ cs) (suc i) d below l m a b =
-      (same h c
-       ((λ n some. a n (omega (arith, l n, stands_le (old.leaf n), in_total (λ c. leaf_count old h c n) cs i d (omega arith))) (present_if_stands (old.leaf n) (omega (arith, l n)))),
-        (λ n some. b n (omega (arith, m n, stands_le (old.inner n), in_total (λ c. inner_count old h c n) cs i d (omega arith))) (present_if_stands (old.inner n) (omega (arith, m n))))),
-       others_same h cs i d (omega arith) (λ n. omega (arith, l n)) (λ n. omega (arith, m n)) a b)
+      all_same h cs (
+        (λ n some. a n (omega (arith, l n, stands_le (old.leaf n))) (present_if_stands (old.leaf n) (omega (arith, l n)))),
+        (λ n some. b n (omega (arith, m n, stands_le (old.inner n))) (present_if_stands (old.inner n) (omega (arith, m n)))),
+      )
+  others_same h (c ∷ cs) (suc i) d below l m a b = (
+    same h c (
+      (λ n some. a n (omega (arith, l n, stands_le (old.leaf n), in_total (λ c. leaf_count old h c n) cs i d (omega arith))) (present_if_stands (old.leaf n) (omega (arith, l n)))),
+      (λ n some. b n (omega (arith, m n, stands_le (old.inner n), in_total (λ c. inner_count old h c n) cs i d (omega arith))) (present_if_stands (old.inner n) (omega (arith, m n)))),
+    ),
+    others_same h cs i d (omega arith) (λ n. omega (arith, l n)) (λ n. omega (arith, m n)) a b,
+  )

@@ -61,10 +61,10 @@ pub among : (ids : List LeafNodeId) (leaf : LeafNodeId) → 1 ≤ count_of ids l
 among [] leaf h = absurd (omega arith)
 among (l ∷ ids) leaf h =
     elim (eqb_tells l.0 leaf.0) [
-      inl same ↦ record { before = []; after = ids; parts = ap (λ (x : LeafNodeId). x ∷ ids) (same_number l leaf same.1) }
-    | inr other ↦
-        (let rest = among ids leaf (let e = other.0 in let g = rw e at h in omega (arith, g)) in
-        record { before = l ∷ rest.before; after = rest.after; parts = ap (λ more. l ∷ more) rest.parts })
+      | inl same ↦ record { before = []; after = ids; parts = ap (λ (x : LeafNodeId). x ∷ ids) (same_number l leaf same.1) }
+      | inr other ↦
+          (let rest = among ids leaf (let e = other.0 in let g = rw e at h in omega (arith, g)) in
+          record { before = l ∷ rest.before; after = rest.after; parts = ap (λ more. l ∷ more) rest.parts })
     ]
 
 -- the leaf before the first of some, and after the last

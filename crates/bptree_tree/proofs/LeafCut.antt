@@ -60,8 +60,10 @@ module _ {K V A : Type 0} (cmp : K → K → Ordering) (total : IsTotalOrder cmp
           others = λ n ne nf. ap bare_slot (put_right.leaf.others n nf ∙ (put_left.leaf.others n ne ∙ (taken.leaf.others n ne ∙ reserved.leaf.others n nf)));
           inner = same_bare f.inner g.inner (put_right.inner ∙ (put_left.inner ∙ (taken.inner ∙ reserved.inner)));
           parts = parts ∙ gap.new;
-          left_least = omega (arith, left_len, sizes.0); left_most = omega (arith, left_len, sizes.1);
-          right_least = omega (arith, right_len, sizes.1); right_most = omega (arith, right_len, sizes.0);
+          left_least = omega (arith, left_len, sizes.0);
+          left_most = omega (arith, left_len, sizes.1);
+          right_least = omega (arith, right_len, sizes.1);
+          right_most = omega (arith, right_len, sizes.0);
         };
         starts = rw right_is starts;
       }

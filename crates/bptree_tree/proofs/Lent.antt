@@ -43,8 +43,8 @@ pairs_apart : {K V A : Type 0} (old new : Slots (Inner K A) (Leaf K V)) (number 
 pairs_apart old new number others [] none = refl
 pairs_apart old new number others (l ∷ ids) none =
     elim (eqb_tells l.0 number) [
-      inl same ↦ absurd (let e = same.0 in let z = rw e at none in omega arith)
-    | inr other ↦ (let e = other.0 in let z = rw e at none in rw (others l.0 other.1, pairs_apart old new number others ids (omega (arith, z))) refl)
+      | inl same ↦ absurd (let e = same.0 in let z = rw e at none in omega arith)
+      | inr other ↦ (let e = other.0 in let z = rw e at none in rw (others l.0 other.1, pairs_apart old new number others ids (omega (arith, z))) refl)
     ]
 
 -- no key that answers Less equals k
@@ -93,8 +93,8 @@ module _ {K V A : Type 0} {cmp : K → K → Ordering} (total : IsTotalOrder cmp
     alike : (n : ℕ) → AreAlike (slots.leaf n) (new.leaf n)
     alike n =
         elim (eqb_tells n leaf.0) [
-          inl same ↦ (rw same.1 (rw (updates.leaf.changed, e) (record { keys = keys_stay node.pairs i w; prev = refl; next = refl; stands = refl; held = λ z. cc })))
-        | inr other ↦ (rw (updates.leaf.others n other.1) (record { keys = refl; prev = refl; next = refl; stands = refl; held = λ z. z }))
+          | inl same ↦ (rw same.1 (rw (updates.leaf.changed, e) (record { keys = keys_stay node.pairs i w; prev = refl; next = refl; stands = refl; held = λ z. cc })))
+          | inr other ↦ (rw (updates.leaf.others n other.1) (record { keys = refl; prev = refl; next = refl; stands = refl; held = λ z. z }))
         ]
 
     -- the shape stays
@@ -127,8 +127,8 @@ module _ {K V A : Type 0} {cmp : K → K → Ordering} (total : IsTotalOrder cmp
         sym (pairs_of_leaves new h root) ∙ ap (pairs_of new) (lent_leaves ∙ for'.stands.leaves)
         ∙ flat-append (λ (l : LeafNodeId). leaf_pairs (new.leaf l.0)) for'.stands.before (leaf ∷ for'.stands.after)
         ∙ rw (pairs_apart slots new leaf.0 updates.leaf.others for'.stands.before once.0, pairs_apart slots new leaf.0 updates.leaf.others for'.stands.after once.1, updates.leaf.changed, written_at w)
-          (sym (ap (λ l. written cmp k l w) (parts_of_read slots h root leaf for'.stands node e)
-            ∙ set_value_around cmp k (pairs_of slots for'.stands.before) node.pairs (pairs_of slots for'.stands.after) for'.smaller for'.greater w))
+        (sym (ap (λ l. written cmp k l w) (parts_of_read slots h root leaf for'.stands node e)
+        ∙ set_value_around cmp k (pairs_of slots for'.stands.before) node.pairs (pairs_of slots for'.stands.after) for'.smaller for'.greater w))
 
     pub lent_length : length (pairs_at new h root) ≡ length (pairs_at slots h root)
     lent_length = sym (length-keys_of (pairs_at new h root)) ∙ (ap length lent_keys ∙ length-keys_of (pairs_at slots h root))

@@ -168,27 +168,30 @@ module _ {K V A : Type 0} {cmp : K → K → Ordering} (total' : IsTotalOrder cm
             split.others x (other_than_node x none) (λ q. split.absent (subst (λ n. IsPresent (new.inner n)) q (subst IsPresent (sym e) some))) ∙ e;
         order = rw (split.at_left, split.at_right, is)
             (subst (Extends (flat (leaves_at old m) node.children) leaf fresh)
-              (sym (sym (flat-append (leaves_at after m) first second) ∙ ap (flat (leaves_at after m)) joined)) (order leaf_same agrees));
+            (sym (sym (flat-append (leaves_at after m) first second) ∙ ap (flat (leaves_at after m)) joined)) (order leaf_same agrees));
         links = links leaf_same agrees;
         untouched = λ x other some. leaf_same x ∙ at.untouched x other some;
         summed = λ h.
             let all' : AllByRecursion (IsSummed after is_summary m) (first ++ second) = rw joined (summed leaf_same agrees h) in
-            rw (split.at_left, split.at_right)
-            ((zipped leaf_same agrees split.left.arguments first split.left_arguments, AllByRecursion-left (IsSummed after is_summary m) first second all'),
-             (zipped leaf_same agrees split.right.arguments second split.right_arguments, AllByRecursion-right (IsSummed after is_summary m) first second all'));
+            rw (split.at_left, split.at_right) (
+              (zipped leaf_same agrees split.left.arguments first split.left_arguments, AllByRecursion-left (IsSummed after is_summary m) first second all'),
+              (zipped leaf_same agrees split.right.arguments second split.right_arguments, AllByRecursion-right (IsSummed after is_summary m) first second all'),
+            );
       }
-      where
-        more : (x : ℕ) → stands (after.inner x) ≡ stands (new.inner x) + cond (eqb number.0 x) 1 0
-        more x =
-            elim (eqb_tells number.0 x) [
-              inl h ↦ (let f : stands (new.inner x) ≡ 0 = ap (λ n. stands (new.inner n)) (sym h.1) ∙ stands_if_absent (new.inner number.0) split.absent in
-                       let g : stands (after.inner x) ≡ 1 = ap (λ n. stands (after.inner n)) (sym h.1) ∙ ap stands split.at_right in
-                       rw h.0 (omega arith))
+    where
+      more : (x : ℕ) → stands (after.inner x) ≡ stands (new.inner x) + cond (eqb number.0 x) 1 0
+      more x =
+          elim (eqb_tells number.0 x) [
+            | inl h ↦ (let f : stands (new.inner x) ≡ 0 = ap (λ n. stands (new.inner n)) (sym h.1) ∙ stands_if_absent (new.inner number.0) split.absent in
+                let g : stands (after.inner x) ≡ 1 = ap (λ n. stands (after.inner n)) (sym h.1) ∙ ap stands split.at_right in
+                rw h.0 (omega arith))
             | inr h ↦ (elim (eqb_tells id.0 x) [
-                inl p ↦ (let f : stands (new.inner x) ≡ 1 = ap (λ n. stands (new.inner n)) (sym p.1) ∙ ap stands stays in
-                         let g : stands (after.inner x) ≡ 1 = ap (λ n. stands (after.inner n)) (sym p.1) ∙ ap stands split.at_left in
-                         rw h.0 (omega arith))
-              | inr p ↦ (rw h.0 (let f = split.others x (λ q. p.1 (sym q)) (λ q. h.1 (sym q)) in omega (arith, ap stands f))) ]) ]
+              | inl p ↦ (let f : stands (new.inner x) ≡ 1 = ap (λ n. stands (new.inner n)) (sym p.1) ∙ ap stands stays in
+                  let g : stands (after.inner x) ≡ 1 = ap (λ n. stands (after.inner n)) (sym p.1) ∙ ap stands split.at_left in
+                  rw h.0 (omega arith))
+              | inr p ↦ (rw h.0 (let f = split.others x (λ q. p.1 (sym q)) (λ q. h.1 (sym q)) in omega (arith, ap stands f)))
+            ])
+          ]
 
   pub node_takes : (outcome : Outcome K) → Takes new after id i s right node outcome → Edits cmp is_summary edit 0 old after (suc m) (kind.Inner id) k leaf fresh outcome
   node_takes Done link = node_links link

@@ -71,15 +71,16 @@ module _ {K V : Type 0} {cmp : K → K → Ordering} (total : IsTotalOrder cmp) 
   ascending_joined (x ∷ xs) ys s first second below from =
       ascending_cons cmp x.0 (keys_of (xs ++ ys))
       (all_joined (λ key. cmp x.0 key ≡ Less) xs ys (sorted_head cmp x.0 (keys_of xs) first)
-        (all_keys (λ key. is_lt (cmp key s) ≡ false) (λ key. cmp x.0 key ≡ Less) (λ key up. less_then_up total x.0 s key below.0 up) ys from))
+      (all_keys (λ key. is_lt (cmp key s) ≡ false) (λ key. cmp x.0 key ≡ Less) (λ key up. less_then_up total x.0 s key below.0 up) ys from))
       (ascending_joined xs ys s (sorted_tail cmp x.0 (keys_of xs) first) second below.1 from)
 
   -- what stands before a pair of an ascending list is smaller, and what stands after it greater
   pub smaller_before : (before : List (K × V)) (pair : K × V) (after : List (K × V)) → IsAscending cmp (before ++ pair ∷ after) → AllByRecursion (λ p. cmp p.0 pair.0 ≡ Less) before
   smaller_before [] pair after ascending = tt
-  smaller_before (p ∷ before) pair after ascending =
-      ((all_after (λ key. cmp p.0 key ≡ Less) before (pair ∷ after) (sorted_head cmp p.0 (keys_of (before ++ pair ∷ after)) ascending)).0,
-       smaller_before before pair after (sorted_tail cmp p.0 (keys_of (before ++ pair ∷ after)) ascending))
+  smaller_before (p ∷ before) pair after ascending = (
+    (all_after (λ key. cmp p.0 key ≡ Less) before (pair ∷ after) (sorted_head cmp p.0 (keys_of (before ++ pair ∷ after)) ascending)).0,
+    smaller_before before pair after (sorted_tail cmp p.0 (keys_of (before ++ pair ∷ after)) ascending),
+  )
 
   pub ascending_after : (before after : List (K × V)) → IsAscending cmp (before ++ after) → IsAscending cmp after
   ascending_after [] after ascending = ascending

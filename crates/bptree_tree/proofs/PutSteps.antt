@@ -162,9 +162,10 @@ module _ {K V A : Type 0} {cmp : K → K → Ordering} (total : IsTotalOrder cmp
 
     has_room_by : (r : Option (Room K A)) → is_some r ≡ (length node.keys == 64) && splits_at cmp (bare old) k (h - 1) child → HoldsIf old mid r → HasRoom new (length node.keys) r
     has_room_by None w holds = not_full_if (length node.keys) sizes.2 (sym (w ∙ rw below_splits (and_true (length node.keys == 64))))
-    has_room_by (Some r) w holds =
-        (full_if (length node.keys) (sym (w ∙ rw below_splits (and_true (length node.keys == 64)))),
-         record { held = puts.held.inner_kept r.id.0 holds.now.inner.changed; shell = holds.shell })
+    has_room_by (Some r) w holds = (
+      full_if (length node.keys) (sym (w ∙ rw below_splits (and_true (length node.keys == 64)))),
+      record { held = puts.held.inner_kept r.id.0 holds.now.inner.changed; shell = holds.shell },
+    )
 
     pub has_room : HasRoom new (length node.keys) room
     has_room = has_room_by room when holds
@@ -214,8 +215,8 @@ module _ {K V A : Type 0} {cmp : K → K → Ordering} (total : IsTotalOrder cmp
         fresh = puts.fresh;
         leads = step_leads (bare old) h k id node i can is leads child read puts.leaf (subst (λ (x : Slots (Inner K A) (Leaf K V)). LeadsTo cmp x k (h - 1) child puts.leaf) same_nodes puts.leads);
         edits =
-          step_takes total is_summary every (λ l. put cmp l k v) k (put_is_local cmp k v) (bare old) (bare new) puts.leaf (puts.fresh ∷ []) h id node i child can is leads read (bare final) s right edits_below outcome
-          (λ was seen. takes was (read_bare (new.inner id.0) was seen));
+            step_takes total is_summary every (λ l. put cmp l k v) k (put_is_local cmp k v) (bare old) (bare new) puts.leaf (puts.fresh ∷ []) h id node i child can is leads read (bare final) s right edits_below outcome
+            (λ was seen. takes was (read_bare (new.inner id.0) was seen));
         held = record {
           inner_kept = kept;
           inner_only = only;

@@ -78,4 +78,4 @@ module _ {K V A : Type 0} (cmp : K → K → Ordering) (is_summary : A → List 
       let span = span_of slots first f.stands.after None None linked all in
       let pairs : pairs_at slots (suc h) (kind.Inner id) ≡ pairs_of slots (first ∷ f.stands.after) = sym (pairs_of_leaves slots (suc h) (kind.Inner id)) ∙ ap (pairs_of slots) a in
       rw pairs (subst (λ (n : ℕ). IsSpan (leaves_of slots) first 0 f.stands.after last n (pairs_of slots (first ∷ f.stands.after))) (ap (λ x. length (leaf_pairs x)) e)
-        (subst (λ (x : LeafNodeId). IsSpan (leaves_of slots) first 0 f.stands.after x (length (leaf_pairs (slots.leaf x.0))) (pairs_of slots (first ∷ f.stands.after))) end span))
+      (subst (λ (x : LeafNodeId). IsSpan (leaves_of slots) first 0 f.stands.after x (length (leaf_pairs (slots.leaf x.0))) (pairs_of slots (first ∷ f.stands.after))) end span))

@@ -18,15 +18,15 @@ module _ {K V A : Type 0} (cmp : K → K → Ordering) (is_summary : A → List 
   counted : (n : ℕ) → cond (eqb leaf.0 n) 1 0 ≡ stands (new.leaf n)
   counted n =
       elim (eqb_tells leaf.0 n) [
-        inl same ↦ rw same.0 (sym (ap stands (ap new.leaf (sym same.1) ∙ added.leaf.changed)))
-      | inr other ↦ rw other.0 (sym (ap stands (added.leaf.others n (λ e. other.1 (sym e)) ∙ empty.leaf n)))
+        | inl same ↦ rw same.0 (sym (ap stands (ap new.leaf (sym same.1) ∙ added.leaf.changed)))
+        | inr other ↦ rw other.0 (sym (ap stands (added.leaf.others n (λ e. other.1 (sym e)) ∙ empty.leaf n)))
       ]
 
   no_held : (n : ℕ) → new.leaf n ≡ Held → ⊥
   no_held n held =
       elim (eqb_tells leaf.0 n) [
-        inl same ↦ (let e : Present (record { pairs = []; prev = None; next = None }) ≡ Held = sym added.leaf.changed ∙ (ap new.leaf same.1 ∙ held) in cc)
-      | inr other ↦ (let e : Free ≡ Held = sym (empty.leaf n) ∙ (sym (added.leaf.others n (λ e. other.1 (sym e))) ∙ held) in cc)
+        | inl same ↦ (let e : Present (record { pairs = []; prev = None; next = None }) ≡ Held = sym added.leaf.changed ∙ (ap new.leaf same.1 ∙ held) in cc)
+        | inr other ↦ (let e : Free ≡ Held = sym (empty.leaf n) ∙ (sym (added.leaf.others n (λ e. other.1 (sym e))) ∙ held) in cc)
       ]
 
   pub started : IsWellShaped cmp is_summary new 0 (kind.Leaf leaf)

@@ -155,9 +155,10 @@ module _ {K V A : Type 0} {cmp : K → K → Ordering} (total : IsTotalOrder cmp
                 (mends puts.fresh (fresh_behind v new Done puts given (ap (λ (s : Slots (Inner K A) (Leaf K V)). s.leaf) same.1))))
 
             pub whole_stays : IsWellShaped cmp is_summary final h root × (pairs_at final h root ≡ put cmp (pairs_at old h root) k v)
-            whole_stays =
-                (whole_grown cmp is_summary (λ l. put cmp l k v) old new h root k leaf puts.fresh shape no_leaf no_inner final edits_done mends_done,
-                 grown_pairs cmp is_summary (λ l. put cmp l k v) old new h root k leaf puts.fresh shape no_leaf no_inner final edits_done mends_done)
+            whole_stays = (
+              whole_grown cmp is_summary (λ l. put cmp l k v) old new h root k leaf puts.fresh shape no_leaf no_inner final edits_done mends_done,
+              grown_pairs cmp is_summary (λ l. put cmp l k v) old new h root k leaf puts.fresh shape no_leaf no_inner final edits_done mends_done,
+            )
 
         -- a new root stands above
         module _ (s : K) (right : NodeId) (puts : PutsAt cmp is_summary mid new h root k v (Split s right)) (when : is_some room ≡ splits_at cmp (bare old) k h root) where
@@ -195,9 +196,10 @@ module _ {K V A : Type 0} {cmp : K → K → Ordering} (total : IsTotalOrder cmp
               pub whole_rises : ((a : A) (keys : List K) → is_summary a keys) → IsWellShaped cmp is_summary final (h + 1) (kind.Inner id) × (pairs_at final (h + 1) (kind.Inner id) ≡ put cmp (pairs_at old h root) k v)
               whole_rises every =
                   let up : suc h ≡ h + 1 = omega arith in
-                  subst (λ n. IsWellShaped cmp is_summary final n (kind.Inner id) × (pairs_at final n (kind.Inner id) ≡ put cmp (pairs_at old h root) k v)) up
-                  (whole_split cmp is_summary (λ l. put cmp l k v) old (bare new) h root k leaf puts.fresh shape (λ n. bare_free (new.leaf n)) (λ n. bare_free (new.inner n)) grown final s right id (whole_edits v new (Split s right) puts) roots_grown mends_grown every,
-                   split_pairs cmp is_summary (λ l. put cmp l k v) old (bare new) h root k leaf puts.fresh shape (λ n. bare_free (new.leaf n)) (λ n. bare_free (new.inner n)) grown final s right id (whole_edits v new (Split s right) puts) roots_grown mends_grown)
+                  subst (λ n. IsWellShaped cmp is_summary final n (kind.Inner id) × (pairs_at final n (kind.Inner id) ≡ put cmp (pairs_at old h root) k v)) up (
+                    whole_split cmp is_summary (λ l. put cmp l k v) old (bare new) h root k leaf puts.fresh shape (λ n. bare_free (new.leaf n)) (λ n. bare_free (new.inner n)) grown final s right id (whole_edits v new (Split s right) puts) roots_grown mends_grown every,
+                    split_pairs cmp is_summary (λ l. put cmp l k v) old (bare new) h root k leaf puts.fresh shape (λ n. bare_free (new.leaf n)) (λ n. bare_free (new.inner n)) grown final s right id (whole_edits v new (Split s right) puts) roots_grown mends_grown,
+                  )
 
 -- a new root is put under a number that was held
 pub roots_of : {K V A : Type 0} (old new : Slots (Inner K A) (Leaf K V)) (id : InnerNodeId) (left : NodeId) (s : K) (right : NodeId) (now : Inner K A) → old.inner id.0 ≡ Held → UpdatesInner old new id.0 (Present now)

@@ -81,7 +81,7 @@ extends_around left right old new leaf fresh whole result e was is = record {
       ∙ (ap (λ rest. left ++ rest) (append_assoc e.before (leaf ∷ e.after) right) ∙ sym (append_assoc left e.before (leaf ∷ (e.after ++ right)))));
   is = is ∙ (ap (λ ids. left ++ (ids ++ right)) e.is
       ∙ (ap (λ rest. left ++ rest) (append_assoc e.before (leaf ∷ (fresh ++ e.after)) right
-        ∙ ap (λ rest. e.before ++ leaf ∷ rest) (append_assoc fresh e.after right))
+      ∙ ap (λ rest. e.before ++ leaf ∷ rest) (append_assoc fresh e.after right))
       ∙ sym (append_assoc left e.before (leaf ∷ (fresh ++ (e.after ++ right))))));
 }
 
@@ -147,7 +147,11 @@ module _ {K V A : Type 0} {cmp : K → K → Ordering} (slots : Slots (Inner K A
   can_there =
       let u = chain_leads cmp (IsTree cmp slots 16 m) k node.keys node.children can.low can.high i child node_chain leads can.fits in
       record {
-        least = 16; low = u.0; high = u.1; tree = u.2; fits = u.3;
+        least = 16;
+        low = u.0;
+        high = u.1;
+        tree = u.2;
+        fits = u.3;
         owns = record {
           leaves = λ x. omega (arith, own_leaves x, in_total (λ c. leaf_count slots m c x) node.children i child child_place);
           inners = λ x. omega (arith, own_inners x, in_total (λ c. inner_count slots m c x) node.children i child child_place);
@@ -160,10 +164,11 @@ module _ {K V A : Type 0} {cmp : K → K → Ordering} (slots : Slots (Inner K A
 
   -- the sizes of the node, and the place in it
   pub node_sizes : (i ≤ length node.keys) × (length node.children ≡ length node.keys + 1) × (length node.keys ≤ 64)
-  node_sizes =
-      (leads_within cmp k node.keys i leads,
-       chain_length cmp (IsTree cmp slots 16 m) node.keys node.children can.low can.high node_chain,
-       subst (λ (x : Slot (Inner K A)). length (inner_keys x) ≤ 64) is can.tree.3)
+  node_sizes = (
+    leads_within cmp k node.keys i leads,
+    chain_length cmp (IsTree cmp slots 16 m) node.keys node.children can.low can.high node_chain,
+    subst (λ (x : Slot (Inner K A)). length (inner_keys x) ≤ 64) is can.tree.3,
+  )
 
 -- an edit of that child
 module _ {K V A : Type 0} {cmp : K → K → Ordering} (total' : IsTotalOrder cmp) (is_summary : A → List K → Type 0) (edit : List (K × V) → List (K × V)) (old new : Slots (Inner K A) (Leaf K V))
@@ -188,10 +193,10 @@ module _ {K V A : Type 0} {cmp : K → K → Ordering} (total' : IsTotalOrder cm
   pub node_stays : (outcome : Outcome K) → At child outcome → new.inner id.0 ≡ Present node
   node_stays outcome e =
       (at_there outcome e).other_inners id.0
-        (let own = own_inners old m id k node i child can is leads id.0 in
-         let own_one = rw (eq-eqb id.0 id.0 refl) at own in
-         omega (arith, own_one, stands_le (old.inner id.0), in_total (λ c. inner_count old m c id.0) node.children i child place))
-        (rw is tt) ∙ is
+      (let own = own_inners old m id k node i child can is leads id.0 in
+      let own_one = rw (eq-eqb id.0 id.0 refl) at own in
+      omega (arith, own_one, stands_le (old.inner id.0), in_total (λ c. inner_count old m c id.0) node.children i child place))
+      (rw is tt) ∙ is
 
   rest : (outcome : Outcome K) → At there outcome → EachBut (Same cmp is_summary old new m) node.children i
   rest outcome e =
@@ -214,8 +219,8 @@ module _ {K V A : Type 0} {cmp : K → K → Ordering} (total' : IsTotalOrder cm
       let chain = node_chain old m id k node i child can is leads in
       ap edit (flat_parts (pairs_at old m) node.children i child place)
       ∙ local.around (flat (pairs_at old m) (take i node.children)) (pairs_at old m there) (flat (pairs_at old m) (drop (suc i) node.children))
-        (chain_smaller total' (pairs_at old m) (IsTree cmp old 16 m) inside k node.keys node.children can.low can.high i chain leads)
-        (chain_greater total' (pairs_at old m) (IsTree cmp old 16 m) inside k node.keys node.children can.low can.high i chain leads)
+      (chain_smaller total' (pairs_at old m) (IsTree cmp old 16 m) inside k node.keys node.children can.low can.high i chain leads)
+      (chain_greater total' (pairs_at old m) (IsTree cmp old 16 m) inside k node.keys node.children can.low can.high i chain leads)
 
   pub grown_done : At child Done → Grown node.keys node.children
   grown_done at =
@@ -225,18 +230,24 @@ module _ {K V A : Type 0} {cmp : K → K → Ordering} (total' : IsTotalOrder cm
       record {
         chain = λ lo hi c w.
             chain_around total' (IsTree cmp old 16 m) (IsTree cmp new 16 m) k node.keys cs lo hi i child c (but_so _ _ (λ c s a b. s.tree 16 a b) cs i others) leads w
-              (λ a b t u. e.tree 16 a b t u);
+            (λ a b t u. e.tree 16 a b t u);
         pairs =
             flat_around (pairs_at old m) (pairs_at new m) cs i child place (but_so _ _ (λ c s. s.pairs) cs i others)
             ∙ (ap (λ l. flat (pairs_at old m) (take i cs) ++ (l ++ flat (pairs_at old m) (drop (suc i) cs))) e.pairs ∙ sym around);
-        leaves = λ x. omega (arith, e.leaves x,
-            total_around (λ c. leaf_count old m c x) (λ c. leaf_count new m c x) cs i child place (but_so _ _ (λ c s. s.leaves x) cs i others));
-        inners = λ x. omega (arith, e.inners x,
-            total_around (λ c. inner_count old m c x) (λ c. inner_count new m c x) cs i child place (but_so _ _ (λ c s. s.inners x) cs i others));
+        leaves = λ x. omega (
+          arith,
+          e.leaves x,
+          total_around (λ c. leaf_count old m c x) (λ c. leaf_count new m c x) cs i child place (but_so _ _ (λ c s. s.leaves x) cs i others),
+        );
+        inners = λ x. omega (
+          arith,
+          e.inners x,
+          total_around (λ c. inner_count old m c x) (λ c. inner_count new m c x) cs i child place (but_so _ _ (λ c s. s.inners x) cs i others),
+        );
         order =
             extends_around (flat (leaves_at old m) (take i cs)) (flat (leaves_at old m) (drop (suc i) cs)) (leaves_at old m there) (leaves_at new m there) leaf fresh
-              (flat (leaves_at old m) cs) (flat (leaves_at new m) cs) e.order (flat_parts (leaves_at old m) cs i child place)
-              (flat_around (leaves_at old m) (leaves_at new m) cs i child place (but_so _ _ (λ c s. s.order) cs i others));
+            (flat (leaves_at old m) cs) (flat (leaves_at new m) cs) e.order (flat_parts (leaves_at old m) cs i child place)
+            (flat_around (leaves_at old m) (leaves_at new m) cs i child place (but_so _ _ (λ c s. s.order) cs i others));
         summed = each_around (IsSummed old is_summary m) (IsSummed new is_summary m) cs i child place (but_so _ _ (λ c s. s.summed) cs i others) e.summed;
       }
 
@@ -248,18 +259,24 @@ module _ {K V A : Type 0} {cmp : K → K → Ordering} (total' : IsTotalOrder cm
       record {
         chain = λ lo hi c w.
             chain_around_two total' (IsTree cmp old 16 m) (IsTree cmp new 16 m) k node.keys cs lo hi i child s right c (but_so _ _ (λ c s a b. s.tree 16 a b) cs i others) leads w
-              (λ a b t u. e.tree 16 a b t u);
+            (λ a b t u. e.tree 16 a b t u);
         pairs =
             flat_around_two (pairs_at old m) (pairs_at new m) cs i child right place (but_so _ _ (λ c s. s.pairs) cs i others)
             ∙ (ap (λ l. flat (pairs_at old m) (take i cs) ++ (l ++ flat (pairs_at old m) (drop (suc i) cs))) e.pairs ∙ sym around);
-        leaves = λ x. omega (arith, e.leaves x,
-            total_around_two (λ c. leaf_count old m c x) (λ c. leaf_count new m c x) cs i child right place (but_so _ _ (λ c s. s.leaves x) cs i others));
-        inners = λ x. omega (arith, e.inners x,
-            total_around_two (λ c. inner_count old m c x) (λ c. inner_count new m c x) cs i child right place (but_so _ _ (λ c s. s.inners x) cs i others));
+        leaves = λ x. omega (
+          arith,
+          e.leaves x,
+          total_around_two (λ c. leaf_count old m c x) (λ c. leaf_count new m c x) cs i child right place (but_so _ _ (λ c s. s.leaves x) cs i others),
+        );
+        inners = λ x. omega (
+          arith,
+          e.inners x,
+          total_around_two (λ c. inner_count old m c x) (λ c. inner_count new m c x) cs i child right place (but_so _ _ (λ c s. s.inners x) cs i others),
+        );
         order =
             extends_around (flat (leaves_at old m) (take i cs)) (flat (leaves_at old m) (drop (suc i) cs)) (leaves_at old m there) (leaves_at new m there ++ leaves_at new m right) leaf fresh
-              (flat (leaves_at old m) cs) (flat (leaves_at new m) (insert cs (suc i) right)) e.order (flat_parts (leaves_at old m) cs i child place)
-              (flat_around_two (leaves_at old m) (leaves_at new m) cs i child right place (but_so _ _ (λ c s. s.order) cs i others));
+            (flat (leaves_at old m) cs) (flat (leaves_at new m) (insert cs (suc i) right)) e.order (flat_parts (leaves_at old m) cs i child place)
+            (flat_around_two (leaves_at old m) (leaves_at new m) cs i child right place (but_so _ _ (λ c s. s.order) cs i others));
         summed = each_around_two (IsSummed old is_summary m) (IsSummed new is_summary m) cs i child right place (but_so _ _ (λ c s. s.summed) cs i others) e.summed;
       }
 

@@ -36,5 +36,5 @@ module _ {S K V A : Type 0} (cmp : K → K → Ordering) (slots : S → Slots (I
   abbrev pub tree_written : NodeTree S K V A → K → V → NodeTree S K V A
   tree_written tree k v = record tree {
     contents = written cmp k tree.contents v;
-    store = store_written tree.store (holder cmp (slots tree.store) (leaves_at (slots tree.store) tree.height tree.root) k) k v
+    store = store_written tree.store (holder cmp (slots tree.store) (leaves_at (slots tree.store) tree.height tree.root) k) k v;
   }

@@ -8,7 +8,6 @@ pub mod Path
 pub mod Refusal
 pub mod Shape
 pub mod Span
-pub mod Tree
 pub mod Bare
 pub mod Rooms
 pub mod Puts

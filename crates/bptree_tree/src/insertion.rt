@@ -13,8 +13,8 @@ ghost use Rattle.bptree_tree.specs.Puts.{IsFullFor, PutsAt};
 ghost use Rattle.bptree_tree.specs.Rooms.{Holds, HoldsIf, IsReady, IsReadyIf, HasRoom, GivesBack, IsElsewhere, IsUsed, is_split};
 ghost use Rattle.bptree_tree.specs.Shape.{inner_arguments, inner_keys, inner_children, leaf_pairs, leaf_next, pairs_at, IsWellShaped};
 
-use bptree_nodes::inner_node::InnerNode;
 use crate::descent::find_leaf;
+use bptree_nodes::inner_node::InnerNode;
 use bptree_nodes::leaf_node::{LeafNode, LeafUpsertResult};
 use bptree_nodes::node_id::{InnerNodeId, LeafNodeId, NodeId};
 use bptree_stores::node_stores::NodeStore;
@@ -213,7 +213,10 @@ fn put_in_inner<S: NodeStore>(
             Outcome::Done
         }
         Some(room) => {
-            let Room { id: fresh, node: shell } = room;
+            let Room {
+                id: fresh,
+                node: shell,
+            } = room;
             let (up, right) = node.split(place, separator, child, S::Argument::default(), shell);
             store.put_back_inner(id, node);
             store.put_back_inner(fresh, right);

@@ -1,36 +1,99 @@
-//! The pairs of a tree, one by one.
-ghost use Rattle.std.specs.Prelude.{◌≡◌, length, IfSome};
-ghost use Rattle.std.specs.Iterator.{at_most, UpTo};
-ghost use Rattle.std.specs.Iterator.SizeHint.{IsWithinCount};
-ghost use Rattle.std.specs.Map.Iter.{TakesFirst, deref_pair};
+//! The pairs of a tree, one by one from both ends, along the links of its leaves.
+ghost use Rattle.std.specs.Prelude.{◌≡◌, IsSome, Some, length, IfSome, ⊤};
+ghost use Rattle.std.specs.Iterator.{item_count};
+ghost use Rattle.std.specs.Map.Iter.{TakesFirst, TakesLast, deref_pair};
+ghost use Rattle.bptree_tree.specs.Span.{leaves_of, pairs_left, IsBetween, CanGoOn, IsFrontPlace, CanGoBack, IsBackPlace};
 
+use bptree_nodes::leaf_node::LeafNode;
+use bptree_nodes::node_id::LeafNodeId;
 use bptree_stores::node_stores::NodeStore;
-use std::iter::ExactSizeIterator;
-use std::marker::Model;
-use std::slice;
+use std::alloc::AllocError;
+use std::iter::{ExactSizeIterator, FusedIterator};
+use std::marker::{Model, PhantomData};
 
-/// The pairs that are left, in the order of their keys.
+/// The pairs that are left, in the order of their keys. No step takes memory.
 #[derive(Drop)]
 pub struct Iter<'a, S: NodeStore> {
-    pairs: slice::Iter<'a, (S::K, S::V)>,
+    store: &'a S,
+    // The leaf of the next pair from the front and the pair's place, or the leaf before it and its
+    // length.
+    front: LeafNodeId,
+    from: usize,
+    // The leaf of the last pair and the place after it, or the leaf after it and 0.
+    back: LeafNodeId,
+    to: usize,
+    len: usize,
+    // The items are borrowed for 'a.
+    marker: PhantomData<&'a (S::K, S::V)>,
 }
 
 impl<'a, S: NodeStore> Model for Iter<'a, S> {
     ghost use Rattle.std.specs.Prelude.{List};
-    ghost use Rattle.std.specs.Slice.Iter.{iter_rest};
+    ghost use Rattle.bptree_tree.specs.Span.{leaves_of, pairs_left, IsBetween};
 
     ghost Value = { List (S.K × S.V) };
 
-    ghost view = { λ a. iter_rest a.pairs };
+    ghost view = { λ it. pairs_left (leaves_of (S.slots it.store.now)) it.front it.from it.len };
+
+    ghost invariant = { λ it. IsBetween (leaves_of (S.slots it.store.now)) it.front it.from it.back it.to it.len };
 }
 
 impl<'a, S: NodeStore> Iter<'a, S> {
-    pub(crate) fn new(pairs: &'a [(S::K, S::V)]) -> Iter<'a, S>
-        ensures { result ≡ pairs.now }
+    pub(crate) fn new(
+        store: &'a S,
+        front: LeafNodeId,
+        from: usize,
+        back: LeafNodeId,
+        to: usize,
+        len: usize,
+    ) -> Self
+        requires { IsBetween (leaves_of (S.slots store.now)) front from back to len }
+        ensures { result ≡ pairs_left (leaves_of (S.slots store.now)) front from len }
     {
         Iter {
-            pairs: pairs.iter(),
+            store,
+            front,
+            from,
+            back,
+            to,
+            len,
+            marker: PhantomData,
         }
+    }
+}
+
+fn leaf_at<S: NodeStore>(store: &S, id: LeafNodeId) -> &LeafNode<S::K, S::V>
+    requires { IsSome (leaves_of (S.slots store.now) id) }
+    ensures { leaves_of (S.slots store.now) id ≡ Some result.now }
+{
+    store.get_leaf(id)
+}
+
+// The place of the next pair: where the place at hand is the end of its leaf, the start of the next.
+fn front_place<S: NodeStore>(store: &S, id: LeafNodeId, offset: usize) -> (LeafNodeId, usize)
+    requires { CanGoOn (leaves_of (S.slots store.now)) id offset }
+    ensures { IsFrontPlace (leaves_of (S.slots store.now)) id offset result.0 result.1 }
+{
+    let leaf = leaf_at(store, id);
+    if offset == leaf.len() {
+        (leaf.next().unwrap(), 0)
+    } else {
+        (id, offset)
+    }
+}
+
+// The place behind the last pair: where the place at hand is the start of its leaf, the end of the one
+// before.
+fn back_place<S: NodeStore>(store: &S, id: LeafNodeId, offset: usize) -> (LeafNodeId, usize)
+    requires { CanGoBack (leaves_of (S.slots store.now)) id offset }
+    ensures { IsBackPlace (leaves_of (S.slots store.now)) id offset result.0 result.1 }
+{
+    let leaf = leaf_at(store, id);
+    if offset == 0 {
+        let before = leaf.prev().unwrap();
+        (before, leaf_at(store, before).len())
+    } else {
+        (id, offset)
     }
 }
 
@@ -39,27 +102,63 @@ impl<'a, S: NodeStore> Iterator for Iter<'a, S> {
 
     ghost next_gives = { TakesFirst deref_pair };
 
-    ghost remaining = { λ s. at_most (length s) };
+    ghost remaining = { item_count (λ left. left) };
 
     fn next(&mut self) -> Option<(&'a S::K, &'a S::V)> {
-        match self.pairs.next() {
-            Some(pair) => Some((&pair.0, &pair.1)),
-            None => None,
+        if self.len == 0 {
+            return None;
         }
+        let (front, from) = front_place(self.store, self.front, self.from);
+        let pair = leaf_at(self.store, front).data_at(from);
+        self.front = front;
+        self.from = from + 1;
+        self.len -= 1;
+        Some(pair)
     }
 
-    fn size_hint(&self) -> (usize, Option<usize>)
-        ensures lower { IsWithinCount result.0 (at_most (length self.now)) }
-        ensures upper { IfSome result.1 (UpTo (at_most (length self.now))) }
-        ensures exact { result ≡ (length self.now, Some (length self.now)) }
-    {
-        let len = self.len();
-        (len, Some(len))
+    fn size_hint(&self) -> (usize, Option<usize>) {
+        (self.len, Some(self.len))
+    }
+}
+
+impl<'a, S: NodeStore> DoubleEndedIterator for Iter<'a, S> {
+    ghost next_back_gives = { TakesLast deref_pair };
+
+    fn next_back(&mut self) -> Option<(&'a S::K, &'a S::V)> {
+        if self.len == 0 {
+            return None;
+        }
+        let (back, to) = back_place(self.store, self.back, self.to);
+        let pair = leaf_at(self.store, back).data_at(to - 1);
+        self.back = back;
+        self.to = to - 1;
+        self.len -= 1;
+        Some(pair)
     }
 }
 
 impl<'a, S: NodeStore> ExactSizeIterator for Iter<'a, S> {
     fn len(&self) -> usize {
-        self.pairs.len()
+        self.len
+    }
+}
+
+impl<'a, S: NodeStore> FusedIterator for Iter<'a, S> {}
+
+impl<'a, S: NodeStore> Clone for Iter<'a, S> {
+    ghost is_clone = { λ it copy. copy ≡ it };
+
+    ghost is_infallible = { λ _. ⊤ };
+
+    fn clone(&self) -> Result<Self, AllocError> {
+        Ok(Iter {
+            store: self.store,
+            front: self.front,
+            from: self.from,
+            back: self.back,
+            to: self.to,
+            len: self.len,
+            marker: PhantomData,
+        })
     }
 }

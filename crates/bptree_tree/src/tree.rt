@@ -9,10 +9,9 @@ ghost use Rattle.bptree_tree.specs.Refusal.{pair_of};
 ghost use Rattle.bptree_tree.specs.Shape.{IsWellShaped};
 
 use crate::descent::{first_leaf, last_leaf};
-use crate::InsertError;
 use crate::insertion::upsert;
-use crate::node_iterator::Iter;
-use crate::reading;
+use crate::iterator::Iter;
+use crate::{InsertError, reading};
 use bptree_nodes::node_id::NodeId;
 use bptree_stores::node_stores::NodeStore;
 use std::alloc::AllocError;

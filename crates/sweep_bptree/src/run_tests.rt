@@ -3,7 +3,7 @@ ghost use Rattle.std.proofs.Common.{rules};
 
 use crate::script::{Command, Reply, run};
 use bptree_nodes::key::{Key, Tuple2};
-use bptree_stores::node_stores::NodeStoreVec;
+use bptree_stores::node_store_vec::NodeStoreVec;
 use bptree_tree::BPlusTree;
 use std::alloc::AllocError;
 use std::iter::ExactSizeIterator;

@@ -6,6 +6,7 @@ pub use bptree_nodes::leaf_node::{LeafDeleteResult, LeafNode, LeafUpsertResult};
 pub use bptree_nodes::node_id::{InnerNodeId, LeafNodeId, NodeId};
 pub use bptree_nodes::{entry_ref, inner_node, leaf_node, node_id};
 pub use bptree_stores::node_stores;
-pub use bptree_stores::node_stores::{NodeStore, NodeStoreVec};
+pub use bptree_stores::node_store_vec::NodeStoreVec;
+pub use bptree_stores::node_stores::{CloneStore, NodeStore};
 pub use bptree_tree::iterator::Iter;
 pub use bptree_tree::{BPlusTree, InsertError, iterator};

@@ -1,5 +1,5 @@
 //! Commands on a tree, and their replies.
-ghost use Rattle.std.specs.Prelude.{◌≡◌, ◌↔◌, take, IsNone, vec_len};
+ghost use Rattle.std.specs.Prelude.{◌≡◌, ◌↔◌, List, take, IsNone, vec_len};
 ghost use Rattle.sweep_bptree.specs.Steps.{Step, Run, reply_to_refusal};
 
 use bptree_stores::node_stores::NodeStore;
@@ -44,6 +44,7 @@ fn refused<K: Drop, V: Drop>(error: InsertError<K, V>) -> Reply<K, V>
 }
 
 fn insert<S: NodeStore>(tree: &mut BPlusTree<S>, key: S::K, value: S::V) -> Reply<S::K, S::V>
+    requires summaries { (a : S.Argument) → (keys : List S.K) → S.Argument.is_summary a keys }
     ensures { Step S.K.cmp tree.old.contents (Command.Insert key value) result tree.new.contents }
 {
     match tree.insert(key, value) {
@@ -81,6 +82,7 @@ fn carry_out<S: NodeStore>(
 ) -> Reply<S::K, S::V>
 where
     S::V: Copy,
+    requires summaries { (a : S.Argument) → (keys : List S.K) → S.Argument.is_summary a keys }
     ensures { Step S.K.cmp tree.old.contents command result tree.new.contents }
 {
     match command {
@@ -101,6 +103,7 @@ pub fn run<S: NodeStore>(
 ) -> (Vec<Reply<S::K, S::V>>, Option<AllocError>)
 where
     S::V: Copy,
+    requires summaries { (a : S.Argument) → (keys : List S.K) → S.Argument.is_summary a keys }
     ensures run { Run S.K.cmp tree.old.contents (take (vec_len result.0) commands.items) result.0.items tree.new.contents }
     ensures all { IsNone result.1 ↔ (vec_len result.0 ≡ vec_len commands) }
 {

@@ -10,9 +10,10 @@ find_leaf-requires g t c κs within =
     let total = g.met.S.K.Ord.total in
     let slots = g.S.NodeStore.slots c.args.store.now in
     let s : Stands g.S.K.Ord.cmp slots c.args.height (Inner c.in-Inner.inner) = rw c.in-Inner.is at c.requires in
-    let at = c.locate_child-child.ensures in
-    ((let p = (inner_present total slots c.args.height c.in-Inner.inner s).1 in omega arith),
-     (within.0, (within.1.0, (within.1.1.0, (within.1.1.1, child_stands total slots c.args.height c.in-Inner.inner c.get_inner.result.now s c.get_inner.ensures c.locate_child-child.result.0 c.locate_child-child.result.1 at.in_range at.child)))))
+    let at = c.locate_child-child.ensures in (
+      (let p = (inner_present total slots c.args.height c.in-Inner.inner s).1 in omega arith),
+      (within.0, (within.1.0, (within.1.1.0, (within.1.1.1, child_stands total slots c.args.height c.in-Inner.inner c.get_inner.result.now s c.get_inner.ensures c.locate_child-child.result.0 c.locate_child-child.result.1 at.in_range at.child)))),
+    )
 
 pub returns-in-Leaf-clause-leaf : goal.returns-in-Leaf-clause-leaf
 returns-in-Leaf-clause-leaf g t c =
@@ -28,7 +29,7 @@ returns-in-Inner-clause-leaf g t c =
     let leads = node_leads total slots c.args.height c.in-Inner.inner node s c.get_inner.ensures c.args.key.now c.locate_child-child.result.0 at.leads in
     rw c.in-Inner.is
     (leaf_for_node total slots c.args.height c.in-Inner.inner node c.args.key.now c.locate_child-child.result.0 c.locate_child-child.result.1 c.find_leaf.result s c.get_inner.ensures
-      leads at.in_range at.child c.find_leaf.ensures.leaf)
+    leads at.in_range at.child c.find_leaf.ensures.leaf)
 
 pub returns-in-Leaf-clause-way : goal.returns-in-Leaf-clause-way
 returns-in-Leaf-clause-way g t c =

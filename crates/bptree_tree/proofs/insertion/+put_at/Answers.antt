@@ -45,11 +45,28 @@ put_at-requires g t c κs within =
     let leads = node_leads total (bare old) c.args.height c.in-Inner.inner c.inner_at.result.now (can_stands (bare old) c.args.height c.args.key (Inner c.in-Inner.inner) can) is c.args.key c.locate_child-place.result.0 at.leads in
     let when = rw is at c.in-Ok.ensures.when in
     let up = inner_above (bare old) c.args.height c.args.key c.in-Inner.inner can in
-    let full : IsFullFor cmp (bare old) c.args.height (Inner c.in-Inner.inner) c.args.key = rw c.in-Inner.is at c.requires.full in
-    (omega (arith, up),
-     (within.0, (within.1.0, (within.1.1.0, (within.1.1.1, (c.requires.every,
-      (child_reached total g.S.Argument.Argument.is_summary c.requires.every old mid mid c.args.height c.in-Inner.inner c.args.key c.args.value c.inner_at.result.now c.locate_child-place.result.0 c.locate_child-place.result.1 c.in-Ok.room can is leads at.child at.ascending c.in-Ok.ensures.room when,
-       child_full total g.S.Argument.Argument.is_summary c.requires.every old mid mid c.args.height c.in-Inner.inner c.args.key c.args.value c.inner_at.result.now c.locate_child-place.result.0 c.locate_child-place.result.1 c.in-Ok.room can is leads at.child at.ascending c.in-Ok.ensures.room when full)))))))
+    let full : IsFullFor cmp (bare old) c.args.height (Inner c.in-Inner.inner) c.args.key = rw c.in-Inner.is at c.requires.full in (
+      omega (arith, up),
+      (
+        within.0,
+        (
+          within.1.0,
+          (
+            within.1.1.0,
+            (
+              within.1.1.1,
+              (
+                c.requires.every,
+                (
+                  child_reached total g.S.Argument.Argument.is_summary c.requires.every old mid mid c.args.height c.in-Inner.inner c.args.key c.args.value c.inner_at.result.now c.locate_child-place.result.0 c.locate_child-place.result.1 c.in-Ok.room can is leads at.child at.ascending c.in-Ok.ensures.room when,
+                  child_full total g.S.Argument.Argument.is_summary c.requires.every old mid mid c.args.height c.in-Inner.inner c.args.key c.args.value c.inner_at.result.now c.locate_child-place.result.0 c.locate_child-place.result.1 c.in-Ok.room can is leads at.child at.ascending c.in-Ok.ensures.room when full,
+                ),
+              ),
+            ),
+          ),
+        ),
+      ),
+    )
 
 pub put_in_inner-requires-clause-present : goal.put_in_inner-requires-clause-present
 put_in_inner-requires-clause-present g t c =

@@ -11,9 +11,10 @@ will_split-requires g t c κs within =
     let total = g.met.S.K.Ord.total in
     let slots = bare (g.S.NodeStore.slots c.args.store.now) in
     let s : Stands g.S.K.Ord.cmp slots c.args.height (Inner c.in-Inner.inner) = rw c.in-Inner.is at c.requires in
-    let at = c.locate_child-child.ensures in
-    ((let p = (inner_present total slots c.args.height c.in-Inner.inner s).1 in omega arith),
-     (within.0, (within.1.0, (within.1.1.0, (within.1.1.1, child_stands total slots c.args.height c.in-Inner.inner c.inner_at-node.result.now s c.inner_at-node.ensures c.locate_child-child.result.0 c.locate_child-child.result.1 at.in_range at.child)))))
+    let at = c.locate_child-child.ensures in (
+      (let p = (inner_present total slots c.args.height c.in-Inner.inner s).1 in omega arith),
+      (within.0, (within.1.0, (within.1.1.0, (within.1.1.1, child_stands total slots c.args.height c.in-Inner.inner c.inner_at-node.result.now s c.inner_at-node.ensures c.locate_child-child.result.0 c.locate_child-child.result.1 at.in_range at.child)))),
+    )
 
 pub returns-else-not-is_full : goal.returns-else-not-is_full
 returns-else-not-is_full g t c =

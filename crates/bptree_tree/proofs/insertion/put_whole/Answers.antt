@@ -72,4 +72,4 @@ returns-in-Ok-Split-clause-put g c =
     let r = c.unwrap.result in
     let root = c.grow_root-id.ensures in
     whole_rises g.met.S.K.Ord.total g.S.Argument.Argument.is_summary old mid c.args.height c.args.root c.args.key c.args.leaf c.requires.shape c.in-Ok.room c.in-Ok.ensures.room c.requires.way c.args.value new c.in-Ok-Split.separator c.in-Ok-Split.right puts c.in-Ok.ensures.when r c.unwrap.ensures (g.S.NodeStore.slots c.grow_root-id.new.store) (g.S.NodeStore.slots c.mend-in-Ok-Split.new.store) c.grow_root-id.result root.value root.roots root.updates root.others root.leaves
-      c.next-next.result next c.mend-in-Ok-Split.ensures c.requires.every
+    c.next-next.result next c.mend-in-Ok-Split.ensures c.requires.every

@@ -23,5 +23,5 @@ returns-clause-split g c =
     let seen = same_node (f.leaf c.args.id.0) c.get_leaf.result.now from c.get_leaf.ensures is in
     let lent = c.deref_mut.ensures.value in
     leaf_cut cmp g.met.S.K.Ord.total f r m l new c.args.id fresh c.args.key c.args.value c.in-Ok.separator from split.new.self split.result.value c.gap-slot.result free reserved read c.take_leaf-leaf.ensures.updates c.assign_leaf.ensures c.assign_leaf-2.ensures
-      (rw lent at split.ensures.left) (rw lent at split.ensures.right) (rw lent at split.ensures.parts) split.ensures.left_len split.ensures.right_len
-      (rw is at c.requires.ascending) (rw is at c.requires.absent) (rw seen at c.gap-slot.ensures.value) (rw is at (c.in-Ok.ensures c.args.value))
+    (rw lent at split.ensures.left) (rw lent at split.ensures.right) (rw lent at split.ensures.parts) split.ensures.left_len split.ensures.right_len
+    (rw is at c.requires.ascending) (rw is at c.requires.absent) (rw seen at c.gap-slot.ensures.value) (rw is at (c.in-Ok.ensures c.args.value))

@@ -36,10 +36,11 @@ invariant_of-self-lent g c = λ w.
     let updates = g.met.S.NodeStore.with_leaf_updates tree.store leaf.0 (record node { pairs = set_value_at node.pairs c.in-Ok.slot w }) c.leaf_for-leaf.ensures.stands.present in
     let new = g.S.NodeStore.slots (g.S.NodeStore.with_leaf tree.store leaf.0 (record node { pairs = set_value_at node.pairs c.in-Ok.slot w })) in
     let found = found_in cmp k c.in-Ok.slot c.get_leaf.result.now node (slots.leaf leaf.0) c.get_leaf.ensures read c.in-Ok.ensures.found in
-    let keys = lent_keys total sum slots new tree.height tree.root c.self.invariant.0 ascending k leaf node read c.leaf_for-leaf.ensures c.in-Ok.slot found w updates in
-    (lent_shape total sum slots new tree.height tree.root c.self.invariant.0 ascending k leaf node read c.leaf_for-leaf.ensures c.in-Ok.slot found w updates,
-     c.self.invariant.1 ∙ sym (lent_length total sum slots new tree.height tree.root c.self.invariant.0 ascending k leaf node read c.leaf_for-leaf.ensures c.in-Ok.slot found w updates),
-     rw keys c.self.invariant.2)
+    let keys = lent_keys total sum slots new tree.height tree.root c.self.invariant.0 ascending k leaf node read c.leaf_for-leaf.ensures c.in-Ok.slot found w updates in (
+      lent_shape total sum slots new tree.height tree.root c.self.invariant.0 ascending k leaf node read c.leaf_for-leaf.ensures c.in-Ok.slot found w updates,
+      c.self.invariant.1 ∙ sym (lent_length total sum slots new tree.height tree.root c.self.invariant.0 ascending k leaf node read c.leaf_for-leaf.ensures c.in-Ok.slot found w updates),
+      rw keys c.self.invariant.2,
+    )
 
 -- the value that is lent is the one at the key, and the tree ends with what is written there
 pub returns-in-Ok : goal.returns-in-Ok
@@ -56,17 +57,18 @@ returns-in-Ok g c =
     let ascending : IsAscending cmp (pairs_at slots tree.height tree.root) = tree_ascends total slots (root_least tree.height) tree.height tree.root None None c.self.invariant.0.tree in
     let found = found_in cmp k c.in-Ok.slot c.get_leaf.result.now node (slots.leaf leaf.0) c.get_leaf.ensures read c.in-Ok.ensures.found in
     let pairs = λ (w : g.row.S-V.Denot).
-        let updates = g.met.S.NodeStore.with_leaf_updates tree.store leaf.0 (record node { pairs = set_value_at node.pairs c.in-Ok.slot w }) c.leaf_for-leaf.ensures.stands.present in
-        let new = g.S.NodeStore.slots (g.S.NodeStore.with_leaf tree.store leaf.0 (record node { pairs = set_value_at node.pairs c.in-Ok.slot w })) in
-        lent_pairs total sum slots new tree.height tree.root c.self.invariant.0 ascending k leaf node read c.leaf_for-leaf.ensures c.in-Ok.slot found w updates in
+    let updates = g.met.S.NodeStore.with_leaf_updates tree.store leaf.0 (record node { pairs = set_value_at node.pairs c.in-Ok.slot w }) c.leaf_for-leaf.ensures.stands.present in
+    let new = g.S.NodeStore.slots (g.S.NodeStore.with_leaf tree.store leaf.0 (record node { pairs = set_value_at node.pairs c.in-Ok.slot w })) in
+    lent_pairs total sum slots new tree.height tree.root c.self.invariant.0 ascending k leaf node read c.leaf_for-leaf.ensures c.in-Ok.slot found w updates in
     let stores = lent_store total sum g.S.NodeStore.slots g.S.NodeStore.with_leaf tree.store tree.height tree.root ascending k leaf node read c.leaf_for-leaf.ensures c.in-Ok.slot found c.self.invariant.0 in
     let sorted = leaf_ascends total slots tree.height tree.root leaf node c.leaf_for-leaf.ensures.stands ascending read in
-    rw (← c.self.view_is)
-    (same_lending (λ w i. record { contents = pairs w i; store = stores w i; root = tree.root; height = tree.height; root_argument = tree.root_argument }),
-     record {
-       writes_back = tt;
-       value = sym c.value_at_mut.ensures.value ∙ (value_at_place cmp total node.pairs sorted k c.in-Ok.slot found ∙ sym (value_in_leaf total slots tree.height tree.root k leaf node c.leaf_for-leaf.ensures read));
-     })
+    rw (← c.self.view_is) (
+      same_lending (λ w i. record { contents = pairs w i; store = stores w i; root = tree.root; height = tree.height; root_argument = tree.root_argument }),
+      record {
+        writes_back = tt;
+        value = sym c.value_at_mut.ensures.value ∙ (value_at_place cmp total node.pairs sorted k c.in-Ok.slot found ∙ sym (value_in_leaf total slots tree.height tree.root k leaf node c.leaf_for-leaf.ensures read));
+      },
+    )
 
 -- nothing is lent
 pub returns-in-Err : goal.returns-in-Err
@@ -79,9 +81,10 @@ returns-in-Err g c =
     let node = c.get_leaf.result.now in
     let k = c.args.k.now in
     let ascending : IsAscending cmp (pairs_at slots tree.height tree.root) = tree_ascends total slots (root_least tree.height) tree.height tree.root None None c.self.invariant.0.tree in
-    let sorted = leaf_ascends total slots tree.height tree.root leaf node c.leaf_for-leaf.ensures.stands ascending c.get_leaf.ensures in
-    (ap inr c.self.view_is,
-     record {
-       writes_back = tt;
-       value = rw (← c.self.view_is) (sym (value_in_leaf total slots tree.height tree.root k leaf node c.leaf_for-leaf.ensures c.get_leaf.ensures ∙ none_if_absent cmp node.pairs k (c.in-Err.ensures.place sorted).0));
-     })
+    let sorted = leaf_ascends total slots tree.height tree.root leaf node c.leaf_for-leaf.ensures.stands ascending c.get_leaf.ensures in (
+      ap inr c.self.view_is,
+      record {
+        writes_back = tt;
+        value = rw (← c.self.view_is) (sym (value_in_leaf total slots tree.height tree.root k leaf node c.leaf_for-leaf.ensures c.get_leaf.ensures ∙ none_if_absent cmp node.pairs k (c.in-Err.ensures.place sorted).0));
+      },
+    )

@@ -20,10 +20,11 @@ invariant_of-self g c =
     let tree = c.self.inside in
     let slots = g.S.NodeStore.slots tree.store in
     let sorted = tree_ascends total slots (root_least tree.height) tree.height tree.root None None c.self.invariant.0.tree in
-    let put = c.in-Ok.ensures.put in
-    (put.0,
-     rw put.1 (ap (λ n. n + 1) c.self.invariant.1 ∙ sym (one_more g.S.K.Ord.cmp (pairs_at slots tree.height tree.root) c.args.k total sorted c.args.v c.in-Ok.was c.in-Ok.ensures.was c.if-is_none-2.ensures)),
-     c.requires.summaries tree.root_argument _)
+    let put = c.in-Ok.ensures.put in (
+      put.0,
+      rw put.1 (ap (λ n. n + 1) c.self.invariant.1 ∙ sym (one_more g.S.K.Ord.cmp (pairs_at slots tree.height tree.root) c.args.k total sorted c.args.v c.in-Ok.was c.in-Ok.ensures.was c.if-is_none-2.ensures)),
+      c.requires.summaries tree.root_argument _,
+    )
 
 pub invariant_of-self-else-is_none-2 : goal.invariant_of-self-else-is_none-2
 invariant_of-self-else-is_none-2 g c =
@@ -31,21 +32,26 @@ invariant_of-self-else-is_none-2 g c =
     let tree = c.self.inside in
     let slots = g.S.NodeStore.slots tree.store in
     let sorted = tree_ascends total slots (root_least tree.height) tree.height tree.root None None c.self.invariant.0.tree in
-    let put = c.in-Ok.ensures.put in
-    (put.0,
-     rw put.1 (c.self.invariant.1 ∙ sym (as_many g.S.K.Ord.cmp (pairs_at slots tree.height tree.root) c.args.k total sorted c.args.v c.in-Ok.was c.in-Ok.ensures.was c.if-is_none-2.ensures)),
-     c.requires.summaries tree.root_argument _)
+    let put = c.in-Ok.ensures.put in (
+      put.0,
+      rw put.1 (c.self.invariant.1 ∙ sym (as_many g.S.K.Ord.cmp (pairs_at slots tree.height tree.root) c.args.k total sorted c.args.v c.in-Ok.was c.in-Ok.ensures.was c.if-is_none-2.ensures)),
+      c.requires.summaries tree.root_argument _,
+    )
 
 pub returns-after-is_none-2-clause-full : goal.returns-after-is_none-2-clause-full
-returns-after-is_none-2-clause-full g c = (λ e. cc,
-     λ facts. absurd (elim c.else-self.branch [
-       | else-self-via-then-self+else-is_none w ↦ true≢false (sym (has_read g.S.K.Ord.cmp c.args.self.now.contents c.args.k w.get.result true w.get.ensures w.if-is_none.ensures) ∙ facts.1)
-       | else-self-via-else-self w ↦ w.if-self.false (c.self.invariant.1 ∙ (rw (← c.self.view_is) at facts.0))
-     ]))
+returns-after-is_none-2-clause-full g c = (
+  λ e. cc,
+  λ facts. absurd (elim c.else-self.branch [
+    | else-self-via-then-self+else-is_none w ↦ true≢false (sym (has_read g.S.K.Ord.cmp c.args.self.now.contents c.args.k w.get.result true w.get.ensures w.if-is_none.ensures) ∙ facts.1)
+    | else-self-via-else-self w ↦ w.if-self.false (c.self.invariant.1 ∙ (rw (← c.self.view_is) at facts.0))
+  ]),
+)
 
 pub returns-in-Err-clause-full : goal.returns-in-Err-clause-full
-returns-in-Err-clause-full g c = (λ e. cc,
-     λ facts. absurd (elim c.else-self.branch [
-       | else-self-via-then-self+else-is_none w ↦ true≢false (sym (has_read g.S.K.Ord.cmp c.args.self.now.contents c.args.k w.get.result true w.get.ensures w.if-is_none.ensures) ∙ facts.1)
-       | else-self-via-else-self w ↦ w.if-self.false (c.self.invariant.1 ∙ (rw (← c.self.view_is) at facts.0))
-     ]))
+returns-in-Err-clause-full g c = (
+  λ e. cc,
+  λ facts. absurd (elim c.else-self.branch [
+    | else-self-via-then-self+else-is_none w ↦ true≢false (sym (has_read g.S.K.Ord.cmp c.args.self.now.contents c.args.k w.get.result true w.get.ensures w.if-is_none.ensures) ∙ facts.1)
+    | else-self-via-else-self w ↦ w.if-self.false (c.self.invariant.1 ∙ (rw (← c.self.view_is) at facts.0))
+  ]),
+)

@@ -1,6 +1,6 @@
 use Rattle.std.proofs.Common.{◌≡◌, ◌<◌, ◌∙◌, sym, ap, arith, length, slice_get, Some}
 use Rattle.bptree_tree.proofs.SpanLemmas.{FrontStep-from}
-use Rattle.bptree_tree.proofs.node_iterator.IterIterator.next.Goals as goal
+use Rattle.bptree_tree.proofs.iterator.IterIterator.next.Goals as goal
 
 pub data_at-pair-requires : goal.data_at-pair-requires
 data_at-pair-requires g c =

@@ -1,6 +1,6 @@
 use Rattle.std.proofs.Common.{◌≡◌, ◌-◌, ◌<◌, ◌≤◌, ◌∙◌, sym, ap, arith, length, slice_get, Some}
 use Rattle.bptree_tree.proofs.SpanLemmas.{CanGoBack-from, BackStep-from}
-use Rattle.bptree_tree.proofs.node_iterator.IterDoubleEndedIterator.next_back.Goals as goal
+use Rattle.bptree_tree.proofs.iterator.IterDoubleEndedIterator.next_back.Goals as goal
 
 pub back_place-to-requires : goal.back_place-to-requires
 back_place-to-requires g c = CanGoBack-from _ _ _ _ _ _ c.self.invariant (omega arith)

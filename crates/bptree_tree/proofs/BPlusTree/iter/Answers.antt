@@ -1,8 +1,0 @@
-use Rattle.std.proofs.Common.{ap, length}
-use Rattle.std.proofs.iter.runs.Sources.{from_front}
-use Rattle.std.specs.Map.Iter.{TakesFirst, deref_pair}
-use Rattle.bptree_tree.proofs.BPlusTree.iter.Goals as goal
-
--- each step gives the first of what is left
-pub returns-clause-runs : goal.returns-clause-runs
-returns-clause-runs g c = from_front (TakesFirst deref_pair) deref_pair (λ s. s) (λ s t h. ap length h.0) (λ s x t h. h)
