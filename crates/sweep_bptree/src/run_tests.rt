@@ -7,6 +7,7 @@ use bptree_stores::node_store_vec::NodeStoreVec;
 use bptree_tree::BPlusTree;
 use std::alloc::AllocError;
 use std::iter::ExactSizeIterator;
+use std::process::Abort;
 use std::test::Fail;
 
 // A key whose letter takes no part in the order.
@@ -26,32 +27,40 @@ fn key_of(number: u64, letter: char) -> Numbered {
     Numbered { number, letter }
 }
 
-#[test]
-fn a_tree_holds_what_was_put(rt: HostRuntime) -> Result<(), Fail> {
-    let mut tree = BPlusTree::new(NodeStoreVec::new(rt.alloc()))?;
-    assert!(rt; tree.is_empty());
-    assert_eq!(rt; tree.first(), None);
-    assert_eq!(rt; tree.iter().next(), None);
-    for (key, value, old) in [(2u64, 20, None), (1, 10, None), (2, 21, Some(20))] {
-        assert_eq!(rt; tree.insert(key, value).ok(), Some(old));
-    }
-    assert_eq!(rt; tree.get(&2), Some(&21));
-    assert_eq!(rt; tree.get(&3), None);
-    assert_eq!(rt; tree.len(), 2);
-    assert!(rt; !tree.is_empty());
-    assert_eq!(rt; tree.first(), Some((&1, &10)));
+// The tree shows the pairs of 1 and 2, in this order.
+fn assert_two_pairs(rt: &impl Abort, tree: &BPlusTree<NodeStoreVec<u64, i32>>) {
     let mut pairs = tree.iter();
     assert_eq!(rt; pairs.len(), 2);
     assert_eq!(rt; pairs.next(), Some((&1, &10)));
     assert_eq!(rt; pairs.next(), Some((&2, &21)));
     assert_eq!(rt; pairs.len(), 0);
     assert_eq!(rt; pairs.next(), None);
+}
+
+#[test]
+fn a_tree_holds_what_was_put(rt: HostRuntime) -> Result<(), Fail> {
+    let mut tree: BPlusTree<NodeStoreVec<u64, i32>> = BPlusTree::new(NodeStoreVec::new(
+        rt.alloc(),
+    ))?;
+    assert!(rt; tree.is_empty());
+    assert_eq!(rt; tree.first(), None);
+    assert_eq!(rt; tree.insert(2, 20).ok(), Some(None));
+    assert_eq!(rt; tree.insert(1, 10).ok(), Some(None));
+    assert_eq!(rt; tree.insert(2, 21).ok(), Some(Some(20)));
+    assert_eq!(rt; tree.get(&2), Some(&21));
+    assert_eq!(rt; tree.get(&3), None);
+    assert_eq!(rt; tree.len(), 2);
+    assert!(rt; !tree.is_empty());
+    assert_eq!(rt; tree.first(), Some((&1, &10)));
+    assert_two_pairs(&rt, &tree);
     Ok(())
 }
 
 #[test]
 fn an_equal_key_stays(rt: HostRuntime) -> Result<(), Fail> {
-    let mut tree = BPlusTree::new(NodeStoreVec::new(rt.alloc()))?;
+    let mut tree: BPlusTree<NodeStoreVec<Numbered, i32>> = BPlusTree::new(NodeStoreVec::new(
+        rt.alloc(),
+    ))?;
     assert_eq!(rt; tree.insert(key_of(1, 'a'), 10).ok(), Some(None));
     assert_eq!(rt; tree.insert(key_of(1, 'b'), 20).ok(), Some(Some(10)));
     let stored = tree.first().map(|(key, value)| (key.letter, *value));
@@ -61,7 +70,9 @@ fn an_equal_key_stays(rt: HostRuntime) -> Result<(), Fail> {
 
 #[test]
 fn a_run_answers_each_command(rt: HostRuntime) -> Result<(), Fail> {
-    let mut tree = BPlusTree::new(NodeStoreVec::new(rt.alloc()))?;
+    let mut tree: BPlusTree<NodeStoreVec<Numbered, i32>> = BPlusTree::new(NodeStoreVec::new(
+        rt.alloc(),
+    ))?;
     let commands = vec![in rt.alloc();
         Command::First,
         Command::Insert(key_of(1, 'a'), 10),
@@ -110,7 +121,7 @@ fn is_found_by_clone<K: Key>(
     if small >= great || clone != great {
         return Ok(false);
     }
-    let mut tree = BPlusTree::new(NodeStoreVec::new(rt.alloc()))?;
+    let mut tree: BPlusTree<NodeStoreVec<K, i32>> = BPlusTree::new(NodeStoreVec::new(rt.alloc()))?;
     if tree.insert(great, 2).is_err() || tree.insert(small, 1).is_err() {
         return Ok(false);
     }
