@@ -21,3 +21,4 @@ pub mod Along
 pub mod LeafPlaces
 pub mod LeafCut
 pub mod PutSteps
+pub mod ThreeLeaves

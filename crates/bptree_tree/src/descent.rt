@@ -8,12 +8,7 @@ use bptree_nodes::node_id::{LeafNodeId, NodeId};
 use bptree_stores::node_stores::NodeStore;
 
 /// The leaf that a key belongs to, in the tree of a height under a number.
-pub fn find_leaf<S: NodeStore>(
-    store: &S,
-    id: NodeId,
-    height: usize,
-    key: &S::K,
-) -> LeafNodeId
+pub fn find_leaf<S: NodeStore>(store: &S, id: NodeId, height: usize, key: &S::K) -> LeafNodeId
     requires { Stands S.K.cmp (S.slots store.now) height id }
     ensures { IsLeafFor S.K.cmp (S.slots store.now) height id key.now result }
 {

@@ -7,6 +7,9 @@ ghost use Rattle.bptree_nodes.specs.Contents.{IsAscending, value};
 ghost use Rattle.bptree_nodes.specs.Slot.{IsEmpty};
 ghost use Rattle.bptree_tree.specs.Shape.{IsWellShaped};
 
+#[cfg(test)]
+mod reading_tests;
+
 use crate::descent::{first_leaf, last_leaf};
 use crate::node_iterator::Iter;
 use crate::reading;
