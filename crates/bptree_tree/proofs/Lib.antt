@@ -25,3 +25,4 @@ pub mod PutSteps
 pub mod WholePut
 pub mod Upserted
 pub mod Counted
+pub mod ThreeLeaves

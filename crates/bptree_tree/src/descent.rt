@@ -31,7 +31,8 @@ pub fn first_leaf<S: NodeStore>(store: &S, id: NodeId, height: usize) -> LeafNod
     match id {
         NodeId::Leaf(leaf) => leaf,
         NodeId::Inner(inner) => {
-            let child = store.get_inner(inner).child_id(0);
+            let node = store.get_inner(inner);
+            let child = node.child_id(0);
             first_leaf(store, child, height - 1)
         }
     }

@@ -1,6 +1,7 @@
 //! The pairs of a tree, one by one from both ends, along the links of its leaves.
 ghost use Rattle.std.specs.Prelude.{◌≡◌, IsSome, Some, length, IfSome, ⊤};
-ghost use Rattle.std.specs.Iterator.{item_count};
+ghost use Rattle.std.specs.Iterator.{at_most, item_count, UpTo};
+ghost use Rattle.std.specs.Iterator.SizeHint.{IsWithinCount};
 ghost use Rattle.std.specs.Map.Iter.{TakesFirst, TakesLast, deref_pair};
 ghost use Rattle.bptree_tree.specs.Span.{leaves_of, pairs_left, IsBetween, CanGoOn, IsFrontPlace, CanGoBack, IsBackPlace};
 
@@ -116,7 +117,11 @@ impl<'a, S: NodeStore> Iterator for Iter<'a, S> {
         Some(pair)
     }
 
-    fn size_hint(&self) -> (usize, Option<usize>) {
+    fn size_hint(&self) -> (usize, Option<usize>)
+        ensures lower { IsWithinCount result.0 (at_most (length self.now)) }
+        ensures upper { IfSome result.1 (UpTo (at_most (length self.now))) }
+        ensures exact { result ≡ (length self.now, Some (length self.now)) }
+    {
         (self.len, Some(self.len))
     }
 }

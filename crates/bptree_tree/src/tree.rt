@@ -8,6 +8,9 @@ ghost use Rattle.bptree_nodes.specs.Slot.{IsEmpty};
 ghost use Rattle.bptree_tree.specs.Refusal.{pair_of};
 ghost use Rattle.bptree_tree.specs.Shape.{IsWellShaped};
 
+#[cfg(test)]
+mod reading_tests;
+
 use crate::descent::{first_leaf, last_leaf};
 use crate::insertion::upsert;
 use crate::iterator::Iter;

@@ -1,0 +1,354 @@
+//! Reads of an empty tree, and of one inner node over three leaves, against pairs that are known beforehand.
+ghost use Rattle.std.specs.Prelude.{◌≡◌, ◌≤◌, ℕ, None, IfOk, IsTrue, length};
+ghost use Rattle.std.specs.List.{AllByRecursion};
+ghost use Rattle.std.specs.Ordering.{nat_cmp};
+ghost use Rattle.bptree_nodes.specs.Contents.{IsAscending};
+ghost use Rattle.bptree_tree.specs.Order.{Within};
+
+use crate::tree::BPlusTree;
+use bptree_nodes::inner_node::InnerNode;
+use bptree_nodes::key::Key;
+use bptree_nodes::leaf_node::LeafNode;
+use bptree_nodes::node_id::{LeafNodeId, NodeId};
+use bptree_stores::node_store_vec::NodeStoreVec;
+use bptree_stores::node_stores::NodeStore;
+use std::alloc::{AllocError, Global};
+use std::process::Abort;
+use std::test::Fail;
+
+type Store = NodeStoreVec<u32, u32>;
+
+// Whether a key is not below the one bound, and below the other.
+fn is_within(low: Option<u32>, high: Option<u32>, key: u32) -> bool
+    ensures { IsTrue result → Within nat_cmp low high key }
+{
+    let above = match low {
+        Some(bound) => bound <= key,
+        None => true,
+    };
+    let below = match high {
+        Some(bound) => key < bound,
+        None => true,
+    };
+    above && below
+}
+
+// A leaf of 32 even keys from twice `first` on and below twice `past`, each with the value that is 1000 greater.
+fn leaf_of(
+    rt: &impl Abort,
+    alloc: Global,
+    first: u32,
+    past: u32,
+    low: Option<u32>,
+    high: Option<u32>,
+) -> Result<Box<LeafNode<u32, u32>>, AllocError>
+    ensures within { IfOk result (λ b. AllByRecursion (λ p. Within nat_cmp low high p.0) b.value.pairs) }
+    ensures ascending { IfOk result (λ b. IsAscending nat_cmp b.value.pairs) }
+    ensures enough { IfOk result (λ b. 16 ≤ length b.value.pairs) }
+    ensures fits { IfOk result (λ b. length b.value.pairs ≤ 64) }
+    ensures links { IfOk result (λ b. (b.value.prev ≡ None) × (b.value.next ≡ None)) }
+{
+    let mut leaf = LeafNode::new(alloc)?;
+    for half in first..past {
+        let key = half.saturating_mul(2);
+        if is_within(low, high, key) {
+            leaf.try_upsert(key, key.saturating_add(1000));
+        }
+    }
+    assert_eq!(rt; leaf.len(), 32);
+    Ok(leaf)
+}
+
+// The even keys below 192 in three leaves of 32 pairs each, under one inner node.
+fn three_leaves(rt: &impl Abort, alloc: Global) -> Result<BPlusTree<Store>, Fail> {
+    let mut store = NodeStoreVec::new(alloc);
+    let first = store.reserve_leaf()?;
+    let second = store.reserve_leaf()?;
+    let third = store.reserve_leaf()?;
+    let mut low = leaf_of(rt, alloc, 0, 32, None, Some(64))?;
+    low.set_next(Some(second));
+    let mut middle = leaf_of(rt, alloc, 32, 64, Some(64), Some(128))?;
+    middle.set_prev(Some(first));
+    middle.set_next(Some(third));
+    let mut high = leaf_of(rt, alloc, 64, 96, Some(128), None)?;
+    high.set_prev(Some(second));
+    let len = low.len() + (middle.len() + high.len());
+    store.assign_leaf(first, low);
+    store.assign_leaf(second, middle);
+    store.assign_leaf(third, high);
+    let keys = vec![in alloc; 64, 128]?;
+    let children = vec![in alloc;
+        NodeId::Leaf(first),
+        NodeId::Leaf(second),
+        NodeId::Leaf(third),
+    ]?;
+    let arguments = vec![in alloc; (), (), ()]?;
+    let node = InnerNode::new(alloc, keys, children, arguments)?;
+    let Ok(root) = store.add_inner(node) else {
+        return Err(Fail::from(AllocError));
+    };
+    Ok(BPlusTree {
+        store,
+        root: NodeId::Inner(root),
+        height: 1,
+        len,
+        root_argument: (),
+    })
+}
+
+// Asserts that so many keys or pairs are enough for a node between these bounds, and not too many. The root alone has
+// no bounds.
+fn assert_size<K>(
+    rt: &impl Abort,
+    len: usize,
+    root_least: usize,
+    low: Option<&K>,
+    high: Option<&K>,
+) {
+    let least = if low.is_none() && high.is_none() {
+        root_least
+    } else {
+        16
+    };
+    assert!(rt; least <= len && len <= 64);
+}
+
+// Asserts that a key stands between two bounds, the lower one included.
+fn assert_between<K: Key>(rt: &impl Abort, key: &K, low: Option<&K>, high: Option<&K>) {
+    if let Some(bound) = low {
+        assert!(rt; bound <= key);
+    }
+    if let Some(bound) = high {
+        assert!(rt; key < bound);
+    }
+}
+
+// Asserts the size of a leaf, and that its keys ascend between two bounds.
+fn assert_leaf<K: Key, V: Drop>(
+    rt: &impl Abort,
+    leaf: &LeafNode<K, V>,
+    low: Option<&K>,
+    high: Option<&K>,
+) {
+    assert_size(rt, leaf.len(), 0, low, high);
+    let mut before = None;
+    for key in leaf.keys() {
+        if let Some(smaller) = before {
+            assert!(rt; smaller < key);
+        }
+        assert_between(rt, key, low, high);
+        before = Some(key);
+    }
+}
+
+// Asserts the sizes, the depth and the bounds of a tree of a height. It gathers its leaves in order.
+fn assert_subtree<'a, S: NodeStore>(
+    rt: &impl Abort,
+    store: &'a S,
+    id: NodeId,
+    height: usize,
+    low: Option<&'a S::K>,
+    high: Option<&'a S::K>,
+    leaves: &mut Vec<LeafNodeId>,
+) -> Result<(), AllocError> {
+    let inner = match id {
+        NodeId::Leaf(id) => {
+            assert_eq!(rt; height, 0);
+            let leaf = store.try_get_leaf(id).expect(rt, "a leaf stands there");
+            assert_leaf(rt, leaf, low, high);
+            return Ok(leaves.push(id)?);
+        }
+        NodeId::Inner(inner) => inner,
+    };
+    assert!(rt; height > 0);
+    let node = store
+        .try_get_inner(inner)
+        .expect(rt, "an inner node stands there");
+    assert_size(rt, node.len(), 1, low, high);
+    assert!(rt; node.len() > 0);
+    let mut left = low;
+    for place in 0..node.len() {
+        let right = Some(node.key(place));
+        assert_subtree(
+            rt,
+            store,
+            node.child_id(place),
+            height - 1,
+            left,
+            right,
+            leaves,
+        )?;
+        left = right;
+    }
+    assert_subtree(
+        rt,
+        store,
+        node.child_id(node.len()),
+        height - 1,
+        left,
+        high,
+        leaves,
+    )
+}
+
+// Asserts that the links of the leaves follow their order, and counts their pairs.
+fn assert_linked<S: NodeStore>(rt: &impl Abort, store: &S, leaves: &[LeafNodeId]) -> usize {
+    let mut pairs: usize = 0;
+    let mut before = None;
+    let mut expected = leaves.first().copied();
+    for (place, id) in leaves.iter().enumerate() {
+        let leaf = store.try_get_leaf(*id).expect(rt, "a leaf stands there");
+        assert_eq!(rt; expected, Some(*id));
+        assert_eq!(rt; leaf.prev(), before);
+        assert_eq!(rt;
+            leaf.next().is_some(),
+            place.saturating_add(1) < leaves.len()
+        );
+        pairs = pairs.saturating_add(leaf.len());
+        before = Some(*id);
+        expected = leaf.next();
+    }
+    pairs
+}
+
+// Asserts that a tree is well shaped, by a walk over its nodes.
+fn assert_well_shaped<S: NodeStore>(
+    rt: &impl Abort,
+    alloc: Global,
+    tree: &BPlusTree<S>,
+) -> Result<(), AllocError> {
+    let store = tree.node_store();
+    let mut leaves = Vec::new(alloc);
+    assert_subtree(
+        rt,
+        store,
+        tree.root_id(),
+        tree.height(),
+        None,
+        None,
+        &mut leaves,
+    )?;
+    assert_eq!(rt; assert_linked(rt, store, &leaves), tree.len());
+    Ok(())
+}
+
+#[test]
+fn an_empty_tree_has_nothing_to_read(rt: HostRuntime) -> Result<(), Fail> {
+    let mut tree: BPlusTree<Store> = BPlusTree::new(NodeStoreVec::new(rt.alloc()))?;
+    assert_well_shaped(&rt, rt.alloc(), &tree)?;
+    assert!(rt; tree.is_empty());
+    assert_eq!(rt; tree.len(), 0);
+    assert_eq!(rt; tree.height(), 0);
+    assert!(rt; tree.get(&0).is_none());
+    assert!(rt; tree.get_mut(&0).is_none());
+    assert!(rt; tree.first().is_none());
+    assert!(rt; tree.last().is_none());
+    let mut pairs = tree.iter();
+    assert!(rt; pairs.next().is_none());
+    assert!(rt; pairs.next_back().is_none());
+    Ok(())
+}
+
+#[test]
+fn a_tree_of_three_leaves_is_well_shaped(rt: HostRuntime) -> Result<(), Fail> {
+    let tree = three_leaves(&rt, rt.alloc())?;
+    assert_well_shaped(&rt, rt.alloc(), &tree)?;
+    assert!(rt; !tree.is_empty());
+    assert_eq!(rt; tree.len(), 96);
+    assert_eq!(rt; tree.height(), 1);
+    assert_eq!(rt; tree.first(), Some((&0, &1000)));
+    assert_eq!(rt; tree.last(), Some((&190, &1190)));
+    Ok(())
+}
+
+#[test]
+fn finds_each_key_and_no_gap(rt: HostRuntime) -> Result<(), Fail> {
+    let tree = three_leaves(&rt, rt.alloc())?;
+    // Neighbours in one leaf are found by the remembered leaf, and the next one by a search from the root.
+    for half in 0..96_u32 {
+        let key = half.saturating_mul(2);
+        assert_eq!(rt; tree.get(&key), Some(&key.saturating_add(1000)), "at {key}");
+        assert_eq!(rt; tree.get(&key.saturating_add(1)), None, "above {key}");
+    }
+    // Each is in another leaf than the one before.
+    for (key, value) in [
+        (190, 1190),
+        (0, 1000),
+        (64, 1064),
+        (62, 1062),
+        (128, 1128),
+        (126, 1126),
+    ] {
+        assert_eq!(rt; tree.get(&key), Some(&value), "at {key}");
+        assert_eq!(rt; tree.get(&key), Some(&value), "again at {key}");
+    }
+    assert_eq!(rt; tree.get(&u32::MAX), None);
+    Ok(())
+}
+
+#[test]
+fn writes_one_value_alone(rt: HostRuntime) -> Result<(), Fail> {
+    let mut tree = three_leaves(&rt, rt.alloc())?;
+    assert!(rt; tree.get_mut(&63).is_none());
+    for key in [0_u32, 64, 190] {
+        let value = tree.get_mut(&key).expect(&rt, "the key is present");
+        *value = 7;
+    }
+    for half in 0..96_u32 {
+        let key = half.saturating_mul(2);
+        let value = match key {
+            0 | 64 | 190 => 7,
+            _ => key.saturating_add(1000),
+        };
+        assert_eq!(rt; tree.get(&key), Some(&value), "at {key}");
+    }
+    assert_well_shaped(&rt, rt.alloc(), &tree)?;
+    assert_eq!(rt; tree.len(), 96);
+    Ok(())
+}
+
+#[test]
+fn gives_the_pairs_from_both_ends(rt: HostRuntime) -> Result<(), Fail> {
+    let tree = three_leaves(&rt, rt.alloc())?;
+    let mut forwards = tree.iter();
+    let mut backwards = tree.iter();
+    let mut ends = tree.iter();
+    for half in 0..96_u32 {
+        let key = half.saturating_mul(2);
+        let other = 190_u32.saturating_sub(key);
+        assert_eq!(rt; forwards.next(), Some((&key, &key.saturating_add(1000))));
+        assert_eq!(rt;
+            backwards.next_back(),
+            Some((&other, &other.saturating_add(1000)))
+        );
+        if half < 48 {
+            assert_eq!(rt; ends.next().map(|pair| *pair.0), Some(key));
+            assert_eq!(rt; ends.next_back().map(|pair| *pair.0), Some(other));
+        }
+    }
+    for mut over in [forwards, backwards, ends] {
+        assert_eq!(rt; over.next(), None);
+        assert_eq!(rt; over.next_back(), None);
+        assert_eq!(rt; over.next(), None);
+    }
+    Ok(())
+}
+
+#[test]
+fn a_clone_of_an_iterator_goes_on_alone(rt: HostRuntime) -> Result<(), Fail> {
+    let tree = three_leaves(&rt, rt.alloc())?;
+    let mut pairs = tree.iter();
+    for _ in 0..40 {
+        pairs.next();
+    }
+    pairs.next_back();
+    let mut copy = pairs.clone()?;
+    assert_eq!(rt; copy.len(), 55);
+    assert_eq!(rt; copy.size_hint(), (55, Some(55)));
+    assert_eq!(rt; copy.next(), Some((&80, &1080)));
+    assert_eq!(rt; copy.next_back(), Some((&188, &1188)));
+    assert_eq!(rt; copy.len(), 53);
+    assert_eq!(rt; pairs.len(), 55);
+    assert_eq!(rt; pairs.next(), Some((&80, &1080)));
+    Ok(())
+}
