@@ -1,14 +1,14 @@
 -- What is found after a pair was put or deleted, the order, and the length.
-use Rattle.std.proofs.Common.{◌≡◌, ℕ, ◌+◌, suc, Bool, true, false, not, List, [], ◌∷◌, ◌++◌, length, filter, Option, Some, None, refl, sym, ap, subst, cond, is_some, ◌∙◌, ◌||◌, ◌&&◌, arith, length-append}
+use Rattle.std.proofs.Common.{◌≡◌, ◌+◌, Bool, true, false, not, List, [], ◌∷◌, ◌++◌, length, filter, Option, Some, None, refl, sym, ap, cond, is_some, ◌∙◌, ◌||◌, ◌&&◌, arith, length-append}
 use Rattle.std.specs.declared.cmp.Ordering.{Ordering}
 use Rattle.std.specs.declared.cmp.Ordering.TheVariants.{Less, Equal, Greater}
-use Rattle.std.specs.Ordering.{is_eq, ordering_reverse}
+use Rattle.std.specs.Ordering.{is_eq}
 use Rattle.std.specs.Cmp.{IsTotalOrder}
 use Rattle.std.specs.Map.{keys_of}
 use Rattle.std.proofs.lemmas.Cmp.{tied_itself, tied_back}
 use Rattle.std.proofs.lemmas.List.Kept.{IsStrictlySortedBy-filter}
 use Rattle.bptree_nodes.specs.Contents.{IsAscending, pairs_below, pairs_above, has, value, put, del}
-use Rattle.bptree_nodes.specs.Places.{AllAnswer, IsGap, IsHit}
+use Rattle.bptree_nodes.specs.Places.{IsGap, IsHit}
 use Rattle.bptree_nodes.proofs.Parted.{value_gap, value_hit, put_gap, put_hit, del_gap, del_hit}
 use Rattle.bptree_nodes.proofs.Ascending.{gap_if_absent}
 use Rattle.bptree_nodes.proofs.Equal.{value_at_equal, has_where_value}

@@ -1,10 +1,9 @@
 -- Leaves that differ in values alone: the shape of a tree stays, and so do its keys.
-use Rattle.std.proofs.Common.{◌≡◌, ℕ, zero, suc, ◌+◌, ◌≤◌, List, [], ◌∷◌, ◌++◌, length, map, refl, sym, ap, subst, ◌∙◌, arith, Option, Some, None, cond, eqb}
+use Rattle.std.proofs.Common.{◌≡◌, ℕ, zero, suc, ◌+◌, List, [], ◌∷◌, ◌++◌, length, map, refl, sym, ap, ◌∙◌, arith, Option, Some, None, cond, eqb}
 use Rattle.std.specs.declared.cmp.Ordering.{Ordering}
-use Rattle.std.specs.List.{AllByRecursion, AllZip}
+use Rattle.std.specs.List.{AllByRecursion}
 use Rattle.std.specs.Map.{keys_of}
 use Rattle.std.proofs.lemmas.Map.Entries.{length-keys_of}
-use Rattle.bptree_nodes.specs.Contents.{IsAscending}
 use Rattle.bptree_nodes.specs.Inner.{Inner}
 use Rattle.bptree_nodes.specs.Leaf.{Leaf}
 use Rattle.bptree_nodes.specs.Slot.{Slot, Slots, Free, Held, Present, IsPresent}
@@ -12,7 +11,7 @@ use Rattle.bptree_nodes.specs.declared.node_id.LeafNodeId.{LeafNodeId}
 use Rattle.bptree_nodes.specs.declared.node_id.NodeId.{NodeId}
 use Rattle.bptree_nodes.specs.declared.node_id.NodeId.TheVariants as kind
 use Rattle.bptree_tree.specs.Order.{flat, total, Within, Chain}
-use Rattle.bptree_tree.specs.Shape.{leaf_pairs, leaf_prev, leaf_next, inner_keys, inner_children, inner_arguments, pairs_at, leaves_at, leaf_count, inner_count, stands, AreLinked, IsSummed, IsTree, IsWellShaped, root_least}
+use Rattle.bptree_tree.specs.Shape.{leaf_pairs, leaf_prev, leaf_next, inner_keys, inner_children, pairs_at, leaves_at, leaf_count, inner_count, stands, AreLinked, IsSummed, IsTree, IsWellShaped, root_least}
 
 -- both are free, both are held, or both have leaves of the same keys and links
 pub record AreAlike {K V : Type 0} (old new : Slot (Leaf K V)) : Type 0 where

@@ -1,16 +1,13 @@
 -- Changes of a store's slots, as changes of the nodes alone.
-use Rattle.std.proofs.Common.{◌≡◌, ◌≢◌, ℕ, zero, suc, ◌+◌, ◌-◌, ◌<◌, ◌≤◌, inl, inr, Bool, true, false, List, [], ◌∷◌, ◌++◌, length, refl, sym, ap, subst, ◌∙◌, arith, Option, Some, None, add-one}
+use Rattle.std.proofs.Common.{◌≡◌, ℕ, suc, ◌+◌, ◌<◌, ◌≤◌, ◌∷◌, ◌++◌, length, refl, sym, ap, subst, ◌∙◌, arith, add-one}
 use Rattle.std.specs.List.{insert}
-use Rattle.std.proofs.Math.Path.{fun_ext}
 use Rattle.std.proofs.lemmas.List.Edits.{length-insert}
-use Rattle.std.proofs.lemmas.Bool.{cases_eq}
 use Rattle.bptree_nodes.specs.Inner.{Inner, HasKeys, with_entry}
 use Rattle.bptree_nodes.specs.Leaf.{Leaf}
-use Rattle.bptree_nodes.specs.Slot.{Slot, Slots, Free, Held, Present, IsPresent, Updates, UpdatesInner, UpdatesLeaf}
+use Rattle.bptree_nodes.specs.Slot.{Slot, Slots, Free, Held, Present, IsPresent, UpdatesInner}
 use Rattle.bptree_nodes.specs.declared.node_id.InnerNodeId.{InnerNodeId}
-use Rattle.bptree_nodes.specs.declared.node_id.LeafNodeId.{LeafNodeId}
 use Rattle.bptree_nodes.specs.declared.node_id.NodeId.{NodeId}
-use Rattle.bptree_tree.specs.Bare.{bare_slot, bare, KeepsHeld}
+use Rattle.bptree_tree.specs.Bare.{bare_slot, bare}
 use Rattle.bptree_tree.specs.Change.{Links, Splits}
 
 -- a node that stands is seen, and what is seen stands

@@ -1,14 +1,12 @@
 -- One level down: from an inner node to the child that a key leads to.
-use Rattle.std.proofs.Common.{◌≡◌, ℕ, zero, suc, ◌+◌, ◌-◌, ◌<◌, ◌≤◌, List, [], ◌∷◌, ◌++◌, length, get_or, take, drop, refl, sym, ap, subst, ◌∙◌, arith, Option, Some, None, append_assoc, append-nil, length-append, slice_get}
+use Rattle.std.proofs.Common.{◌≡◌, ℕ, zero, suc, ◌+◌, ◌-◌, ◌<◌, List, [], ◌∷◌, ◌++◌, length, get_or, take, drop, refl, sym, ap, subst, ◌∙◌, arith, Option, Some, append_assoc, append-nil, slice_get}
 use Rattle.std.specs.declared.cmp.Ordering.{Ordering}
-use Rattle.std.specs.declared.cmp.Ordering.TheVariants.{Less, Equal, Greater}
+use Rattle.std.specs.declared.cmp.Ordering.TheVariants.{Less, Greater}
 use Rattle.std.specs.Cmp.{IsTotalOrder}
-use Rattle.std.specs.List.{AllByRecursion}
 use Rattle.std.specs.List.Sorted.{IsStrictlySortedBy}
 use Rattle.std.proofs.lemmas.Option.{get_or_from_slice_get}
 use Rattle.bptree_nodes.specs.Inner.{Inner, IsChildFor}
 use Rattle.bptree_nodes.specs.Leaf.{Leaf}
-use Rattle.bptree_nodes.specs.Places.{AllAnswer}
 use Rattle.bptree_nodes.specs.Slot.{Slot, Slots, Present, IsPresent}
 use Rattle.bptree_nodes.specs.declared.node_id.InnerNodeId.{InnerNodeId}
 use Rattle.bptree_nodes.specs.declared.node_id.LeafNodeId.{LeafNodeId}
@@ -18,7 +16,7 @@ use Rattle.bptree_nodes.proofs.PieceLemmas.{AllByRecursion-append}
 use Rattle.bptree_tree.specs.Leaves.{pairs_of, StandsIn, Stands, IsLeafFor}
 use Rattle.bptree_tree.specs.Order.{flat, Chain, Leads}
 use Rattle.bptree_tree.specs.Shape.{leaf_pairs, inner_keys, inner_children, pairs_at, leaves_at, IsTree}
-use Rattle.bptree_tree.proofs.Walk.{flat_parts, flat-append, chain_smaller, chain_greater, chain_place, chain_length, chain_at, tree_inside, tree_keys, leads_of}
+use Rattle.bptree_tree.proofs.Walk.{flat_parts, flat-append, chain_smaller, chain_greater, chain_length, chain_at, tree_inside, tree_keys, leads_of}
 
 module _ {K V A : Type 0} (slots : Slots (Inner K A) (Leaf K V)) where
   of_all : (h : ℕ) → ((id : NodeId) → pairs_of slots (leaves_at slots h id) ≡ pairs_at slots h id) → (cs : List NodeId) → pairs_of slots (flat (leaves_at slots h) cs) ≡ flat (pairs_at slots h) cs

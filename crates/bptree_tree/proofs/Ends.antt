@@ -1,5 +1,5 @@
 -- The first and the last leaf of a tree, and its first and last pair.
-use Rattle.std.proofs.Common.{◌≡◌, ℕ, zero, suc, ◌+◌, ◌-◌, ◌<◌, ◌≤◌, List, [], ◌∷◌, ◌++◌, length, get_or, take, drop, refl, sym, ap, subst, ◌∙◌, arith, Option, Some, None, append_assoc, append-nil, length-append, slice_get}
+use Rattle.std.proofs.Common.{◌≡◌, ℕ, zero, suc, ◌+◌, ◌-◌, ◌<◌, ◌≤◌, List, [], ◌∷◌, ◌++◌, length, drop, refl, sym, ap, subst, arith, Option, Some, None, append-nil, length-append, slice_get}
 use Rattle.std.proofs.Common.{Bor, IfSome, IsSome, ◌↔◌, true, false}
 use Rattle.std.specs.Option.{option_map}
 use mathlib.Core.Bool.{true≢false}
@@ -7,7 +7,7 @@ use Rattle.std.specs.declared.cmp.Ordering.{Ordering}
 use Rattle.std.specs.List.{AllByRecursion}
 use Rattle.bptree_nodes.specs.Inner.{Inner}
 use Rattle.bptree_nodes.specs.Leaf.{Leaf}
-use Rattle.bptree_nodes.specs.Slot.{Slot, Slots, Present, IsPresent}
+use Rattle.bptree_nodes.specs.Slot.{Slots, Present}
 use Rattle.bptree_nodes.specs.declared.node_id.InnerNodeId.{InnerNodeId}
 use Rattle.bptree_nodes.specs.declared.node_id.LeafNodeId.{LeafNodeId}
 use Rattle.bptree_nodes.specs.declared.node_id.NodeId.{NodeId}
@@ -16,7 +16,7 @@ use Rattle.bptree_nodes.proofs.PieceLemmas.{AllByRecursion-append}
 use Rattle.bptree_tree.specs.Leaves.{pairs_of, StandsIn, Stands, IsFirstLeaf, IsLastLeaf}
 use Rattle.bptree_tree.specs.Order.{flat, Chain}
 use Rattle.bptree_tree.specs.Shape.{leaf_pairs, inner_keys, inner_children, pairs_at, leaves_at, IsTree, root_least}
-use Rattle.bptree_tree.proofs.Down.{stands_above, inner_at}
+use Rattle.bptree_tree.proofs.Down.{stands_above}
 use Rattle.bptree_tree.proofs.Spot.{parts_of_read}
 
 drop_all : {X : Type 0} (xs : List X) (n : ℕ) → length xs ≤ n → drop n xs ≡ []

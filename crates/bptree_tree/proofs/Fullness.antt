@@ -1,20 +1,19 @@
 -- Whether the nodes on the way of a search are full.
-use Rattle.std.proofs.Common.{◌≡◌, ℕ, zero, suc, ◌-◌, ◌<◌, Bool, true, false, ◌&&◌, ◌==◌, length, refl, sym, ap, subst, ◌∙◌, arith, Option, Some, None, slice_get, count_by}
+use Rattle.std.proofs.Common.{◌≡◌, ℕ, zero, suc, ◌-◌, true, false, ◌&&◌, ◌==◌, length, refl, ap, subst, arith, Some, slice_get, count_by}
 use Rattle.std.specs.declared.cmp.Ordering.{Ordering}
 use Rattle.std.specs.Ordering.{is_le}
 use Rattle.std.specs.Cmp.{IsTotalOrder}
 use Rattle.std.specs.List.Sorted.{IsStrictlySortedBy}
 use Rattle.bptree_nodes.specs.Inner.{Inner}
 use Rattle.bptree_nodes.specs.Leaf.{Leaf}
-use Rattle.bptree_nodes.specs.Slot.{Slot, Slots, Present, IsPresent}
+use Rattle.bptree_nodes.specs.Slot.{Slots, Present}
 use Rattle.bptree_nodes.specs.declared.node_id.InnerNodeId.{InnerNodeId}
 use Rattle.bptree_nodes.specs.declared.node_id.LeafNodeId.{LeafNodeId}
 use Rattle.bptree_nodes.specs.declared.node_id.NodeId.{NodeId}
 use Rattle.bptree_nodes.specs.declared.node_id.NodeId.TheVariants as kind
-use Rattle.bptree_tree.specs.Bare.{splits_at, child_for, below, is_full_node}
+use Rattle.bptree_tree.specs.Bare.{splits_at, below}
 use Rattle.bptree_tree.specs.Leaves.{Stands}
-use Rattle.bptree_tree.specs.Shape.{inner_keys, inner_children}
-use Rattle.bptree_tree.proofs.Down.{inner_present, node_keys, leaf_present}
+use Rattle.bptree_tree.proofs.Down.{node_keys}
 
 module _ {K V A : Type 0} {cmp : K → K → Ordering} (total : IsTotalOrder cmp) (slots : Slots (Inner K A) (Leaf K V)) (k : K) where
   pub splits_leaf : (h : ℕ) (id : LeafNodeId) → Stands cmp slots h (kind.Leaf id) → splits_at cmp slots k h (kind.Leaf id) ≡ true

@@ -1,12 +1,11 @@
 -- A present leaf whose range a key is in is the leaf for that key.
-use Rattle.std.proofs.Common.{◌≡◌, ℕ, zero, suc, ◌+◌, ◌<◌, ◌≤◌, inl, inr, Bool, true, false, not, cond, List, [], ◌∷◌, ◌++◌, length, refl, sym, ap, subst, ◌∙◌, arith, Option, Some, None, append_assoc, eqb, IsTrue, ◌&&◌, ◌||◌}
+use Rattle.std.proofs.Common.{◌≡◌, ℕ, zero, suc, ◌+◌, ◌≤◌, inl, inr, Bool, true, false, not, cond, List, [], ◌∷◌, ◌++◌, length, refl, sym, ap, subst, ◌∙◌, arith, Option, Some, None, eqb, ◌&&◌, ◌||◌}
 use Rattle.std.specs.Prelude.{slice_index_or, is_none}
 use mathlib.Core.Bool.{true≢false}
 use Rattle.std.specs.declared.cmp.Ordering.{Ordering}
-use Rattle.std.specs.declared.cmp.Ordering.TheVariants.{Less, Equal, Greater}
+use Rattle.std.specs.declared.cmp.Ordering.TheVariants.{Less, Greater}
 use Rattle.std.specs.Ordering.{is_lt, is_gt}
 use Rattle.std.specs.Cmp.{IsTotalOrder}
-use Rattle.std.specs.List.{AllByRecursion}
 use Rattle.std.specs.Map.{keys_of}
 use Rattle.std.proofs.lemmas.Bool.Decides.{eqb_tells}
 use Rattle.std.proofs.lemmas.Map.Keys.{sorted_head, sorted_tail}
@@ -14,16 +13,16 @@ use Rattle.bptree_nodes.specs.Contents.{IsAscending}
 use Rattle.bptree_nodes.specs.Inner.{Inner}
 use Rattle.bptree_nodes.specs.Leaf.{Leaf, leaf_in_range, reaches_first, reaches_last}
 use Rattle.bptree_nodes.specs.Places.{AllAnswer}
-use Rattle.bptree_nodes.specs.Slot.{Slot, Slots, Free, Held, Present, IsPresent}
+use Rattle.bptree_nodes.specs.Slot.{Slot, Slots, Free, Held, Present}
 use Rattle.bptree_nodes.specs.declared.node_id.LeafNodeId.{LeafNodeId}
 use Rattle.bptree_nodes.specs.declared.node_id.NodeId.{NodeId}
 use Rattle.bptree_nodes.specs.declared.node_id.NodeId.TheVariants as kind
-use Rattle.bptree_nodes.proofs.Ascending.{all_pairs, all_after, greater_turned}
+use Rattle.bptree_nodes.proofs.Ascending.{all_pairs, greater_turned}
 use Rattle.bptree_stores.specs.Hint.{HoldsKey}
 use Rattle.bptree_tree.specs.Leaves.{pairs_of, StandsIn, IsLeafFor}
 use Rattle.bptree_tree.specs.Order.{flat, total}
-use Rattle.bptree_tree.specs.Shape.{leaf_pairs, leaf_prev, leaf_next, inner_children, pairs_at, leaves_at, leaf_count, stands, AreLinked, IsWellShaped, root_least}
-use Rattle.bptree_tree.proofs.Ordered.{by_cases, all_so, less_then_up, up_then_less, smaller_before, ascending_after}
+use Rattle.bptree_tree.specs.Shape.{leaf_prev, leaf_next, inner_children, pairs_at, leaves_at, leaf_count, stands, AreLinked, IsWellShaped, root_least}
+use Rattle.bptree_tree.proofs.Ordered.{by_cases, all_so, less_then_up, smaller_before, ascending_after}
 use Rattle.bptree_tree.proofs.Spot.{parts_of_read}
 use Rattle.bptree_tree.proofs.Walk.{tree_ascends}
 

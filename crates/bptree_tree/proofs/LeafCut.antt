@@ -1,11 +1,11 @@
 -- A full leaf is cut in a store: the states that it goes through, as one change of the nodes alone.
-use Rattle.std.proofs.Common.{◌≡◌, ◌≢◌, ℕ, ◌+◌, ◌-◌, ◌<◌, ◌≤◌, inl, inr, Bool, true, false, List, [], ◌∷◌, ◌++◌, length, take, drop, refl, sym, ap, subst, ◌∙◌, arith, Option, Some, None}
+use Rattle.std.proofs.Common.{◌≡◌, ℕ, ◌-◌, ◌≤◌, inl, inr, false, ◌++◌, length, take, drop, refl, sym, ap, subst, ◌∙◌, arith, Some}
 use Rattle.std.specs.declared.cmp.Ordering.{Ordering}
 use Rattle.std.specs.Cmp.{IsTotalOrder}
 use Rattle.std.specs.List.{insert}
 use Rattle.std.proofs.lemmas.Bool.{cases_lt}
 use Rattle.std.proofs.lemmas.Bool.Decides.{nat_tests}
-use Rattle.bptree_nodes.specs.Contents.{IsAscending, below, has, put}
+use Rattle.bptree_nodes.specs.Contents.{IsAscending, below, has}
 use Rattle.bptree_nodes.specs.Inner.{Inner}
 use Rattle.bptree_nodes.specs.Leaf.{Leaf, split_place}
 use Rattle.bptree_nodes.specs.Slot.{Slot, Slots, Free, Held, Present, IsPresent, UpdatesLeaf}
@@ -13,8 +13,7 @@ use Rattle.bptree_nodes.specs.declared.node_id.LeafNodeId.{LeafNodeId}
 use Rattle.bptree_nodes.specs.declared.node_id.NodeId.TheVariants as kind
 use Rattle.bptree_nodes.proofs.Found.{inserted}
 use Rattle.bptree_tree.specs.Bare.{bare_slot, bare}
-use Rattle.bptree_tree.specs.Change.{StartsAt, SplitsLeaf, IsLeafSplit}
-use Rattle.bptree_tree.specs.Shape.{leaf_pairs}
+use Rattle.bptree_tree.specs.Change.{StartsAt, IsLeafSplit}
 use Rattle.bptree_tree.specs.declared.insertion.Outcome.TheVariants.{Split}
 use Rattle.bptree_tree.proofs.Bared.{same_bare}
 

@@ -1,21 +1,20 @@
 -- A value is written in the leaf that holds its key.
-use Rattle.std.proofs.Common.{◌≡◌, ◌≢◌, ℕ, zero, suc, ◌+◌, ◌<◌, ◌≤◌, inl, inr, Bool, true, false, cond, List, [], ◌∷◌, ◌++◌, length, refl, sym, ap, subst, ◌∙◌, arith, Option, Some, None, append-nil, append_assoc, eqb, slice_get, is_some}
+use Rattle.std.proofs.Common.{◌≡◌, ◌≢◌, ℕ, zero, suc, inl, inr, true, false, cond, List, [], ◌∷◌, ◌++◌, length, refl, sym, ap, subst, ◌∙◌, arith, Option, Some, None, append-nil, eqb, is_some}
 use mathlib.Core.Bool.{true≢false}
 use Rattle.std.specs.declared.cmp.Ordering.{Ordering}
-use Rattle.std.specs.declared.cmp.Ordering.TheVariants.{Less, Equal, Greater}
-use Rattle.std.specs.Ordering.{is_eq}
+use Rattle.std.specs.declared.cmp.Ordering.TheVariants.{Less}
 use Rattle.std.specs.Cmp.{IsTotalOrder}
 use Rattle.std.specs.List.{AllByRecursion}
-use Rattle.std.specs.Map.{keys_of, set_value}
+use Rattle.std.specs.Map.{keys_of}
 use Rattle.std.proofs.lemmas.Bool.Decides.{eqb_tells}
 use Rattle.std.proofs.lemmas.Bool.{eq-eqb}
 use Rattle.std.proofs.lemmas.Map.Entries.{length-keys_of}
-use Rattle.bptree_nodes.specs.Contents.{IsAscending, has, put, value}
+use Rattle.bptree_nodes.specs.Contents.{IsAscending, has, value}
 use Rattle.bptree_nodes.specs.Inner.{Inner}
 use Rattle.bptree_nodes.specs.Leaf.{Leaf, set_value_at}
 use Rattle.bptree_nodes.specs.LeafResults.{HasEqualAt}
 use Rattle.bptree_nodes.specs.Places.{AllAnswer}
-use Rattle.bptree_nodes.specs.Slot.{Slot, Slots, Free, Held, Present, IsPresent, UpdatesLeaf}
+use Rattle.bptree_nodes.specs.Slot.{Slot, Slots, Present, UpdatesLeaf}
 use Rattle.bptree_nodes.specs.declared.node_id.LeafNodeId.{LeafNodeId}
 use Rattle.bptree_nodes.specs.declared.node_id.NodeId.{NodeId}
 use Rattle.bptree_nodes.proofs.Around.{set_value_around}
@@ -23,9 +22,8 @@ use Rattle.bptree_nodes.proofs.Equal.{has_where_value}
 use Rattle.bptree_nodes.proofs.Found.{hit_at}
 use Rattle.bptree_nodes.proofs.LeafContents.{put_at_place}
 use Rattle.bptree_nodes.proofs.Parted.{has_past, has_hit}
-use Rattle.bptree_tree.specs.Leaves.{pairs_of, StandsIn, IsLeafFor}
+use Rattle.bptree_tree.specs.Leaves.{pairs_of, IsLeafFor}
 use Rattle.bptree_tree.specs.Lending.{holder, written, store_written}
-use Rattle.bptree_tree.specs.Order.{flat}
 use Rattle.bptree_tree.specs.Shape.{leaf_pairs, pairs_at, leaves_at, leaf_count, stands, IsWellShaped}
 use Rattle.bptree_tree.proofs.Alike.{AreAlike, shape_same, keys_same, leaves_same}
 use Rattle.bptree_tree.proofs.Down.{pairs_of_leaves}

@@ -1,5 +1,5 @@
 -- Orders and bounds.
-use Rattle.std.proofs.Common.{◌≡◌, Bool, true, false, List, [], ◌∷◌, ◌++◌, refl, sym, ap, ◌∙◌, Option, Some, None}
+use Rattle.std.proofs.Common.{◌≡◌, false, List, [], ◌∷◌, ◌++◌, refl, sym, ap, ◌∙◌, Option, Some, None}
 use mathlib.Core.Bool.{true≢false}
 use Rattle.std.specs.declared.cmp.Ordering.{Ordering}
 use Rattle.std.specs.declared.cmp.Ordering.TheVariants.{Less, Equal, Greater}
@@ -10,8 +10,8 @@ use Rattle.std.specs.Map.{keys_of}
 use Rattle.std.proofs.lemmas.Cmp.{alike_right}
 use Rattle.std.proofs.lemmas.Map.Keys.{sorted_head, sorted_tail}
 use Rattle.bptree_nodes.specs.Contents.{IsAscending}
-use Rattle.bptree_nodes.proofs.Ascending.{greater_turned, less_turned, ascending_cons, all_joined, all_before, all_after, all_keys}
-use Rattle.bptree_tree.specs.Order.{AtLeast, AtMost, Under, Within, Between}
+use Rattle.bptree_nodes.proofs.Ascending.{greater_turned, less_turned, ascending_cons, all_joined, all_after, all_keys}
+use Rattle.bptree_tree.specs.Order.{AtLeast, AtMost, Under}
 
 pub by_cases : {G : Type 0} (o : Ordering) → (o ≡ Less → G) → (o ≡ Equal → G) → (o ≡ Greater → G) → G
 by_cases Less a b c = a refl

@@ -1,17 +1,16 @@
 -- One level of putting a pair: what the states of the store are, from the child to the node above it.
-use Rattle.std.proofs.Common.{◌≡◌, ◌≢◌, ℕ, zero, suc, ◌+◌, ◌-◌, ◌<◌, ◌≤◌, inl, inr, Bool, true, false, ◌&&◌, ◌==◌, List, [], ◌∷◌, ◌++◌, length, refl, sym, ap, subst, ◌∙◌, arith, Option, Some, None, is_some, slice_get, count_by}
+use Rattle.std.proofs.Common.{◌≡◌, ℕ, zero, suc, ◌+◌, ◌-◌, ◌<◌, ◌≤◌, inl, inr, Bool, true, false, ◌&&◌, ◌==◌, List, [], ◌∷◌, length, refl, sym, ap, subst, ◌∙◌, arith, Option, Some, None, is_some, slice_get, count_by}
 use mathlib.Core.Bool.{true≢false}
 use Rattle.std.specs.declared.cmp.Ordering.{Ordering}
 use Rattle.std.specs.Ordering.{is_le}
 use Rattle.std.specs.Cmp.{IsTotalOrder}
 use Rattle.std.specs.List.Sorted.{IsStrictlySortedBy}
-use Rattle.std.proofs.Math.Path.{fun_ext}
 use Rattle.std.proofs.lemmas.Bool.{cases_eq}
 use Rattle.std.proofs.lemmas.Bool.Decides.{nat_tests}
-use Rattle.bptree_nodes.specs.Contents.{IsAscending, has, put}
+use Rattle.bptree_nodes.specs.Contents.{IsAscending, put}
 use Rattle.bptree_nodes.specs.Inner.{Inner}
 use Rattle.bptree_nodes.specs.Leaf.{Leaf}
-use Rattle.bptree_nodes.specs.Slot.{Slot, Slots, Free, Held, Present, IsPresent, Updates, UpdatesInner, UpdatesLeaf}
+use Rattle.bptree_nodes.specs.Slot.{Slot, Slots, Free, Held, Present, IsPresent, Updates}
 use Rattle.bptree_nodes.specs.declared.node_id.InnerNodeId.{InnerNodeId}
 use Rattle.bptree_nodes.specs.declared.node_id.LeafNodeId.{LeafNodeId}
 use Rattle.bptree_nodes.specs.declared.node_id.NodeId.{NodeId}
@@ -22,12 +21,12 @@ use Rattle.bptree_tree.specs.Edit.{CanReach, Edits}
 use Rattle.bptree_tree.specs.Order.{Leads}
 use Rattle.bptree_tree.specs.Path.{LeadsTo}
 use Rattle.bptree_tree.specs.Puts.{IsFullFor, PutsAt}
-use Rattle.bptree_tree.specs.Rooms.{Holds, HoldsIf, IsReady, IsReadyIf, HasRoom, GivesBack, IsElsewhere, IsUsed, is_split}
-use Rattle.bptree_tree.specs.Shape.{leaf_pairs, inner_keys, inner_children, inner_arguments}
+use Rattle.bptree_tree.specs.Rooms.{HoldsIf, IsReadyIf, HasRoom, GivesBack, IsElsewhere, IsUsed, is_split}
+use Rattle.bptree_tree.specs.Shape.{leaf_pairs}
 use Rattle.bptree_tree.specs.declared.insertion.Outcome.{Outcome}
 use Rattle.bptree_tree.specs.declared.insertion.Outcome.TheVariants.{Done, Split}
 use Rattle.bptree_tree.specs.declared.insertion.Room.{Room}
-use Rattle.bptree_tree.proofs.Along.{can_stands, step_sizes, step_child, step_leads, step_done, step_stays, step_takes, ends_at_leaf}
+use Rattle.bptree_tree.proofs.Along.{can_stands, step_sizes, step_child, step_leads, step_done, step_stays, step_takes}
 use Rattle.bptree_tree.proofs.Bared.{present_bare, read_bare}
 use Rattle.bptree_tree.proofs.Fullness.{splits_node}
 use Rattle.bptree_tree.proofs.LeafEdit.{put_is_local, leaf_split}

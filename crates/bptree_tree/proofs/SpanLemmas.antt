@@ -1,14 +1,12 @@
 -- Steps from the two ends of a span of leaves.
-use Rattle.std.proofs.Common.{◌≡◌, ℕ, zero, suc, ◌+◌, ◌-◌, ◌<◌, ◌≤◌, ◌≢◌, List, [], ◌∷◌, ◌++◌, length, take, drop, get_or, Option, Some, None, IsSome, slice_get, inl, inr, refl, sym, ◌∙◌, ap, subst, arith, length-append, length-drop, length-take, append_assoc, take-append-drop, add-one, drop-cons}
+use Rattle.std.proofs.Common.{◌≡◌, ℕ, zero, suc, ◌+◌, ◌-◌, ◌<◌, ◌≤◌, List, [], ◌∷◌, ◌++◌, length, take, drop, Option, Some, None, IsSome, slice_get, inl, inr, refl, sym, ◌∙◌, ap, arith, length-append, length-drop, append_assoc, take-append-drop, add-one}
 use Rattle.std.proofs.Math.Nat.{eq-or-lt_of_le}
 use Rattle.std.proofs.Math.Seq.{take-append_seam, take-append-add, take-length}
-use Rattle.std.proofs.lemmas.List.{take-append-le, take_more, drop-append-le, append-nil, length-take-le}
+use Rattle.std.proofs.lemmas.List.{drop-append-le, append-nil, length-take-le}
 use Rattle.std.proofs.Math.ListN.{drop_of_length-le}
-use Rattle.std.proofs.lemmas.Option.{slice_get-get_or}
-use Rattle.std.proofs.lemmas.Grind.{common_steps}
 use Rattle.bptree_nodes.specs.declared.node_id.LeafNodeId.{LeafNodeId}
 use Rattle.bptree_nodes.specs.Leaf.{Leaf}
-use Rattle.bptree_tree.specs.Span.{IsSpan, pairs_of, pairs_from, pairs_left, IsBetween, CanGoOn, IsFrontPlace, CanGoBack, IsBackPlace}
+use Rattle.bptree_tree.specs.Span.{IsSpan, pairs_from, pairs_left, IsBetween, CanGoOn, IsFrontPlace, CanGoBack, IsBackPlace}
 
 -- the element at a place of a list, the list from there on, and the list up to it
 pub record At {A : Type 0} (xs : List A) (i : ℕ) : Type 0 where

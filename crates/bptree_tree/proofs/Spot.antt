@@ -1,34 +1,24 @@
 -- What a leaf of a tree tells of the whole.
-use Rattle.std.proofs.Common.{◌≡◌, ◌≢◌, ℕ, zero, suc, ◌+◌, ◌-◌, ◌<◌, ◌≤◌, ◌⊎◌, inl, inr, Bool, true, false, not, cond, List, [], ◌∷◌, ◌++◌, length, get_or, take, drop, refl, sym, ap, subst, ◌∙◌, arith, Option, Some, None, append_assoc, append-nil, length-append, eqb, slice_get, IsTrue}
-use mathlib.Core.Bool.{true≢false}
+use Rattle.std.proofs.Common.{◌≡◌, ℕ, List, [], ◌∷◌, ◌++◌, refl, sym, ap, subst, ◌∙◌}
 use Rattle.std.specs.declared.cmp.Ordering.{Ordering}
-use Rattle.std.specs.declared.cmp.Ordering.TheVariants.{Less, Equal, Greater}
-use Rattle.std.specs.Ordering.{is_lt, is_gt}
+use Rattle.std.specs.declared.cmp.Ordering.TheVariants.{Less}
 use Rattle.std.specs.Cmp.{IsTotalOrder}
-use Rattle.std.specs.List.{AllByRecursion}
 use Rattle.std.specs.List.Sorted.{IsStrictlySortedBy}
 use Rattle.std.specs.Map.{keys_of}
-use Rattle.std.proofs.lemmas.Bool.{cases_Bool}
-use Rattle.std.proofs.lemmas.Bool.Decides.{eqb_tells}
 use Rattle.std.proofs.lemmas.Map.Keys.{sorted_head, sorted_tail}
 use Rattle.bptree_nodes.specs.Contents.{IsAscending, value}
 use Rattle.bptree_nodes.specs.Inner.{Inner}
-use Rattle.bptree_nodes.specs.Leaf.{Leaf, leaf_keys, leaf_in_range, reaches_first, reaches_last}
-use Rattle.bptree_nodes.specs.Places.{AllAnswer}
-use Rattle.bptree_nodes.specs.Slot.{Slot, Slots, Free, Held, Present, IsPresent}
+use Rattle.bptree_nodes.specs.Leaf.{Leaf}
+use Rattle.bptree_nodes.specs.Slot.{Slots, Present}
 use Rattle.bptree_nodes.specs.declared.node_id.LeafNodeId.{LeafNodeId}
 use Rattle.bptree_nodes.specs.declared.node_id.NodeId.{NodeId}
-use Rattle.bptree_nodes.specs.declared.node_id.NodeId.TheVariants as kind
 use Rattle.bptree_nodes.proofs.Around.{value_around}
-use Rattle.bptree_nodes.proofs.Ascending.{all_before, all_after, ascending_cons, greater_turned}
-use Rattle.bptree_nodes.proofs.PieceLemmas.{AllByRecursion-append}
-use Rattle.bptree_stores.specs.Hint.{HoldsKey}
-use Rattle.bptree_tree.specs.Leaves.{pairs_of, StandsIn, Stands, IsLeafFor}
-use Rattle.bptree_tree.specs.Order.{flat, total}
-use Rattle.bptree_tree.specs.Shape.{leaf_pairs, leaf_prev, leaf_next, inner_children, pairs_at, leaves_at, leaf_count, stands, AreLinked, IsTree, IsWellShaped, root_least}
+use Rattle.bptree_nodes.proofs.Ascending.{all_before, ascending_cons}
+use Rattle.bptree_tree.specs.Leaves.{pairs_of, StandsIn, IsLeafFor}
+use Rattle.bptree_tree.specs.Shape.{leaf_pairs, pairs_at}
 use Rattle.bptree_tree.proofs.Down.{pairs_of_leaves}
-use Rattle.bptree_tree.proofs.Ordered.{all_so, up_then_less, less_then_up, smaller_before, ascending_after}
-use Rattle.bptree_tree.proofs.Walk.{flat-append, tree_ascends}
+use Rattle.bptree_tree.proofs.Ordered.{ascending_after}
+use Rattle.bptree_tree.proofs.Walk.{flat-append}
 
 pub ascending_before : {K V : Type 0} (cmp : K → K → Ordering) (before after : List (K × V)) → IsAscending cmp (before ++ after) → IsAscending cmp before
 unfolding IsStrictlySortedBy

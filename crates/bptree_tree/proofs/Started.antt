@@ -1,14 +1,14 @@
 -- A tree of one empty leaf.
-use Rattle.std.proofs.Common.{◌≡◌, ◌≢◌, ℕ, zero, ◌≤◌, inl, inr, cond, List, [], length, refl, sym, ap, ◌∙◌, arith, Option, Some, None, eqb}
+use Rattle.std.proofs.Common.{◌≡◌, ℕ, inl, inr, cond, List, [], refl, sym, ap, ◌∙◌, arith, None, eqb}
 use Rattle.std.specs.declared.cmp.Ordering.{Ordering}
 use Rattle.std.specs.List.Sorted.{IsStrictlySortedBy}
 use Rattle.std.proofs.lemmas.Bool.Decides.{eqb_tells}
 use Rattle.bptree_nodes.specs.Inner.{Inner}
 use Rattle.bptree_nodes.specs.Leaf.{Leaf}
-use Rattle.bptree_nodes.specs.Slot.{Slot, Slots, Free, Held, Present, IsPresent, IsEmpty, UpdatesLeaf}
+use Rattle.bptree_nodes.specs.Slot.{Slot, Slots, Free, Held, Present, IsEmpty, UpdatesLeaf}
 use Rattle.bptree_nodes.specs.declared.node_id.LeafNodeId.{LeafNodeId}
 use Rattle.bptree_nodes.specs.declared.node_id.NodeId.TheVariants as kind
-use Rattle.bptree_tree.specs.Shape.{leaf_pairs, leaf_prev, leaf_next, stands, IsWellShaped}
+use Rattle.bptree_tree.specs.Shape.{stands, IsWellShaped}
 
 module _ {K V A : Type 0} (cmp : K → K → Ordering) (is_summary : A → List K → Type 0) (old new : Slots (Inner K A) (Leaf K V)) (leaf : LeafNodeId)
     (empty : IsEmpty old) (added : UpdatesLeaf old new leaf.0 (Present (record { pairs = []; prev = None; next = None }))) where

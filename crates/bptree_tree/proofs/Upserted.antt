@@ -1,12 +1,12 @@
 -- A pair put into the leaf for its key, in a whole tree: what the store then holds.
-use Rattle.std.proofs.Common.{◌≡◌, ℕ, ◌≤◌, inl, inr, List, [], length, refl, sym, ap, ◌∙◌, Option, Some, None, Result, Ok, Err, OnErr}
+use Rattle.std.proofs.Common.{◌≡◌, ℕ, ◌≤◌, inl, inr, List, [], length, sym, ap, ◌∙◌, None, Result, Ok, Err, OnErr}
 use Rattle.std.specs.declared.cmp.Ordering.{Ordering}
 use Rattle.std.specs.Cmp.{IsTotalOrder}
 use Rattle.std.proofs.lemmas.Bool.{cases_eq}
-use Rattle.bptree_nodes.specs.Contents.{IsAscending, has, value, put}
+use Rattle.bptree_nodes.specs.Contents.{IsAscending, value, put}
 use Rattle.bptree_nodes.specs.Inner.{Inner}
 use Rattle.bptree_nodes.specs.Leaf.{Leaf}
-use Rattle.bptree_nodes.specs.Slot.{Slot, Slots, Held, Present, IsPresent, UpdatesLeaf}
+use Rattle.bptree_nodes.specs.Slot.{Slot, Slots, Held, Present, UpdatesLeaf}
 use Rattle.bptree_nodes.specs.declared.node_id.LeafNodeId.{LeafNodeId}
 use Rattle.bptree_nodes.specs.declared.node_id.NodeId.{NodeId}
 use Rattle.bptree_tree.specs.Edit.{Edits}

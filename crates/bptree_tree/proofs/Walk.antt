@@ -1,25 +1,22 @@
 -- The pairs of a tree lie between its bounds and ascend, and a search goes down one child.
-use Rattle.std.proofs.Common.{◌≡◌, ℕ, zero, suc, ◌+◌, ◌-◌, ◌<◌, ◌≤◌, Bool, true, false, List, [], ◌∷◌, ◌++◌, length, get_or, take, drop, refl, sym, ap, subst, ◌∙◌, arith, Option, Some, None, append_assoc, append-nil, length-append, cond}
+use Rattle.std.proofs.Common.{◌≡◌, ℕ, zero, suc, ◌+◌, ◌<◌, List, [], ◌∷◌, ◌++◌, length, get_or, take, drop, refl, sym, ap, ◌∙◌, arith, Option, Some, append_assoc, append-nil, length-append}
 use Rattle.std.specs.declared.cmp.Ordering.{Ordering}
-use Rattle.std.specs.declared.cmp.Ordering.TheVariants.{Less, Equal, Greater}
-use Rattle.std.specs.Ordering.{is_lt}
+use Rattle.std.specs.declared.cmp.Ordering.TheVariants.{Less, Greater}
 use Rattle.std.specs.Cmp.{IsTotalOrder}
 use Rattle.std.specs.List.{AllByRecursion}
 use Rattle.std.specs.List.Sorted.{IsStrictlySortedBy}
-use Rattle.std.proofs.lemmas.Map.Keys.{sorted_head, sorted_tail}
 use Rattle.bptree_nodes.specs.Contents.{IsAscending}
 use Rattle.bptree_nodes.specs.Inner.{Inner, IsChildFor}
 use Rattle.bptree_nodes.specs.Leaf.{Leaf}
 use Rattle.bptree_nodes.specs.Places.{AllAnswer}
-use Rattle.bptree_nodes.specs.Slot.{Slot, Slots, Present, IsPresent}
-use Rattle.bptree_nodes.specs.declared.node_id.LeafNodeId.{LeafNodeId}
+use Rattle.bptree_nodes.specs.Slot.{Slots}
 use Rattle.bptree_nodes.specs.declared.node_id.NodeId.{NodeId}
 use Rattle.bptree_nodes.specs.declared.node_id.NodeId.TheVariants as kind
-use Rattle.bptree_nodes.proofs.Ascending.{greater_turned, ascending_cons}
+use Rattle.bptree_nodes.proofs.Ascending.{greater_turned}
 use Rattle.bptree_nodes.proofs.PieceLemmas.{AllByRecursion-append}
-use Rattle.bptree_tree.specs.Order.{flat, AtLeast, AtMost, Under, Within, Between, Chain, Leads}
-use Rattle.bptree_tree.specs.Shape.{leaf_pairs, inner_keys, inner_children, pairs_at, leaves_at, IsTree}
-use Rattle.bptree_tree.proofs.Ordered.{by_cases, all_so, up_then_less, less_then_up, AtLeast-up, Under-less, up_if_not_above, ascending_joined}
+use Rattle.bptree_tree.specs.Order.{flat, Within, Chain, Leads}
+use Rattle.bptree_tree.specs.Shape.{inner_keys, inner_children, pairs_at, IsTree}
+use Rattle.bptree_tree.proofs.Ordered.{all_so, up_then_less, less_then_up, AtLeast-up, Under-less, up_if_not_above, ascending_joined}
 
 -- what stands in a list before a member, at it and after it
 pub flat_parts : {X Y : Type 0} (f : X → List Y) (xs : List X) (i : ℕ) (d : X) → i < length xs → flat f xs ≡ flat f (take i xs) ++ (f (get_or xs i d) ++ flat f (drop (suc i) xs))

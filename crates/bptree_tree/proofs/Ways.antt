@@ -1,11 +1,11 @@
 -- The way of a search ends at one leaf.
-use Rattle.std.proofs.Common.{◌≡◌, ℕ, zero, suc, ◌-◌, ◌≤◌, ◌<◌, ◌+◌, List, [], ◌∷◌, refl, sym, ap, subst, ◌∙◌, arith, Option, Some, slice_get, false, Bool, true}
+use Rattle.std.proofs.Common.{◌≡◌, ℕ, zero, suc, ◌-◌, List, [], ◌∷◌, refl, sym, ap, subst, ◌∙◌, arith, Some, slice_get, false, true}
 use Rattle.std.specs.declared.cmp.Ordering.{Ordering}
 use Rattle.std.specs.declared.cmp.Ordering.TheVariants.{Less}
 use Rattle.std.specs.Ordering.{is_lt}
 use Rattle.bptree_nodes.specs.Inner.{Inner}
 use Rattle.bptree_nodes.specs.Leaf.{Leaf}
-use Rattle.bptree_nodes.specs.Slot.{Slot, Slots, Present}
+use Rattle.bptree_nodes.specs.Slot.{Slots, Present}
 use Rattle.bptree_nodes.specs.declared.node_id.InnerNodeId.{InnerNodeId}
 use Rattle.bptree_nodes.specs.declared.node_id.LeafNodeId.{LeafNodeId}
 use Rattle.bptree_nodes.specs.declared.node_id.NodeId.{NodeId}

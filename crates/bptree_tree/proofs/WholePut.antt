@@ -1,5 +1,5 @@
 -- Putting a pair with a new key into a whole tree: what the states of the store are, from the first to the last.
-use Rattle.std.proofs.Common.{◌≡◌, ℕ, zero, suc, ◌+◌, ◌<◌, ◌≤◌, inl, inr, true, false, cond, List, [], ◌∷◌, ◌++◌, length, refl, sym, ap, subst, ◌∙◌, arith, Option, Some, None, is_some, eqb, IfSome}
+use Rattle.std.proofs.Common.{◌≡◌, ℕ, suc, ◌+◌, ◌≤◌, inl, inr, true, false, cond, List, [], ◌∷◌, length, refl, sym, ap, subst, ◌∙◌, arith, Option, Some, None, is_some, eqb, IfSome}
 use mathlib.Core.Bool.{true≢false}
 use Rattle.std.specs.declared.cmp.Ordering.{Ordering}
 use Rattle.std.specs.Cmp.{IsTotalOrder}
@@ -14,7 +14,7 @@ use Rattle.bptree_nodes.specs.declared.node_id.NodeId.{NodeId}
 use Rattle.bptree_nodes.specs.declared.node_id.NodeId.TheVariants as kind
 use Rattle.bptree_tree.specs.Bare.{bare_slot, bare, KeepsHeld, splits_at}
 use Rattle.bptree_tree.specs.Change.{Roots, Mends}
-use Rattle.bptree_tree.specs.Edit.{CanReach, Edits, LinksAt}
+use Rattle.bptree_tree.specs.Edit.{CanReach, Edits}
 use Rattle.bptree_tree.specs.Path.{LeadsTo}
 use Rattle.bptree_tree.specs.Puts.{IsFullFor, PutsAt}
 use Rattle.bptree_tree.specs.Rooms.{Holds, HoldsIf, IsReady, GivesBack, is_split}

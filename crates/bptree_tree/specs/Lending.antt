@@ -8,7 +8,6 @@ use Rattle.bptree_nodes.specs.Inner.{Inner}
 use Rattle.bptree_nodes.specs.Leaf.{Leaf}
 use Rattle.bptree_nodes.specs.Slot.{Slot, Slots, Free, Held, Present}
 use Rattle.bptree_nodes.specs.declared.node_id.LeafNodeId.{LeafNodeId}
-use Rattle.bptree_nodes.specs.declared.node_id.NodeId.{NodeId}
 use Rattle.bptree_tree.specs.Shape.{leaf_pairs, leaves_at}
 use Rattle.bptree_tree.specs.NodeTree.{NodeTree}
 

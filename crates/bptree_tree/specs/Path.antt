@@ -1,5 +1,5 @@
 -- The way that a search for a key takes down a tree.
-use Rattle.std.specs.Prelude.{◌≡◌, ℕ, zero, suc, Option, Some, slice_get}
+use Rattle.std.specs.Prelude.{◌≡◌, ℕ, zero, suc, Some, slice_get}
 use Rattle.std.specs.declared.cmp.Ordering.{Ordering}
 use Rattle.bptree_nodes.specs.Inner.{Inner}
 use Rattle.bptree_nodes.specs.Leaf.{Leaf}

@@ -2,7 +2,7 @@
 use Rattle.std.specs.Prelude.{◌≡◌, ℕ, ◌<◌, Option, Some, None, Bool, true, false}
 use Rattle.bptree_nodes.specs.Inner.{Inner}
 use Rattle.bptree_nodes.specs.Leaf.{Leaf}
-use Rattle.bptree_nodes.specs.Slot.{Slots, Free, Held, Present, IsPresent, UpdatesInner}
+use Rattle.bptree_nodes.specs.Slot.{Slots, Free, Held, IsPresent, UpdatesInner}
 use Rattle.bptree_tree.specs.Bare.{IsShell}
 use Rattle.bptree_tree.specs.declared.insertion.Outcome.{Outcome}
 use Rattle.bptree_tree.specs.declared.insertion.Outcome.TheVariants.{Done, Split}

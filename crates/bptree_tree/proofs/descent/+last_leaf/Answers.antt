@@ -1,4 +1,4 @@
-use Rattle.std.proofs.Common.{arith, ◌<◌, ◌-◌, ◌+◌, ◌≡◌, length}
+use Rattle.std.proofs.Common.{arith}
 use Rattle.bptree_nodes.specs.declared.node_id.NodeId.TheVariants.{Inner}
 use Rattle.bptree_tree.specs.Leaves.{Stands}
 use Rattle.bptree_tree.proofs.Down.{inner_present, node_children, child_stands}

@@ -1,4 +1,4 @@
-use Rattle.std.proofs.Common.{◌≡◌, ◌-◌, ◌+◌, ◌<◌, ◌≤◌, length, arith, sym}
+use Rattle.std.proofs.Common.{arith}
 use Rattle.bptree_nodes.specs.declared.node_id.NodeId.TheVariants.{Leaf, Inner}
 use Rattle.bptree_tree.specs.Bare.{bare}
 use Rattle.bptree_tree.specs.Edit.{CanReach}

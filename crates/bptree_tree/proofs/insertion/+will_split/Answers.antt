@@ -1,9 +1,9 @@
-use Rattle.std.proofs.Common.{◌≡◌, ◌∙◌, sym, arith, ◌<◌, ◌-◌, ◌==◌, length, true}
+use Rattle.std.proofs.Common.{◌≡◌, ◌∙◌, sym, arith, ◌==◌, length, true}
 use Rattle.bptree_nodes.specs.declared.node_id.NodeId.TheVariants.{Inner}
 use Rattle.bptree_tree.specs.Bare.{bare}
 use Rattle.bptree_tree.specs.Leaves.{Stands}
 use Rattle.bptree_tree.proofs.Down.{inner_present, child_stands}
-use Rattle.bptree_tree.proofs.Fullness.{splits_leaf, splits_node, splits_not}
+use Rattle.bptree_tree.proofs.Fullness.{splits_node}
 use Rattle.bptree_tree.proofs.insertion.+will_split.Goals as goal
 
 pub will_split-requires : goal.will_split-requires

@@ -1,4 +1,4 @@
-use Rattle.std.proofs.Common.{◌≡◌, sym, ◌∙◌}
+use Rattle.std.proofs.Common.{sym, ◌∙◌}
 use mathlib.Core.Bool.{true≢false}
 use Rattle.bptree_tree.proofs.LeafPlaces.{has_if_found}
 use Rattle.bptree_tree.proofs.insertion.gap.Goals as goal

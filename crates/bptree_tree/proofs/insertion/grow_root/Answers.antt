@@ -1,4 +1,4 @@
-use Rattle.std.proofs.Common.{◌≡◌, ◌++◌, ◌∷◌, [], length, ap, refl, ◌∙◌}
+use Rattle.std.proofs.Common.{refl, ◌∙◌}
 use Rattle.bptree_tree.proofs.WholePut.{roots_of}
 use Rattle.bptree_tree.proofs.insertion.grow_root.Goals as goal
 

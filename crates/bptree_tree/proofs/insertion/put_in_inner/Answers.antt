@@ -1,7 +1,3 @@
-use Rattle.std.proofs.Common.{◌≡◌, ◌+◌, ◌≤◌, ◌<◌, length, sym, refl}
-use Rattle.bptree_nodes.specs.Inner.{Inner}
-use Rattle.bptree_nodes.specs.Slot.{Slot, Present}
-use Rattle.bptree_tree.specs.Shape.{inner_keys, inner_children, inner_arguments}
 use Rattle.bptree_tree.proofs.Bared.{links_of, splits_of}
 use Rattle.bptree_tree.proofs.insertion.put_in_inner.Goals as goal
 

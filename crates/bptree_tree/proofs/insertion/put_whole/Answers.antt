@@ -1,6 +1,4 @@
-use Rattle.std.proofs.Common.{◌≡◌, ◌∙◌, sym, arith, ◌+◌, ◌<◌}
-use Rattle.bptree_tree.specs.Bare.{bare}
-use Rattle.bptree_tree.specs.Leaves.{Stands}
+use Rattle.std.proofs.Common.{◌∙◌, sym, arith}
 use Rattle.bptree_tree.specs.declared.insertion.Outcome.TheVariants.{Done, Split}
 use Rattle.bptree_tree.proofs.Along.{can_stands}
 use Rattle.bptree_tree.proofs.Rooted.{low_tree, reach_of}

@@ -1,5 +1,3 @@
-use Rattle.std.proofs.Common.{◌≡◌, length}
-use Rattle.bptree_tree.specs.Shape.{leaf_pairs}
 use Rattle.bptree_tree.proofs.LeafPlaces.{starts_old, if_ok}
 use Rattle.bptree_tree.proofs.insertion.separator.Goals as goal
 

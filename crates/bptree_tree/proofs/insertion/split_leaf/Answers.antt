@@ -1,5 +1,3 @@
-use Rattle.std.proofs.Common.{◌≡◌, ◌∙◌, sym, refl, length, ap}
-use Rattle.bptree_nodes.specs.Slot.{Present}
 use Rattle.bptree_tree.proofs.Bared.{same_node}
 use Rattle.bptree_tree.proofs.LeafCut.{here, leaf_cut}
 use Rattle.bptree_tree.proofs.insertion.split_leaf.Goals as goal

@@ -1,4 +1,4 @@
-use Rattle.std.proofs.Common.{◌≡◌, ◌∙◌, sym, refl}
+use Rattle.std.proofs.Common.{◌∙◌, sym}
 use Rattle.bptree_tree.specs.Shape.{pairs_at}
 use Rattle.bptree_nodes.proofs.Equal.{has_where_value}
 use Rattle.bptree_tree.proofs.Lent.{none_if_absent}

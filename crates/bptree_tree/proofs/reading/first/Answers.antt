@@ -1,4 +1,4 @@
-use Rattle.std.proofs.Common.{◌≡◌, ◌∙◌, None}
+use Rattle.std.proofs.Common.{◌∙◌}
 use Rattle.bptree_tree.proofs.Ends.{first_pair, shown}
 use Rattle.bptree_tree.proofs.reading.first.Goals as goal
 

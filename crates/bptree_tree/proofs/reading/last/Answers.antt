@@ -1,4 +1,4 @@
-use Rattle.std.proofs.Common.{◌≡◌, ◌∙◌, None, ◌-◌, length, sym, ap, arith, slice_get}
+use Rattle.std.proofs.Common.{◌≡◌, ◌∙◌, ◌-◌, length, ap, arith, slice_get}
 use Rattle.bptree_tree.proofs.Ends.{last_pair, shown}
 use Rattle.bptree_tree.proofs.reading.last.Goals as goal
 

@@ -1,4 +1,4 @@
-use Rattle.std.proofs.Common.{◌≡◌, ◌-◌, ◌<◌, ◌≤◌, ◌∙◌, sym, ap, arith, length, slice_get, Some}
+use Rattle.std.proofs.Common.{◌≡◌, ◌-◌, ◌∙◌, sym, arith, slice_get, Some}
 use Rattle.bptree_tree.proofs.SpanLemmas.{CanGoBack-from, BackStep-from}
 use Rattle.bptree_tree.proofs.iterator.IterDoubleEndedIterator.next_back.Goals as goal
 

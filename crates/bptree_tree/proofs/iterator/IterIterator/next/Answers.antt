@@ -1,4 +1,4 @@
-use Rattle.std.proofs.Common.{◌≡◌, ◌<◌, ◌∙◌, sym, ap, arith, length, slice_get, Some}
+use Rattle.std.proofs.Common.{◌≡◌, ◌<◌, ◌∙◌, sym, arith, length, slice_get, Some}
 use Rattle.bptree_tree.proofs.SpanLemmas.{FrontStep-from}
 use Rattle.bptree_tree.proofs.iterator.IterIterator.next.Goals as goal
 

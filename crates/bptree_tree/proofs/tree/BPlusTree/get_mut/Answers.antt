@@ -1,5 +1,5 @@
-use Rattle.std.proofs.Common.{◌≡◌, ◌⊎◌, ap, sym, inr, inl, None, Some, ◌∙◌, refl}
-use Rattle.std.proofs.Common.{ℕ, List}
+use Rattle.std.proofs.Common.{◌≡◌, ◌⊎◌, ap, sym, inr, inl, None, ◌∙◌}
+use Rattle.std.proofs.Common.{ℕ}
 use Rattle.std.specs.declared.cmp.Ordering.{Ordering}
 use Rattle.bptree_nodes.specs.Contents.{IsAscending}
 use Rattle.bptree_nodes.specs.Leaf.{Leaf, set_value_at}

@@ -1,4 +1,4 @@
-use Rattle.std.proofs.Common.{◌≡◌, ◌∙◌, ◌+◌, length, sym, refl, ap, true, false, None}
+use Rattle.std.proofs.Common.{◌∙◌, ◌+◌, sym, refl, ap, true, false, None}
 use mathlib.Core.Bool.{true≢false}
 use Rattle.bptree_tree.specs.Shape.{root_least, pairs_at}
 use Rattle.bptree_tree.proofs.Counted.{has_read, one_more, as_many}

@@ -1,4 +1,4 @@
-use Rattle.std.proofs.Common.{◌≡◌, ap, length, None, sym, ◌∙◌}
+use Rattle.std.proofs.Common.{ap, length, None, ◌∙◌}
 use Rattle.std.proofs.iter.runs.Sources.{from_front}
 use Rattle.std.specs.Map.Iter.{TakesFirst, deref_pair}
 use Rattle.bptree_tree.specs.Shape.{root_least, pairs_at}
