@@ -3,6 +3,8 @@
 
 pub mod descent;
 pub mod insertion;
+#[cfg(test)]
+mod insertion_tests;
 pub mod iterator;
 pub mod reading;
 pub mod tree;

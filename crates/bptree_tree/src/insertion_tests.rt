@@ -1,0 +1,97 @@
+//! Trees that grow by insertion, with shapes that follow from how many pairs a leaf takes.
+use crate::BPlusTree;
+use bptree_nodes::node_id::LeafNodeId;
+use bptree_stores::node_store_vec::NodeStoreVec;
+use bptree_stores::node_stores::NodeStore;
+use std::alloc::AllocError;
+use std::process::Abort;
+use std::test::Fail;
+
+type Tree = BPlusTree<NodeStoreVec<u64, u64>>;
+
+// One pair more than 65 full leaves hold, which are all that one inner node has below it.
+const MANY: u64 = 4161;
+
+// The value that stands at a key.
+fn value_of(key: u64) -> u64 {
+    key.wrapping_add(10_000)
+}
+
+// Puts new keys, from a start on and by a step, round a number of keys.
+fn fill(rt: &impl Abort, tree: &mut Tree, start: u64, step: u64, count: u64) {
+    let mut key = start;
+    for _ in 0..count {
+        assert_eq!(rt; tree.insert(key, value_of(key)).ok(), Some(None));
+        key = key.wrapping_add(step) % MANY;
+    }
+}
+
+// Asserts how many keys each leaf has, and its least and greatest key, along the links from the first leaf on and back.
+fn assert_leaves(rt: &impl Abort, tree: &Tree, wanted: &[(usize, u64, u64)]) {
+    let mut before = None;
+    let mut here = Some(LeafNodeId::from_usize(0));
+    for (len, least, greatest) in wanted {
+        let Some(leaf) = here.and_then(|id| tree.node_store().try_get_leaf(id)) else {
+            assert!(rt; false);
+            return;
+        };
+        assert_eq!(rt; leaf.len(), *len);
+        assert_eq!(rt; leaf.keys().first(), Some(least));
+        assert_eq!(rt; leaf.keys().last(), Some(greatest));
+        assert_eq!(rt; leaf.prev(), before);
+        before = here;
+        here = leaf.next();
+    }
+    assert_eq!(rt; here, None);
+}
+
+// Asserts that a tree holds each key below the number of many keys, in order.
+fn assert_many(rt: &impl Abort, tree: &Tree) {
+    assert_eq!(rt; tree.len(), 4161);
+    assert_eq!(rt; tree.height(), 2);
+    let mut pairs = tree.iter();
+    for key in 0..MANY {
+        assert_eq!(rt; pairs.next(), Some((&key, &value_of(key))));
+    }
+    assert_eq!(rt; pairs.next(), None);
+    for key in [0, 31, 32, 2080, 4160] {
+        assert_eq!(rt; tree.get(&key), Some(&value_of(key)));
+    }
+    assert_eq!(rt; tree.get(&MANY), None);
+}
+
+#[test]
+fn full_leaves_split_in_halves(rt: HostRuntime) -> Result<(), Fail> {
+    let mut tree: Tree = BPlusTree::new(NodeStoreVec::new(rt.alloc()))?;
+    fill(&rt, &mut tree, 0, 1, 64);
+    assert_eq!(rt; tree.height(), 0);
+    assert_leaves(&rt, &tree, &[(64, 0, 63)]);
+    fill(&rt, &mut tree, 64, 1, 1);
+    assert_eq!(rt; tree.height(), 1);
+    assert_leaves(&rt, &tree, &[(32, 0, 31), (33, 32, 64)]);
+    fill(&rt, &mut tree, 65, 1, 32);
+    assert_eq!(rt; tree.height(), 1);
+    assert_leaves(&rt, &tree, &[(32, 0, 31), (32, 32, 63), (33, 64, 96)]);
+    Ok(())
+}
+
+#[test]
+fn full_leaves_take_new_values(rt: HostRuntime) -> Result<(), Fail> {
+    let mut tree: Tree = BPlusTree::new(NodeStoreVec::new(rt.alloc()))?;
+    fill(&rt, &mut tree, 0, 1, 64);
+    assert_eq!(rt; tree.insert(40, 7).ok(), Some(Some(10_040)));
+    assert_eq!(rt; tree.get(&40), Some(&7));
+    assert_eq!(rt; (tree.len(), tree.height()), (64, 0));
+    Ok(())
+}
+
+#[test]
+fn inner_nodes_split_in_each_order(rt: HostRuntime) -> Result<(), Fail> {
+    // Upward, downward, and across.
+    for (start, step) in [(0, 1), (4160, 4160), (0, 7919)] {
+        let mut tree: Tree = BPlusTree::new(NodeStoreVec::new(rt.alloc()))?;
+        fill(&rt, &mut tree, start, step, MANY);
+        assert_many(&rt, &tree);
+    }
+    Ok(())
+}
