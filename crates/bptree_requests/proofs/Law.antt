@@ -11,10 +11,10 @@ use Rattle.std.specs.Str.{all_ascii_digits}
 use Rattle.std.specs.Str.Parse.{digits_value}
 use Rattle.bptree_requests.proofs.NumberLemmas.{digits_model}
 use Rattle.bptree_requests.specs.Number.{number_of}
-use Rattle.bptree_requests.specs.Request.{words, request_from, request_of, line_of, FitsRequest}
+use Rattle.bptree_requests.specs.Request.{words, bare_request_from, request_from, request_of, line_of, FitsRequest}
 use Rattle.bptree_requests.specs.declared.Request.{Request}
 use Rattle.bptree_requests.specs.declared.TheConstants.{LONGEST_LINE}
-use Rattle.bptree_requests.specs.declared.Request.TheVariants.{Put, Get, Len, All as AllPairs}
+use Rattle.bptree_requests.specs.declared.Request.TheVariants.{Put, Get, Len, All as AllPairs, First, Last}
 
 -- a word that writes a number is its decimal text
 pub number_of-some : (word : List ℕ) (n : ℕ) → number_of word ≡ Some n → (word ≡ decimal n) × (n < 2 ^ 64)
@@ -74,6 +74,8 @@ request_of-line (Get k) fits =
     ap request_from e ∙ rw (number_of-decimal k fits) refl
 request_of-line Len fits = refl
 request_of-line AllPairs fits = refl
+request_of-line First fits = refl
+request_of-line Last fits = refl
 
 put-some : (o p : Option ℕ) (r : Request) → option_and_then (λ k. option_map (λ v. Put k v) p) o ≡ Some r
     → (k : ℕ) × (v : ℕ) × (o ≡ Some k) × (p ≡ Some v) × (Put k v ≡ r)
@@ -95,22 +97,32 @@ put-line : (name k v : List ℕ) (m n : ℕ) (r : Request) → name ≡ codes "p
 put-line name k v m n r is key value e = let P : Request → Type 0 = λ r. (name ++ 32 ∷ (k ++ 32 ∷ v) ≡ line_of r) × FitsRequest r in
     subst P e (rw (is, key.0, value.0) (ap (λ rest. codes "put " ++ rest) (sym (append_assoc (decimal m) (32 ∷ []) (decimal n)))), (key.1, value.1))
 
+-- a word alone that makes a request is the line that writes it
+word-line : (name text : List ℕ) (q r : Request) → bytes_eq name text ≡ true → text ≡ line_of q → FitsRequest q → Some q ≡ Some r → (name ≡ line_of r) × FitsRequest r
+word-line name text q r same is fits e =
+    let P : Request → Type 0 = λ r. (name ≡ line_of r) × FitsRequest r in
+    let there : q ≡ r = cc e in
+    subst P there ((bytes_eq-Decides name text).0 same ∙ is, fits)
+
+bare_request_from-some : (name : List ℕ) (r : Request) → bare_request_from name ≡ Some r → (name ≡ line_of r) × FitsRequest r
+bare_request_from-some name r h = elim (cases_Bool (bytes_eq name (codes "len"))) [
+  | inl e ↦ word-line name (codes "len") Len r e refl tt (rw e at h)
+  | inr e ↦ elim (cases_Bool (bytes_eq name (codes "all"))) [
+    | inl f ↦ word-line name (codes "all") AllPairs r f refl tt (rw (e, f) at h)
+    | inr f ↦ elim (cases_Bool (bytes_eq name (codes "first"))) [
+      | inl g ↦ word-line name (codes "first") First r g refl tt (rw (e, f, g) at h)
+      | inr g ↦ elim (cases_Bool (bytes_eq name (codes "last"))) [
+        | inl i ↦ word-line name (codes "last") Last r i refl tt (rw (e, f, g, i) at h)
+        | inr i ↦ absurd (cc (rw (e, f, g, i) at h))
+      ]
+    ]
+  ]
+]
+
 -- words that make a request are those of the line that writes it
 request_from-some : (ws : List (List ℕ)) (r : Request) → request_from ws ≡ Some r → (join_with_byte 32 ws ≡ line_of r) × FitsRequest r
 request_from-some [] r h = absurd (cc h)
-request_from-some (name ∷ []) r h = elim (cases_Bool (bytes_eq name (codes "len"))) [
-  | inl e ↦
-      let n = (bytes_eq-Decides name (codes "len")).0 e in
-      let is : Len ≡ r = cc (rw e at h) in
-      (n ∙ ap line_of is, let P : Request → Type 0 = λ r. FitsRequest r in subst P is tt)
-  | inr e ↦ elim (cases_Bool (bytes_eq name (codes "all"))) [
-    | inl f ↦
-        let n = (bytes_eq-Decides name (codes "all")).0 f in
-        let is : AllPairs ≡ r = cc (rw (e, f) at h) in
-        (n ∙ ap line_of is, let P : Request → Type 0 = λ r. FitsRequest r in subst P is tt)
-    | inr f ↦ absurd (cc (rw (e, f) at h))
-  ]
-]
+request_from-some (name ∷ []) r h = bare_request_from-some name r h
 request_from-some (name ∷ k ∷ []) r h = elim (cases_Bool (bytes_eq name (codes "get"))) [
   | inl e ↦
       let g = get-some (number_of k) r (rw e at h) in
@@ -141,6 +153,8 @@ length-line_of (Put k v) fits =
 length-line_of (Get k) fits = let a = length-decimal-le 20 k (omega arith) (omega arith) fits in omega arith
 length-line_of Len fits = omega arith
 length-line_of AllPairs fits = omega arith
+length-line_of First fits = omega arith
+length-line_of Last fits = omega arith
 
 option_none : (o : Option Request) → ((r : Request) → o ≡ Some r → ⊥) → o ≡ None
 option_none None h = refl

@@ -3,7 +3,7 @@ use Rattle.std.specs.Prelude.{ℕ, ◌<◌, ◌^◌, List, [], ◌∷◌, ◌++�
 use Rattle.std.specs.List.{slice_split}
 use Rattle.bptree_requests.specs.Number.{number_of}
 use Rattle.bptree_requests.specs.declared.Request.{Request}
-use Rattle.bptree_requests.specs.declared.Request.TheVariants.{Put, Get, Len, All}
+use Rattle.bptree_requests.specs.declared.Request.TheVariants.{Put, Get, Len, All, First, Last}
 
 -- the line that writes a request
 abbrev pub line_of : Request → List ℕ
@@ -11,6 +11,8 @@ line_of (Put k v) = codes "put " ++ decimal k ++ codes " " ++ decimal v
 line_of (Get k) = codes "get " ++ decimal k
 line_of Len = codes "len"
 line_of All = codes "all"
+line_of First = codes "first"
+line_of Last = codes "last"
 
 -- its numbers fit 64 bits
 abbrev pub FitsRequest : Request → Type 0
@@ -18,15 +20,22 @@ FitsRequest (Put k v) = (k < 2 ^ 64) × (v < 2 ^ 64)
 FitsRequest (Get k) = k < 2 ^ 64
 FitsRequest Len = Unit {0}
 FitsRequest All = Unit {0}
+FitsRequest First = Unit {0}
+FitsRequest Last = Unit {0}
 
 -- the words of a line, with one space between two
 unfoldable pub words : List ℕ → List (List ℕ)
 words line = slice_split (λ b. b == 32) line
 
+-- the request that a command's name alone makes
+abbrev pub bare_request_from : List ℕ → Option Request
+bare_request_from name =
+    if bytes_eq name (codes "len") then Some Len else (if bytes_eq name (codes "all") then Some All else (if bytes_eq name (codes "first") then Some First else (if bytes_eq name (codes "last") then Some Last else None)))
+
 -- the request that a command's name and its words make
 abbrev pub request_from : List (List ℕ) → Option Request
 request_from [] = None
-request_from (name ∷ []) = if bytes_eq name (codes "len") then Some Len else (if bytes_eq name (codes "all") then Some All else None)
+request_from (name ∷ []) = bare_request_from name
 request_from (name ∷ k ∷ []) = if bytes_eq name (codes "get") then option_map (λ k. Get k) (number_of k) else None
 request_from (name ∷ k ∷ v ∷ []) =
     if bytes_eq name (codes "put") then option_and_then (λ k. option_map (λ v. Put k v) (number_of v)) (number_of k) else None

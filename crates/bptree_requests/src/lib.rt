@@ -21,6 +21,10 @@ pub enum Request {
     Len,
     /// `all`: all pairs.
     All,
+    /// `first`: the pair with the least key.
+    First,
+    /// `last`: the pair with the greatest key.
+    Last,
 }
 
 /// The number that a word writes: `0`, or a digit 1 to 9 and then digits, below 2 to the power of 64. A sign, a leading
@@ -91,6 +95,10 @@ fn bare_request(name: &[u8]) -> Option<Request>
         Some(Request::Len)
     } else if name == b"all".as_slice() {
         Some(Request::All)
+    } else if name == b"first".as_slice() {
+        Some(Request::First)
+    } else if name == b"last".as_slice() {
+        Some(Request::Last)
     } else {
         None
     }

@@ -1,11 +1,11 @@
 -- What is answered to lines.
-use Rattle.std.specs.Prelude.{ℕ, ◌-◌, ◌^◌, ◌==◌, ◌&&◌, not, List, [], ◌∷◌, ◌++◌, length, map, Bool, true, false, if◌then◌else◌, Option, Some, None, codes, decimal}
+use Rattle.std.specs.Prelude.{ℕ, ◌-◌, ◌^◌, ◌==◌, ◌&&◌, not, List, [], ◌∷◌, ◌++◌, length, map, Bool, true, false, if◌then◌else◌, Option, Some, None, codes, decimal, slice_get}
 use Rattle.std.specs.List.{join_with_byte}
 use Rattle.std.specs.Ordering.{nat_cmp}
 use Rattle.bptree_nodes.specs.Contents.{has, value, put}
 use Rattle.bptree_requests.specs.Request.{request_of}
 use Rattle.bptree_requests.specs.declared.Request.{Request}
-use Rattle.bptree_requests.specs.declared.Request.TheVariants.{Put, Get, Len, All}
+use Rattle.bptree_requests.specs.declared.Request.TheVariants.{Put, Get, Len, All, First, Last}
 use Rattle.sweep_bptree.specs.Lines.{lines_of}
 
 abbrev pub value_text : Option ℕ → List ℕ
@@ -29,6 +29,11 @@ pairs_with_put pairs key new = if has_no_place pairs key then pairs else put nat
 abbrev pub pair_text : ℕ × ℕ → List ℕ
 pair_text pair = decimal pair.0 ++ 32 ∷ decimal pair.1
 
+-- one pair, where there is one
+abbrev pub found_text : Option (ℕ × ℕ) → List ℕ
+found_text None = codes "none"
+found_text (Some pair) = pair_text pair
+
 -- all pairs, with a comma between two
 abbrev pub pairs_text : List (ℕ × ℕ) → List ℕ
 pairs_text [] = codes "empty"
@@ -46,6 +51,8 @@ reply_to pairs (Some (Put key new)) = put_text pairs key
 reply_to pairs (Some (Get key)) = value_text (value nat_cmp pairs key)
 reply_to pairs (Some Len) = decimal (length pairs)
 reply_to pairs (Some All) = pairs_text pairs
+reply_to pairs (Some First) = found_text (slice_get pairs 0)
+reply_to pairs (Some Last) = found_text (slice_get pairs (length pairs - 1))
 
 -- the pairs after it
 abbrev pub pairs_with : List (ℕ × ℕ) → Option Request → List (ℕ × ℕ)
@@ -54,6 +61,8 @@ pairs_with pairs (Some (Put key new)) = pairs_with_put pairs key new
 pairs_with pairs (Some (Get key)) = pairs
 pairs_with pairs (Some Len) = pairs
 pairs_with pairs (Some All) = pairs
+pairs_with pairs (Some First) = pairs
+pairs_with pairs (Some Last) = pairs
 
 -- the answer to a line, and the pairs after it
 unfoldable pub answer : List (ℕ × ℕ) → List ℕ → List ℕ

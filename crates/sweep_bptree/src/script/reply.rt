@@ -1,9 +1,9 @@
 // The answers to lines.
-ghost use Rattle.std.specs.Prelude.{◌≡◌, [], ◌∷◌, ◌++◌, codes, decimal, OnOk};
+ghost use Rattle.std.specs.Prelude.{◌≡◌, [], ◌∷◌, ◌++◌, codes, decimal, OnOk, option_map};
 ghost use Rattle.std.specs.Ordering.{nat_cmp};
 ghost use Rattle.bptree_nodes.specs.Contents.{value};
 ghost use Rattle.bptree_requests.specs.Request.{request_of};
-ghost use Rattle.sweep_bptree.specs.Answers.{pair_text, item_text, pairs_text, old_text, value_text, put_text, pairs_with_put, reply_to, pairs_with, answer, pairs_after};
+ghost use Rattle.sweep_bptree.specs.Answers.{pair_text, found_text, item_text, pairs_text, old_text, value_text, put_text, pairs_with_put, reply_to, pairs_with, answer, pairs_after};
 ghost use Rattle.sweep_bptree.specs.Sent.{SendsOrFails, Replies};
 
 use crate::script::error::ServeError;
@@ -71,6 +71,20 @@ fn send_pair<W: Write>(
     send_number(writer, held, key)?;
     send(writer, held, b" ")?;
     send_number(writer, held, value)
+}
+
+fn send_found<W: Write>(
+    writer: &mut W,
+    held: &mut Held,
+    pair: Option<(&u64, &u64)>,
+) -> Result<(), ServeError>
+    ensures { SendsOrFails (W.contents writer.old) (W.contents writer.new) held.old.items held.new.items
+        (found_text (option_map (λ pair. (pair.0.now, pair.1.now)) pair.entry)) result }
+{
+    match pair {
+        None => send(writer, held, b"none"),
+        Some((key, value)) => send_pair(writer, held, *key, *value),
+    }
 }
 
 // A pair, after a comma where it is not the first.
@@ -144,6 +158,8 @@ fn carry_out<W: Write>(
         Request::Get(key) => send_value(writer, held, tree.get(&key).copied()),
         Request::Len => send_number(writer, held, tree.len() as u64),
         Request::All => send_pairs(writer, held, tree),
+        Request::First => send_found(writer, held, tree.first()),
+        Request::Last => send_found(writer, held, tree.last()),
     }
 }
 

@@ -82,6 +82,11 @@ fn inputs(rt: HostRuntime) {
         ("", ""),
         ("len", "0\n"),
         ("all\nget 1\nlen\n", "empty\nnone\n0\n"),
+        ("first\nlast\n", "none\nnone\n"),
+        (
+            "put 7 70\nfirst\nlast\nput 2 20\nput 11 0\nput 11 110\nfirst\nlast\nlen\n",
+            "new\n7 70\n7 70\nnew\nnew\nold 0\n2 20\n11 110\n3\n",
+        ),
         (INPUT, OUTPUT),
         (
             "put 0 18446744073709551615\nput 18446744073709551615 0\nall\nget 18446744073709551615\nget 0",
@@ -117,6 +122,10 @@ fn bad_lines(rt: HostRuntime) -> Result<(), Fail> {
         b"put 1 2 3",
         b"get 1 2",
         b"len 0",
+        b"first 1",
+        b"last ",
+        b"First",
+        b"lasts",
         b"get 01",
         b"get +1",
         b"get -0",
