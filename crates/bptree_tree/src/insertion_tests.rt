@@ -1,5 +1,8 @@
 //! Trees that grow by insertion, with shapes that follow from how many pairs a leaf takes.
+ghost use Rattle.std.proofs.Common.{rules};
+
 use crate::BPlusTree;
+use bptree_nodes::key::Key;
 use bptree_nodes::node_id::LeafNodeId;
 use bptree_stores::node_store_vec::NodeStoreVec;
 use bptree_stores::node_stores::NodeStore;
@@ -8,6 +11,19 @@ use std::process::Abort;
 use std::test::Fail;
 
 type Tree = BPlusTree<NodeStoreVec<u64, u64>>;
+
+// A key whose letter takes no part in the order.
+#[derive(Debug, Drop)]
+#[derive_where(Clone, PartialEq, Eq, PartialOrd, Ord)]
+struct Lettered {
+    number: u64,
+    #[derive_where(skip(EqHashOrd))]
+    letter: char,
+}
+
+impl Key for Lettered {
+    ghost clone_is_equal = { Prim.search rules };
+}
 
 // One pair more than 65 full leaves hold, which are all that one inner node has below it.
 const MANY: u64 = 4161;
@@ -92,6 +108,32 @@ fn inner_nodes_split_in_each_order(rt: HostRuntime) -> Result<(), Fail> {
         let mut tree: Tree = BPlusTree::new(NodeStoreVec::new(rt.alloc()))?;
         fill(&rt, &mut tree, start, step, MANY);
         assert_many(&rt, &tree);
+    }
+    Ok(())
+}
+
+#[test]
+fn equal_keys_stay(rt: HostRuntime) -> Result<(), Fail> {
+    let mut tree: BPlusTree<NodeStoreVec<Lettered, u64>> = BPlusTree::new(NodeStoreVec::new(
+        rt.alloc(),
+    ))?;
+    for number in 0..97 {
+        let letter = 'a';
+        assert_eq!(rt;
+            tree.insert(Lettered { number, letter }, 1).ok(),
+            Some(None)
+        );
+    }
+    for number in 0..97 {
+        let letter = 'b';
+        assert_eq!(rt;
+            tree.insert(Lettered { number, letter }, 2).ok(),
+            Some(Some(1))
+        );
+    }
+    assert_eq!(rt; (tree.len(), tree.height()), (97, 1));
+    for (key, value) in tree.iter() {
+        assert_eq!(rt; (key.letter, *value), ('a', 2));
     }
     Ok(())
 }
