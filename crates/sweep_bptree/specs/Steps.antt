@@ -6,7 +6,7 @@ use Rattle.bptree_nodes.specs.Contents.{has, value, put}
 use Rattle.bptree_tree.specs.declared.InsertError as insert_error
 use Rattle.bptree_tree.specs.declared.InsertError.TheVariants as refusal
 use Rattle.sweep_bptree.specs.declared.script.commands.Command.{Command}
-use Rattle.sweep_bptree.specs.declared.script.commands.Command.TheVariants.{Insert, Get, First, Len}
+use Rattle.sweep_bptree.specs.declared.script.commands.Command.TheVariants.{Insert, Get, First, Last, Len}
 use Rattle.sweep_bptree.specs.declared.script.commands.Reply.{Reply}
 use Rattle.sweep_bptree.specs.declared.script.commands.Reply.TheVariants.{Value, Pair, Number, OutOfMemory, Full}
 
@@ -34,6 +34,8 @@ module _ {K V : Type 0} (cmp : K → K → Ordering) where
   Step old (Get k) (Value found) new = (found ≡ value cmp old k) × (new ≡ old)
   Step old First (Pair pair) new = IsCopyOf (slice_get old 0) pair × (new ≡ old)
   Step old First OutOfMemory new = new ≡ old
+  Step old Last (Pair pair) new = IsCopyOf (slice_get old (length old - 1)) pair × (new ≡ old)
+  Step old Last OutOfMemory new = new ≡ old
   Step old Len (Number n) new = (n ≡ length old) × (new ≡ old)
   -- no other reply is given
   Step old command reply new = ⊥

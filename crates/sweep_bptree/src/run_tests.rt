@@ -75,16 +75,22 @@ fn a_run_answers_each_command(rt: HostRuntime) -> Result<(), Fail> {
     ))?;
     let commands = vec![in rt.alloc();
         Command::First,
+        Command::Last,
         Command::Insert(key_of(1, 'a'), 10),
         Command::Insert(key_of(1, 'b'), 20),
         Command::First,
         Command::Get(key_of(1, 'c')),
         Command::Get(key_of(2, 'a')),
         Command::Len,
+        Command::Last,
+        Command::Insert(key_of(3, 'd'), 30),
+        Command::First,
+        Command::Last,
     ]?;
     let (replies, error) = run(rt.alloc(), &mut tree, commands);
     assert!(rt; error.is_none());
     let wanted = [
+        "pair none",
         "pair none",
         "value none",
         "value 10",
@@ -92,6 +98,10 @@ fn a_run_answers_each_command(rt: HostRuntime) -> Result<(), Fail> {
         "value 20",
         "value none",
         "number 1",
+        "pair 1 a 20",
+        "value none",
+        "pair 1 a 20",
+        "pair 3 d 30",
     ];
     assert_eq!(rt; replies.len(), wanted.len());
     for (reply, wanted) in replies.iter().zip(wanted) {

@@ -15,6 +15,8 @@ pub enum Command<K, V> {
     Get(K),
     /// Asks for the first pair.
     First,
+    /// Asks for the last pair.
+    Last,
     /// Asks for the number of pairs.
     Len,
 }
@@ -75,6 +77,20 @@ where
     }
 }
 
+fn last<S: NodeStore>(tree: &BPlusTree<S>) -> Reply<S::K, S::V>
+where
+    S::V: Copy,
+    ensures { Step S.K.cmp tree.now.contents Command.Last result tree.now.contents }
+{
+    let Some((key, value)) = tree.last() else {
+        return Reply::Pair(None);
+    };
+    match key.clone() {
+        Ok(key) => Reply::Pair(Some((key, *value))),
+        Err(_) => Reply::OutOfMemory,
+    }
+}
+
 // Carries out one command.
 fn carry_out<S: NodeStore>(
     tree: &mut BPlusTree<S>,
@@ -89,6 +105,7 @@ where
         Command::Insert(key, value) => insert(tree, key, value),
         Command::Get(key) => get(tree, key),
         Command::First => first(tree),
+        Command::Last => last(tree),
         Command::Len => Reply::Number(tree.len()),
     }
 }
