@@ -17,9 +17,10 @@ first_leaf-requires g t c κs within =
     let total = g.met.S.K.Ord.total in
     let slots = g.S.NodeStore.slots c.args.store.now in
     let s : Stands g.S.K.Ord.cmp slots c.args.height (Inner c.in-Inner.inner) = rw c.in-Inner.is at c.requires in
-    let long = node_children total slots c.args.height c.in-Inner.inner c.get_inner-node.result.now s c.get_inner-node.ensures in
-    ((let p = (inner_present total slots c.args.height c.in-Inner.inner s).1 in omega arith),
-     (within.0, (within.1.0, (within.1.1.0, (within.1.1.1, child_stands total slots c.args.height c.in-Inner.inner c.get_inner-node.result.now s c.get_inner-node.ensures 0 c.child_id-child.result (omega arith) c.child_id-child.ensures)))))
+    let long = node_children total slots c.args.height c.in-Inner.inner c.get_inner-node.result.now s c.get_inner-node.ensures in (
+      (let p = (inner_present total slots c.args.height c.in-Inner.inner s).1 in omega arith),
+      (within.0, (within.1.0, (within.1.1.0, (within.1.1.1, child_stands total slots c.args.height c.in-Inner.inner c.get_inner-node.result.now s c.get_inner-node.ensures 0 c.child_id-child.result (omega arith) c.child_id-child.ensures)))),
+    )
 
 pub returns-in-Leaf : goal.returns-in-Leaf
 returns-in-Leaf g t c =
