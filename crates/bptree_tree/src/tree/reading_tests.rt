@@ -59,24 +59,24 @@ fn leaf_of(
     Ok(leaf)
 }
 
-// The even keys below 192 in three leaves of 32 pairs each, under one inner node.
+// The even keys from 2 to 192 in three leaves of 32 pairs each, under one inner node.
 fn three_leaves(rt: &impl Abort, alloc: Global) -> Result<BPlusTree<Store>, Fail> {
     let mut store = NodeStoreVec::new(alloc);
     let first = store.reserve_leaf()?;
     let second = store.reserve_leaf()?;
     let third = store.reserve_leaf()?;
-    let mut low = leaf_of(rt, alloc, 0, 32, None, Some(64))?;
+    let mut low = leaf_of(rt, alloc, 1, 33, None, Some(66))?;
     low.set_next(Some(second));
-    let mut middle = leaf_of(rt, alloc, 32, 64, Some(64), Some(128))?;
+    let mut middle = leaf_of(rt, alloc, 33, 65, Some(66), Some(130))?;
     middle.set_prev(Some(first));
     middle.set_next(Some(third));
-    let mut high = leaf_of(rt, alloc, 64, 96, Some(128), None)?;
+    let mut high = leaf_of(rt, alloc, 65, 97, Some(130), None)?;
     high.set_prev(Some(second));
     let len = low.len() + (middle.len() + high.len());
     store.assign_leaf(first, low);
     store.assign_leaf(second, middle);
     store.assign_leaf(third, high);
-    let keys = vec![in alloc; 64, 128]?;
+    let keys = vec![in alloc; 66, 130]?;
     let children = vec![in alloc;
         NodeId::Leaf(first),
         NodeId::Leaf(second),
@@ -256,8 +256,8 @@ fn a_tree_of_three_leaves_is_well_shaped(rt: HostRuntime) -> Result<(), Fail> {
     assert!(rt; !tree.is_empty());
     assert_eq!(rt; tree.len(), 96);
     assert_eq!(rt; tree.height(), 1);
-    assert_eq!(rt; tree.first(), Some((&0, &1000)));
-    assert_eq!(rt; tree.last(), Some((&190, &1190)));
+    assert_eq!(rt; tree.first(), Some((&2, &1002)));
+    assert_eq!(rt; tree.last(), Some((&192, &1192)));
     Ok(())
 }
 
@@ -265,23 +265,25 @@ fn a_tree_of_three_leaves_is_well_shaped(rt: HostRuntime) -> Result<(), Fail> {
 fn finds_each_key_and_no_gap(rt: HostRuntime) -> Result<(), Fail> {
     let tree = three_leaves(&rt, rt.alloc())?;
     // Neighbours in one leaf are found by the remembered leaf, and the next one by a search from the root.
-    for half in 0..96_u32 {
+    for half in 1..97_u32 {
         let key = half.saturating_mul(2);
         assert_eq!(rt; tree.get(&key), Some(&key.saturating_add(1000)), "at {key}");
         assert_eq!(rt; tree.get(&key.saturating_add(1)), None, "above {key}");
     }
     // Each is in another leaf than the one before.
     for (key, value) in [
-        (190, 1190),
-        (0, 1000),
+        (192, 1192),
+        (2, 1002),
+        (66, 1066),
         (64, 1064),
-        (62, 1062),
+        (130, 1130),
         (128, 1128),
-        (126, 1126),
     ] {
         assert_eq!(rt; tree.get(&key), Some(&value), "at {key}");
         assert_eq!(rt; tree.get(&key), Some(&value), "again at {key}");
     }
+    assert_eq!(rt; tree.get(&1), None);
+    assert_eq!(rt; tree.get(&0), None);
     assert_eq!(rt; tree.get(&u32::MAX), None);
     Ok(())
 }
@@ -289,15 +291,15 @@ fn finds_each_key_and_no_gap(rt: HostRuntime) -> Result<(), Fail> {
 #[test]
 fn writes_one_value_alone(rt: HostRuntime) -> Result<(), Fail> {
     let mut tree = three_leaves(&rt, rt.alloc())?;
-    assert!(rt; tree.get_mut(&63).is_none());
-    for key in [0_u32, 64, 190] {
+    assert!(rt; tree.get_mut(&65).is_none());
+    for key in [2_u32, 66, 192] {
         let value = tree.get_mut(&key).expect(&rt, "the key is present");
         *value = 7;
     }
-    for half in 0..96_u32 {
+    for half in 1..97_u32 {
         let key = half.saturating_mul(2);
         let value = match key {
-            0 | 64 | 190 => 7,
+            2 | 66 | 192 => 7,
             _ => key.saturating_add(1000),
         };
         assert_eq!(rt; tree.get(&key), Some(&value), "at {key}");
@@ -313,15 +315,15 @@ fn gives_the_pairs_from_both_ends(rt: HostRuntime) -> Result<(), Fail> {
     let mut forwards = tree.iter();
     let mut backwards = tree.iter();
     let mut ends = tree.iter();
-    for half in 0..96_u32 {
+    for half in 1..97_u32 {
         let key = half.saturating_mul(2);
-        let other = 190_u32.saturating_sub(key);
+        let other = 194_u32.saturating_sub(key);
         assert_eq!(rt; forwards.next(), Some((&key, &key.saturating_add(1000))));
         assert_eq!(rt;
             backwards.next_back(),
             Some((&other, &other.saturating_add(1000)))
         );
-        if half < 48 {
+        if half <= 48 {
             assert_eq!(rt; ends.next().map(|pair| *pair.0), Some(key));
             assert_eq!(rt; ends.next_back().map(|pair| *pair.0), Some(other));
         }
@@ -345,10 +347,10 @@ fn a_clone_of_an_iterator_goes_on_alone(rt: HostRuntime) -> Result<(), Fail> {
     let mut copy = pairs.clone()?;
     assert_eq!(rt; copy.len(), 55);
     assert_eq!(rt; copy.size_hint(), (55, Some(55)));
-    assert_eq!(rt; copy.next(), Some((&80, &1080)));
-    assert_eq!(rt; copy.next_back(), Some((&188, &1188)));
+    assert_eq!(rt; copy.next(), Some((&82, &1082)));
+    assert_eq!(rt; copy.next_back(), Some((&190, &1190)));
     assert_eq!(rt; copy.len(), 53);
     assert_eq!(rt; pairs.len(), 55);
-    assert_eq!(rt; pairs.next(), Some((&80, &1080)));
+    assert_eq!(rt; pairs.next(), Some((&82, &1082)));
     Ok(())
 }

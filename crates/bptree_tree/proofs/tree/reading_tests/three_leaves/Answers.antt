@@ -11,7 +11,7 @@ invariant_of-result g c =
     let middle = c.in_ok-middle.ensures in
     let high = c.in_ok-high.ensures in
     let node = rw (c.in_ok-node.ensures, c.in_ok-keys.ensures.items, c.in_ok-children.ensures.items, c.in_ok-arguments.ensures.items) at c.in-Ok.ensures.updates in (
-      three_shaped nat_cmp _ (λ x keys. tt) _ _ _ _ _ _ _ _ c.in_ok-first.first c.in_ok-second.second c.in_ok-third.third c.in-Ok.root _ _ _ 64 128 tt tt tt
+      three_shaped nat_cmp _ (λ x keys. tt) _ _ _ _ _ _ _ _ c.in_ok-first.first c.in_ok-second.second c.in_ok-third.third c.in-Ok.root _ _ _ 66 130 tt tt tt
           c.new-store.ensures c.in_ok-first.ensures.updates c.in_ok-second.ensures.was_free c.in_ok-second.ensures.updates c.in_ok-third.ensures.was_free c.in_ok-third.ensures.updates
           c.assign_leaf.ensures c.assign_leaf-2.ensures c.assign_leaf-3.ensures node
           (rw (c.set_next.ensures, c.deref_mut.ensures.value) (record { within = low.within; ascending = low.ascending; enough = low.enough; fits = low.fits }))
@@ -22,7 +22,7 @@ invariant_of-result g c =
           (rw (c.set_next-2.ensures, c.deref_mut-3.ensures.value, c.set_prev.ensures) refl) (rw c.set_next-2.ensures refl)
           (rw c.set_prev-2.ensures refl) (rw (c.set_prev-2.ensures, c.deref_mut-4.ensures.value) high.links.1),
       rw (c.len.ensures.value, c.deref.ensures, c.len-2.ensures.value, c.deref-2.ensures, c.len-3.ensures.value, c.deref-3.ensures)
-          (sym (three_counted nat_cmp (λ (x : Unit {0}) (keys : List ℕ). ⊤) (λ x keys. tt) _ _ _ _ _ _ _ _ c.in_ok-first.first c.in_ok-second.second c.in_ok-third.third c.in-Ok.root _ _ _ 64 128 tt tt tt
+          (sym (three_counted nat_cmp (λ (x : Unit {0}) (keys : List ℕ). ⊤) (λ x keys. tt) _ _ _ _ _ _ _ _ c.in_ok-first.first c.in_ok-second.second c.in_ok-third.third c.in-Ok.root _ _ _ 66 130 tt tt tt
           c.new-store.ensures c.in_ok-first.ensures.updates c.in_ok-second.ensures.was_free c.in_ok-second.ensures.updates c.in_ok-third.ensures.was_free c.in_ok-third.ensures.updates
           c.assign_leaf.ensures c.assign_leaf-2.ensures c.assign_leaf-3.ensures node)),
       tt,
