@@ -3,10 +3,11 @@ use Rattle.std.specs.Prelude.{◌≡◌, ◌≢◌, ◌^◌, ◌-◌, false, Lis
 use Rattle.std.specs.declared.cmp.Ordering.{Ordering}
 use Rattle.std.specs.declared.cmp.Ordering.TheVariants.{Equal}
 use Rattle.bptree_nodes.specs.Contents.{has, value, put}
+use Rattle.bptree_tree.specs.Lending.{written}
 use Rattle.bptree_tree.specs.declared.InsertError as insert_error
 use Rattle.bptree_tree.specs.declared.InsertError.TheVariants as refusal
 use Rattle.sweep_bptree.specs.declared.script.commands.Command.{Command}
-use Rattle.sweep_bptree.specs.declared.script.commands.Command.TheVariants.{Insert, Get, First, Last, Len}
+use Rattle.sweep_bptree.specs.declared.script.commands.Command.TheVariants.{Insert, Get, Set, First, Last, Len}
 use Rattle.sweep_bptree.specs.declared.script.commands.Reply.{Reply}
 use Rattle.sweep_bptree.specs.declared.script.commands.Reply.TheVariants.{Value, Pair, Number, OutOfMemory, Full}
 
@@ -32,6 +33,8 @@ module _ {K V : Type 0} (cmp : K → K → Ordering) where
   Step old (Insert k v) OutOfMemory new = (HasNoRoomFor old k → ⊥) × (has cmp old k ≡ false) × (new ≡ old)
   Step old (Insert k v) Full new = HasNoRoomFor old k × (new ≡ old)
   Step old (Get k) (Value found) new = (found ≡ value cmp old k) × (new ≡ old)
+  Step old (Set k v) (Value None) new = (value cmp old k ≡ None) × (new ≡ old)
+  Step old (Set k v) (Value (Some before)) new = (value cmp old k ≡ Some before) × (new ≡ written cmp k old v)
   Step old First (Pair pair) new = IsCopyOf (slice_get old 0) pair × (new ≡ old)
   Step old First OutOfMemory new = new ≡ old
   Step old Last (Pair pair) new = IsCopyOf (slice_get old (length old - 1)) pair × (new ≡ old)

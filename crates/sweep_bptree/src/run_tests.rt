@@ -86,6 +86,10 @@ fn a_run_answers_each_command(rt: HostRuntime) -> Result<(), Fail> {
         Command::Insert(key_of(3, 'd'), 30),
         Command::First,
         Command::Last,
+        Command::Set(key_of(2, 'e'), 5),
+        Command::Set(key_of(1, 'e'), 25),
+        Command::First,
+        Command::Len,
     ]?;
     let (replies, error) = run(rt.alloc(), &mut tree, commands);
     assert!(rt; error.is_none());
@@ -102,6 +106,10 @@ fn a_run_answers_each_command(rt: HostRuntime) -> Result<(), Fail> {
         "value none",
         "pair 1 a 20",
         "pair 3 d 30",
+        "value none",
+        "value 20",
+        "pair 1 a 25",
+        "number 2",
     ];
     assert_eq!(rt; replies.len(), wanted.len());
     for (reply, wanted) in replies.iter().zip(wanted) {

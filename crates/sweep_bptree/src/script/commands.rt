@@ -13,6 +13,8 @@ pub enum Command<K, V> {
     Insert(K, V),
     /// Looks the key up.
     Get(K),
+    /// Replaces the value at the key, and puts nothing where the key is absent.
+    Set(K, V),
     /// Asks for the first pair.
     First,
     /// Asks for the last pair.
@@ -63,6 +65,19 @@ where
     Reply::Value(tree.get(&key).copied())
 }
 
+fn set<S: NodeStore>(tree: &mut BPlusTree<S>, key: S::K, value: S::V) -> Reply<S::K, S::V>
+where
+    S::V: Copy,
+    ensures { Step S.K.cmp tree.old.contents (Command.Set key value) result tree.new.contents }
+{
+    let Some(held) = tree.get_mut(&key) else {
+        return Reply::Value(None);
+    };
+    let before = *held;
+    *held = value;
+    Reply::Value(Some(before))
+}
+
 fn first<S: NodeStore>(tree: &BPlusTree<S>) -> Reply<S::K, S::V>
 where
     S::V: Copy,
@@ -104,6 +119,7 @@ where
     match command {
         Command::Insert(key, value) => insert(tree, key, value),
         Command::Get(key) => get(tree, key),
+        Command::Set(key, value) => set(tree, key, value),
         Command::First => first(tree),
         Command::Last => last(tree),
         Command::Len => Reply::Number(tree.len()),
