@@ -2,6 +2,7 @@
 ghost use Rattle.std.proofs.Common.{rules};
 
 use crate::BPlusTree;
+use crate::tree::reading_tests::assert_well_shaped;
 use bptree_nodes::key::Key;
 use bptree_nodes::node_id::LeafNodeId;
 use bptree_stores::node_store_vec::NodeStoreVec;
@@ -108,6 +109,7 @@ fn inner_nodes_split_in_each_order(rt: HostRuntime) -> Result<(), Fail> {
         let mut tree: Tree = BPlusTree::new(NodeStoreVec::new(rt.alloc()))?;
         fill(&rt, &mut tree, start, step, MANY);
         assert_many(&rt, &tree);
+        assert_well_shaped(&rt, rt.alloc(), &tree)?;
     }
     Ok(())
 }
@@ -135,5 +137,31 @@ fn equal_keys_stay(rt: HostRuntime) -> Result<(), Fail> {
     for (key, value) in tree.iter() {
         assert_eq!(rt; (key.letter, *value), ('a', 2));
     }
+    Ok(())
+}
+
+// The values of a tree in the order of its keys, which are one after another.
+fn assert_values(rt: &impl Abort, tree: &BPlusTree<NodeStoreVec<String, u64>>, first: u64) {
+    let mut wanted = first;
+    for (_, value) in tree.iter() {
+        assert_eq!(rt; *value, wanted);
+        wanted = wanted.wrapping_add(1);
+    }
+    assert_eq!(rt; wanted.wrapping_sub(first), tree.len() as u64);
+}
+
+#[test]
+fn keys_that_hold_memory_are_split(rt: HostRuntime) -> Result<(), Fail> {
+    let mut tree: BPlusTree<NodeStoreVec<String, u64>> = BPlusTree::new(NodeStoreVec::new(
+        rt.alloc(),
+    ))?;
+    // Numbers of three digits stand in one order as numbers and as text.
+    for number in 100..300_u64 {
+        let key = format!(in rt.alloc(); "{number}")?;
+        assert_eq!(rt; tree.insert(key, number).ok(), Some(None));
+    }
+    assert_eq!(rt; (tree.len(), tree.height()), (200, 1));
+    assert_values(&rt, &tree, 100);
+    assert_well_shaped(&rt, rt.alloc(), &tree)?;
     Ok(())
 }

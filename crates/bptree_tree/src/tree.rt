@@ -9,7 +9,7 @@ ghost use Rattle.bptree_tree.specs.Refusal.{pair_of};
 ghost use Rattle.bptree_tree.specs.Shape.{IsWellShaped};
 
 #[cfg(test)]
-mod reading_tests;
+pub(crate) mod reading_tests;
 
 use crate::descent::{first_leaf, last_leaf};
 use crate::insertion::upsert;
@@ -119,6 +119,7 @@ impl<S: NodeStore> BPlusTree<S> {
         requires summaries { (a : S.Argument) → (keys : List S.K) → S.Argument.is_summary a keys }
         ensures ok { IfOk result (λ old. (old ≡ value S.K.cmp self.old.contents k) × (self.new.contents ≡ put S.K.cmp self.old.contents k v)) }
         ensures err { IfErr result (λ refusal. (pair_of refusal ≡ (k, v)) × (self.new.contents ≡ self.old.contents)) }
+        ensures unchanged { IfErr result (λ _. (S.slots self.new.store ≡ S.slots self.old.store) × (self.new.root ≡ self.old.root) × (self.new.height ≡ self.old.height) × (self.new.root_argument ≡ self.old.root_argument)) }
         ensures present { IsTrue (has S.K.cmp self.old.contents k) → IsOk result }
         ensures full { (result ≡ Err (InsertError.Full k v)) ↔ ((length self.old.contents ≡ usize.MAX) × (has S.K.cmp self.old.contents k ≡ false)) }
     {

@@ -212,7 +212,7 @@ fn assert_linked<S: NodeStore>(rt: &impl Abort, store: &S, leaves: &[LeafNodeId]
 }
 
 // Asserts that a tree is well shaped, by a walk over its nodes.
-fn assert_well_shaped<S: NodeStore>(
+pub(crate) fn assert_well_shaped<S: NodeStore>(
     rt: &impl Abort,
     alloc: Global,
     tree: &BPlusTree<S>,
