@@ -1,8 +1,10 @@
 //! Summaries of keys.
-ghost use Rattle.std.specs.Prelude.{◌≡◌, ◌<◌, List, [], length, true, IfOk, IsTrue, ⊤};
+ghost use Rattle.std.specs.Prelude.{◌≡◌, ◌<◌, ◌≤◌, ◌^◌, ℕ, List, [], ◌++◌, length, true, is_ok, Option, IfOk, IsTrue, MatchResult, ⊤};
 ghost use Rattle.std.specs.List.{AllZip};
 ghost use Rattle.std.specs.List.Sorted.{IsStrictlySortedBy};
-ghost use Rattle.bptree_nodes.specs.Pieces.{ArePieces, flatten};
+ghost use Rattle.bptree_arguments.specs.Ranks.{AllAbove, AllBelow, IsSlotOf};
+ghost use Rattle.bptree_arguments.specs.Selection.{IsPlaceIn, LeadsTo};
+ghost use Rattle.bptree_nodes.specs.Pieces.{AllNonEmpty, ArePieces, flatten};
 
 use bptree_nodes::key::Key;
 use std::alloc::AllocError;
@@ -29,6 +31,63 @@ pub trait Argument<K: Key>: Clone + Default + Drop {
         ensures summary { IfOk result (λ a. (pieces : List (List K)) → ArePieces K.cmp pieces → AllZip is_summary arguments.now pieces → is_summary a (flatten pieces)) };
 
     ghost default_is_summary: { (a : Self) → Self.is_default a → is_summary a [] };
+}
+
+/// An argument that finds a place among keys by a query.
+pub trait SearchArgument<K: Key>: Argument<K> {
+    /// What is asked for.
+    type Query: Drop;
+
+    /// The place, or none, is allowed for the query on the keys.
+    ghost selects: { Self.Query → List K → Option ℕ → Type 0 };
+
+    /// A place among the keys of a leaf, which ascend, or none. It fails only where memory is refused.
+    fn locate_in_leaf(query: Self::Query, keys: &[K]) -> Result<Option<usize>, AllocError>
+        requires { length keys.now ≤ 64 }
+        ensures in_range { IfOk result (λ place. IsPlaceIn keys.now place) }
+        ensures selected { IfOk result (λ place. IsStrictlySortedBy K.cmp keys.now → selects query keys.now place) };
+
+    /// The child of an inner node to go on in, with the query that is asked there; or none, where no place is allowed
+    /// for the query. It is given the separators and one summary for each child, and fails only where memory is refused.
+    fn locate_in_inner(
+        query: Self::Query,
+        keys: &[K],
+        arguments: &[Self],
+    ) -> Result<Option<(usize, Self::Query)>, AllocError>
+        ensures leads { IfOk result (λ answer. (pieces : List (List K)) → ArePieces K.cmp pieces → AllZip Self.is_summary arguments.now pieces → LeadsTo selects query pieces answer) };
+}
+
+/// An argument that ranks a key among others.
+pub trait RankArgument<K: Key>: Argument<K> {
+    /// What is answered.
+    type Rank: Drop;
+
+    /// The rank stands for a list of keys that are smaller than the key.
+    ghost stands_for: { Self.Rank → K → List K → Type 0 };
+
+    /// The rank is allowed for the key on the keys.
+    ghost ranks: { K → List K → Self.Rank → Type 0 };
+
+    /// The rank before any key was seen.
+    fn initial_value() -> Self::Rank
+        ensures stands { (k : K) → stands_for result k [] };
+
+    /// The rank carried on over the children of an inner node before the one for the key; there may be none. It is given
+    /// one summary for each of them, and fails only where memory is refused.
+    fn fold_inner(k: &K, rank: Self::Rank, arguments: &[Self]) -> Result<Self::Rank, AllocError>
+        ensures carries { IfOk result (λ next. (before : List K) (pieces : List (List K)) → AllNonEmpty pieces → AllZip Self.is_summary arguments.now pieces → IsStrictlySortedBy K.cmp (before ++ flatten pieces) → AllBelow K.cmp k.now (before ++ flatten pieces) → length (before ++ flatten pieces) < 2 ^ 64 → stands_for rank k.now before → stands_for next k.now (before ++ flatten pieces)) };
+
+    /// The rank of a key by its place in its leaf: `Ok` exactly where it is present. It fails only where memory is refused.
+    fn fold_leaf(
+        k: &K,
+        rank: Self::Rank,
+        slot: Result<usize, usize>,
+        keys: &[K],
+    ) -> Result<Result<Self::Rank, Self::Rank>, AllocError>
+        requires few { length keys.now ≤ 64 }
+        requires placed { IsSlotOf K.cmp k.now keys.now slot }
+        ensures variant { IfOk result (λ answer. is_ok answer ≡ is_ok slot) }
+        ensures ranked { IfOk result (λ answer. (before after : List K) → IsStrictlySortedBy K.cmp (before ++ (keys.now ++ after)) → AllBelow K.cmp k.now before → AllAbove K.cmp k.now after → length (before ++ (keys.now ++ after)) < 2 ^ 64 → stands_for rank k.now before → MatchResult answer (ranks k.now (before ++ (keys.now ++ after))) (ranks k.now (before ++ (keys.now ++ after)))) };
 }
 
 /// No summary at all: it says nothing of the keys, and takes no room.
