@@ -26,3 +26,4 @@ pub mod WholePut
 pub mod Upserted
 pub mod Counted
 pub mod ThreeLeaves
+pub mod NodePieces
