@@ -2,6 +2,7 @@ pub mod Around
 pub mod Ascending
 pub mod Equal
 pub mod Found
+pub mod Inverses
 pub mod Iterables
 pub mod Laws
 pub mod LeafContents

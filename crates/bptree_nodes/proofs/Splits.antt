@@ -24,7 +24,7 @@ module _ {X : Type 0} where
   around_last xs n m x h e = rw (take-take n m xs (omega arith)) (around_element xs n m x (sym (slice_get-take m xs n (omega arith)) ∙ h) e)
 
   -- the elements of a list with a new one
-  at_new : (xs : List X) (i : ℕ) (x : X) → i ≤ length xs → slice_get (insert xs i x) i ≡ Some x
+  pub at_new : (xs : List X) (i : ℕ) (x : X) → i ≤ length xs → slice_get (insert xs i x) i ≡ Some x
   at_new xs zero x h = refl
   at_new [] (suc i) x h = absurd (omega arith)
   at_new (y ∷ xs) (suc i) x h = at_new xs i x (omega arith)

@@ -145,6 +145,35 @@ fn splits_behind_the_middle(rt: HostRuntime) -> Result<(), Fail> {
 }
 
 #[test]
+fn takes_a_split_back(rt: HostRuntime) -> Result<(), Fail> {
+    let alloc = rt.alloc();
+    let keys = multiples(alloc, 10, 1, 64)?;
+    let leaves = multiples(alloc, 1, 0, 64)?;
+    for slot in [0, 31, 32, 33, 64] {
+        assert!(rt; slot <= 64);
+        let (mut left, up, right) = split_of_tens(&rt, alloc, slot, 5)?;
+        assert!(rt; left.len() == 32);
+        assert!(rt; right.len() == 32);
+        assert_eq!(rt; left.join_split(slot, up, right), (5, leaf(100), 100));
+        assert_shows(&rt, &left, &keys, &leaves);
+    }
+    Ok(())
+}
+
+#[test]
+fn takes_an_insertion_back(rt: HostRuntime) -> Result<(), Fail> {
+    let alloc = rt.alloc();
+    let leaves = multiples(alloc, 1, 0, 2)?;
+    let mut node = node_over(&rt, alloc, vec![in alloc; 10, 30]?, leaves)?;
+    assert!(rt; node.len() == 2);
+    node.insert_at(1, 20, leaf(7), 7);
+    assert_shows(&rt, &node, &[10, 20, 30], &[0, 1, 7, 2]);
+    assert_eq!(rt; node.remove_at(1), (20, leaf(7), 7));
+    assert_shows(&rt, &node, &[10, 30], &[0, 1, 2]);
+    Ok(())
+}
+
+#[test]
 fn merges_two_children_of_a_node(rt: HostRuntime) -> Result<(), Fail> {
     let alloc = rt.alloc();
     let keys = vec![in alloc; 10, 30, 50]?;

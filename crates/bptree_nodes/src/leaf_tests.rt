@@ -192,6 +192,32 @@ fn exchanges_pairs_at_its_ends(rt: HostRuntime) -> Result<(), Fail> {
 }
 
 #[test]
+fn takes_an_insertion_back(rt: HostRuntime) -> Result<(), Fail> {
+    let mut leaf = leaf_of(rt.alloc(), vec![in rt.alloc(); (10, 1), (30, 3)]?)?;
+    assert!(rt; leaf.len() == 2);
+    leaf.insert_at(1, 20, 2);
+    assert_pairs(&rt, &leaf, &[(10, 1), (20, 2), (30, 3)]);
+    assert_eq!(rt; leaf.delete_at(1), (20, 2));
+    assert_pairs(&rt, &leaf, &[(10, 1), (30, 3)]);
+    Ok(())
+}
+
+#[test]
+fn takes_a_split_back(rt: HostRuntime) -> Result<(), Fail> {
+    let mut leaf = leaf_of(rt.alloc(), even_pairs(rt.alloc(), 2, 128)?)?;
+    leaf.set_next(Some(id(3)));
+    for slot in [0, 31, 32, 64] {
+        assert!(rt; slot <= 64);
+        assert!(rt; leaf.is_full());
+        let right = leaf.split_new_leaf(slot, (1, 7), id(2), id(1), LeafNode::new(rt.alloc())?);
+        assert_eq!(rt; leaf.join_split(slot, right), (1, 7));
+        assert_pairs(&rt, &leaf, &even_pairs(rt.alloc(), 2, 128)?);
+        assert_eq!(rt; (leaf.prev(), leaf.next()), (None, Some(id(3))));
+    }
+    Ok(())
+}
+
+#[test]
 fn a_clone_is_equal_and_apart(rt: HostRuntime) -> Result<(), Fail> {
     let word = |text: &str| String::from_str(rt.alloc(), text);
     let mut leaf = LeafNode::new(rt.alloc())?;
