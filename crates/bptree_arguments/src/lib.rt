@@ -2,5 +2,8 @@
 #![tactic(auto)]
 
 pub mod argument;
+pub mod count;
+#[cfg(test)]
+mod count_tests;
 #[cfg(test)]
 mod tests;

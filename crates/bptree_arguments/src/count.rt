@@ -1,0 +1,112 @@
+//! Counts of keys: a tree that keeps them finds a key by its place, and ranks a key among all.
+ghost use Rattle.std.specs.Prelude.{◌≡◌, ◌-◌, ◌^◌, List, length, min, IfOk};
+ghost use Rattle.std.specs.List.{sum_by, AllZip};
+ghost use Rattle.std.proofs.Common.{rules};
+ghost use Rattle.bptree_arguments.specs.CountLaws.{SelectsPlace, count_below};
+ghost use Rattle.bptree_nodes.specs.Pieces.{ArePieces, flatten};
+
+use crate::argument::{Argument, RankArgument, SearchArgument};
+use bptree_nodes::key::Key;
+use std::alloc::AllocError;
+
+/// The number of keys below a child. The default counts no key.
+#[derive(Clone, Copy, Default, Debug)]
+pub struct Count(usize);
+
+impl Count {
+    /// The number of keys, in constant time.
+    pub fn count(&self) -> usize
+        ensures { result ≡ self.now.0 }
+    {
+        self.0
+    }
+}
+
+/// The number of keys, exact. No memory is asked for, so nothing fails.
+impl<K: Key> Argument<K> for Count {
+    ghost is_summary = { λ a keys. a.0 ≡ length keys };
+
+    fn from_leaf(keys: &[K]) -> Result<Count, AllocError> {
+        Ok(Count(keys.len()))
+    }
+
+    /// The sum of the counts, in one step a child. It stops at the greatest `usize`, which no list of keys is longer
+    /// than. The separators don't count.
+    fn from_inner(_keys: &[K], arguments: &[Count]) -> Result<Count, AllocError>
+        ensures summary { IfOk result (λ a. (pieces : List (List K)) → ArePieces K.cmp pieces → AllZip (λ b keys. b.0 ≡ length keys) arguments.now pieces → a.0 ≡ length (flatten pieces)) }
+        ensures capped { IfOk result (λ a. a.0 ≡ min (sum_by (λ b. b.0) arguments.now) (2 ^ 64 - 1)) }
+    {
+        let mut total = 0usize;
+        for argument in arguments {
+            total = total.saturating_add(argument.0);
+        }
+        Ok(Count(total))
+    }
+
+    ghost default_is_summary = { λ _ h. Prim.search rules };
+}
+
+/// A query is a place: it selects the key there, or none past the end.
+impl<K: Key> SearchArgument<K> for Count {
+    type Query = usize;
+
+    ghost selects = { SelectsPlace };
+
+    fn locate_in_leaf(query: usize, keys: &[K]) -> Result<Option<usize>, AllocError> {
+        if query < keys.len() {
+            Ok(Some(query))
+        } else {
+            Ok(None)
+        }
+    }
+
+    /// The child in which the place lies, and the place there. At most one step a child.
+    fn locate_in_inner(
+        query: usize,
+        _keys: &[K],
+        arguments: &[Count],
+    ) -> Result<Option<(usize, usize)>, AllocError> {
+        let mut rest = query;
+        for (i, argument) in arguments.iter().enumerate() {
+            if rest < argument.0 {
+                return Ok(Some((i, rest)));
+            }
+            rest -= argument.0;
+        }
+        Ok(None)
+    }
+}
+
+/// The rank of a key is the number of keys that are smaller.
+impl<K: Key> RankArgument<K> for Count {
+    type Rank = usize;
+
+    ghost stands_for = { λ rank _ before. rank ≡ length before };
+
+    ghost ranks = { λ k keys rank. rank ≡ count_below K.cmp k keys };
+
+    fn initial_value() -> usize {
+        0
+    }
+
+    /// One step a child.
+    fn fold_inner(_k: &K, rank: usize, arguments: &[Count]) -> Result<usize, AllocError> {
+        let mut next = rank;
+        for argument in arguments {
+            next = next.saturating_add(argument.0);
+        }
+        Ok(next)
+    }
+
+    fn fold_leaf(
+        _k: &K,
+        rank: usize,
+        slot: Result<usize, usize>,
+        _keys: &[K],
+    ) -> Result<Result<usize, usize>, AllocError> {
+        Ok(match slot {
+            Ok(i) => Ok(rank.saturating_add(i)),
+            Err(i) => Err(rank.saturating_add(i)),
+        })
+    }
+}
