@@ -31,13 +31,13 @@ use Rattle.bptree_tree.proofs.Hinted.{count_of, count_leaves, total-append}
 use Rattle.bptree_tree.proofs.Spot.{parts_of_read, leaf_ascends}
 use Rattle.bptree_tree.proofs.Walk.{flat-append}
 
-keys_stay : {K V : Type 0} (ps : List (K × V)) (i : ℕ) (v : V) → keys_of (set_value_at ps i v) ≡ keys_of ps
+pub keys_stay : {K V : Type 0} (ps : List (K × V)) (i : ℕ) (v : V) → keys_of (set_value_at ps i v) ≡ keys_of ps
 keys_stay [] i v = refl
 keys_stay (p ∷ ps) zero v = refl
 keys_stay (p ∷ ps) (suc i) v = ap (λ more. p.0 ∷ more) (keys_stay ps i v)
 
 -- leaves with no number in question read the same
-pairs_apart : {K V A : Type 0} (old new : Slots (Inner K A) (Leaf K V)) (number : ℕ) → ((n : ℕ) → n ≢ number → new.leaf n ≡ old.leaf n) → (ids : List LeafNodeId) → count_of ids number ≡ 0 → pairs_of new ids ≡ pairs_of old ids
+pub pairs_apart : {K V A : Type 0} (old new : Slots (Inner K A) (Leaf K V)) (number : ℕ) → ((n : ℕ) → n ≢ number → new.leaf n ≡ old.leaf n) → (ids : List LeafNodeId) → count_of ids number ≡ 0 → pairs_of new ids ≡ pairs_of old ids
 pairs_apart old new number others [] none = refl
 pairs_apart old new number others (l ∷ ids) none =
     elim (eqb_tells l.0 number) [

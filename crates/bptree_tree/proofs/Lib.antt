@@ -27,3 +27,6 @@ pub mod Upserted
 pub mod Counted
 pub mod ThreeLeaves
 pub mod NodePieces
+pub mod Slots
+pub mod Summed
+pub mod LentAt

@@ -49,23 +49,23 @@ module _ {C K V : Type 0} (f : C → List (K × V)) where
   pub keys_start : (cs : List C) (i : ℕ) → start_of (keys_each f cs) i ≡ length (flat f (take i cs))
   keys_start cs i = rw (keys_take cs i, ← keys_of_flat (take i cs)) (length-keys_of (flat f (take i cs)))
 
-module _ {K V A : Type 0} {cmp : K → K → Ordering} (total : IsTotalOrder cmp) (slots : Slots (Inner K A) (Leaf K V)) where
-  -- the keys below each of some children
-  abbrev pub child_keys : ℕ → List NodeId → List (List K)
-  child_keys h cs = keys_each (pairs_at slots h) cs
+-- the keys below each of some children
+abbrev pub child_keys : {K V A : Type 0} → Slots (Inner K A) (Leaf K V) → ℕ → List NodeId → List (List K)
+child_keys slots h cs = keys_each (pairs_at slots h) cs
 
+module _ {K V A : Type 0} {cmp : K → K → Ordering} (total : IsTotalOrder cmp) (slots : Slots (Inner K A) (Leaf K V)) where
   pub children_some : (h : ℕ) (ks : List K) (cs : List NodeId) (lo hi : Option K) → Chain cmp (IsTree cmp slots 16 h) ks cs lo hi → AllByRecursion (λ c. 0 < length (pairs_at slots h c)) cs
   children_some h ks [] lo hi chain = absurd chain
   children_some h [] (c ∷ []) lo hi chain = (tree_some total slots 16 h c lo hi (omega arith) chain, tt)
   children_some h [] (c ∷ d ∷ cs) lo hi chain = absurd chain
   children_some h (k ∷ ks) (c ∷ cs) lo hi chain = (tree_some total slots 16 h c lo (Some k) (omega arith) chain.0, children_some h ks cs (Some k) hi chain.2)
 
-  each_some : (h : ℕ) (cs : List NodeId) → AllByRecursion (λ c. 0 < length (pairs_at slots h c)) cs → AllNonEmpty (child_keys h cs)
+  each_some : (h : ℕ) (cs : List NodeId) → AllByRecursion (λ c. 0 < length (pairs_at slots h c)) cs → AllNonEmpty (child_keys slots h cs)
   each_some h [] all = tt
   each_some h (c ∷ cs) all = (omega (arith, length-keys_of (pairs_at slots h c), all.0), each_some h cs all.1)
 
   -- children between separators are pieces, one each
-  pub chain_pieces : (h : ℕ) (ks : List K) (cs : List NodeId) (lo hi : Option K) → Chain cmp (IsTree cmp slots 16 h) ks cs lo hi → length (flat (pairs_at slots h) cs) < 2 ^ 64 → ArePieces cmp (child_keys h cs)
+  pub chain_pieces : (h : ℕ) (ks : List K) (cs : List NodeId) (lo hi : Option K) → Chain cmp (IsTree cmp slots 16 h) ks cs lo hi → length (flat (pairs_at slots h) cs) < 2 ^ 64 → ArePieces cmp (child_keys slots h cs)
   chain_pieces h ks cs lo hi chain fits = record {
     nonempty = each_some h cs (children_some h ks cs lo hi chain);
     ascending =
@@ -76,10 +76,10 @@ module _ {K V A : Type 0} {cmp : K → K → Ordering} (total : IsTotalOrder cmp
 
   module _ (least h : ℕ) (id : InnerNodeId) (lo hi : Option K) (tree : IsTree cmp slots least (suc h) (kind.Inner id) lo hi) where
     -- the keys of a node are those below its children
-    pub node_keys_flat : keys_of (pairs_at slots (suc h) (kind.Inner id)) ≡ flatten (child_keys h (inner_children (slots.inner id.0)))
+    pub node_keys_flat : keys_of (pairs_at slots (suc h) (kind.Inner id)) ≡ flatten (child_keys slots h (inner_children (slots.inner id.0)))
     node_keys_flat = keys_of_flat (pairs_at slots h) (inner_children (slots.inner id.0))
 
-    pub node_pieces : length (pairs_at slots (suc h) (kind.Inner id)) < 2 ^ 64 → ArePieces cmp (child_keys h (inner_children (slots.inner id.0)))
+    pub node_pieces : length (pairs_at slots (suc h) (kind.Inner id)) < 2 ^ 64 → ArePieces cmp (child_keys slots h (inner_children (slots.inner id.0)))
     node_pieces fits = chain_pieces h (inner_keys (slots.inner id.0)) (inner_children (slots.inner id.0)) lo hi tree.1 fits
 
     -- each child is a tree with 16 keys or pairs at least
@@ -95,5 +95,5 @@ module _ {K V A : Type 0} {cmp : K → K → Ordering} (total : IsTotalOrder cmp
     node_children_some = children_some h (inner_keys (slots.inner id.0)) (inner_children (slots.inner id.0)) lo hi tree.1
 
     -- the arguments of a node are summaries of its pieces
-    pub node_summaries : (is_summary : A → List K → Type 0) → IsSummed slots is_summary (suc h) (kind.Inner id) → AllZip is_summary (inner_arguments (slots.inner id.0)) (child_keys h (inner_children (slots.inner id.0)))
+    pub node_summaries : (is_summary : A → List K → Type 0) → IsSummed slots is_summary (suc h) (kind.Inner id) → AllZip is_summary (inner_arguments (slots.inner id.0)) (child_keys slots h (inner_children (slots.inner id.0)))
     node_summaries is_summary summed = summed.0

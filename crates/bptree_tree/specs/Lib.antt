@@ -11,3 +11,5 @@ pub mod Span
 pub mod Bare
 pub mod Rooms
 pub mod Puts
+pub mod ByArgument
+pub mod Writing

@@ -1,6 +1,9 @@
 //! An ordered map in memory that is one strictly ascending list of pairs, kept in a B+ tree over a store of nodes.
 #![tactic(auto)]
 
+pub mod by_argument;
+#[cfg(test)]
+mod by_argument_tests;
 pub mod descent;
 pub mod insertion;
 #[cfg(test)]
@@ -18,4 +21,13 @@ pub enum InsertError<K, V> {
     OutOfMemory(K, V),
     /// The tree has `usize::MAX` pairs, and none with this key.
     Full(K, V),
+}
+
+/// Why no value was lent.
+#[derive(Debug, PartialEq, Drop)]
+pub enum SelectError {
+    /// No place is allowed for the query.
+    NotFound,
+    /// A request for memory was refused.
+    OutOfMemory,
 }

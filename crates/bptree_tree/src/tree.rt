@@ -8,6 +8,7 @@ ghost use Rattle.bptree_nodes.specs.Slot.{IsEmpty};
 ghost use Rattle.bptree_tree.specs.Refusal.{pair_of};
 ghost use Rattle.bptree_tree.specs.Shape.{IsWellShaped};
 
+mod queries;
 #[cfg(test)]
 pub(crate) mod reading_tests;
 
