@@ -24,7 +24,7 @@ use Rattle.bptree_tree.specs.Change.{StartsAt, SplitsLeaf}
 use Rattle.bptree_tree.specs.Edit.{IsLocal, Edits}
 use Rattle.bptree_tree.specs.Order.{AtLeast, AtMost, Under, Within, Between}
 use Rattle.bptree_tree.specs.Shape.{leaf_pairs, leaf_count, stands, IsTree}
-use Rattle.bptree_tree.specs.declared.insertion.Outcome.TheVariants.{Done, Split}
+use Rattle.bptree_tree.specs.Outcome.{Done, Split}
 use Rattle.bptree_tree.proofs.Mended.{absent_stands}
 use Rattle.bptree_tree.proofs.Ordered.{all_so, not_less_back, smaller_before, ascending_after}
 use Rattle.bptree_tree.proofs.Spot.{ascending_before}

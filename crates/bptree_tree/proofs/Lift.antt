@@ -1,11 +1,12 @@
 -- The node above a child that was split: it takes the new child, and may be split in turn.
-use Rattle.std.proofs.Common.{◌≡◌, ℕ, suc, ◌+◌, ◌≤◌, inl, inr, true, cond, List, [], ◌∷◌, ◌++◌, length, map, refl, sym, ap, subst, ◌∙◌, arith, Option, Some, eqb, slice_get}
+use Rattle.std.proofs.Common.{◌≡◌, ℕ, suc, ◌+◌, ◌≤◌, inl, inr, true, cond, List, [], ◌∷◌, ◌++◌, length, map, refl, sym, ap, subst, ◌∙◌, arith, Option, Some, eqb, slice_get, slice_set}
 use Rattle.std.specs.declared.cmp.Ordering.{Ordering}
 use Rattle.std.specs.Cmp.{IsTotalOrder}
 use Rattle.std.specs.List.{AllByRecursion, AllZip, insert}
 use Rattle.std.specs.Map.{keys_of}
 use Rattle.std.proofs.lemmas.Bool.{eq-eqb}
 use Rattle.std.proofs.lemmas.Bool.Decides.{eqb_tells}
+use Rattle.std.proofs.lemmas.List.{length-map, map-append}
 use Rattle.std.proofs.lemmas.List.Edits.{length-insert}
 use Rattle.bptree_nodes.specs.Inner.{Inner}
 use Rattle.bptree_nodes.specs.Leaf.{Leaf}
@@ -14,18 +15,18 @@ use Rattle.bptree_nodes.specs.declared.node_id.InnerNodeId.{InnerNodeId}
 use Rattle.bptree_nodes.specs.declared.node_id.LeafNodeId.{LeafNodeId}
 use Rattle.bptree_nodes.specs.declared.node_id.NodeId.{NodeId}
 use Rattle.bptree_nodes.specs.declared.node_id.NodeId.TheVariants as kind
-use Rattle.bptree_nodes.proofs.PieceLemmas.{AllByRecursion-left, AllByRecursion-right}
-use Rattle.bptree_tree.specs.Change.{Links, Splits, Takes}
+use Rattle.bptree_nodes.proofs.PieceLemmas.{AllByRecursion-left, AllByRecursion-right, AllZip-left, AllZip-right}
+use Rattle.bptree_tree.specs.Change.{Keeps, Links, Splits}
 use Rattle.bptree_tree.specs.Edit.{IsLocal, CanReach, Extends, LinksAt, Edits}
 use Rattle.bptree_tree.specs.Order.{flat, total, Within, Between, Chain, Leads}
+use Rattle.bptree_tree.specs.Sums.{with_summary}
 use Rattle.bptree_tree.specs.Shape.{inner_keys, inner_children, pairs_at, leaves_at, leaf_count, inner_count, stands, IsTree, IsSummed}
-use Rattle.bptree_tree.specs.declared.insertion.Outcome.{Outcome}
-use Rattle.bptree_tree.specs.declared.insertion.Outcome.TheVariants.{Done, Split}
-use Rattle.bptree_tree.proofs.Frame.{stands_le, stands_if_absent, flat_same, total_same, each_keeps, Chain-so, Same, all_same}
+use Rattle.bptree_tree.specs.Outcome.{Outcome, Done, Split}
+use Rattle.bptree_tree.proofs.Frame.{stands_le, stands_if_absent, flat_same, total_same, map_same, each_keeps, Chain-so, Same, all_same}
 use Rattle.bptree_tree.proofs.Hinted.{total-append}
 use Rattle.bptree_tree.proofs.Ordered.{all_so, AtLeast-up}
 use Rattle.bptree_tree.proofs.Walk.{flat-append}
-use Rattle.bptree_tree.proofs.Widen.{leads_within, own_inners, node_stays, Grown, grown_split, below_leaves, below_inners, summed_of}
+use Rattle.bptree_tree.proofs.Widen.{leads_within, own_inners, node_stays, Grown, grown_done, grown_split, zipped_done, zipped_split, below_leaves, below_inners}
 
 -- the links where leaves stay
 links_moved : {K V A : Type 0} (old new after : Slots (Inner K A) (Leaf K V)) (leaf : LeafNodeId) (fresh : List LeafNodeId) → ((n : ℕ) → after.leaf n ≡ new.leaf n) → LinksAt old new leaf fresh → LinksAt old after leaf fresh
@@ -50,18 +51,10 @@ same_stands f g id x y e u n = elim (eqb_tells n id) [ inl h ↦ (rw h.1 (rw (e,
 module _ {K V A : Type 0} {cmp : K → K → Ordering} (total' : IsTotalOrder cmp) (is_summary : A → List K → Type 0) (edit : List (K × V) → List (K × V)) (old new after : Slots (Inner K A) (Leaf K V))
     (m : ℕ) (id : InnerNodeId) (k : K) (node : Inner K A) (i : ℕ) (child : NodeId) (leaf : LeafNodeId) (fresh : List LeafNodeId) (local : IsLocal cmp k edit)
     (can : CanReach cmp old (suc m) (kind.Inner id) k) (is : old.inner id.0 ≡ Present node) (leads : Leads cmp k node.keys i) (read : slice_get node.children i ≡ Some child)
-    (every : (a : A) (keys : List K) → is_summary a keys) (s : K) (right : NodeId) (at : Edits cmp is_summary edit 0 old new m child k leaf fresh (Split s right)) where
-  abbrev ks : List K
-  ks = insert node.keys i s
-
-  abbrev cs : List NodeId
-  cs = insert node.children (suc i) right
-
-  grown : Grown total' is_summary edit old new m id k node i child leaf fresh local can is leads read ks cs
-  grown = grown_split total' is_summary edit old new m id k node i child leaf fresh local can is leads read s right at
-
+    (outcome : Outcome K) (at : Edits cmp is_summary edit 0 old new m child k leaf fresh outcome) (ks : List K) (cs : List NodeId)
+    (grown : Grown total' is_summary edit old new m id k node i child leaf fresh local can is leads read ks cs) where
   stays : new.inner id.0 ≡ Present node
-  stays = node_stays total' is_summary edit old new m id k node i child leaf fresh local can is leads read (Split s right) at
+  stays = node_stays total' is_summary edit old new m id k node i child leaf fresh local can is leads read outcome at
 
   own : (x : ℕ) → cond (eqb id.0 x) 1 0 + total (λ c. inner_count old m c x) node.children ≤ stands (old.inner x)
   own x = own_inners old m id k node i child can is leads x
@@ -88,6 +81,17 @@ module _ {K V A : Type 0} {cmp : K → K → Ordering} (total' : IsTotalOrder cm
   kept_leaves : (x : ℕ) → leaf_count old (suc m) (kind.Inner id) x ≡ 0 → IsPresent (old.leaf x) → new.leaf x ≡ old.leaf x
   kept_leaves x none some = at.other_leaves x (below_leaves total' is_summary edit old new m id k node i child leaf fresh local can is leads read x none) some
 
+  -- how far the children reach
+  pub record Reach : Type 0 where
+    pub not_node : (x : ℕ) → 1 ≤ total (λ c. inner_count new m c x) cs → x ≡ id.0 → ⊥
+    pub not_absent : (x y : ℕ) → 1 ≤ total (λ c. inner_count new m c x) cs → (IsPresent (new.inner y) → ⊥) → x ≡ y → ⊥
+    pub other_than_node : (x : ℕ) → inner_count old (suc m) (kind.Inner id) x ≡ 0 → x ≡ id.0 → ⊥
+    pub kept_inners : (x : ℕ) → inner_count old (suc m) (kind.Inner id) x ≡ 0 → IsPresent (old.inner x) → new.inner x ≡ old.inner x
+    pub kept_leaves : (x : ℕ) → leaf_count old (suc m) (kind.Inner id) x ≡ 0 → IsPresent (old.leaf x) → new.leaf x ≡ old.leaf x
+
+  reach : Reach
+  reach = record { not_node = not_node; not_absent = not_absent; other_than_node = other_than_node; kept_inners = kept_inners; kept_leaves = kept_leaves }
+
   -- the store is changed once more, where the grown children do not reach
   module _ (leaf_same : (x : ℕ) → after.leaf x ≡ new.leaf x) (agrees : (x : ℕ) → 1 ≤ total (λ c. inner_count new m c x) cs → after.inner x ≡ new.inner x) where
     all : AllByRecursion (Same cmp is_summary new after m) cs
@@ -113,87 +117,169 @@ module _ {K V A : Type 0} {cmp : K → K → Ordering} (total' : IsTotalOrder cm
         let both : AllZip is_summary node.arguments (map (λ c. keys_of (pairs_at old m c)) node.children) × AllByRecursion (IsSummed old is_summary m) node.children = rw is at h in
         each_keeps (IsSummed new is_summary m) (IsSummed after is_summary m) cs (all_so _ _ (λ c s. s.summed) cs all) (grown.summed both.1)
 
-    zipped : (arguments : List A) (ds : List NodeId) → length arguments ≡ length ds → AllZip is_summary arguments (map (λ c. keys_of (pairs_at after m c)) ds)
-    zipped arguments ds long = summed_of total' is_summary edit old new m id k node i child leaf fresh local can is leads read every after arguments ds long
+    zipped : (arguments : List A) → AllZip is_summary arguments (map (λ c. keys_of (pairs_at new m c)) cs) → AllZip is_summary arguments (map (λ c. keys_of (pairs_at after m c)) cs)
+    zipped arguments zip = rw (map_same (λ c. keys_of (pairs_at new m c)) (λ c. keys_of (pairs_at after m c)) cs (all_so _ _ (λ c s. ap keys_of s.pairs) cs all)) zip
 
     links : LinksAt old after leaf fresh
     links = links_moved old new after leaf fresh leaf_same at.links
 
-  -- a node with room takes the child
-  pub node_links : Links new after id i s right node → Edits cmp is_summary edit 0 old after (suc m) (kind.Inner id) k leaf fresh Done
-  node_links link =
-      let leaf_same = λ (x : ℕ). ap (λ (f : ℕ → Slot (Leaf K V)). f x) link.leaf in
-      let agrees = λ (x : ℕ) (some : 1 ≤ total (λ c. inner_count new m c x) cs). link.sets.others x (not_node x some) in
-      let long : length ks ≡ length node.keys + 1 = length-insert node.keys i s (leads_within cmp k node.keys i leads) in
-      record {
-        tree = λ least lo hi t w.
-            let c = subst (λ (x : Slot (Inner K A)). Chain cmp (IsTree cmp old 16 m) (inner_keys x) (inner_children x) lo hi) is t.1 in
-            let low : least ≤ length node.keys = subst (λ (x : Slot (Inner K A)). least ≤ length (inner_keys x)) is t.2 in
-            rw link.sets.changed (rw (link.keys, link.children) (tt, chain leaf_same agrees lo hi c w, omega (arith, low, long), omega (arith, link.room, long)));
-        pairs = rw (link.sets.changed, is) (rw link.children (pairs leaf_same agrees));
-        leaves = λ x. rw (link.sets.changed, is) (rw link.children (leaves leaf_same agrees x));
-        inners = λ x. rw (link.sets.changed, is) (rw link.children (omega (arith, inners leaf_same agrees x, same_stands new.inner after.inner id.0 node link.is stays link.sets x)));
-        other_leaves = λ x none some. leaf_same x ∙ kept_leaves x none some;
-        other_inners = λ x none some. link.sets.others x (other_than_node x none) ∙ kept_inners x none some;
-        order = rw (link.sets.changed, is) (rw link.children (order leaf_same agrees));
-        links = links leaf_same agrees;
-        untouched = λ x other some. leaf_same x ∙ at.untouched x other some;
-        summed = λ h. rw link.sets.changed (zipped leaf_same agrees link.is.arguments link.is.children link.arguments, rw link.children (summed leaf_same agrees h));
-      }
+    -- what the children are then
+    pub record Moved : Type 0 where
+      pub chain : (lo hi : Option K) → Chain cmp (IsTree cmp old 16 m) node.keys node.children lo hi → Within cmp lo hi k → Chain cmp (IsTree cmp after 16 m) ks cs lo hi
+      pub pairs : flat (pairs_at after m) cs ≡ edit (flat (pairs_at old m) node.children)
+      pub leaves : (x : ℕ) → total (λ c. leaf_count after m c x) cs + stands (old.leaf x) ≡ total (λ c. leaf_count old m c x) node.children + stands (after.leaf x)
+      pub inners : (x : ℕ) → total (λ c. inner_count after m c x) cs + stands (old.inner x) ≡ total (λ c. inner_count old m c x) node.children + stands (new.inner x)
+      pub order : Extends (flat (leaves_at old m) node.children) leaf fresh (flat (leaves_at after m) cs)
+      pub summed : IsSummed old is_summary (suc m) (kind.Inner id) → AllByRecursion (IsSummed after is_summary m) cs
+      pub zipped : (arguments : List A) → AllZip is_summary arguments (map (λ c. keys_of (pairs_at new m c)) cs) → AllZip is_summary arguments (map (λ c. keys_of (pairs_at after m c)) cs)
+      pub links : LinksAt old after leaf fresh
 
-  -- a full node takes it and is split
-  pub node_splits : (up : K) (number : InnerNodeId) → Splits new after id i s right node up number → Edits cmp is_summary edit 0 old after (suc m) (kind.Inner id) k leaf fresh (Split up (kind.Inner number))
-  node_splits up number split =
-      let leaf_same = λ (x : ℕ). ap (λ (f : ℕ → Slot (Leaf K V)). f x) split.leaf in
-      let agrees = λ (x : ℕ) (some : 1 ≤ total (λ c. inner_count new m c x) cs). split.others x (not_node x some) (not_absent x number.0 some split.absent) in
-      let first = split.left.children in
-      let second = split.right.children in
-      let joined : first ++ second ≡ cs = split.children in
-      record {
-        tree = λ least lo hi t w.
-            let c = subst (λ (x : Slot (Inner K A)). Chain cmp (IsTree cmp old 16 m) (inner_keys x) (inner_children x) lo hi) is t.1 in
-            let whole : Chain cmp (IsTree cmp after 16 m) (split.left.keys ++ (up ∷ split.right.keys)) (first ++ second) lo hi = rw (split.keys, split.children) (chain leaf_same agrees lo hi c w) in
-            let cut = chain_cut total' (IsTree cmp after 16 m) split.left.keys up split.right.keys first second lo hi whole split.left_children in
-            rw (split.at_left, split.at_right)
-            ((tt, cut.0, split.left_least, split.left_most), cut.1, (tt, cut.2, split.right_least, split.right_most));
-        pairs = rw (split.at_left, split.at_right, is)
-            (sym (flat-append (pairs_at after m) first second) ∙ (ap (flat (pairs_at after m)) joined ∙ pairs leaf_same agrees));
-        leaves = λ x. rw (split.at_left, split.at_right, is)
-            (omega (arith, leaves leaf_same agrees x, total-append (λ c. leaf_count after m c x) first second, ap (total (λ c. leaf_count after m c x)) joined));
-        inners = λ x. rw (split.at_left, split.at_right, is)
-            (omega (arith, inners leaf_same agrees x, total-append (λ c. inner_count after m c x) first second, ap (total (λ c. inner_count after m c x)) joined, more x));
-        other_leaves = λ x none some. leaf_same x ∙ kept_leaves x none some;
-        other_inners = λ x none some.
-            let e : new.inner x ≡ old.inner x = kept_inners x none some in
-            split.others x (other_than_node x none) (λ q. split.absent (subst (λ n. IsPresent (new.inner n)) q (subst IsPresent (sym e) some))) ∙ e;
-        order = rw (split.at_left, split.at_right, is)
-            (subst (Extends (flat (leaves_at old m) node.children) leaf fresh)
-            (sym (sym (flat-append (leaves_at after m) first second) ∙ ap (flat (leaves_at after m)) joined)) (order leaf_same agrees));
-        links = links leaf_same agrees;
-        untouched = λ x other some. leaf_same x ∙ at.untouched x other some;
-        summed = λ h.
-            let all' : AllByRecursion (IsSummed after is_summary m) (first ++ second) = rw joined (summed leaf_same agrees h) in
-            rw (split.at_left, split.at_right) (
-              (zipped leaf_same agrees split.left.arguments first split.left_arguments, AllByRecursion-left (IsSummed after is_summary m) first second all'),
-              (zipped leaf_same agrees split.right.arguments second split.right_arguments, AllByRecursion-right (IsSummed after is_summary m) first second all'),
-            );
-      }
-    where
-      more : (x : ℕ) → stands (after.inner x) ≡ stands (new.inner x) + cond (eqb number.0 x) 1 0
-      more x =
-          elim (eqb_tells number.0 x) [
-            | inl h ↦ (let f : stands (new.inner x) ≡ 0 = ap (λ n. stands (new.inner n)) (sym h.1) ∙ stands_if_absent (new.inner number.0) split.absent in
-                let g : stands (after.inner x) ≡ 1 = ap (λ n. stands (after.inner n)) (sym h.1) ∙ ap stands split.at_right in
-                rw h.0 (omega arith))
-            | inr h ↦ (elim (eqb_tells id.0 x) [
-              | inl p ↦ (let f : stands (new.inner x) ≡ 1 = ap (λ n. stands (new.inner n)) (sym p.1) ∙ ap stands stays in
-                  let g : stands (after.inner x) ≡ 1 = ap (λ n. stands (after.inner n)) (sym p.1) ∙ ap stands split.at_left in
+    moved_there : Moved
+    moved_there = record { chain = chain; pairs = pairs; leaves = leaves; inners = inners; order = order; summed = summed; zipped = zipped; links = links }
+
+module _ {K V A : Type 0} {cmp : K → K → Ordering} (total' : IsTotalOrder cmp) (is_summary : A → List K → Type 0) (edit : List (K × V) → List (K × V)) (old new after : Slots (Inner K A) (Leaf K V))
+    (m : ℕ) (id : InnerNodeId) (k : K) (node : Inner K A) (i : ℕ) (child : NodeId) (leaf : LeafNodeId) (fresh : List LeafNodeId) (local : IsLocal cmp k edit)
+    (can : CanReach cmp old (suc m) (kind.Inner id) k) (is : old.inner id.0 ≡ Present node) (leads : Leads cmp k node.keys i) (read : slice_get node.children i ≡ Some child) where
+  old_zip : IsSummed old is_summary (suc m) (kind.Inner id) → AllZip is_summary node.arguments (map (λ c. keys_of (pairs_at old m c)) node.children)
+  old_zip h = let both : AllZip is_summary node.arguments (map (λ c. keys_of (pairs_at old m c)) node.children) × AllByRecursion (IsSummed old is_summary m) node.children = rw is at h in both.0
+
+  -- a node keeps its children, and takes a new summary of the one that was edited
+  module _ (at : Edits cmp is_summary edit 0 old new m child k leaf fresh Done) (a : A) (told : is_summary a (keys_of (pairs_at new m child))) (keeps : Keeps new after id i a node) where
+    grown_here : Grown total' is_summary edit old new m id k node i child leaf fresh local can is leads read node.keys node.children
+    grown_here = grown_done total' is_summary edit old new m id k node i child leaf fresh local can is leads read at
+
+    stays_here : new.inner id.0 ≡ Present node
+    stays_here = node_stays total' is_summary edit old new m id k node i child leaf fresh local can is leads read Done at
+
+    one : Reach total' is_summary edit old new after m id k node i child leaf fresh local can is leads read Done at node.keys node.children grown_here
+    one = reach total' is_summary edit old new after m id k node i child leaf fresh local can is leads read Done at node.keys node.children grown_here
+
+    same_here : (x : ℕ) → after.leaf x ≡ new.leaf x
+    same_here x = ap (λ (f : ℕ → Slot (Leaf K V)). f x) keeps.leaf
+
+    agrees_here : (x : ℕ) → 1 ≤ total (λ c. inner_count new m c x) node.children → after.inner x ≡ new.inner x
+    agrees_here x some = keeps.sets.others x (one.not_node x some)
+
+    moved_here : Moved total' is_summary edit old new after m id k node i child leaf fresh local can is leads read Done at node.keys node.children grown_here same_here agrees_here
+    moved_here = moved_there total' is_summary edit old new after m id k node i child leaf fresh local can is leads read Done at node.keys node.children grown_here same_here agrees_here
+
+    pub node_keeps : Edits cmp is_summary edit 0 old after (suc m) (kind.Inner id) k leaf fresh Done
+    node_keeps = record {
+      tree = λ least lo hi t w.
+          let c = subst (λ (x : Slot (Inner K A)). Chain cmp (IsTree cmp old 16 m) (inner_keys x) (inner_children x) lo hi) is t.1 in
+          let sizes : (least ≤ length node.keys) × (length node.keys ≤ 64) = subst (λ (x : Slot (Inner K A)). (least ≤ length (inner_keys x)) × (length (inner_keys x) ≤ 64)) is (t.2, t.3) in
+          rw keeps.sets.changed (tt, moved_here.chain lo hi c w, omega (arith, sizes.0), sizes.1);
+      pairs = rw (keeps.sets.changed, is) (moved_here.pairs);
+      leaves = λ x. rw (keeps.sets.changed, is) (moved_here.leaves x);
+      inners = λ x. rw (keeps.sets.changed, is)
+          (omega (arith, moved_here.inners x, same_stands new.inner after.inner id.0 node (with_summary node i a) stays_here keeps.sets x));
+      other_leaves = λ x none some. same_here x ∙ one.kept_leaves x none some;
+      other_inners = λ x none some. keeps.sets.others x (one.other_than_node x none) ∙ one.kept_inners x none some;
+      order = rw (keeps.sets.changed, is) (moved_here.order);
+      links = moved_here.links;
+      untouched = λ x other some. same_here x ∙ at.untouched x other some;
+      summed = λ h. rw keeps.sets.changed (
+        moved_here.zipped (slice_set node.arguments i a) (zipped_done total' is_summary edit old new m id k node i child leaf fresh local can is leads read at a told (old_zip h)),
+        moved_here.summed h,
+      );
+    }
+
+  -- a child was split, and the node takes its new summary and the child to its right
+  module _ (s : K) (right : NodeId) (at : Edits cmp is_summary edit 0 old new m child k leaf fresh (Split s right)) (l r : A)
+      (left_told : is_summary l (keys_of (pairs_at new m child))) (right_told : is_summary r (keys_of (pairs_at new m right))) where
+    abbrev ks : List K
+    ks = insert node.keys i s
+
+    abbrev cs : List NodeId
+    cs = insert node.children (suc i) right
+
+    grown_two : Grown total' is_summary edit old new m id k node i child leaf fresh local can is leads read ks cs
+    grown_two = grown_split total' is_summary edit old new m id k node i child leaf fresh local can is leads read s right at
+
+    node_there : new.inner id.0 ≡ Present node
+    node_there = node_stays total' is_summary edit old new m id k node i child leaf fresh local can is leads read (Split s right) at
+
+    two : Reach total' is_summary edit old new after m id k node i child leaf fresh local can is leads read (Split s right) at ks cs grown_two
+    two = reach total' is_summary edit old new after m id k node i child leaf fresh local can is leads read (Split s right) at ks cs grown_two
+
+    zip_two : IsSummed old is_summary (suc m) (kind.Inner id) → AllZip is_summary (insert (slice_set node.arguments i l) (suc i) r) (map (λ c. keys_of (pairs_at new m c)) cs)
+    zip_two h = zipped_split total' is_summary edit old new m id k node i child leaf fresh local can is leads read s right at l r left_told right_told (old_zip h)
+
+    -- a node with room takes the child
+    pub node_links : Links new after id i l s right r node → Edits cmp is_summary edit 0 old after (suc m) (kind.Inner id) k leaf fresh Done
+    node_links link =
+        let leaf_same = λ (x : ℕ). ap (λ (f : ℕ → Slot (Leaf K V)). f x) link.leaf in
+        let agrees = λ (x : ℕ) (some : 1 ≤ total (λ c. inner_count new m c x) cs). link.sets.others x (two.not_node x some) in
+        let moved = moved_there total' is_summary edit old new after m id k node i child leaf fresh local can is leads read (Split s right) at ks cs grown_two leaf_same agrees in
+        let long : length ks ≡ length node.keys + 1 = length-insert node.keys i s (leads_within cmp k node.keys i leads) in
+        record {
+          tree = λ least lo hi t w.
+              let c = subst (λ (x : Slot (Inner K A)). Chain cmp (IsTree cmp old 16 m) (inner_keys x) (inner_children x) lo hi) is t.1 in
+              let low : least ≤ length node.keys = subst (λ (x : Slot (Inner K A)). least ≤ length (inner_keys x)) is t.2 in
+              rw link.sets.changed (rw (link.keys, link.children) (tt, moved.chain lo hi c w, omega (arith, low, long), omega (arith, link.room, long)));
+          pairs = rw (link.sets.changed, is) (rw link.children (moved.pairs));
+          leaves = λ x. rw (link.sets.changed, is) (rw link.children (moved.leaves x));
+          inners = λ x. rw (link.sets.changed, is) (rw link.children (omega (arith, moved.inners x, same_stands new.inner after.inner id.0 node link.is node_there link.sets x)));
+          other_leaves = λ x none some. leaf_same x ∙ two.kept_leaves x none some;
+          other_inners = λ x none some. link.sets.others x (two.other_than_node x none) ∙ two.kept_inners x none some;
+          order = rw (link.sets.changed, is) (rw link.children (moved.order));
+          links = moved.links;
+          untouched = λ x other some. leaf_same x ∙ at.untouched x other some;
+          summed = λ h. rw link.sets.changed (rw (link.arguments, link.children) (moved.zipped _ (zip_two h)), rw link.children (moved.summed h));
+        }
+
+    -- a full node takes it and is split
+    pub node_splits : (up : K) (number : InnerNodeId) → Splits new after id i l s right r node up number → Edits cmp is_summary edit 0 old after (suc m) (kind.Inner id) k leaf fresh (Split up (kind.Inner number))
+    node_splits up number split =
+        let leaf_same = λ (x : ℕ). ap (λ (f : ℕ → Slot (Leaf K V)). f x) split.leaf in
+        let agrees = λ (x : ℕ) (some : 1 ≤ total (λ c. inner_count new m c x) cs). split.others x (two.not_node x some) (two.not_absent x number.0 some split.absent) in
+        let moved = moved_there total' is_summary edit old new after m id k node i child leaf fresh local can is leads read (Split s right) at ks cs grown_two leaf_same agrees in
+        let first = split.left.children in
+        let second = split.right.children in
+        let joined : first ++ second ≡ cs = split.children in
+        record {
+          tree = λ least lo hi t w.
+              let c = subst (λ (x : Slot (Inner K A)). Chain cmp (IsTree cmp old 16 m) (inner_keys x) (inner_children x) lo hi) is t.1 in
+              let whole : Chain cmp (IsTree cmp after 16 m) (split.left.keys ++ (up ∷ split.right.keys)) (first ++ second) lo hi = rw (split.keys, split.children) (moved.chain lo hi c w) in
+              let cut = chain_cut total' (IsTree cmp after 16 m) split.left.keys up split.right.keys first second lo hi whole split.left_children in
+              rw (split.at_left, split.at_right)
+              ((tt, cut.0, split.left_least, split.left_most), cut.1, (tt, cut.2, split.right_least, split.right_most));
+          pairs = rw (split.at_left, split.at_right, is)
+              (sym (flat-append (pairs_at after m) first second) ∙ (ap (flat (pairs_at after m)) joined ∙ moved.pairs));
+          leaves = λ x. rw (split.at_left, split.at_right, is)
+              (omega (arith, moved.leaves x, total-append (λ c. leaf_count after m c x) first second, ap (total (λ c. leaf_count after m c x)) joined));
+          inners = λ x. rw (split.at_left, split.at_right, is)
+              (omega (arith, moved.inners x, total-append (λ c. inner_count after m c x) first second, ap (total (λ c. inner_count after m c x)) joined, more x));
+          other_leaves = λ x none some. leaf_same x ∙ two.kept_leaves x none some;
+          other_inners = λ x none some.
+              let e : new.inner x ≡ old.inner x = two.kept_inners x none some in
+              split.others x (two.other_than_node x none) (λ q. split.absent (subst (λ n. IsPresent (new.inner n)) q (subst IsPresent (sym e) some))) ∙ e;
+          order = rw (split.at_left, split.at_right, is)
+              (subst (Extends (flat (leaves_at old m) node.children) leaf fresh)
+              (sym (sym (flat-append (leaves_at after m) first second) ∙ ap (flat (leaves_at after m)) joined)) (moved.order));
+          links = moved.links;
+          untouched = λ x other some. leaf_same x ∙ at.untouched x other some;
+          summed = λ h.
+              let all' : AllByRecursion (IsSummed after is_summary m) (first ++ second) = rw joined (moved.summed h) in
+              let keys = λ (c : NodeId). keys_of (pairs_at after m c) in
+              let zip : AllZip is_summary (split.left.arguments ++ split.right.arguments) (map keys first ++ map keys second) = rw (← map-append keys first second, split.arguments, joined) (moved.zipped _ (zip_two h)) in
+              let long : length split.left.arguments ≡ length (map keys first) = split.left_arguments ∙ sym (length-map first keys) in
+              rw (split.at_left, split.at_right) (
+                (AllZip-left is_summary split.left.arguments (map keys first) split.right.arguments (map keys second) long zip, AllByRecursion-left (IsSummed after is_summary m) first second all'),
+                (AllZip-right is_summary split.left.arguments (map keys first) split.right.arguments (map keys second) long zip, AllByRecursion-right (IsSummed after is_summary m) first second all'),
+              );
+        }
+      where
+        more : (x : ℕ) → stands (after.inner x) ≡ stands (new.inner x) + cond (eqb number.0 x) 1 0
+        more x =
+            elim (eqb_tells number.0 x) [
+              | inl h ↦ (let f : stands (new.inner x) ≡ 0 = ap (λ n. stands (new.inner n)) (sym h.1) ∙ stands_if_absent (new.inner number.0) split.absent in
+                  let g : stands (after.inner x) ≡ 1 = ap (λ n. stands (after.inner n)) (sym h.1) ∙ ap stands split.at_right in
                   rw h.0 (omega arith))
-              | inr p ↦ (rw h.0 (let f = split.others x (λ q. p.1 (sym q)) (λ q. h.1 (sym q)) in omega (arith, ap stands f)))
-            ])
-          ]
-
-  pub node_takes : (outcome : Outcome K) → Takes new after id i s right node outcome → Edits cmp is_summary edit 0 old after (suc m) (kind.Inner id) k leaf fresh outcome
-  node_takes Done link = node_links link
-  node_takes (Split up (kind.Inner number)) split = node_splits up number split
-  node_takes (Split up (kind.Leaf number)) split = absurd split
+              | inr h ↦ (elim (eqb_tells id.0 x) [
+                | inl p ↦ (let f : stands (new.inner x) ≡ 1 = ap (λ n. stands (new.inner n)) (sym p.1) ∙ ap stands node_there in
+                    let g : stands (after.inner x) ≡ 1 = ap (λ n. stands (after.inner n)) (sym p.1) ∙ ap stands split.at_left in
+                    rw h.0 (omega arith))
+                | inr p ↦ (rw h.0 (let f = split.others x (λ q. p.1 (sym q)) (λ q. h.1 (sym q)) in omega (arith, ap stands f)))
+              ])
+            ]

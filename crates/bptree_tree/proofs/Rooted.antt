@@ -1,13 +1,13 @@
 -- The whole tree: that it can be reached, how high it may be, and that it is well shaped after an edit.
 use Rattle.std.proofs.Common.{◌≡◌, ℕ, zero, suc, ◌+◌, ◌-◌, ◌*◌, ◌^◌, ◌<◌, ◌≤◌, inl, inr, cond, List, [], ◌∷◌, ◌++◌, length, refl, sym, ap, subst, ◌∙◌, arith, Option, Some, None, eqb, append-nil, length-append}
 use Rattle.std.specs.declared.cmp.Ordering.{Ordering}
-use Rattle.std.specs.List.{AllZip}
+use Rattle.std.specs.Map.{keys_of}
 use Rattle.std.proofs.Math.Nat.{mul-le-mul_left, pow-le-pow_right}
 use Rattle.std.proofs.lemmas.Bool.{cases_lt}
 use Rattle.std.proofs.lemmas.Bool.Decides.{eqb_tells}
 use Rattle.bptree_nodes.specs.Inner.{Inner}
 use Rattle.bptree_nodes.specs.Leaf.{Leaf}
-use Rattle.bptree_nodes.specs.Slot.{Slot, Slots, Held, Present, IsPresent}
+use Rattle.bptree_nodes.specs.Slot.{Slot, Slots, Held, IsPresent}
 use Rattle.bptree_nodes.specs.declared.node_id.InnerNodeId.{InnerNodeId}
 use Rattle.bptree_nodes.specs.declared.node_id.LeafNodeId.{LeafNodeId}
 use Rattle.bptree_nodes.specs.declared.node_id.NodeId.{NodeId}
@@ -16,7 +16,7 @@ use Rattle.bptree_tree.specs.Change.{Roots, Mends}
 use Rattle.bptree_tree.specs.Edit.{CanReach, Edits, LinksAt}
 use Rattle.bptree_tree.specs.Order.{flat, Chain}
 use Rattle.bptree_tree.specs.Shape.{leaf_next, inner_keys, inner_children, pairs_at, leaves_at, leaf_count, inner_count, stands, AreLinked, IsSummed, IsTree, IsWellShaped, root_least}
-use Rattle.bptree_tree.specs.declared.insertion.Outcome.TheVariants.{Done, Split}
+use Rattle.bptree_tree.specs.Outcome.{Done, Split}
 use Rattle.bptree_tree.proofs.Hinted.{count_of, count_leaves, first_or, linked_next}
 use Rattle.bptree_tree.proofs.Mended.{KeepsPairs, ReadsSame, reads_same, stands_most, present_if_stands, absent_stands, SameLinks, same_links, linked_same, each_counted, linked_mended, mended_pairs, mended_inner, mended_held}
 
@@ -85,13 +85,6 @@ module _ {K V A : Type 0} (cmp : K → K → Ordering) (is_summary : A → List 
 no_less : (n : ℕ) → n - 0 ≡ n
 no_less n = omega arith
 
--- values that summarise every list summarise as many lists as there are of them
-summed_by_length : {K A : Type 0} (is_summary : A → List K → Type 0) → ((a : A) (keys : List K) → is_summary a keys) → (values : List A) (ks : List (List K)) → length values ≡ length ks → AllZip is_summary values ks
-summed_by_length is_summary every [] [] same = tt
-summed_by_length is_summary every [] (k ∷ ks) same = absurd (omega arith)
-summed_by_length is_summary every (a ∷ values) [] same = absurd (omega arith)
-summed_by_length is_summary every (a ∷ values) (k ∷ ks) same = (every a k, summed_by_length is_summary every values ks (omega arith))
-
 module _ {K V A : Type 0} (cmp : K → K → Ordering) (is_summary : A → List K → Type 0) (edit : List (K × V) → List (K × V)) (old new : Slots (Inner K A) (Leaf K V)) (h : ℕ) (root : NodeId) (k : K) (leaf : LeafNodeId)
     (shape : IsWellShaped cmp is_summary old h root) (no_leaf_held : (n : ℕ) → new.leaf n ≡ Held → ⊥) (no_inner_held : (n : ℕ) → new.inner n ≡ Held → ⊥) where
   -- an edit after which the top node stands as before
@@ -128,8 +121,8 @@ module _ {K V A : Type 0} (cmp : K → K → Ordering) (is_summary : A → List 
           ]
 
   -- an edit after which a new root stands above the old one and a node to its right
-  module _ (after : Slots (Inner K A) (Leaf K V)) (fresh : List LeafNodeId) (s : K) (right : NodeId) (id : InnerNodeId)
-      (edits : Edits cmp is_summary edit 0 old new h root k leaf fresh (Split s right)) (roots : Roots new after id root s right) where
+  module _ (after : Slots (Inner K A) (Leaf K V)) (fresh : List LeafNodeId) (l : A) (s : K) (right : NodeId) (r : A) (id : InnerNodeId)
+      (edits : Edits cmp is_summary edit 0 old new h root k leaf fresh (Split s right)) (roots : Roots new after id root l s right r) where
     kept : (n : ℕ) → KeepsPairs (new.leaf n) (after.leaf n)
     kept n = rw roots.leaf (record { pairs = refl; stands = refl })
 
@@ -152,28 +145,28 @@ module _ {K V A : Type 0} (cmp : K → K → Ordering) (is_summary : A → List 
     held_inner : (n : ℕ) → after.inner n ≡ Held → ⊥
     held_inner n held =
         elim (eqb_tells n id.0) [
-          | inl same ↦ (let e : Present roots.is ≡ Held = sym roots.sets.changed ∙ (ap after.inner (sym same.1) ∙ held) in cc)
+          | inl same ↦ (let e = sym roots.sets.changed ∙ (ap after.inner (sym same.1) ∙ held) in cc)
           | inr other ↦ no_inner_held n (sym (roots.sets.others n other.1) ∙ held)
         ]
 
-    pub split_unlinked : ((a : A) (keys : List K) → is_summary a keys) → IsUnlinked cmp is_summary after (suc h) (kind.Inner id)
-    split_unlinked every =
+    pub split_unlinked : is_summary l (keys_of (pairs_at new h root)) → is_summary r (keys_of (pairs_at new h right)) → IsUnlinked cmp is_summary after (suc h) (kind.Inner id)
+    split_unlinked left_told right_told =
         let t = edits.tree (root_least h) None None shape.tree (tt, tt) in
         let sums = edits.summed shape.summed in
         record {
-          tree = rw roots.sets.changed (rw (roots.keys, roots.children) (tt, (at_left.tree 16 None (Some s) t.0, t.1, at_right.tree 16 (Some s) None t.2), omega arith, omega arith));
-          leaves = λ n. rw (roots.sets.changed, roots.children, roots.leaf) (omega (arith, shape.leaves n, edits.leaves n, at_left.leaves n, at_right.leaves n));
-          inners = λ n. rw roots.sets.changed (rw roots.children (omega (arith, shape.inners n, edits.inners n, at_left.inners n, at_right.inners n, one_more n)));
+          tree = rw roots.sets.changed (tt, (at_left.tree 16 None (Some s) t.0, t.1, at_right.tree 16 (Some s) None t.2), omega arith, omega arith);
+          leaves = λ n. rw (roots.sets.changed, roots.leaf) (omega (arith, shape.leaves n, edits.leaves n, at_left.leaves n, at_right.leaves n));
+          inners = λ n. rw roots.sets.changed (omega (arith, shape.inners n, edits.inners n, at_left.inners n, at_right.inners n, one_more n));
           no_leaf_held = λ n held. no_leaf_held n (ap (λ (f : ℕ → Slot (Leaf K V)). f n) (sym roots.leaf) ∙ held);
           no_inner_held = held_inner;
-          summed = rw roots.sets.changed (rw roots.children (summed_by_length is_summary every roots.is.arguments _ roots.arguments, (at_left.summed sums.0, (at_right.summed sums.1, tt))));
+          summed = rw roots.sets.changed ((rw at_left.pairs left_told, (rw at_right.pairs right_told, tt)), (at_left.summed sums.0, (at_right.summed sums.1, tt)));
         }
 
     pub split_unlinked_order : leaves_at after (suc h) (kind.Inner id) ≡ edits.order.before ++ leaf ∷ (fresh ++ edits.order.after)
-    split_unlinked_order = rw (roots.sets.changed, roots.children, append-nil, at_left.order, at_right.order) edits.order.is
+    split_unlinked_order = rw (roots.sets.changed, append-nil, at_left.order, at_right.order) edits.order.is
 
     pub split_unlinked_pairs : pairs_at after (suc h) (kind.Inner id) ≡ edit (pairs_at old h root)
-    split_unlinked_pairs = rw (roots.sets.changed, roots.children, append-nil, at_left.pairs, at_right.pairs) edits.pairs
+    split_unlinked_pairs = rw (roots.sets.changed, append-nil, at_left.pairs, at_right.pairs) edits.pairs
 
 -- the links of a whole tree are mended behind a new leaf
 module _ {K V A : Type 0} (cmp : K → K → Ordering) (is_summary : A → List K → Type 0) (old mid final : Slots (Inner K A) (Leaf K V)) (h : ℕ) (root : NodeId) (leaf fresh : LeafNodeId) (before after : List LeafNodeId)
@@ -227,21 +220,21 @@ module _ {K V A : Type 0} (cmp : K → K → Ordering) (is_summary : A → List 
         mended_contents cmp is_summary old new final h root leaf fresh edits.order.before edits.order.after shape edits.order.was edits.links edits.untouched mends h root ∙ edits.pairs
 
   -- below a new root
-  module _ (after final : Slots (Inner K A) (Leaf K V)) (s : K) (right : NodeId) (id : InnerNodeId) (edits : Edits cmp is_summary edit 0 old new h root k leaf (fresh ∷ []) (Split s right))
-      (roots : Roots new after id root s right) (mends : Mends after final (leaf_next (old.leaf leaf.0)) fresh) where
+  module _ (after final : Slots (Inner K A) (Leaf K V)) (l : A) (s : K) (right : NodeId) (r : A) (id : InnerNodeId) (edits : Edits cmp is_summary edit 0 old new h root k leaf (fresh ∷ []) (Split s right))
+      (roots : Roots new after id root l s right r) (mends : Mends after final (leaf_next (old.leaf leaf.0)) fresh) where
     links_after : LinksAt old after leaf (fresh ∷ [])
     links_after = rw roots.leaf edits.links
 
     untouched_after : (n : ℕ) → (n ≡ leaf.0 → ⊥) → IsPresent (old.leaf n) → after.leaf n ≡ old.leaf n
     untouched_after n other there = ap (λ (f : ℕ → Slot (Leaf K V)). f n) roots.leaf ∙ edits.untouched n other there
 
-    pub whole_split : ((a : A) (keys : List K) → is_summary a keys) → IsWellShaped cmp is_summary final (suc h) (kind.Inner id)
-    whole_split every =
+    pub whole_split : is_summary l (keys_of (pairs_at new h root)) → is_summary r (keys_of (pairs_at new h right)) → IsWellShaped cmp is_summary final (suc h) (kind.Inner id)
+    whole_split left_told right_told =
         whole_inserted cmp is_summary old after final h root leaf fresh edits.order.before edits.order.after shape edits.order.was links_after untouched_after mends (suc h) (kind.Inner id)
-        (split_unlinked cmp is_summary edit old new h root k leaf shape no_leaf_held no_inner_held after (fresh ∷ []) s right id edits roots every)
-        (split_unlinked_order cmp is_summary edit old new h root k leaf shape no_leaf_held no_inner_held after (fresh ∷ []) s right id edits roots)
+        (split_unlinked cmp is_summary edit old new h root k leaf shape no_leaf_held no_inner_held after (fresh ∷ []) l s right r id edits roots left_told right_told)
+        (split_unlinked_order cmp is_summary edit old new h root k leaf shape no_leaf_held no_inner_held after (fresh ∷ []) l s right r id edits roots)
 
     pub split_pairs : pairs_at final (suc h) (kind.Inner id) ≡ edit (pairs_at old h root)
     split_pairs =
         mended_contents cmp is_summary old after final h root leaf fresh edits.order.before edits.order.after shape edits.order.was links_after untouched_after mends (suc h) (kind.Inner id)
-        ∙ split_unlinked_pairs cmp is_summary edit old new h root k leaf shape no_leaf_held no_inner_held after (fresh ∷ []) s right id edits roots
+        ∙ split_unlinked_pairs cmp is_summary edit old new h root k leaf shape no_leaf_held no_inner_held after (fresh ∷ []) l s right r id edits roots

@@ -1,22 +1,23 @@
--- A pair put into the leaf for its key, in a whole tree: what the store then holds.
-use Rattle.std.proofs.Common.{◌≡◌, ℕ, ◌≤◌, inl, inr, List, [], length, sym, ap, ◌∙◌, None, Result, Ok, Err, OnErr}
+-- A pair with a key that is in the whole tree, or is not.
+use Rattle.std.proofs.Common.{◌≡◌, ℕ, true, false, None, List, sym, ap, ◌∙◌, Some, is_some, slice_get, Option, suc, ◌+◌, subst, arith}
 use Rattle.std.specs.declared.cmp.Ordering.{Ordering}
 use Rattle.std.specs.Cmp.{IsTotalOrder}
-use Rattle.std.proofs.lemmas.Bool.{cases_eq}
-use Rattle.bptree_nodes.specs.Contents.{IsAscending, value, put}
+use Rattle.std.specs.Map.{values_of}
+use Rattle.bptree_nodes.specs.Contents.{IsAscending, has, value}
 use Rattle.bptree_nodes.specs.Inner.{Inner}
-use Rattle.bptree_nodes.specs.Leaf.{Leaf}
-use Rattle.bptree_nodes.specs.Slot.{Slot, Slots, Held, Present, UpdatesLeaf}
+use Rattle.bptree_nodes.specs.Leaf.{Leaf, set_value_at}
+use Rattle.bptree_nodes.specs.LeafResults.{HasEqualAt}
+use Rattle.bptree_nodes.specs.Slot.{Slots, Present, UpdatesLeaf}
+use Rattle.bptree_nodes.specs.declared.node_id.InnerNodeId.{InnerNodeId}
 use Rattle.bptree_nodes.specs.declared.node_id.LeafNodeId.{LeafNodeId}
 use Rattle.bptree_nodes.specs.declared.node_id.NodeId.{NodeId}
-use Rattle.bptree_tree.specs.Edit.{Edits}
+use Rattle.bptree_nodes.specs.declared.node_id.NodeId.TheVariants as kind
+use Rattle.bptree_nodes.proofs.Equal.{has_where_value}
+use Rattle.bptree_nodes.proofs.LeafContents.{value_at_place}
 use Rattle.bptree_tree.specs.Leaves.{IsLeafFor}
-use Rattle.bptree_tree.specs.Path.{LeadsTo}
+use Rattle.bptree_tree.specs.Puts.{IsReplaced, IsPlaced, IsPlacedUpTo, risen}
 use Rattle.bptree_tree.specs.Shape.{pairs_at, root_least, IsWellShaped}
-use Rattle.bptree_tree.specs.declared.insertion.Outcome.TheVariants.{Done}
-use Rattle.bptree_tree.proofs.Along.{edits_along}
-use Rattle.bptree_tree.proofs.LeafEdit.{put_is_local, leaf_edited}
-use Rattle.bptree_tree.proofs.Rooted.{reach_of, whole_done}
+use Rattle.bptree_tree.proofs.Lent.{lent_shape, lent_keys, lent_pairs}
 use Rattle.bptree_tree.proofs.Spot.{value_in_leaf, leaf_ascends}
 use Rattle.bptree_tree.proofs.Walk.{tree_ascends}
 
@@ -31,37 +32,31 @@ module _ {K V A : Type 0} {cmp : K → K → Ordering} (total : IsTotalOrder cmp
   pub value_there : value cmp (pairs_at old h root) k ≡ value cmp node.pairs k
   value_there = value_in_leaf total old h root k leaf node for' read
 
-  module _ (now : Leaf K V) (new : Slots (Inner K A) (Leaf K V)) (updates : UpdatesLeaf old new leaf.0 (Present now)) where
-    same_leaf : now ≡ node → (n : ℕ) → new.leaf n ≡ old.leaf n
-    same_leaf is n =
-        elim (cases_eq n leaf.0) [
-          | inl here ↦ (rw (here, updates.leaf.changed, is) (sym read))
-          | inr other ↦ updates.leaf.others n other
-        ]
+  -- no key equals it in the whole where none does in the leaf
+  pub absent_there : has cmp node.pairs k ≡ false → has cmp (pairs_at old h root) k ≡ false
+  absent_there absent = sym (has_where_value cmp (pairs_at old h root) k) ∙ (ap is_some value_there ∙ (has_where_value cmp node.pairs k ∙ absent))
 
-    -- the leaf stayed as it was, and so did the store
-    pub stayed : now ≡ node → new ≡ old
-    stayed is = λ i. record { inner = updates.inner i; leaf = λ n. same_leaf is n i }
+  -- the value at its key is replaced
+  module _ (i : ℕ) (found : HasEqualAt cmp node.pairs k i) (v was : V) (at : slice_get (values_of node.pairs) i ≡ Some was) (new : Slots (Inner K A) (Leaf K V))
+      (updates : UpdatesLeaf old new leaf.0 (Present (record node { pairs = set_value_at node.pairs i v }))) where
+    there : value cmp (pairs_at old h root) k ≡ Some was
+    there = value_there ∙ (sym (value_at_place cmp total node.pairs node_ascends k i found) ∙ at)
 
-    no_leaf : (n : ℕ) → new.leaf n ≡ Held → ⊥
-    no_leaf n e =
-        elim (cases_eq n leaf.0) [
-          | inl here ↦ (let z : Present now ≡ Held = sym updates.leaf.changed ∙ (ap new.leaf (sym here) ∙ e) in cc)
-          | inr other ↦ shape.no_leaf_held n (sym (updates.leaf.others n other) ∙ e)
-        ]
+    has_there : has cmp (pairs_at old h root) k ≡ true
+    has_there = sym (has_where_value cmp (pairs_at old h root) k) ∙ ap is_some there
 
-    no_inner : (n : ℕ) → new.inner n ≡ Held → ⊥
-    no_inner n e = shape.no_inner_held n (ap (λ (f : ℕ → Slot (Inner K A)). f n) (sym updates.inner) ∙ e)
+    pub replaced : IsReplaced cmp is_summary old new h root k v was
+    replaced = record {
+      there = there;
+      shape = lent_shape total is_summary old new h root shape whole_ascends k leaf node read for' i found v updates;
+      pairs = rw has_there (lent_pairs total is_summary old new h root shape whole_ascends k leaf node read for' i found v updates);
+      keys = lent_keys total is_summary old new h root shape whole_ascends k leaf node read for' i found v updates;
+    }
 
-    module _ (v : V) (is : now ≡ record node { pairs = put cmp node.pairs k v }) (room : length now.pairs ≤ 64) (every : (a : A) (keys : List K) → is_summary a keys) (way : LeadsTo cmp old k h root leaf) where
-      edits : Edits cmp is_summary (λ l. put cmp l k v) 0 old new h root k leaf [] Done
-      edits =
-          edits_along total is_summary every (λ l. put cmp l k v) k (put_is_local cmp k v) old new leaf [] h root way (reach_of cmp is_summary old h root k shape)
-          (leaf_edited total is_summary old new leaf k v node read (rw is at updates) (rw is at room))
-
-      pub in_place : IsWellShaped cmp is_summary new h root × (pairs_at new h root ≡ put cmp (pairs_at old h root) k v)
-      in_place = (whole_done cmp is_summary (λ l. put cmp l k v) old new h root k leaf shape no_leaf no_inner edits, edits.pairs)
-
-pub on_err : {T E : Type 0} (r : Result T E) (P : Type 0) → P → OnErr r P
-on_err (Ok x) P p = tt
-on_err (Err e) P p = p
+-- the tree stands below the root that was named
+pub placed_at : {K V A : Type 0} (cmp : K → K → Ordering) (is_summary : A → List K → Type 0) (old new : Slots (Inner K A) (Leaf K V)) (h : ℕ) (root : NodeId) (k : K) (v : V) (top : Option InnerNodeId) (a : A) (at : NodeId × ℕ) → at ≡ risen root h top
+    → IsPlacedUpTo cmp is_summary old new h root k v top a → IsPlaced cmp is_summary old new h root k v at.1 at.0 a
+placed_at cmp is_summary old new h root k v None a at e placed = rw e placed
+placed_at cmp is_summary old new h root k v (Some id) a at e placed =
+    let up : suc h ≡ h + 1 = omega arith in
+    rw e (subst (λ n. IsPlaced cmp is_summary old new h root k v n (kind.Inner id) a) up placed)

@@ -1,11 +1,10 @@
 -- One level of an edit: from a child of an inner node to the node.
-use Rattle.std.proofs.Common.{◌≡◌, ℕ, zero, suc, ◌+◌, ◌<◌, ◌≤◌, cond, List, [], ◌∷◌, ◌++◌, length, map, get_or, take, drop, refl, sym, ap, subst, ◌∙◌, arith, Option, Some, eqb, append_assoc, slice_get}
+use Rattle.std.proofs.Common.{◌≡◌, ℕ, zero, suc, ◌+◌, ◌<◌, ◌≤◌, cond, List, [], ◌∷◌, ◌++◌, length, map, get_or, take, drop, refl, sym, ap, subst, ◌∙◌, arith, Option, Some, eqb, append_assoc, slice_get, slice_set}
 use Rattle.std.specs.declared.cmp.Ordering.{Ordering}
 use Rattle.std.specs.Cmp.{IsTotalOrder}
 use Rattle.std.specs.List.{AllByRecursion, AllZip, insert}
 use Rattle.std.specs.Map.{keys_of}
 use Rattle.std.proofs.lemmas.Bool.{eq-eqb}
-use Rattle.std.proofs.lemmas.List.{length-map}
 use Rattle.std.proofs.lemmas.Option.{get_or_from_slice_get}
 use Rattle.bptree_nodes.specs.Inner.{Inner}
 use Rattle.bptree_nodes.specs.Leaf.{Leaf}
@@ -14,13 +13,11 @@ use Rattle.bptree_nodes.specs.declared.node_id.InnerNodeId.{InnerNodeId}
 use Rattle.bptree_nodes.specs.declared.node_id.LeafNodeId.{LeafNodeId}
 use Rattle.bptree_nodes.specs.declared.node_id.NodeId.{NodeId}
 use Rattle.bptree_nodes.specs.declared.node_id.NodeId.TheVariants as kind
-use Rattle.bptree_nodes.proofs.PieceLemmas.{AllZip-length}
 use Rattle.bptree_tree.specs.Edit.{IsLocal, CanReach, Extends, Edits}
 use Rattle.bptree_tree.specs.Order.{flat, total, Within, Between, Chain, Leads}
 use Rattle.bptree_tree.specs.Shape.{inner_keys, inner_children, pairs_at, leaves_at, leaf_count, inner_count, stands, IsTree, IsSummed}
-use Rattle.bptree_tree.specs.declared.insertion.Outcome.{Outcome}
-use Rattle.bptree_tree.specs.declared.insertion.Outcome.TheVariants.{Done, Split}
-use Rattle.bptree_tree.proofs.Frame.{EachBut, stands_le, flat_same, total_same, in_total, but_so, each_keeps, Chain-so, Same, others_same}
+use Rattle.bptree_tree.specs.Outcome.{Outcome, Done, Split}
+use Rattle.bptree_tree.proofs.Frame.{EachBut, stands_le, flat_same, total_same, map_same, in_total, but_so, each_keeps, Chain-so, Same, others_same}
 use Rattle.bptree_tree.proofs.Ordered.{AtMost-up}
 use Rattle.bptree_tree.proofs.Walk.{flat_parts, chain_smaller, chain_greater, chain_place, chain_length, tree_inside}
 
@@ -64,12 +61,22 @@ module _ {X : Type 0} (P Q : X → Type 0) where
   each_around_two (x ∷ xs) zero d y below so here all = let both = here all.0 in (both.0, (both.1, each_keeps P Q xs so all.1))
   each_around_two (x ∷ xs) (suc i) d y below so here all = (so.0 all.0, each_around_two xs i d y (omega arith) so.1 here all.1)
 
--- every value is a summary: then as many values as lists are summaries of them
-pub zip_all : {X Y : Type 0} (R : X → Y → Type 0) → ((x : X) (y : Y) → R x y) → (xs : List X) (ys : List Y) → length xs ≡ length ys → AllZip R xs ys
-zip_all R every [] [] e = tt
-zip_all R every [] (y ∷ ys) e = absurd (omega arith)
-zip_all R every (x ∷ xs) [] e = absurd (omega arith)
-zip_all R every (x ∷ xs) (y ∷ ys) e = (every x y, zip_all R every xs ys (omega arith))
+-- values go with the members' lists, one each
+module _ {A C Y : Type 0} (R : A → Y → Type 0) (f g : C → Y) where
+  -- one member's list is another, and has another value
+  pub zip_around : (xs : List A) (cs : List C) (i : ℕ) (d : C) (a : A) → i < length cs → AllZip R xs (map f cs) → EachBut (λ c. g c ≡ f c) cs i → R a (g (get_or cs i d)) → AllZip R (slice_set xs i a) (map g cs)
+  zip_around xs [] i d a below zip same here = absurd (omega arith)
+  zip_around [] (c ∷ cs) i d a below zip same here = absurd zip
+  zip_around (x ∷ xs) (c ∷ cs) zero d a below zip same here = (here, rw (map_same f g cs same) zip.1)
+  zip_around (x ∷ xs) (c ∷ cs) (suc i) d a below zip same here = (rw same.0 zip.0, zip_around xs cs i d a (omega arith) zip.1 same.1 here)
+
+  -- and a new member stands behind it, with a value of its own
+  pub zip_around_two : (xs : List A) (cs : List C) (i : ℕ) (d y : C) (a b : A) → i < length cs → AllZip R xs (map f cs) → EachBut (λ c. g c ≡ f c) cs i → R a (g (get_or cs i d)) → R b (g y)
+      → AllZip R (insert (slice_set xs i a) (suc i) b) (map g (insert cs (suc i) y))
+  zip_around_two xs [] i d y a b below zip same here next = absurd (omega arith)
+  zip_around_two [] (c ∷ cs) i d y a b below zip same here next = absurd zip
+  zip_around_two (x ∷ xs) (c ∷ cs) zero d y a b below zip same here next = (here, (next, rw (map_same f g cs same) zip.1))
+  zip_around_two (x ∷ xs) (c ∷ cs) (suc i) d y a b below zip same here next = (rw same.0 zip.0, zip_around_two xs cs i d y a b (omega arith) zip.1 same.1 here next)
 
 -- what stands before and behind part of the leaves stays there
 pub extends_around : (left right old new : List LeafNodeId) (leaf : LeafNodeId) (fresh whole result : List LeafNodeId) → Extends old leaf fresh new
@@ -287,31 +294,19 @@ module _ {K V A : Type 0} {cmp : K → K → Ordering} (total' : IsTotalOrder cm
   pub below_inners : (x : ℕ) → inner_count old (suc m) (kind.Inner id) x ≡ 0 → inner_count old m child x ≡ 0
   below_inners x none = subst (λ c. inner_count old m c x ≡ 0) here (omega (arith, in_total (λ c. inner_count old m c x) node.children i child place, rw is at none))
 
-  -- where every value is a summary of every list, as many values as children are summaries of them
-  pub summed_of : ((a : A) (keys : List K) → is_summary a keys) → (slots : Slots (Inner K A) (Leaf K V)) (arguments : List A) (cs : List NodeId) → length arguments ≡ length cs
-      → AllZip is_summary arguments (map (λ c. keys_of (pairs_at slots m c)) cs)
-  summed_of every slots arguments cs long = zip_all is_summary every arguments (map (λ c. keys_of (pairs_at slots m c)) cs) (long ∙ sym (length-map cs (λ c. keys_of (pairs_at slots m c))))
+  -- a new summary of that child, among those of the others
+  pub zipped_done : At child Done → (a : A) → is_summary a (keys_of (pairs_at new m child)) → AllZip is_summary node.arguments (map (λ c. keys_of (pairs_at old m c)) node.children)
+      → AllZip is_summary (slice_set node.arguments i a) (map (λ c. keys_of (pairs_at new m c)) node.children)
+  zipped_done at a told zip =
+      zip_around is_summary (λ c. keys_of (pairs_at old m c)) (λ c. keys_of (pairs_at new m c)) node.arguments node.children i child a place zip
+      (but_so _ _ (λ c s. ap keys_of s.pairs) node.children i (rest Done (at_there Done at)))
+      (subst (λ c. is_summary a (keys_of (pairs_at new m c))) (sym here) told)
 
-  -- the node as it was, over a child that was not split
-  pub node_done : ((a : A) (keys : List K) → is_summary a keys) → At child Done → Edits cmp is_summary edit 0 old new (suc m) (kind.Inner id) k leaf fresh Done
-  node_done every at =
-      let grown = grown_done at in
-      let stays : new.inner id.0 ≡ Present node = node_stays Done at in
-      record {
-        tree = λ least lo hi t w.
-            let c = subst (λ (x : Slot (Inner K A)). Chain cmp (IsTree cmp old 16 m) (inner_keys x) (inner_children x) lo hi) is t.1 in
-            let sizes : (least ≤ length node.keys) × (length node.keys ≤ 64) = subst (λ (x : Slot (Inner K A)). (least ≤ length (inner_keys x)) × (length (inner_keys x) ≤ 64)) is (t.2, t.3) in
-            rw stays (tt, grown.chain lo hi c w, omega (arith, sizes.0), sizes.1);
-        pairs = rw (stays, is) grown.pairs;
-        leaves = λ x. rw (stays, is) (grown.leaves x);
-        inners = λ x. rw (stays, is) (omega (arith, grown.inners x));
-        other_leaves = λ x none some. at.other_leaves x (below_leaves x none) some;
-        other_inners = λ x none some. at.other_inners x (below_inners x none) some;
-        order = rw (stays, is) grown.order;
-        links = at.links;
-        untouched = at.untouched;
-        summed = λ s.
-            let both : AllZip is_summary node.arguments (map (λ c. keys_of (pairs_at old m c)) node.children) × AllByRecursion (IsSummed old is_summary m) node.children = rw is at s in
-            let long = AllZip-length is_summary node.arguments (map (λ c. keys_of (pairs_at old m c)) node.children) both.0 ∙ length-map node.children (λ c. keys_of (pairs_at old m c)) in
-            rw stays (summed_of every new node.arguments node.children long, grown.summed both.1);
-      }
+  -- and new summaries of the two that it became
+  pub zipped_split : (s : K) (right : NodeId) → At child (Split s right) → (l r : A) → is_summary l (keys_of (pairs_at new m child)) → is_summary r (keys_of (pairs_at new m right))
+      → AllZip is_summary node.arguments (map (λ c. keys_of (pairs_at old m c)) node.children)
+      → AllZip is_summary (insert (slice_set node.arguments i l) (suc i) r) (map (λ c. keys_of (pairs_at new m c)) (insert node.children (suc i) right))
+  zipped_split s right at l r left_told right_told zip =
+      zip_around_two is_summary (λ c. keys_of (pairs_at old m c)) (λ c. keys_of (pairs_at new m c)) node.arguments node.children i child right l r place zip
+      (but_so _ _ (λ c s. ap keys_of s.pairs) node.children i (rest (Split s right) (at_there (Split s right) at)))
+      (subst (λ c. is_summary l (keys_of (pairs_at new m c))) (sym here) left_told) right_told

@@ -1,18 +1,15 @@
 -- What a change of nodes does to the slots of a store.
-use Rattle.std.specs.Prelude.{◌≡◌, ℕ, suc, ◌+◌, ◌≤◌, ◌<◌, List, [], ◌∷◌, ◌++◌, length, Option, Some, None}
+use Rattle.std.specs.Prelude.{◌≡◌, ℕ, suc, ◌+◌, ◌≤◌, ◌<◌, List, [], ◌∷◌, ◌++◌, length, slice_set, Option, Some, None}
 use Rattle.std.specs.declared.cmp.Ordering.{Ordering}
 use Rattle.std.specs.declared.cmp.Ordering.TheVariants.{Equal}
 use Rattle.std.specs.List.{insert}
-use Rattle.bptree_nodes.specs.Contents.{put}
 use Rattle.bptree_nodes.specs.Inner.{Inner}
 use Rattle.bptree_nodes.specs.Leaf.{Leaf}
 use Rattle.bptree_nodes.specs.Slot.{Slots, Present, IsPresent, Updates, UpdatesLeaf}
 use Rattle.bptree_nodes.specs.declared.node_id.InnerNodeId.{InnerNodeId}
 use Rattle.bptree_nodes.specs.declared.node_id.LeafNodeId.{LeafNodeId}
 use Rattle.bptree_nodes.specs.declared.node_id.NodeId.{NodeId}
-use Rattle.bptree_nodes.specs.declared.node_id.NodeId.TheVariants as kind
-use Rattle.bptree_tree.specs.declared.insertion.Outcome.{Outcome}
-use Rattle.bptree_tree.specs.declared.insertion.Outcome.TheVariants.{Done, Split}
+use Rattle.bptree_tree.specs.Sums.{with_summary}
 
 -- pairs whose first key is a separator
 abbrev pub StartsAt : {K V : Type 0} → (K → K → Ordering) → K → List (K × V) → Type 0
@@ -20,18 +17,23 @@ StartsAt cmp separator [] = ⊥
 StartsAt cmp separator (p ∷ ps) = cmp separator p.0 ≡ Equal
 
 module _ {K V A : Type 0} (old new : Slots (Inner K A) (Leaf K V)) where
-  -- a separator and the child behind it go into a node that has room
-  pub record Links (id : InnerNodeId) (place : ℕ) (separator : K) (child : NodeId) (was : Inner K A) : Type 0 where
+  -- a node keeps its children, and takes a new summary of one
+  pub record Keeps (id : InnerNodeId) (place : ℕ) (a : A) (was : Inner K A) : Type 0 where
+    pub sets : Updates old.inner new.inner id.0 (Present (with_summary was place a))
+    pub leaf : new.leaf ≡ old.leaf
+
+  -- a child was split: its new summary, a separator and the child behind it go into a node that has room
+  pub record Links (id : InnerNodeId) (place : ℕ) (l : A) (separator : K) (child : NodeId) (r : A) (was : Inner K A) : Type 0 where
     pub is : Inner K A
     pub sets : Updates old.inner new.inner id.0 (Present is)
     pub leaf : new.leaf ≡ old.leaf
     pub keys : is.keys ≡ insert was.keys place separator
     pub children : is.children ≡ insert was.children (suc place) child
-    pub arguments : length is.arguments ≡ length is.children
+    pub arguments : is.arguments ≡ insert (slice_set was.arguments place l) (suc place) r
     pub room : length was.keys < 64
 
   -- they go into a full node, which is split
-  pub record Splits (id : InnerNodeId) (place : ℕ) (separator : K) (child : NodeId) (was : Inner K A) (up : K) (number : InnerNodeId) : Type 0 where
+  pub record Splits (id : InnerNodeId) (place : ℕ) (l : A) (separator : K) (child : NodeId) (r : A) (was : Inner K A) (up : K) (number : InnerNodeId) : Type 0 where
     pub left : Inner K A
     pub right : Inner K A
     pub absent : IsPresent (old.inner number.0) → ⊥
@@ -41,28 +43,19 @@ module _ {K V A : Type 0} (old new : Slots (Inner K A) (Leaf K V)) where
     pub leaf : new.leaf ≡ old.leaf
     pub keys : left.keys ++ (up ∷ right.keys) ≡ insert was.keys place separator
     pub children : left.children ++ right.children ≡ insert was.children (suc place) child
+    pub arguments : left.arguments ++ right.arguments ≡ insert (slice_set was.arguments place l) (suc place) r
     pub left_children : length left.children ≡ length left.keys + 1
     pub left_arguments : length left.arguments ≡ length left.children
-    pub right_arguments : length right.arguments ≡ length right.children
     pub left_least : 16 ≤ length left.keys
     pub left_most : length left.keys ≤ 64
     pub right_least : 16 ≤ length right.keys
     pub right_most : length right.keys ≤ 64
 
-  abbrev pub Takes : InnerNodeId → ℕ → K → NodeId → Inner K A → Outcome K → Type 0
-  Takes id place separator child was Done = Links id place separator child was
-  Takes id place separator child was (Split up (kind.Inner number)) = Splits id place separator child was up number
-  Takes id place separator child was (Split up (kind.Leaf number)) = ⊥
-
   -- a new node stands above two others
-  pub record Roots (id : InnerNodeId) (left : NodeId) (separator : K) (right : NodeId) : Type 0 where
-    pub is : Inner K A
+  pub record Roots (id : InnerNodeId) (left : NodeId) (l : A) (separator : K) (right : NodeId) (r : A) : Type 0 where
     pub absent : IsPresent (old.inner id.0) → ⊥
-    pub sets : Updates old.inner new.inner id.0 (Present is)
+    pub sets : Updates old.inner new.inner id.0 (Present (record { keys = separator ∷ []; children = left ∷ right ∷ []; arguments = l ∷ r ∷ [] }))
     pub leaf : new.leaf ≡ old.leaf
-    pub keys : is.keys ≡ separator ∷ []
-    pub children : is.children ≡ left ∷ right ∷ []
-    pub arguments : length is.arguments ≡ 2
 
   -- the pairs of a full leaf, with one more, are shared between it and a new leaf behind it
   pub record SplitsLeaf (leaf fresh : LeafNodeId) (was : Leaf K V) (now left right : List (K × V)) : Type 0 where
@@ -87,15 +80,3 @@ module _ {K V A : Type 0} (old new : Slots (Inner K A) (Leaf K V)) where
   abbrev pub Mends : Option LeafNodeId → LeafNodeId → Type 0
   Mends None fresh = new ≡ old
   Mends (Some leaf) fresh = Names leaf fresh
-
--- a full leaf takes a pair and is split; its outcome names the new leaf
-pub record IsLeafSplit {K V A : Type 0} (cmp : K → K → Ordering) (old new : Slots (Inner K A) (Leaf K V)) (leaf : LeafNodeId) (k : K) (v : V) (outcome : Outcome K) : Type 0 where
-  pub fresh : LeafNodeId
-  pub separator : K
-  pub was : Leaf K V
-  pub left : List (K × V)
-  pub right : List (K × V)
-  pub is : outcome ≡ Split separator (kind.Leaf fresh)
-  pub here : old.leaf leaf.0 ≡ Present was
-  pub splits : SplitsLeaf old new leaf fresh was (put cmp was.pairs k v) left right
-  pub starts : StartsAt cmp separator right

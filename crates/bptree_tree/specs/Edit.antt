@@ -10,8 +10,7 @@ use Rattle.bptree_nodes.specs.declared.node_id.LeafNodeId.{LeafNodeId}
 use Rattle.bptree_nodes.specs.declared.node_id.NodeId.{NodeId}
 use Rattle.bptree_tree.specs.Order.{Within, Between}
 use Rattle.bptree_tree.specs.Shape.{leaf_prev, leaf_next, pairs_at, leaves_at, leaf_count, inner_count, stands, IsTree, IsSummed}
-use Rattle.bptree_tree.specs.declared.insertion.Outcome.{Outcome}
-use Rattle.bptree_tree.specs.declared.insertion.Outcome.TheVariants.{Done, Split}
+use Rattle.bptree_tree.specs.Outcome.{Outcome, Done, Split}
 
 -- an edit of ascending pairs that looks no further than the part between smaller and greater keys
 pub record IsLocal {K V : Type 0} (cmp : K → K → Ordering) (k : K) (edit : List (K × V) → List (K × V)) : Type 0 where

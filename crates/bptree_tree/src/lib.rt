@@ -1,6 +1,7 @@
 //! An ordered map in memory that is one strictly ascending list of pairs, kept in a B+ tree over a store of nodes.
 #![tactic(auto)]
 
+pub mod ascent;
 pub mod by_argument;
 #[cfg(test)]
 mod by_argument_tests;
@@ -9,6 +10,7 @@ pub mod insertion;
 #[cfg(test)]
 mod insertion_tests;
 pub mod iterator;
+pub mod node_changes;
 pub mod reading;
 pub mod tree;
 

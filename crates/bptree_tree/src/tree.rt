@@ -13,7 +13,7 @@ mod queries;
 pub(crate) mod reading_tests;
 
 use crate::descent::{first_leaf, last_leaf};
-use crate::insertion::upsert;
+use crate::insertion::{Put, upsert};
 use crate::iterator::Iter;
 use crate::{InsertError, reading};
 use bptree_nodes::node_id::NodeId;
@@ -113,11 +113,10 @@ impl<S: NodeStore> BPlusTree<S> {
     /// Puts `v` at `k`, and hands back the value that was there.
     ///
     /// A key that equals `k` stays, and its value alone is replaced: that takes no memory and is never refused. A new key
-    /// takes memory only where a leaf is full: for one node on each level that is split, and for a clone of one key. A pair
-    /// with a new key can be refused: for want of memory, or in a tree of `usize::MAX` pairs. Then nothing has changed.
+    /// takes memory where a leaf is full, for one node on each level that is split and for a clone of one key, and where a
+    /// summary takes some. Each node on the way to its leaf takes a new summary of its child. A pair with a new key can be
+    /// refused: for want of memory, or in a tree of `usize::MAX` pairs. Then nothing has changed.
     pub fn insert(&mut self, k: S::K, v: S::V) -> Result<Option<S::V>, InsertError<S::K, S::V>>
-        // Summaries are not kept up, so that each value must be one of every list of keys.
-        requires summaries { (a : S.Argument) → (keys : List S.K) → S.Argument.is_summary a keys }
         ensures ok { IfOk result (λ old. (old ≡ value S.K.cmp self.old.contents k) × (self.new.contents ≡ put S.K.cmp self.old.contents k v)) }
         ensures err { IfErr result (λ refusal. (pair_of refusal ≡ (k, v)) × (self.new.contents ≡ self.old.contents)) }
         ensures unchanged { IfErr result (λ _. (S.slots self.new.store ≡ S.slots self.old.store) × (self.new.root ≡ self.old.root) × (self.new.height ≡ self.old.height) × (self.new.root_argument ≡ self.old.root_argument)) }
@@ -128,13 +127,13 @@ impl<S: NodeStore> BPlusTree<S> {
             return Err(InsertError::Full(k, v));
         }
         match upsert(&mut self.store, self.root, self.height, k, v) {
-            Ok((was, root, height)) => {
+            Ok(Put::Replaced(was)) => Ok(Some(was)),
+            Ok(Put::Added(root, height, summary)) => {
                 self.root = root;
                 self.height = height;
-                if was.is_none() {
-                    self.len += 1;
-                }
-                Ok(was)
+                self.len += 1;
+                self.root_argument = summary;
+                Ok(None)
             }
             Err((k, v)) => Err(InsertError::OutOfMemory(k, v)),
         }

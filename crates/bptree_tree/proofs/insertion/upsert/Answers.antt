@@ -1,82 +1,74 @@
-use Rattle.std.proofs.Common.{◌∙◌, sym}
-use Rattle.bptree_tree.specs.Shape.{pairs_at}
-use Rattle.bptree_nodes.proofs.Equal.{has_where_value}
+use Rattle.std.proofs.Common.{refl, ap, length, arith}
 use Rattle.bptree_tree.proofs.Lent.{none_if_absent}
-use Rattle.bptree_tree.proofs.Upserted.{node_ascends, value_there, stayed, in_place, on_err}
+use Rattle.bptree_tree.proofs.Rooted.{low_tree}
+use Rattle.bptree_tree.proofs.Upserted.{node_ascends, absent_there, replaced, placed_at}
 use Rattle.bptree_tree.proofs.insertion.upsert.Goals as goal
 
-pub put_whole-requires-clause-way : goal.put_whole-requires-clause-way
-put_whole-requires-clause-way g c =
-    let old = g.S.NodeStore.slots c.args.store.now in
-    let node = c.get_mut_leaf.result.now in
-    let new = g.S.NodeStore.slots (g.S.NodeStore.with_leaf c.args.store.now c.find_leaf-leaf.result.0 c.try_upsert.new.self) in
-    let updates = g.met.S.NodeStore.with_leaf_updates c.args.store.now c.find_leaf-leaf.result.0 c.try_upsert.new.self c.find_leaf-leaf.ensures.leaf.stands.present in
-    let facts = c.in-IsFull.ensures.contents (node_ascends g.met.S.K.Ord.total g.S.Argument.Argument.is_summary old c.args.height c.args.root c.args.k c.find_leaf-leaf.result node c.requires.shape c.find_leaf-leaf.ensures.leaf c.get_mut_leaf.ensures.value) in
-    let same = stayed g.met.S.K.Ord.total g.S.Argument.Argument.is_summary old c.args.height c.args.root c.args.k c.find_leaf-leaf.result node c.requires.shape c.find_leaf-leaf.ensures.leaf c.get_mut_leaf.ensures.value c.try_upsert.new.self new updates facts.5 in
-    rw (same, facts.3) c.find_leaf-leaf.ensures.way
+pub find_path-leaf-requires-clause-room : goal.find_path-leaf-requires-clause-room
+find_path-leaf-requires-clause-room g c =
+    let low = low_tree g.S.K.Ord.cmp g.S.Argument.Argument.is_summary (g.S.NodeStore.slots c.args.store.now) c.args.height c.args.root c.requires.shape c.requires.few in
+    omega (arith, low, ap length c.new-path.ensures)
 
-pub put_whole-requires-clause-absent : goal.put_whole-requires-clause-absent
-put_whole-requires-clause-absent g c =
+pub put_new-requires : goal.put_new-requires
+put_new-requires g c =
+    let total = g.met.S.K.Ord.total in
+    let sum = g.S.Argument.Argument.is_summary in
     let old = g.S.NodeStore.slots c.args.store.now in
-    let node = c.get_mut_leaf.result.now in
-    let new = g.S.NodeStore.slots (g.S.NodeStore.with_leaf c.args.store.now c.find_leaf-leaf.result.0 c.try_upsert.new.self) in
-    let updates = g.met.S.NodeStore.with_leaf_updates c.args.store.now c.find_leaf-leaf.result.0 c.try_upsert.new.self c.find_leaf-leaf.ensures.leaf.stands.present in
-    let facts = c.in-IsFull.ensures.contents (node_ascends g.met.S.K.Ord.total g.S.Argument.Argument.is_summary old c.args.height c.args.root c.args.k c.find_leaf-leaf.result node c.requires.shape c.find_leaf-leaf.ensures.leaf c.get_mut_leaf.ensures.value) in
-    let same = stayed g.met.S.K.Ord.total g.S.Argument.Argument.is_summary old c.args.height c.args.root c.args.k c.find_leaf-leaf.result node c.requires.shape c.find_leaf-leaf.ensures.leaf c.get_mut_leaf.ensures.value c.try_upsert.new.self new updates facts.5 in
-    rw (same, facts.3, c.get_mut_leaf.ensures.value) facts.0
+    let node = c.get_leaf.result.now in
+    let place = c.in-Err.ensures.place (node_ascends total sum old c.args.height c.args.root c.args.k c.find_path-leaf.result node c.requires.shape c.find_path-leaf.ensures.leaf c.get_leaf.ensures) in
+    record {
+      due = (
+        record {
+          top = c.args.height;
+          root = c.args.root;
+          shape = c.requires.shape;
+          few = c.requires.room (absent_there total sum old c.args.height c.args.root c.args.k c.find_path-leaf.result node c.requires.shape c.find_path-leaf.ensures.leaf c.get_leaf.ensures place.0);
+          way = c.find_path-leaf.ensures.way c.args.height c.args.root (rw c.new-path.ensures (refl, refl));
+          absent = rw c.get_leaf.ensures place.0;
+          place = rw c.get_leaf.ensures place.1;
+        },
+        refl,
+      );
+    }
 
-pub returns-in_err-root-in-IsFull-clause-absent : goal.returns-in_err-root-in-IsFull-clause-absent
-returns-in_err-root-in-IsFull-clause-absent g c =
+pub returns-in-Ok-clause-put : goal.returns-in-Ok-clause-put
+returns-in-Ok-clause-put g c =
+    let total = g.met.S.K.Ord.total in
+    let sum = g.S.Argument.Argument.is_summary in
     let old = g.S.NodeStore.slots c.args.store.now in
-    let node = c.get_mut_leaf.result.now in
-    let facts = c.in-IsFull.ensures.contents (node_ascends g.met.S.K.Ord.total g.S.Argument.Argument.is_summary old c.args.height c.args.root c.args.k c.find_leaf-leaf.result node c.requires.shape c.find_leaf-leaf.ensures.leaf c.get_mut_leaf.ensures.value) in
-    on_err c.from_residual.result _ (sym (has_where_value g.S.K.Ord.cmp (pairs_at old c.args.height c.args.root) c.args.k) ∙ (rw (value_there g.met.S.K.Ord.total g.S.Argument.Argument.is_summary old c.args.height c.args.root c.args.k c.find_leaf-leaf.result node c.requires.shape c.find_leaf-leaf.ensures.leaf c.get_mut_leaf.ensures.value) (has_where_value g.S.K.Ord.cmp node.pairs c.args.k) ∙ facts.0))
+    let node = c.get_leaf.result.now in
+    replaced total sum old c.args.height c.args.root c.args.k c.find_path-leaf.result node c.requires.shape c.find_path-leaf.ensures.leaf c.get_leaf.ensures c.in-Ok.slot c.in-Ok.ensures.found c.args.v c.replace_at.result (rw c.get_leaf.ensures at c.replace_at.ensures.old) (g.S.NodeStore.slots c.replace_at.new.store) (c.replace_at.ensures.sets node c.get_leaf.ensures)
 
-pub returns-in-Inserted-clause-was : goal.returns-in-Inserted-clause-was
-returns-in-Inserted-clause-was g c =
+pub returns-in-Ok-put_new-clause-put : goal.returns-in-Ok-put_new-clause-put
+returns-in-Ok-put_new-clause-put g c =
+    let total = g.met.S.K.Ord.total in
+    let sum = g.S.Argument.Argument.is_summary in
     let old = g.S.NodeStore.slots c.args.store.now in
-    let node = c.get_mut_leaf.result.now in
-    let facts = c.in-Inserted.ensures.contents (node_ascends g.met.S.K.Ord.total g.S.Argument.Argument.is_summary old c.args.height c.args.root c.args.k c.find_leaf-leaf.result node c.requires.shape c.find_leaf-leaf.ensures.leaf c.get_mut_leaf.ensures.value) in
-    rw (value_there g.met.S.K.Ord.total g.S.Argument.Argument.is_summary old c.args.height c.args.root c.args.k c.find_leaf-leaf.result node c.requires.shape c.find_leaf-leaf.ensures.leaf c.get_mut_leaf.ensures.value) (sym (none_if_absent g.S.K.Ord.cmp node.pairs c.args.k facts.0))
+    let node = c.get_leaf.result.now in
+    let place = c.in-Err.ensures.place (node_ascends total sum old c.args.height c.args.root c.args.k c.find_path-leaf.result node c.requires.shape c.find_path-leaf.ensures.leaf c.get_leaf.ensures) in
+    let absent = absent_there total sum old c.args.height c.args.root c.args.k c.find_path-leaf.result node c.requires.shape c.find_path-leaf.ensures.leaf c.get_leaf.ensures place.0 in (
+      none_if_absent g.S.K.Ord.cmp _ c.args.k absent,
+      placed_at g.S.K.Ord.cmp sum old (g.S.NodeStore.slots c.put_new.new.store) c.args.height c.args.root c.args.k c.args.v c.in-Ok-put_new.top c.in-Ok-put_new.summary c.top_of-root.result c.top_of-root.ensures
+          (c.in-Ok-put_new.ensures.placed
+          (record {
+            top = c.args.height;
+            root = c.args.root;
+            shape = c.requires.shape;
+            few = c.requires.room absent;
+            way = c.find_path-leaf.ensures.way c.args.height c.args.root (rw c.new-path.ensures (refl, refl));
+            absent = rw c.get_leaf.ensures place.0;
+            place = rw c.get_leaf.ensures place.1;
+          }) refl),
+    )
 
-pub returns-in-Inserted-clause-put : goal.returns-in-Inserted-clause-put
-returns-in-Inserted-clause-put g c =
-    let old = g.S.NodeStore.slots c.args.store.now in
-    let node = c.get_mut_leaf.result.now in
-    let new = g.S.NodeStore.slots (g.S.NodeStore.with_leaf c.args.store.now c.find_leaf-leaf.result.0 c.try_upsert.new.self) in
-    let updates = g.met.S.NodeStore.with_leaf_updates c.args.store.now c.find_leaf-leaf.result.0 c.try_upsert.new.self c.find_leaf-leaf.ensures.leaf.stands.present in
-    let facts = c.in-Inserted.ensures.contents (node_ascends g.met.S.K.Ord.total g.S.Argument.Argument.is_summary old c.args.height c.args.root c.args.k c.find_leaf-leaf.result node c.requires.shape c.find_leaf-leaf.ensures.leaf c.get_mut_leaf.ensures.value) in
-    in_place g.met.S.K.Ord.total g.S.Argument.Argument.is_summary old c.args.height c.args.root c.args.k c.find_leaf-leaf.result node c.requires.shape c.find_leaf-leaf.ensures.leaf c.get_mut_leaf.ensures.value c.try_upsert.new.self new updates c.args.v facts.2 c.try_upsert.ensures.fits c.requires.every c.find_leaf-leaf.ensures.way
+pub top_of-root-requires : goal.top_of-root-requires
+top_of-root-requires g c =
+    low_tree g.S.K.Ord.cmp g.S.Argument.Argument.is_summary (g.S.NodeStore.slots c.args.store.now) c.args.height c.args.root c.requires.shape c.requires.few
 
-pub returns-in-Updated-clause-was : goal.returns-in-Updated-clause-was
-returns-in-Updated-clause-was g c =
+pub returns-in-Err-put_new-clause-absent : goal.returns-in-Err-put_new-clause-absent
+returns-in-Err-put_new-clause-absent g c =
+    let total = g.met.S.K.Ord.total in
+    let sum = g.S.Argument.Argument.is_summary in
     let old = g.S.NodeStore.slots c.args.store.now in
-    let node = c.get_mut_leaf.result.now in
-    let facts = c.in-Updated.ensures.contents (node_ascends g.met.S.K.Ord.total g.S.Argument.Argument.is_summary old c.args.height c.args.root c.args.k c.find_leaf-leaf.result node c.requires.shape c.find_leaf-leaf.ensures.leaf c.get_mut_leaf.ensures.value) in
-    rw (value_there g.met.S.K.Ord.total g.S.Argument.Argument.is_summary old c.args.height c.args.root c.args.k c.find_leaf-leaf.result node c.requires.shape c.find_leaf-leaf.ensures.leaf c.get_mut_leaf.ensures.value) (sym facts.0)
-
-pub returns-in-Updated-clause-put : goal.returns-in-Updated-clause-put
-returns-in-Updated-clause-put g c =
-    let old = g.S.NodeStore.slots c.args.store.now in
-    let node = c.get_mut_leaf.result.now in
-    let new = g.S.NodeStore.slots (g.S.NodeStore.with_leaf c.args.store.now c.find_leaf-leaf.result.0 c.try_upsert.new.self) in
-    let updates = g.met.S.NodeStore.with_leaf_updates c.args.store.now c.find_leaf-leaf.result.0 c.try_upsert.new.self c.find_leaf-leaf.ensures.leaf.stands.present in
-    let facts = c.in-Updated.ensures.contents (node_ascends g.met.S.K.Ord.total g.S.Argument.Argument.is_summary old c.args.height c.args.root c.args.k c.find_leaf-leaf.result node c.requires.shape c.find_leaf-leaf.ensures.leaf c.get_mut_leaf.ensures.value) in
-    in_place g.met.S.K.Ord.total g.S.Argument.Argument.is_summary old c.args.height c.args.root c.args.k c.find_leaf-leaf.result node c.requires.shape c.find_leaf-leaf.ensures.leaf c.get_mut_leaf.ensures.value c.try_upsert.new.self new updates c.args.v facts.1 c.try_upsert.ensures.fits c.requires.every c.find_leaf-leaf.ensures.way
-
-pub returns-in_ok-root-in-IsFull-clause-was : goal.returns-in_ok-root-in-IsFull-clause-was
-returns-in_ok-root-in-IsFull-clause-was g c =
-    let old = g.S.NodeStore.slots c.args.store.now in
-    let node = c.get_mut_leaf.result.now in
-    let facts = c.in-IsFull.ensures.contents (node_ascends g.met.S.K.Ord.total g.S.Argument.Argument.is_summary old c.args.height c.args.root c.args.k c.find_leaf-leaf.result node c.requires.shape c.find_leaf-leaf.ensures.leaf c.get_mut_leaf.ensures.value) in
-    rw (value_there g.met.S.K.Ord.total g.S.Argument.Argument.is_summary old c.args.height c.args.root c.args.k c.find_leaf-leaf.result node c.requires.shape c.find_leaf-leaf.ensures.leaf c.get_mut_leaf.ensures.value) (sym (none_if_absent g.S.K.Ord.cmp node.pairs c.args.k facts.0))
-
-pub returns-in_ok-root-in-IsFull-clause-put : goal.returns-in_ok-root-in-IsFull-clause-put
-returns-in_ok-root-in-IsFull-clause-put g c =
-    let old = g.S.NodeStore.slots c.args.store.now in
-    let node = c.get_mut_leaf.result.now in
-    let new = g.S.NodeStore.slots (g.S.NodeStore.with_leaf c.args.store.now c.find_leaf-leaf.result.0 c.try_upsert.new.self) in
-    let updates = g.met.S.NodeStore.with_leaf_updates c.args.store.now c.find_leaf-leaf.result.0 c.try_upsert.new.self c.find_leaf-leaf.ensures.leaf.stands.present in
-    let facts = c.in-IsFull.ensures.contents (node_ascends g.met.S.K.Ord.total g.S.Argument.Argument.is_summary old c.args.height c.args.root c.args.k c.find_leaf-leaf.result node c.requires.shape c.find_leaf-leaf.ensures.leaf c.get_mut_leaf.ensures.value) in
-    let same = stayed g.met.S.K.Ord.total g.S.Argument.Argument.is_summary old c.args.height c.args.root c.args.k c.find_leaf-leaf.result node c.requires.shape c.find_leaf-leaf.ensures.leaf c.get_mut_leaf.ensures.value c.try_upsert.new.self new updates facts.5 in
-    rw (same, facts.3, facts.4) at c.in_ok-root-in-IsFull.ensures.put
+    let node = c.get_leaf.result.now in
+    absent_there total sum old c.args.height c.args.root c.args.k c.find_path-leaf.result node c.requires.shape c.find_path-leaf.ensures.leaf c.get_leaf.ensures (c.in-Err.ensures.place (node_ascends total sum old c.args.height c.args.root c.args.k c.find_path-leaf.result node c.requires.shape c.find_path-leaf.ensures.leaf c.get_leaf.ensures)).0
