@@ -1,9 +1,8 @@
 -- Runs of commands.
-use Rattle.std.proofs.Common.{◌≡◌, ◌≢◌, ℕ, ◌+◌, ◌<◌, ◌≤◌, List, [], ◌∷◌, ◌++◌, length, take, refl, sym, ap, ◌∙◌, arith, subst, append-nil, length-append}
+use Rattle.std.proofs.Common.{◌≡◌, ℕ, List, [], ◌∷◌, ◌++◌, length, take, refl, sym, ap, ◌∙◌, subst}
 use Rattle.std.specs.declared.cmp.Ordering.{Ordering}
 use Rattle.std.proofs.Math.Seq.{take-append_seam}
-use Rattle.std.proofs.lemmas.List.{take_all}
-use Rattle.std.proofs.Common.{Option, Bool, true, false, Result, Ok, Err, IsTrue, IsOk, ◌↔◌}
+use Rattle.std.proofs.Common.{Option, Bool, true, false, Result, Err, IsTrue, ◌↔◌}
 use Rattle.bptree_nodes.specs.Contents.{has}
 use Rattle.bptree_tree.specs.declared.InsertError.{InsertError}
 use Rattle.bptree_tree.specs.declared.InsertError.TheVariants.{OutOfMemory, Full}
@@ -14,34 +13,37 @@ use Rattle.sweep_bptree.specs.declared.script.commands.Command.TheVariants.{Inse
 use Rattle.sweep_bptree.specs.declared.script.commands.Reply.{Reply}
 
 -- one step more
-pub Run-more : {K V : Type 0} → (cmp : K → K → Ordering) (commands : List (Command K V)) (replies : List (Reply K V)) (old mid new : List (K × V)) (command : Command K V) (reply : Reply K V)
-    → Run cmp old commands replies mid → Step cmp mid command reply new → Run cmp old (commands ++ command ∷ []) (replies ++ reply ∷ []) new
-Run-more {K} {V} cmp [] [] old mid new command reply run step =
-    let P : List (K × V) → Type 0 = λ m. Step cmp m command reply new in (new, subst P run step, refl)
-Run-more cmp [] (r ∷ replies) old mid new command reply run step = absurd run
-Run-more cmp (c ∷ commands) [] old mid new command reply run step = absurd run
-Run-more cmp (c ∷ commands) (r ∷ replies) old mid new command reply run step =
-    (run.0, run.1, Run-more cmp commands replies run.0 mid new command reply run.2 step)
+pub Run-more : {K V Q R : Type 0} → (cmp : K → K → Ordering) (selects : Q → List K → Option ℕ → Type 0) (ranks : K → List K → R → Type 0)
+    (commands : List (Command K V Q)) (replies : List (Reply K V R)) (old mid new : List (K × V)) (command : Command K V Q) (reply : Reply K V R)
+    → Run cmp selects ranks old commands replies mid → Step cmp selects ranks mid command reply new
+    → Run cmp selects ranks old (commands ++ command ∷ []) (replies ++ reply ∷ []) new
+Run-more {K} {V} cmp selects ranks [] [] old mid new command reply run step =
+    let P : List (K × V) → Type 0 = λ m. Step cmp selects ranks m command reply new in (new, subst P run step, refl)
+Run-more cmp selects ranks [] (r ∷ replies) old mid new command reply run step = absurd run
+Run-more cmp selects ranks (c ∷ commands) [] old mid new command reply run step = absurd run
+Run-more cmp selects ranks (c ∷ commands) (r ∷ replies) old mid new command reply run step =
+    (run.0, run.1, Run-more cmp selects ranks commands replies run.0 mid new command reply run.2 step)
 
 -- the replies so far are those of a run of the first commands
-pub Run-first : {K V : Type 0} → (cmp : K → K → Ordering) (all done rest : List (Command K V)) (replies : List (Reply K V)) (old new : List (K × V)) (n : ℕ)
-    → all ≡ done ++ rest → n ≡ length done → Run cmp old done replies new → Run cmp old (take n all) replies new
-Run-first {K} {V} cmp all done rest replies old new n whole len run =
-    let P : List (Command K V) → Type 0 = λ cs. Run cmp old cs replies new in
-    let Q : ℕ → Type 0 = λ m. Run cmp old (take m all) replies new in
-    subst Q (sym len) (subst P (sym (ap (take (length done)) whole ∙ take-append_seam done rest)) run)
+pub Run-first : {K V Q R : Type 0} → (cmp : K → K → Ordering) (selects : Q → List K → Option ℕ → Type 0) (ranks : K → List K → R → Type 0)
+    (all done rest : List (Command K V Q)) (replies : List (Reply K V R)) (old new : List (K × V)) (n : ℕ)
+    → all ≡ done ++ rest → n ≡ length done → Run cmp selects ranks old done replies new → Run cmp selects ranks old (take n all) replies new
+Run-first {K} {V} {Q} cmp selects ranks all done rest replies old new n whole len run =
+    let P : List (Command K V Q) → Type 0 = λ cs. Run cmp selects ranks old cs replies new in
+    let N : ℕ → Type 0 = λ m. Run cmp selects ranks old (take m all) replies new in
+    subst N (sym len) (subst P (sym (ap (take (length done)) whole ∙ take-append_seam done rest)) run)
 
 not_there : (b : Bool) → (IsTrue b → false ≡ true) → b ≡ false
 not_there true absent = sym (absent refl)
 not_there false absent = refl
 
 -- a refused insertion is a step
-pub Step-refused : {K V : Type 0} → (cmp : K → K → Ordering) (error : InsertError K V) (old new : List (K × V)) (k : K) (v : V)
+pub Step-refused : {K V Q R : Type 0} → (cmp : K → K → Ordering) (selects : Q → List K → Option ℕ → Type 0) (ranks : K → List K → R → Type 0) (error : InsertError K V) (old new : List (K × V)) (k : K) (v : V)
     → (pair_of error ≡ (k, v)) × (new ≡ old)
     → (IsTrue (has cmp old k) → false ≡ true)
     → (◌≡◌ {A = Result (Option V) (InsertError K V)} (Err error) (Err (Full k v)) ↔ HasNoRoomFor cmp old k)
-    → Step cmp old (Insert k v) (reply_to_refusal error) new
-Step-refused cmp (OutOfMemory j w) old new k v same absent full = ((λ no_room. cc (full.1 no_room)), not_there (has cmp old k) absent, same.1)
-Step-refused {K} {V} cmp (Full j w) old new k v same absent full =
+    → Step cmp selects ranks old (Insert k v) (reply_to_refusal error) new
+Step-refused cmp selects ranks (OutOfMemory j w) old new k v same absent full = ((λ no_room. cc (full.1 no_room)), not_there (has cmp old k) absent, same.1)
+Step-refused {K} {V} cmp selects ranks (Full j w) old new k v same absent full =
     let is : ◌≡◌ {A = Result (Option V) (InsertError K V)} (Err (Full j w)) (Err (Full k v)) = ap (λ (p : K × V). Err (Full p.0 p.1)) same.0 in
     (full.0 is, same.1)

@@ -2,6 +2,7 @@
 ghost use Rattle.std.proofs.Common.{rules};
 
 use crate::script::{Command, Reply, run};
+use bptree_arguments::count::Count;
 use bptree_nodes::key::{Key, Tuple2};
 use bptree_stores::node_store_vec::NodeStoreVec;
 use bptree_tree::BPlusTree;
@@ -70,12 +71,15 @@ fn an_equal_key_stays(rt: HostRuntime) -> Result<(), Fail> {
 
 #[test]
 fn a_run_answers_each_command(rt: HostRuntime) -> Result<(), Fail> {
-    let mut tree: BPlusTree<NodeStoreVec<Numbered, i32>> = BPlusTree::new(NodeStoreVec::new(
+    let mut tree: BPlusTree<NodeStoreVec<Numbered, i32, Count>> = BPlusTree::new(NodeStoreVec::new(
         rt.alloc(),
     ))?;
     let commands = vec![in rt.alloc();
         Command::First,
         Command::Last,
+        Command::At(0),
+        Command::SetAt(0, 5),
+        Command::Rank(key_of(1, 'a')),
         Command::Insert(key_of(1, 'a'), 10),
         Command::Insert(key_of(1, 'b'), 20),
         Command::First,
@@ -90,12 +94,27 @@ fn a_run_answers_each_command(rt: HostRuntime) -> Result<(), Fail> {
         Command::Set(key_of(1, 'e'), 25),
         Command::First,
         Command::Len,
+        Command::At(0),
+        Command::At(1),
+        Command::At(2),
+        Command::SetAt(1, 35),
+        Command::SetAt(2, 6),
+        Command::At(0),
+        Command::At(1),
+        Command::Rank(key_of(1, 'f')),
+        Command::Rank(key_of(2, 'f')),
+        Command::Rank(key_of(3, 'f')),
+        Command::Rank(key_of(4, 'f')),
+        Command::Len,
     ]?;
     let (replies, error) = run(rt.alloc(), &mut tree, commands);
     assert!(rt; error.is_none());
     let wanted = [
         "pair none",
         "pair none",
+        "pair none",
+        "done false",
+        "out 0",
         "value none",
         "value 10",
         "pair 1 a 20",
@@ -106,9 +125,21 @@ fn a_run_answers_each_command(rt: HostRuntime) -> Result<(), Fail> {
         "value none",
         "pair 1 a 20",
         "pair 3 d 30",
-        "value none",
-        "value 20",
+        "done false",
+        "done true",
         "pair 1 a 25",
+        "number 2",
+        "pair 1 a 25",
+        "pair 3 d 30",
+        "pair none",
+        "done true",
+        "done false",
+        "pair 1 a 25",
+        "pair 3 d 35",
+        "in 0",
+        "out 1",
+        "in 1",
+        "out 2",
         "number 2",
     ];
     assert_eq!(rt; replies.len(), wanted.len());
@@ -121,6 +152,9 @@ fn a_run_answers_each_command(rt: HostRuntime) -> Result<(), Fail> {
                 format!(in rt.alloc(); "pair {} {} {value}", key.number, key.letter)?
             }
             Reply::Number(number) => format!(in rt.alloc(); "number {number}")?,
+            Reply::Done(done) => format!(in rt.alloc(); "done {done}")?,
+            Reply::Rank(Ok(rank)) => format!(in rt.alloc(); "in {rank}")?,
+            Reply::Rank(Err(rank)) => format!(in rt.alloc(); "out {rank}")?,
             Reply::OutOfMemory => format!(in rt.alloc(); "out of memory")?,
             Reply::Full => format!(in rt.alloc(); "full")?,
         };

@@ -7,7 +7,7 @@ mod output;
 mod reply;
 mod session;
 
-pub use commands::{Command, Reply, run};
+pub use commands::{Command, CommandOn, Reply, ReplyOf, run};
 pub use error::ServeError;
 pub use session::{parts_are_lines, serve};
 

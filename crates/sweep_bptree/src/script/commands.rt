@@ -1,44 +1,71 @@
 //! Commands on a tree, and their replies.
-ghost use Rattle.std.specs.Prelude.{◌≡◌, ◌↔◌, List, take, IsNone, vec_len};
-ghost use Rattle.sweep_bptree.specs.Steps.{Step, Run, reply_to_refusal};
+ghost use Rattle.std.specs.Prelude.{◌≡◌, ◌↔◌, take, IsNone, vec_len};
+ghost use Rattle.std.specs.Option.{option_map};
+ghost use Rattle.sweep_bptree.specs.Steps.{RepliesCopy, Step, Run, reply_to_refusal};
 
+use bptree_arguments::argument::{RankArgument, SearchArgument};
+use bptree_nodes::key::Key;
 use bptree_stores::node_stores::NodeStore;
-use bptree_tree::{BPlusTree, InsertError};
+use bptree_tree::{BPlusTree, InsertError, SelectError};
 use std::alloc::{AllocError, Global};
 
 /// What is asked of a tree.
 #[derive(Debug, Drop)]
-pub enum Command<K, V> {
+pub enum Command<K, V, Q> {
     /// Puts the value at the key.
     Insert(K, V),
     /// Looks the key up.
     Get(K),
     /// Replaces the value at the key, and puts nothing where the key is absent.
     Set(K, V),
+    /// Replaces the value at a place that is allowed for the query, and puts nothing where none is.
+    SetAt(Q, V),
     /// Asks for the first pair.
     First,
     /// Asks for the last pair.
     Last,
     /// Asks for the number of pairs.
     Len,
+    /// Asks for the pair at a place that is allowed for the query.
+    At(Q),
+    /// Asks for the rank of the key, which need not be present.
+    Rank(K),
 }
 
 /// What a command is answered.
 #[derive(Debug, Drop)]
-pub enum Reply<K, V> {
+pub enum Reply<K, V, R> {
     /// The value at the key, before the command.
     Value(Option<V>),
     /// A pair, with a clone of its key.
     Pair(Option<(K, V)>),
     /// A number of pairs.
     Number(usize),
+    /// Whether there was a value to replace.
+    Done(bool),
+    /// The rank of the key: `Ok` where it is present.
+    Rank(Result<R, R>),
     /// There was no memory, and nothing has changed.
     OutOfMemory,
     /// The tree has `usize::MAX` pairs and not this key, and nothing has changed.
     Full,
 }
 
-fn refused<K: Drop, V: Drop>(error: InsertError<K, V>) -> Reply<K, V>
+/// A command on the tree over a store.
+pub type CommandOn<S> = Command<
+    <S as NodeStore>::K,
+    <S as NodeStore>::V,
+    <<S as NodeStore>::Argument as SearchArgument<<S as NodeStore>::K>>::Query,
+>;
+
+/// A reply of the tree over a store.
+pub type ReplyOf<S> = Reply<
+    <S as NodeStore>::K,
+    <S as NodeStore>::V,
+    <<S as NodeStore>::Argument as RankArgument<<S as NodeStore>::K>>::Rank,
+>;
+
+fn refused<K: Drop, V: Drop, R>(error: InsertError<K, V>) -> Reply<K, V, R>
     ensures { result ≡ reply_to_refusal error }
 {
     match error {
@@ -47,9 +74,23 @@ fn refused<K: Drop, V: Drop>(error: InsertError<K, V>) -> Reply<K, V>
     }
 }
 
-fn insert<S: NodeStore>(tree: &mut BPlusTree<S>, key: S::K, value: S::V) -> Reply<S::K, S::V>
-    requires summaries { (a : S.Argument) → (keys : List S.K) → S.Argument.is_summary a keys }
-    ensures { Step S.K.cmp tree.old.contents (Command.Insert key value) result tree.new.contents }
+// A pair with a clone of its key.
+fn copied<K: Key, V: Copy, R>(pair: Option<(&K, &V)>) -> Reply<K, V, R>
+    ensures { RepliesCopy K.cmp (option_map (λ pair. (pair.0.now, pair.1.now)) pair.entry) result }
+{
+    let Some((key, value)) = pair else {
+        return Reply::Pair(None);
+    };
+    match key.clone() {
+        Ok(key) => Reply::Pair(Some((key, *value))),
+        Err(_) => Reply::OutOfMemory,
+    }
+}
+
+fn insert<S: NodeStore>(tree: &mut BPlusTree<S>, key: S::K, value: S::V) -> ReplyOf<S>
+where
+    S::Argument: SearchArgument<S::K> + RankArgument<S::K>,
+    ensures { Step S.K.cmp S.Argument.selects S.Argument.ranks tree.old.contents (Command.Insert key value) result tree.new.contents }
 {
     match tree.insert(key, value) {
         Ok(before) => Reply::Value(before),
@@ -57,72 +98,109 @@ fn insert<S: NodeStore>(tree: &mut BPlusTree<S>, key: S::K, value: S::V) -> Repl
     }
 }
 
-fn get<S: NodeStore>(tree: &BPlusTree<S>, key: S::K) -> Reply<S::K, S::V>
+fn get<S: NodeStore>(tree: &BPlusTree<S>, key: S::K) -> ReplyOf<S>
 where
     S::V: Copy,
-    ensures { Step S.K.cmp tree.now.contents (Command.Get key) result tree.now.contents }
+    S::Argument: SearchArgument<S::K> + RankArgument<S::K>,
+    ensures { Step S.K.cmp S.Argument.selects S.Argument.ranks tree.now.contents (Command.Get key) result tree.now.contents }
 {
     Reply::Value(tree.get(&key).copied())
 }
 
-fn set<S: NodeStore>(tree: &mut BPlusTree<S>, key: S::K, value: S::V) -> Reply<S::K, S::V>
+fn set<S: NodeStore>(tree: &mut BPlusTree<S>, key: S::K, value: S::V) -> ReplyOf<S>
 where
     S::V: Copy,
-    ensures { Step S.K.cmp tree.old.contents (Command.Set key value) result tree.new.contents }
+    S::Argument: SearchArgument<S::K> + RankArgument<S::K>,
+    ensures { Step S.K.cmp S.Argument.selects S.Argument.ranks tree.old.contents (Command.Set key value) result tree.new.contents }
 {
     let Some(held) = tree.get_mut(&key) else {
-        return Reply::Value(None);
+        return Reply::Done(false);
     };
-    let before = *held;
     *held = value;
-    Reply::Value(Some(before))
+    Reply::Done(true)
 }
 
-fn first<S: NodeStore>(tree: &BPlusTree<S>) -> Reply<S::K, S::V>
+fn set_at<S: NodeStore>(
+    tree: &mut BPlusTree<S>,
+    query: <S::Argument as SearchArgument<S::K>>::Query,
+    value: S::V,
+) -> ReplyOf<S>
 where
     S::V: Copy,
-    ensures { Step S.K.cmp tree.now.contents Command.First result tree.now.contents }
+    S::Argument: SearchArgument<S::K> + RankArgument<S::K>,
+    ensures { Step S.K.cmp S.Argument.selects S.Argument.ranks tree.old.contents (Command.SetAt query value) result tree.new.contents }
 {
-    let Some((key, value)) = tree.first() else {
-        return Reply::Pair(None);
-    };
-    match key.clone() {
-        Ok(key) => Reply::Pair(Some((key, *value))),
+    match tree.get_mut_by_argument(query) {
+        Ok(found) => {
+            *found = value;
+            Reply::Done(true)
+        }
+        Err(SelectError::NotFound) => Reply::Done(false),
+        Err(SelectError::OutOfMemory) => Reply::OutOfMemory,
+    }
+}
+
+fn first<S: NodeStore>(tree: &BPlusTree<S>) -> ReplyOf<S>
+where
+    S::V: Copy,
+    S::Argument: SearchArgument<S::K> + RankArgument<S::K>,
+    ensures { Step S.K.cmp S.Argument.selects S.Argument.ranks tree.now.contents Command.First result tree.now.contents }
+{
+    copied(tree.first())
+}
+
+fn last<S: NodeStore>(tree: &BPlusTree<S>) -> ReplyOf<S>
+where
+    S::V: Copy,
+    S::Argument: SearchArgument<S::K> + RankArgument<S::K>,
+    ensures { Step S.K.cmp S.Argument.selects S.Argument.ranks tree.now.contents Command.Last result tree.now.contents }
+{
+    copied(tree.last())
+}
+
+fn at<S: NodeStore>(
+    tree: &BPlusTree<S>,
+    query: <S::Argument as SearchArgument<S::K>>::Query,
+) -> ReplyOf<S>
+where
+    S::V: Copy,
+    S::Argument: SearchArgument<S::K> + RankArgument<S::K>,
+    ensures { Step S.K.cmp S.Argument.selects S.Argument.ranks tree.now.contents (Command.At query) result tree.now.contents }
+{
+    match tree.get_by_argument(query) {
+        Ok(pair) => copied(pair),
         Err(_) => Reply::OutOfMemory,
     }
 }
 
-fn last<S: NodeStore>(tree: &BPlusTree<S>) -> Reply<S::K, S::V>
+fn rank<S: NodeStore>(tree: &BPlusTree<S>, key: S::K) -> ReplyOf<S>
 where
-    S::V: Copy,
-    ensures { Step S.K.cmp tree.now.contents Command.Last result tree.now.contents }
+    S::Argument: SearchArgument<S::K> + RankArgument<S::K>,
+    ensures { Step S.K.cmp S.Argument.selects S.Argument.ranks tree.now.contents (Command.Rank key) result tree.now.contents }
 {
-    let Some((key, value)) = tree.last() else {
-        return Reply::Pair(None);
-    };
-    match key.clone() {
-        Ok(key) => Reply::Pair(Some((key, *value))),
+    match tree.rank_by_argument(&key) {
+        Ok(rank) => Reply::Rank(rank),
         Err(_) => Reply::OutOfMemory,
     }
 }
 
 // Carries out one command.
-fn carry_out<S: NodeStore>(
-    tree: &mut BPlusTree<S>,
-    command: Command<S::K, S::V>,
-) -> Reply<S::K, S::V>
+fn carry_out<S: NodeStore>(tree: &mut BPlusTree<S>, command: CommandOn<S>) -> ReplyOf<S>
 where
     S::V: Copy,
-    requires summaries { (a : S.Argument) → (keys : List S.K) → S.Argument.is_summary a keys }
-    ensures { Step S.K.cmp tree.old.contents command result tree.new.contents }
+    S::Argument: SearchArgument<S::K> + RankArgument<S::K>,
+    ensures { Step S.K.cmp S.Argument.selects S.Argument.ranks tree.old.contents command result tree.new.contents }
 {
     match command {
         Command::Insert(key, value) => insert(tree, key, value),
         Command::Get(key) => get(tree, key),
         Command::Set(key, value) => set(tree, key, value),
+        Command::SetAt(query, value) => set_at(tree, query, value),
         Command::First => first(tree),
         Command::Last => last(tree),
         Command::Len => Reply::Number(tree.len()),
+        Command::At(query) => at(tree, query),
+        Command::Rank(key) => rank(tree, key),
     }
 }
 
@@ -132,12 +210,12 @@ where
 pub fn run<S: NodeStore>(
     alloc: Global,
     tree: &mut BPlusTree<S>,
-    commands: Vec<Command<S::K, S::V>>,
-) -> (Vec<Reply<S::K, S::V>>, Option<AllocError>)
+    commands: Vec<CommandOn<S>>,
+) -> (Vec<ReplyOf<S>>, Option<AllocError>)
 where
     S::V: Copy,
-    requires summaries { (a : S.Argument) → (keys : List S.K) → S.Argument.is_summary a keys }
-    ensures run { Run S.K.cmp tree.old.contents (take (vec_len result.0) commands.items) result.0.items tree.new.contents }
+    S::Argument: SearchArgument<S::K> + RankArgument<S::K>,
+    ensures run { Run S.K.cmp S.Argument.selects S.Argument.ranks tree.old.contents (take (vec_len result.0) commands.items) result.0.items tree.new.contents }
     ensures all { IsNone result.1 ↔ (vec_len result.0 ≡ vec_len commands) }
 {
     let mut replies = Vec::new(alloc);

@@ -1,6 +1,5 @@
-use Rattle.std.proofs.Common.{◌≡◌, ◌∙◌, ◌++◌, ◌∷◌, [], ap, sym, append_assoc, length, length-append, arith, List}
+use Rattle.std.proofs.Common.{◌∙◌, ◌++◌, ◌∷◌, [], ap, sym, append_assoc, length-append, arith}
 use Rattle.std.specs.Vec.Iter.{into_iter_items}
-use Rattle.sweep_bptree.specs.Steps.{Run}
 use Rattle.sweep_bptree.proofs.RunLemmas.{Run-more}
 use Rattle.sweep_bptree.proofs.script.commands.run.Goals as goal
 
@@ -13,5 +12,5 @@ loop-command-preserved g c =
       tt,
       inv.2 ∙ ap (λ rest. done ++ rest) c.in-Some.ensures.steps.0 ∙ sym (append_assoc done (c.in-Some.command ∷ []) (into_iter_items c.next.new.self)),
       omega (arith, length-append done (c.in-Some.command ∷ []), c.push_reserved.ensures.len, c.reserve.ensures.len, inv.3),
-      rw (c.push_reserved.ensures.items, c.reserve.ensures.items) (Run-more _ done c.loop-command.replies.items _ _ _ _ _ inv.4 c.carry_out.ensures),
+      rw (c.push_reserved.ensures.items, c.reserve.ensures.items) (Run-more g.S.K.Ord.cmp g.S.Argument.SearchArgument.selects g.S.Argument.RankArgument.ranks done c.loop-command.replies.items _ _ _ _ _ inv.4 c.carry_out.ensures),
     )

@@ -9,4 +9,4 @@ invariant-loop-command g l =
     (goal.iterator-loop-command g).can_next l.command-iterator × (goal.iterator-loop-command g).is_finite l.command-iterator
     × (l.fn.commands.items ≡ l.yielded ++ into_iter_items l.command-iterator)
     × (vec_len l.replies ≡ length l.yielded)
-    × Run g.S.K.Ord.cmp l.initial.tree.contents l.yielded l.replies.items l.tree.contents
+    × Run g.S.K.Ord.cmp g.S.Argument.SearchArgument.selects g.S.Argument.RankArgument.ranks l.initial.tree.contents l.yielded l.replies.items l.tree.contents
