@@ -11,10 +11,10 @@ use Rattle.std.specs.Str.{all_ascii_digits}
 use Rattle.std.specs.Str.Parse.{digits_value}
 use Rattle.bptree_requests.proofs.NumberLemmas.{digits_model}
 use Rattle.bptree_requests.specs.Number.{number_of}
-use Rattle.bptree_requests.specs.Request.{words, bare_request_from, request_from, request_of, line_of, FitsRequest}
+use Rattle.bptree_requests.specs.Request.{words, bare_request_from, key_request_from, request_from, request_of, line_of, FitsRequest}
 use Rattle.bptree_requests.specs.declared.Request.{Request}
 use Rattle.bptree_requests.specs.declared.TheConstants.{LONGEST_LINE}
-use Rattle.bptree_requests.specs.declared.Request.TheVariants.{Put, Get, Len, All as AllPairs, First, Last}
+use Rattle.bptree_requests.specs.declared.Request.TheVariants.{Put, Get, Len, All as AllPairs, First, Last, At, Rank}
 
 -- a word that writes a number is its decimal text
 pub number_of-some : (word : List ℕ) (n : ℕ) → number_of word ≡ Some n → (word ≡ decimal n) × (n < 2 ^ 64)
@@ -76,6 +76,14 @@ request_of-line Len fits = refl
 request_of-line AllPairs fits = refl
 request_of-line First fits = refl
 request_of-line Last fits = refl
+request_of-line (At i) fits =
+    let di = digits_decimal digits_model i fits in
+    let e : words (line_of (At i)) ≡ codes "at" ∷ decimal i ∷ [] = ap (λ ws. codes "at" ∷ ws) (words_digits_end (decimal i) di) in
+    ap request_from e ∙ rw (number_of-decimal i fits) refl
+request_of-line (Rank k) fits =
+    let dk = digits_decimal digits_model k fits in
+    let e : words (line_of (Rank k)) ≡ codes "rank" ∷ decimal k ∷ [] = ap (λ ws. codes "rank" ∷ ws) (words_digits_end (decimal k) dk) in
+    ap request_from e ∙ rw (number_of-decimal k fits) refl
 
 put-some : (o p : Option ℕ) (r : Request) → option_and_then (λ k. option_map (λ v. Put k v) p) o ≡ Some r
     → (k : ℕ) × (v : ℕ) × (o ≡ Some k) × (p ≡ Some v) × (Put k v ≡ r)
@@ -83,14 +91,22 @@ put-some None p r h = absurd (cc h)
 put-some (Some k) None r h = absurd (cc h)
 put-some (Some k) (Some v) r h = (k, v, refl, refl, cc h)
 
-get-some : (o : Option ℕ) (r : Request) → option_map (λ k. Get k) o ≡ Some r → (k : ℕ) × (o ≡ Some k) × (Get k ≡ r)
-get-some None r h = absurd (cc h)
-get-some (Some k) r h = (k, refl, cc h)
+key-some : (make : ℕ → Request) (o : Option ℕ) (r : Request) → option_map make o ≡ Some r → (k : ℕ) × (o ≡ Some k) × (make k ≡ r)
+key-some make None r h = absurd (cc h)
+key-some make (Some k) r h = (k, refl, cc h)
 
-get-line : (name k : List ℕ) (n : ℕ) (r : Request) → name ≡ codes "get" → (k ≡ decimal n) × (n < 2 ^ 64) → Get n ≡ r
+same_line : (name text k digits : List ℕ) → name ≡ text → k ≡ digits → name ++ 32 ∷ k ≡ text ++ 32 ∷ digits
+same_line name text k digits e f = rw (e, f) refl
+
+-- a name and a word for a number that make a request are the line that writes it
+key-line : (name text k : List ℕ) (make : ℕ → Request) (r : Request) → bytes_eq name text ≡ true → option_map make (number_of k) ≡ Some r
+    → ((n : ℕ) → text ++ 32 ∷ decimal n ≡ line_of (make n)) → ((n : ℕ) → n < 2 ^ 64 → FitsRequest (make n))
     → (name ++ 32 ∷ k ≡ line_of r) × FitsRequest r
-get-line name k n r is number e = let P : Request → Type 0 = λ r. (name ++ 32 ∷ k ≡ line_of r) × FitsRequest r in
-    subst P e (rw (is, number.0) refl, number.1)
+key-line name text k make r same h writes fits =
+    let g = key-some make (number_of k) r h in
+    let number = number_of-some k g.0 g.1 in
+    let P : Request → Type 0 = λ r. (name ++ 32 ∷ k ≡ line_of r) × FitsRequest r in
+    subst P g.2 (same_line name text k (decimal g.0) ((bytes_eq-Decides name text).0 same) number.0 ∙ writes g.0, fits g.0 number.1)
 
 put-line : (name k v : List ℕ) (m n : ℕ) (r : Request) → name ≡ codes "put" → (k ≡ decimal m) × (m < 2 ^ 64) → (v ≡ decimal n) × (n < 2 ^ 64) → Put m n ≡ r
     → (name ++ 32 ∷ (k ++ 32 ∷ v) ≡ line_of r) × FitsRequest r
@@ -119,16 +135,23 @@ bare_request_from-some name r h = elim (cases_Bool (bytes_eq name (codes "len"))
   ]
 ]
 
+key_request_from-some : (name k : List ℕ) (r : Request) → key_request_from name (number_of k) ≡ Some r → (name ++ 32 ∷ k ≡ line_of r) × FitsRequest r
+key_request_from-some name k r h = elim (cases_Bool (bytes_eq name (codes "get"))) [
+  | inl e ↦ key-line name (codes "get") k (λ n. Get n) r e (rw e at h) (λ n. refl) (λ n small. small)
+  | inr e ↦ elim (cases_Bool (bytes_eq name (codes "at"))) [
+    | inl f ↦ key-line name (codes "at") k (λ n. At n) r f (rw (e, f) at h) (λ n. refl) (λ n small. small)
+    | inr f ↦ elim (cases_Bool (bytes_eq name (codes "rank"))) [
+      | inl g ↦ key-line name (codes "rank") k (λ n. Rank n) r g (rw (e, f, g) at h) (λ n. refl) (λ n small. small)
+      | inr g ↦ absurd (cc (rw (e, f, g) at h))
+    ]
+  ]
+]
+
 -- words that make a request are those of the line that writes it
 request_from-some : (ws : List (List ℕ)) (r : Request) → request_from ws ≡ Some r → (join_with_byte 32 ws ≡ line_of r) × FitsRequest r
 request_from-some [] r h = absurd (cc h)
 request_from-some (name ∷ []) r h = bare_request_from-some name r h
-request_from-some (name ∷ k ∷ []) r h = elim (cases_Bool (bytes_eq name (codes "get"))) [
-  | inl e ↦
-      let g = get-some (number_of k) r (rw e at h) in
-      get-line name k g.0 r ((bytes_eq-Decides name (codes "get")).0 e) (number_of-some k g.0 g.1) g.2
-  | inr e ↦ absurd (cc (rw e at h))
-]
+request_from-some (name ∷ k ∷ []) r h = key_request_from-some name k r h
 request_from-some (name ∷ k ∷ v ∷ []) r h = elim (cases_Bool (bytes_eq name (codes "put"))) [
   | inl e ↦
       let g = put-some (number_of k) (number_of v) r (rw e at h) in
@@ -155,6 +178,8 @@ length-line_of Len fits = omega arith
 length-line_of AllPairs fits = omega arith
 length-line_of First fits = omega arith
 length-line_of Last fits = omega arith
+length-line_of (At i) fits = let a = length-decimal-le 20 i (omega arith) (omega arith) fits in omega arith
+length-line_of (Rank k) fits = let a = length-decimal-le 20 k (omega arith) (omega arith) fits in omega arith
 
 option_none : (o : Option Request) → ((r : Request) → o ≡ Some r → ⊥) → o ≡ None
 option_none None h = refl

@@ -3,7 +3,7 @@ use Rattle.std.specs.Prelude.{ℕ, ◌<◌, ◌^◌, List, [], ◌∷◌, ◌++�
 use Rattle.std.specs.List.{slice_split}
 use Rattle.bptree_requests.specs.Number.{number_of}
 use Rattle.bptree_requests.specs.declared.Request.{Request}
-use Rattle.bptree_requests.specs.declared.Request.TheVariants.{Put, Get, Len, All, First, Last}
+use Rattle.bptree_requests.specs.declared.Request.TheVariants.{Put, Get, Len, All, First, Last, At, Rank}
 
 -- the line that writes a request
 abbrev pub line_of : Request → List ℕ
@@ -13,6 +13,8 @@ line_of Len = codes "len"
 line_of All = codes "all"
 line_of First = codes "first"
 line_of Last = codes "last"
+line_of (At i) = codes "at " ++ decimal i
+line_of (Rank k) = codes "rank " ++ decimal k
 
 -- its numbers fit 64 bits
 abbrev pub FitsRequest : Request → Type 0
@@ -22,6 +24,8 @@ FitsRequest Len = Unit {0}
 FitsRequest All = Unit {0}
 FitsRequest First = Unit {0}
 FitsRequest Last = Unit {0}
+FitsRequest (At i) = i < 2 ^ 64
+FitsRequest (Rank k) = k < 2 ^ 64
 
 -- the words of a line, with one space between two
 unfoldable pub words : List ℕ → List (List ℕ)
@@ -32,11 +36,16 @@ abbrev pub bare_request_from : List ℕ → Option Request
 bare_request_from name =
     if bytes_eq name (codes "len") then Some Len else (if bytes_eq name (codes "all") then Some All else (if bytes_eq name (codes "first") then Some First else (if bytes_eq name (codes "last") then Some Last else None)))
 
+-- the request that a command's name and one number make
+abbrev pub key_request_from : List ℕ → Option ℕ → Option Request
+key_request_from name key =
+    if bytes_eq name (codes "get") then option_map (λ k. Get k) key else (if bytes_eq name (codes "at") then option_map (λ i. At i) key else (if bytes_eq name (codes "rank") then option_map (λ k. Rank k) key else None))
+
 -- the request that a command's name and its words make
 abbrev pub request_from : List (List ℕ) → Option Request
 request_from [] = None
 request_from (name ∷ []) = bare_request_from name
-request_from (name ∷ k ∷ []) = if bytes_eq name (codes "get") then option_map (λ k. Get k) (number_of k) else None
+request_from (name ∷ k ∷ []) = key_request_from name (number_of k)
 request_from (name ∷ k ∷ v ∷ []) =
     if bytes_eq name (codes "put") then option_and_then (λ k. option_map (λ v. Put k v) (number_of v)) (number_of k) else None
 request_from (name ∷ k ∷ v ∷ more ∷ rest) = None

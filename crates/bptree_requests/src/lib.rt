@@ -25,6 +25,10 @@ pub enum Request {
     First,
     /// `last`: the pair with the greatest key.
     Last,
+    /// `at i`: the pair at place i.
+    At(u64),
+    /// `rank k`: the number of smaller keys, and whether k is present.
+    Rank(u64),
 }
 
 /// The number that a word writes: `0`, or a digit 1 to 9 and then digits, below 2 to the power of 64. A sign, a leading
@@ -109,6 +113,10 @@ fn key_request(name: &[u8], key: &[u8]) -> Option<Request>
 {
     if name == b"get".as_slice() {
         Some(Request::Get(number(key)?))
+    } else if name == b"at".as_slice() {
+        Some(Request::At(number(key)?))
+    } else if name == b"rank".as_slice() {
+        Some(Request::Rank(number(key)?))
     } else {
         None
     }

@@ -1,11 +1,13 @@
 -- What is answered to lines.
 use Rattle.std.specs.Prelude.{ℕ, ◌-◌, ◌^◌, ◌==◌, ◌&&◌, not, List, [], ◌∷◌, ◌++◌, length, map, Bool, true, false, if◌then◌else◌, Option, Some, None, codes, decimal, slice_get}
 use Rattle.std.specs.List.{join_with_byte}
+use Rattle.std.specs.Map.{keys_of}
 use Rattle.std.specs.Ordering.{nat_cmp}
+use Rattle.bptree_arguments.specs.CountLaws.{count_below}
 use Rattle.bptree_nodes.specs.Contents.{has, value, put}
 use Rattle.bptree_requests.specs.Request.{request_of}
 use Rattle.bptree_requests.specs.declared.Request.{Request}
-use Rattle.bptree_requests.specs.declared.Request.TheVariants.{Put, Get, Len, All, First, Last}
+use Rattle.bptree_requests.specs.declared.Request.TheVariants.{Put, Get, Len, All, First, Last, At, Rank}
 use Rattle.sweep_bptree.specs.Lines.{lines_of}
 
 abbrev pub value_text : Option ℕ → List ℕ
@@ -34,6 +36,11 @@ abbrev pub found_text : Option (ℕ × ℕ) → List ℕ
 found_text None = codes "none"
 found_text (Some pair) = pair_text pair
 
+-- whether the key is there, and how many keys are smaller
+abbrev pub rank_text : Bool → ℕ → List ℕ
+rank_text true smaller = codes "in " ++ decimal smaller
+rank_text false smaller = codes "out " ++ decimal smaller
+
 -- all pairs, with a comma between two
 abbrev pub pairs_text : List (ℕ × ℕ) → List ℕ
 pairs_text [] = codes "empty"
@@ -53,6 +60,8 @@ reply_to pairs (Some Len) = decimal (length pairs)
 reply_to pairs (Some All) = pairs_text pairs
 reply_to pairs (Some First) = found_text (slice_get pairs 0)
 reply_to pairs (Some Last) = found_text (slice_get pairs (length pairs - 1))
+reply_to pairs (Some (At i)) = found_text (slice_get pairs i)
+reply_to pairs (Some (Rank key)) = rank_text (has nat_cmp pairs key) (count_below nat_cmp key (keys_of pairs))
 
 -- the pairs after it
 abbrev pub pairs_with : List (ℕ × ℕ) → Option Request → List (ℕ × ℕ)
@@ -63,6 +72,8 @@ pairs_with pairs (Some Len) = pairs
 pairs_with pairs (Some All) = pairs
 pairs_with pairs (Some First) = pairs
 pairs_with pairs (Some Last) = pairs
+pairs_with pairs (Some (At i)) = pairs
+pairs_with pairs (Some (Rank key)) = pairs
 
 -- the answer to a line, and the pairs after it
 unfoldable pub answer : List (ℕ × ℕ) → List ℕ → List ℕ

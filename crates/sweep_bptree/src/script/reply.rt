@@ -1,24 +1,30 @@
 // The answers to lines.
-ghost use Rattle.std.specs.Prelude.{◌≡◌, [], ◌∷◌, ◌++◌, codes, decimal, OnOk, option_map};
+ghost use Rattle.std.specs.Prelude.{◌≡◌, ◌≤◌, [], ◌∷◌, ◌++◌, codes, decimal, length, OnOk, option_map, slice_get};
+ghost use Rattle.std.specs.Map.{keys_of};
 ghost use Rattle.std.specs.Ordering.{nat_cmp};
-ghost use Rattle.bptree_nodes.specs.Contents.{value};
+ghost use Rattle.bptree_arguments.specs.CountLaws.{count_below};
+ghost use Rattle.bptree_nodes.specs.Contents.{has, value};
 ghost use Rattle.bptree_requests.specs.Request.{request_of};
-ghost use Rattle.sweep_bptree.specs.Answers.{pair_text, found_text, item_text, pairs_text, old_text, value_text, put_text, pairs_with_put, reply_to, pairs_with, answer, pairs_after};
+ghost use Rattle.sweep_bptree.specs.Answers.{pair_text, found_text, item_text, pairs_text, rank_text, old_text, value_text, put_text, pairs_with_put, reply_to, pairs_with, answer, pairs_after};
 ghost use Rattle.sweep_bptree.specs.Sent.{SendsOrFails, Replies};
 
 use crate::script::error::ServeError;
 use crate::script::output::{Held, send};
 use crate::tree::{BPlusTree, InsertError, NodeStoreVec};
 use arrayvec::ArrayString;
+use bptree_arguments::count::Count;
 use bptree_requests::{Request, read_request};
 use std::fmt::Write as _;
 use std::io::Write;
 
 /// The tree that lines are carried out on.
-pub type NumberTree = BPlusTree<NodeStoreVec<u64, u64>>;
+pub type NumberTree = BPlusTree<NodeStoreVec<u64, u64, Count>>;
 
 /// How many digits the greatest number has.
 const DIGITS: usize = 20;
+
+/// How many bytes a label before a number has at most.
+const LABEL: usize = 4;
 
 fn send_number<W: Write>(writer: &mut W, held: &mut Held, n: u64) -> Result<(), ServeError>
     ensures { SendsOrFails (W.contents writer.old) (W.contents writer.new)
@@ -32,16 +38,28 @@ fn send_number<W: Write>(writer: &mut W, held: &mut Held, n: u64) -> Result<(), 
     }
 }
 
+// A label, and then a number.
+fn send_labelled<W: Write>(
+    writer: &mut W,
+    held: &mut Held,
+    label: &[u8],
+    n: u64,
+) -> Result<(), ServeError>
+    requires { length label.now ≤ LABEL }
+    ensures { SendsOrFails (W.contents writer.old) (W.contents writer.new)
+        held.old.items held.new.items (label.now ++ decimal n) result }
+{
+    send(writer, held, label)?;
+    send_number(writer, held, n)
+}
+
 fn send_old<W: Write>(writer: &mut W, held: &mut Held, old: Option<u64>) -> Result<(), ServeError>
     ensures { SendsOrFails (W.contents writer.old) (W.contents writer.new)
         held.old.items held.new.items (old_text old) result }
 {
     match old {
         None => send(writer, held, b"new"),
-        Some(old) => {
-            send(writer, held, b"old ")?;
-            send_number(writer, held, old)
-        }
+        Some(old) => send_labelled(writer, held, b"old ", old),
     }
 }
 
@@ -124,6 +142,39 @@ fn send_pairs<W: Write>(
     Ok(())
 }
 
+// The pair at a place, if there is one.
+fn send_place<W: Write>(
+    writer: &mut W,
+    held: &mut Held,
+    tree: &NumberTree,
+    place: u64,
+) -> Result<(), ServeError>
+    ensures { Replies (W.contents writer.old) (W.contents writer.new)
+        held.old.items held.new.items (found_text (slice_get tree.now.contents place)) result }
+{
+    match tree.get_by_argument(place as usize) {
+        Ok(pair) => send_found(writer, held, pair),
+        Err(_) => Err(ServeError::OutOfMemory),
+    }
+}
+
+// Whether a key is there, and how many keys are smaller.
+fn send_rank<W: Write>(
+    writer: &mut W,
+    held: &mut Held,
+    tree: &NumberTree,
+    key: u64,
+) -> Result<(), ServeError>
+    ensures { Replies (W.contents writer.old) (W.contents writer.new) held.old.items held.new.items
+        (rank_text (has nat_cmp tree.now.contents key) (count_below nat_cmp key (keys_of tree.now.contents))) result }
+{
+    match tree.rank_by_argument(&key) {
+        Ok(Ok(smaller)) => send_labelled(writer, held, b"in ", smaller as u64),
+        Ok(Err(smaller)) => send_labelled(writer, held, b"out ", smaller as u64),
+        Err(_) => Err(ServeError::OutOfMemory),
+    }
+}
+
 fn put_pair<W: Write>(
     tree: &mut NumberTree,
     key: u64,
@@ -160,6 +211,8 @@ fn carry_out<W: Write>(
         Request::All => send_pairs(writer, held, tree),
         Request::First => send_found(writer, held, tree.first()),
         Request::Last => send_found(writer, held, tree.last()),
+        Request::At(place) => send_place(writer, held, tree, place),
+        Request::Rank(key) => send_rank(writer, held, tree, key),
     }
 }
 

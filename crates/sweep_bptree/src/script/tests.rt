@@ -68,6 +68,11 @@ const INPUT: &str = "put 2 20\nput 1 10\nput 2 21\nget 2\nget 3\nlen\nall\nget 0
 
 const OUTPUT: &str = "new\nnew\nold 20\n21\nnone\n2\n1 10,2 21\nbad\n";
 
+const RANKS: &str =
+    "put 2 20\nput 1 10\nput 2 21\nrank 2\nrank 3\nat 0\nat 1\nat 2\nrank 0\nall\nget 01x\n";
+
+const RANKED: &str = "new\nnew\nold 20\nin 1\nout 2\n1 10\n2 21\nnone\nout 0\n1 10,2 21\nbad\n";
+
 // The answers to a whole input.
 fn answers_to(rt: &impl Abort, alloc: Global, input: &[u8]) -> Vec<u8> {
     let mut source = input;
@@ -88,6 +93,15 @@ fn inputs(rt: HostRuntime) {
             "new\n7 70\n7 70\nnew\nnew\nold 0\n2 20\n11 110\n3\n",
         ),
         (INPUT, OUTPUT),
+        (RANKS, RANKED),
+        (
+            "at 0\nrank 1\nat 18446744073709551615\n",
+            "none\nout 0\nnone\n",
+        ),
+        (
+            "put 18446744073709551615 1\nput 0 2\nrank 18446744073709551615\nrank 1\nat 1\nput 0 3\nat 0\nat 2\n",
+            "new\nnew\nin 1\nout 1\n18446744073709551615 1\nold 2\n0 3\nnone\n",
+        ),
         (
             "put 0 18446744073709551615\nput 18446744073709551615 0\nall\nget 18446744073709551615\nget 0",
             "new\nnew\n0 18446744073709551615,18446744073709551615 0\n0\n18446744073709551615\n",
@@ -126,6 +140,16 @@ fn bad_lines(rt: HostRuntime) -> Result<(), Fail> {
         b"last ",
         b"First",
         b"lasts",
+        b"at",
+        b"at ",
+        b"at 01",
+        b"at 1 2",
+        b"At 0",
+        b"at 18446744073709551616",
+        b"rank",
+        b"rank 1 2",
+        b"rank 01",
+        b"ranks 1",
         b"get 01",
         b"get +1",
         b"get -0",
