@@ -1,6 +1,7 @@
 //! An ordered map in memory, kept in a B+ tree, with lists of commands and lines of text over it.
 #![tactic(auto)]
 
+pub mod argument;
 #[cfg(test)]
 mod run_tests;
 pub mod script;

@@ -1,5 +1,7 @@
 //! The tree, its nodes, its stores and its iterators.
 
+pub use bptree_arguments::argument::{Argument, RankArgument, SearchArgument};
+pub use bptree_arguments::count;
 pub use bptree_nodes::inner_node::{InnerMergeResult, InnerNode};
 pub use bptree_nodes::key::{Key, Tuple2};
 pub use bptree_nodes::leaf_node::{LeafDeleteResult, LeafNode, LeafUpsertResult};
@@ -9,4 +11,4 @@ pub use bptree_stores::node_store_vec::NodeStoreVec;
 pub use bptree_stores::node_stores;
 pub use bptree_stores::node_stores::{CloneStore, NodeStore};
 pub use bptree_tree::iterator::Iter;
-pub use bptree_tree::{BPlusTree, InsertError, iterator};
+pub use bptree_tree::{BPlusTree, InsertError, SelectError, iterator};
