@@ -12,6 +12,8 @@ mod insertion_tests;
 pub mod iterator;
 pub mod node_changes;
 pub mod reading;
+#[cfg(test)]
+mod summary_tests;
 pub mod tree;
 
 pub use tree::BPlusTree;
