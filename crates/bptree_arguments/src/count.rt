@@ -1,5 +1,5 @@
 //! Counts of keys: a tree that keeps them finds a key by its place, and ranks a key among all.
-ghost use Rattle.std.specs.Prelude.{◌≡◌, ◌-◌, ◌^◌, List, length, min, IfOk};
+ghost use Rattle.std.specs.Prelude.{◌≡◌, ◌+◌, ◌-◌, ◌^◌, List, length, min, IfOk};
 ghost use Rattle.std.specs.List.{sum_by, AllZip};
 ghost use Rattle.std.proofs.Common.{rules};
 ghost use Rattle.bptree_arguments.specs.CountLaws.{SelectsPlace, count_below};
@@ -22,6 +22,22 @@ impl Count {
     }
 }
 
+/// The counts added to a number, or the greatest `usize` where that is less. The sum is wide enough for every slice, so
+/// that it is cut down once, at the end, and a step is one addition.
+fn total_of(start: usize, arguments: &[Count]) -> usize
+    ensures { result ≡ min (start + sum_by (λ b. b.0) arguments.now) (2 ^ 64 - 1) }
+{
+    let mut total = start as u128;
+    for argument in arguments {
+        total += argument.0 as u128;
+    }
+    if total > usize::MAX as u128 {
+        usize::MAX
+    } else {
+        total as usize
+    }
+}
+
 /// The number of keys, exact. No memory is asked for, so nothing fails.
 impl<K: Key> Argument<K> for Count {
     ghost is_summary = { λ a keys. a.0 ≡ length keys };
@@ -36,11 +52,7 @@ impl<K: Key> Argument<K> for Count {
         ensures summary { IfOk result (λ a. (pieces : List (List K)) → ArePieces K.cmp pieces → AllZip (λ b keys. b.0 ≡ length keys) arguments.now pieces → a.0 ≡ length (flatten pieces)) }
         ensures capped { IfOk result (λ a. a.0 ≡ min (sum_by (λ b. b.0) arguments.now) (2 ^ 64 - 1)) }
     {
-        let mut total = 0usize;
-        for argument in arguments {
-            total = total.saturating_add(argument.0);
-        }
-        Ok(Count(total))
+        Ok(Count(total_of(0, arguments)))
     }
 
     ghost default_is_summary = { λ _ h. Prim.search rules };
@@ -91,11 +103,7 @@ impl<K: Key> RankArgument<K> for Count {
 
     /// One step a child.
     fn fold_inner(_k: &K, rank: usize, arguments: &[Count]) -> Result<usize, AllocError> {
-        let mut next = rank;
-        for argument in arguments {
-            next = next.saturating_add(argument.0);
-        }
-        Ok(next)
+        Ok(total_of(rank, arguments))
     }
 
     fn fold_leaf(
