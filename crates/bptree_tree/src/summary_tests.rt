@@ -289,6 +289,20 @@ fn assert_same_inner(rt: &impl Abort, tree: &Tree<Barred>, wanted: &Tree<Barred>
     assert_eq!(rt; node.child_id(node.len()), other.child_id(other.len()));
 }
 
+// How many pairs the greatest leaf has.
+fn greatest_leaf(tree: &Tree<Barred>) -> usize {
+    let mut greatest: usize = 0;
+    for number in 0..100 {
+        if let Some(leaf) = tree
+            .node_store()
+            .try_get_leaf(LeafNodeId::from_usize(number))
+        {
+            greatest = greatest.max(leaf.len());
+        }
+    }
+    greatest
+}
+
 // Asserts that a pair is handed back for want of memory.
 fn assert_refused(rt: &impl Abort, tree: &mut Tree<Barred>, key: u64) {
     match tree.insert(key, value_of(key)) {
@@ -301,23 +315,23 @@ fn assert_refused(rt: &impl Abort, tree: &mut Tree<Barred>, key: u64) {
 
 #[test]
 fn refused_summaries_change_nothing(rt: HostRuntime) -> Result<(), Fail> {
-    // How many pairs, the height, and the greatest remainder that is refused. With 64, 96, 2112 and 2144 pairs one leaf is
-    // full; with 2112 the root has 65 children. A full node has a part on its level that is refused, and a full root gets a
-    // level above it.
-    for (len, height, greatest) in [
-        (10, 0, 1),
-        (64, 0, 2),
-        (65, 1, 2),
-        (96, 1, 2),
-        (2112, 1, 3),
-        (2113, 2, 3),
-        (2144, 2, 3),
+    // How many pairs, those of the greatest leaf, the height, and the greatest remainder that is refused. Where that leaf is
+    // full it is split; so is the root, which with 2112 pairs has 65 children, and a new root is the level above it.
+    for (len, most, height, greatest) in [
+        (10, 10, 0, 1),
+        (64, 64, 0, 2),
+        (65, 33, 1, 2),
+        (96, 64, 1, 2),
+        (2112, 64, 1, 3),
+        (2113, 33, 2, 3),
+        (2144, 64, 2, 3),
     ] {
         for downward in [false, true] {
+            // This one is never refused a pair.
             let wanted = multiples(&rt, rt.alloc(), len, downward)?;
             let mut tree = multiples(&rt, rt.alloc(), len, downward)?;
-            assert_eq!(rt; tree.height(), height);
-            // In the leaf that was filled last.
+            assert_eq!(rt; (greatest_leaf(&tree), tree.height()), (most, height));
+            // In that leaf, which was filled last.
             let edge = if downward { 4 } else { len.wrapping_mul(4) };
             for remainder in 1..=greatest {
                 assert_refused(&rt, &mut tree, edge.wrapping_add(remainder));
