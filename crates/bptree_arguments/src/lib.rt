@@ -3,7 +3,3 @@
 
 pub mod argument;
 pub mod count;
-#[cfg(test)]
-mod count_tests;
-#[cfg(test)]
-mod tests;

@@ -4,5 +4,3 @@
 pub mod node_store_vec;
 pub mod node_stores;
 mod place;
-#[cfg(test)]
-mod store_tests;

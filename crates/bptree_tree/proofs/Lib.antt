@@ -23,7 +23,6 @@ pub mod Spans
 pub mod Spot
 pub mod Started
 pub mod Summed
-pub mod ThreeLeaves
 pub mod Undone
 pub mod Upserted
 pub mod Walk

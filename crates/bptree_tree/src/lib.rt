@@ -3,17 +3,11 @@
 
 pub mod ascent;
 pub mod by_argument;
-#[cfg(test)]
-mod by_argument_tests;
 pub mod descent;
 pub mod insertion;
-#[cfg(test)]
-mod insertion_tests;
 pub mod iterator;
 pub mod node_changes;
 pub mod reading;
-#[cfg(test)]
-mod summary_tests;
 pub mod tree;
 
 pub use tree::BPlusTree;

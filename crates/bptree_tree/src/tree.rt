@@ -9,8 +9,6 @@ ghost use Rattle.bptree_tree.specs.Refusal.{pair_of};
 ghost use Rattle.bptree_tree.specs.Shape.{IsWellShaped};
 
 mod queries;
-#[cfg(test)]
-pub(crate) mod reading_tests;
 
 use crate::descent::{first_leaf, last_leaf};
 use crate::insertion::{Put, upsert};

@@ -2,8 +2,6 @@
 #![tactic(auto)]
 
 pub mod argument;
-#[cfg(test)]
-mod run_tests;
 pub mod script;
 pub mod tree;
 

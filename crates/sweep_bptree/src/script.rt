@@ -10,6 +10,3 @@ mod session;
 pub use commands::{Command, CommandOn, Reply, ReplyOf, run};
 pub use error::ServeError;
 pub use session::{parts_are_lines, serve};
-
-#[cfg(test)]
-mod tests;

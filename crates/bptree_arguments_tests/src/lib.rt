@@ -1,0 +1,8 @@
+//! Tests of arguments, and an argument of their own.
+#![tactic(auto)]
+
+#[cfg(test)]
+mod argument_tests;
+#[cfg(test)]
+mod count_tests;
+pub mod even_count;

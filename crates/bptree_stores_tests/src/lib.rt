@@ -1,0 +1,5 @@
+//! Tests of the stores of nodes.
+#![tactic(auto)]
+
+#[cfg(test)]
+mod store_tests;

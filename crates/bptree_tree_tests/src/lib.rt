@@ -1,0 +1,11 @@
+//! Tests of trees: what they answer, their shape, and their summaries.
+#![tactic(auto)]
+
+#[cfg(test)]
+mod by_argument_tests;
+#[cfg(test)]
+mod insertion_tests;
+#[cfg(test)]
+mod reading_tests;
+#[cfg(test)]
+mod summary_tests;

@@ -1,0 +1,7 @@
+//! Tests of lists of commands, and of lines of text.
+#![tactic(auto)]
+
+#[cfg(test)]
+mod run_tests;
+#[cfg(test)]
+mod serve_tests;
