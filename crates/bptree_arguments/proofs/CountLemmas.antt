@@ -5,8 +5,8 @@ use Rattle.std.proofs.lemmas.List.Elements.{filter-append}
 use Rattle.std.proofs.lemmas.List.Sums.{sum_by-cons}
 use Rattle.bptree_arguments.specs.CountLaws.{SelectsPlace}
 use Rattle.bptree_arguments.specs.Selection.{IsPlaceIn, LeadsTo, moved_by}
-use Rattle.bptree_nodes.specs.Pieces.{flatten, piece_at, start_of}
-use Rattle.bptree_nodes.proofs.PieceLemmas.{AllZip-take, AllZip-at, AllZip-length, start_of-below}
+use Rattle.bptree_keys.specs.Pieces.{flatten, piece_at, start_of}
+use Rattle.bptree_keys.proofs.PieceLemmas.{AllZip-take, AllZip-at, AllZip-length, start_of-below}
 
 module _ {A K : Type 0} (f : A → ℕ) where
   -- where each number is the length of its piece, their sum is the length of the whole

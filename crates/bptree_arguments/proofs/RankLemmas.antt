@@ -8,7 +8,7 @@ use Rattle.std.proofs.lemmas.List.Elements.{filter-append}
 use Rattle.std.proofs.lemmas.List.Sums.{length-filter, count_by-le-length}
 use Rattle.bptree_arguments.specs.CountLaws.{count_below}
 use Rattle.bptree_arguments.specs.Ranks.{AllAbove, AllBelow, IsSlotOf, SplitsAt}
-use Rattle.bptree_nodes.proofs.PieceLemmas.{AllByRecursion-append, AllByRecursion-weaker}
+use Rattle.bptree_keys.proofs.PieceLemmas.{AllByRecursion-append, AllByRecursion-weaker}
 
 -- a test that every element passes keeps the list, and one that none passes keeps nothing
 module _ {X : Type 0} (p : X → Bool) where

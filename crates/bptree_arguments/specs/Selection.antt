@@ -1,6 +1,6 @@
 -- What a query selects: a place in a list of keys, or none.
 use Rattle.std.specs.Prelude.{ℕ, ◌+◌, ◌<◌, List, length, Option, Some, None, MatchOption, ⊤}
-use Rattle.bptree_nodes.specs.Pieces.{flatten, piece_at, start_of}
+use Rattle.bptree_keys.specs.Pieces.{flatten, piece_at, start_of}
 
 -- a place below the length, or none
 abbrev pub IsPlaceIn : {X : Type 0} → List X → Option ℕ → Type 0

@@ -4,9 +4,9 @@ ghost use Rattle.std.specs.List.{AllZip};
 ghost use Rattle.std.specs.List.Sorted.{IsStrictlySortedBy};
 ghost use Rattle.bptree_arguments.specs.Ranks.{AllAbove, AllBelow, IsSlotOf};
 ghost use Rattle.bptree_arguments.specs.Selection.{IsPlaceIn, LeadsTo};
-ghost use Rattle.bptree_nodes.specs.Pieces.{AllNonEmpty, ArePieces, flatten};
+ghost use Rattle.bptree_keys.specs.Pieces.{AllNonEmpty, ArePieces, flatten};
 
-use bptree_nodes::key::Key;
+use bptree_keys::key::Key;
 use std::alloc::AllocError;
 
 /// What an inner node keeps of each child: a summary of the keys below it. The default is a summary of no keys.

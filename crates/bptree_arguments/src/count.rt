@@ -3,10 +3,10 @@ ghost use Rattle.std.specs.Prelude.{◌≡◌, ◌+◌, ◌-◌, ◌^◌, List, 
 ghost use Rattle.std.specs.List.{sum_by, AllZip};
 ghost use Rattle.std.proofs.Common.{rules};
 ghost use Rattle.bptree_arguments.specs.CountLaws.{SelectsPlace, count_below};
-ghost use Rattle.bptree_nodes.specs.Pieces.{ArePieces, flatten};
+ghost use Rattle.bptree_keys.specs.Pieces.{ArePieces, flatten};
 
 use crate::argument::{Argument, RankArgument, SearchArgument};
-use bptree_nodes::key::Key;
+use bptree_keys::key::Key;
 use std::alloc::AllocError;
 
 /// The number of keys below a child. The default counts no key.

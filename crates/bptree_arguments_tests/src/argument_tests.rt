@@ -2,7 +2,7 @@
 ghost use Rattle.std.specs.Prelude.{⊤};
 
 use bptree_arguments::argument::Argument;
-use bptree_nodes::key::Key;
+use bptree_keys::key::Key;
 use std::alloc::{AllocError, Global};
 use std::test::Fail;
 

@@ -7,7 +7,7 @@ ghost use Rattle.bptree_arguments.specs.Ranks.{IsSlotOf};
 use crate::even_count::EvenCount;
 use bptree_arguments::argument::{Argument, RankArgument, SearchArgument};
 use bptree_arguments::count::Count;
-use bptree_nodes::key::Key;
+use bptree_keys::key::Key;
 use std::alloc::AllocError;
 use std::test::Fail;
 

@@ -11,14 +11,14 @@ use Rattle.std.proofs.lemmas.List.{append-nil, length-take-le}
 use Rattle.std.proofs.lemmas.Map.Keys.{sorted_tail}
 use Rattle.std.proofs.lemmas.Map.Entries.{length-keys_of}
 use Rattle.std.proofs.lemmas.Option.{get_or_from_slice_get}
-use Rattle.bptree_nodes.specs.Contents.{IsAscending, below, pairs_below, has, value, put}
+use Rattle.bptree_keys.specs.Contents.{IsAscending, below, pairs_below, has, value, put}
 use Rattle.bptree_nodes.specs.Leaf.{set_value_at}
 use Rattle.bptree_nodes.specs.LeafResults.{HasEqualAt}
-use Rattle.bptree_nodes.specs.Locate.{one_later, locate_by, locate}
-use Rattle.bptree_nodes.specs.Places.{IsPlaceOf}
-use Rattle.bptree_nodes.proofs.Ascending.{greater_after}
-use Rattle.bptree_nodes.proofs.Found.{hit_at, replaced}
-use Rattle.bptree_nodes.proofs.Parted.{filter_none, has_past, pairs_below_hit}
+use Rattle.bptree_keys.specs.Locate.{one_later, locate_by, locate}
+use Rattle.bptree_keys.specs.Places.{IsPlaceOf}
+use Rattle.bptree_keys.proofs.Ascending.{greater_after}
+use Rattle.bptree_keys.proofs.Found.{hit_at, replaced}
+use Rattle.bptree_keys.proofs.Parted.{filter_none, has_past, pairs_below_hit}
 
 -- an equal key at a place is the key of the pair there
 module _ {K V : Type 0} (cmp : K → K → Ordering) (k : K) where

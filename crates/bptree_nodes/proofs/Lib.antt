@@ -1,16 +1,6 @@
-pub mod Around
-pub mod Ascending
-pub mod Equal
-pub mod Found
 pub mod Inverses
 pub mod Iterables
-pub mod Laws
 pub mod LeafContents
-pub mod Locating
 pub mod Pairs
-pub mod Parted
-pub mod PieceLemmas
 pub mod Separators
 pub mod Splits
-pub mod Steps
-pub mod Updates

@@ -2,7 +2,7 @@
 use Rattle.std.proofs.Common.{◌≡◌, ℕ, ◌+◌, ◌-◌, ◌<◌, ◌≤◌, zero, suc, List, [], ◌∷◌, ◌++◌, length, take, drop, refl, sym, ap, ◌∙◌, arith, Some}
 use Rattle.std.specs.List.{insert, slice_get}
 use Rattle.std.proofs.lemmas.List.{take-append-drop, take-take}
-use Rattle.bptree_nodes.specs.declared.node_id.NodeId.{NodeId}
+use Rattle.bptree_keys.specs.declared.node_id.NodeId.{NodeId}
 use Rattle.bptree_nodes.specs.Inner.{Inner, SplitsByTable}
 use Rattle.bptree_nodes.proofs.Pairs.{parts, slice_get-take}
 

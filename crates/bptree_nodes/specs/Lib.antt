@@ -1,13 +1,7 @@
 pub mod Clones
-pub mod Contents
 pub mod Inner
-pub mod Keys
 pub mod Leaf
 pub mod LeafLends
 pub mod LeafResults
-pub mod Locate
-pub mod Numbers
-pub mod Pieces
-pub mod Places
 pub mod Slot
 pub mod Taken

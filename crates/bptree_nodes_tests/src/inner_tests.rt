@@ -2,8 +2,8 @@
 ghost use Rattle.std.specs.Prelude.{◌≡◌, ◌<◌, ◌≤◌, ◌+◌, length, vec_len, IfOk};
 ghost use Rattle.bptree_nodes.specs.Inner.{HasKeys};
 
+use bptree_keys::node_id::{LeafNodeId, NodeId};
 use bptree_nodes::inner_node::{InnerMergeResult, InnerNode};
-use bptree_nodes::node_id::{LeafNodeId, NodeId};
 use std::alloc::{AllocError, Global};
 use std::cell::Cell;
 use std::process::Abort;

@@ -1,8 +1,8 @@
 //! Worked splits, merges and searches of a leaf, and what a dropped leaf drops.
 ghost use Rattle.std.specs.Prelude.{◌≡◌, length};
 
+use bptree_keys::node_id::LeafNodeId;
 use bptree_nodes::leaf_node::{LeafDeleteResult, LeafNode, LeafUpsertResult};
-use bptree_nodes::node_id::LeafNodeId;
 use std::alloc::{AllocError, Global};
 use std::cell::Cell;
 use std::process::Abort;

@@ -1,6 +1,6 @@
 //! Numbers of nodes, and the path to an entry.
-use bptree_nodes::entry_ref::{EntryRef, VisitStack};
-use bptree_nodes::node_id::{InnerNodeId, LeafNodeId, NodeId, order_of};
+use bptree_keys::entry_ref::{EntryRef, VisitStack};
+use bptree_keys::node_id::{InnerNodeId, LeafNodeId, NodeId, order_of};
 use std::cmp::Ordering;
 
 fn inner(number: usize) -> NodeId {

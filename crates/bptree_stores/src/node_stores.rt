@@ -9,10 +9,10 @@ ghost use Rattle.bptree_nodes.specs.contracts.leaf_node.LeafNode.{the_row as lea
 ghost use Rattle.bptree_stores.specs.Hint.{HoldsKey};
 
 use bptree_arguments::argument::Argument;
+use bptree_keys::key::Key;
+use bptree_keys::node_id::{InnerNodeId, LeafNodeId};
 use bptree_nodes::inner_node::InnerNode;
-use bptree_nodes::key::Key;
 use bptree_nodes::leaf_node::LeafNode;
-use bptree_nodes::node_id::{InnerNodeId, LeafNodeId};
 use std::alloc::{AllocError, Global};
 
 /// Inner nodes and leaves, each under a number. A number is free, held, or present with its node.

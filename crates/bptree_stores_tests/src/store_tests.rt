@@ -6,10 +6,10 @@ ghost use Rattle.bptree_nodes.specs.Leaf.{Leaf};
 ghost use Rattle.bptree_nodes.specs.Slot.{Present, IsPresent, UpdatesLeaf};
 ghost use Rattle.bptree_stores.specs.Clones.{IsSlotsClone};
 
+use bptree_keys::key::Key;
+use bptree_keys::node_id::{InnerNodeId, LeafNodeId, NodeId};
 use bptree_nodes::inner_node::InnerNode;
-use bptree_nodes::key::Key;
 use bptree_nodes::leaf_node::LeafNode;
-use bptree_nodes::node_id::{InnerNodeId, LeafNodeId, NodeId};
 use bptree_stores::node_store_vec::NodeStoreVec;
 use bptree_stores::node_stores::{CloneStore, NodeStore};
 use std::alloc::{AllocError, Global};

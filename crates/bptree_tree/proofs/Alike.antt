@@ -7,9 +7,9 @@ use Rattle.std.proofs.lemmas.Map.Entries.{length-keys_of}
 use Rattle.bptree_nodes.specs.Inner.{Inner}
 use Rattle.bptree_nodes.specs.Leaf.{Leaf}
 use Rattle.bptree_nodes.specs.Slot.{Slot, Slots, Free, Held, Present, IsPresent}
-use Rattle.bptree_nodes.specs.declared.node_id.LeafNodeId.{LeafNodeId}
-use Rattle.bptree_nodes.specs.declared.node_id.NodeId.{NodeId}
-use Rattle.bptree_nodes.specs.declared.node_id.NodeId.TheVariants as kind
+use Rattle.bptree_keys.specs.declared.node_id.LeafNodeId.{LeafNodeId}
+use Rattle.bptree_keys.specs.declared.node_id.NodeId.{NodeId}
+use Rattle.bptree_keys.specs.declared.node_id.NodeId.TheVariants as kind
 use Rattle.bptree_tree.specs.Order.{flat, total, Within, Chain}
 use Rattle.bptree_tree.specs.Shape.{leaf_pairs, leaf_prev, leaf_next, inner_keys, inner_children, pairs_at, leaves_at, leaf_count, inner_count, stands, AreLinked, IsSummed, IsTree, IsWellShaped, root_least}
 

@@ -8,12 +8,12 @@ use Rattle.std.proofs.lemmas.Bool.{cases_eq}
 use Rattle.std.proofs.lemmas.List.{length-map}
 use Rattle.bptree_nodes.specs.Inner.{Inner}
 use Rattle.bptree_nodes.specs.Leaf.{Leaf}
-use Rattle.bptree_nodes.specs.Pieces.{ArePieces, flatten}
+use Rattle.bptree_keys.specs.Pieces.{ArePieces, flatten}
 use Rattle.bptree_nodes.specs.Slot.{Slot, Slots, Free, Held, Present, IsPresent}
-use Rattle.bptree_nodes.specs.declared.node_id.InnerNodeId.{InnerNodeId}
-use Rattle.bptree_nodes.specs.declared.node_id.NodeId.{NodeId}
-use Rattle.bptree_nodes.specs.declared.node_id.NodeId.TheVariants as kind
-use Rattle.bptree_nodes.proofs.PieceLemmas.{AllZip-length}
+use Rattle.bptree_keys.specs.declared.node_id.InnerNodeId.{InnerNodeId}
+use Rattle.bptree_keys.specs.declared.node_id.NodeId.{NodeId}
+use Rattle.bptree_keys.specs.declared.node_id.NodeId.TheVariants as kind
+use Rattle.bptree_keys.proofs.PieceLemmas.{AllZip-length}
 use Rattle.bptree_tree.specs.Change.{Keeps}
 use Rattle.bptree_tree.specs.Climb.{Climb, Climbs, Risen}
 use Rattle.bptree_tree.specs.Edit.{CanReach, Edits}

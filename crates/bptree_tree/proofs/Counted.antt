@@ -3,9 +3,9 @@ use Rattle.std.proofs.Common.{◌≡◌, ◌+◌, Bool, true, false, List, lengt
 use Rattle.std.specs.declared.cmp.Ordering.{Ordering}
 use Rattle.std.specs.Cmp.{IsTotalOrder}
 use Rattle.std.specs.Option.{option_copied}
-use Rattle.bptree_nodes.specs.Contents.{IsAscending, has, value, put}
-use Rattle.bptree_nodes.proofs.Equal.{has_where_value}
-use Rattle.bptree_nodes.proofs.Updates.{length_put}
+use Rattle.bptree_keys.specs.Contents.{IsAscending, has, value, put}
+use Rattle.bptree_keys.proofs.Equal.{has_where_value}
+use Rattle.bptree_keys.proofs.Updates.{length_put}
 
 copied_some : {V : Type 0} (r : Option (Bor V)) → is_some (option_copied r) ≡ is_some r
 copied_some None = refl

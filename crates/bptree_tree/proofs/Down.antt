@@ -8,11 +8,11 @@ use Rattle.std.proofs.lemmas.Option.{get_or_from_slice_get}
 use Rattle.bptree_nodes.specs.Inner.{Inner, IsChildFor}
 use Rattle.bptree_nodes.specs.Leaf.{Leaf}
 use Rattle.bptree_nodes.specs.Slot.{Slot, Slots, Present, IsPresent}
-use Rattle.bptree_nodes.specs.declared.node_id.InnerNodeId.{InnerNodeId}
-use Rattle.bptree_nodes.specs.declared.node_id.LeafNodeId.{LeafNodeId}
-use Rattle.bptree_nodes.specs.declared.node_id.NodeId.{NodeId}
-use Rattle.bptree_nodes.specs.declared.node_id.NodeId.TheVariants as kind
-use Rattle.bptree_nodes.proofs.PieceLemmas.{AllByRecursion-append}
+use Rattle.bptree_keys.specs.declared.node_id.InnerNodeId.{InnerNodeId}
+use Rattle.bptree_keys.specs.declared.node_id.LeafNodeId.{LeafNodeId}
+use Rattle.bptree_keys.specs.declared.node_id.NodeId.{NodeId}
+use Rattle.bptree_keys.specs.declared.node_id.NodeId.TheVariants as kind
+use Rattle.bptree_keys.proofs.PieceLemmas.{AllByRecursion-append}
 use Rattle.bptree_tree.specs.Leaves.{pairs_of, StandsIn, Stands, IsLeafFor}
 use Rattle.bptree_tree.specs.Order.{flat, Chain, Leads}
 use Rattle.bptree_tree.specs.Shape.{leaf_pairs, inner_keys, inner_children, pairs_at, leaves_at, IsTree}

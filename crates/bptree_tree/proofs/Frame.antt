@@ -4,14 +4,14 @@ use Rattle.std.specs.declared.cmp.Ordering.{Ordering}
 use Rattle.std.specs.List.{AllByRecursion}
 use Rattle.std.specs.Map.{keys_of}
 use Rattle.std.proofs.lemmas.Bool.{eq-eqb}
-use Rattle.bptree_nodes.specs.Contents.{IsAscending}
+use Rattle.bptree_keys.specs.Contents.{IsAscending}
 use Rattle.bptree_nodes.specs.Inner.{Inner}
 use Rattle.bptree_nodes.specs.Leaf.{Leaf}
 use Rattle.bptree_nodes.specs.Slot.{Slot, Slots, Free, Held, Present, IsPresent}
-use Rattle.bptree_nodes.specs.declared.node_id.InnerNodeId.{InnerNodeId}
-use Rattle.bptree_nodes.specs.declared.node_id.LeafNodeId.{LeafNodeId}
-use Rattle.bptree_nodes.specs.declared.node_id.NodeId.{NodeId}
-use Rattle.bptree_nodes.specs.declared.node_id.NodeId.TheVariants as kind
+use Rattle.bptree_keys.specs.declared.node_id.InnerNodeId.{InnerNodeId}
+use Rattle.bptree_keys.specs.declared.node_id.LeafNodeId.{LeafNodeId}
+use Rattle.bptree_keys.specs.declared.node_id.NodeId.{NodeId}
+use Rattle.bptree_keys.specs.declared.node_id.NodeId.TheVariants as kind
 use Rattle.bptree_tree.specs.Order.{flat, total, Within, Chain}
 use Rattle.bptree_tree.specs.Shape.{leaf_pairs, inner_keys, inner_children, pairs_at, leaves_at, leaf_count, inner_count, stands, IsTree, IsSummed}
 use Rattle.bptree_tree.proofs.Ordered.{all_so}

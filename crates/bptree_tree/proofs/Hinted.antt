@@ -9,15 +9,15 @@ use Rattle.std.specs.Cmp.{IsTotalOrder}
 use Rattle.std.specs.Map.{keys_of}
 use Rattle.std.proofs.lemmas.Bool.Decides.{eqb_tells}
 use Rattle.std.proofs.lemmas.Map.Keys.{sorted_head, sorted_tail}
-use Rattle.bptree_nodes.specs.Contents.{IsAscending}
+use Rattle.bptree_keys.specs.Contents.{IsAscending}
 use Rattle.bptree_nodes.specs.Inner.{Inner}
 use Rattle.bptree_nodes.specs.Leaf.{Leaf, leaf_in_range, reaches_first, reaches_last}
-use Rattle.bptree_nodes.specs.Places.{AllAnswer}
+use Rattle.bptree_keys.specs.Places.{AllAnswer}
 use Rattle.bptree_nodes.specs.Slot.{Slot, Slots, Free, Held, Present}
-use Rattle.bptree_nodes.specs.declared.node_id.LeafNodeId.{LeafNodeId}
-use Rattle.bptree_nodes.specs.declared.node_id.NodeId.{NodeId}
-use Rattle.bptree_nodes.specs.declared.node_id.NodeId.TheVariants as kind
-use Rattle.bptree_nodes.proofs.Ascending.{all_pairs, greater_turned}
+use Rattle.bptree_keys.specs.declared.node_id.LeafNodeId.{LeafNodeId}
+use Rattle.bptree_keys.specs.declared.node_id.NodeId.{NodeId}
+use Rattle.bptree_keys.specs.declared.node_id.NodeId.TheVariants as kind
+use Rattle.bptree_keys.proofs.Ascending.{all_pairs, greater_turned}
 use Rattle.bptree_stores.specs.Hint.{HoldsKey}
 use Rattle.bptree_tree.specs.Leaves.{pairs_of, StandsIn, IsLeafFor}
 use Rattle.bptree_tree.specs.Order.{flat, total}

@@ -9,17 +9,17 @@ use Rattle.std.specs.Map.{keys_of, set_value}
 use Rattle.std.proofs.lemmas.Bool.Decides.{eqb_tells}
 use Rattle.std.proofs.lemmas.Cmp.{alike_right, tied_itself}
 use Rattle.std.proofs.lemmas.Map.Keys.{sorted_head}
-use Rattle.bptree_nodes.specs.Contents.{IsAscending, pairs_below, pairs_above, has, put}
+use Rattle.bptree_keys.specs.Contents.{IsAscending, pairs_below, pairs_above, has, put}
 use Rattle.bptree_nodes.specs.Inner.{Inner}
 use Rattle.bptree_nodes.specs.Leaf.{Leaf}
 use Rattle.bptree_nodes.specs.Slot.{Slot, Slots, Present, IsPresent, UpdatesLeaf}
-use Rattle.bptree_nodes.specs.declared.node_id.LeafNodeId.{LeafNodeId}
-use Rattle.bptree_nodes.specs.declared.node_id.NodeId.TheVariants as kind
-use Rattle.bptree_nodes.proofs.Around.{put_around}
-use Rattle.bptree_nodes.proofs.PieceLemmas.{AllByRecursion-append, AllByRecursion-left, AllByRecursion-right}
-use Rattle.bptree_nodes.proofs.Laws.{put_ascending}
-use Rattle.bptree_nodes.proofs.Updates.{length_put}
-use Rattle.bptree_nodes.proofs.Ascending.{all_pairs, greater_turned}
+use Rattle.bptree_keys.specs.declared.node_id.LeafNodeId.{LeafNodeId}
+use Rattle.bptree_keys.specs.declared.node_id.NodeId.TheVariants as kind
+use Rattle.bptree_keys.proofs.Around.{put_around}
+use Rattle.bptree_keys.proofs.PieceLemmas.{AllByRecursion-append, AllByRecursion-left, AllByRecursion-right}
+use Rattle.bptree_keys.proofs.Laws.{put_ascending}
+use Rattle.bptree_keys.proofs.Updates.{length_put}
+use Rattle.bptree_keys.proofs.Ascending.{all_pairs, greater_turned}
 use Rattle.bptree_tree.specs.Change.{StartsAt, SplitsLeaf}
 use Rattle.bptree_tree.specs.Edit.{IsLocal, Edits}
 use Rattle.bptree_tree.specs.Order.{AtLeast, AtMost, Under, Within, Between}

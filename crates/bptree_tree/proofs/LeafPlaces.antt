@@ -7,11 +7,11 @@ use Rattle.std.specs.List.{insert}
 use Rattle.std.proofs.lemmas.Cmp.{tied_back}
 use Rattle.std.proofs.lemmas.Bool.{cases_lt}
 use Rattle.std.proofs.lemmas.Bool.Decides.{nat_tests}
-use Rattle.bptree_nodes.specs.Contents.{IsAscending, has}
+use Rattle.bptree_keys.specs.Contents.{IsAscending, has}
 use Rattle.bptree_nodes.specs.Leaf.{split_place}
 use Rattle.bptree_nodes.specs.LeafResults.{HasEqualAt}
-use Rattle.bptree_nodes.proofs.Found.{hit_at}
-use Rattle.bptree_nodes.proofs.Parted.{has_hit}
+use Rattle.bptree_keys.proofs.Found.{hit_at}
+use Rattle.bptree_keys.proofs.Parted.{has_hit}
 use Rattle.bptree_tree.specs.Change.{StartsAt}
 
 -- a key whose place was found is there

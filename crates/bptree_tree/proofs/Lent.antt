@@ -9,19 +9,19 @@ use Rattle.std.specs.Map.{keys_of}
 use Rattle.std.proofs.lemmas.Bool.Decides.{eqb_tells}
 use Rattle.std.proofs.lemmas.Bool.{eq-eqb}
 use Rattle.std.proofs.lemmas.Map.Entries.{length-keys_of}
-use Rattle.bptree_nodes.specs.Contents.{IsAscending, has, value}
+use Rattle.bptree_keys.specs.Contents.{IsAscending, has, value}
 use Rattle.bptree_nodes.specs.Inner.{Inner}
 use Rattle.bptree_nodes.specs.Leaf.{Leaf, set_value_at}
 use Rattle.bptree_nodes.specs.LeafResults.{HasEqualAt}
-use Rattle.bptree_nodes.specs.Places.{AllAnswer}
+use Rattle.bptree_keys.specs.Places.{AllAnswer}
 use Rattle.bptree_nodes.specs.Slot.{Slot, Slots, Present, UpdatesLeaf}
-use Rattle.bptree_nodes.specs.declared.node_id.LeafNodeId.{LeafNodeId}
-use Rattle.bptree_nodes.specs.declared.node_id.NodeId.{NodeId}
-use Rattle.bptree_nodes.proofs.Around.{set_value_around}
-use Rattle.bptree_nodes.proofs.Equal.{has_where_value}
-use Rattle.bptree_nodes.proofs.Found.{hit_at}
+use Rattle.bptree_keys.specs.declared.node_id.LeafNodeId.{LeafNodeId}
+use Rattle.bptree_keys.specs.declared.node_id.NodeId.{NodeId}
+use Rattle.bptree_keys.proofs.Around.{set_value_around}
+use Rattle.bptree_keys.proofs.Equal.{has_where_value}
+use Rattle.bptree_keys.proofs.Found.{hit_at}
 use Rattle.bptree_nodes.proofs.LeafContents.{put_at_place}
-use Rattle.bptree_nodes.proofs.Parted.{has_past, has_hit}
+use Rattle.bptree_keys.proofs.Parted.{has_past, has_hit}
 use Rattle.bptree_tree.specs.Leaves.{pairs_of, IsLeafFor}
 use Rattle.bptree_tree.specs.Lending.{holder, written, store_written}
 use Rattle.bptree_tree.specs.Shape.{leaf_pairs, pairs_at, leaves_at, leaf_count, stands, IsWellShaped}

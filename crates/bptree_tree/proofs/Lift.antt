@@ -11,11 +11,11 @@ use Rattle.std.proofs.lemmas.List.Edits.{length-insert}
 use Rattle.bptree_nodes.specs.Inner.{Inner}
 use Rattle.bptree_nodes.specs.Leaf.{Leaf}
 use Rattle.bptree_nodes.specs.Slot.{Slot, Slots, Present, IsPresent, Updates}
-use Rattle.bptree_nodes.specs.declared.node_id.InnerNodeId.{InnerNodeId}
-use Rattle.bptree_nodes.specs.declared.node_id.LeafNodeId.{LeafNodeId}
-use Rattle.bptree_nodes.specs.declared.node_id.NodeId.{NodeId}
-use Rattle.bptree_nodes.specs.declared.node_id.NodeId.TheVariants as kind
-use Rattle.bptree_nodes.proofs.PieceLemmas.{AllByRecursion-left, AllByRecursion-right, AllZip-left, AllZip-right}
+use Rattle.bptree_keys.specs.declared.node_id.InnerNodeId.{InnerNodeId}
+use Rattle.bptree_keys.specs.declared.node_id.LeafNodeId.{LeafNodeId}
+use Rattle.bptree_keys.specs.declared.node_id.NodeId.{NodeId}
+use Rattle.bptree_keys.specs.declared.node_id.NodeId.TheVariants as kind
+use Rattle.bptree_keys.proofs.PieceLemmas.{AllByRecursion-left, AllByRecursion-right, AllZip-left, AllZip-right}
 use Rattle.bptree_tree.specs.Change.{Keeps, Links, Splits}
 use Rattle.bptree_tree.specs.Edit.{IsLocal, CanReach, Extends, LinksAt, Edits}
 use Rattle.bptree_tree.specs.Order.{flat, total, Within, Between, Chain, Leads}

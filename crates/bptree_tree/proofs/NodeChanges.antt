@@ -2,7 +2,7 @@
 use Rattle.std.proofs.Common.{◌≡◌, ℕ, zero, suc, ◌<◌, ◌≤◌, List, [], ◌∷◌, ◌++◌, length, refl, sym, ap, ◌∙◌, arith, add-one, Some, slice_get, slice_set}
 use Rattle.std.specs.List.{insert}
 use Rattle.bptree_nodes.specs.Inner.{Inner}
-use Rattle.bptree_nodes.specs.declared.node_id.NodeId.{NodeId}
+use Rattle.bptree_keys.specs.declared.node_id.NodeId.{NodeId}
 use Rattle.bptree_tree.specs.Sums.{with_summary, with_split, HasPlace, IsCut}
 use Rattle.bptree_tree.specs.declared.node_changes.Division.{Division}
 

@@ -8,11 +8,11 @@ use Rattle.std.proofs.lemmas.Map.Entries.{length-keys_of}
 use Rattle.std.proofs.lemmas.Option.{get_or_from_slice_get}
 use Rattle.bptree_nodes.specs.Inner.{Inner}
 use Rattle.bptree_nodes.specs.Leaf.{Leaf}
-use Rattle.bptree_nodes.specs.Pieces.{flatten, piece_at, start_of, AllNonEmpty, ArePieces}
+use Rattle.bptree_keys.specs.Pieces.{flatten, piece_at, start_of, AllNonEmpty, ArePieces}
 use Rattle.bptree_nodes.specs.Slot.{Slots}
-use Rattle.bptree_nodes.specs.declared.node_id.InnerNodeId.{InnerNodeId}
-use Rattle.bptree_nodes.specs.declared.node_id.NodeId.{NodeId}
-use Rattle.bptree_nodes.specs.declared.node_id.NodeId.TheVariants as kind
+use Rattle.bptree_keys.specs.declared.node_id.InnerNodeId.{InnerNodeId}
+use Rattle.bptree_keys.specs.declared.node_id.NodeId.{NodeId}
+use Rattle.bptree_keys.specs.declared.node_id.NodeId.TheVariants as kind
 use Rattle.bptree_tree.specs.Order.{flat, Chain}
 use Rattle.bptree_tree.specs.Shape.{inner_keys, inner_children, inner_arguments, pairs_at, IsTree, IsSummed}
 use Rattle.bptree_tree.proofs.Walk.{tree_inside, tree_ascends, tree_some, chain_ascends, chain_at}

@@ -9,8 +9,8 @@ use Rattle.std.specs.List.{AllByRecursion}
 use Rattle.std.specs.Map.{keys_of}
 use Rattle.std.proofs.lemmas.Cmp.{alike_right}
 use Rattle.std.proofs.lemmas.Map.Keys.{sorted_head, sorted_tail}
-use Rattle.bptree_nodes.specs.Contents.{IsAscending}
-use Rattle.bptree_nodes.proofs.Ascending.{greater_turned, less_turned, ascending_cons, all_joined, all_after, all_keys}
+use Rattle.bptree_keys.specs.Contents.{IsAscending}
+use Rattle.bptree_keys.proofs.Ascending.{greater_turned, less_turned, ascending_cons, all_joined, all_after, all_keys}
 use Rattle.bptree_tree.specs.Order.{AtLeast, AtMost, Under}
 
 pub by_cases : {G : Type 0} (o : Ordering) → (o ≡ Less → G) → (o ≡ Equal → G) → (o ≡ Greater → G) → G

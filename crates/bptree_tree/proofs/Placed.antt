@@ -6,16 +6,16 @@ use Rattle.std.specs.List.{insert}
 use Rattle.std.specs.Map.{keys_of}
 use Rattle.std.proofs.lemmas.Bool.{cases_eq}
 use Rattle.std.proofs.lemmas.List.Edits.{length-insert}
-use Rattle.bptree_nodes.specs.Contents.{IsAscending, below, has, put}
+use Rattle.bptree_keys.specs.Contents.{IsAscending, below, has, put}
 use Rattle.bptree_nodes.specs.Inner.{Inner}
 use Rattle.bptree_nodes.specs.Leaf.{Leaf}
 use Rattle.bptree_nodes.specs.Slot.{Slot, Slots, Free, Held, Present, IsPresent}
-use Rattle.bptree_nodes.specs.declared.node_id.InnerNodeId.{InnerNodeId}
-use Rattle.bptree_nodes.specs.declared.node_id.LeafNodeId.{LeafNodeId}
-use Rattle.bptree_nodes.specs.declared.node_id.NodeId.{NodeId}
-use Rattle.bptree_nodes.specs.declared.node_id.NodeId.TheVariants as kind
-use Rattle.bptree_nodes.proofs.Found.{inserted}
-use Rattle.bptree_nodes.proofs.Updates.{length_put}
+use Rattle.bptree_keys.specs.declared.node_id.InnerNodeId.{InnerNodeId}
+use Rattle.bptree_keys.specs.declared.node_id.LeafNodeId.{LeafNodeId}
+use Rattle.bptree_keys.specs.declared.node_id.NodeId.{NodeId}
+use Rattle.bptree_keys.specs.declared.node_id.NodeId.TheVariants as kind
+use Rattle.bptree_keys.proofs.Found.{inserted}
+use Rattle.bptree_keys.proofs.Updates.{length_put}
 use Rattle.bptree_tree.specs.Change.{SplitsLeaf, Mends}
 use Rattle.bptree_tree.specs.Climb.{Grows, Climb, Climbs, ClimbsTwo, Risen, Reaches}
 use Rattle.bptree_tree.specs.Edit.{CanReach, Edits}

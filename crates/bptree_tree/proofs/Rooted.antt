@@ -8,10 +8,10 @@ use Rattle.std.proofs.lemmas.Bool.Decides.{eqb_tells}
 use Rattle.bptree_nodes.specs.Inner.{Inner}
 use Rattle.bptree_nodes.specs.Leaf.{Leaf}
 use Rattle.bptree_nodes.specs.Slot.{Slot, Slots, Held, IsPresent}
-use Rattle.bptree_nodes.specs.declared.node_id.InnerNodeId.{InnerNodeId}
-use Rattle.bptree_nodes.specs.declared.node_id.LeafNodeId.{LeafNodeId}
-use Rattle.bptree_nodes.specs.declared.node_id.NodeId.{NodeId}
-use Rattle.bptree_nodes.specs.declared.node_id.NodeId.TheVariants as kind
+use Rattle.bptree_keys.specs.declared.node_id.InnerNodeId.{InnerNodeId}
+use Rattle.bptree_keys.specs.declared.node_id.LeafNodeId.{LeafNodeId}
+use Rattle.bptree_keys.specs.declared.node_id.NodeId.{NodeId}
+use Rattle.bptree_keys.specs.declared.node_id.NodeId.TheVariants as kind
 use Rattle.bptree_tree.specs.Change.{Roots, Mends}
 use Rattle.bptree_tree.specs.Edit.{CanReach, Edits, LinksAt}
 use Rattle.bptree_tree.specs.Order.{flat, Chain}

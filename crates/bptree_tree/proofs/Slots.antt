@@ -8,9 +8,9 @@ use Rattle.std.specs.Map.{keys_of}
 use Rattle.std.specs.Result.{is_ok}
 use Rattle.std.proofs.lemmas.Map.Keys.{sorted_head, sorted_tail}
 use Rattle.bptree_arguments.specs.Ranks.{AllAbove, IsSlotOf}
-use Rattle.bptree_nodes.specs.Contents.{IsAscending, has}
-use Rattle.bptree_nodes.specs.Locate.{locate, one_later}
-use Rattle.bptree_nodes.proofs.Ascending.{greater_turned, less_turned}
+use Rattle.bptree_keys.specs.Contents.{IsAscending, has}
+use Rattle.bptree_keys.specs.Locate.{locate, one_later}
+use Rattle.bptree_keys.proofs.Ascending.{greater_turned, less_turned}
 use Rattle.bptree_tree.proofs.Ordered.{by_cases, all_so}
 
 module _ {K : Type 0} {cmp : K → K → Ordering} (total : IsTotalOrder cmp) (k : K) where

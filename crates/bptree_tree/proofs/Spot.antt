@@ -6,14 +6,14 @@ use Rattle.std.specs.Cmp.{IsTotalOrder}
 use Rattle.std.specs.List.Sorted.{IsStrictlySortedBy}
 use Rattle.std.specs.Map.{keys_of}
 use Rattle.std.proofs.lemmas.Map.Keys.{sorted_head, sorted_tail}
-use Rattle.bptree_nodes.specs.Contents.{IsAscending, value}
+use Rattle.bptree_keys.specs.Contents.{IsAscending, value}
 use Rattle.bptree_nodes.specs.Inner.{Inner}
 use Rattle.bptree_nodes.specs.Leaf.{Leaf}
 use Rattle.bptree_nodes.specs.Slot.{Slots, Present}
-use Rattle.bptree_nodes.specs.declared.node_id.LeafNodeId.{LeafNodeId}
-use Rattle.bptree_nodes.specs.declared.node_id.NodeId.{NodeId}
-use Rattle.bptree_nodes.proofs.Around.{value_around}
-use Rattle.bptree_nodes.proofs.Ascending.{all_before, ascending_cons}
+use Rattle.bptree_keys.specs.declared.node_id.LeafNodeId.{LeafNodeId}
+use Rattle.bptree_keys.specs.declared.node_id.NodeId.{NodeId}
+use Rattle.bptree_keys.proofs.Around.{value_around}
+use Rattle.bptree_keys.proofs.Ascending.{all_before, ascending_cons}
 use Rattle.bptree_tree.specs.Leaves.{pairs_of, StandsIn, IsLeafFor}
 use Rattle.bptree_tree.specs.Shape.{leaf_pairs, pairs_at}
 use Rattle.bptree_tree.proofs.Down.{pairs_of_leaves}

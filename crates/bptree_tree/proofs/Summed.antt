@@ -11,19 +11,19 @@ use Rattle.std.proofs.lemmas.Map.Entries.{length-keys_of}
 use Rattle.std.proofs.lemmas.Option.{get_or_from_slice_get, slice_get_within}
 use Rattle.bptree_arguments.specs.Ranks.{AllAbove, AllBelow}
 use Rattle.bptree_arguments.specs.Selection.{LeadsTo}
-use Rattle.bptree_nodes.specs.Contents.{IsAscending, has}
+use Rattle.bptree_keys.specs.Contents.{IsAscending, has}
 use Rattle.bptree_nodes.specs.Inner.{Inner}
 use Rattle.bptree_nodes.specs.Leaf.{Leaf}
-use Rattle.bptree_nodes.specs.Places.{AllAnswer}
-use Rattle.bptree_nodes.specs.Pieces.{flatten, piece_at, start_of, AllNonEmpty, ArePieces}
+use Rattle.bptree_keys.specs.Places.{AllAnswer}
+use Rattle.bptree_keys.specs.Pieces.{flatten, piece_at, start_of, AllNonEmpty, ArePieces}
 use Rattle.bptree_nodes.specs.Slot.{Slot, Slots, Present}
-use Rattle.bptree_nodes.specs.declared.node_id.InnerNodeId.{InnerNodeId}
-use Rattle.bptree_nodes.specs.declared.node_id.LeafNodeId.{LeafNodeId}
-use Rattle.bptree_nodes.specs.declared.node_id.NodeId.{NodeId}
-use Rattle.bptree_nodes.specs.declared.node_id.NodeId.TheVariants as kind
-use Rattle.bptree_nodes.proofs.Around.{has_around}
-use Rattle.bptree_nodes.proofs.Ascending.{all_keys}
-use Rattle.bptree_nodes.proofs.PieceLemmas.{AllByRecursion-append, AllByRecursion-at, AllZip-take, flatten-cut, sorted_left}
+use Rattle.bptree_keys.specs.declared.node_id.InnerNodeId.{InnerNodeId}
+use Rattle.bptree_keys.specs.declared.node_id.LeafNodeId.{LeafNodeId}
+use Rattle.bptree_keys.specs.declared.node_id.NodeId.{NodeId}
+use Rattle.bptree_keys.specs.declared.node_id.NodeId.TheVariants as kind
+use Rattle.bptree_keys.proofs.Around.{has_around}
+use Rattle.bptree_keys.proofs.Ascending.{all_keys}
+use Rattle.bptree_keys.proofs.PieceLemmas.{AllByRecursion-append, AllByRecursion-at, AllZip-take, flatten-cut, sorted_left}
 use Rattle.bptree_tree.specs.ByArgument.{IsSubtree, IsSelected, IsSelectedAt, RanksAmong}
 use Rattle.bptree_tree.specs.Leaves.{pairs_of}
 use Rattle.bptree_tree.specs.Order.{flat, Chain, Leads}

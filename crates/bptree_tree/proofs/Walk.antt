@@ -5,15 +5,15 @@ use Rattle.std.specs.declared.cmp.Ordering.TheVariants.{Less, Greater}
 use Rattle.std.specs.Cmp.{IsTotalOrder}
 use Rattle.std.specs.List.{AllByRecursion}
 use Rattle.std.specs.List.Sorted.{IsStrictlySortedBy}
-use Rattle.bptree_nodes.specs.Contents.{IsAscending}
+use Rattle.bptree_keys.specs.Contents.{IsAscending}
 use Rattle.bptree_nodes.specs.Inner.{Inner, IsChildFor}
 use Rattle.bptree_nodes.specs.Leaf.{Leaf}
-use Rattle.bptree_nodes.specs.Places.{AllAnswer}
+use Rattle.bptree_keys.specs.Places.{AllAnswer}
 use Rattle.bptree_nodes.specs.Slot.{Slots}
-use Rattle.bptree_nodes.specs.declared.node_id.NodeId.{NodeId}
-use Rattle.bptree_nodes.specs.declared.node_id.NodeId.TheVariants as kind
-use Rattle.bptree_nodes.proofs.Ascending.{greater_turned}
-use Rattle.bptree_nodes.proofs.PieceLemmas.{AllByRecursion-append}
+use Rattle.bptree_keys.specs.declared.node_id.NodeId.{NodeId}
+use Rattle.bptree_keys.specs.declared.node_id.NodeId.TheVariants as kind
+use Rattle.bptree_keys.proofs.Ascending.{greater_turned}
+use Rattle.bptree_keys.proofs.PieceLemmas.{AllByRecursion-append}
 use Rattle.bptree_tree.specs.Order.{flat, Within, Chain, Leads}
 use Rattle.bptree_tree.specs.Shape.{inner_keys, inner_children, pairs_at, IsTree}
 use Rattle.bptree_tree.proofs.Ordered.{all_so, up_then_less, less_then_up, AtLeast-up, Under-less, up_if_not_above, ascending_joined}

@@ -9,10 +9,10 @@ use Rattle.std.proofs.lemmas.Option.{get_or_from_slice_get}
 use Rattle.bptree_nodes.specs.Inner.{Inner}
 use Rattle.bptree_nodes.specs.Leaf.{Leaf}
 use Rattle.bptree_nodes.specs.Slot.{Slot, Slots, Present}
-use Rattle.bptree_nodes.specs.declared.node_id.InnerNodeId.{InnerNodeId}
-use Rattle.bptree_nodes.specs.declared.node_id.LeafNodeId.{LeafNodeId}
-use Rattle.bptree_nodes.specs.declared.node_id.NodeId.{NodeId}
-use Rattle.bptree_nodes.specs.declared.node_id.NodeId.TheVariants as kind
+use Rattle.bptree_keys.specs.declared.node_id.InnerNodeId.{InnerNodeId}
+use Rattle.bptree_keys.specs.declared.node_id.LeafNodeId.{LeafNodeId}
+use Rattle.bptree_keys.specs.declared.node_id.NodeId.{NodeId}
+use Rattle.bptree_keys.specs.declared.node_id.NodeId.TheVariants as kind
 use Rattle.bptree_tree.specs.Edit.{IsLocal, CanReach, Extends, Edits}
 use Rattle.bptree_tree.specs.Order.{flat, total, Within, Between, Chain, Leads}
 use Rattle.bptree_tree.specs.Shape.{inner_keys, inner_children, pairs_at, leaves_at, leaf_count, inner_count, stands, IsTree, IsSummed}

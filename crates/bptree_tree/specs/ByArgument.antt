@@ -9,8 +9,8 @@ use Rattle.bptree_arguments.specs.Selection.{IsPlaceIn}
 use Rattle.bptree_nodes.specs.Inner.{Inner}
 use Rattle.bptree_nodes.specs.Leaf.{Leaf}
 use Rattle.bptree_nodes.specs.Slot.{Slots}
-use Rattle.bptree_nodes.specs.declared.node_id.LeafNodeId.{LeafNodeId}
-use Rattle.bptree_nodes.specs.declared.node_id.NodeId.{NodeId}
+use Rattle.bptree_keys.specs.declared.node_id.LeafNodeId.{LeafNodeId}
+use Rattle.bptree_keys.specs.declared.node_id.NodeId.{NodeId}
 use Rattle.bptree_tree.specs.Leaves.{pairs_of, StandsIn, Stands}
 use Rattle.bptree_tree.specs.Shape.{leaf_pairs, pairs_at, IsSummed}
 

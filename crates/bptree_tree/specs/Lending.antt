@@ -3,11 +3,11 @@ use Rattle.std.specs.Prelude.{ℕ, List, [], ◌∷◌, Option, Some, None, if�
 use Rattle.std.specs.declared.cmp.Ordering.{Ordering}
 use Rattle.std.specs.Map.{set_value}
 use Rattle.std.specs.Ordering.{is_eq}
-use Rattle.bptree_nodes.specs.Contents.{has}
+use Rattle.bptree_keys.specs.Contents.{has}
 use Rattle.bptree_nodes.specs.Inner.{Inner}
 use Rattle.bptree_nodes.specs.Leaf.{Leaf}
 use Rattle.bptree_nodes.specs.Slot.{Slot, Slots, Free, Held, Present}
-use Rattle.bptree_nodes.specs.declared.node_id.LeafNodeId.{LeafNodeId}
+use Rattle.bptree_keys.specs.declared.node_id.LeafNodeId.{LeafNodeId}
 use Rattle.bptree_tree.specs.Shape.{leaf_pairs, leaves_at}
 use Rattle.bptree_tree.specs.NodeTree.{NodeTree}
 

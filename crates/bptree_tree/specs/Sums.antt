@@ -3,11 +3,11 @@ use Rattle.std.specs.Prelude.{◌≡◌, ℕ, ◌+◌, ◌<◌, ◌≤◌, ◌++
 use Rattle.std.specs.declared.cmp.Ordering.{Ordering}
 use Rattle.std.specs.List.{AllZip}
 use Rattle.bptree_nodes.specs.Inner.{Inner, HasKeys, with_entry}
-use Rattle.bptree_nodes.specs.Pieces.{ArePieces, flatten}
+use Rattle.bptree_keys.specs.Pieces.{ArePieces, flatten}
 use Rattle.bptree_nodes.specs.Leaf.{Leaf}
 use Rattle.bptree_nodes.specs.Slot.{Slot, Slots, Free, Held, Present, Updates}
-use Rattle.bptree_nodes.specs.declared.node_id.InnerNodeId.{InnerNodeId}
-use Rattle.bptree_nodes.specs.declared.node_id.NodeId.{NodeId}
+use Rattle.bptree_keys.specs.declared.node_id.InnerNodeId.{InnerNodeId}
+use Rattle.bptree_keys.specs.declared.node_id.NodeId.{NodeId}
 use Rattle.bptree_tree.specs.declared.node_changes.Division.{Division}
 
 module _ {K A : Type 0} where

@@ -4,8 +4,8 @@ ghost use Rattle.std.specs.Prelude.{◌≡◌, ◌+◌, ◌<◌, ◌≤◌, List
 ghost use Rattle.bptree_nodes.specs.Inner.{Inner, HasKeys};
 ghost use Rattle.bptree_nodes.specs.Leaf.{Leaf};
 ghost use Rattle.bptree_nodes.specs.Slot.{Slots, Free, Present, IsPresent};
-ghost use Rattle.bptree_nodes.specs.declared.node_id.NodeId.{NodeId};
-ghost use Rattle.bptree_nodes.specs.declared.node_id.NodeId.TheVariants as kind;
+ghost use Rattle.bptree_keys.specs.declared.node_id.NodeId.{NodeId};
+ghost use Rattle.bptree_keys.specs.declared.node_id.NodeId.TheVariants as kind;
 ghost use Rattle.bptree_tree.specs.Change.{Keeps, Links, Splits, Roots};
 ghost use Rattle.bptree_tree.specs.Climb.{Climbs, ClimbsTwo, Risen, Reaches};
 ghost use Rattle.bptree_tree.specs.Sums.{SumsUp, HasPlace, SumsUpAt, PlaceAt, HasKeysAt, IsLinked, IsSplit};
@@ -15,9 +15,9 @@ use crate::node_changes::{
     Division, Parts, give_entry, join_parts, resum, take_and_part, take_entry,
 };
 use bptree_arguments::argument::Argument;
-use bptree_nodes::entry_ref::VisitStack;
+use bptree_keys::entry_ref::VisitStack;
+use bptree_keys::node_id::{InnerNodeId, NodeId};
 use bptree_nodes::inner_node::InnerNode;
-use bptree_nodes::node_id::{InnerNodeId, NodeId};
 use bptree_stores::node_stores::NodeStore;
 
 /// An inner node that was split, under its number and a new one, and the summary that was in the child's place.

@@ -1,12 +1,12 @@
 //! Reads of a tree that stands in a store, by the summaries of its keys.
 ghost use Rattle.std.specs.Prelude.{◌≡◌, IfOk, MatchResult, is_ok};
 ghost use Rattle.std.specs.Map.{keys_of};
-ghost use Rattle.bptree_nodes.specs.Contents.{has};
+ghost use Rattle.bptree_keys.specs.Contents.{has};
 ghost use Rattle.bptree_tree.specs.ByArgument.{IsSubtree, IsSelectedAt, RanksAmong};
 ghost use Rattle.bptree_tree.specs.Shape.{pairs_at};
 
 use bptree_arguments::argument::{RankArgument, SearchArgument};
-use bptree_nodes::node_id::{LeafNodeId, NodeId};
+use bptree_keys::node_id::{LeafNodeId, NodeId};
 use bptree_stores::node_stores::NodeStore;
 use std::alloc::AllocError;
 

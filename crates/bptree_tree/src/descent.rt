@@ -1,14 +1,14 @@
 //! Ways down a tree that stands in a store.
 ghost use Rattle.std.specs.Prelude.{◌≡◌, ◌+◌, ◌≤◌, ℕ, List, ◌∷◌, ◌++◌, [], length};
-ghost use Rattle.bptree_nodes.specs.declared.node_id.LeafNodeId.{LeafNodeId};
+ghost use Rattle.bptree_keys.specs.declared.node_id.LeafNodeId.{LeafNodeId};
 ghost use Rattle.bptree_tree.specs.Leaves.{Stands, IsLeafFor, IsFirstLeaf, IsLastLeaf};
-ghost use Rattle.bptree_nodes.specs.declared.node_id.NodeId.{NodeId};
-ghost use Rattle.bptree_nodes.specs.declared.node_id.NodeId.TheVariants as kind;
+ghost use Rattle.bptree_keys.specs.declared.node_id.NodeId.{NodeId};
+ghost use Rattle.bptree_keys.specs.declared.node_id.NodeId.TheVariants as kind;
 ghost use Rattle.bptree_tree.specs.Path.{Way};
 ghost use Rattle.bptree_tree.specs.Shape.{leaves_at};
 
-use bptree_nodes::entry_ref::VisitStack;
-use bptree_nodes::node_id::{LeafNodeId, NodeId};
+use bptree_keys::entry_ref::VisitStack;
+use bptree_keys::node_id::{LeafNodeId, NodeId};
 use bptree_stores::node_stores::NodeStore;
 
 /// The leaf that a key belongs to, in the tree of a height under a number.

@@ -1,7 +1,7 @@
 //! Insertion into a tree that stands in a store.
 ghost use Rattle.std.specs.Prelude.{◌≡◌, ◌+◌, ◌≤◌, ◌<◌, ◌^◌, IfOk, IfErr, OnErr, IfSome, List, false, length, slice_get, Some, drop, insert};
 ghost use Rattle.std.specs.Map.{values_of};
-ghost use Rattle.bptree_nodes.specs.Contents.{has};
+ghost use Rattle.bptree_keys.specs.Contents.{has};
 ghost use Rattle.bptree_nodes.specs.Leaf.{Leaf, split_place, set_value_at};
 ghost use Rattle.bptree_nodes.specs.Inner.{Inner};
 ghost use Rattle.bptree_nodes.specs.Slot.{Slots, Present, IsPresent, UpdatesLeaf};
@@ -14,10 +14,10 @@ use crate::ascent::{ascend, ascend_split};
 use crate::descent::find_path;
 use crate::node_changes::Division;
 use bptree_arguments::argument::Argument;
-use bptree_nodes::entry_ref::VisitStack;
-use bptree_nodes::key::Key;
+use bptree_keys::entry_ref::VisitStack;
+use bptree_keys::key::Key;
+use bptree_keys::node_id::{InnerNodeId, LeafNodeId, NodeId};
 use bptree_nodes::leaf_node::LeafNode;
-use bptree_nodes::node_id::{InnerNodeId, LeafNodeId, NodeId};
 use bptree_stores::node_stores::NodeStore;
 use std::alloc::AllocError;
 

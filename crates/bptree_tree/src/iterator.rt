@@ -5,8 +5,8 @@ ghost use Rattle.std.specs.Iterator.SizeHint.{IsWithinCount};
 ghost use Rattle.std.specs.Map.Iter.{TakesFirst, TakesLast, deref_pair};
 ghost use Rattle.bptree_tree.specs.Span.{leaves_of, pairs_left, IsBetween, CanGoOn, IsFrontPlace, CanGoBack, IsBackPlace};
 
+use bptree_keys::node_id::LeafNodeId;
 use bptree_nodes::leaf_node::LeafNode;
-use bptree_nodes::node_id::LeafNodeId;
 use bptree_stores::node_stores::NodeStore;
 use std::alloc::AllocError;
 use std::iter::{ExactSizeIterator, FusedIterator};

@@ -4,9 +4,9 @@ ghost use Rattle.bptree_nodes.specs.Inner.{Inner, HasKeys};
 ghost use Rattle.bptree_tree.specs.Sums.{SumsUp, with_summary, with_split, HasPlace, IsCut};
 
 use bptree_arguments::argument::Argument;
+use bptree_keys::key::Key;
+use bptree_keys::node_id::NodeId;
 use bptree_nodes::inner_node::InnerNode;
-use bptree_nodes::key::Key;
-use bptree_nodes::node_id::NodeId;
 
 /// A node that was split: a summary of what it has left, and a key before the node to its right, with that one's summary.
 #[derive(Drop)]

@@ -1,12 +1,12 @@
 //! Reads of a tree that stands in a store.
 ghost use Rattle.std.specs.Prelude.{◌≡◌, ◌-◌, Some, length, slice_get};
 ghost use Rattle.std.specs.Option.{option_copied, option_map};
-ghost use Rattle.bptree_nodes.specs.Contents.{value};
+ghost use Rattle.bptree_keys.specs.Contents.{value};
 ghost use Rattle.bptree_tree.specs.Leaves.{Stands, IsLeafFor};
 ghost use Rattle.bptree_tree.specs.Shape.{pairs_at, IsWellShaped};
 
 use crate::descent::{find_leaf, first_leaf, last_leaf};
-use bptree_nodes::node_id::{LeafNodeId, NodeId};
+use bptree_keys::node_id::{LeafNodeId, NodeId};
 use bptree_stores::node_stores::NodeStore;
 
 /// The leaf that a key belongs to: the remembered one where it is that, else it is searched for from the root.

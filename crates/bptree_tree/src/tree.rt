@@ -3,7 +3,7 @@ ghost use Rattle.std.specs.Prelude.{◌≡◌, ◌-◌, [], List, false, length,
 ghost use Rattle.std.specs.Map.{keys_of};
 ghost use Rattle.std.specs.Map.Iter.{ShowsInOrder, deref_pair};
 ghost use Rattle.std.specs.Option.{option_map, option_copied};
-ghost use Rattle.bptree_nodes.specs.Contents.{IsAscending, has, value, put};
+ghost use Rattle.bptree_keys.specs.Contents.{IsAscending, has, value, put};
 ghost use Rattle.bptree_nodes.specs.Slot.{IsEmpty};
 ghost use Rattle.bptree_tree.specs.Refusal.{pair_of};
 ghost use Rattle.bptree_tree.specs.Shape.{IsWellShaped};
@@ -14,7 +14,7 @@ use crate::descent::{first_leaf, last_leaf};
 use crate::insertion::{Put, upsert};
 use crate::iterator::Iter;
 use crate::{InsertError, reading};
-use bptree_nodes::node_id::NodeId;
+use bptree_keys::node_id::NodeId;
 use bptree_stores::node_stores::NodeStore;
 use std::alloc::AllocError;
 use std::marker::Model;
@@ -171,7 +171,7 @@ impl<S: NodeStore> BPlusTree<S> {
 impl<S: NodeStore> BPlusTree<S> {
     ghost use Rattle.std.specs.Borrow.{LendsIf, sem};
     ghost use Rattle.std.specs.Option.{option_copied_mut};
-    ghost use Rattle.bptree_nodes.specs.Contents.{value};
+    ghost use Rattle.bptree_keys.specs.Contents.{value};
     ghost use Rattle.bptree_tree.specs.Lending.{tree_written};
     ghost use Rattle.bptree_tree.specs.contracts.tree.BPlusTree.{the_row};
 

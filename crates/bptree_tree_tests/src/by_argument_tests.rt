@@ -93,6 +93,18 @@ fn fill(rt: &impl Abort, tree: &mut Tree, count: u64) {
     }
 }
 
+// The pair that a query leads to.
+fn place(tree: &Tree, query: usize) -> Result<Option<(u64, u64)>, AllocError> {
+    match tree.get_by_argument(query)? {
+        Some((key, value)) => Ok(Some((*key, *value))),
+        None => Ok(None),
+    }
+}
+
+fn rank(tree: &Tree, key: u64) -> Result<Result<usize, usize>, AllocError> {
+    tree.rank_by_argument(&key)
+}
+
 // A leaf that is full keeps 32 of its pairs, so that 10,000 pairs in order make 312 leaves; an inner node that is full keeps
 // 33 of its children, so that they stand below 9 inner nodes, and these below the root.
 #[test]
@@ -100,27 +112,45 @@ fn each_level_is_asked_once(rt: HostRuntime) -> Result<(), Fail> {
     let mut tree: Tree = BPlusTree::new(NodeStoreVec::new(rt.alloc()))?;
     fill(&rt, &mut tree, 10_000);
     assert_eq!(rt; tree.height(), 2);
-    assert_eq!(rt; tree.get_by_argument(0)?, Some((&2, &20)));
-    assert_eq!(rt; tree.get_by_argument(29)?, Some((&31, &310)));
-    assert_eq!(rt; tree.get_by_argument(30)?, None);
-    assert!(rt; tree.get_by_argument(998).is_err());
-    assert_eq!(rt; tree.rank_by_argument(&9_999)?, Ok(2));
-    assert_eq!(rt; tree.rank_by_argument(&10_000)?, Err(2));
+    for (query, wanted) in [(0, Some((2, 20))), (29, Some((31, 310))), (30, None)] {
+        assert_eq!(rt; place(&tree, query)?, wanted);
+    }
+    assert!(rt; place(&tree, 998).is_err());
+    for (key, wanted) in [(9_999, Ok(2)), (10_000, Err(2))] {
+        assert_eq!(rt; rank(&tree, key)?, wanted);
+    }
     Ok(())
 }
 
 #[test]
 fn a_leaf_alone_is_asked(rt: HostRuntime) -> Result<(), Fail> {
     let mut tree: Tree = BPlusTree::new(NodeStoreVec::new(rt.alloc()))?;
-    assert_eq!(rt; tree.get_by_argument(0)?, None);
-    assert_eq!(rt; tree.rank_by_argument(&0)?, Err(0));
+    assert_eq!(rt; place(&tree, 0)?, None);
+    assert_eq!(rt; rank(&tree, 0)?, Err(0));
     fill(&rt, &mut tree, 64);
     assert_eq!(rt; tree.height(), 0);
-    assert_eq!(rt; tree.get_by_argument(63)?, Some((&63, &630)));
-    assert_eq!(rt; tree.get_by_argument(64)?, None);
-    assert_eq!(rt; tree.rank_by_argument(&63)?, Ok(0));
-    assert_eq!(rt; tree.rank_by_argument(&64)?, Err(0));
+    for (query, wanted) in [(63, Some((63, 630))), (64, None)] {
+        assert_eq!(rt; place(&tree, query)?, wanted);
+    }
+    for (key, wanted) in [(63, Ok(0)), (64, Err(0))] {
+        assert_eq!(rt; rank(&tree, key)?, wanted);
+    }
     Ok(())
+}
+
+// Writes the value at the place of a query.
+fn write(tree: &mut Tree, query: usize, value: u64) -> Result<(), SelectError> {
+    *tree.get_mut_by_argument(query)? = value;
+    Ok(())
+}
+
+// Asserts that the keys below 97 have the values that they were put in with, and 5 has 7.
+fn assert_written(rt: &impl Abort, tree: &Tree) {
+    assert_eq!(rt; tree.len(), 97);
+    for key in 0u64..97 {
+        let wanted = if key == 5 { 7 } else { key.saturating_mul(10) };
+        assert_eq!(rt; tree.get(&key), Some(&wanted));
+    }
 }
 
 #[test]
@@ -128,22 +158,9 @@ fn one_value_is_written(rt: HostRuntime) -> Result<(), Fail> {
     let mut tree: Tree = BPlusTree::new(NodeStoreVec::new(rt.alloc()))?;
     fill(&rt, &mut tree, 97);
     assert_eq!(rt; tree.height(), 1);
-    match tree.get_mut_by_argument(4) {
-        Ok(value) => *value = 7,
-        Err(_) => assert!(rt; false),
-    }
-    for key in 0u64..97 {
-        let wanted = if key == 5 { 7 } else { key.saturating_mul(10) };
-        assert_eq!(rt; tree.get(&key), Some(&wanted));
-    }
-    assert_eq!(rt;
-        tree.get_mut_by_argument(31).err(),
-        Some(SelectError::NotFound)
-    );
-    assert_eq!(rt;
-        tree.get_mut_by_argument(999).err(),
-        Some(SelectError::OutOfMemory)
-    );
-    assert_eq!(rt; tree.len(), 97);
+    assert_eq!(rt; write(&mut tree, 4, 7), Ok(()));
+    assert_eq!(rt; write(&mut tree, 31, 8), Err(SelectError::NotFound));
+    assert_eq!(rt; write(&mut tree, 999, 8), Err(SelectError::OutOfMemory));
+    assert_written(&rt, &tree);
     Ok(())
 }

@@ -2,8 +2,8 @@
 ghost use Rattle.std.proofs.Common.{rules};
 
 use crate::reading_tests::assert_well_shaped;
-use bptree_nodes::key::Key;
-use bptree_nodes::node_id::LeafNodeId;
+use bptree_keys::key::Key;
+use bptree_keys::node_id::LeafNodeId;
 use bptree_stores::node_store_vec::NodeStoreVec;
 use bptree_stores::node_stores::NodeStore;
 use bptree_tree::BPlusTree;
@@ -114,29 +114,35 @@ fn inner_nodes_split_in_each_order(rt: HostRuntime) -> Result<(), Fail> {
     Ok(())
 }
 
+type LetteredTree = BPlusTree<NodeStoreVec<Lettered, u64>>;
+
+// Puts a value at each number below 97, under keys with a letter.
+fn fill_lettered(
+    rt: &impl Abort,
+    tree: &mut LetteredTree,
+    letter: char,
+    value: u64,
+    was: Option<u64>,
+) {
+    for number in 0..97 {
+        let key = Lettered { number, letter };
+        assert_eq!(rt; tree.insert(key, value).ok(), Some(was));
+    }
+}
+
+fn assert_lettered(rt: &impl Abort, tree: &LetteredTree, letter: char, value: u64) {
+    for (key, there) in tree.iter() {
+        assert_eq!(rt; (key.letter, *there), (letter, value));
+    }
+}
+
 #[test]
 fn equal_keys_stay(rt: HostRuntime) -> Result<(), Fail> {
-    let mut tree: BPlusTree<NodeStoreVec<Lettered, u64>> = BPlusTree::new(NodeStoreVec::new(
-        rt.alloc(),
-    ))?;
-    for number in 0..97 {
-        let letter = 'a';
-        assert_eq!(rt;
-            tree.insert(Lettered { number, letter }, 1).ok(),
-            Some(None)
-        );
-    }
-    for number in 0..97 {
-        let letter = 'b';
-        assert_eq!(rt;
-            tree.insert(Lettered { number, letter }, 2).ok(),
-            Some(Some(1))
-        );
-    }
+    let mut tree: LetteredTree = BPlusTree::new(NodeStoreVec::new(rt.alloc()))?;
+    fill_lettered(&rt, &mut tree, 'a', 1, None);
+    fill_lettered(&rt, &mut tree, 'b', 2, Some(1));
     assert_eq!(rt; (tree.len(), tree.height()), (97, 1));
-    for (key, value) in tree.iter() {
-        assert_eq!(rt; (key.letter, *value), ('a', 2));
-    }
+    assert_lettered(&rt, &tree, 'a', 2);
     Ok(())
 }
 

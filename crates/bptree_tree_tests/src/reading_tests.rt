@@ -1,10 +1,11 @@
 //! Reads of an empty tree, and of one inner node over three leaves, against pairs that are known beforehand.
-use bptree_nodes::key::Key;
+use bptree_keys::key::Key;
+use bptree_keys::node_id::{LeafNodeId, NodeId};
 use bptree_nodes::leaf_node::LeafNode;
-use bptree_nodes::node_id::{LeafNodeId, NodeId};
 use bptree_stores::node_store_vec::NodeStoreVec;
 use bptree_stores::node_stores::NodeStore;
 use bptree_tree::BPlusTree;
+use bptree_tree::iterator::Iter;
 use std::alloc::{AllocError, Global};
 use std::process::Abort;
 use std::test::Fail;
@@ -157,20 +158,35 @@ pub fn assert_well_shaped<S: NodeStore>(
     Ok(())
 }
 
-#[test]
-fn an_empty_tree_has_nothing_to_read(rt: HostRuntime) -> Result<(), Fail> {
-    let mut tree: BPlusTree<Store> = BPlusTree::new(NodeStoreVec::new(rt.alloc()))?;
-    assert_well_shaped(&rt, rt.alloc(), &tree)?;
+// Writes the value at a key, and tells whether it is there.
+fn write(tree: &mut BPlusTree<Store>, key: u32, value: u32) -> bool {
+    match tree.get_mut(&key) {
+        Some(there) => {
+            *there = value;
+            true
+        }
+        None => false,
+    }
+}
+
+fn assert_no_pairs(rt: &impl Abort, tree: &BPlusTree<Store>) {
     assert!(rt; tree.is_empty());
     assert_eq!(rt; tree.len(), 0);
-    assert_eq!(rt; tree.height(), 0);
-    assert!(rt; tree.get(&0).is_none());
-    assert!(rt; tree.get_mut(&0).is_none());
     assert!(rt; tree.first().is_none());
     assert!(rt; tree.last().is_none());
     let mut pairs = tree.iter();
     assert!(rt; pairs.next().is_none());
     assert!(rt; pairs.next_back().is_none());
+}
+
+#[test]
+fn an_empty_tree_has_nothing_to_read(rt: HostRuntime) -> Result<(), Fail> {
+    let mut tree: BPlusTree<Store> = BPlusTree::new(NodeStoreVec::new(rt.alloc()))?;
+    assert_well_shaped(&rt, rt.alloc(), &tree)?;
+    assert_eq!(rt; tree.height(), 0);
+    assert!(rt; tree.get(&0).is_none());
+    assert!(rt; !write(&mut tree, 0, 1));
+    assert_no_pairs(&rt, &tree);
     Ok(())
 }
 
@@ -186,14 +202,18 @@ fn a_tree_of_three_leaves_is_well_shaped(rt: HostRuntime) -> Result<(), Fail> {
     Ok(())
 }
 
+fn assert_at(rt: &impl Abort, tree: &BPlusTree<Store>, key: u32, value: Option<u32>) {
+    assert_eq!(rt; tree.get(&key).copied(), value, "at {key}");
+}
+
 #[test]
 fn finds_each_key_and_no_gap(rt: HostRuntime) -> Result<(), Fail> {
     let tree = three_leaves(&rt, rt.alloc())?;
     // Neighbours in one leaf are found by the remembered leaf, and the next one by a search from the root.
     for half in 1..98_u32 {
         let key = half.saturating_mul(2);
-        assert_eq!(rt; tree.get(&key), Some(&key.saturating_add(1000)), "at {key}");
-        assert_eq!(rt; tree.get(&key.saturating_add(1)), None, "above {key}");
+        assert_at(&rt, &tree, key, Some(key.saturating_add(1000)));
+        assert_at(&rt, &tree, key.saturating_add(1), None);
     }
     // Each is in another leaf than the one before.
     for (key, value) in [
@@ -204,22 +224,21 @@ fn finds_each_key_and_no_gap(rt: HostRuntime) -> Result<(), Fail> {
         (130, 1130),
         (128, 1128),
     ] {
-        assert_eq!(rt; tree.get(&key), Some(&value), "at {key}");
-        assert_eq!(rt; tree.get(&key), Some(&value), "again at {key}");
+        assert_at(&rt, &tree, key, Some(value));
+        assert_at(&rt, &tree, key, Some(value));
     }
-    assert_eq!(rt; tree.get(&1), None);
-    assert_eq!(rt; tree.get(&0), None);
-    assert_eq!(rt; tree.get(&u32::MAX), None);
+    for key in [0, 1, u32::MAX] {
+        assert_at(&rt, &tree, key, None);
+    }
     Ok(())
 }
 
 #[test]
 fn writes_one_value_alone(rt: HostRuntime) -> Result<(), Fail> {
     let mut tree = three_leaves(&rt, rt.alloc())?;
-    assert!(rt; tree.get_mut(&65).is_none());
-    for key in [2_u32, 66, 192] {
-        let value = tree.get_mut(&key).expect(&rt, "the key is present");
-        *value = 7;
+    assert!(rt; !write(&mut tree, 65, 7));
+    for key in [2, 66, 192] {
+        assert!(rt; write(&mut tree, key, 7));
     }
     for half in 1..98_u32 {
         let key = half.saturating_mul(2);
@@ -227,38 +246,65 @@ fn writes_one_value_alone(rt: HostRuntime) -> Result<(), Fail> {
             2 | 66 | 192 => 7,
             _ => key.saturating_add(1000),
         };
-        assert_eq!(rt; tree.get(&key), Some(&value), "at {key}");
+        assert_at(&rt, &tree, key, Some(value));
     }
     assert_well_shaped(&rt, rt.alloc(), &tree)?;
     assert_eq!(rt; tree.len(), 97);
     Ok(())
 }
 
+fn front(pairs: &mut Iter<'_, Store>) -> Option<(u32, u32)> {
+    let (key, value) = pairs.next()?;
+    Some((*key, *value))
+}
+
+fn back(pairs: &mut Iter<'_, Store>) -> Option<(u32, u32)> {
+    let (key, value) = pairs.next_back()?;
+    Some((*key, *value))
+}
+
+// Asserts that the next pair from the front, or from the back, has this key, and the value that is 1000 greater.
+fn assert_front(rt: &impl Abort, pairs: &mut Iter<'_, Store>, key: u32) {
+    assert_eq!(rt; front(pairs), Some((key, key.saturating_add(1000))));
+}
+
+fn assert_back(rt: &impl Abort, pairs: &mut Iter<'_, Store>, key: u32) {
+    assert_eq!(rt; back(pairs), Some((key, key.saturating_add(1000))));
+}
+
+// Asserts that nothing comes any more, from either end.
+fn assert_over(rt: &impl Abort, pairs: &mut Iter<'_, Store>) {
+    assert_eq!(rt; front(pairs), None);
+    assert_eq!(rt; back(pairs), None);
+    assert_eq!(rt; front(pairs), None);
+}
+
 #[test]
-fn gives_the_pairs_from_both_ends(rt: HostRuntime) -> Result<(), Fail> {
+fn gives_the_pairs_from_each_end(rt: HostRuntime) -> Result<(), Fail> {
     let tree = three_leaves(&rt, rt.alloc())?;
     let mut forwards = tree.iter();
     let mut backwards = tree.iter();
-    let mut ends = tree.iter();
     for half in 1..98_u32 {
         let key = half.saturating_mul(2);
-        let other = 196_u32.saturating_sub(key);
-        assert_eq!(rt; forwards.next(), Some((&key, &key.saturating_add(1000))));
-        assert_eq!(rt;
-            backwards.next_back(),
-            Some((&other, &other.saturating_add(1000)))
-        );
-        if half <= 48 {
-            assert_eq!(rt; ends.next().map(|pair| *pair.0), Some(key));
-            assert_eq!(rt; ends.next_back().map(|pair| *pair.0), Some(other));
-        }
+        assert_front(&rt, &mut forwards, key);
+        assert_back(&rt, &mut backwards, 196_u32.saturating_sub(key));
     }
-    assert_eq!(rt; ends.next().map(|pair| *pair.0), Some(98));
-    for mut over in [forwards, backwards, ends] {
-        assert_eq!(rt; over.next(), None);
-        assert_eq!(rt; over.next_back(), None);
-        assert_eq!(rt; over.next(), None);
+    assert_over(&rt, &mut forwards);
+    assert_over(&rt, &mut backwards);
+    Ok(())
+}
+
+#[test]
+fn gives_the_pairs_from_both_ends_in_turn(rt: HostRuntime) -> Result<(), Fail> {
+    let tree = three_leaves(&rt, rt.alloc())?;
+    let mut pairs = tree.iter();
+    for half in 1..49_u32 {
+        let key = half.saturating_mul(2);
+        assert_front(&rt, &mut pairs, key);
+        assert_back(&rt, &mut pairs, 196_u32.saturating_sub(key));
     }
+    assert_front(&rt, &mut pairs, 98);
+    assert_over(&rt, &mut pairs);
     Ok(())
 }
 
@@ -273,10 +319,10 @@ fn a_clone_of_an_iterator_goes_on_alone(rt: HostRuntime) -> Result<(), Fail> {
     let mut copy = pairs.clone()?;
     assert_eq!(rt; copy.len(), 56);
     assert_eq!(rt; copy.size_hint(), (56, Some(56)));
-    assert_eq!(rt; copy.next(), Some((&82, &1082)));
-    assert_eq!(rt; copy.next_back(), Some((&192, &1192)));
+    assert_front(&rt, &mut copy, 82);
+    assert_back(&rt, &mut copy, 192);
     assert_eq!(rt; copy.len(), 54);
     assert_eq!(rt; pairs.len(), 56);
-    assert_eq!(rt; pairs.next(), Some((&82, &1082)));
+    assert_front(&rt, &mut pairs, 82);
     Ok(())
 }

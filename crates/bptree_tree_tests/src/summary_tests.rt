@@ -5,10 +5,10 @@ use crate::reading_tests::assert_well_shaped;
 use bptree_arguments::argument::Argument;
 use bptree_arguments::count::Count;
 use bptree_arguments_tests::even_count::EvenCount;
-use bptree_nodes::node_id::{InnerNodeId, LeafNodeId};
+use bptree_keys::node_id::{InnerNodeId, LeafNodeId};
 use bptree_stores::node_store_vec::NodeStoreVec;
 use bptree_stores::node_stores::NodeStore;
-use bptree_tree::{BPlusTree, InsertError};
+use bptree_tree::{BPlusTree, InsertError, SelectError};
 use std::alloc::{AllocError, Global};
 use std::process::Abort;
 use std::test::Fail;
@@ -38,6 +38,23 @@ fn fill<A: Argument<u64>>(
     }
 }
 
+fn pair_at(tree: &Tree<Count>, place: usize) -> Result<Option<(u64, u64)>, AllocError> {
+    match tree.get_by_argument(place)? {
+        Some((key, value)) => Ok(Some((*key, *value))),
+        None => Ok(None),
+    }
+}
+
+fn rank(tree: &Tree<Count>, key: u64) -> Result<Result<usize, usize>, AllocError> {
+    tree.rank_by_argument(&key)
+}
+
+// Writes the value at a place.
+fn write(tree: &mut Tree<Count>, place: usize, value: u64) -> Result<(), SelectError> {
+    *tree.get_mut_by_argument(place)? = value;
+    Ok(())
+}
+
 // Asserts the counts of a tree that holds `len` keys from `least` on, and each place and rank.
 fn assert_counted(
     rt: &impl Abort,
@@ -50,14 +67,14 @@ fn assert_counted(
     for place in 0..len {
         let key = least.wrapping_add(place as u64);
         assert_eq!(rt;
-            tree.get_by_argument(place)?,
-            Some((&key, &value_of(key))),
+            pair_at(tree, place)?,
+            Some((key, value_of(key))),
             "place {place}"
         );
-        assert_eq!(rt; tree.rank_by_argument(&key)?, Ok(place), "rank of {key}");
+        assert_eq!(rt; rank(tree, key)?, Ok(place), "rank of {key}");
     }
     for past in [0, 1, 1000] {
-        assert_eq!(rt; tree.get_by_argument(len.saturating_add(past))?, None);
+        assert_eq!(rt; pair_at(tree, len.saturating_add(past))?, None);
     }
     Ok(())
 }
@@ -70,18 +87,15 @@ fn three_pairs_are_counted(rt: HostRuntime) -> Result<(), Fail> {
         assert_eq!(rt; tree.insert(key, value).ok(), Some(None));
     }
     assert_eq!(rt; tree.root_argument().count(), 3);
-    for (key, rank) in [(0, Err(0)), (1, Ok(0)), (2, Ok(1)), (3, Ok(2)), (4, Err(3))] {
-        assert_eq!(rt; tree.rank_by_argument(&key)?, rank, "rank of {key}");
+    for (key, wanted) in [(0, Err(0)), (1, Ok(0)), (2, Ok(1)), (3, Ok(2)), (4, Err(3))] {
+        assert_eq!(rt; rank(&tree, key)?, wanted, "rank of {key}");
     }
-    assert_eq!(rt; tree.get_by_argument(0)?, Some((&1, &2)));
-    assert_eq!(rt; tree.get_by_argument(1)?, Some((&2, &3)));
-    assert_eq!(rt; tree.get_by_argument(2)?, Some((&3, &4)));
-    assert_eq!(rt; tree.get_by_argument(3)?, None);
-    match tree.get_mut_by_argument(0) {
-        Ok(value) => *value = 20,
-        Err(_) => assert!(rt; false),
+    for (place, pair) in [(0, (1, 2)), (1, (2, 3)), (2, (3, 4))] {
+        assert_eq!(rt; pair_at(&tree, place)?, Some(pair));
     }
-    assert_eq!(rt; tree.get_by_argument(0)?, Some((&1, &20)));
+    assert_eq!(rt; pair_at(&tree, 3)?, None);
+    assert_eq!(rt; write(&mut tree, 0, 20), Ok(()));
+    assert_eq!(rt; pair_at(&tree, 0)?, Some((1, 20)));
     Ok(())
 }
 
@@ -92,8 +106,8 @@ fn places_and_ranks_in_each_order(rt: HostRuntime) -> Result<(), Fail> {
         let mut tree: Tree<Count> = BPlusTree::new(NodeStoreVec::new(rt.alloc()))?;
         fill(&rt, &mut tree, 2, 498, start, step);
         assert_counted(&rt, &tree, 2, 498)?;
-        assert_eq!(rt; tree.rank_by_argument(&1)?, Err(0));
-        assert_eq!(rt; tree.rank_by_argument(&500)?, Err(498));
+        assert_eq!(rt; rank(&tree, 1)?, Err(0));
+        assert_eq!(rt; rank(&tree, 500)?, Err(498));
         assert_well_shaped(&rt, rt.alloc(), &tree)?;
     }
     Ok(())
@@ -104,7 +118,7 @@ fn the_first_split_keeps_the_counts(rt: HostRuntime) -> Result<(), Fail> {
     let mut tree: Tree<Count> = BPlusTree::new(NodeStoreVec::new(rt.alloc()))?;
     fill(&rt, &mut tree, 0, 65, 0, 1);
     assert_eq!(rt; tree.height(), 1);
-    assert_eq!(rt; tree.rank_by_argument(&64)?, Ok(64));
+    assert_eq!(rt; rank(&tree, 64)?, Ok(64));
     assert_counted(&rt, &tree, 0, 65)?;
     Ok(())
 }
@@ -215,15 +229,19 @@ fn assert_same(rt: &impl Abort, tree: &Tree<Barred>, wanted: &Tree<Barred>) {
     assert_eq!(rt; tree.height(), wanted.height());
     assert_eq!(rt; tree.root_id(), wanted.root_id());
     assert_eq!(rt; tree.root_argument(), wanted.root_argument());
+    assert_same_pairs(rt, tree, wanted);
+    for number in 0..100 {
+        assert_same_leaf(rt, tree, wanted, LeafNodeId::from_usize(number));
+        assert_same_inner(rt, tree, wanted, InnerNodeId::from_usize(number));
+    }
+}
+
+fn assert_same_pairs(rt: &impl Abort, tree: &Tree<Barred>, wanted: &Tree<Barred>) {
     let mut pairs = wanted.iter();
     for pair in tree.iter() {
         assert_eq!(rt; Some(pair), pairs.next());
     }
     assert_eq!(rt; pairs.next(), None);
-    for number in 0..100 {
-        assert_same_leaf(rt, tree, wanted, LeafNodeId::from_usize(number));
-        assert_same_inner(rt, tree, wanted, InnerNodeId::from_usize(number));
-    }
 }
 
 fn assert_same_leaf(rt: &impl Abort, tree: &Tree<Barred>, wanted: &Tree<Barred>, id: LeafNodeId) {

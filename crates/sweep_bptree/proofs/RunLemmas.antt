@@ -3,7 +3,7 @@ use Rattle.std.proofs.Common.{◌≡◌, ℕ, List, [], ◌∷◌, ◌++◌, len
 use Rattle.std.specs.declared.cmp.Ordering.{Ordering}
 use Rattle.std.proofs.Math.Seq.{take-append_seam}
 use Rattle.std.proofs.Common.{Option, Bool, true, false, Result, Err, IsTrue, ◌↔◌}
-use Rattle.bptree_nodes.specs.Contents.{has}
+use Rattle.bptree_keys.specs.Contents.{has}
 use Rattle.bptree_tree.specs.declared.InsertError.{InsertError}
 use Rattle.bptree_tree.specs.declared.InsertError.TheVariants.{OutOfMemory, Full}
 use Rattle.bptree_tree.specs.Refusal.{pair_of}

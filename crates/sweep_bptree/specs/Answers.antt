@@ -4,7 +4,7 @@ use Rattle.std.specs.List.{join_with_byte}
 use Rattle.std.specs.Map.{keys_of}
 use Rattle.std.specs.Ordering.{nat_cmp}
 use Rattle.bptree_arguments.specs.CountLaws.{count_below}
-use Rattle.bptree_nodes.specs.Contents.{has, value, put}
+use Rattle.bptree_keys.specs.Contents.{has, value, put}
 use Rattle.bptree_requests.specs.Request.{request_of}
 use Rattle.bptree_requests.specs.declared.Request.{Request}
 use Rattle.bptree_requests.specs.declared.Request.TheVariants.{Put, Get, Len, All, First, Last, At, Rank}

@@ -4,7 +4,7 @@ use Rattle.std.specs.declared.cmp.Ordering.{Ordering}
 use Rattle.std.specs.declared.cmp.Ordering.TheVariants.{Equal}
 use Rattle.std.specs.Map.{keys_of}
 use Rattle.bptree_arguments.specs.Selection.{IsPlaceIn}
-use Rattle.bptree_nodes.specs.Contents.{has, value, put}
+use Rattle.bptree_keys.specs.Contents.{has, value, put}
 use Rattle.bptree_nodes.specs.Leaf.{set_value_at}
 use Rattle.bptree_tree.specs.ByArgument.{IsSelected}
 use Rattle.bptree_tree.specs.Lending.{written}

@@ -2,11 +2,12 @@
 
 pub use bptree_arguments::argument::{Argument, RankArgument, SearchArgument};
 pub use bptree_arguments::count;
+pub use bptree_keys::key::{Key, Tuple2};
+pub use bptree_keys::node_id::{InnerNodeId, LeafNodeId, NodeId};
+pub use bptree_keys::{entry_ref, node_id};
 pub use bptree_nodes::inner_node::{InnerMergeResult, InnerNode};
-pub use bptree_nodes::key::{Key, Tuple2};
 pub use bptree_nodes::leaf_node::{LeafDeleteResult, LeafNode, LeafUpsertResult};
-pub use bptree_nodes::node_id::{InnerNodeId, LeafNodeId, NodeId};
-pub use bptree_nodes::{entry_ref, inner_node, leaf_node, node_id};
+pub use bptree_nodes::{inner_node, leaf_node};
 pub use bptree_stores::node_store_vec::NodeStoreVec;
 pub use bptree_stores::node_stores;
 pub use bptree_stores::node_stores::{CloneStore, NodeStore};

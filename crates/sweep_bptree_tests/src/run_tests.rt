@@ -2,7 +2,7 @@
 ghost use Rattle.std.proofs.Common.{rules};
 
 use bptree_arguments::count::Count;
-use bptree_nodes::key::{Key, Tuple2};
+use bptree_keys::key::{Key, Tuple2};
 use bptree_stores::node_store_vec::NodeStoreVec;
 use bptree_tree::BPlusTree;
 use std::alloc::AllocError;

@@ -2,7 +2,7 @@
 ghost use Rattle.std.specs.Prelude.{◌≡◌, IfOk, MatchResult, is_ok};
 ghost use Rattle.std.specs.Map.{keys_of};
 ghost use Rattle.std.specs.Option.{option_map};
-ghost use Rattle.bptree_nodes.specs.Contents.{has};
+ghost use Rattle.bptree_keys.specs.Contents.{has};
 ghost use Rattle.bptree_tree.specs.ByArgument.{IsSelected};
 
 use crate::tree::BPlusTree;

@@ -4,7 +4,7 @@ ghost use Rattle.std.specs.Option.{option_map};
 ghost use Rattle.sweep_bptree.specs.Steps.{RepliesCopy, Step, Run, reply_to_refusal};
 
 use bptree_arguments::argument::{RankArgument, SearchArgument};
-use bptree_nodes::key::Key;
+use bptree_keys::key::Key;
 use bptree_stores::node_stores::NodeStore;
 use bptree_tree::{BPlusTree, InsertError, SelectError};
 use std::alloc::{AllocError, Global};

@@ -3,7 +3,7 @@ ghost use Rattle.std.specs.Prelude.{◌≡◌, ◌≤◌, [], ◌∷◌, ◌++�
 ghost use Rattle.std.specs.Map.{keys_of};
 ghost use Rattle.std.specs.Ordering.{nat_cmp};
 ghost use Rattle.bptree_arguments.specs.CountLaws.{count_below};
-ghost use Rattle.bptree_nodes.specs.Contents.{has, value};
+ghost use Rattle.bptree_keys.specs.Contents.{has, value};
 ghost use Rattle.bptree_requests.specs.Request.{request_of};
 ghost use Rattle.sweep_bptree.specs.Answers.{pair_text, found_text, item_text, pairs_text, rank_text, old_text, value_text, put_text, pairs_with_put, reply_to, pairs_with, answer, pairs_after};
 ghost use Rattle.sweep_bptree.specs.Sent.{SendsOrFails, Replies};

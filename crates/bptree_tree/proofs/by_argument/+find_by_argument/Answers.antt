@@ -1,6 +1,6 @@
 use Rattle.std.proofs.Common.{arith, ◌-◌}
 use Rattle.std.proofs.lemmas.Result.{IfOk-weaker}
-use Rattle.bptree_nodes.specs.declared.node_id.NodeId.TheVariants.{Inner, Leaf}
+use Rattle.bptree_keys.specs.declared.node_id.NodeId.TheVariants.{Inner, Leaf}
 use Rattle.bptree_tree.specs.ByArgument.{IsSubtree, IsSelectedAt}
 use Rattle.bptree_tree.proofs.Down.{inner_present}
 use Rattle.bptree_tree.proofs.Summed.{child_subtree, place_within, nowhere, found_below, leaf_none, leaf_some, leaf_sorted}

@@ -2,8 +2,8 @@ use Rattle.std.proofs.Common.{arith, sym, ap, subst, ◌-◌, ◌∙◌, ◌≡�
 use Rattle.std.specs.Map.{keys_of}
 use Rattle.std.specs.Result.{is_ok}
 use Rattle.std.proofs.lemmas.Result.{IfOk-weaker}
-use Rattle.bptree_nodes.specs.Contents.{has}
-use Rattle.bptree_nodes.specs.declared.node_id.NodeId.TheVariants.{Inner, Leaf}
+use Rattle.bptree_keys.specs.Contents.{has}
+use Rattle.bptree_keys.specs.declared.node_id.NodeId.TheVariants.{Inner, Leaf}
 use Rattle.bptree_tree.specs.ByArgument.{IsSubtree, RanksAmong}
 use Rattle.bptree_tree.specs.Shape.{pairs_at}
 use Rattle.bptree_tree.proofs.Down.{inner_present, node_children, node_leads}

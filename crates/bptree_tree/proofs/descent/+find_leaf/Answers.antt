@@ -1,6 +1,6 @@
 use Rattle.std.proofs.Common.{arith}
 use Rattle.bptree_tree.specs.Leaves.{Stands}
-use Rattle.bptree_nodes.specs.declared.node_id.NodeId.TheVariants.{Inner}
+use Rattle.bptree_keys.specs.declared.node_id.NodeId.TheVariants.{Inner}
 use Rattle.bptree_tree.proofs.Down.{inner_present, node_leads, child_stands, leaf_for_node, leaf_for_leaf}
 use Rattle.bptree_tree.proofs.descent.+find_leaf.Goals as goal
 

@@ -1,5 +1,5 @@
 use Rattle.std.proofs.Common.{arith}
-use Rattle.bptree_nodes.specs.declared.node_id.NodeId.TheVariants.{Inner}
+use Rattle.bptree_keys.specs.declared.node_id.NodeId.TheVariants.{Inner}
 use Rattle.bptree_tree.specs.Leaves.{Stands}
 use Rattle.bptree_tree.proofs.Down.{inner_present, node_children, child_stands}
 use Rattle.bptree_tree.proofs.Ends.{last_above, last_of_leaf}

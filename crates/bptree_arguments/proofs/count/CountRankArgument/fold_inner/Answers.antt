@@ -1,7 +1,7 @@
 use Rattle.std.proofs.Common.{arith, length-append}
 use Rattle.bptree_arguments.proofs.CountLemmas.{sum_by-lengths}
 use Rattle.bptree_arguments.proofs.count.CountRankArgument.fold_inner.Goals as goal
-use Rattle.bptree_nodes.specs.Pieces.{flatten}
+use Rattle.bptree_keys.specs.Pieces.{flatten}
 
 pub returns : goal.returns
 returns g c = record {

@@ -3,7 +3,7 @@ use Rattle.std.proofs.lemmas.List.{take_all}
 use Rattle.std.proofs.lemmas.List.Sums.{length-filter, count_by-le-length}
 use Rattle.bptree_arguments.proofs.CountLemmas.{sum_by-filters}
 use Rattle.bptree_arguments_tests.proofs.even_count.EvenCountArgumentU64.from_inner.Goals as goal
-use Rattle.bptree_nodes.specs.Pieces.{flatten}
+use Rattle.bptree_keys.specs.Pieces.{flatten}
 
 pub returns : goal.returns
 returns c = record {

@@ -1,5 +1,5 @@
 use Rattle.std.proofs.Common.{rules}
-use Rattle.bptree_nodes.proofs.Found.{inserted}
+use Rattle.bptree_keys.proofs.Found.{inserted}
 use Rattle.bptree_nodes.proofs.LeafContents.{value_at_place, put_at_place}
 use Rattle.bptree_nodes.proofs.leaf_node.LeafNode.try_upsert.Goals as goal
 

@@ -1,5 +1,5 @@
 use Rattle.std.proofs.Common.{arith}
-use Rattle.bptree_nodes.proofs.PieceLemmas.{AllZip-length}
+use Rattle.bptree_keys.proofs.PieceLemmas.{AllZip-length}
 use Rattle.bptree_tree_tests.proofs.by_argument_tests.LevelsSearchArgumentU64.locate_in_inner.Goals as goal
 
 -- there are as many pieces as summaries

@@ -1,0 +1,136 @@
+-- The parts of a list at a place, and where a search ends.
+use Rattle.std.proofs.Common.{◌≡◌, ℕ, ◌<◌, ◌≤◌, ◌+◌, zero, suc, false, List, [], ◌∷◌, ◌++◌, length, get_or, set, take, drop, refl, sym, ap, subst, ◌∙◌, arith, Result, Ok, Err, slice_get, IsSomeAnd, Some, None}
+use Rattle.std.specs.declared.cmp.Ordering.{Ordering}
+use Rattle.std.specs.declared.cmp.Ordering.TheVariants.{Less, Equal, Greater}
+use Rattle.std.specs.Ordering.{is_lt, is_eq, ordering_index}
+use Rattle.std.specs.List.{AllByRecursion, AllWithin, insert}
+use Rattle.std.specs.List.Sorted.{IsSearchInRange, IsBinarySearchResult, IsNonDecreasingBy}
+use Rattle.std.specs.Cmp.{IsTotalOrder}
+use Rattle.std.specs.Map.{keys_of, set_value}
+use Rattle.std.proofs.lemmas.List.{get_or-drop, length-drop, take-append-drop, get_or-map, length-take-le, take_at, drop_at, length-append}
+use Rattle.std.proofs.lemmas.List.Elements.{recursion_from_All}
+use Rattle.std.proofs.lemmas.List.Sorted.{searchable_from_sorted}
+use Rattle.std.proofs.lemmas.Map.Keys.{Less-from_sorted}
+use Rattle.std.proofs.lemmas.Map.Entries.{length-keys_of}
+use Rattle.bptree_keys.specs.Contents.{IsAscending, below, has, value, put, pairs_below, pairs_above}
+use Rattle.bptree_keys.specs.Places.{AllAnswer, IsGap, IsHit, IsPlaceOf}
+use Rattle.bptree_keys.proofs.Ascending.{equal_parts, greater_turned, gap_if_absent, ascending_with_value, ascending_in_gap}
+use Rattle.bptree_keys.proofs.Parted.{has_gap, pairs_below_gap, value_gap, put_gap, value_hit, put_hit, set_value_hit}
+
+-- the parts before, at and after a place
+pub parts_at : {X : Type 0} (xs : List X) (i : ℕ) (d : X) → i < length xs → xs ≡ take i xs ++ get_or xs i d ∷ drop (suc i) xs
+parts_at [] i d within = absurd (omega arith)
+parts_at (x ∷ xs) zero d within = refl
+parts_at (x ∷ xs) (suc i) d within = ap (λ rest. x ∷ rest) (parts_at xs i d (omega arith))
+
+-- a write at a place
+pub set_at : {X : Type 0} (xs : List X) (i : ℕ) (x : X) → i < length xs → set xs i x ≡ take i xs ++ x ∷ drop (suc i) xs
+set_at [] i x within = absurd (omega arith)
+set_at (y ∷ xs) zero x within = refl
+set_at (y ∷ xs) (suc i) x within = ap (λ rest. y ∷ rest) (set_at xs i x (omega arith))
+
+-- what holds below a place, and from it on
+pub all_taken : {X : Type 0} (P : X → Type 0) (xs : List X) (i : ℕ) → i ≤ length xs → AllWithin P xs 0 i → AllByRecursion P (take i xs)
+all_taken P [] zero within all = tt
+all_taken P [] (suc i) within all = absurd (omega arith)
+all_taken P (x ∷ xs) zero within all = tt
+all_taken P (x ∷ xs) (suc i) within all = (all 0 x (omega arith) (omega arith), all_taken P xs i (omega arith) (λ j d from to. all (suc j) d (omega arith) (omega arith)))
+
+pub all_dropped : {X : Type 0} (P : X → Type 0) (xs : List X) (i : ℕ) → AllWithin P xs i (length xs) → AllByRecursion P (drop i xs)
+all_dropped P xs i all = recursion_from_All P (drop i xs) (λ j d within. rw get_or-drop (all (i + j) d (omega arith) (omega (arith, length-drop i xs))))
+
+-- a gap, by the length of its first part
+gap_by_length : {K V : Type 0} (cmp : K → K → Ordering) (l before after : List (K × V)) (k : K) (i : ℕ) → IsGap cmp l before after k → i ≡ length before → (i ≤ length l) × IsGap cmp l (take i l) (drop i l) k
+gap_by_length cmp l before after k i gap at =
+    let first : take i l ≡ before = ap (take i) gap.parts ∙ take_at before after i (sym at) in
+    let rest : drop i l ≡ after = ap (drop i) gap.parts ∙ drop_at before after i (sym at) in (
+      omega (arith, ap length gap.parts, length-append before after),
+      record {
+        parts = sym (take-append-drop i l);
+        smaller = subst (AllAnswer cmp k Less) (sym first) gap.smaller;
+        greater = subst (AllAnswer cmp k Greater) (sym rest) gap.greater;
+      },
+    )
+
+module _ {K V : Type 0} (cmp : K → K → Ordering) (total : IsTotalOrder cmp) (l : List (K × V)) (ascending : IsAscending cmp l) (k : K) where
+  -- the answers rise along an ascending list
+  pub answers_rise : IsNonDecreasingBy (λ pair. ordering_index (cmp pair.0 k)) l
+  answers_rise = searchable_from_sorted total (λ pair. pair.0) l k (λ i d from within.
+      let keys_len : length (keys_of l) ≡ length l = length-keys_of l in
+      let here = get_or-map (λ (pair : K × V). pair.0) l i d d.0 (omega arith) in
+      let after = get_or-map (λ (pair : K × V). pair.0) l (i + 1) d d.0 within in
+      let less : cmp (get_or l i d).0 (get_or l (i + 1) d).0 ≡ Less = rw (← here, ← after) (Less-from_sorted cmp (keys_of l) i (i + 1) d.0 ascending (omega arith) (omega arith)) in
+      ap is_lt (greater_turned cmp total _ _ less))
+
+  -- what a search that rises answers
+  pub place_from_search : (r : Result ℕ ℕ) → IsSearchInRange r (length l) → IsBinarySearchResult (λ pair. cmp pair.0 k) l r → IsPlaceOf cmp l k r
+  place_from_search (Ok i) within found = some_at l i within found
+    where
+      some_at : (xs : List (K × V)) (i : ℕ) → i < length xs → ((d : K × V) → cmp (get_or xs i d).0 k ≡ Equal) → IsSomeAnd (slice_get xs i) (λ pair. cmp pair.0 k ≡ Equal)
+      some_at [] i within found = absurd (omega arith)
+      some_at (x ∷ xs) zero within found = found x
+      some_at (x ∷ xs) (suc i) within found = some_at xs i (omega arith) found
+  place_from_search (Err i) within found =
+      let gap : IsGap cmp l (take i l) (drop i l) k = record {
+        parts = sym (take-append-drop i l);
+        smaller = all_taken (λ pair. cmp pair.0 k ≡ Less) l i within (found answers_rise).0;
+        greater = all_dropped (λ pair. cmp pair.0 k ≡ Greater) l i (found answers_rise).1;
+      } in
+      (has_gap cmp l _ _ k gap, rw (pairs_below_gap cmp l _ _ k gap, length-keys_of, length-take-le i l within) refl)
+
+  -- an equal key at a place
+  pub hit_at : (i : ℕ) (d : K × V) → IsSomeAnd (slice_get l i) (λ pair. cmp pair.0 k ≡ Equal) → (i < length l) × IsHit cmp l (take i l) (get_or l i d) (drop (suc i) l) k
+  hit_at i d found =
+      let within = read_within l i found in
+      let is_equal = read_holds l i d found in
+      let hit = equal_parts cmp total (take i l) (get_or l i d) (drop (suc i) l) k (subst (IsAscending cmp) (parts_at l i d within) ascending) is_equal in
+      (within, record { parts = parts_at l i d within; smaller = hit.smaller; equal = hit.equal; greater = hit.greater })
+    where
+      read_within : (xs : List (K × V)) (i : ℕ) → IsSomeAnd (slice_get xs i) (λ pair. cmp pair.0 k ≡ Equal) → i < length xs
+      read_within [] i found = absurd found
+      read_within (x ∷ xs) zero found = omega arith
+      read_within (x ∷ xs) (suc i) found = omega (arith, read_within xs i found)
+
+      read_holds : (xs : List (K × V)) (i : ℕ) (d : K × V) → IsSomeAnd (slice_get xs i) (λ pair. cmp pair.0 k ≡ Equal) → cmp (get_or xs i d).0 k ≡ Equal
+      read_holds [] i d found = absurd found
+      read_holds (x ∷ xs) zero d found = found
+      read_holds (x ∷ xs) (suc i) d found = read_holds xs i d found
+
+  -- the gap of a key that is not there
+  pub gap_at : (i : ℕ) → has cmp l k ≡ false → i ≡ length (below cmp l k) → (i ≤ length l) × IsGap cmp l (take i l) (drop i l) k
+  gap_at i absent place = gap_by_length cmp l (pairs_below cmp l k) (pairs_above cmp l k) k i (gap_if_absent cmp total l k ascending absent) (place ∙ length-keys_of (pairs_below cmp l k))
+
+  -- a new value at the place of an equal key, whose pair is the one that was read
+  pub replaced : (i : ℕ) (pair : K × V) (v : V) → IsSomeAnd (slice_get l i) (λ pair. cmp pair.0 k ≡ Equal) → pair ≡ get_or l i pair → record {
+    ascending : IsAscending cmp (set l i (pair.0, v));
+    old : value cmp l k ≡ Some pair.1;
+    new : set l i (pair.0, v) ≡ put cmp l k v;
+    lent : set l i (pair.0, v) ≡ set_value (λ key. is_eq (cmp key k)) l v;
+  }
+  replaced i pair v found read =
+      let at = hit_at i pair found in
+      let hit : IsHit cmp l (take i l) pair (drop (suc i) l) k = rw read at.1 in
+      let written : set l i (pair.0, v) ≡ take i l ++ (pair.0, v) ∷ drop (suc i) l = set_at l i (pair.0, v) at.0 in
+      record {
+        ascending = rw written (ascending_with_value cmp (take i l) pair v (drop (suc i) l) (subst (IsAscending cmp) hit.parts ascending));
+        old = value_hit cmp l _ pair _ k hit;
+        new = written ∙ sym (put_hit cmp l _ pair _ k hit v);
+        lent = written ∙ sym (set_value_hit cmp l _ pair _ k hit v);
+      }
+
+  -- a new pair where its key would go
+  pub inserted : (i : ℕ) (v : V) → has cmp l k ≡ false → i ≡ length (below cmp l k) → record {
+    in_range : i ≤ length l;
+    ascending : IsAscending cmp (insert l i (k, v));
+    old : value cmp l k ≡ None;
+    new : insert l i (k, v) ≡ put cmp l k v;
+  }
+  inserted i v absent place =
+      let at = gap_at i absent place in
+      let gap = at.1 in
+      record {
+        in_range = at.0;
+        ascending = ascending_in_gap cmp total (take i l) (drop i l) k v (subst (IsAscending cmp) gap.parts ascending) gap.smaller gap.greater;
+        old = value_gap cmp l _ _ k gap;
+        new = sym (put_gap cmp l _ _ k gap v);
+      }

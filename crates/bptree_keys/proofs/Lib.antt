@@ -1,0 +1,10 @@
+pub mod Around
+pub mod Ascending
+pub mod Equal
+pub mod Found
+pub mod Laws
+pub mod Locating
+pub mod Parted
+pub mod PieceLemmas
+pub mod Steps
+pub mod Updates

@@ -1,0 +1,6 @@
+pub mod Contents
+pub mod Keys
+pub mod Locate
+pub mod Numbers
+pub mod Pieces
+pub mod Places

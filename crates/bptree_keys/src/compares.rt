@@ -1,0 +1,102 @@
+//! Comparisons of keys, counted.
+ghost use Rattle.std.specs.Prelude.{◌≡◌, ◌+◌, ◌≤◌, min, length, count_by, IfOk};
+ghost use Rattle.std.specs.Ordering.{is_le};
+ghost use Rattle.std.specs.List.{HoldsAt};
+ghost use Rattle.std.specs.List.Sorted.{IsBinarySearchResult, IsSearchInRange, IsStrictlySortedBy};
+ghost use Rattle.bptree_keys.specs.Locate.{locate};
+
+use std::cmp::Ordering;
+use std::marker::Model;
+
+/// How many comparisons were made. The count stops at the greatest `usize`.
+#[derive(Drop)]
+pub struct Compares {
+    count: usize,
+}
+
+impl Model for Compares {
+    ghost use Rattle.std.specs.Prelude.{ℕ};
+
+    ghost Value = { ℕ };
+
+    ghost view = { λ c. c.count };
+}
+
+impl Compares {
+    pub fn new() -> Self
+        ensures { result ≡ 0 }
+    {
+        Compares { count: 0 }
+    }
+
+    pub fn count(&self) -> usize
+        ensures { result ≡ self.now }
+    {
+        self.count
+    }
+
+    /// Compares two keys, and adds one to the count.
+    pub fn compare<K: Ord>(&mut self, a: &K, b: &K) -> Ordering
+        ensures order { result ≡ K.cmp a.now b.now }
+        ensures count { self.new ≡ min (self.old + 1) usize.MAX }
+    {
+        self.count = self.count.saturating_add(1);
+        a.cmp(b)
+    }
+}
+
+/// Finds `key` in ascending `keys`, or the place where it belongs. The widths of the steps are fixed, and each step
+/// moves by a product, so that the compiler makes no branch on a comparison.
+#[inline]
+fn search<K: Ord>(keys: &[K], key: &K, compares: &mut Compares) -> Result<usize, usize>
+    requires { length keys.now ≤ 64 }
+    ensures in_range { IsSearchInRange result (length keys.now) }
+    ensures position { IsBinarySearchResult (λ y. K.cmp y key.now) keys.now result }
+    ensures count { compares.new ≤ compares.old + 7 }
+{
+    if keys.is_empty() {
+        return Err(0);
+    }
+    let mut base = 0usize;
+    let mut width = 64usize;
+    'widths: while width > 1 {
+        let half = width / 2;
+        if half < keys.len() - base {
+            let is_past = compares.compare(&keys[base + half], key).is_le();
+            base += usize::from(is_past) * half;
+        }
+        width -= half;
+    }
+    let ordering = compares.compare(&keys[base], key);
+    if ordering.is_eq() {
+        Ok(base)
+    } else {
+        Err(base + usize::from(ordering.is_lt()))
+    }
+}
+
+/// The place of `key` among ascending `keys`, or how many are smaller.
+#[inline]
+pub fn locate_counted<K: Ord>(keys: &[K], key: &K, compares: &mut Compares) -> Result<usize, usize>
+    requires { length keys.now ≤ 64 }
+    ensures in_range { IsSearchInRange result (length keys.now) }
+    ensures found { IfOk result (HoldsAt (λ y. K.cmp y key.now ≡ Ordering.Equal) keys.now) }
+    ensures ascending { IsStrictlySortedBy K.cmp keys.now → result ≡ locate K.cmp keys.now key.now }
+    ensures count { compares.new ≤ compares.old + 7 }
+{
+    search(keys, key, compares)
+}
+
+/// How many of ascending `keys` are not greater than `key`.
+#[inline]
+pub fn count_upto_counted<K: Ord>(keys: &[K], key: &K, compares: &mut Compares) -> usize
+    requires { length keys.now ≤ 64 }
+    ensures in_range { result ≤ length keys.now }
+    ensures ascending { IsStrictlySortedBy K.cmp keys.now → result ≡ count_by (λ y. is_le (K.cmp y key.now)) keys.now }
+    ensures count { compares.new ≤ compares.old + 7 }
+{
+    match locate_counted(keys, key, compares) {
+        Ok(slot) => slot + 1,
+        Err(slot) => slot,
+    }
+}

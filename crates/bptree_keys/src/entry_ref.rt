@@ -1,0 +1,129 @@
+//! The path from the root to an entry of a leaf.
+ghost use Rattle.std.specs.Prelude.{◌≡◌, ◌==◌, ◌<◌, ◌≤◌, ◌∷◌, ◌++◌, [], length, IsSome, IfSome, IfNone, ◌↔◌};
+
+use crate::node_id::{InnerNodeId, LeafNodeId, NodeId};
+use arrayvec::ArrayVec;
+use std::marker::Model;
+
+/// The greatest number of inner nodes on a path.
+pub const PATH_CAPACITY: usize = 15;
+
+/// The inner nodes on a path: each with the place and the number of the child that the path takes.
+#[derive(Drop)]
+pub struct VisitStack {
+    entries: ArrayVec<(InnerNodeId, usize, NodeId), { PATH_CAPACITY }>,
+}
+
+impl Model for VisitStack {
+    ghost use Rattle.std.specs.Prelude.{List, ℕ};
+    ghost use Rattle.bptree_keys.specs.declared.node_id.InnerNodeId.{InnerNodeId};
+    ghost use Rattle.bptree_keys.specs.declared.node_id.NodeId.{NodeId};
+
+    ghost Value = { List (InnerNodeId × ℕ × NodeId) };
+
+    ghost view = { λ s. s.entries.items };
+}
+
+impl VisitStack {
+    pub fn new() -> Self
+        ensures { result ≡ [] }
+    {
+        VisitStack {
+            entries: ArrayVec::new(),
+        }
+    }
+
+    /// The number of entries.
+    pub fn len(&self) -> usize
+        ensures value { result ≡ length self.now }
+        ensures fits { result ≤ 15 }
+    {
+        self.entries.len()
+    }
+
+    pub fn is_empty(&self) -> bool
+        ensures { result ≡ (length self.now == 0) }
+    {
+        self.entries.is_empty()
+    }
+
+    /// Puts an inner node at the end of the path. There must be room.
+    pub fn push(&mut self, id: InnerNodeId, offset: usize, child: NodeId)
+        requires { length self.old < 15 }
+        ensures { self.new ≡ self.old ++ (id, offset, child) ∷ [] }
+    {
+        self.entries.push((id, offset, child));
+    }
+
+    /// Takes the last inner node off the path, if there is one.
+    pub fn pop(&mut self) -> Option<(InnerNodeId, usize, NodeId)>
+        ensures variant { IsSome result ↔ (0 < length self.old) }
+        ensures some { IfSome result (λ entry. self.old ≡ self.new ++ entry ∷ []) }
+        ensures none { IfNone result (self.new ≡ self.old) }
+    {
+        self.entries.pop()
+    }
+}
+
+/// An entry of a leaf of a tree, with the path to it.
+#[derive(Drop)]
+pub struct EntryRef<TR> {
+    pub tree: TR,
+    pub inner_stack: VisitStack,
+    pub leaf_id: LeafNodeId,
+    pub offset: usize,
+}
+
+/// An entry of a leaf, without its tree.
+#[derive(Drop)]
+pub struct EntryRefDetached {
+    pub inner_stack: VisitStack,
+    pub leaf_id: LeafNodeId,
+    pub offset: usize,
+}
+
+impl<TR> EntryRef<TR> {
+    pub fn new(tree: TR, inner_stack: VisitStack, leaf_id: LeafNodeId, offset: usize) -> Self
+        ensures { result ≡ record { tree = tree; inner_stack = inner_stack; leaf_id = leaf_id; offset = offset } }
+    {
+        EntryRef {
+            tree,
+            inner_stack,
+            leaf_id,
+            offset,
+        }
+    }
+}
+
+impl<TR: Drop> EntryRef<TR> {
+    /// The same entry, without its tree.
+    pub fn to_detached(self) -> EntryRefDetached
+        ensures { result ≡ record { inner_stack = self.inner_stack; leaf_id = self.leaf_id; offset = self.offset } }
+    {
+        let EntryRef {
+            tree: _,
+            inner_stack,
+            leaf_id,
+            offset,
+        } = self;
+        EntryRefDetached {
+            inner_stack,
+            leaf_id,
+            offset,
+        }
+    }
+}
+
+impl EntryRefDetached {
+    /// The same entry, in `tree`.
+    pub fn to_ref<TR>(self, tree: TR) -> EntryRef<TR>
+        ensures { result ≡ record { tree = tree; inner_stack = self.inner_stack; leaf_id = self.leaf_id; offset = self.offset } }
+    {
+        let EntryRefDetached {
+            inner_stack,
+            leaf_id,
+            offset,
+        } = self;
+        EntryRef::new(tree, inner_stack, leaf_id, offset)
+    }
+}

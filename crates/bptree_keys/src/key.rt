@@ -1,0 +1,85 @@
+//! The law of the keys of a tree, and the keys of the library.
+
+ghost use Rattle.std.specs.Prelude.{◌≡◌, string_bytes};
+ghost use Rattle.std.specs.declared.cmp.Ordering.{Ordering};
+ghost use Rattle.std.specs.declared.cmp.Ordering.TheVariants.{Equal};
+ghost use Rattle.std.proofs.Common.{rules};
+ghost use Rattle.std.proofs.lemmas.Cmp.{nat_list_cmp_total};
+ghost use Rattle.bptree_keys.specs.Keys.{equal_if_same, then_equal};
+
+/// A type whose values are put in order, and whose clones are equal to their originals.
+pub trait Key: Clone + Ord {
+    ghost clone_is_equal: { (x y : Self) → Self.is_clone x y → Self.cmp x y ≡ Equal };
+}
+
+impl Key for u8 {
+    ghost clone_is_equal = { Prim.search rules };
+}
+
+impl Key for u16 {
+    ghost clone_is_equal = { Prim.search rules };
+}
+
+impl Key for u32 {
+    ghost clone_is_equal = { Prim.search rules };
+}
+
+impl Key for u64 {
+    ghost clone_is_equal = { Prim.search rules };
+}
+
+impl Key for u128 {
+    ghost clone_is_equal = { Prim.search rules };
+}
+
+impl Key for usize {
+    ghost clone_is_equal = { Prim.search rules };
+}
+
+impl Key for i8 {
+    ghost clone_is_equal = { Prim.search rules };
+}
+
+impl Key for i16 {
+    ghost clone_is_equal = { Prim.search rules };
+}
+
+impl Key for i32 {
+    ghost clone_is_equal = { Prim.search rules };
+}
+
+impl Key for i64 {
+    ghost clone_is_equal = { Prim.search rules };
+}
+
+impl Key for i128 {
+    ghost clone_is_equal = { Prim.search rules };
+}
+
+impl Key for isize {
+    ghost clone_is_equal = { Prim.search rules };
+}
+
+impl Key for char {
+    ghost clone_is_equal = { Prim.search rules };
+}
+
+impl Key for bool {
+    ghost clone_is_equal = { Prim.search rules };
+}
+
+impl Key for String {
+    ghost clone_is_equal = { λ x y same. equal_if_same nat_list_cmp_total (string_bytes x) (string_bytes y) same };
+}
+
+impl<A: Key, B: Key> Key for (A, B) {
+    ghost clone_is_equal = { λ x y is. then_equal (A.clone_is_equal x.0 y.0 is.0) (B.clone_is_equal x.1 y.1 is.1) };
+}
+
+/// The first of a pair.
+#[derive(Clone, PartialEq, Eq, PartialOrd, Ord, Debug, Drop)]
+pub struct Tuple2<T>(pub T);
+
+impl<T: Key> Key for Tuple2<T> {
+    ghost clone_is_equal = { λ x y is. T.clone_is_equal x.0 y.0 is };
+}

@@ -1,5 +1,0 @@
-use Rattle.bptree_nodes.proofs.Laws.{gather_ascending}
-use Rattle.bptree_nodes.proofs.contents.law_of_gather.Goals as goal
-
-pub returns : goal.returns
-returns g c = λ pairs. gather_ascending g.K.Ord.cmp g.met.K.Ord.total pairs
