@@ -1,5 +1,5 @@
 -- A tree reads the same in two stores that agree at the numbers that it reaches.
-use Rattle.std.proofs.Common.{◌≡◌, ℕ, zero, suc, ◌+◌, ◌<◌, ◌≤◌, cond, List, [], ◌∷◌, length, map, get_or, refl, ap, sym, subst, arith, Option, Some, eqb}
+use Rattle.std.proofs.Common.{◌≡◌, ℕ, zero, suc, ◌+◌, ◌<◌, ◌≤◌, cond, List, [], ◌∷◌, length, get_or, refl, ap, sym, subst, arith, Option, eqb}
 use Rattle.std.specs.declared.cmp.Ordering.{Ordering}
 use Rattle.std.specs.List.{AllByRecursion}
 use Rattle.std.specs.Map.{keys_of}
@@ -7,13 +7,14 @@ use Rattle.std.proofs.lemmas.Bool.{eq-eqb}
 use Rattle.bptree_keys.specs.Contents.{IsAscending}
 use Rattle.bptree_nodes.specs.Inner.{Inner}
 use Rattle.bptree_nodes.specs.Leaf.{Leaf}
-use Rattle.bptree_nodes.specs.Slot.{Slot, Slots, Free, Held, Present, IsPresent}
+use Rattle.bptree_nodes.specs.Slot.{Slot, Slots, IsPresent}
 use Rattle.bptree_keys.specs.declared.node_id.InnerNodeId.{InnerNodeId}
 use Rattle.bptree_keys.specs.declared.node_id.LeafNodeId.{LeafNodeId}
 use Rattle.bptree_keys.specs.declared.node_id.NodeId.{NodeId}
 use Rattle.bptree_keys.specs.declared.node_id.NodeId.TheVariants as kind
-use Rattle.bptree_tree.specs.Order.{flat, total, Within, Chain}
+use Rattle.bptree_tree.specs.Order.{total, Within}
 use Rattle.bptree_tree.specs.Shape.{leaf_pairs, inner_keys, inner_children, pairs_at, leaves_at, leaf_count, inner_count, stands, IsTree, IsSummed}
+use Rattle.bptree_tree.proofs.Agreeing.{stands_le, present_if_stands, flat_same, total_same, map_same, each_keeps, Chain-so}
 use Rattle.bptree_tree.proofs.Ordered.{all_so}
 
 -- P holds of each member but the one at place i
@@ -21,39 +22,6 @@ abbrev pub EachBut : {X : Type 0} → (X → Type 0) → List X → ℕ → Type
 EachBut P [] i = Unit {0}
 EachBut P (x ∷ xs) zero = AllByRecursion P xs
 EachBut P (x ∷ xs) (suc i) = P x × EachBut P xs i
-
-module _ {N : Type 0} where
-  pub stands_le : (x : Slot N) → stands x ≤ 1
-  stands_le Free = omega arith
-  stands_le Held = omega arith
-  stands_le (Present x) = omega arith
-
-  pub present_if_stands : (x : Slot N) → 1 ≤ stands x → IsPresent x
-  present_if_stands Free h = absurd (omega arith)
-  present_if_stands Held h = absurd (omega arith)
-  present_if_stands (Present x) h = tt
-
-  pub stands_if_present : (x : Slot N) → IsPresent x → stands x ≡ 1
-  stands_if_present Free h = absurd h
-  stands_if_present Held h = absurd h
-  stands_if_present (Present x) h = refl
-
-  pub stands_if_absent : (x : Slot N) → (IsPresent x → ⊥) → stands x ≡ 0
-  stands_if_absent Free h = refl
-  stands_if_absent Held h = refl
-  stands_if_absent (Present x) h = absurd (h tt)
-
-pub flat_same : {X Y : Type 0} (f g : X → List Y) (xs : List X) → AllByRecursion (λ x. g x ≡ f x) xs → flat g xs ≡ flat f xs
-flat_same f g [] a = refl
-flat_same f g (x ∷ xs) a = rw (a.0, flat_same f g xs a.1) refl
-
-pub total_same : {X : Type 0} (f g : X → ℕ) (xs : List X) → AllByRecursion (λ x. g x ≡ f x) xs → total g xs ≡ total f xs
-total_same f g [] a = refl
-total_same f g (x ∷ xs) a = rw (a.0, total_same f g xs a.1) refl
-
-pub map_same : {X Y : Type 0} (f g : X → Y) (xs : List X) → AllByRecursion (λ x. g x ≡ f x) xs → map g xs ≡ map f xs
-map_same f g [] a = refl
-map_same f g (x ∷ xs) a = rw (a.0, map_same f g xs a.1) refl
 
 pub in_total : {X : Type 0} (f : X → ℕ) (xs : List X) (i : ℕ) (d : X) → i < length xs → f (get_or xs i d) ≤ total f xs
 in_total f [] i d h = absurd (omega arith)
@@ -64,18 +32,6 @@ pub but_so : {X : Type 0} (P Q : X → Type 0) → ((x : X) → P x → Q x) →
 but_so P Q so [] i a = tt
 but_so P Q so (x ∷ xs) zero a = all_so P Q so xs a
 but_so P Q so (x ∷ xs) (suc i) a = (so x a.0, but_so P Q so xs i a.1)
-
--- each member keeps what it had
-pub each_keeps : {X : Type 0} (P Q : X → Type 0) (xs : List X) → AllByRecursion (λ x. P x → Q x) xs → AllByRecursion P xs → AllByRecursion Q xs
-each_keeps P Q [] so all = tt
-each_keeps P Q (x ∷ xs) so all = (so.0 all.0, each_keeps P Q xs so.1 all.1)
-
-pub Chain-so : {C K : Type 0} (cmp : K → K → Ordering) (P Q : C → Option K → Option K → Type 0) (ks : List K) (cs : List C) (lo hi : Option K)
-    → AllByRecursion (λ c. (a b : Option K) → P c a b → Q c a b) cs → Chain cmp P ks cs lo hi → Chain cmp Q ks cs lo hi
-Chain-so cmp P Q ks [] lo hi all h = absurd h
-Chain-so cmp P Q [] (c ∷ []) lo hi all h = all.0 lo hi h
-Chain-so cmp P Q [] (c ∷ d ∷ cs) lo hi all h = absurd h
-Chain-so cmp P Q (k ∷ ks) (c ∷ cs) lo hi all h = (all.0 lo (Some k) h.0, h.1, Chain-so cmp P Q ks cs (Some k) hi all.1 h.2)
 
 module _ {K V A : Type 0} (cmp : K → K → Ordering) (is_summary : A → List K → Type 0) (old new : Slots (Inner K A) (Leaf K V)) where
   -- a tree that stays as it was

@@ -25,7 +25,7 @@ use Rattle.bptree_tree.specs.Edit.{IsLocal, Edits}
 use Rattle.bptree_tree.specs.Order.{AtLeast, AtMost, Under, Within, Between}
 use Rattle.bptree_tree.specs.Shape.{leaf_pairs, leaf_count, stands, IsTree}
 use Rattle.bptree_tree.specs.Outcome.{Done, Split}
-use Rattle.bptree_tree.proofs.Mended.{absent_stands}
+use Rattle.bptree_tree.proofs.Agreeing.{stands_if_absent}
 use Rattle.bptree_tree.proofs.Ordered.{all_so, not_less_back, smaller_before, ascending_after}
 use Rattle.bptree_tree.proofs.Spot.{ascending_before}
 
@@ -154,7 +154,7 @@ module _ {K V A : Type 0} {cmp : K → K → Ordering} (total : IsTotalOrder cmp
     split_stands : (n : ℕ) → cond (eqb fresh.0 n) 1 0 + stands (old.leaf n) ≡ stands (new.leaf n)
     split_stands n =
         elim (eqb_tells fresh.0 n) [
-          | inl same ↦ (rw (same.0, ← same.1, splits.at_right) (omega (arith, absent_stands (old.leaf fresh.0) splits.absent)))
+          | inl same ↦ (rw (same.0, ← same.1, splits.at_right) (omega (arith, stands_if_absent (old.leaf fresh.0) splits.absent)))
           | inr other ↦ (rw other.0
               (elim (eqb_tells n leaf.0) [
                 | inl same ↦ rw (same.1, here, splits.at_left) refl

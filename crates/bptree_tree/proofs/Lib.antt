@@ -1,3 +1,4 @@
+pub mod Agreeing
 pub mod Alike
 pub mod Climbing
 pub mod ClimbingTwo

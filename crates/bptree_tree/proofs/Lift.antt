@@ -22,7 +22,8 @@ use Rattle.bptree_tree.specs.Order.{flat, total, Within, Between, Chain, Leads}
 use Rattle.bptree_tree.specs.Sums.{with_summary}
 use Rattle.bptree_tree.specs.Shape.{inner_keys, inner_children, pairs_at, leaves_at, leaf_count, inner_count, stands, IsTree, IsSummed}
 use Rattle.bptree_tree.specs.Outcome.{Outcome, Done, Split}
-use Rattle.bptree_tree.proofs.Frame.{stands_le, stands_if_absent, flat_same, total_same, map_same, each_keeps, Chain-so, Same, all_same}
+use Rattle.bptree_tree.proofs.Agreeing.{stands_le, stands_if_absent, flat_same, total_same, map_same, each_keeps, Chain-so}
+use Rattle.bptree_tree.proofs.Frame.{Same, all_same}
 use Rattle.bptree_tree.proofs.Hinted.{total-append}
 use Rattle.bptree_tree.proofs.Ordered.{all_so, AtLeast-up}
 use Rattle.bptree_tree.proofs.Walk.{flat-append}

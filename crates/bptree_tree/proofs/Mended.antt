@@ -1,6 +1,6 @@
 -- Trees whose inner nodes stay and whose leaves keep their pairs read the same, whatever their links; and the links are
 -- mended where a leaf stands new among the others.
-use Rattle.std.proofs.Common.{◌≡◌, ℕ, zero, suc, ◌+◌, ◌≤◌, inl, inr, cond, List, [], ◌∷◌, ◌++◌, map, refl, sym, ap, ◌∙◌, arith, Option, Some, None, eqb}
+use Rattle.std.proofs.Common.{◌≡◌, ℕ, zero, suc, ◌+◌, ◌≤◌, inl, inr, cond, List, [], ◌∷◌, ◌++◌, refl, sym, ap, ◌∙◌, arith, Option, Some, None, eqb}
 use Rattle.std.specs.declared.cmp.Ordering.{Ordering}
 use Rattle.std.specs.List.{AllByRecursion}
 use Rattle.std.specs.Map.{keys_of}
@@ -8,14 +8,15 @@ use Rattle.std.proofs.lemmas.Bool.{eq-eqb}
 use Rattle.std.proofs.lemmas.Bool.Decides.{eqb_tells}
 use Rattle.bptree_nodes.specs.Inner.{Inner}
 use Rattle.bptree_nodes.specs.Leaf.{Leaf}
-use Rattle.bptree_nodes.specs.Slot.{Slot, Slots, Free, Held, Present, IsPresent}
+use Rattle.bptree_nodes.specs.Slot.{Slot, Slots, Held, Present, IsPresent}
 use Rattle.bptree_keys.specs.declared.node_id.LeafNodeId.{LeafNodeId}
 use Rattle.bptree_keys.specs.declared.node_id.NodeId.{NodeId}
 use Rattle.bptree_keys.specs.declared.node_id.NodeId.TheVariants as kind
 use Rattle.bptree_tree.specs.Change.{Mends}
 use Rattle.bptree_tree.specs.Edit.{LinksAt}
-use Rattle.bptree_tree.specs.Order.{flat, total, Chain}
+use Rattle.bptree_tree.specs.Order.{total}
 use Rattle.bptree_tree.specs.Shape.{leaf_pairs, leaf_prev, leaf_next, inner_keys, inner_children, pairs_at, leaves_at, leaf_count, inner_count, stands, AreLinked, IsSummed, IsTree}
+use Rattle.bptree_tree.proofs.Agreeing.{present_if_stands, stands_if_present, flat_same, total_same, map_same, each_keeps, Chain-so}
 use Rattle.bptree_tree.proofs.Hinted.{total-append, count_of, first_or}
 use Rattle.bptree_tree.proofs.Ordered.{all_so}
 
@@ -23,49 +24,6 @@ use Rattle.bptree_tree.proofs.Ordered.{all_so}
 pub record KeepsPairs {K V : Type 0} (old new : Slot (Leaf K V)) : Type 0 where
   pub pairs : leaf_pairs new ≡ leaf_pairs old
   pub stands : stands new ≡ stands old
-
-pub stands_most : {N : Type 0} (slot : Slot N) → stands slot ≤ 1
-stands_most Free = omega arith
-stands_most Held = omega arith
-stands_most (Present node) = omega arith
-
-pub present_if_stands : {N : Type 0} (slot : Slot N) → 1 ≤ stands slot → IsPresent slot
-present_if_stands Free some = absurd (omega arith)
-present_if_stands Held some = absurd (omega arith)
-present_if_stands (Present node) some = tt
-
-pub absent_stands : {N : Type 0} (slot : Slot N) → (IsPresent slot → ⊥) → stands slot ≡ 0
-absent_stands Free absent = refl
-absent_stands Held absent = refl
-absent_stands (Present node) absent = absurd (absent tt)
-
-stands_if_present : {N : Type 0} (slot : Slot N) → IsPresent slot → stands slot ≡ 1
-stands_if_present Free there = absurd there
-stands_if_present Held there = absurd there
-stands_if_present (Present node) there = refl
-
-flat_same : {X Y : Type 0} (f g : X → List Y) (xs : List X) → AllByRecursion (λ x. g x ≡ f x) xs → flat g xs ≡ flat f xs
-flat_same f g [] all = refl
-flat_same f g (x ∷ xs) all = rw (all.0, flat_same f g xs all.1) refl
-
-total_same : {X : Type 0} (f g : X → ℕ) (xs : List X) → AllByRecursion (λ x. g x ≡ f x) xs → total g xs ≡ total f xs
-total_same f g [] all = refl
-total_same f g (x ∷ xs) all = rw (all.0, total_same f g xs all.1) refl
-
-map_same : {X Y : Type 0} (f g : X → Y) (xs : List X) → AllByRecursion (λ x. g x ≡ f x) xs → map g xs ≡ map f xs
-map_same f g [] all = refl
-map_same f g (x ∷ xs) all = rw (all.0, map_same f g xs all.1) refl
-
-all_on : {X : Type 0} (P Q : X → Type 0) (xs : List X) → AllByRecursion (λ x. P x → Q x) xs → AllByRecursion P xs → AllByRecursion Q xs
-all_on P Q [] each all = tt
-all_on P Q (x ∷ xs) each all = (each.0 all.0, all_on P Q xs each.1 all.1)
-
-chain_so : {C K : Type 0} (cmp : K → K → Ordering) (P Q : C → Option K → Option K → Type 0) (ks : List K) (cs : List C) (lo hi : Option K)
-    → AllByRecursion (λ c. (a b : Option K) → P c a b → Q c a b) cs → Chain cmp P ks cs lo hi → Chain cmp Q ks cs lo hi
-chain_so cmp P Q ks [] lo hi all chain = absurd chain
-chain_so cmp P Q [] (c ∷ []) lo hi all chain = all.0 lo hi chain
-chain_so cmp P Q [] (c ∷ d ∷ cs) lo hi all chain = absurd chain
-chain_so cmp P Q (k ∷ ks) (c ∷ cs) lo hi all chain = (all.0 lo (Some k) chain.0, chain.1, chain_so cmp P Q ks cs (Some k) hi all.1 chain.2)
 
 module _ {K V A : Type 0} (cmp : K → K → Ordering) (is_summary : A → List K → Type 0) (old new : Slots (Inner K A) (Leaf K V)) where
   -- what a tree reads is the same, but for links
@@ -111,11 +69,11 @@ module _ {K V A : Type 0} (cmp : K → K → Ordering) (is_summary : A → List 
           leaves = λ n. rw e (total_same (λ c. leaf_count old h c n) (λ c. leaf_count new h c n) cs (all_so _ _ (λ c same. same.leaves n) cs all));
           inners = λ n. rw e (ap (λ m. cond (eqb id.0 n) 1 0 + m) (total_same (λ c. inner_count old h c n) (λ c. inner_count new h c n) cs (all_so _ _ (λ c same. same.inners n) cs all)));
           tree = λ least lo hi tree.
-              rw e (tree.0, chain_so cmp (IsTree cmp old 16 h) (IsTree cmp new 16 h) (inner_keys (old.inner id.0)) cs lo hi (all_so _ _ (λ c same a b. same.tree 16 a b) cs all) tree.1, tree.2, tree.3);
+              rw e (tree.0, Chain-so cmp (IsTree cmp old 16 h) (IsTree cmp new 16 h) (inner_keys (old.inner id.0)) cs lo hi (all_so _ _ (λ c same a b. same.tree 16 a b) cs all) tree.1, tree.2, tree.3);
           summed = λ sums.
               rw e (
                 rw (map_same (λ c. keys_of (pairs_at old h c)) (λ c. keys_of (pairs_at new h c)) cs (all_so _ _ (λ c same. ap keys_of same.pairs) cs all)) sums.0,
-                all_on (IsSummed old is_summary h) (IsSummed new is_summary h) cs (all_so _ _ (λ c same. same.summed) cs all) sums.1,
+                each_keeps (IsSummed old is_summary h) (IsSummed new is_summary h) cs (all_so _ _ (λ c same. same.summed) cs all) sums.1,
               );
         }
 

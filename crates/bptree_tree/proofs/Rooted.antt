@@ -18,7 +18,8 @@ use Rattle.bptree_tree.specs.Order.{flat, Chain}
 use Rattle.bptree_tree.specs.Shape.{leaf_next, inner_keys, inner_children, pairs_at, leaves_at, leaf_count, inner_count, stands, AreLinked, IsSummed, IsTree, IsWellShaped, root_least}
 use Rattle.bptree_tree.specs.Outcome.{Done, Split}
 use Rattle.bptree_tree.proofs.Hinted.{count_of, count_leaves, first_or, linked_next}
-use Rattle.bptree_tree.proofs.Mended.{KeepsPairs, ReadsSame, reads_same, stands_most, present_if_stands, absent_stands, SameLinks, same_links, linked_same, each_counted, linked_mended, mended_pairs, mended_inner, mended_held}
+use Rattle.bptree_tree.proofs.Agreeing.{stands_le, present_if_stands, stands_if_absent}
+use Rattle.bptree_tree.proofs.Mended.{KeepsPairs, ReadsSame, reads_same, SameLinks, same_links, linked_same, each_counted, linked_mended, mended_pairs, mended_inner, mended_held}
 
 module _ {C K V : Type 0} (cmp : K → K → Ordering) (f : C → List (K × V)) (P : C → Option K → Option K → Type 0) (b : ℕ) (each : (c : C) (lo hi : Option K) → P c lo hi → b ≤ length (f c)) where
   chain_long : (ks : List K) (cs : List C) (lo hi : Option K) → Chain cmp P ks cs lo hi → b + b * length ks ≤ length (flat f cs)
@@ -127,7 +128,7 @@ module _ {K V A : Type 0} (cmp : K → K → Ordering) (is_summary : A → List 
     kept n = rw roots.leaf (record { pairs = refl; stands = refl })
 
     not_new : (n : ℕ) → 1 ≤ inner_count new h root n + inner_count new h right n → after.inner n ≡ new.inner n
-    not_new n some = roots.sets.others n (λ q. let z : stands (new.inner n) ≡ 0 = rw q (absent_stands (new.inner id.0) roots.absent) in omega (arith, some, z, edits.inners n, shape.inners n))
+    not_new n some = roots.sets.others n (λ q. let z : stands (new.inner n) ≡ 0 = rw q (stands_if_absent (new.inner id.0) roots.absent) in omega (arith, some, z, edits.inners n, shape.inners n))
 
     at_left : ReadsSame cmp is_summary new after h root
     at_left = reads_same cmp is_summary new after kept h root (λ n some. not_new n (omega (arith, some)))
@@ -138,7 +139,7 @@ module _ {K V A : Type 0} (cmp : K → K → Ordering) (is_summary : A → List 
     one_more : (n : ℕ) → stands (after.inner n) ≡ stands (new.inner n) + cond (eqb id.0 n) 1 0
     one_more n =
         elim (eqb_tells id.0 n) [
-          | inl same ↦ (rw (same.0, ← same.1, roots.sets.changed) (omega (arith, absent_stands (new.inner id.0) roots.absent)))
+          | inl same ↦ (rw (same.0, ← same.1, roots.sets.changed) (omega (arith, stands_if_absent (new.inner id.0) roots.absent)))
           | inr other ↦ (rw (other.0, roots.sets.others n (λ q. other.1 (sym q))) (omega arith))
         ]
 
@@ -183,7 +184,7 @@ module _ {K V A : Type 0} (cmp : K → K → Ordering) (is_summary : A → List 
     links = subst (λ ids. AreLinked old None ids None) was shape.linked
 
     unique : (n : ℕ) → count_of (before ++ leaf ∷ fresh ∷ after) n ≤ 1
-    unique n = omega (arith, ap (λ ids. count_of ids n) is, count_leaves mid height top n, tree.leaves n, stands_most (mid.leaf n))
+    unique n = omega (arith, ap (λ ids. count_of ids n) is, count_leaves mid height top n, tree.leaves n, stands_le (mid.leaf n))
 
     present : (n : ℕ) → 1 ≤ count_of (before ++ leaf ∷ after) n → IsPresent (old.leaf n)
     present n some = present_leaf cmp is_summary old h root shape n (omega (arith, some, ap (λ ids. count_of ids n) was))

@@ -17,7 +17,8 @@ use Rattle.bptree_tree.specs.Edit.{IsLocal, CanReach, Extends, Edits}
 use Rattle.bptree_tree.specs.Order.{flat, total, Within, Between, Chain, Leads}
 use Rattle.bptree_tree.specs.Shape.{inner_keys, inner_children, pairs_at, leaves_at, leaf_count, inner_count, stands, IsTree, IsSummed}
 use Rattle.bptree_tree.specs.Outcome.{Outcome, Done, Split}
-use Rattle.bptree_tree.proofs.Frame.{EachBut, stands_le, flat_same, total_same, map_same, in_total, but_so, each_keeps, Chain-so, Same, others_same}
+use Rattle.bptree_tree.proofs.Agreeing.{stands_le, flat_same, total_same, map_same, each_keeps, Chain-so}
+use Rattle.bptree_tree.proofs.Frame.{EachBut, in_total, but_so, Same, others_same}
 use Rattle.bptree_tree.proofs.Ordered.{AtMost-up}
 use Rattle.bptree_tree.proofs.Walk.{flat_parts, chain_smaller, chain_greater, chain_place, chain_length, tree_inside}
 
