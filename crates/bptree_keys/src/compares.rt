@@ -23,12 +23,14 @@ impl Model for Compares {
 }
 
 impl Compares {
+    /// No comparison yet.
     pub fn new() -> Self
         ensures { result ≡ 0 }
     {
         Compares { count: 0 }
     }
 
+    /// How many there were.
     pub fn count(&self) -> usize
         ensures { result ≡ self.now }
     {
