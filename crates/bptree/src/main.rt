@@ -2,14 +2,12 @@
 #![tactic(auto)]
 
 use std::process::ExitCode;
-use sweep_bptree::script::serve;
+use sweep_bptree::script::{exit_status, serve};
 
 fn main(rt: HostRuntime) -> ExitCode {
-    match serve(rt.alloc(), &mut rt.stdin(), &mut rt.stdout()) {
-        Ok(()) => ExitCode::SUCCESS,
-        Err(error) => {
-            let _ = rt.eprintln(error);
-            ExitCode::from(error.status())
-        }
+    let served = serve(rt.alloc(), &mut rt.stdin(), &mut rt.stdout());
+    if let Err(error) = &served {
+        let _ = rt.eprintln(error);
     }
+    ExitCode::from(exit_status(&served))
 }

@@ -1,9 +1,11 @@
 //! Counts of keys: a tree that keeps them finds a key by its place, and ranks a key among all.
-ghost use Rattle.std.specs.Prelude.{◌≡◌, ◌+◌, ◌-◌, ◌^◌, List, length, min, IfOk};
+ghost use Rattle.std.specs.Prelude.{◌≡◌, ◌<◌, ◌≤◌, ◌+◌, ◌-◌, ◌^◌, ◌++◌, List, length, min, is_ok, IfOk, IfErr, MatchResult};
 ghost use Rattle.std.specs.List.{sum_by, AllZip};
+ghost use Rattle.std.specs.List.Sorted.{IsStrictlySortedBy};
 ghost use Rattle.std.proofs.Common.{rules};
 ghost use Rattle.bptree_arguments.specs.CountLaws.{SelectsPlace, count_below};
-ghost use Rattle.bptree_keys.specs.Pieces.{ArePieces, flatten};
+ghost use Rattle.bptree_arguments.specs.Ranks.{AllAbove, AllBelow, IsSlotOf};
+ghost use Rattle.bptree_keys.specs.Pieces.{AllNonEmpty, ArePieces, flatten};
 
 use crate::argument::{Argument, RankArgument, SearchArgument};
 use bptree_keys::key::Key;
@@ -42,7 +44,10 @@ fn total_of(start: usize, arguments: &[Count]) -> usize
 impl<K: Key> Argument<K> for Count {
     ghost is_summary = { λ a keys. a.0 ≡ length keys };
 
-    fn from_leaf(keys: &[K]) -> Result<Count, AllocError> {
+    fn from_leaf(keys: &[K]) -> Result<Count, AllocError>
+        ensures summary { IfOk result (λ a. 0 < length keys.now → IsStrictlySortedBy K.cmp keys.now → a.0 ≡ length keys.now) }
+        ensures exact { IfOk result (λ a. a.0 ≡ length keys.now) }
+    {
         Ok(Count(keys.len()))
     }
 
@@ -102,7 +107,10 @@ impl<K: Key> RankArgument<K> for Count {
     }
 
     /// One step a child.
-    fn fold_inner(_k: &K, rank: usize, arguments: &[Count]) -> Result<usize, AllocError> {
+    fn fold_inner(_k: &K, rank: usize, arguments: &[Count]) -> Result<usize, AllocError>
+        ensures carries { IfOk result (λ next. (before : List K) (pieces : List (List K)) → AllNonEmpty pieces → AllZip (λ b keys. b.0 ≡ length keys) arguments.now pieces → IsStrictlySortedBy K.cmp (before ++ flatten pieces) → AllBelow K.cmp _k.now (before ++ flatten pieces) → length (before ++ flatten pieces) < 2 ^ 64 → rank ≡ length before → next ≡ length (before ++ flatten pieces)) }
+        ensures capped { IfOk result (λ next. next ≡ min (rank + sum_by (λ b. b.0) arguments.now) (2 ^ 64 - 1)) }
+    {
         Ok(total_of(rank, arguments))
     }
 
@@ -111,7 +119,16 @@ impl<K: Key> RankArgument<K> for Count {
         rank: usize,
         slot: Result<usize, usize>,
         _keys: &[K],
-    ) -> Result<Result<usize, usize>, AllocError> {
+    ) -> Result<Result<usize, usize>, AllocError>
+        requires few { length _keys.now ≤ 64 }
+        requires placed { IsSlotOf K.cmp _k.now _keys.now slot }
+        ensures variant { IfOk result (λ answer. is_ok answer ≡ is_ok slot) }
+        ensures ranked { IfOk result (λ answer. (before after : List K) → IsStrictlySortedBy K.cmp (before ++ (_keys.now ++ after)) → AllBelow K.cmp _k.now before → AllAbove K.cmp _k.now after → length (before ++ (_keys.now ++ after)) < 2 ^ 64 → rank ≡ length before → MatchResult answer (λ r. r ≡ count_below K.cmp _k.now (before ++ (_keys.now ++ after))) (λ r. r ≡ count_below K.cmp _k.now (before ++ (_keys.now ++ after)))) }
+
+        // The same of a key that is present, and of one that is not.
+        ensures present { IfOk slot (λ i. IfOk result (λ answer. answer ≡ Ok (min (rank + i) (2 ^ 64 - 1)))) }
+        ensures absent { IfErr slot (λ i. IfOk result (λ answer. answer ≡ Err (min (rank + i) (2 ^ 64 - 1)))) }
+    {
         Ok(match slot {
             Ok(i) => Ok(rank.saturating_add(i)),
             Err(i) => Err(rank.saturating_add(i)),

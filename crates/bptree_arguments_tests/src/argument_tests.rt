@@ -2,7 +2,6 @@
 ghost use Rattle.std.specs.Prelude.{⊤};
 
 use bptree_arguments::argument::Argument;
-use bptree_keys::key::Key;
 use std::alloc::{AllocError, Global};
 use std::test::Fail;
 
@@ -28,26 +27,18 @@ impl Argument<u64> for Seen {
     ghost default_is_summary = { λ _ _. tt };
 }
 
-fn over_two_leaves<K: Key, A: Argument<K>>(
-    alloc: Global,
-    left: &[K],
-    separators: &[K],
-    right: &[K],
-) -> Result<(bool, A), AllocError> {
+// Whether the argument need not be kept up, and what it is over two leaves.
+fn over_two_leaves<A: Argument<u64>>(alloc: Global) -> Result<(bool, A), AllocError> {
     let mut arguments = Vec::new(alloc);
-    arguments.push(A::from_leaf(left)?)?;
-    arguments.push(A::from_leaf(right)?)?;
-    Ok((A::is_zst(), A::from_inner(separators, &arguments)?))
+    arguments.push(A::from_leaf(&[1, 2, 3])?)?;
+    arguments.push(A::from_leaf(&[5, 6])?)?;
+    Ok((A::is_zst(), A::from_inner(&[4], &arguments)?))
 }
 
 #[test]
 fn makes_arguments_of_leaves_and_of_an_inner_node(rt: HostRuntime) -> Result<(), Fail> {
-    let (zst, none) = over_two_leaves::<u64, ()>(rt.alloc(), &[1, 2, 3], &[4], &[5, 6])?;
-    assert!(rt; zst);
-    assert_eq!(rt; none, ());
-    let (zst, seen) = over_two_leaves::<u64, Seen>(rt.alloc(), &[1, 2, 3], &[4], &[5, 6])?;
-    assert!(rt; !zst);
-    assert_eq!(rt; seen.0, 5);
-    assert_eq!(rt; Seen::default().0, 0);
+    let (is_free, _none) = over_two_leaves::<()>(rt.alloc())?;
+    let (is_kept, seen) = over_two_leaves::<Seen>(rt.alloc())?;
+    assert!(rt; is_free && !is_kept && seen.0 == 5 && Seen::default().0 == 0);
     Ok(())
 }

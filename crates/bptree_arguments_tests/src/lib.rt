@@ -4,5 +4,7 @@
 #[cfg(test)]
 mod argument_tests;
 #[cfg(test)]
+mod callers;
+#[cfg(test)]
 mod count_tests;
 pub mod even_count;

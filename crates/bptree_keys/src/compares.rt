@@ -41,6 +41,7 @@ impl Compares {
     pub fn compare<K: Ord>(&mut self, a: &K, b: &K) -> Ordering
         ensures order { result ≡ K.cmp a.now b.now }
         ensures count { self.new ≡ min (self.old + 1) usize.MAX }
+        ensures counts_on { self.old ≤ self.new }
     {
         self.count = self.count.saturating_add(1);
         a.cmp(b)
@@ -54,6 +55,7 @@ fn search<K: Ord>(keys: &[K], key: &K, compares: &mut Compares) -> Result<usize,
     requires { length keys.now ≤ 64 }
     ensures in_range { IsSearchInRange result (length keys.now) }
     ensures position { IsBinarySearchResult (λ y. K.cmp y key.now) keys.now result }
+    ensures counts_on { compares.old ≤ compares.new }
     ensures count { compares.new ≤ compares.old + 7 }
 {
     if keys.is_empty() {
@@ -84,6 +86,7 @@ pub fn locate_counted<K: Ord>(keys: &[K], key: &K, compares: &mut Compares) -> R
     ensures in_range { IsSearchInRange result (length keys.now) }
     ensures found { IfOk result (HoldsAt (λ y. K.cmp y key.now ≡ Ordering.Equal) keys.now) }
     ensures ascending { IsStrictlySortedBy K.cmp keys.now → result ≡ locate K.cmp keys.now key.now }
+    ensures counts_on { compares.old ≤ compares.new }
     ensures count { compares.new ≤ compares.old + 7 }
 {
     search(keys, key, compares)
@@ -95,6 +98,7 @@ pub fn count_upto_counted<K: Ord>(keys: &[K], key: &K, compares: &mut Compares) 
     requires { length keys.now ≤ 64 }
     ensures in_range { result ≤ length keys.now }
     ensures ascending { IsStrictlySortedBy K.cmp keys.now → result ≡ count_by (λ y. is_le (K.cmp y key.now)) keys.now }
+    ensures counts_on { compares.old ≤ compares.new }
     ensures count { compares.new ≤ compares.old + 7 }
 {
     match locate_counted(keys, key, compares) {

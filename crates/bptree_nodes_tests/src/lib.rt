@@ -2,6 +2,8 @@
 #![tactic(auto)]
 
 #[cfg(test)]
+mod callers;
+#[cfg(test)]
 mod inner_tests;
 #[cfg(test)]
 mod leaf_tests;

@@ -14,7 +14,7 @@ use Rattle.bptree_requests.specs.Number.{number_of}
 use Rattle.bptree_requests.specs.Request.{words, bare_request_from, key_request_from, request_from, request_of, line_of, FitsRequest}
 use Rattle.bptree_requests.specs.declared.Request.{Request}
 use Rattle.bptree_requests.specs.declared.TheConstants.{LONGEST_LINE}
-use Rattle.bptree_requests.specs.declared.Request.TheVariants.{Put, Get, Len, All as AllPairs, First, Last, At, Rank}
+use Rattle.bptree_requests.specs.declared.Request.TheVariants.{Put, Del, Get, Len, All as AllPairs, First, Last, At, Rank, Clear}
 
 -- a word that writes a number is its decimal text
 pub number_of-some : (word : List ℕ) (n : ℕ) → number_of word ≡ Some n → (word ≡ decimal n) × (n < 2 ^ 64)
@@ -68,6 +68,10 @@ request_of-line (Put k v) fits =
     let e : words (line_of (Put k v)) ≡ codes "put" ∷ decimal k ∷ decimal v ∷ [] =
     ap (λ ws. codes "put" ∷ ws) (ap words (append_assoc (decimal k) (32 ∷ []) (decimal v)) ∙ words_digits (decimal k) (decimal v) dk ∙ ap (λ ws. decimal k ∷ ws) (words_digits_end (decimal v) dv)) in
     ap request_from e ∙ rw (number_of-decimal k fits.0, number_of-decimal v fits.1) refl
+request_of-line (Del k) fits =
+    let dk = digits_decimal digits_model k fits in
+    let e : words (line_of (Del k)) ≡ codes "del" ∷ decimal k ∷ [] = ap (λ ws. codes "del" ∷ ws) (words_digits_end (decimal k) dk) in
+    ap request_from e ∙ rw (number_of-decimal k fits) refl
 request_of-line (Get k) fits =
     let dk = digits_decimal digits_model k fits in
     let e : words (line_of (Get k)) ≡ codes "get" ∷ decimal k ∷ [] = ap (λ ws. codes "get" ∷ ws) (words_digits_end (decimal k) dk) in
@@ -84,6 +88,7 @@ request_of-line (Rank k) fits =
     let dk = digits_decimal digits_model k fits in
     let e : words (line_of (Rank k)) ≡ codes "rank" ∷ decimal k ∷ [] = ap (λ ws. codes "rank" ∷ ws) (words_digits_end (decimal k) dk) in
     ap request_from e ∙ rw (number_of-decimal k fits) refl
+request_of-line Clear fits = refl
 
 put-some : (o p : Option ℕ) (r : Request) → option_and_then (λ k. option_map (λ v. Put k v) p) o ≡ Some r
     → (k : ℕ) × (v : ℕ) × (o ≡ Some k) × (p ≡ Some v) × (Put k v ≡ r)
@@ -129,7 +134,10 @@ bare_request_from-some name r h = elim (cases_Bool (bytes_eq name (codes "len"))
       | inl g ↦ word-line name (codes "first") First r g refl tt (rw (e, f, g) at h)
       | inr g ↦ elim (cases_Bool (bytes_eq name (codes "last"))) [
         | inl i ↦ word-line name (codes "last") Last r i refl tt (rw (e, f, g, i) at h)
-        | inr i ↦ absurd (cc (rw (e, f, g, i) at h))
+        | inr i ↦ elim (cases_Bool (bytes_eq name (codes "clear"))) [
+          | inl j ↦ word-line name (codes "clear") Clear r j refl tt (rw (e, f, g, i, j) at h)
+          | inr j ↦ absurd (cc (rw (e, f, g, i, j) at h))
+        ]
       ]
     ]
   ]
@@ -142,7 +150,10 @@ key_request_from-some name k r h = elim (cases_Bool (bytes_eq name (codes "get")
     | inl f ↦ key-line name (codes "at") k (λ n. At n) r f (rw (e, f) at h) (λ n. refl) (λ n small. small)
     | inr f ↦ elim (cases_Bool (bytes_eq name (codes "rank"))) [
       | inl g ↦ key-line name (codes "rank") k (λ n. Rank n) r g (rw (e, f, g) at h) (λ n. refl) (λ n small. small)
-      | inr g ↦ absurd (cc (rw (e, f, g) at h))
+      | inr g ↦ elim (cases_Bool (bytes_eq name (codes "del"))) [
+        | inl i ↦ key-line name (codes "del") k (λ n. Del n) r i (rw (e, f, g, i) at h) (λ n. refl) (λ n small. small)
+        | inr i ↦ absurd (cc (rw (e, f, g, i) at h))
+      ]
     ]
   ]
 ]
@@ -173,6 +184,7 @@ length-line_of (Put k v) fits =
     let a = length-decimal-le 20 k (omega arith) (omega arith) fits.0 in
     let b = length-decimal-le 20 v (omega arith) (omega arith) fits.1 in
     omega (arith, length-append (decimal k ++ 32 ∷ []) (decimal v), length-append (decimal k) (32 ∷ []))
+length-line_of (Del k) fits = let a = length-decimal-le 20 k (omega arith) (omega arith) fits in omega arith
 length-line_of (Get k) fits = let a = length-decimal-le 20 k (omega arith) (omega arith) fits in omega arith
 length-line_of Len fits = omega arith
 length-line_of AllPairs fits = omega arith
@@ -180,6 +192,7 @@ length-line_of First fits = omega arith
 length-line_of Last fits = omega arith
 length-line_of (At i) fits = let a = length-decimal-le 20 i (omega arith) (omega arith) fits in omega arith
 length-line_of (Rank k) fits = let a = length-decimal-le 20 k (omega arith) (omega arith) fits in omega arith
+length-line_of Clear fits = omega arith
 
 option_none : (o : Option Request) → ((r : Request) → o ≡ Some r → ⊥) → o ≡ None
 option_none None h = refl

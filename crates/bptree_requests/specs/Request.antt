@@ -3,11 +3,12 @@ use Rattle.std.specs.Prelude.{ℕ, ◌<◌, ◌^◌, List, [], ◌∷◌, ◌++�
 use Rattle.std.specs.List.{slice_split}
 use Rattle.bptree_requests.specs.Number.{number_of}
 use Rattle.bptree_requests.specs.declared.Request.{Request}
-use Rattle.bptree_requests.specs.declared.Request.TheVariants.{Put, Get, Len, All, First, Last, At, Rank}
+use Rattle.bptree_requests.specs.declared.Request.TheVariants.{Put, Del, Get, Len, All, First, Last, At, Rank, Clear}
 
 -- the line that writes a request
 abbrev pub line_of : Request → List ℕ
 line_of (Put k v) = codes "put " ++ decimal k ++ codes " " ++ decimal v
+line_of (Del k) = codes "del " ++ decimal k
 line_of (Get k) = codes "get " ++ decimal k
 line_of Len = codes "len"
 line_of All = codes "all"
@@ -15,10 +16,12 @@ line_of First = codes "first"
 line_of Last = codes "last"
 line_of (At i) = codes "at " ++ decimal i
 line_of (Rank k) = codes "rank " ++ decimal k
+line_of Clear = codes "clear"
 
 -- its numbers fit 64 bits
 abbrev pub FitsRequest : Request → Type 0
 FitsRequest (Put k v) = (k < 2 ^ 64) × (v < 2 ^ 64)
+FitsRequest (Del k) = k < 2 ^ 64
 FitsRequest (Get k) = k < 2 ^ 64
 FitsRequest Len = Unit {0}
 FitsRequest All = Unit {0}
@@ -26,6 +29,7 @@ FitsRequest First = Unit {0}
 FitsRequest Last = Unit {0}
 FitsRequest (At i) = i < 2 ^ 64
 FitsRequest (Rank k) = k < 2 ^ 64
+FitsRequest Clear = Unit {0}
 
 -- the words of a line, with one space between two
 unfoldable pub words : List ℕ → List (List ℕ)
@@ -34,12 +38,12 @@ words line = slice_split (λ b. b == 32) line
 -- the request that a command's name alone makes
 abbrev pub bare_request_from : List ℕ → Option Request
 bare_request_from name =
-    if bytes_eq name (codes "len") then Some Len else (if bytes_eq name (codes "all") then Some All else (if bytes_eq name (codes "first") then Some First else (if bytes_eq name (codes "last") then Some Last else None)))
+    if bytes_eq name (codes "len") then Some Len else (if bytes_eq name (codes "all") then Some All else (if bytes_eq name (codes "first") then Some First else (if bytes_eq name (codes "last") then Some Last else (if bytes_eq name (codes "clear") then Some Clear else None))))
 
 -- the request that a command's name and one number make
 abbrev pub key_request_from : List ℕ → Option ℕ → Option Request
 key_request_from name key =
-    if bytes_eq name (codes "get") then option_map (λ k. Get k) key else (if bytes_eq name (codes "at") then option_map (λ i. At i) key else (if bytes_eq name (codes "rank") then option_map (λ k. Rank k) key else None))
+    if bytes_eq name (codes "get") then option_map (λ k. Get k) key else (if bytes_eq name (codes "at") then option_map (λ i. At i) key else (if bytes_eq name (codes "rank") then option_map (λ k. Rank k) key else (if bytes_eq name (codes "del") then option_map (λ k. Del k) key else None)))
 
 -- the request that a command's name and its words make
 abbrev pub request_from : List (List ℕ) → Option Request

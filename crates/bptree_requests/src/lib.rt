@@ -15,6 +15,8 @@ pub const LONGEST_LINE: usize = 45;
 pub enum Request {
     /// `put k v`: v becomes the value at k.
     Put(u64, u64),
+    /// `del k`: the pair at k goes.
+    Del(u64),
     /// `get k`: the value at k.
     Get(u64),
     /// `len`: the number of pairs.
@@ -29,6 +31,8 @@ pub enum Request {
     At(u64),
     /// `rank k`: the number of smaller keys, and whether k is present.
     Rank(u64),
+    /// `clear`: all pairs go.
+    Clear,
 }
 
 /// The number that a word writes: `0`, or a digit 1 to 9 and then digits, below 2 to the power of 64. A sign, a leading
@@ -103,6 +107,8 @@ fn bare_request(name: &[u8]) -> Option<Request>
         Some(Request::First)
     } else if name == b"last".as_slice() {
         Some(Request::Last)
+    } else if name == b"clear".as_slice() {
+        Some(Request::Clear)
     } else {
         None
     }
@@ -117,6 +123,8 @@ fn key_request(name: &[u8], key: &[u8]) -> Option<Request>
         Some(Request::At(number(key)?))
     } else if name == b"rank".as_slice() {
         Some(Request::Rank(number(key)?))
+    } else if name == b"del".as_slice() {
+        Some(Request::Del(number(key)?))
     } else {
         None
     }

@@ -10,14 +10,14 @@ use Rattle.bptree_nodes.specs.Leaf.{Leaf, set_value_at}
 use Rattle.bptree_nodes.specs.Slot.{Slot, Slots, Present, UpdatesLeaf}
 use Rattle.bptree_keys.specs.declared.node_id.LeafNodeId.{LeafNodeId}
 use Rattle.bptree_keys.specs.declared.node_id.NodeId.{NodeId}
-use Rattle.bptree_tree.specs.Leaves.{pairs_of, StandsIn}
-use Rattle.bptree_tree.specs.Shape.{leaf_pairs, pairs_at, leaves_at, leaf_count, stands, IsWellShaped}
-use Rattle.bptree_tree.proofs.Alike.{AreAlike, shape_same, keys_same, leaves_same}
-use Rattle.bptree_tree.proofs.Down.{pairs_of_leaves}
-use Rattle.bptree_tree.proofs.Hinted.{count_of, count_leaves, total-append}
-use Rattle.bptree_tree.proofs.Lent.{keys_stay, pairs_apart}
-use Rattle.bptree_tree.proofs.Spot.{parts_of_read}
-use Rattle.bptree_tree.proofs.Walk.{flat-append}
+use Rattle.bptree_shape.specs.Leaves.{pairs_of, StandsIn}
+use Rattle.bptree_shape.specs.Shape.{leaf_pairs, pairs_at, leaves_at, leaf_count, stands, IsWellShaped}
+use Rattle.bptree_insertion.proofs.Alike.{AreAlike, shape_same, keys_same, leaves_same}
+use Rattle.bptree_shape.proofs.Down.{pairs_of_leaves}
+use Rattle.bptree_shape.proofs.Hinted.{count_of, count_leaves, total-append}
+use Rattle.bptree_insertion.proofs.Lent.{keys_stay, pairs_apart}
+use Rattle.bptree_shape.proofs.Spot.{parts_of_read}
+use Rattle.bptree_shape.proofs.Walk.{flat-append}
 
 set_past : {K V : Type 0} (xs ys : List (K × V)) (i : ℕ) (v : V) → set_value_at (xs ++ ys) (length xs + i) v ≡ xs ++ set_value_at ys i v
 set_past [] ys i v = let n : 0 + i ≡ i = omega arith in rw n refl

@@ -8,7 +8,7 @@ use Rattle.bptree_nodes.specs.Leaf.{Leaf}
 use Rattle.bptree_nodes.specs.Slot.{Slot, Slots, Free, Held, Present, IsEmpty, UpdatesLeaf}
 use Rattle.bptree_keys.specs.declared.node_id.LeafNodeId.{LeafNodeId}
 use Rattle.bptree_keys.specs.declared.node_id.NodeId.TheVariants as kind
-use Rattle.bptree_tree.specs.Shape.{stands, IsWellShaped}
+use Rattle.bptree_shape.specs.Shape.{stands, IsWellShaped}
 
 module _ {K V A : Type 0} (cmp : K → K → Ordering) (is_summary : A → List K → Type 0) (old new : Slots (Inner K A) (Leaf K V)) (leaf : LeafNodeId)
     (empty : IsEmpty old) (added : UpdatesLeaf old new leaf.0 (Present (record { pairs = []; prev = None; next = None }))) where

@@ -1,11 +1,27 @@
 -- What a tree is once a borrow of a value that a query selects ends.
-use Rattle.std.specs.Prelude.{◌≡◌, ℕ, List, Option, Some, slice_get}
+use Rattle.std.specs.Prelude.{◌≡◌, ℕ, ◌+◌, List, Option, Some, length, slice_get}
 use Rattle.std.specs.Map.{keys_of, values_of}
-use Rattle.bptree_nodes.specs.Leaf.{set_value_at}
-use Rattle.bptree_tree.specs.NodeTree.{NodeTree}
+use Rattle.bptree_keys.specs.declared.node_id.LeafNodeId.{LeafNodeId}
+use Rattle.bptree_nodes.specs.Inner.{Inner}
+use Rattle.bptree_nodes.specs.Leaf.{Leaf, set_value_at}
+use Rattle.bptree_nodes.specs.Slot.{Slots, Present}
+use Rattle.bptree_insertion.specs.NodeTree.{NodeTree}
+use Rattle.bptree_shape.specs.Leaves.{pairs_of, StandsIn}
 
--- one value is written, at an allowed place
-abbrev pub WritesSelected : {Q S K V A : Type 0} → (Q → List K → Option ℕ → Type 0) → Q → NodeTree S K V A → V → V → NodeTree S K V A → Type 0
-WritesSelected selects query old was w new =
-    (i : ℕ) × selects query (keys_of old.contents) (Some i) × (slice_get (values_of old.contents) i ≡ Some was) × (new.contents ≡ set_value_at old.contents i w)
-    × (new.root ≡ old.root) × (new.height ≡ old.height) × (new.root_argument ≡ old.root_argument)
+module _ {Q S K V A : Type 0} (selects : Q → List K → Option ℕ → Type 0) (slots : S → Slots (Inner K A) (Leaf K V)) (with_leaf : S → ℕ → Leaf K V → S) (query : Q) (old : NodeTree S K V A) (was w : V) (new : NodeTree S K V A) where
+  -- one value is written, at an allowed place, in the contents and at its slot of its leaf; nothing else changes
+  pub record WritesSelected : Type 0 where
+    pub place : ℕ
+    pub selected : selects query (keys_of old.contents) (Some place)
+    pub value : slice_get (values_of old.contents) place ≡ Some was
+    pub contents : new.contents ≡ set_value_at old.contents place w
+    pub leaf : LeafNodeId
+    pub slot : ℕ
+    pub node : Leaf K V
+    pub stands : StandsIn (slots old.store) old.height old.root leaf
+    pub here : (slots old.store).leaf leaf.0 ≡ Present node
+    pub at : place ≡ length (pairs_of (slots old.store) stands.before) + slot
+    pub store : new.store ≡ with_leaf old.store leaf.0 (record node { pairs = set_value_at node.pairs slot w })
+    pub root : new.root ≡ old.root
+    pub height : new.height ≡ old.height
+    pub root_argument : new.root_argument ≡ old.root_argument

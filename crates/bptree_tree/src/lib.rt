@@ -1,15 +1,10 @@
 //! An ordered map in memory that is one strictly ascending list of pairs, kept in a B+ tree over a store of nodes.
 #![tactic(auto)]
 
-pub mod ascent;
-pub mod by_argument;
-pub mod descent;
-pub mod insertion;
 pub mod iterator;
-pub mod node_changes;
-pub mod reading;
 pub mod tree;
 
+pub use bptree_removal::statistics::Statistic;
 pub use tree::BPlusTree;
 
 /// Why a pair was not stored. It hands key and value back.

@@ -1,20 +1,25 @@
 //! A tree over the nodes of a store.
-ghost use Rattle.std.specs.Prelude.{◌≡◌, ◌-◌, [], List, false, length, slice_get, IfOk, IfErr, IsTrue, IsOk, ◌↔◌};
+ghost use Rattle.std.specs.Prelude.{◌≡◌, ◌-◌, [], List, false, length, slice_get, IfOk, IfErr, OnErr, Ok, None, IsTrue, IsOk, ◌↔◌};
 ghost use Rattle.std.specs.Map.{keys_of};
 ghost use Rattle.std.specs.Map.Iter.{ShowsInOrder, deref_pair};
 ghost use Rattle.std.specs.Option.{option_map, option_copied};
-ghost use Rattle.bptree_keys.specs.Contents.{IsAscending, has, value, put};
+ghost use Rattle.bptree_keys.specs.Contents.{IsAscending, has, value, put, del};
 ghost use Rattle.bptree_nodes.specs.Slot.{IsEmpty};
 ghost use Rattle.bptree_tree.specs.Refusal.{pair_of};
-ghost use Rattle.bptree_tree.specs.Shape.{IsWellShaped};
+ghost use Rattle.bptree_shape.specs.Shape.{IsWellShaped};
+ghost use Rattle.bptree_tree.specs.Whole.{IsWhole};
 
 mod queries;
+mod removals;
 
-use crate::descent::{first_leaf, last_leaf};
-use crate::insertion::{Put, upsert};
+use crate::InsertError;
 use crate::iterator::Iter;
-use crate::{InsertError, reading};
+use bptree_insertion::insertion::{Put, upsert};
 use bptree_keys::node_id::NodeId;
+use bptree_removal::removal::{Removed, remove};
+use bptree_removal::statistics::Statistic;
+use bptree_shape::descent::{first_leaf, last_leaf};
+use bptree_shape::reading;
 use bptree_stores::node_stores::NodeStore;
 use std::alloc::AllocError;
 use std::marker::Model;
@@ -27,13 +32,14 @@ pub struct BPlusTree<S: NodeStore> {
     height: usize,
     len: usize,
     root_argument: S::Argument,
+    statistic: Statistic,
 }
 
 impl<S: NodeStore> Model for BPlusTree<S> {
     ghost use Rattle.std.specs.Prelude.{◌≡◌, length};
     ghost use Rattle.std.specs.Map.{keys_of};
-    ghost use Rattle.bptree_tree.specs.Shape.{pairs_at, IsWellShaped};
-    ghost use Rattle.bptree_tree.specs.NodeTree.{NodeTree};
+    ghost use Rattle.bptree_shape.specs.Shape.{pairs_at, IsWellShaped};
+    ghost use Rattle.bptree_insertion.specs.NodeTree.{NodeTree};
 
     ghost Value = { NodeTree S S.K S.V S.Argument };
 
@@ -48,7 +54,8 @@ impl<S: NodeStore> BPlusTree<S> {
     /// A tree with no pairs. Its one leaf takes memory.
     pub fn new(mut store: S) -> Result<Self, AllocError>
         requires { IsEmpty (S.slots store) }
-        ensures { IfOk result (λ tree. tree.contents ≡ []) }
+        ensures empty { IfOk result (λ tree. tree.contents ≡ []) }
+        ensures whole { IfOk result (λ tree. IsWhole S.K.cmp S.Argument.is_summary (λ store. S.slots store) tree) }
     {
         let leaf = store.new_empty_leaf()?;
         Ok(BPlusTree {
@@ -57,6 +64,7 @@ impl<S: NodeStore> BPlusTree<S> {
             height: 0,
             len: 0,
             root_argument: S::Argument::default(),
+            statistic: Statistic::default(),
         })
     }
 
@@ -119,6 +127,7 @@ impl<S: NodeStore> BPlusTree<S> {
         ensures err { IfErr result (λ refusal. (pair_of refusal ≡ (k, v)) × (self.new.contents ≡ self.old.contents)) }
         ensures unchanged { IfErr result (λ _. (S.slots self.new.store ≡ S.slots self.old.store) × (self.new.root ≡ self.old.root) × (self.new.height ≡ self.old.height) × (self.new.root_argument ≡ self.old.root_argument)) }
         ensures present { IsTrue (has S.K.cmp self.old.contents k) → IsOk result }
+        ensures whole { IsWhole S.K.cmp S.Argument.is_summary (λ store. S.slots store) self.new }
         ensures full { (result ≡ Err (InsertError.Full k v)) ↔ ((length self.old.contents ≡ usize.MAX) × (has S.K.cmp self.old.contents k ≡ false)) }
     {
         if self.len == usize::MAX && self.get(&k).is_none() {
@@ -137,12 +146,54 @@ impl<S: NodeStore> BPlusTree<S> {
         }
     }
 
+    /// Removes the pair whose key equals `k`, and hands back its value. Where no key does, nothing changes and nothing can be
+    /// refused.
+    ///
+    /// Each node on the way to its leaf takes a new summary of its child, and a leaf's new separator is a clone of a key: both
+    /// may take memory. Then a removal can be refused, and nothing has changed.
+    pub fn remove(&mut self, k: &S::K) -> Result<Option<S::V>, AllocError>
+        ensures ok { IfOk result (λ old. (old ≡ value S.K.cmp self.old.contents k.now) × (self.new.contents ≡ del S.K.cmp self.old.contents k.now)) }
+        ensures absent { has S.K.cmp self.old.contents k.now ≡ false → result ≡ Ok None }
+        ensures whole { IsWhole S.K.cmp S.Argument.is_summary (λ store. S.slots store) self.new }
+        ensures untouched { has S.K.cmp self.old.contents k.now ≡ false → (S.slots self.new.store ≡ S.slots self.old.store) × (self.new.root ≡ self.old.root) × (self.new.height ≡ self.old.height) × (self.new.root_argument ≡ self.old.root_argument) }
+        ensures err { OnErr result (self.new.contents ≡ self.old.contents) }
+        ensures unchanged { OnErr result ((S.slots self.new.store ≡ S.slots self.old.store) × (self.new.root ≡ self.old.root) × (self.new.height ≡ self.old.height) × (self.new.root_argument ≡ self.old.root_argument)) }
+    {
+        match remove(
+            &mut self.store,
+            self.root,
+            self.height,
+            k,
+            &mut self.statistic,
+        )? {
+            None => Ok(None),
+            Some(gone) => {
+                let Removed {
+                    value,
+                    root,
+                    height,
+                    summary,
+                } = gone;
+                self.root = root;
+                self.height = height;
+                self.len -= 1;
+                self.root_argument = summary;
+                Ok(Some(value))
+            }
+        }
+    }
+
     /// A summary of all keys; of no keys what `Default` makes.
     pub fn root_argument(&self) -> &S::Argument
         ensures value { result.now ≡ self.now.root_argument }
         ensures summary { S.Argument.is_summary result.now (keys_of self.now.contents) }
     {
         &self.root_argument
+    }
+
+    /// How often short nodes were mended. A tree that is new, or was just cleared, has counted nothing.
+    pub fn statistic(&self) -> &Statistic {
+        &self.statistic
     }
 
     /// The store that holds the nodes: they are those of this tree, and no others.
@@ -172,7 +223,7 @@ impl<S: NodeStore> BPlusTree<S> {
     ghost use Rattle.std.specs.Borrow.{LendsIf, sem};
     ghost use Rattle.std.specs.Option.{option_copied_mut};
     ghost use Rattle.bptree_keys.specs.Contents.{value};
-    ghost use Rattle.bptree_tree.specs.Lending.{tree_written};
+    ghost use Rattle.bptree_insertion.specs.Lending.{tree_written};
     ghost use Rattle.bptree_tree.specs.contracts.tree.BPlusTree.{the_row};
 
     /// The value at a key equal to `k`, for writing.

@@ -8,4 +8,8 @@ mod insertion_tests;
 #[cfg(test)]
 mod reading_tests;
 #[cfg(test)]
+mod removal_tests;
+#[cfg(test)]
 mod summary_tests;
+#[cfg(test)]
+mod withdrawal_tests;

@@ -4,7 +4,7 @@ use Rattle.std.specs.List.{slice_get}
 use Rattle.std.proofs.lemmas.Map.Entries.{length-keys_of}
 use Rattle.std.proofs.lemmas.Option.{slice_get_past}
 use Rattle.bptree_arguments.specs.CountLaws.{SelectsPlace}
-use Rattle.bptree_tree.specs.ByArgument.{IsSelected}
+use Rattle.bptree_shape.specs.ByArgument.{IsSelected}
 
 -- what is selected by a place is the pair there, or none past the end
 pub selected_is : {K V : Type 0} (i : ℕ) (pairs : List (K × V)) (found : Option (K × V)) → IsSelected SelectsPlace i pairs found → found ≡ slice_get pairs i

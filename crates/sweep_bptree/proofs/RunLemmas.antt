@@ -1,7 +1,6 @@
 -- Runs of commands.
-use Rattle.std.proofs.Common.{◌≡◌, ℕ, List, [], ◌∷◌, ◌++◌, length, take, refl, sym, ap, ◌∙◌, subst}
+use Rattle.std.proofs.Common.{◌≡◌, ℕ, List, [], ◌∷◌, ◌++◌, refl, sym, ap, subst}
 use Rattle.std.specs.declared.cmp.Ordering.{Ordering}
-use Rattle.std.proofs.Math.Seq.{take-append_seam}
 use Rattle.std.proofs.Common.{Option, Bool, true, false, Result, Err, IsTrue, ◌↔◌}
 use Rattle.bptree_keys.specs.Contents.{has}
 use Rattle.bptree_tree.specs.declared.InsertError.{InsertError}
@@ -23,15 +22,6 @@ Run-more cmp selects ranks [] (r ∷ replies) old mid new command reply run step
 Run-more cmp selects ranks (c ∷ commands) [] old mid new command reply run step = absurd run
 Run-more cmp selects ranks (c ∷ commands) (r ∷ replies) old mid new command reply run step =
     (run.0, run.1, Run-more cmp selects ranks commands replies run.0 mid new command reply run.2 step)
-
--- the replies so far are those of a run of the first commands
-pub Run-first : {K V Q R : Type 0} → (cmp : K → K → Ordering) (selects : Q → List K → Option ℕ → Type 0) (ranks : K → List K → R → Type 0)
-    (all done rest : List (Command K V Q)) (replies : List (Reply K V R)) (old new : List (K × V)) (n : ℕ)
-    → all ≡ done ++ rest → n ≡ length done → Run cmp selects ranks old done replies new → Run cmp selects ranks old (take n all) replies new
-Run-first {K} {V} {Q} cmp selects ranks all done rest replies old new n whole len run =
-    let P : List (Command K V Q) → Type 0 = λ cs. Run cmp selects ranks old cs replies new in
-    let N : ℕ → Type 0 = λ m. Run cmp selects ranks old (take m all) replies new in
-    subst N (sym len) (subst P (sym (ap (take (length done)) whole ∙ take-append_seam done rest)) run)
 
 not_there : (b : Bool) → (IsTrue b → false ≡ true) → b ≡ false
 not_there true absent = sym (absent refl)

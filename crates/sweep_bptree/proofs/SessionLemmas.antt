@@ -1,5 +1,5 @@
 -- What is answered to pieces of an input.
-use Rattle.std.proofs.Common.{◌≡◌, ℕ, List, [], ◌∷◌, ◌++◌, length, take, drop, refl, sym, ap, ◌∙◌, append_assoc, append-nil, arith, subst, inl, inr, Option, take-append-drop}
+use Rattle.std.proofs.Common.{◌≡◌, ◌≤◌, ◌-◌, ◌^◌, ℕ, List, [], ◌∷◌, ◌++◌, length, take, drop, refl, sym, ap, ◌∙◌, append_assoc, append-nil, arith, subst, inl, inr, Option, take-append-drop}
 use Rattle.std.specs.Prelude.{Result, Ok, Err, OnOk, IfErr}
 use Rattle.std.proofs.lemmas.List.{take_all}
 use Rattle.std.proofs.Math.Seq.{take-append_seam}
@@ -12,9 +12,10 @@ use Rattle.sweep_bptree.specs.declared.script.lines.TheConstants.{KEPT}
 use Rattle.sweep_bptree.specs.Clipped.{clipped_after, clipped_rest}
 use Rattle.sweep_bptree.specs.Lines.{ended_after, rest_after, ended_lines, last_line, lines_of}
 use Rattle.sweep_bptree.specs.Sent.{Sends, Breaks, AppendsBeginning}
-use Rattle.sweep_bptree.specs.Served.{EndedBy, Serves, EndsAt, AnswersPiece, BreaksLast, AnswersLast}
+use Rattle.sweep_bptree.specs.Served.{Answered, StoppedBy, stop_of, EndsAt, AnswersPiece, BreaksLast, AnswersLast}
 use Rattle.sweep_bptree.specs.declared.script.error.ServeError.{ServeError}
 use Rattle.sweep_bptree.specs.declared.script.error.ServeError.TheVariants.{Io, OutOfMemory}
+use Rattle.sweep_bptree.specs.declared.script.session.Stop.TheVariants as stop
 
 -- what is held is written
 drained : (a b c : Option (List ℕ)) (i t : List ℕ) → Sends a b [] i t → Appends b c i → Appends a c t
@@ -97,27 +98,29 @@ pieces : (read chunk : List ℕ) (k : ℕ) → read ++ chunk ≡ (read ++ take k
 pieces read chunk k = ap (λ t. read ++ t) (sym (take-append-drop k chunk)) ∙ sym (append_assoc read (take k chunk) (drop k chunk))
 
 -- nothing was read
-pub ended_at_start : (a o : Option (List ℕ)) → EndedBy OutOfMemory a a o o
-ended_at_start a o = ([], [], Consumes-nil a, inl refl, 0, Appends-nil o)
+pub stopped_at_start : (a o : Option (List ℕ)) → StoppedBy stop.OutOfMemory a a o o
+stopped_at_start a o = ([], [], Consumes-nil a, inl refl, 0, Appends-nil o)
 
--- the reader failed, or gave no end
-pub ended_by_reader : (a b c o n : Option (List ℕ)) (read : List ℕ) → Consumes a b read → Keeps b c → Appends o n (answers [] (clipped_after [] read)) → EndedBy Io a c o n
-ended_by_reader a b c o n read consumed keeps wrote = (
-  read,
-  ended_lines read,
-  Consumes-kept a b c read consumed keeps,
-  inl refl,
-  (answers [] (clipped_after [] read), [], sym (answers-clipped [] [] read) ∙ sym (append-nil _), wrote),
-)
+-- what was read is answered
+answered_ended : (o n : Option (List ℕ)) (read : List ℕ) → Appends o n (answers [] (clipped_after [] read)) → Appends o n (answers [] (ended_lines read))
+answered_ended o n read wrote = let P : List ℕ → Type 0 = λ t. Appends o n t in subst P (answers-clipped [] [] read) wrote
+
+-- the reader failed
+pub stopped_by_reader : (a b c o n : Option (List ℕ)) (read : List ℕ) → Consumes a b read → Keeps b c → Appends o n (answers [] (clipped_after [] read)) → StoppedBy stop.Reader a c o n
+stopped_by_reader a b c o n read consumed keeps wrote = (read, Consumes-kept a b c read consumed keeps, answered_ended o n read wrote)
+
+-- the reader gave no end
+pub stopped_with_no_end : (a b o n : Option (List ℕ)) (read : List ℕ) → Consumes a b read → 2 ^ 64 - 1 ≤ length read → Appends o n (answers [] (clipped_after [] read)) → StoppedBy stop.NoEnd a b o n
+stopped_with_no_end a b o n read consumed many wrote = (read, consumed, many, answered_ended o n read wrote)
 
 -- a beginning of what follows
 begun : (o m n : Option (List ℕ)) (t u : List ℕ) → Appends o m t → AppendsBeginning m n u → AppendsBeginning o n (t ++ u)
 begun o m n t u wrote cut = (t ++ cut.0, cut.1, ap (λ l. t ++ l) cut.2 ∙ sym (append_assoc t cut.0 cut.1), Appends-trans o m n t cut.0 wrote cut.3)
 
 -- a piece of the input broke off
-pub ended_by_piece : (e : ServeError) (a b c o m n : Option (List ℕ)) (read chunk : List ℕ) → Consumes a b read → Consumes b c chunk → Appends o m (answers [] (clipped_after [] read))
-    → ((k : ℕ) × EndsAt e m n (answers (pairs_after_all [] (clipped_after [] read)) (clipped_after (clipped_rest [] read) (take k chunk)))) → EndedBy e a c o n
-ended_by_piece Io a b c o m n read chunk first second wrote cut =
+pub stopped_by_piece : (e : ServeError) (a b c o m n : Option (List ℕ)) (read chunk : List ℕ) → Consumes a b read → Consumes b c chunk → Appends o m (answers [] (clipped_after [] read))
+    → ((k : ℕ) × EndsAt e m n (answers (pairs_after_all [] (clipped_after [] read)) (clipped_after (clipped_rest [] read) (take k chunk)))) → StoppedBy (stop_of e) a c o n
+stopped_by_piece Io a b c o m n read chunk first second wrote cut =
     let front = read ++ take cut.0 chunk in
     let more = answers (pairs_after_all [] (ended_lines front)) (ended_after (rest_after [] front) (drop cut.0 chunk)) in
     let whole : answers [] (ended_lines (read ++ chunk)) ≡ answers [] (ended_lines front) ++ more = ap (λ t. answers [] (ended_lines t)) (pieces read chunk cut.0) ∙ ended_answers front (drop cut.0 chunk) in
@@ -128,7 +131,7 @@ ended_by_piece Io a b c o m n read chunk first second wrote cut =
       inl refl,
       subst P (sym whole) (AppendsBeginning-longer o n (answers [] (ended_lines front)) more (subst P (joined read (take cut.0 chunk)) (begun o m n _ _ wrote cut.1))),
     )
-ended_by_piece OutOfMemory a b c o m n read chunk first second wrote cut =
+stopped_by_piece OutOfMemory a b c o m n read chunk first second wrote cut =
     let front = read ++ take cut.0 chunk in
     let same : take (length (ended_lines front)) (ended_lines (read ++ chunk)) ≡ ended_lines front =
     ap (λ t. take (length (ended_lines front)) (ended_lines t)) (pieces read chunk cut.0) ∙ first_lines front (drop cut.0 chunk) in
@@ -154,18 +157,22 @@ whole_text read =
     ∙ ap (λ t. answers [] (ended_lines read) ++ t) (last_clipped (pairs_after_all [] (ended_lines read)) (rest_after [] read))
     ∙ sym (answers-append [] (ended_lines read) (last_line (rest_after [] read)))
 
--- the input ended
-pub served_last : {T : Type 0} → (a b c o m n : Option (List ℕ)) (read : List ℕ) (r : Result T ServeError) → Consumes a b read → Consumes b c [] → IsAtEnd c
-    → Appends o m (answers [] (clipped_after [] read)) → AnswersLast m n (pairs_after_all [] (clipped_after [] read)) (clipped_rest [] read) r → Serves a c o n r
-served_last a b c o m n read (Ok x) first second end wrote last =
+-- the input ended, and what was left of it was answered
+pub answered_last : (a b c o m n : Option (List ℕ)) (read : List ℕ) → Consumes a b read → Consumes b c [] → IsAtEnd c
+    → Appends o m (answers [] (clipped_after [] read)) → Appends m n (answers (pairs_after_all [] (clipped_after [] read)) (last_line (clipped_rest [] read))) → Answered a c o n
+answered_last a b c o m n read first second end wrote last =
     let P : List ℕ → Type 0 = λ t. Appends o n t in
     let Q : List ℕ → Type 0 = λ t. Consumes a c t in
     (read, subst Q (append-nil read) (Consumes-trans a b c read [] first second), end, subst P (whole_text read) (Appends-trans o m n _ _ wrote last))
-served_last a b c o m n read (Err Io) first second end wrote last =
+
+-- the input ended, and what was left of it was not answered
+pub stopped_by_last : (e : ServeError) (a b c o m n : Option (List ℕ)) (read : List ℕ) → Consumes a b read → Consumes b c [] → IsAtEnd c
+    → Appends o m (answers [] (clipped_after [] read)) → BreaksLast e m n (answers (pairs_after_all [] (clipped_after [] read)) (last_line (clipped_rest [] read))) → StoppedBy (stop_of e) a c o n
+stopped_by_last Io a b c o m n read first second end wrote last =
     let P : List ℕ → Type 0 = λ t. AppendsBeginning o n t in
     let Q : List ℕ → Type 0 = λ t. Consumes a c t in
     (read, lines_of read, subst Q (append-nil read) (Consumes-trans a b c read [] first second), inr (refl, end), subst P (whole_text read) (begun o m n _ _ wrote last))
-served_last a b c o m n read (Err OutOfMemory) first second end wrote last =
+stopped_by_last OutOfMemory a b c o m n read first second end wrote last =
     let P : List ℕ → Type 0 = λ t. Appends o n t in
     let Q : List ℕ → Type 0 = λ t. Consumes a c t in (
       read,

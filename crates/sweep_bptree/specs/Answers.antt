@@ -4,10 +4,10 @@ use Rattle.std.specs.List.{join_with_byte}
 use Rattle.std.specs.Map.{keys_of}
 use Rattle.std.specs.Ordering.{nat_cmp}
 use Rattle.bptree_arguments.specs.CountLaws.{count_below}
-use Rattle.bptree_keys.specs.Contents.{has, value, put}
+use Rattle.bptree_keys.specs.Contents.{has, value, put, del}
 use Rattle.bptree_requests.specs.Request.{request_of}
 use Rattle.bptree_requests.specs.declared.Request.{Request}
-use Rattle.bptree_requests.specs.declared.Request.TheVariants.{Put, Get, Len, All, First, Last, At, Rank}
+use Rattle.bptree_requests.specs.declared.Request.TheVariants.{Put, Del, Get, Len, All, First, Last, At, Rank, Clear}
 use Rattle.sweep_bptree.specs.Lines.{lines_of}
 
 abbrev pub value_text : Option ℕ → List ℕ
@@ -17,6 +17,10 @@ value_text (Some found) = decimal found
 abbrev pub old_text : Option ℕ → List ℕ
 old_text None = codes "new"
 old_text (Some old) = codes "old " ++ decimal old
+
+abbrev pub gone_text : Option ℕ → List ℕ
+gone_text None = codes "none"
+gone_text (Some gone) = codes "gone " ++ decimal gone
 
 -- the key is absent, and no number counts one pair more
 abbrev pub has_no_place : List (ℕ × ℕ) → ℕ → Bool
@@ -55,6 +59,7 @@ item_text false pair = 44 ∷ pair_text pair
 abbrev pub reply_to : List (ℕ × ℕ) → Option Request → List ℕ
 reply_to pairs None = codes "bad"
 reply_to pairs (Some (Put key new)) = put_text pairs key
+reply_to pairs (Some (Del key)) = gone_text (value nat_cmp pairs key)
 reply_to pairs (Some (Get key)) = value_text (value nat_cmp pairs key)
 reply_to pairs (Some Len) = decimal (length pairs)
 reply_to pairs (Some All) = pairs_text pairs
@@ -62,11 +67,13 @@ reply_to pairs (Some First) = found_text (slice_get pairs 0)
 reply_to pairs (Some Last) = found_text (slice_get pairs (length pairs - 1))
 reply_to pairs (Some (At i)) = found_text (slice_get pairs i)
 reply_to pairs (Some (Rank key)) = rank_text (has nat_cmp pairs key) (count_below nat_cmp key (keys_of pairs))
+reply_to pairs (Some Clear) = codes "cleared"
 
 -- the pairs after it
 abbrev pub pairs_with : List (ℕ × ℕ) → Option Request → List (ℕ × ℕ)
 pairs_with pairs None = pairs
 pairs_with pairs (Some (Put key new)) = pairs_with_put pairs key new
+pairs_with pairs (Some (Del key)) = del nat_cmp pairs key
 pairs_with pairs (Some (Get key)) = pairs
 pairs_with pairs (Some Len) = pairs
 pairs_with pairs (Some All) = pairs
@@ -74,6 +81,7 @@ pairs_with pairs (Some First) = pairs
 pairs_with pairs (Some Last) = pairs
 pairs_with pairs (Some (At i)) = pairs
 pairs_with pairs (Some (Rank key)) = pairs
+pairs_with pairs (Some Clear) = []
 
 -- the answer to a line, and the pairs after it
 unfoldable pub answer : List (ℕ × ℕ) → List ℕ → List ℕ

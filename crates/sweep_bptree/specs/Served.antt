@@ -1,8 +1,10 @@
 -- What serving an input is.
-use Rattle.std.specs.Prelude.{◌≡◌, ◌⊎◌, ℕ, List, [], take, Option, Result, MatchResult}
+use Rattle.std.specs.Prelude.{◌≡◌, ◌≤◌, ◌-◌, ◌^◌, ◌⊎◌, ℕ, List, [], length, take, Option, Result, MatchResult}
 use Rattle.std.specs.Io.KnownBytes.{Appends, Consumes, IsAtEnd}
 use Rattle.sweep_bptree.specs.declared.script.error.ServeError.{ServeError}
-use Rattle.sweep_bptree.specs.declared.script.error.ServeError.TheVariants.{Io, OutOfMemory}
+use Rattle.sweep_bptree.specs.declared.script.error.ServeError.TheVariants as error
+use Rattle.sweep_bptree.specs.declared.script.session.Stop.{Stop}
+use Rattle.sweep_bptree.specs.declared.script.session.Stop.TheVariants.{Reader, Writer, NoEnd, OutOfMemory}
 use Rattle.sweep_bptree.specs.Answers.{answers, text}
 use Rattle.sweep_bptree.specs.Clipped.{clipped_after}
 use Rattle.sweep_bptree.specs.Lines.{ended_lines, last_line, lines_of}
@@ -16,25 +18,46 @@ AreLinesRead lines read left = (lines ≡ ended_lines read) ⊎ ((lines ≡ line
 abbrev pub Answered : Option (List ℕ) → Option (List ℕ) → Option (List ℕ) → Option (List ℕ) → Type 0
 Answered input left old new = (read : List ℕ) × Consumes input left read × IsAtEnd left × Appends old new (text read)
 
--- what was written when serving ended early: after `Io` a beginning of the answers to the lines read, and after
--- `OutOfMemory` the whole answers to the first of them
-abbrev pub EndedBy : ServeError → Option (List ℕ) → Option (List ℕ) → Option (List ℕ) → Option (List ℕ) → Type 0
-EndedBy Io input left old new =
+-- What was read and written when serving ended early. Where the reader failed, the lines read were answered; where the
+-- writer failed, a beginning of the answers was written; where no end was met, at least a byte was read by each of
+-- `u64::MAX` reads, and the lines were answered; where memory was refused, the first of the lines were answered in whole.
+abbrev pub StoppedBy : Stop → Option (List ℕ) → Option (List ℕ) → Option (List ℕ) → Option (List ℕ) → Type 0
+StoppedBy Reader input left old new =
+    (read : List ℕ) × Consumes input left read × Appends old new (answers [] (ended_lines read))
+StoppedBy Writer input left old new =
     (read : List ℕ) × (lines : List (List ℕ)) × Consumes input left read × AreLinesRead lines read left
     × AppendsBeginning old new (answers [] lines)
-EndedBy OutOfMemory input left old new =
+StoppedBy NoEnd input left old new =
+    (read : List ℕ) × Consumes input left read × (2 ^ 64 - 1 ≤ length read) × Appends old new (answers [] (ended_lines read))
+StoppedBy OutOfMemory input left old new =
     (read : List ℕ) × (lines : List (List ℕ)) × Consumes input left read × AreLinesRead lines read left
     × (n : ℕ) × Appends old new (answers [] (take n lines))
 
--- either of them
+-- the error that tells of it, and what it is where answering broke off by an error
+abbrev pub error_of : Stop → ServeError
+error_of Reader = error.Io
+error_of Writer = error.Io
+error_of NoEnd = error.Io
+error_of OutOfMemory = error.OutOfMemory
+
+abbrev pub stop_of : ServeError → Stop
+stop_of error.Io = Writer
+stop_of error.OutOfMemory = OutOfMemory
+
+-- serving ended with the error, by one of the ways that it tells of
+abbrev pub EndedBy : ServeError → Option (List ℕ) → Option (List ℕ) → Option (List ℕ) → Option (List ℕ) → Type 0
+EndedBy e input left old new = (stop : Stop) × (e ≡ error_of stop) × StoppedBy stop input left old new
+
+-- the input was answered, or serving ended early
 abbrev pub Serves : {T : Type 0} → Option (List ℕ) → Option (List ℕ) → Option (List ℕ) → Option (List ℕ)
-    → Result T ServeError → Type 0
-Serves input left old new r = MatchResult r (λ _. Answered input left old new) (λ e. EndedBy e input left old new)
+    → Result T Stop → Type 0
+Serves input left old new r =
+    MatchResult r (λ _. Answered input left old new) (λ stop. StoppedBy stop input left old new)
 
 -- a text was written, or a beginning of it after `Io`
 abbrev pub EndsAt : ServeError → Option (List ℕ) → Option (List ℕ) → List ℕ → Type 0
-EndsAt Io old new bytes = AppendsBeginning old new bytes
-EndsAt OutOfMemory old new bytes = Appends old new bytes
+EndsAt error.Io old new bytes = AppendsBeginning old new bytes
+EndsAt error.OutOfMemory old new bytes = Appends old new bytes
 
 -- a piece of the input was answered, or a beginning of it
 abbrev pub AnswersPiece : {T : Type 0} → Option (List ℕ) → Option (List ℕ) → List (ℕ × ℕ) → List ℕ → List ℕ
@@ -45,8 +68,8 @@ AnswersPiece old new pairs kept bytes r =
 
 -- after the end of the input what was kept of a line was answered, or not
 abbrev pub BreaksLast : ServeError → Option (List ℕ) → Option (List ℕ) → List ℕ → Type 0
-BreaksLast Io old new bytes = AppendsBeginning old new bytes
-BreaksLast OutOfMemory old new bytes = Appends old new []
+BreaksLast error.Io old new bytes = AppendsBeginning old new bytes
+BreaksLast error.OutOfMemory old new bytes = Appends old new []
 
 abbrev pub AnswersLast : {T : Type 0} → Option (List ℕ) → Option (List ℕ) → List (ℕ × ℕ) → List ℕ
     → Result T ServeError → Type 0

@@ -4,14 +4,14 @@ use Rattle.std.specs.declared.cmp.Ordering.{Ordering}
 use Rattle.std.specs.declared.cmp.Ordering.TheVariants.{Equal}
 use Rattle.std.specs.Map.{keys_of}
 use Rattle.bptree_arguments.specs.Selection.{IsPlaceIn}
-use Rattle.bptree_keys.specs.Contents.{has, value, put}
+use Rattle.bptree_keys.specs.Contents.{has, value, put, del}
 use Rattle.bptree_nodes.specs.Leaf.{set_value_at}
-use Rattle.bptree_tree.specs.ByArgument.{IsSelected}
-use Rattle.bptree_tree.specs.Lending.{written}
+use Rattle.bptree_shape.specs.ByArgument.{IsSelected, IsTaken}
+use Rattle.bptree_insertion.specs.Lending.{written}
 use Rattle.bptree_tree.specs.declared.InsertError as insert_error
 use Rattle.bptree_tree.specs.declared.InsertError.TheVariants as refusal
 use Rattle.sweep_bptree.specs.declared.script.commands.Command.{Command}
-use Rattle.sweep_bptree.specs.declared.script.commands.Command.TheVariants.{Insert, Get, Set, SetAt, First, Last, Len, At, Rank as RankOf}
+use Rattle.sweep_bptree.specs.declared.script.commands.Command.TheVariants.{Insert, Remove, RemoveAt, Clear, Get, Set, SetAt, First, Last, Len, At, Rank as RankOf}
 use Rattle.sweep_bptree.specs.declared.script.commands.Reply.{Reply}
 use Rattle.sweep_bptree.specs.declared.script.commands.Reply.TheVariants.{Value, Pair, Number, Done, Rank, OutOfMemory, Full}
 
@@ -43,6 +43,12 @@ module _ {K V Q R : Type 0} (cmp : K → K → Ordering) (selects : Q → List K
   Step old (Insert k v) (Value before) new = (HasNoRoomFor cmp old k → ⊥) × (before ≡ value cmp old k) × (new ≡ put cmp old k v)
   Step old (Insert k v) OutOfMemory new = (HasNoRoomFor cmp old k → ⊥) × (has cmp old k ≡ false) × (new ≡ old)
   Step old (Insert k v) Full new = HasNoRoomFor cmp old k × (new ≡ old)
+  Step old (Remove k) (Value gone) new = (gone ≡ value cmp old k) × (new ≡ del cmp old k)
+  Step old (Remove k) OutOfMemory new = (has cmp old k ≡ true) × (new ≡ old)
+  Step old (RemoveAt q) (Pair pair) new = IsTaken selects q old new pair
+  Step old (RemoveAt q) OutOfMemory new = new ≡ old
+  Step old Clear (Done true) new = new ≡ []
+  Step old Clear OutOfMemory new = new ≡ old
   Step old (Get k) (Value found) new = (found ≡ value cmp old k) × (new ≡ old)
   Step old (Set k v) (Done true) new = (has cmp old k ≡ true) × (new ≡ written cmp k old v)
   Step old (Set k v) (Done false) new = (has cmp old k ≡ false) × (new ≡ old)

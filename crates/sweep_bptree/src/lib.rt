@@ -5,4 +5,4 @@ pub mod argument;
 pub mod script;
 pub mod tree;
 
-pub use tree::{BPlusTree, Key, NodeStore, NodeStoreVec};
+pub use tree::{BPlusTree, CloneStore, Key, NodeStore, NodeStoreVec};

@@ -8,5 +8,5 @@ mod reply;
 mod session;
 
 pub use commands::{Command, CommandOn, Reply, ReplyOf, run};
-pub use error::ServeError;
+pub use error::{ServeError, exit_status};
 pub use session::{parts_are_lines, serve};

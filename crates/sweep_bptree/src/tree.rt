@@ -2,6 +2,7 @@
 
 pub use bptree_arguments::argument::{Argument, RankArgument, SearchArgument};
 pub use bptree_arguments::count;
+pub use bptree_keys::entry_ref::{EntryRef, EntryRefDetached, VisitStack};
 pub use bptree_keys::key::{Key, Tuple2};
 pub use bptree_keys::node_id::{InnerNodeId, LeafNodeId, NodeId};
 pub use bptree_keys::{entry_ref, node_id};

@@ -2,6 +2,10 @@
 #![tactic(auto)]
 
 #[cfg(test)]
+mod callers;
+#[cfg(test)]
+mod paths;
+#[cfg(test)]
 mod run_tests;
 #[cfg(test)]
 mod serve_tests;

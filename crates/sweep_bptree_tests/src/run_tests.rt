@@ -5,9 +5,8 @@ use bptree_arguments::count::Count;
 use bptree_keys::key::{Key, Tuple2};
 use bptree_stores::node_store_vec::NodeStoreVec;
 use bptree_tree::BPlusTree;
-use std::alloc::AllocError;
+use std::alloc::{AllocError, Global};
 use std::iter::ExactSizeIterator;
-use std::process::Abort;
 use std::test::Fail;
 use sweep_bptree::script::{Command, Reply, run};
 
@@ -28,52 +27,89 @@ fn key_of(number: u64, letter: char) -> Numbered {
     Numbered { number, letter }
 }
 
-// The tree shows the pairs of 1 and 2, in this order.
-fn assert_two_pairs(rt: &impl Abort, tree: &BPlusTree<NodeStoreVec<u64, i32>>) {
-    let mut pairs = tree.iter();
-    assert_eq!(rt; pairs.len(), 2);
-    assert_eq!(rt; pairs.next(), Some((&1, &10)));
-    assert_eq!(rt; pairs.next(), Some((&2, &21)));
-    assert_eq!(rt; pairs.len(), 0);
-    assert_eq!(rt; pairs.next(), None);
+type Tree<K> = BPlusTree<NodeStoreVec<K, i32, Count>>;
+
+fn new_tree<K: Key>(alloc: Global) -> Result<Tree<K>, AllocError> {
+    BPlusTree::new(NodeStoreVec::new(alloc))
+}
+
+// What was there, or nothing at all where the pair was refused.
+fn put<K: Key>(tree: &mut Tree<K>, key: K, value: i32) -> Option<Option<i32>> {
+    tree.insert(key, value).ok()
+}
+
+// Whether the tree shows these pairs.
+fn shows(tree: &Tree<Numbered>, pairs: &[(u64, char, i32)]) -> bool {
+    let mut shown = tree.iter();
+    if shown.len() != pairs.len() || tree.len() != pairs.len() {
+        return false;
+    }
+    for (number, letter, value) in pairs {
+        let Some((key, found)) = shown.next() else {
+            return false;
+        };
+        if key.number != *number || key.letter != *letter || found != value {
+            return false;
+        }
+    }
+    shown.len() == 0 && shown.next().is_none()
+}
+
+// An equal key stays where a value is put at it.
+fn holds_what_was_put(alloc: Global) -> Result<bool, AllocError> {
+    let mut tree = new_tree(alloc)?;
+    let is_new = tree.is_empty() && shows(&tree, &[]);
+    for (number, letter, value, before) in [
+        (2, 'a', 20, None),
+        (1, 'a', 10, None),
+        (2, 'b', 21, Some(20)),
+        (1, 'b', 11, Some(10)),
+    ] {
+        if put(&mut tree, key_of(number, letter), value) != Some(before) {
+            return Ok(false);
+        }
+    }
+    for (number, found) in [(1, Some(11)), (2, Some(21)), (3, None)] {
+        if tree.get(&key_of(number, 'c')).copied() != found {
+            return Ok(false);
+        }
+    }
+    let is_shown = shows(&tree, &[(1, 'a', 11), (2, 'a', 21)]);
+    Ok(is_new && is_shown && !tree.is_empty())
 }
 
 #[test]
 fn a_tree_holds_what_was_put(rt: HostRuntime) -> Result<(), Fail> {
-    let mut tree: BPlusTree<NodeStoreVec<u64, i32>> = BPlusTree::new(NodeStoreVec::new(
-        rt.alloc(),
-    ))?;
-    assert!(rt; tree.is_empty());
-    assert_eq!(rt; tree.first(), None);
-    assert_eq!(rt; tree.insert(2, 20).ok(), Some(None));
-    assert_eq!(rt; tree.insert(1, 10).ok(), Some(None));
-    assert_eq!(rt; tree.insert(2, 21).ok(), Some(Some(20)));
-    assert_eq!(rt; tree.get(&2), Some(&21));
-    assert_eq!(rt; tree.get(&3), None);
-    assert_eq!(rt; tree.len(), 2);
-    assert!(rt; !tree.is_empty());
-    assert_eq!(rt; tree.first(), Some((&1, &10)));
-    assert_two_pairs(&rt, &tree);
+    assert!(rt; holds_what_was_put(rt.alloc())?);
     Ok(())
 }
 
-#[test]
-fn an_equal_key_stays(rt: HostRuntime) -> Result<(), Fail> {
-    let mut tree: BPlusTree<NodeStoreVec<Numbered, i32>> = BPlusTree::new(NodeStoreVec::new(
-        rt.alloc(),
-    ))?;
-    assert_eq!(rt; tree.insert(key_of(1, 'a'), 10).ok(), Some(None));
-    assert_eq!(rt; tree.insert(key_of(1, 'b'), 20).ok(), Some(Some(10)));
-    let stored = tree.first().map(|(key, value)| (key.letter, *value));
-    assert_eq!(rt; stored, Some(('a', 20)));
-    Ok(())
+type Asked = Command<Numbered, i32, usize>;
+
+type Answered = Reply<Numbered, i32, usize>;
+
+// The replies to commands on a new tree, or none where memory is refused.
+fn replies_to(alloc: Global, commands: Vec<Asked>) -> Result<Vec<Answered>, AllocError> {
+    let mut tree = new_tree(alloc)?;
+    match run(alloc, &mut tree, commands) {
+        (replies, None) => Ok(replies),
+        (_, Some(error)) => Err(error),
+    }
+}
+
+// Whether these are the replies, as they print.
+fn print_as(alloc: Global, replies: &[Answered], wanted: &[&str]) -> Result<bool, AllocError> {
+    for (reply, wanted) in replies.iter().zip(wanted) {
+        let printed = format!(in alloc; "{reply:?}")?;
+        if printed.as_str() != *wanted {
+            return Ok(false);
+        }
+    }
+    Ok(replies.len() == wanted.len())
 }
 
 #[test]
 fn a_run_answers_each_command(rt: HostRuntime) -> Result<(), Fail> {
-    let mut tree: BPlusTree<NodeStoreVec<Numbered, i32, Count>> = BPlusTree::new(NodeStoreVec::new(
-        rt.alloc(),
-    ))?;
     let commands = vec![in rt.alloc();
         Command::First,
         Command::Last,
@@ -106,100 +142,138 @@ fn a_run_answers_each_command(rt: HostRuntime) -> Result<(), Fail> {
         Command::Rank(key_of(3, 'f')),
         Command::Rank(key_of(4, 'f')),
         Command::Len,
+        Command::Remove(key_of(2, 'g')),
+        Command::Remove(key_of(1, 'g')),
+        Command::Remove(key_of(1, 'g')),
+        Command::At(0),
+        Command::RemoveAt(1),
+        Command::RemoveAt(0),
+        Command::RemoveAt(0),
+        Command::Insert(key_of(4, 'h'), 40),
+        Command::Clear,
+        Command::Len,
+        Command::Clear,
+        Command::First,
     ]?;
-    let (replies, error) = run(rt.alloc(), &mut tree, commands);
-    assert!(rt; error.is_none());
     let wanted = [
-        "pair none",
-        "pair none",
-        "pair none",
-        "done false",
-        "out 0",
-        "value none",
-        "value 10",
-        "pair 1 a 20",
-        "value 20",
-        "value none",
-        "number 1",
-        "pair 1 a 20",
-        "value none",
-        "pair 1 a 20",
-        "pair 3 d 30",
-        "done false",
-        "done true",
-        "pair 1 a 25",
-        "number 2",
-        "pair 1 a 25",
-        "pair 3 d 30",
-        "pair none",
-        "done true",
-        "done false",
-        "pair 1 a 25",
-        "pair 3 d 35",
-        "in 0",
-        "out 1",
-        "in 1",
-        "out 2",
-        "number 2",
+        "Pair(None)",
+        "Pair(None)",
+        "Pair(None)",
+        "Done(false)",
+        "Rank(Err(0))",
+        "Value(None)",
+        "Value(Some(10))",
+        "Pair(Some((Numbered { number: 1, letter: 'a' }, 20)))",
+        "Value(Some(20))",
+        "Value(None)",
+        "Number(1)",
+        "Pair(Some((Numbered { number: 1, letter: 'a' }, 20)))",
+        "Value(None)",
+        "Pair(Some((Numbered { number: 1, letter: 'a' }, 20)))",
+        "Pair(Some((Numbered { number: 3, letter: 'd' }, 30)))",
+        "Done(false)",
+        "Done(true)",
+        "Pair(Some((Numbered { number: 1, letter: 'a' }, 25)))",
+        "Number(2)",
+        "Pair(Some((Numbered { number: 1, letter: 'a' }, 25)))",
+        "Pair(Some((Numbered { number: 3, letter: 'd' }, 30)))",
+        "Pair(None)",
+        "Done(true)",
+        "Done(false)",
+        "Pair(Some((Numbered { number: 1, letter: 'a' }, 25)))",
+        "Pair(Some((Numbered { number: 3, letter: 'd' }, 35)))",
+        "Rank(Ok(0))",
+        "Rank(Err(1))",
+        "Rank(Ok(1))",
+        "Rank(Err(2))",
+        "Number(2)",
+        "Value(None)",
+        "Value(Some(25))",
+        "Value(None)",
+        "Pair(Some((Numbered { number: 3, letter: 'd' }, 35)))",
+        "Pair(None)",
+        "Pair(Some((Numbered { number: 3, letter: 'd' }, 35)))",
+        "Pair(None)",
+        "Value(None)",
+        "Done(true)",
+        "Number(0)",
+        "Done(true)",
+        "Pair(None)",
     ];
-    assert_eq!(rt; replies.len(), wanted.len());
-    for (reply, wanted) in replies.iter().zip(wanted) {
-        let shown = match reply {
-            Reply::Value(None) => format!(in rt.alloc(); "value none")?,
-            Reply::Value(Some(value)) => format!(in rt.alloc(); "value {value}")?,
-            Reply::Pair(None) => format!(in rt.alloc(); "pair none")?,
-            Reply::Pair(Some((key, value))) => {
-                format!(in rt.alloc(); "pair {} {} {value}", key.number, key.letter)?
-            }
-            Reply::Number(number) => format!(in rt.alloc(); "number {number}")?,
-            Reply::Done(done) => format!(in rt.alloc(); "done {done}")?,
-            Reply::Rank(Ok(rank)) => format!(in rt.alloc(); "in {rank}")?,
-            Reply::Rank(Err(rank)) => format!(in rt.alloc(); "out {rank}")?,
-            Reply::OutOfMemory => format!(in rt.alloc(); "out of memory")?,
-            Reply::Full => format!(in rt.alloc(); "full")?,
-        };
-        assert_eq!(rt; shown.as_str(), wanted);
+    let replies = replies_to(rt.alloc(), commands)?;
+    assert!(rt; print_as(rt.alloc(), &replies, &wanted)?);
+    Ok(())
+}
+
+// Whether each of many commands is answered: new keys are put, and the length is asked for after each.
+fn runs_many(alloc: Global) -> Result<bool, AllocError> {
+    let mut commands = Vec::new(alloc);
+    for turn in 0..5_000u64 {
+        commands.push(Command::Insert(key_of(turn * 7 % 5_000, 'a'), 1))?;
+        commands.push(Command::Len)?;
     }
+    let replies = replies_to(alloc, commands)?;
+    for (turn, reply) in replies.iter().enumerate() {
+        let is_due = match reply {
+            Reply::Value(None) => turn % 2 == 0,
+            Reply::Number(number) => turn % 2 == 1 && *number == turn / 2 + 1,
+            _ => false,
+        };
+        if !is_due {
+            return Ok(false);
+        }
+    }
+    Ok(replies.len() == 10_000)
+}
+
+#[test]
+fn a_run_answers_ten_thousand_commands(rt: HostRuntime) -> Result<(), Fail> {
+    assert!(rt; runs_many(rt.alloc())?);
     Ok(())
 }
 
 // Whether a clone is equal to the key, and the key is found under it in a tree of two keys.
-fn is_found_by_clone<K: Key>(
-    rt: &impl AllocGlobal,
-    small: K,
-    great: K,
-) -> Result<bool, AllocError> {
+fn is_found_by_clone<K: Key>(alloc: Global, small: K, great: K) -> Result<bool, AllocError> {
     let clone = great.clone()?;
     if small >= great || clone != great {
         return Ok(false);
     }
-    let mut tree: BPlusTree<NodeStoreVec<K, i32>> = BPlusTree::new(NodeStoreVec::new(rt.alloc()))?;
-    if tree.insert(great, 2).is_err() || tree.insert(small, 1).is_err() {
+    let mut tree = new_tree(alloc)?;
+    if put(&mut tree, great, 2).is_none() || put(&mut tree, small, 1).is_none() {
         return Ok(false);
     }
-    Ok(tree.get(&clone).copied() == Some(2) && tree.first().map(|(_, value)| *value) == Some(1))
+    let Some((_, first)) = tree.first() else {
+        return Ok(false);
+    };
+    Ok(*first == 1 && tree.get(&clone).copied() == Some(2))
+}
+
+fn are_found_by_clones(alloc: Global) -> Result<bool, AllocError> {
+    let hello = String::from_str(alloc, "hello")?;
+    let world = String::from_str(alloc, "world")?;
+    Ok(
+        is_found_by_clone(alloc, 1u8, 2)?
+            && is_found_by_clone(alloc, 1u16, 2)?
+            && is_found_by_clone(alloc, 1u32, 2)?
+            && is_found_by_clone(alloc, 1u64, 2)?
+            && is_found_by_clone(alloc, 1u128, 2)?
+            && is_found_by_clone(alloc, 1usize, 2)?
+            && is_found_by_clone(alloc, -2i8, -1)?
+            && is_found_by_clone(alloc, -2i16, -1)?
+            && is_found_by_clone(alloc, -2i32, -1)?
+            && is_found_by_clone(alloc, -2i64, -1)?
+            && is_found_by_clone(alloc, -2i128, -1)?
+            && is_found_by_clone(alloc, -2isize, -1)?
+            && is_found_by_clone(alloc, false, true)?
+            && is_found_by_clone(alloc, 'a', 'b')?
+            && is_found_by_clone(alloc, hello, world)?
+            && is_found_by_clone(alloc, (1u8, 'b'), (2, 'a'))?
+            && is_found_by_clone(alloc, Tuple2(1u64), Tuple2(2))?,
+    )
 }
 
 #[test]
 fn each_kind_of_key_is_found(rt: HostRuntime) -> Result<(), Fail> {
-    assert!(rt; is_found_by_clone(&rt, 1u8, 2)?);
-    assert!(rt; is_found_by_clone(&rt, 1u16, 2)?);
-    assert!(rt; is_found_by_clone(&rt, 1u32, 2)?);
-    assert!(rt; is_found_by_clone(&rt, 1u64, 2)?);
-    assert!(rt; is_found_by_clone(&rt, 1u128, 2)?);
-    assert!(rt; is_found_by_clone(&rt, 1usize, 2)?);
-    assert!(rt; is_found_by_clone(&rt, -2i8, -1)?);
-    assert!(rt; is_found_by_clone(&rt, -2i16, -1)?);
-    assert!(rt; is_found_by_clone(&rt, -2i32, -1)?);
-    assert!(rt; is_found_by_clone(&rt, -2i64, -1)?);
-    assert!(rt; is_found_by_clone(&rt, -2i128, -1)?);
-    assert!(rt; is_found_by_clone(&rt, -2isize, -1)?);
-    assert!(rt; is_found_by_clone(&rt, false, true)?);
-    assert!(rt; is_found_by_clone(&rt, 'a', 'b')?);
-    let hello = String::from_str(rt.alloc(), "hello")?;
-    let world = String::from_str(rt.alloc(), "world")?;
-    assert!(rt; is_found_by_clone(&rt, hello, world)?);
-    assert!(rt; is_found_by_clone(&rt, (1u8, 'b'), (2, 'a'))?);
-    assert!(rt; is_found_by_clone(&rt, Tuple2(1u64), Tuple2(2))?);
+    assert!(rt; are_found_by_clones(rt.alloc())?);
     Ok(())
 }

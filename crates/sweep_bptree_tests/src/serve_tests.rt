@@ -1,12 +1,11 @@
 // Inputs and what is answered, and readers and writers that fail.
 ghost use Rattle.std.specs.Prelude.{◌<◌, Some};
 
-use std::alloc::Global;
+use std::alloc::{AllocError, Global};
 use std::io;
 use std::io::{ErrorKind, Read, Write};
-use std::process::Abort;
 use std::test::Fail;
-use sweep_bptree::script::{ServeError, serve};
+use sweep_bptree::script::{ServeError, exit_status, serve};
 
 // Gives at most `step` bytes a read, and fails after `good` reads.
 #[derive(Drop)]
@@ -73,12 +72,36 @@ const RANKS: &str =
 
 const RANKED: &str = "new\nnew\nold 20\nin 1\nout 2\n1 10\n2 21\nnone\nout 0\n1 10,2 21\nbad\n";
 
-// The answers to a whole input.
-fn answers_to(rt: &impl Abort, alloc: Global, input: &[u8]) -> Vec<u8> {
-    let mut source = input;
-    let mut taken = Vec::new(alloc);
-    assert_eq!(rt; serve(alloc, &mut source, &mut taken), Ok(()));
-    taken
+// Whether serving gives this, and this is what was written.
+fn serves(
+    alloc: Global,
+    mut source: Source,
+    mut sink: Sink,
+    served: Result<(), ServeError>,
+    written: &[u8],
+) -> bool {
+    serve(alloc, &mut source, &mut sink) == served && sink.bytes.as_slice() == written
+}
+
+fn new_source(left: &[u8], step: usize, good: usize) -> Source<'_> {
+    let step = step.max(1);
+    Source { left, step, good }
+}
+
+fn new_sink(alloc: Global, step: usize, room: usize, can_flush: bool) -> Sink {
+    Sink {
+        bytes: Vec::new(alloc),
+        step,
+        room,
+        can_flush,
+    }
+}
+
+// Whether a whole input is answered so.
+fn answers(alloc: Global, input: &[u8], output: &[u8]) -> bool {
+    let source = new_source(input, 1000, usize::MAX);
+    let sink = new_sink(alloc, 1000, usize::MAX, true);
+    serves(alloc, source, sink, Ok(()), output)
 }
 
 #[test]
@@ -111,13 +134,32 @@ fn inputs(rt: HostRuntime) {
             "new\nbad\n1\n",
         ),
         (
+            "put 2 20\nput 1 10\nput 2 21\nrank 2\nrank 3\nat 0\ndel 1\nall\nget 01x",
+            "new\nnew\nold 20\nin 1\nout 2\n1 10\ngone 10\n2 21\nbad\n",
+        ),
+        (
+            "put 0 18446744073709551615\nput 18446744073709551615 0\nall\nat 2\nclear\nall\nlen",
+            "new\nnew\n0 18446744073709551615,18446744073709551615 0\nnone\ncleared\nempty\n0\n",
+        ),
+        (
+            "del 5\nput 5 50\ndel 5\ndel 5\nlen\nclear\nput 5 51\ndel 5\n",
+            "none\nnew\ngone 50\nnone\n0\ncleared\nnew\ngone 51\n",
+        ),
+        (
             "put 1 10\nPUT 1 11\nget 1\n\nget 1\n",
             "new\nbad\n10\nbad\n10\n",
         ),
     ] {
-        let taken = answers_to(&rt, rt.alloc(), input.as_bytes());
-        assert_eq!(rt; taken.as_slice(), output.as_bytes(), "{input:?}");
+        let holds = answers(rt.alloc(), input.as_bytes(), output.as_bytes());
+        assert!(rt; holds, "{input:?}");
     }
+}
+
+// Whether the line is bad, and nothing was changed by it.
+fn is_bad(alloc: Global, line: &[u8]) -> Result<bool, AllocError> {
+    let mut input = Vec::from_slice(alloc, line)?;
+    input.extend_from_slice(b"\nlen")?;
+    Ok(answers(alloc, &input, b"bad\n0\n"))
 }
 
 #[test]
@@ -150,6 +192,12 @@ fn bad_lines(rt: HostRuntime) -> Result<(), Fail> {
         b"rank 1 2",
         b"rank 01",
         b"ranks 1",
+        b"del",
+        b"del 01",
+        b"del 1 2",
+        b"clear ",
+        b"clear 1",
+        b"Clear",
         b"get 01",
         b"get +1",
         b"get -0",
@@ -160,105 +208,77 @@ fn bad_lines(rt: HostRuntime) -> Result<(), Fail> {
         b"get 1\r",
         b"get \xff\x00",
     ] {
-        let mut input = Vec::from_slice(rt.alloc(), line)?;
-        input.extend_from_slice(b"\nlen")?;
-        let taken = answers_to(&rt, rt.alloc(), &input);
-        assert_eq!(rt; taken.as_slice(), b"bad\n0\n".as_slice(), "{line:?}");
+        assert!(rt; is_bad(rt.alloc(), line)?, "{line:?}");
     }
     Ok(())
 }
 
 // A line of a megabyte is one answer, whatever it begins with.
+fn answers_a_long_line(alloc: Global) -> Result<bool, AllocError> {
+    let mut line = Vec::from_slice(alloc, b"put 1 1")?;
+    line.resize(1_000_000, b'0')?;
+    is_bad(alloc, &line)
+}
+
+// Short reads and short writes, of which there are more than 100,000.
+fn answers_byte_by_byte(alloc: Global) -> Result<bool, AllocError> {
+    let mut input = Vec::new(alloc);
+    let mut output = Vec::new(alloc);
+    for _ in 0..15_000 {
+        input.extend_from_slice(b"get 123\n")?;
+        output.extend_from_slice(b"none\n")?;
+    }
+    let source = new_source(&input, 1, usize::MAX);
+    let sink = new_sink(alloc, 1, usize::MAX, true);
+    Ok(serves(alloc, source, sink, Ok(()), &output))
+}
+
 #[test]
-fn long_line(rt: HostRuntime) -> Result<(), Fail> {
-    let mut input = Vec::from_slice(rt.alloc(), b"put 1 1")?;
-    input.resize(1_000_000, b'0')?;
-    input.extend_from_slice(b"\nlen\n")?;
-    let taken = answers_to(&rt, rt.alloc(), &input);
-    assert_eq!(rt; taken.as_slice(), b"bad\n0\n".as_slice());
+fn long_inputs(rt: HostRuntime) -> Result<(), Fail> {
+    assert!(rt; answers_a_long_line(rt.alloc())? && answers_byte_by_byte(rt.alloc())?);
     Ok(())
-}
-
-fn new_sink(alloc: Global, step: usize, room: usize, can_flush: bool) -> Sink {
-    Sink {
-        bytes: Vec::new(alloc),
-        step,
-        room,
-        can_flush,
-    }
-}
-
-#[test]
-fn one_byte_at_a_time(rt: HostRuntime) {
-    let mut source = Source {
-        left: INPUT.as_bytes(),
-        step: 1,
-        good: usize::MAX,
-    };
-    let mut sink = new_sink(rt.alloc(), 1, usize::MAX, true);
-    assert_eq!(rt; serve(rt.alloc(), &mut source, &mut sink), Ok(()));
-    assert_eq!(rt; sink.bytes.as_slice(), OUTPUT.as_bytes());
-}
-
-#[test]
-fn failing_writers(rt: HostRuntime) {
-    for (input, step, room, can_flush, written) in [
-        (INPUT, 100, 6, true, "new\nne"),
-        ("len", 100, 1, true, "0"),
-        ("len", 0, 100, true, ""),
-        ("len", 100, 100, false, "0\n"),
-        ("", 100, 100, false, ""),
-    ] {
-        let mut source = input.as_bytes();
-        let mut sink = new_sink(rt.alloc(), step, room, can_flush);
-        let result = serve(rt.alloc(), &mut source, &mut sink);
-        assert_eq!(rt;
-            result,
-            Err(ServeError::Io),
-            "{input:?} with room for {room}"
-        );
-        assert_eq!(rt;
-            sink.bytes.as_slice(),
-            written.as_bytes(),
-            "{input:?} with room for {room}"
-        );
-    }
 }
 
 // The lines that were read are answered before the read that fails; a line that it cuts off is not.
 #[test]
-fn failing_readers(rt: HostRuntime) {
-    for (input, step, good, written) in [
-        ("len\n", 3, 1, ""),
-        ("len\nlen\n", 6, 1, "0\n"),
-        ("len\nlen", 100, 1, "0\n"),
-        ("len\n", 4, 0, ""),
+fn streams_with_faults(rt: HostRuntime) {
+    for (input, (read, good), (write, room, can_flush), written) in [
+        (INPUT, (1, 1000), (1, 6, true), "new\nne"),
+        (INPUT, (100, 1000), (100, 6, true), "new\nne"),
+        ("len", (100, 1000), (100, 1, true), "0"),
+        ("len", (100, 1000), (0, 100, true), ""),
+        ("len", (100, 1000), (100, 100, false), "0\n"),
+        ("", (100, 1000), (100, 100, false), ""),
+        ("len\n", (3, 1), (100, 100, true), ""),
+        ("len\nlen\n", (6, 1), (100, 100, true), "0\n"),
+        ("len\nlen", (100, 1), (100, 100, true), "0\n"),
+        ("len\n", (4, 0), (100, 100, true), ""),
     ] {
-        let mut source = Source {
-            left: input.as_bytes(),
-            step,
-            good,
-        };
-        let mut sink = new_sink(rt.alloc(), 100, 100, true);
-        let result = serve(rt.alloc(), &mut source, &mut sink);
-        assert_eq!(rt; result, Err(ServeError::Io), "{input:?} after {good} reads");
-        assert_eq!(rt;
-            sink.bytes.as_slice(),
+        let source = new_source(input.as_bytes(), read, good);
+        let sink = new_sink(rt.alloc(), write, room, can_flush);
+        let holds = serves(
+            rt.alloc(),
+            source,
+            sink,
+            Err(ServeError::Io),
             written.as_bytes(),
-            "{input:?} after {good} reads"
         );
+        assert!(rt; holds, "{input:?} and {written:?}");
     }
 }
 
 #[test]
 fn statuses_and_texts(rt: HostRuntime) -> Result<(), Fail> {
-    for (error, status, text) in [
-        (ServeError::Io, 1, "i/o fault"),
-        (ServeError::OutOfMemory, 3, "out of memory"),
+    for (served, status, text) in [
+        (Ok(()), 0, ""),
+        (Err(ServeError::Io), 1, "i/o fault"),
+        (Err(ServeError::OutOfMemory), 3, "out of memory"),
     ] {
-        assert_eq!(rt; error.status(), status);
-        let shown = error.to_string(rt.alloc())?;
-        assert_eq!(rt; shown.as_str(), text);
+        let shown = match served {
+            Ok(()) => String::new(rt.alloc()),
+            Err(error) => error.to_string(rt.alloc())?,
+        };
+        assert!(rt; exit_status(&served) == status && shown.as_str() == text);
     }
     Ok(())
 }

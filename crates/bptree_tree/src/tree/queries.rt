@@ -3,11 +3,12 @@ ghost use Rattle.std.specs.Prelude.{◌≡◌, IfOk, MatchResult, is_ok};
 ghost use Rattle.std.specs.Map.{keys_of};
 ghost use Rattle.std.specs.Option.{option_map};
 ghost use Rattle.bptree_keys.specs.Contents.{has};
-ghost use Rattle.bptree_tree.specs.ByArgument.{IsSelected};
+ghost use Rattle.bptree_shape.specs.ByArgument.{IsSelected};
 
+use crate::SelectError;
 use crate::tree::BPlusTree;
-use crate::{SelectError, by_argument};
 use bptree_arguments::argument::{RankArgument, SearchArgument};
+use bptree_shape::by_argument;
 use bptree_stores::node_stores::NodeStore;
 use std::alloc::AllocError;
 
@@ -72,7 +73,7 @@ impl<S: NodeStore> BPlusTree<S> {
     ) -> Result<&mut S::V, SelectError>
     where
         S::Argument: SearchArgument<S::K>,
-        ensures* writes_back { sem 𝓛 (LendsSoOk (the_row S.row S.K.row S.V.row S.Argument.row S.NodeStore S.K.Clone S.K.Ord.own S.K.PartialEq S.K.PartialOrd.own S.Argument.Argument.own S.Argument.Clone S.Argument.Default) S.V.row self.entry result (λ n w. IfOk result (λ r. WritesSelected S.Argument.selects query self.old r.now w n)) (λ n. n ≡ self.old)) }
+        ensures* writes_back { sem 𝓛 (LendsSoOk (the_row S.row S.K.row S.V.row S.Argument.row S.NodeStore S.K.Clone S.K.Ord.own S.K.PartialEq S.K.PartialOrd.own S.Argument.Argument.own S.Argument.Clone S.Argument.Default) S.V.row self.entry result (λ n w. IfOk result (λ r. WritesSelected S.Argument.selects S.slots S.with_leaf query self.old r.now w n)) (λ n. n ≡ self.old)) }
         ensures value { IfOk result (λ lent. (i : ℕ) × S.Argument.selects query (keys_of self.old.contents) (Some i) × (slice_get (values_of self.old.contents) i ≡ Some lent.now)) }
         ensures absent { IfErr result (λ error. error ≡ SelectError.NotFound → S.Argument.selects query (keys_of self.old.contents) None) }
     {

@@ -1,5 +1,5 @@
 //! Commands on a tree, and their replies.
-ghost use Rattle.std.specs.Prelude.{◌≡◌, ◌↔◌, take, IsNone, vec_len};
+ghost use Rattle.std.specs.Prelude.{◌≡◌, ◌↔◌, [], IsNone, IsSome, vec_len};
 ghost use Rattle.std.specs.Option.{option_map};
 ghost use Rattle.sweep_bptree.specs.Steps.{RepliesCopy, Step, Run, reply_to_refusal};
 
@@ -14,6 +14,12 @@ use std::alloc::{AllocError, Global};
 pub enum Command<K, V, Q> {
     /// Puts the value at the key.
     Insert(K, V),
+    /// Removes the pair with the key.
+    Remove(K),
+    /// Removes the pair at a place that is allowed for the query, where one is.
+    RemoveAt(Q),
+    /// Removes all pairs.
+    Clear,
     /// Looks the key up.
     Get(K),
     /// Replaces the value at the key, and puts nothing where the key is absent.
@@ -37,11 +43,11 @@ pub enum Command<K, V, Q> {
 pub enum Reply<K, V, R> {
     /// The value at the key, before the command.
     Value(Option<V>),
-    /// A pair, with a clone of its key.
+    /// A pair: the one that was removed, or a copy with a clone of its key.
     Pair(Option<(K, V)>),
     /// A number of pairs.
     Number(usize),
-    /// Whether there was a value to replace.
+    /// Whether there was a value to replace; true where all pairs were removed.
     Done(bool),
     /// The rank of the key: `Ok` where it is present.
     Rank(Result<R, R>),
@@ -95,6 +101,42 @@ where
     match tree.insert(key, value) {
         Ok(before) => Reply::Value(before),
         Err(error) => refused(error),
+    }
+}
+
+fn remove<S: NodeStore>(tree: &mut BPlusTree<S>, key: S::K) -> ReplyOf<S>
+where
+    S::Argument: SearchArgument<S::K> + RankArgument<S::K>,
+    ensures { Step S.K.cmp S.Argument.selects S.Argument.ranks tree.old.contents (Command.Remove key) result tree.new.contents }
+{
+    match tree.remove(&key) {
+        Ok(gone) => Reply::Value(gone),
+        Err(_) => Reply::OutOfMemory,
+    }
+}
+
+fn remove_at<S: NodeStore>(
+    tree: &mut BPlusTree<S>,
+    query: <S::Argument as SearchArgument<S::K>>::Query,
+) -> ReplyOf<S>
+where
+    S::Argument: SearchArgument<S::K> + RankArgument<S::K>,
+    ensures { Step S.K.cmp S.Argument.selects S.Argument.ranks tree.old.contents (Command.RemoveAt query) result tree.new.contents }
+{
+    match tree.remove_by_argument(query) {
+        Ok(pair) => Reply::Pair(pair),
+        Err(_) => Reply::OutOfMemory,
+    }
+}
+
+fn clear<S: NodeStore>(tree: &mut BPlusTree<S>) -> ReplyOf<S>
+where
+    S::Argument: SearchArgument<S::K> + RankArgument<S::K>,
+    ensures { Step S.K.cmp S.Argument.selects S.Argument.ranks tree.old.contents Command.Clear result tree.new.contents }
+{
+    match tree.clear() {
+        Ok(()) => Reply::Done(true),
+        Err(_) => Reply::OutOfMemory,
     }
 }
 
@@ -193,6 +235,9 @@ where
 {
     match command {
         Command::Insert(key, value) => insert(tree, key, value),
+        Command::Remove(key) => remove(tree, key),
+        Command::RemoveAt(query) => remove_at(tree, query),
+        Command::Clear => clear(tree),
         Command::Get(key) => get(tree, key),
         Command::Set(key, value) => set(tree, key, value),
         Command::SetAt(query, value) => set_at(tree, query, value),
@@ -206,7 +251,8 @@ where
 
 /// Carries out the commands in order, and answers each.
 ///
-/// Room for a reply is found before its command is carried out. Where there is none, it stops there, with the error.
+/// Room for all replies is found by one request, before the first command. Where that is refused, no command is carried
+/// out, and the error is answered with no reply.
 pub fn run<S: NodeStore>(
     alloc: Global,
     tree: &mut BPlusTree<S>,
@@ -215,14 +261,15 @@ pub fn run<S: NodeStore>(
 where
     S::V: Copy,
     S::Argument: SearchArgument<S::K> + RankArgument<S::K>,
-    ensures run { Run S.K.cmp S.Argument.selects S.Argument.ranks tree.old.contents (take (vec_len result.0) commands.items) result.0.items tree.new.contents }
+    ensures run { IsNone result.1 → Run S.K.cmp S.Argument.selects S.Argument.ranks tree.old.contents commands.items result.0.items tree.new.contents }
+    ensures refused { IsSome result.1 → (result.0.items ≡ []) × (tree.new ≡ tree.old) }
     ensures all { IsNone result.1 ↔ (vec_len result.0 ≡ vec_len commands) }
 {
     let mut replies = Vec::new(alloc);
+    if let Err(error) = replies.reserve(commands.len()) {
+        return (replies, Some(error));
+    }
     for command in commands {
-        if let Err(error) = replies.reserve(1) {
-            return (replies, Some(error));
-        }
         replies.push_reserved(carry_out(tree, command));
     }
     (replies, None)

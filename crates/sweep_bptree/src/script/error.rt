@@ -1,5 +1,5 @@
 // Why serving ended early.
-ghost use Rattle.std.specs.Prelude.{◌≡◌, Some};
+ghost use Rattle.std.specs.Prelude.{◌≡◌, Some, IsOk, IsErrOf};
 ghost use Rattle.sweep_bptree.specs.Faults.{status_of, fault_text};
 
 use std::fmt;
@@ -22,6 +22,18 @@ impl ServeError {
             ServeError::Io => 1,
             ServeError::OutOfMemory => 3,
         }
+    }
+}
+
+/// The exit status of a program that served so: 0 where all lines were answered.
+pub fn exit_status(served: &Result<(), ServeError>) -> u8
+    ensures ok { IsOk served.now → result ≡ 0 }
+    ensures io { IsErrOf served.now ServeError.Io → result ≡ 1 }
+    ensures out_of_memory { IsErrOf served.now ServeError.OutOfMemory → result ≡ 3 }
+{
+    match served {
+        Ok(()) => 0,
+        Err(error) => error.status(),
     }
 }
 

@@ -3,9 +3,9 @@ ghost use Rattle.std.specs.Prelude.{◌≡◌, ◌≤◌, [], ◌∷◌, ◌++�
 ghost use Rattle.std.specs.Map.{keys_of};
 ghost use Rattle.std.specs.Ordering.{nat_cmp};
 ghost use Rattle.bptree_arguments.specs.CountLaws.{count_below};
-ghost use Rattle.bptree_keys.specs.Contents.{has, value};
+ghost use Rattle.bptree_keys.specs.Contents.{has, value, del};
 ghost use Rattle.bptree_requests.specs.Request.{request_of};
-ghost use Rattle.sweep_bptree.specs.Answers.{pair_text, found_text, item_text, pairs_text, rank_text, old_text, value_text, put_text, pairs_with_put, reply_to, pairs_with, answer, pairs_after};
+ghost use Rattle.sweep_bptree.specs.Answers.{pair_text, found_text, item_text, pairs_text, rank_text, old_text, gone_text, value_text, put_text, pairs_with_put, reply_to, pairs_with, answer, pairs_after};
 ghost use Rattle.sweep_bptree.specs.Sent.{SendsOrFails, Replies};
 
 use crate::script::error::ServeError;
@@ -24,7 +24,7 @@ pub type NumberTree = BPlusTree<NodeStoreVec<u64, u64, Count>>;
 const DIGITS: usize = 20;
 
 /// How many bytes a label before a number has at most.
-const LABEL: usize = 4;
+const LABEL: usize = 5;
 
 fn send_number<W: Write>(writer: &mut W, held: &mut Held, n: u64) -> Result<(), ServeError>
     ensures { SendsOrFails (W.contents writer.old) (W.contents writer.new)
@@ -60,6 +60,16 @@ fn send_old<W: Write>(writer: &mut W, held: &mut Held, old: Option<u64>) -> Resu
     match old {
         None => send(writer, held, b"new"),
         Some(old) => send_labelled(writer, held, b"old ", old),
+    }
+}
+
+fn send_gone<W: Write>(writer: &mut W, held: &mut Held, gone: Option<u64>) -> Result<(), ServeError>
+    ensures { SendsOrFails (W.contents writer.old) (W.contents writer.new)
+        held.old.items held.new.items (gone_text gone) result }
+{
+    match gone {
+        None => send(writer, held, b"none"),
+        Some(gone) => send_labelled(writer, held, b"gone ", gone),
     }
 }
 
@@ -193,6 +203,37 @@ fn put_pair<W: Write>(
     }
 }
 
+fn delete_pair<W: Write>(
+    tree: &mut NumberTree,
+    key: u64,
+    writer: &mut W,
+    held: &mut Held,
+) -> Result<(), ServeError>
+    ensures replies { Replies (W.contents writer.old) (W.contents writer.new)
+        held.old.items held.new.items (gone_text (value nat_cmp tree.old.contents key)) result }
+    ensures pairs { OnOk result (tree.new.contents ≡ del nat_cmp tree.old.contents key) }
+{
+    match tree.remove(&key) {
+        Ok(gone) => send_gone(writer, held, gone),
+        Err(_) => Err(ServeError::OutOfMemory),
+    }
+}
+
+fn delete_all<W: Write>(
+    tree: &mut NumberTree,
+    writer: &mut W,
+    held: &mut Held,
+) -> Result<(), ServeError>
+    ensures replies { Replies (W.contents writer.old) (W.contents writer.new)
+        held.old.items held.new.items (codes "cleared") result }
+    ensures pairs { OnOk result (tree.new.contents ≡ []) }
+{
+    match tree.clear() {
+        Ok(()) => send(writer, held, b"cleared"),
+        Err(_) => Err(ServeError::OutOfMemory),
+    }
+}
+
 fn carry_out<W: Write>(
     tree: &mut NumberTree,
     request: Request,
@@ -206,6 +247,7 @@ fn carry_out<W: Write>(
 {
     match request {
         Request::Put(key, value) => put_pair(tree, key, value, writer, held),
+        Request::Del(key) => delete_pair(tree, key, writer, held),
         Request::Get(key) => send_value(writer, held, tree.get(&key).copied()),
         Request::Len => send_number(writer, held, tree.len() as u64),
         Request::All => send_pairs(writer, held, tree),
@@ -213,6 +255,7 @@ fn carry_out<W: Write>(
         Request::Last => send_found(writer, held, tree.last()),
         Request::At(place) => send_place(writer, held, tree, place),
         Request::Rank(key) => send_rank(writer, held, tree, key),
+        Request::Clear => delete_all(tree, writer, held),
     }
 }
 

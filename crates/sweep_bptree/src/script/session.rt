@@ -5,7 +5,7 @@ ghost use Rattle.arrayvec.specs.ArrayVec.{array_vec_len};
 ghost use Rattle.sweep_bptree.specs.Answers.{pairs_after_all, text};
 ghost use Rattle.sweep_bptree.specs.Clipped.{clipped_after, clipped_rest};
 ghost use Rattle.sweep_bptree.specs.Lines.{PartsAreLines};
-ghost use Rattle.sweep_bptree.specs.Served.{Serves, Answered, EndedBy, AnswersPiece, AnswersLast};
+ghost use Rattle.sweep_bptree.specs.Served.{Serves, Answered, EndedBy, AnswersPiece, AnswersLast, stop_of, error_of};
 
 use crate::script::error::ServeError;
 use crate::script::lines::{KEPT, Kept, take_lines};
@@ -18,6 +18,43 @@ use std::io::{Read, Write};
 
 /// How many bytes are read at once.
 const CHUNK: usize = 4096;
+
+/// What ended a session before the end of its input was answered.
+pub enum Stop {
+    /// A read failed.
+    Reader,
+    /// A write or the flush failed, or a write took no byte.
+    Writer,
+    /// `u64::MAX` reads met no end.
+    NoEnd,
+    /// A request for memory was refused.
+    OutOfMemory,
+}
+
+impl From<ServeError> for Stop {
+    ghost from_gives = { λ error stop. stop ≡ stop_of error };
+
+    // Answers are sent to the writer, and nothing is read meanwhile.
+    fn from(error: ServeError) -> Stop {
+        match error {
+            ServeError::Io => Stop::Writer,
+            ServeError::OutOfMemory => Stop::OutOfMemory,
+        }
+    }
+}
+
+impl From<Stop> for ServeError {
+    ghost from_gives = { λ stop error. error ≡ error_of stop };
+
+    fn from(stop: Stop) -> ServeError {
+        match stop {
+            Stop::Reader => ServeError::Io,
+            Stop::Writer => ServeError::Io,
+            Stop::NoEnd => ServeError::Io,
+            Stop::OutOfMemory => ServeError::OutOfMemory,
+        }
+    }
+}
 
 // Answers a piece of the input, and writes the answers.
 fn answer_piece<W: Write>(
@@ -80,26 +117,27 @@ fn serve_pieces<R: Read, W: Write>(
     alloc: Global,
     reader: &mut R,
     writer: &mut W,
-) -> Result<(), ServeError>
+) -> Result<(), Stop>
     ensures { Serves (R.remaining reader.old) (R.remaining reader.new)
         (W.contents writer.old) (W.contents writer.new) result }
 {
     let Ok(mut tree) = BPlusTree::new(NodeStoreVec::new(alloc)) else {
-        return Err(ServeError::OutOfMemory);
+        return Err(Stop::OutOfMemory);
     };
     let mut line = ArrayVec::new();
     let mut held = ArrayVec::new();
     let mut input = [0u8; CHUNK];
-    'turns: for _ in 0..u64::MAX {
+    'turns: for _turn in 0..u64::MAX {
         let Ok(n) = reader.read(&mut input) else {
-            return Err(ServeError::Io);
+            return Err(Stop::Reader);
         };
         if n == 0 {
-            return answer_last(&mut tree, line.as_slice(), writer, &mut held);
+            answer_last(&mut tree, line.as_slice(), writer, &mut held)?;
+            return Ok(());
         }
         answer_piece(&mut tree, &mut line, &input[..n], writer, &mut held)?;
     }
-    Err(ServeError::Io)
+    Err(Stop::NoEnd)
 }
 
 /// Reads lines to the end of the input, carries out each on a tree that begins empty, and writes the answer to each.
@@ -121,7 +159,7 @@ pub fn serve<R: Read, W: Write>(
     ensures out_of_memory { IsErrOf result ServeError.OutOfMemory → EndedBy ServeError.OutOfMemory
         (R.remaining reader.old) (R.remaining reader.new) (W.contents writer.old) (W.contents writer.new) }
 {
-    serve_pieces(alloc, reader, writer)
+    Ok(serve_pieces(alloc, reader, writer)?)
 }
 
 /// The lines of an input are the parts between its line feeds: those that a line feed ends, and what follows the last.

@@ -7,6 +7,7 @@ invariant-widths g l = record {
   positive : 0 < l.width;
   in_range : l.base < length l.keys;
   window : Window (λ y. g.K.Ord.cmp y l.key) l.keys l.base l.width;
+  from_there : l.fn.compares ≤ l.compares;
   count : l.compares ≤ l.fn.compares + 6;
   steps : StepsLeft l.width (l.fn.compares + 6 - l.compares);
 }

@@ -3,8 +3,7 @@ use Rattle.bptree_arguments.proofs.CountLemmas.{sum_by-lengths}
 use Rattle.bptree_arguments.proofs.count.CountRankArgument.fold_inner.Goals as goal
 use Rattle.bptree_keys.specs.Pieces.{flatten}
 
-pub returns : goal.returns
-returns g c = record {
-  carries = λ before pieces nonempty summaries ascending below fits stands.
-      omega (arith, sum_by-lengths (λ a. a.0) c.args.arguments.now pieces summaries, fits, stands, length-append before (flatten pieces), c.total_of.ensures);
-}
+pub returns-clause-carries : goal.returns-clause-carries
+returns-clause-carries g c =
+    λ before pieces nonempty summaries ascending below fits stands.
+    omega (arith, sum_by-lengths (λ a. a.0) c.args.arguments.now pieces summaries, fits, stands, length-append before (flatten pieces), c.total_of.ensures)

@@ -1,4 +1,4 @@
-use Rattle.std.proofs.Common.{refl, arith}
+use Rattle.std.proofs.Common.{refl, arith, rules}
 use Rattle.std.proofs.lemmas.List.{take-append-drop}
 use Rattle.bptree_nodes.proofs.Splits.{around_element, splits_by_table}
 use Rattle.bptree_nodes.proofs.inner_node.InnerNode.split.Goals as goal
@@ -25,3 +25,24 @@ returns-clause-table g c =
     let arguments = c.insert_and_cut.ensures in
     let full = rw (← c.self.view_is) at c.requires.full in
     rw (← c.self.view_is) (splits_by_table c.args.slot c.args.key c.args.child c.args.argument _ _ _ _ (omega (arith, full)) (omega (arith, full)) (omega (arith, full)) (omega arith) up children.kept arguments.kept children.moved arguments.moved)
+
+pub returns-clause-left : goal.returns-clause-left
+returns-clause-left g c = search rules
+
+pub returns-clause-right : goal.returns-clause-right
+returns-clause-right g c = search rules
+
+pub returns-clause-left_size : goal.returns-clause-left_size
+returns-clause-left_size g c = search rules
+
+pub returns-clause-right_size : goal.returns-clause-right_size
+returns-clause-right_size g c = search rules
+
+pub returns-clause-promoted : goal.returns-clause-promoted
+returns-clause-promoted g c = search rules
+
+pub invariant_of-right : goal.invariant_of-right
+invariant_of-right g c = search rules
+
+pub invariant_of-self : goal.invariant_of-self
+invariant_of-self g c = search rules

@@ -15,3 +15,12 @@ returns-else-is_full-clause-contents g c = λ ascending.
     let place = c.in-Err.ensures.place ascending in
     let facts = inserted g.K.Ord.cmp g.met.K.Ord.total c.args.self.now.pairs ascending c.args.key c.in-Err.slot c.args.value place.0 place.1 in
     (place.0, search rules, rw (← facts.new) c.insert_at.ensures.after)
+
+pub returns-in-Ok-clause-place : goal.returns-in-Ok-clause-place
+returns-in-Ok-clause-place g c = search rules
+
+pub returns-in-Ok-clause-ascending : goal.returns-in-Ok-clause-ascending
+returns-in-Ok-clause-ascending g c = search rules
+
+pub replace_value-requires : goal.replace_value-requires
+replace_value-requires g c = search rules

@@ -6,10 +6,10 @@ use Rattle.bptree_nodes.specs.Leaf.{Leaf, set_value_at}
 use Rattle.bptree_nodes.specs.LeafResults.{HasEqualAt}
 use Rattle.bptree_nodes.specs.Slot.{Slot, Present}
 use Rattle.bptree_nodes.proofs.LeafContents.{value_at_place}
-use Rattle.bptree_tree.specs.Shape.{root_least, pairs_at}
-use Rattle.bptree_tree.proofs.Lent.{lent_shape, lent_pairs, lent_keys, lent_length, lent_store, none_if_absent}
-use Rattle.bptree_tree.proofs.Spot.{value_in_leaf, leaf_ascends}
-use Rattle.bptree_tree.proofs.Walk.{tree_ascends}
+use Rattle.bptree_shape.specs.Shape.{root_least, pairs_at}
+use Rattle.bptree_insertion.proofs.Lent.{lent_shape, lent_pairs, lent_keys, lent_length, lent_store, none_if_absent}
+use Rattle.bptree_shape.proofs.Spot.{value_in_leaf, leaf_ascends}
+use Rattle.bptree_shape.proofs.Walk.{tree_ascends}
 use Rattle.bptree_tree.proofs.tree.BPlusTree.get_mut.Goals as goal
 
 -- one lender, and the same value at each write

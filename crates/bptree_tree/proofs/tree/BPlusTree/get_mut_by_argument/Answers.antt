@@ -1,7 +1,7 @@
 use Rattle.std.proofs.Common.{◌∙◌, sym, ◌+◌, length, refl, Some}
 use Rattle.bptree_nodes.specs.Leaf.{set_value_at}
-use Rattle.bptree_tree.specs.ByArgument.{IsSelectedAt}
-use Rattle.bptree_tree.specs.Leaves.{pairs_of}
+use Rattle.bptree_shape.specs.ByArgument.{IsSelectedAt}
+use Rattle.bptree_shape.specs.Leaves.{pairs_of}
 use Rattle.bptree_tree.proofs.LentAt.{set_shape, set_keys, set_pairs, set_length, value_of_slot, slot_within}
 use Rattle.bptree_tree.proofs.tree.BPlusTree.get_mut_by_argument.Goals as goal
 
@@ -46,6 +46,6 @@ returns-in-Ok-Some g c =
     let updates = g.met.S.NodeStore.with_leaf_updates tree.store leaf.0 written found.0.present in
     set_pairs g.S.K.Ord.cmp sum slots (store (g.S.NodeStore.with_leaf tree.store leaf.0 written)) tree.height tree.root c.self.invariant.0 leaf node read found.0 slot within w updates in
     rw (← c.self.view_is) (
-      (refl, λ w ok. (place, found.2, value, pairs w, refl, refl, refl), tt),
+      (refl, λ w ok. record { place = place; selected = found.2; value = value; contents = pairs w; leaf = leaf; slot = slot; node = node; stands = found.0; here = read; at = refl; store = refl; root = refl; height = refl; root_argument = refl }, tt),
       record { writes_back = tt; value = (place, found.2, value); absent = tt },
     )

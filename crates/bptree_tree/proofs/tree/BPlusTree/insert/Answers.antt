@@ -1,8 +1,8 @@
 use Rattle.std.proofs.Common.{◌∙◌, ◌+◌, sym, refl, ap, arith, true, false, None}
 use mathlib.Core.Bool.{true≢false}
-use Rattle.bptree_tree.specs.Shape.{root_least, pairs_at}
+use Rattle.bptree_shape.specs.Shape.{root_least, pairs_at}
 use Rattle.bptree_tree.proofs.Counted.{has_read, one_more}
-use Rattle.bptree_tree.proofs.Walk.{tree_ascends}
+use Rattle.bptree_shape.proofs.Walk.{tree_ascends}
 use Rattle.bptree_tree.proofs.tree.BPlusTree.insert.Goals as goal
 use Rattle.bptree_tree.proofs.tree.BPlusTree.insert.Goals.{else-self-via-then-self+else-is_none, else-self-via-else-self}
 

@@ -1,6 +1,6 @@
 use Rattle.std.proofs.Common.{None}
-use Rattle.bptree_tree.specs.Shape.{root_least}
-use Rattle.bptree_tree.proofs.Walk.{tree_ascends}
+use Rattle.bptree_shape.specs.Shape.{root_least}
+use Rattle.bptree_shape.proofs.Walk.{tree_ascends}
 use Rattle.bptree_tree.proofs.tree.BPlusTree.len.Goals as goal
 
 -- a well shaped tree ascends

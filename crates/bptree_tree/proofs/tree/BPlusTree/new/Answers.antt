@@ -10,3 +10,12 @@ invariant_of-result g c =
       rw added.leaf.changed refl,
       rw added.leaf.changed (g.met.S.Argument.Argument.default_is_summary c.default.result c.default.ensures),
     )
+
+pub returns-clause-whole : goal.returns-clause-whole
+returns-clause-whole g c =
+    let added = c.in_ok-leaf.ensures.updates in
+    record {
+      shape = started g.S.K.Ord.cmp g.S.Argument.Argument.is_summary (g.S.NodeStore.slots c.args.store) (g.S.NodeStore.slots c.new_empty_leaf.new.self) c.in_ok-leaf.leaf c.requires added;
+      contents = refl;
+      summary = rw added.leaf.changed (g.met.S.Argument.Argument.default_is_summary c.default.result c.default.ensures);
+    }

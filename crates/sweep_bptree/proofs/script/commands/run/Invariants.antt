@@ -1,4 +1,4 @@
-use Rattle.std.proofs.Common.{◌≡◌, ◌++◌, length, vec_len}
+use Rattle.std.proofs.Common.{◌≡◌, ◌≤◌, ◌++◌, length, vec_len, vec_capacity}
 use Rattle.std.specs.Vec.Iter.{into_iter_items}
 use Rattle.sweep_bptree.specs.Steps.{Run}
 use Rattle.sweep_bptree.proofs.script.commands.run.Given as goal
@@ -9,4 +9,5 @@ invariant-loop-command g l =
     (goal.iterator-loop-command g).can_next l.command-iterator × (goal.iterator-loop-command g).is_finite l.command-iterator
     × (l.fn.commands.items ≡ l.yielded ++ into_iter_items l.command-iterator)
     × (vec_len l.replies ≡ length l.yielded)
+    × (vec_len l.fn.commands ≤ vec_capacity l.replies)
     × Run g.S.K.Ord.cmp g.S.Argument.SearchArgument.selects g.S.Argument.RankArgument.ranks l.initial.tree.contents l.yielded l.replies.items l.tree.contents

@@ -9,5 +9,5 @@ pub returns-in-Ok : goal.returns-in-Ok
 returns-in-Ok g c =
     let pairs = c.args.tree.now.contents in
     let written = rw c.in-Ok.is at (c.get_mut_by_argument.follows.holds c.args.value (rw c.in-Ok.is refl)) in
-    let within = slice_get_within (values_of pairs) written.0 c.in-Ok.found.now written.2 in
-    (written.0, rw (length-values_of pairs) at within, written.1, written.3)
+    let within = slice_get_within (values_of pairs) written.place c.in-Ok.found.now written.value in
+    (written.place, rw (length-values_of pairs) at within, written.selected, written.contents)

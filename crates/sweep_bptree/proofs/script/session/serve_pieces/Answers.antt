@@ -1,38 +1,46 @@
-use Rattle.std.proofs.Common.{rules, [], ◌++◌, refl, ap, ◌∙◌, take, arith}
+use Rattle.std.proofs.Common.{rules, [], ◌++◌, refl, ap, ◌∙◌, take, arith, length-append, length-take}
 use Rattle.std.proofs.lemmas.Result.{err_from_is_err_and}
-use Rattle.std.proofs.KnownBytes.{Keeps-refl, Consumes-trans}
+use Rattle.std.proofs.KnownBytes.{Consumes-trans}
 use Rattle.sweep_bptree.specs.Answers.{pairs_after_all}
 use Rattle.sweep_bptree.specs.Clipped.{clipped_after}
 use Rattle.sweep_bptree.proofs.FeedLemmas.{length-clipped_rest}
-use Rattle.sweep_bptree.proofs.SessionLemmas.{ended_at_start, ended_by_reader, ended_by_piece, served_last, answered_more, pairs_then, rest_then}
+use Rattle.sweep_bptree.proofs.SessionLemmas.{stopped_at_start, stopped_by_reader, stopped_with_no_end, stopped_by_piece, stopped_by_last, answered_last, answered_more, pairs_then, rest_then}
 use Rattle.sweep_bptree.proofs.script.session.serve_pieces.Goals as goal
 
 pub returns-in_default : goal.returns-in_default
-returns-in_default g c = ended_at_start _ _
+returns-in_default g c = stopped_at_start _ _
 
 pub returns : goal.returns
 returns g c =
     let inv = c.turns.invariant.1 in
-    ended_by_reader _ _ _ _ _ inv.0 inv.1 (Keeps-refl _) inv.2
+    stopped_with_no_end _ _ _ _ inv.0 inv.1 (omega (arith, inv.5)) inv.2
 
 pub returns-in_default-read : goal.returns-in_default-read
 returns-in_default-read g c =
     let inv = c.turns.invariant.1 in
-    ended_by_reader _ _ _ _ _ inv.0 inv.1 c.in_default-read.ensures.bytes inv.2
+    stopped_by_reader _ _ _ _ _ inv.0 inv.1 c.in_default-read.ensures.bytes inv.2
 
 pub returns-then-n-eq0 : goal.returns-then-n-eq0
 returns-then-n-eq0 g c =
     let inv = c.turns.invariant.1 in
     let got = rw c.if-n-eq0.true at c.in-Ok-read.ensures.bytes in
-    let last = rw (c.as_slice.ensures.value, inv.4, inv.3) at c.answer_last.ensures in
-    served_last _ _ _ _ _ _ inv.0 _ inv.1 got.0 (got.1 refl (search rules)) inv.2 last
+    let last = rw (c.as_slice.ensures.value, inv.4, inv.3) at c.in_ok-answer_last.ensures in
+    answered_last _ _ _ _ _ _ inv.0 inv.1 got.0 (got.1 refl (search rules)) inv.2 last
+
+pub returns-in_err-answer_last : goal.returns-in_err-answer_last
+returns-in_err-answer_last g c =
+    let inv = c.turns.invariant.1 in
+    let got = rw c.if-n-eq0.true at c.in-Ok-read.ensures.bytes in
+    let p = err_from_is_err_and c.from_residual.result c.from_residual.ensures.1 in
+    let last = rw (c.as_slice.ensures.value, inv.4, inv.3) at c.in_err-answer_last.ensures in
+    rw (p.1, p.2) (stopped_by_last _ _ _ _ _ _ _ inv.0 inv.1 got.0 (got.1 refl (search rules)) inv.2 last)
 
 pub returns-in_err-answer_piece : goal.returns-in_err-answer_piece
 returns-in_err-answer_piece g c =
     let inv = c.turns.invariant.1 in
-    let p = err_from_is_err_and c.from_residual.result c.from_residual.ensures.1 in
+    let p = err_from_is_err_and c.from_residual-in_err-answer_piece.result c.from_residual-in_err-answer_piece.ensures.1 in
     let piece = rw (inv.4, inv.3) at c.in_err-answer_piece.ensures.answers in
-    rw (p.1, p.2) (ended_by_piece _ _ _ _ _ _ _ inv.0 _ inv.1 c.in-Ok-read.ensures.bytes.0 inv.2 piece)
+    rw (p.1, p.2) (stopped_by_piece _ _ _ _ _ _ _ inv.0 _ inv.1 c.in-Ok-read.ensures.bytes.0 inv.2 piece)
 
 pub turns-preserved : goal.turns-preserved
 turns-preserved g c =
@@ -46,6 +54,7 @@ turns-preserved g c =
         answered_more _ _ _ inv.0 chunk inv.2 piece,
         pairs_then _ inv.0 chunk c.turns.line.items inv.4 (c.in_ok-answer_piece.ensures.pairs ∙ ap (λ ps. pairs_after_all ps (clipped_after c.turns.line.items chunk)) inv.3),
         rest_then _ _ inv.0 chunk inv.4 c.in_ok-answer_piece.ensures.line,
+        omega (arith, length-append inv.0 chunk, length-take c.in-Ok-read.n c.read.new.buf, c.in-Ok-read.ensures.bound, inv.5),
       ),
     )
 

@@ -1,14 +1,15 @@
-use Rattle.std.proofs.Common.{◌≡◌, ℕ, List, []}
+use Rattle.std.proofs.Common.{◌≡◌, ◌≤◌, ℕ, List, [], length}
 use Rattle.std.specs.Io.KnownBytes.{Appends, Consumes}
 use Rattle.sweep_bptree.specs.Answers.{answers, pairs_after_all}
 use Rattle.sweep_bptree.specs.Clipped.{clipped_after, clipped_rest}
 use Rattle.sweep_bptree.proofs.script.session.serve_pieces.Given as goal
 
--- what was read so far was answered
+-- what was read so far was answered, and each read gave a byte at least
 abbrev pub invariant-turns : goal.invariant-turns
 invariant-turns g l =
     (l.held.items ≡ [])
     × ((read : List ℕ) × Consumes (g.R.Read.remaining l.initial.reader) (g.R.Read.remaining l.reader) read
     × Appends (g.W.Write.contents l.initial.writer) (g.W.Write.contents l.writer) (answers [] (clipped_after [] read))
     × (l.tree.contents ≡ pairs_after_all [] (clipped_after [] read))
-    × (l.line.items ≡ clipped_rest [] read))
+    × (l.line.items ≡ clipped_rest [] read)
+    × (l._turn ≤ length read))

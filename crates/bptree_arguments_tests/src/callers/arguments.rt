@@ -1,0 +1,107 @@
+//! Callers of any argument.
+ghost use Rattle.std.specs.Prelude.{◌≡◌, ◌<◌, ◌≤◌, ◌^◌, ◌∷◌, ◌++◌, [], List, true, is_ok, length, IfOk, IfSome, IsTrue, MatchResult};
+ghost use Rattle.std.specs.List.{AllZip};
+ghost use Rattle.std.specs.List.Sorted.{IsStrictlySortedBy};
+ghost use Rattle.bptree_arguments.specs.Ranks.{AllBelow, IsSlotOf};
+ghost use Rattle.bptree_arguments.specs.Selection.{LeadsTo};
+ghost use Rattle.bptree_keys.specs.Pieces.{ArePieces};
+
+use bptree_arguments::argument::{Argument, RankArgument, SearchArgument};
+use bptree_keys::key::Key;
+use std::alloc::AllocError;
+
+// The summary of a leaf is one of its keys.
+fn summarizes_a_leaf<K: Key, A: Argument<K>>(keys: &[K]) -> Result<A, AllocError>
+    requires some { 0 < length keys.now }
+    requires ascending { IsStrictlySortedBy K.cmp keys.now }
+    ensures { IfOk result (λ a. A.is_summary a keys.now) }
+{
+    A::from_leaf(keys)
+}
+
+// And the summary of a node over two leaves is one of the keys of both, whatever the separators are.
+fn summarizes_two_leaves<K: Key, A: Argument<K>>(
+    left: &[K],
+    separators: &[K],
+    right: &[K],
+    arguments: &[A],
+) -> Result<A, AllocError>
+    requires pieces { ArePieces K.cmp (left.now ∷ right.now ∷ []) }
+    requires summaries { AllZip A.is_summary arguments.now (left.now ∷ right.now ∷ []) }
+    ensures { IfOk result (λ a. A.is_summary a (left.now ++ right.now)) }
+{
+    let both = A::from_inner(separators, arguments)?;
+    Ok(both)
+}
+
+// Before any key there is the default, which is a summary of no keys.
+fn summarizes_no_keys<K: Key, A: Argument<K>>() -> A
+    ensures { A.is_summary result [] }
+{
+    A::default()
+}
+
+// Where any summary serves, the default does for every list.
+fn needs_no_upkeep<K: Key, A: Argument<K>>() -> (bool, A)
+    ensures { IsTrue result.0 → (keys : List K) → A.is_summary result.1 keys }
+{
+    (A::is_zst(), A::default())
+}
+
+// The summary that says nothing says so.
+fn knows_that_nothing_is_kept<K: Key>() -> bool
+    ensures { result ≡ true }
+{
+    <() as Argument<K>>::is_zst()
+}
+
+// Below a node of one leaf a query leads to the leaf, or to no place of it.
+fn leads_to_one_leaf<K: Key, A: SearchArgument<K>>(
+    query: A::Query,
+    keys: &[K],
+    arguments: &[A],
+) -> Result<Option<(usize, A::Query)>, AllocError>
+    requires pieces { ArePieces K.cmp (keys.now ∷ []) }
+    requires summaries { AllZip A.is_summary arguments.now (keys.now ∷ []) }
+    ensures { IfOk result (λ answer. LeadsTo A.selects query (keys.now ∷ []) answer) }
+{
+    A::locate_in_inner(query, &[], arguments)
+}
+
+// In a leaf the place is one of the leaf, and allowed for the query.
+fn selects_in_a_leaf<K: Key, A: SearchArgument<K>>(
+    query: A::Query,
+    keys: &[K],
+) -> Result<Option<usize>, AllocError>
+    requires few { length keys.now ≤ 64 }
+    requires ascending { IsStrictlySortedBy K.cmp keys.now }
+    ensures within { IfOk result (λ place. IfSome place (λ i. i < length keys.now)) }
+    ensures allowed { IfOk result (λ place. A.selects query keys.now place) }
+{
+    A::locate_in_leaf(query, keys)
+}
+
+// The rank of a key behind one leaf is one for the keys of both, and tells whether the key is present.
+fn ranks_behind_one_leaf<K: Key, A: RankArgument<K>>(
+    k: &K,
+    before: &[K],
+    arguments: &[A],
+    slot: Result<usize, usize>,
+    keys: &[K],
+) -> Result<Result<A::Rank, A::Rank>, AllocError>
+    requires few { length keys.now ≤ 64 }
+    requires placed { IsSlotOf K.cmp k.now keys.now slot }
+    requires nonempty { 0 < length before.now }
+    requires summaries { AllZip A.is_summary arguments.now (before.now ∷ []) }
+    requires below { AllBelow K.cmp k.now before.now }
+    requires before { IsStrictlySortedBy K.cmp before.now }
+    requires ascending { IsStrictlySortedBy K.cmp (before.now ++ keys.now) }
+    requires before_fits { length before.now < 2 ^ 64 }
+    requires fits { length (before.now ++ keys.now) < 2 ^ 64 }
+    ensures variant { IfOk result (λ answer. is_ok answer ≡ is_ok slot) }
+    ensures ranked { IfOk result (λ answer. MatchResult answer (A.ranks k.now (before.now ++ keys.now)) (A.ranks k.now (before.now ++ keys.now))) }
+{
+    let rank = A::fold_inner(k, A::initial_value(), arguments)?;
+    let answer = A::fold_leaf(k, rank, slot, keys)?;
+    Ok(answer)
+}

@@ -1,0 +1,99 @@
+//! Callers of the count of keys.
+ghost use Rattle.std.specs.Prelude.{◌≡◌, ◌<◌, ◌≤◌, ◌+◌, ◌-◌, ◌^◌, ◌∷◌, [], Some, None, length, IfOk, IfErr};
+ghost use Rattle.std.specs.List.{AllZip};
+ghost use Rattle.std.specs.List.Sorted.{IsStrictlySortedBy};
+ghost use Rattle.bptree_arguments.specs.Ranks.{IsSlotOf};
+ghost use Rattle.bptree_keys.specs.Pieces.{ArePieces};
+
+use bptree_arguments::argument::{Argument, RankArgument, SearchArgument};
+use bptree_arguments::count::Count;
+use bptree_keys::key::Key;
+use std::alloc::AllocError;
+
+// A leaf's keys are counted, and one without keys counts none.
+fn counts_a_leaf<K: Key>(keys: &[K]) -> Result<usize, AllocError>
+    ensures len { IfOk result (λ n. n ≡ length keys.now) }
+    ensures none { keys.now ≡ [] → IfOk result (λ n. n ≡ 0) }
+{
+    let count = <Count as Argument<K>>::from_leaf(keys)?;
+    Ok(count.count())
+}
+
+fn counts_nothing() -> usize
+    ensures { result ≡ 0 }
+{
+    Count::default().count()
+}
+
+// The counts of two children are added, up to the greatest number, and the separators don't count.
+fn adds_two_counts<K: Key>(
+    separators: &[K],
+    left: Count,
+    right: Count,
+) -> Result<(usize, usize, usize), AllocError>
+    ensures sum { IfOk result (λ counts. counts.0 + counts.1 ≤ 2 ^ 64 - 1 → counts.2 ≡ counts.0 + counts.1) }
+    ensures capped { IfOk result (λ counts. 2 ^ 64 ≤ counts.0 + counts.1 → counts.2 ≡ 2 ^ 64 - 1) }
+{
+    let both = <Count as Argument<K>>::from_inner(separators, &[left, right])?;
+    Ok((left.count(), right.count(), both.count()))
+}
+
+// A place in a leaf is the place that is asked for, the last one too, and past the end there is none.
+fn finds_the_place<K: Key>(query: usize, keys: &[K]) -> Result<Option<usize>, AllocError>
+    requires few { length keys.now ≤ 64 }
+    requires ascending { IsStrictlySortedBy K.cmp keys.now }
+    ensures inside { query < length keys.now → IfOk result (λ place. place ≡ Some query) }
+    ensures past { length keys.now ≤ query → IfOk result (λ place. place ≡ None) }
+{
+    <Count as SearchArgument<K>>::locate_in_leaf(query, keys)
+}
+
+// The child of a place below two leaves, and the place there.
+fn goes_to_the_child<K: Key>(
+    query: usize,
+    left: &[K],
+    separators: &[K],
+    right: &[K],
+    counts: &[Count],
+) -> Result<Option<(usize, usize)>, AllocError>
+    requires pieces { ArePieces K.cmp (left.now ∷ right.now ∷ []) }
+    requires counts { AllZip (λ b keys. b.0 ≡ length keys) counts.now (left.now ∷ right.now ∷ []) }
+    requires inside { query < length left.now + length right.now }
+    ensures first { query < length left.now → IfOk result (λ child. child ≡ Some (0, query)) }
+    ensures second { length left.now ≤ query → IfOk result (λ child. child ≡ Some (1, query - length left.now)) }
+{
+    match <Count as SearchArgument<K>>::locate_in_inner(query, separators, counts)? {
+        None => Ok(None),
+        Some((child, rest)) => Ok(Some((child, rest))),
+    }
+}
+
+// The rank begins with no key, and takes in the counts before a child, up to the greatest number.
+fn takes_in_two_counts<K: Key>(
+    k: &K,
+    left: Count,
+    right: Count,
+) -> Result<(usize, usize, usize), AllocError>
+    ensures sum { IfOk result (λ ranks. ranks.0 + ranks.1 ≤ 2 ^ 64 - 1 → ranks.2 ≡ ranks.0 + ranks.1) }
+    ensures capped { IfOk result (λ ranks. 2 ^ 64 ≤ ranks.0 + ranks.1 → ranks.2 ≡ 2 ^ 64 - 1) }
+{
+    let start = <Count as RankArgument<K>>::initial_value();
+    let rank = <Count as RankArgument<K>>::fold_inner(k, start, &[left, right])?;
+    Ok((left.count(), right.count(), rank))
+}
+
+// In its leaf a key's place is added: `Ok` where it is present, `Err` where it is not.
+fn adds_the_place<K: Key>(
+    k: &K,
+    rank: usize,
+    slot: Result<usize, usize>,
+    keys: &[K],
+) -> Result<Result<usize, usize>, AllocError>
+    requires few { length keys.now ≤ 64 }
+    requires placed { IsSlotOf K.cmp k.now keys.now slot }
+    requires fits { rank + 64 < 2 ^ 64 }
+    ensures present { IfOk slot (λ i. IfOk result (λ answer. answer ≡ Ok (rank + i))) }
+    ensures absent { IfErr slot (λ i. IfOk result (λ answer. answer ≡ Err (rank + i))) }
+{
+    <Count as RankArgument<K>>::fold_leaf(k, rank, slot, keys)
+}

@@ -1,0 +1,268 @@
+-- A pair is put into the leaf at the end of a path, and into the whole tree.
+use Rattle.std.proofs.Common.{◌≡◌, ℕ, ◌+◌, ◌<◌, ◌≤◌, ◌^◌, inl, inr, Bool, true, false, cond, List, [], ◌∷◌, ◌++◌, length, refl, sym, ap, subst, ◌∙◌, arith, Option, Some, None, eqb, IfSome, length-append}
+use Rattle.std.specs.declared.cmp.Ordering.{Ordering}
+use Rattle.std.specs.Cmp.{IsTotalOrder}
+use Rattle.std.specs.List.{insert}
+use Rattle.std.specs.Map.{keys_of}
+use Rattle.std.proofs.lemmas.Bool.{cases_eq}
+use Rattle.std.proofs.lemmas.List.Edits.{length-insert}
+use Rattle.bptree_keys.specs.Contents.{IsAscending, below, has, put}
+use Rattle.bptree_nodes.specs.Inner.{Inner}
+use Rattle.bptree_nodes.specs.Leaf.{Leaf}
+use Rattle.bptree_nodes.specs.Slot.{Slot, Slots, Free, Held, Present, IsPresent}
+use Rattle.bptree_keys.specs.declared.node_id.InnerNodeId.{InnerNodeId}
+use Rattle.bptree_keys.specs.declared.node_id.LeafNodeId.{LeafNodeId}
+use Rattle.bptree_keys.specs.declared.node_id.NodeId.{NodeId}
+use Rattle.bptree_keys.specs.declared.node_id.NodeId.TheVariants as kind
+use Rattle.bptree_keys.proofs.Found.{inserted}
+use Rattle.bptree_keys.proofs.Updates.{length_put}
+use Rattle.bptree_insertion.specs.Change.{SplitsLeaf, Mends}
+use Rattle.bptree_insertion.specs.Climb.{StaysFew, is_held, Climb, Climbs, ClimbsTwo, Risen, Reaches}
+use Rattle.bptree_shape.specs.Edit.{CanReach, Stays, Gains, Edits}
+use Rattle.bptree_insertion.specs.LeafChange.{HasSlotAt, SumsUpLeaf, Adds, AreHalves, DividesLeaf}
+use Rattle.bptree_shape.specs.Outcome.{Outcome, Done, Split}
+use Rattle.bptree_insertion.specs.Puts.{IsDue, IsPlaced, IsPlacedUpTo}
+use Rattle.bptree_shape.specs.Shape.{leaf_pairs, leaf_next, pairs_at, leaves_at, root_least, AreLinked, IsWellShaped}
+use Rattle.bptree_insertion.specs.declared.node_changes.Division.{Division}
+use Rattle.bptree_insertion.proofs.Climbing.{least_most, not_held}
+use Rattle.bptree_shape.proofs.Hinted.{total-append, count_of, first_or, linked_next}
+use Rattle.bptree_insertion.proofs.LeafEdit.{put_is_local, leaf_edited, leaf_split}
+use Rattle.bptree_insertion.proofs.Mended.{one_at}
+use Rattle.bptree_shape.proofs.Ordered.{ascending_after}
+use Rattle.bptree_shape.proofs.Spot.{ascending_before}
+use Rattle.bptree_insertion.proofs.Rooted.{reach_of, present_leaf, whole_done, split_unlinked_pairs, whole_grown, grown_pairs, whole_split, split_pairs}
+use Rattle.bptree_shape.proofs.Ways.{way_can}
+
+pub node_of : {N : Type 0} (s : Slot N) → IsPresent s → (node : N) × (s ≡ Present node)
+node_of Free there = absurd there
+node_of Held there = absurd there
+node_of (Present node) there = (node, refl)
+
+slot_of : {K V : Type 0} (s : Slot (Leaf K V)) (slot : ℕ) → IsPresent s → slot ≤ length (leaf_pairs s) → HasSlotAt s slot
+slot_of Free slot there within = absurd there
+slot_of Held slot there within = absurd there
+slot_of (Present leaf) slot there within = within
+
+at_most_one : (there : Bool) (n : ℕ) → cond there n (n + 1) ≤ n + 1
+at_most_one true n = omega arith
+at_most_one false n = omega arith
+
+pub put_few : {K V : Type 0} {cmp : K → K → Ordering} (total : IsTotalOrder cmp) (k : K) (v : V) (most : ℕ) → most + 1 < 2 ^ 64 → StaysFew cmp (λ l. put cmp l k v) most
+put_few {cmp = cmp} total k v most few l sorted short = omega (arith, length_put cmp total l sorted k v, at_most_one (has cmp l k) (length l))
+
+pub none_is : {N : Type 0} (slot : Slot N) → (slot ≡ Held → ⊥) → is_held slot ≡ false
+none_is Free none = refl
+none_is Held none = absurd (none refl)
+none_is (Present node) none = refl
+
+pub next_seen : {K V : Type 0} (slot : Slot (Leaf K V)) (leaf : Leaf K V) → slot ≡ Present leaf → leaf_next slot ≡ leaf.next
+next_seen slot leaf e = ap leaf_next e
+
+present_if_next : {K V : Type 0} (slot : Slot (Leaf K V)) (l : LeafNodeId) → leaf_next slot ≡ Some l → IsPresent slot
+present_if_next Free l e = cc
+present_if_next Held l e = cc
+present_if_next (Present leaf) l e = tt
+
+head_is : (after : List LeafNodeId) (next : LeafNodeId) → first_or None after ≡ Some next → 1 ≤ count_of after next.0
+head_is [] next e = absurd (let z : None ≡ Some next = e in cc)
+head_is (y ∷ ys) next e = let same : y ≡ next = cc in omega (arith, one_at y.0 next.0 (ap (λ (l : LeafNodeId). l.0) same))
+
+-- the leaf behind one that was split is there still
+module _ {K V A : Type 0} (cmp : K → K → Ordering) (is_summary : A → List K → Type 0) (edit : List (K × V) → List (K × V)) (old new at : Slots (Inner K A) (Leaf K V)) (h : ℕ) (root : NodeId) (k : K) (leaf fresh : LeafNodeId) (outcome : Outcome K)
+    (shape : IsWellShaped cmp is_summary old h root) (edits : Edits cmp is_summary edit (root_least h) old new h root k leaf (Gains fresh) outcome) (leaves : at.leaf ≡ new.leaf) where
+  leaf_stands : IsPresent (at.leaf leaf.0)
+  leaf_stands = present_if_next (at.leaf leaf.0) fresh (rw leaves edits.links.1)
+
+  next_counted : (next : LeafNodeId) → leaf_next (old.leaf leaf.0) ≡ Some next → 1 ≤ count_of (leaves_at old h root) next.0
+  next_counted next e =
+      let order = edits.order in
+      let links = subst (λ ids. AreLinked old None ids None) order.was shape.linked in
+      let first = sym (linked_next old None order.before leaf order.after None links) ∙ e in
+      omega (arith, head_is order.after next first, ap (λ ids. count_of ids next.0) order.was, total-append (λ (l : LeafNodeId). cond (eqb l.0 next.0) 1 0) order.before (leaf ∷ order.after))
+
+  next_stands : (next : LeafNodeId) → leaf_next (old.leaf leaf.0) ≡ Some next → IsPresent (at.leaf next.0)
+  next_stands next e =
+      elim (cases_eq next.0 leaf.0) [
+        | inl same ↦ rw same leaf_stands
+        | inr other ↦ (let here = present_leaf cmp is_summary old h root shape next.0 (next_counted next e) in rw leaves ((edits.untouched next other tt here).1))
+      ]
+
+  pub next_there : (next : Option LeafNodeId) → leaf_next (old.leaf leaf.0) ≡ next → IfSome next (λ l. IsPresent (at.leaf l.0))
+  next_there None is = tt
+  next_there (Some next) is = next_stands next is
+
+module _ {K V A : Type 0} {cmp : K → K → Ordering} (total : IsTotalOrder cmp) (is_summary : A → List K → Type 0) (old : Slots (Inner K A) (Leaf K V)) (path : List (InnerNodeId × ℕ × NodeId)) (leaf : LeafNodeId) (slot : ℕ) (k : K)
+    (due : IsDue cmp is_summary old path leaf slot k) where
+  can : CanReach cmp old 0 (kind.Leaf leaf) k
+  can = way_can cmp old k path due.top due.root 0 (kind.Leaf leaf) due.way (reach_of cmp is_summary old due.top due.root k due.shape)
+
+  pub leaf_there : IsPresent (old.leaf leaf.0)
+  leaf_there = can.tree.0
+
+  sorted : IsAscending cmp (leaf_pairs (old.leaf leaf.0))
+  sorted = can.tree.2
+
+  pub slot_within : (v : V) → slot ≤ length (leaf_pairs (old.leaf leaf.0))
+  slot_within v = (inserted cmp total (leaf_pairs (old.leaf leaf.0)) sorted k slot v due.absent due.place).in_range
+
+  pub slot_at : (v : V) → HasSlotAt (old.leaf leaf.0) slot
+  slot_at v = slot_of (old.leaf leaf.0) slot leaf_there (slot_within v)
+
+  module _ (v : V) (node : Leaf K V) (here : old.leaf leaf.0 ≡ Present node) where
+    sorted_here : IsAscending cmp node.pairs
+    sorted_here = subst (λ (s : Slot (Leaf K V)). IsAscending cmp (leaf_pairs s)) here sorted
+
+    pub within_here : slot ≤ length node.pairs
+    within_here = subst (λ (s : Slot (Leaf K V)). slot ≤ length (leaf_pairs s)) here (slot_within v)
+
+    ascends : IsAscending cmp (insert node.pairs slot (k, v))
+    ascends =
+        (inserted cmp total node.pairs sorted_here k slot v (subst (λ (s : Slot (Leaf K V)). has cmp (leaf_pairs s) k ≡ false) here due.absent)
+        (due.place ∙ ap (λ (s : Slot (Leaf K V)). length (below cmp (leaf_pairs s) k)) here)).ascending
+
+    is_put : insert node.pairs slot (k, v) ≡ put cmp node.pairs k v
+    is_put =
+        (inserted cmp total node.pairs sorted_here k slot v (subst (λ (s : Slot (Leaf K V)). has cmp (leaf_pairs s) k ≡ false) here due.absent)
+        (due.place ∙ ap (λ (s : Slot (Leaf K V)). length (below cmp (leaf_pairs s) k)) here)).new
+
+    -- in a leaf with room
+    module _ (mid : Slots (Inner K A) (Leaf K V)) (adds : Adds old mid leaf slot (k, v) node) (room : length node.pairs < 64) where
+      pub edits_added : Edits cmp is_summary (λ l. put cmp l k v) 16 old mid 0 (kind.Leaf leaf) k leaf Stays Done
+      edits_added =
+          leaf_edited total is_summary old mid leaf k v node here (rw is_put at adds)
+          (omega (arith, ap length is_put, length-insert node.pairs slot (k, v) within_here, room))
+
+      pub none_added : (n : ℕ) → mid.leaf n ≡ Held → ⊥
+      none_added n h = elim (cases_eq n leaf.0) [ inl same ↦ (let z = sym adds.leaf.changed ∙ (ap mid.leaf (sym same) ∙ h) in cc) | inr other ↦ due.shape.no_leaf_held n (sym (adds.leaf.others n other) ∙ h) ]
+
+      abbrev pub climb_added : Climb cmp is_summary mid path Done
+      climb_added = record {
+        old = old;
+        edit = λ l. put cmp l k v;
+        k = k;
+        leaf = leaf;
+        turn = Stays;
+        kept = 16;
+        held_inner = λ n. false;
+        held_leaf = λ n. false;
+        top = due.top;
+        root = due.root;
+        height = 0;
+        id = kind.Leaf leaf;
+        shape = due.shape;
+        few = put_few total k v (length (pairs_at old due.top due.root)) due.few;
+        local = put_is_local cmp k v;
+        way = due.way;
+        edits = edits_added;
+        free = record { inners = λ n. none_is (mid.inner n) (λ h. due.shape.no_inner_held n (ap (λ (f : ℕ → Slot (Inner K A)). f n) (sym adds.inner) ∙ h)); leaves = λ n. none_is (mid.leaf n) (none_added n) };
+      }
+
+      pub told_added : (a : A) → SumsUpLeaf cmp is_summary (leaf_pairs (mid.leaf leaf.0)) a → is_summary a (keys_of (leaf_pairs (mid.leaf leaf.0)))
+      told_added a sums =
+          sums (rw adds.leaf.changed (omega (arith, length-insert node.pairs slot (k, v) within_here))) (rw adds.leaf.changed ascends)
+
+      abbrev pub climbs_added : (a : A) → SumsUpLeaf cmp is_summary (leaf_pairs (mid.leaf leaf.0)) a → Climbs cmp is_summary mid path a
+      climbs_added a sums = record { climb = climb_added; enough = least_most due.top path; told = told_added a sums }
+
+      pub placed_added : (new : Slots (Inner K A) (Leaf K V)) (top : A) → Risen climb_added new top → IsPlaced cmp is_summary old new due.top due.root k v due.top due.root top
+      placed_added new top r = record {
+        shape = whole_done cmp is_summary (λ l. put cmp l k v) old new due.top due.root k leaf due.shape (λ n. not_held _ (r.free.leaves n)) (λ n. not_held _ (r.free.inners n)) r.edits;
+        pairs = r.edits.pairs;
+        told = r.told;
+      }
+
+      pub present_added : IsPresent (mid.leaf leaf.0)
+      present_added = rw adds.leaf.changed tt
+
+      pub slot_added : slot < length (leaf_pairs (mid.leaf leaf.0))
+      slot_added = rw adds.leaf.changed (omega (arith, length-insert node.pairs slot (k, v) within_here, within_here))
+
+    -- in a full leaf, which is split
+    module _ (mid : Slots (Inner K A) (Leaf K V)) (division : Division K A) (fresh : LeafNodeId) (divides : DividesLeaf cmp old mid leaf slot (k, v) node division fresh) where
+      splits : SplitsLeaf old mid leaf fresh node (put cmp node.pairs k v) divides.left divides.right
+      splits = record {
+        absent = λ p. subst (λ (s : Slot (Leaf K V)). IsPresent s) divides.free p;
+        at_left = divides.at_left;
+        at_right = divides.at_right;
+        others = divides.others;
+        inner = divides.inner;
+        parts = divides.parts ∙ is_put;
+        left_least = omega (arith, divides.left_least);
+        left_most = omega (arith, divides.left_most);
+        right_least = omega (arith, divides.right_least);
+        right_most = omega (arith, divides.right_most);
+      }
+
+      pub edits_divided : Edits cmp is_summary (λ l. put cmp l k v) 16 old mid 0 (kind.Leaf leaf) k leaf (Gains fresh) (Split division.separator division.node)
+      edits_divided =
+          subst (λ n. Edits cmp is_summary (λ l. put cmp l k v) 16 old mid 0 (kind.Leaf leaf) k leaf (Gains fresh) (Split division.separator n)) (sym divides.node)
+          (leaf_split total is_summary old mid leaf k v node here fresh divides.left divides.right division.separator splits divides.starts)
+
+      pub none_divided : (n : ℕ) → mid.leaf n ≡ Held → ⊥
+      none_divided n h =
+          elim (cases_eq n leaf.0) [
+            | inl same ↦ (let z = sym divides.at_left ∙ (ap mid.leaf (sym same) ∙ h) in cc)
+            | inr other ↦ elim (cases_eq n fresh.0) [ inl same ↦ (let z = sym divides.at_right ∙ (ap mid.leaf (sym same) ∙ h) in cc) | inr far ↦ due.shape.no_leaf_held n (sym (divides.others n other far) ∙ h) ]
+          ]
+
+      abbrev pub climb_divided : Climb cmp is_summary mid path (Split division.separator division.node)
+      climb_divided = record {
+        old = old;
+        edit = λ l. put cmp l k v;
+        k = k;
+        leaf = leaf;
+        turn = Gains fresh;
+        kept = 16;
+        held_inner = λ n. false;
+        held_leaf = λ n. false;
+        top = due.top;
+        root = due.root;
+        height = 0;
+        id = kind.Leaf leaf;
+        shape = due.shape;
+        few = put_few total k v (length (pairs_at old due.top due.root)) due.few;
+        local = put_is_local cmp k v;
+        way = due.way;
+        edits = edits_divided;
+        free = record { inners = λ n. none_is (mid.inner n) (λ h. due.shape.no_inner_held n (ap (λ (f : ℕ → Slot (Inner K A)). f n) (sym divides.inner) ∙ h)); leaves = λ n. none_is (mid.leaf n) (none_divided n) };
+      }
+
+      parts_ascend : IsAscending cmp (divides.left ++ divides.right)
+      parts_ascend = rw divides.parts ascends
+
+      pub told_left : SumsUpLeaf cmp is_summary (leaf_pairs (mid.leaf leaf.0)) division.left → is_summary division.left (keys_of (leaf_pairs (mid.leaf leaf.0)))
+      told_left sums = sums (rw divides.at_left (omega (arith, divides.left_least))) (rw divides.at_left (ascending_before cmp divides.left divides.right parts_ascend))
+
+      pub told_right : SumsUpLeaf cmp is_summary (leaf_pairs (mid.leaf fresh.0)) division.right → is_summary division.right (keys_of (pairs_at mid 0 division.node))
+      told_right sums = rw divides.node (sums (rw divides.at_right (omega (arith, divides.right_least))) (rw divides.at_right (ascending_after total divides.left divides.right parts_ascend)))
+
+      abbrev pub climbs_divided : SumsUpLeaf cmp is_summary (leaf_pairs (mid.leaf leaf.0)) division.left → SumsUpLeaf cmp is_summary (leaf_pairs (mid.leaf fresh.0)) division.right → ClimbsTwo cmp is_summary mid path division
+      climbs_divided left right = record { climb = climb_divided; enough = least_most due.top path; none_held = λ n. (refl, refl); left = told_left left; right = told_right right }
+
+      pub next_risen : (new : Slots (Inner K A) (Leaf K V)) (top : Option InnerNodeId) (a : A) → Reaches climb_divided new top a → (next : Option LeafNodeId) → leaf_next (old.leaf leaf.0) ≡ next → IfSome next (λ l. IsPresent (new.leaf l.0))
+      next_risen new None a r next is = next_there cmp is_summary (λ l. put cmp l k v) old new new due.top due.root k leaf fresh Done due.shape r.edits refl next is
+      next_risen new (Some id) a r next is = next_there cmp is_summary (λ l. put cmp l k v) old r.mid new due.top due.root k leaf fresh (Split r.division.separator r.division.node) due.shape r.edits r.roots.leaf next is
+
+      pub placed_divided : (new final : Slots (Inner K A) (Leaf K V)) (top : Option InnerNodeId) (a : A) → Reaches climb_divided new top a → Mends new final (leaf_next (old.leaf leaf.0)) fresh → IsPlacedUpTo cmp is_summary old final due.top due.root k v top a
+      placed_divided new final None a r mends =
+          let pairs = grown_pairs cmp is_summary (λ l. put cmp l k v) old new due.top due.root k leaf fresh due.shape (λ n. not_held _ (r.free.leaves n)) (λ n. not_held _ (r.free.inners n)) final r.edits mends in
+          record {
+            shape = whole_grown cmp is_summary (λ l. put cmp l k v) old new due.top due.root k leaf fresh due.shape (λ n. not_held _ (r.free.leaves n)) (λ n. not_held _ (r.free.inners n)) final r.edits mends;
+            pairs = pairs;
+            told = subst (λ l. is_summary a (keys_of l)) (r.edits.pairs ∙ sym pairs) r.told;
+          }
+      placed_divided new final (Some id) a r mends =
+          let d = r.division in
+          let pairs = split_pairs cmp is_summary (λ l. put cmp l k v) old r.mid due.top due.root k leaf fresh due.shape (λ n. not_held _ (r.free.leaves n)) (λ n. not_held _ (r.free.inners n)) new final d.left d.separator d.node d.right id r.edits r.roots mends in
+          let same = split_unlinked_pairs cmp is_summary (λ l. put cmp l k v) old r.mid due.top due.root k leaf due.shape (λ n. not_held _ (r.free.leaves n)) (λ n. not_held _ (r.free.inners n)) new (Gains fresh) d.left d.separator d.node d.right id r.edits r.roots in
+          record {
+            shape = whole_split cmp is_summary (λ l. put cmp l k v) old r.mid due.top due.root k leaf fresh due.shape (λ n. not_held _ (r.free.leaves n)) (λ n. not_held _ (r.free.inners n)) new final d.left d.separator d.node d.right id r.edits r.roots mends r.left r.right;
+            pairs = pairs;
+            told = subst (λ l. is_summary a (keys_of l)) (same ∙ sym pairs) r.told;
+          }
+
+      pub halves_divided : length node.pairs ≡ 64 → AreHalves (mid.leaf leaf.0) (mid.leaf fresh.0) × (leaf.0 ≡ fresh.0 → ⊥)
+      halves_divided full = (
+        rw (divides.at_left, divides.at_right) (omega (arith, sym (length-append divides.left divides.right), ap length divides.parts, length-insert node.pairs slot (k, v) within_here, full)),
+        λ same. let z : Present node ≡ Free = sym here ∙ (ap old.leaf same ∙ divides.free) in cc,
+      )

@@ -1,0 +1,62 @@
+-- A pair with a key that is in the whole tree, or is not.
+use Rattle.std.proofs.Common.{◌≡◌, ℕ, true, false, None, List, sym, ap, ◌∙◌, Some, is_some, slice_get, Option, suc, ◌+◌, subst, arith}
+use Rattle.std.specs.declared.cmp.Ordering.{Ordering}
+use Rattle.std.specs.Cmp.{IsTotalOrder}
+use Rattle.std.specs.Map.{values_of}
+use Rattle.bptree_keys.specs.Contents.{IsAscending, has, value}
+use Rattle.bptree_nodes.specs.Inner.{Inner}
+use Rattle.bptree_nodes.specs.Leaf.{Leaf, set_value_at}
+use Rattle.bptree_nodes.specs.LeafResults.{HasEqualAt}
+use Rattle.bptree_nodes.specs.Slot.{Slots, Present, UpdatesLeaf}
+use Rattle.bptree_keys.specs.declared.node_id.InnerNodeId.{InnerNodeId}
+use Rattle.bptree_keys.specs.declared.node_id.LeafNodeId.{LeafNodeId}
+use Rattle.bptree_keys.specs.declared.node_id.NodeId.{NodeId}
+use Rattle.bptree_keys.specs.declared.node_id.NodeId.TheVariants as kind
+use Rattle.bptree_keys.proofs.Equal.{has_where_value}
+use Rattle.bptree_nodes.proofs.LeafContents.{value_at_place}
+use Rattle.bptree_shape.specs.Leaves.{IsLeafFor}
+use Rattle.bptree_insertion.specs.Puts.{IsReplaced, IsPlaced, IsPlacedUpTo, risen}
+use Rattle.bptree_shape.specs.Shape.{pairs_at, root_least, IsWellShaped}
+use Rattle.bptree_insertion.proofs.Lent.{lent_shape, lent_keys, lent_pairs}
+use Rattle.bptree_shape.proofs.Spot.{value_in_leaf, leaf_ascends}
+use Rattle.bptree_shape.proofs.Walk.{tree_ascends}
+
+module _ {K V A : Type 0} {cmp : K → K → Ordering} (total : IsTotalOrder cmp) (is_summary : A → List K → Type 0) (old : Slots (Inner K A) (Leaf K V)) (h : ℕ) (root : NodeId) (k : K) (leaf : LeafNodeId) (node : Leaf K V)
+    (shape : IsWellShaped cmp is_summary old h root) (for' : IsLeafFor cmp old h root k leaf) (read : old.leaf leaf.0 ≡ Present node) where
+  pub whole_ascends : IsAscending cmp (pairs_at old h root)
+  whole_ascends = tree_ascends total old (root_least h) h root None None shape.tree
+
+  pub node_ascends : IsAscending cmp node.pairs
+  node_ascends = leaf_ascends total old h root leaf node for'.stands whole_ascends read
+
+  pub value_there : value cmp (pairs_at old h root) k ≡ value cmp node.pairs k
+  value_there = value_in_leaf total old h root k leaf node for' read
+
+  -- no key equals it in the whole where none does in the leaf
+  pub absent_there : has cmp node.pairs k ≡ false → has cmp (pairs_at old h root) k ≡ false
+  absent_there absent = sym (has_where_value cmp (pairs_at old h root) k) ∙ (ap is_some value_there ∙ (has_where_value cmp node.pairs k ∙ absent))
+
+  -- the value at its key is replaced
+  module _ (i : ℕ) (found : HasEqualAt cmp node.pairs k i) (v was : V) (at : slice_get (values_of node.pairs) i ≡ Some was) (new : Slots (Inner K A) (Leaf K V))
+      (updates : UpdatesLeaf old new leaf.0 (Present (record node { pairs = set_value_at node.pairs i v }))) where
+    there : value cmp (pairs_at old h root) k ≡ Some was
+    there = value_there ∙ (sym (value_at_place cmp total node.pairs node_ascends k i found) ∙ at)
+
+    has_there : has cmp (pairs_at old h root) k ≡ true
+    has_there = sym (has_where_value cmp (pairs_at old h root) k) ∙ ap is_some there
+
+    pub replaced : IsReplaced cmp is_summary old new h root k v was
+    replaced = record {
+      there = there;
+      shape = lent_shape total is_summary old new h root shape whole_ascends k leaf node read for' i found v updates;
+      pairs = rw has_there (lent_pairs total is_summary old new h root shape whole_ascends k leaf node read for' i found v updates);
+      keys = lent_keys total is_summary old new h root shape whole_ascends k leaf node read for' i found v updates;
+    }
+
+-- the tree stands below the root that was named
+pub placed_at : {K V A : Type 0} (cmp : K → K → Ordering) (is_summary : A → List K → Type 0) (old new : Slots (Inner K A) (Leaf K V)) (h : ℕ) (root : NodeId) (k : K) (v : V) (top : Option InnerNodeId) (a : A) (at : NodeId × ℕ) → at ≡ risen root h top
+    → IsPlacedUpTo cmp is_summary old new h root k v top a → IsPlaced cmp is_summary old new h root k v at.1 at.0 a
+placed_at cmp is_summary old new h root k v None a at e placed = rw e placed
+placed_at cmp is_summary old new h root k v (Some id) a at e placed =
+    let up : suc h ≡ h + 1 = omega arith in
+    rw e (subst (λ n. IsPlaced cmp is_summary old new h root k v n (kind.Inner id) a) up placed)

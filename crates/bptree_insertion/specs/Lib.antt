@@ -1,0 +1,7 @@
+pub mod Change
+pub mod Climb
+pub mod LeafChange
+pub mod Lending
+pub mod NodeTree
+pub mod Puts
+pub mod Sums

@@ -1,0 +1,312 @@
+//! Insertion into a tree that stands in a store.
+ghost use Rattle.std.specs.Prelude.{◌≡◌, ◌+◌, ◌≤◌, ◌<◌, ◌^◌, IfOk, IfErr, OnErr, IfSome, List, false, length, slice_get, Some, drop, insert};
+ghost use Rattle.std.specs.Map.{values_of};
+ghost use Rattle.bptree_keys.specs.Contents.{has};
+ghost use Rattle.bptree_nodes.specs.Leaf.{Leaf, split_place, set_value_at};
+ghost use Rattle.bptree_nodes.specs.Inner.{Inner};
+ghost use Rattle.bptree_nodes.specs.Slot.{Slots, Present, IsPresent, UpdatesLeaf};
+ghost use Rattle.bptree_insertion.specs.Change.{StartsAt, Mends};
+ghost use Rattle.bptree_insertion.specs.LeafChange.{Adds, DividesLeaf, SumsUpLeaf, HasSlotAt, AreHalves};
+ghost use Rattle.bptree_insertion.specs.Puts.{IsDue, IsPlaced, IsPlacedUpTo, IsPut, risen};
+ghost use Rattle.bptree_shape.specs.Shape.{leaf_pairs, pairs_at, IsWellShaped};
+
+use crate::ascent::{ascend, ascend_split};
+use crate::node_changes::Division;
+use bptree_arguments::argument::Argument;
+use bptree_keys::entry_ref::VisitStack;
+use bptree_keys::key::Key;
+use bptree_keys::node_id::{InnerNodeId, LeafNodeId, NodeId};
+use bptree_nodes::leaf_node::LeafNode;
+use bptree_shape::descent::find_path;
+use bptree_stores::node_stores::NodeStore;
+use std::alloc::AllocError;
+
+/// What came of a pair that was put into a tree.
+#[derive(Drop)]
+pub enum Put<V, A> {
+    /// An equal key stood there, whose old value this is.
+    Replaced(V),
+    /// The key is new: the root, the height, and a summary of all keys.
+    Added(NodeId, usize, A),
+}
+
+// A clone of the key that will be the first of the right part, where a full leaf is split with a new key at the slot.
+fn separator<S: NodeStore>(
+    store: &S,
+    id: LeafNodeId,
+    slot: usize,
+    key: &S::K,
+) -> Result<S::K, AllocError>
+    requires present { IsPresent ((S.slots store.now).leaf id.0) }
+    requires full { length (leaf_pairs ((S.slots store.now).leaf id.0)) ≡ 64 }
+    requires slot { slot ≤ 64 }
+    ensures { IfOk result (λ separator. (value : S.V) → StartsAt S.K.cmp separator (drop (split_place slot) (insert (leaf_pairs ((S.slots store.now).leaf id.0)) slot (key.now, value)))) }
+{
+    if slot == 32 {
+        return key.clone();
+    }
+    store.get_leaf(id).data_at(32).0.clone()
+}
+
+// Puts a pair into a leaf that has room. It answers a summary of the leaf's keys.
+fn add_at<S: NodeStore>(
+    store: &mut S,
+    id: LeafNodeId,
+    slot: usize,
+    key: S::K,
+    value: S::V,
+) -> Result<S::Argument, (S::K, S::V)>
+    requires slot { HasSlotAt ((S.slots store.old).leaf id.0) slot }
+    requires room { length (leaf_pairs ((S.slots store.old).leaf id.0)) < 64 }
+    ensures adds { (was : Leaf S.K S.V) → (S.slots store.old).leaf id.0 ≡ Present was → IfOk result (λ a. Adds (S.slots store.old) (S.slots store.new) id slot (key, value) was) }
+    ensures sums { IfOk result (λ a. SumsUpLeaf S.K.cmp S.Argument.is_summary (leaf_pairs ((S.slots store.new).leaf id.0)) a) }
+    ensures refused { OnErr result (S.slots store.new ≡ S.slots store.old) }
+    ensures handed_back { IfErr result (λ pair. pair ≡ (key, value)) }
+{
+    let mut leaf = store.take_leaf(id);
+    leaf.insert_at(slot, key, value);
+    match S::Argument::from_leaf(leaf.keys()) {
+        Ok(summary) => {
+            store.assign_leaf(id, leaf);
+            Ok(summary)
+        }
+        Err(_) => {
+            let pair = leaf.delete_at(slot);
+            store.assign_leaf(id, leaf);
+            Err(pair)
+        }
+    }
+}
+
+// Undoes what `add_at` did.
+fn take_back<S: NodeStore>(store: &mut S, id: LeafNodeId, slot: usize) -> (S::K, S::V)
+    requires present { IsPresent ((S.slots store.old).leaf id.0) }
+    requires slot { slot < length (leaf_pairs ((S.slots store.old).leaf id.0)) }
+    ensures undoes { (was : Slots (Inner S.K S.Argument) (Leaf S.K S.V)) (node : Leaf S.K S.V) (pair : S.K × S.V) → was.leaf id.0 ≡ Present node → slot ≤ length node.pairs → Adds was (S.slots store.old) id slot pair node → (S.slots store.new ≡ was) × (result ≡ pair) }
+{
+    let mut leaf = store.take_leaf(id);
+    let pair = leaf.delete_at(slot);
+    store.assign_leaf(id, leaf);
+    pair
+}
+
+// Puts a pair with a new key into the leaf at the end of a path, which has room. It answers a summary of all keys.
+fn put_in_room<S: NodeStore>(
+    store: &mut S,
+    path: &mut VisitStack,
+    id: LeafNodeId,
+    slot: usize,
+    key: S::K,
+    value: S::V,
+) -> Result<S::Argument, (S::K, S::V)>
+    requires due { IsDue S.K.cmp S.Argument.is_summary (S.slots store.old) path.old id slot key }
+    requires room { length (leaf_pairs ((S.slots store.old).leaf id.0)) < 64 }
+    ensures placed { (due : IsDue S.K.cmp S.Argument.is_summary (S.slots store.old) path.old id slot key) → IfOk result (λ a. IsPlaced S.K.cmp S.Argument.is_summary (S.slots store.old) (S.slots store.new) due.top due.root key value due.top due.root a) }
+    ensures refused { OnErr result (S.slots store.new ≡ S.slots store.old) }
+    ensures handed_back { IfErr result (λ pair. pair ≡ (key, value)) }
+{
+    let summary = add_at(store, id, slot, key, value)?;
+    match ascend(store, path, summary) {
+        Ok(top) => Ok(top),
+        Err(_) => Err(take_back(store, id, slot)),
+    }
+}
+
+// Splits a full leaf, and puts the pair into one of the parts. It answers what the node above has to take.
+fn split_at<S: NodeStore>(
+    store: &mut S,
+    id: LeafNodeId,
+    slot: usize,
+    key: S::K,
+    value: S::V,
+) -> Result<(Division<S::K, S::Argument>, LeafNodeId), (S::K, S::V)>
+    requires present { IsPresent ((S.slots store.old).leaf id.0) }
+    requires full { length (leaf_pairs ((S.slots store.old).leaf id.0)) ≡ 64 }
+    requires slot { slot ≤ 64 }
+    ensures divides { (was : Leaf S.K S.V) → (S.slots store.old).leaf id.0 ≡ Present was → IfOk result (λ done. DividesLeaf S.K.cmp (S.slots store.old) (S.slots store.new) id slot (key, value) was done.0 done.1) }
+    ensures left { IfOk result (λ done. SumsUpLeaf S.K.cmp S.Argument.is_summary (leaf_pairs ((S.slots store.new).leaf id.0)) done.0.left) }
+    ensures right { IfOk result (λ done. SumsUpLeaf S.K.cmp S.Argument.is_summary (leaf_pairs ((S.slots store.new).leaf done.1.0)) done.0.right) }
+    ensures refused { OnErr result (S.slots store.new ≡ S.slots store.old) }
+    ensures handed_back { IfErr result (λ pair. pair ≡ (key, value)) }
+{
+    let Ok(separator) = separator(store, id, slot, &key) else {
+        return Err((key, value));
+    };
+    let Ok(room) = LeafNode::new(store.allocator()) else {
+        return Err((key, value));
+    };
+    let Ok(fresh) = store.reserve_leaf() else {
+        return Err((key, value));
+    };
+    let mut leaf = store.take_leaf(id);
+    let part = leaf.split_new_leaf(slot, (key, value), fresh, id, room);
+    match sums_of(&leaf, &part) {
+        Ok((left, right)) => {
+            store.assign_leaf(id, leaf);
+            store.assign_leaf(fresh, part);
+            let division = Division {
+                left,
+                separator,
+                node: NodeId::Leaf(fresh),
+                right,
+            };
+            Ok((division, fresh))
+        }
+        Err(_) => {
+            let pair = leaf.join_split(slot, part);
+            store.assign_leaf(id, leaf);
+            store.release_leaf(fresh);
+            Err(pair)
+        }
+    }
+}
+
+// Summaries of the keys of two leaves.
+fn sums_of<K: Key, V: Drop, A: Argument<K>>(
+    left: &LeafNode<K, V>,
+    right: &LeafNode<K, V>,
+) -> Result<(A, A), AllocError>
+    ensures left { IfOk result (λ sums. SumsUpLeaf K.cmp A.is_summary left.now.pairs sums.0) }
+    ensures right { IfOk result (λ sums. SumsUpLeaf K.cmp A.is_summary right.now.pairs sums.1) }
+{
+    Ok((A::from_leaf(left.keys())?, A::from_leaf(right.keys())?))
+}
+
+// Undoes what `split_at` did.
+fn join_at<S: NodeStore>(
+    store: &mut S,
+    id: LeafNodeId,
+    fresh: LeafNodeId,
+    slot: usize,
+) -> (S::K, S::V)
+    requires halves { AreHalves ((S.slots store.old).leaf id.0) ((S.slots store.old).leaf fresh.0) }
+    requires apart { id.0 ≡ fresh.0 → ⊥ }
+    requires slot { slot ≤ 64 }
+    ensures undoes { (was : Slots (Inner S.K S.Argument) (Leaf S.K S.V)) (node : Leaf S.K S.V) (pair : S.K × S.V) (division : Division S.K S.Argument) → was.leaf id.0 ≡ Present node → slot ≤ length node.pairs → DividesLeaf S.K.cmp was (S.slots store.old) id slot pair node division fresh → (S.slots store.new ≡ was) × (result ≡ pair) }
+{
+    let mut leaf = store.take_leaf(id);
+    let part = store.take_leaf(fresh);
+    let pair = leaf.join_split(slot, part);
+    store.assign_leaf(id, leaf);
+    store.release_leaf(fresh);
+    pair
+}
+
+/// The leaf behind a new one names it as the one before.
+pub fn mend<S: NodeStore>(store: &mut S, fresh: LeafNodeId, next: Option<LeafNodeId>)
+    requires next { IfSome next (λ next. IsPresent ((S.slots store.old).leaf next.0)) }
+    ensures { Mends (S.slots store.old) (S.slots store.new) next fresh }
+{
+    if let Some(next) = next {
+        store.get_mut_leaf(next).set_prev(Some(fresh));
+    }
+}
+
+// Puts a pair with a new key into the leaf at the end of a path, which is full and is split. It answers the number of a
+// new root, where the root was split too, and a summary of all keys.
+fn put_and_split<S: NodeStore>(
+    store: &mut S,
+    path: &mut VisitStack,
+    root: NodeId,
+    id: LeafNodeId,
+    slot: usize,
+    key: S::K,
+    value: S::V,
+) -> Result<(Option<InnerNodeId>, S::Argument), (S::K, S::V)>
+    requires due { (due : IsDue S.K.cmp S.Argument.is_summary (S.slots store.old) path.old id slot key) × (due.root ≡ root) }
+    requires full { length (leaf_pairs ((S.slots store.old).leaf id.0)) ≡ 64 }
+    ensures placed { (due : IsDue S.K.cmp S.Argument.is_summary (S.slots store.old) path.old id slot key) → due.root ≡ root → IfOk result (λ top. IsPlacedUpTo S.K.cmp S.Argument.is_summary (S.slots store.old) (S.slots store.new) due.top root key value top.0 top.1) }
+    ensures refused { OnErr result (S.slots store.new ≡ S.slots store.old) }
+    ensures handed_back { IfErr result (λ pair. pair ≡ (key, value)) }
+{
+    let next = store.get_leaf(id).next();
+    let (division, fresh) = split_at(store, id, slot, key, value)?;
+    match ascend_split(store, path, root, division) {
+        Ok(top) => {
+            mend(store, fresh, next);
+            Ok(top)
+        }
+        Err(_) => Err(join_at(store, id, fresh, slot)),
+    }
+}
+
+// Puts a pair with a new key into the leaf at the end of a path. It answers the number of a new root, where the root was
+// split, and a summary of all keys.
+fn put_new<S: NodeStore>(
+    store: &mut S,
+    path: &mut VisitStack,
+    root: NodeId,
+    id: LeafNodeId,
+    slot: usize,
+    key: S::K,
+    value: S::V,
+) -> Result<(Option<InnerNodeId>, S::Argument), (S::K, S::V)>
+    requires due { (due : IsDue S.K.cmp S.Argument.is_summary (S.slots store.old) path.old id slot key) × (due.root ≡ root) }
+    ensures placed { (due : IsDue S.K.cmp S.Argument.is_summary (S.slots store.old) path.old id slot key) → due.root ≡ root → IfOk result (λ top. IsPlacedUpTo S.K.cmp S.Argument.is_summary (S.slots store.old) (S.slots store.new) due.top root key value top.0 top.1) }
+    ensures refused { OnErr result (S.slots store.new ≡ S.slots store.old) }
+    ensures handed_back { IfErr result (λ pair. pair ≡ (key, value)) }
+{
+    if store.get_leaf(id).is_full() {
+        return put_and_split(store, path, root, id, slot, key, value);
+    }
+    let summary = put_in_room(store, path, id, slot, key, value)?;
+    Ok((None, summary))
+}
+
+// Puts a value in the place of another.
+fn replace_at<S: NodeStore>(store: &mut S, id: LeafNodeId, slot: usize, v: S::V) -> S::V
+    requires present { IsPresent ((S.slots store.old).leaf id.0) }
+    requires slot { slot < length (leaf_pairs ((S.slots store.old).leaf id.0)) }
+    ensures sets { (was : Leaf S.K S.V) → (S.slots store.old).leaf id.0 ≡ Present was → UpdatesLeaf (S.slots store.old) (S.slots store.new) id.0 (Present (record was { pairs = set_value_at was.pairs slot v })) }
+    ensures old { slice_get (values_of (leaf_pairs ((S.slots store.old).leaf id.0))) slot ≡ Some result }
+{
+    let mut leaf = store.take_leaf(id);
+    let was = leaf.replace_value(slot, v);
+    store.assign_leaf(id, leaf);
+    was
+}
+
+// The root and the height, with a new root where there is one.
+fn top_of(root: NodeId, height: usize, top: Option<InnerNodeId>) -> (NodeId, usize)
+    requires { height ≤ 15 }
+    ensures { result ≡ risen root height top }
+{
+    match top {
+        Some(id) => (NodeId::Inner(id), height + 1),
+        None => (root, height),
+    }
+}
+
+/// Puts a pair into a whole tree.
+///
+/// An equal key stays, and its value alone is replaced. A new key's leaf, and each node above it, takes a new summary;
+/// each of them that is full is split. A refusal hands the pair back, and no slot has changed.
+pub fn upsert<S: NodeStore>(
+    store: &mut S,
+    root: NodeId,
+    height: usize,
+    k: S::K,
+    v: S::V,
+) -> Result<Put<S::V, S::Argument>, (S::K, S::V)>
+    requires shape { IsWellShaped S.K.cmp S.Argument.is_summary (S.slots store.old) height root }
+    requires few { length (pairs_at (S.slots store.old) height root) < 2 ^ 64 }
+    requires room { has S.K.cmp (pairs_at (S.slots store.old) height root) k ≡ false → length (pairs_at (S.slots store.old) height root) + 1 < 2 ^ 64 }
+    ensures put { IfOk result (IsPut S.K.cmp S.Argument.is_summary (S.slots store.old) (S.slots store.new) height root k v) }
+    ensures refused { OnErr result (S.slots store.new ≡ S.slots store.old) }
+    ensures handed_back { IfErr result (λ pair. pair ≡ (k, v)) }
+    ensures absent { OnErr result (has S.K.cmp (pairs_at (S.slots store.old) height root) k ≡ false) }
+{
+    let mut path = VisitStack::new();
+    let leaf = find_path(store, root, height, &k, &mut path);
+    let found = store.get_leaf(leaf).locate_slot(&k);
+    match found {
+        Ok(slot) => Ok(Put::Replaced(replace_at(store, leaf, slot, v))),
+        Err(slot) => match put_new(store, &mut path, root, leaf, slot, k, v) {
+            Ok((top, summary)) => {
+                let (root, height) = top_of(root, height, top);
+                Ok(Put::Added(root, height, summary))
+            }
+            Err(pair) => Err(pair),
+        },
+    }
+}

@@ -1,0 +1,348 @@
+//! Callers of an inner node.
+ghost use Rattle.std.specs.Prelude.{◌≡◌, ◌<◌, ◌≤◌, ◌+◌, ◌∷◌, ◌++◌, [], List, Some, true, false, length, take, drop, slice_get, vec_len, IfOk};
+ghost use Rattle.std.specs.declared.cmp.Ordering.TheVariants.{Less, Equal, Greater};
+ghost use Rattle.std.specs.Iterator.{IsFiniteIterable};
+ghost use Rattle.std.specs.List.{AllZip};
+ghost use Rattle.std.specs.List.Sorted.{IsStrictlySortedBy};
+ghost use Rattle.bptree_keys.specs.declared.node_id.NodeId.{NodeId};
+ghost use Rattle.bptree_nodes.specs.Inner.{Gives};
+
+use bptree_keys::node_id::NodeId;
+use bptree_nodes::inner_node::{InnerMergeResult, InnerNode};
+use std::alloc::{AllocError, Global};
+
+// A shell that takes its first child, and then an entry, is a node of one key.
+fn makes_a_node_of_a_shell<K: Drop, A: Drop>(
+    alloc: Global,
+    first: (NodeId, A),
+    key: K,
+    second: (NodeId, A),
+) -> Result<Box<InnerNode<K, A>>, AllocError>
+    ensures { IfOk result (λ node. node.value ≡ record { keys = key ∷ []; children = first.0 ∷ second.0 ∷ []; arguments = first.1 ∷ second.1 ∷ [] }) }
+{
+    let mut node = InnerNode::empty(alloc)?;
+    node.adopt(first.0, first.1);
+    node.push(key, second.0, second.1);
+    Ok(node)
+}
+
+// A node of vectors shows what they hold.
+fn shows_what_it_was_made_of<K: Drop, A: Drop>(
+    alloc: Global,
+    keys: Vec<K>,
+    children: Vec<NodeId>,
+    arguments: Vec<A>,
+) -> Result<Box<InnerNode<K, A>>, AllocError>
+    requires keys { vec_len keys ≡ 64 }
+    requires children { vec_len children ≡ 65 }
+    requires arguments { vec_len arguments ≡ 65 }
+    ensures keys { IfOk result (λ node. node.value.keys ≡ keys.items) }
+    ensures children { IfOk result (λ node. node.value.children ≡ children.items) }
+    ensures arguments { IfOk result (λ node. node.value.arguments ≡ arguments.items) }
+{
+    InnerNode::new(alloc, keys, children, arguments)
+}
+
+// One of iterators shows all that they give, in its order.
+fn shows_what_was_given<
+    K: Drop,
+    A: Drop,
+    I: IntoIterator<Item = K> + Drop,
+    J: IntoIterator<Item = NodeId> + Drop,
+    L: IntoIterator<Item = A> + Drop,
+>(alloc: Global, keys: I, childs: J, arguments: L) -> Result<Box<InnerNode<K, A>>, AllocError>
+    requires keys { IsFiniteIterable I.into_iter_gives I.IntoIter.can_next I.IntoIter.remaining keys }
+    requires childs { IsFiniteIterable J.into_iter_gives J.IntoIter.can_next J.IntoIter.remaining childs }
+    requires arguments { IsFiniteIterable L.into_iter_gives L.IntoIter.can_next L.IntoIter.remaining arguments }
+    requires counts { (ks : List K) (cs : List NodeId) (xs : List A) → Gives I.into_iter_gives I.IntoIter.next_gives keys ks → Gives J.into_iter_gives J.IntoIter.next_gives childs cs → Gives L.into_iter_gives L.IntoIter.next_gives arguments xs → (length ks ≤ 64) × (length cs ≡ length ks + 1) × (length xs ≡ length ks + 1) }
+    ensures keys { IfOk result (λ node. Gives I.into_iter_gives I.IntoIter.next_gives keys node.value.keys) }
+    ensures children { IfOk result (λ node. Gives J.into_iter_gives J.IntoIter.next_gives childs node.value.children) }
+    ensures arguments { IfOk result (λ node. Gives L.into_iter_gives L.IntoIter.next_gives arguments node.value.arguments) }
+{
+    InnerNode::new_from_iter(alloc, keys, childs, arguments)
+}
+
+// Whether a key can leave, and whether there is no room for another: around 16 keys and around 64.
+fn tells_its_bounds<K: Drop, A: Drop>(node: &InnerNode<K, A>) -> (bool, bool)
+    ensures minimum { length node.now.keys ≡ 16 → result ≡ (false, false) }
+    ensures above_minimum { length node.now.keys ≡ 17 → result ≡ (true, false) }
+    ensures one_free { length node.now.keys ≡ 63 → result ≡ (true, false) }
+    ensures full { length node.now.keys ≡ 64 → result ≡ (true, true) }
+{
+    (node.able_to_lend(), node.is_full())
+}
+
+// How many keys more there is room for.
+fn counts_free_places<K: Drop, A: Drop>(node: &InnerNode<K, A>) -> usize
+    ensures { result + length node.now.keys ≡ 64 }
+{
+    usize::from(InnerNode::<K, A>::max_capacity()) - node.len()
+}
+
+// The parts of a split and the key that goes up are all keys of a full node and the new one.
+fn splits_into_all<K: Drop, A: Drop>() -> usize
+    ensures { result ≡ 65 }
+{
+    InnerNode::<K, A>::split_origin_size() + 1 + InnerNode::<K, A>::split_new_size()
+}
+
+// The keys and the summaries, and each by its place.
+fn lends_keys_and_summaries<K: Drop, A: Drop>(node: &InnerNode<K, A>) -> (&[K], &[A])
+    ensures keys { result.0.now ≡ node.now.keys }
+    ensures arguments { result.1.now ≡ node.now.arguments }
+{
+    (node.keys(), node.arguments())
+}
+
+fn reads_the_second<K: Drop, A: Drop>(node: &InnerNode<K, A>) -> (&K, NodeId)
+    requires keys { 1 < length node.now.keys }
+    requires children { 1 < length node.now.children }
+    ensures key { (first second : K) → (rest : List K) → node.now.keys ≡ first ∷ second ∷ rest → result.0.now ≡ second }
+    ensures child { (first second : NodeId) → (rest : List NodeId) → node.now.children ≡ first ∷ second ∷ rest → result.1 ≡ second }
+{
+    (node.key(1), node.child_id(1))
+}
+
+// A key and a summary that give way to others, which come back when the old ones are put again.
+fn replaces_and_restores<K: Drop, A: Drop>(
+    node: &mut InnerNode<K, A>,
+    key: K,
+    argument: A,
+) -> (K, A)
+    requires keys { 1 < length node.old.keys }
+    requires arguments { 1 < length node.old.arguments }
+    ensures key { (first second : K) → (rest : List K) → node.old.keys ≡ first ∷ second ∷ rest → (result.0 ≡ second) × (node.new.keys ≡ first ∷ key ∷ rest) }
+    ensures argument { (first second : A) → (rest : List A) → node.old.arguments ≡ first ∷ second ∷ rest → (result.1 ≡ second) × (node.new.arguments ≡ first ∷ argument ∷ rest) }
+    ensures children { node.new.children ≡ node.old.children }
+{
+    let old = node.set_key(1, key);
+    (old, node.set_argument(1, argument))
+}
+
+// An entry that is put behind the first child stands there with its child and its summary.
+fn puts_behind_the_first_child<K: Drop, A: Drop>(
+    node: &mut InnerNode<K, A>,
+    key: K,
+    child: NodeId,
+    argument: A,
+)
+    requires node { 0 < length node.old.children }
+    requires room { length node.old.keys < 64 }
+    ensures keys { node.new.keys ≡ key ∷ node.old.keys }
+    ensures children { (first : NodeId) → (rest : List NodeId) → node.old.children ≡ first ∷ rest → node.new.children ≡ first ∷ child ∷ rest }
+    ensures arguments { (first : A) → (rest : List A) → node.old.arguments ≡ first ∷ rest → node.new.arguments ≡ first ∷ argument ∷ rest }
+{
+    node.insert_at(0, key, child, argument);
+}
+
+// An entry that was put is the one that is removed, and the node is as before.
+#[tactic(auto, using(bptree_nodes::proofs::Inverses::remove_inserted))]
+fn takes_an_insertion_back<K: Drop, A: Drop>(
+    node: &mut InnerNode<K, A>,
+    slot: usize,
+    key: K,
+    child: NodeId,
+    argument: A,
+) -> (K, NodeId, A)
+    requires node { 0 < length node.old.children }
+    requires room { length node.old.keys < 64 }
+    requires within { slot ≤ length node.old.keys }
+    ensures entry { result ≡ (key, child, argument) }
+    ensures keys { node.new.keys ≡ node.old.keys }
+    ensures children { node.new.children ≡ node.old.children }
+    ensures arguments { node.new.arguments ≡ node.old.arguments }
+{
+    let _before = node.len();
+    node.insert_at(slot, key, child, argument);
+    node.remove_at(slot)
+}
+
+// What is pushed at an end is popped there, and the node is as before.
+#[tactic(auto, using(crate::proofs::Ends::last_back))]
+fn pops_what_was_pushed<K: Drop, A: Drop>(
+    node: &mut InnerNode<K, A>,
+    key: K,
+    child: NodeId,
+    argument: A,
+) -> (K, NodeId, A)
+    requires node { 0 < length node.old.children }
+    requires room { length node.old.keys < 64 }
+    ensures entry { result ≡ (key, child, argument) }
+    ensures keys { node.new.keys ≡ node.old.keys }
+    ensures children { node.new.children ≡ node.old.children }
+    ensures arguments { node.new.arguments ≡ node.old.arguments }
+{
+    node.push(key, child, argument);
+    node.pop()
+}
+
+fn pops_what_was_pushed_in_front<K: Drop, A: Drop>(
+    node: &mut InnerNode<K, A>,
+    key: K,
+    child: NodeId,
+    argument: A,
+) -> (K, NodeId, A)
+    requires node { 0 < length node.old.children }
+    requires room { length node.old.keys < 64 }
+    ensures entry { result ≡ (key, child, argument) }
+    ensures keys { node.new.keys ≡ node.old.keys }
+    ensures children { node.new.children ≡ node.old.children }
+    ensures arguments { node.new.arguments ≡ node.old.arguments }
+{
+    node.push_front(key, child, argument);
+    node.pop_front()
+}
+
+// A node of two keys that loses the first: the child before it stays, and the one behind goes. Then it is too small.
+fn removes_the_right_child<K: Drop, A: Drop>(node: &mut InnerNode<K, A>) -> (InnerMergeResult, K)
+    requires { 0 < length node.old.keys }
+    ensures key { (first : K) → (rest : List K) → node.old.keys ≡ first ∷ rest → (result.1 ≡ first) × (node.new.keys ≡ rest) }
+    ensures children { (first second : NodeId) → (rest : List NodeId) → node.old.children ≡ first ∷ second ∷ rest → node.new.children ≡ first ∷ rest }
+    ensures arguments { (first second : A) → (rest : List A) → node.old.arguments ≡ first ∷ second ∷ rest → node.new.arguments ≡ first ∷ rest }
+    ensures minimum { length node.new.keys ≡ 16 → result.0 ≡ InnerMergeResult.Done }
+    ensures below_minimum { length node.new.keys ≡ 15 → result.0 ≡ InnerMergeResult.UnderSize }
+{
+    node.remove_slot_with_right(0)
+}
+
+// A full node that is split: each part has 32 keys, and the key between the parts goes up. A new key in the middle is
+// that key, and one at an end is not.
+fn splits_at_a_new_key<K: Drop, A: Drop>(
+    node: &mut InnerNode<K, A>,
+    slot: usize,
+    key: K,
+    child: NodeId,
+    argument: A,
+    room: Box<InnerNode<K, A>>,
+) -> (usize, K, usize)
+    requires full { length node.old.keys ≡ 64 }
+    requires within { slot ≤ 64 }
+    requires shell { room.value.children ≡ [] }
+    ensures sizes { (result.0 ≡ 32) × (result.2 ≡ 32) }
+    ensures first { slot ≡ 0 → slice_get node.old.keys 31 ≡ Some result.1 }
+    ensures middle { slot ≡ 32 → result.1 ≡ key }
+    ensures last { slot ≡ 64 → slice_get node.old.keys 32 ≡ Some result.1 }
+    ensures child { slot ≡ 0 → slice_get node.new.children 1 ≡ Some child }
+{
+    let (promoted, right) = node.split(slot, key, child, argument, room);
+    (node.len(), promoted, right.len())
+}
+
+// A split that is joined again leaves the node as it was, and gives back the entry.
+fn takes_a_split_back<K: Drop, A: Drop>(
+    node: &mut InnerNode<K, A>,
+    slot: usize,
+    key: K,
+    child: NodeId,
+    argument: A,
+    room: Box<InnerNode<K, A>>,
+) -> (K, NodeId, A)
+    requires full { length node.old.keys ≡ 64 }
+    requires within { slot ≤ 64 }
+    requires shell { room.value.children ≡ [] }
+    ensures entry { result ≡ (key, child, argument) }
+    ensures node { node.new ≡ node.old }
+{
+    let _before = node.len();
+    let (promoted, right) = node.split(slot, key, child, argument, room);
+    node.join_split(slot, promoted, right)
+}
+
+// A node that is cut, and merged again with the key that was between, is as it was.
+fn merges_what_was_cut<K: Drop, A: Drop>(
+    node: &mut InnerNode<K, A>,
+    place: usize,
+    room: Box<InnerNode<K, A>>,
+)
+    requires within { (0 < place) × (place ≤ length node.old.keys) }
+    requires shell { room.value.children ≡ [] }
+    ensures keys { node.new.keys ≡ node.old.keys }
+    ensures children { node.new.children ≡ node.old.children }
+    ensures arguments { node.new.arguments ≡ node.old.arguments }
+{
+    let _before = node.len();
+    let (between, right) = node.split_off(place, room);
+    let _parts = (node.len(), right.len());
+    node.merge_next(between, right);
+}
+
+// The last child of one node becomes the first of the next: its key goes up, and the key between goes down with it.
+#[tactic(auto, using(crate::proofs::Ends::last_moves, crate::proofs::Ends::last_turns))]
+fn lends_its_last<K: Drop, A: Drop>(
+    node: &mut InnerNode<K, A>,
+    key: K,
+    right: &mut InnerNode<K, A>,
+) -> K
+    requires some { 0 < length node.old.keys }
+    requires next { 0 < length right.old.children }
+    requires room { length right.old.keys < 64 }
+    ensures keys { (front : List K) → (last : K) → node.old.keys ≡ front ++ last ∷ [] → (node.new.keys ≡ front) × (result ≡ last) × (right.new.keys ≡ key ∷ right.old.keys) }
+    ensures children { (front : List NodeId) → (last : NodeId) → node.old.children ≡ front ++ last ∷ [] → (node.new.children ≡ front) × (right.new.children ≡ last ∷ right.old.children) }
+    ensures arguments { (front : List A) → (last : A) → node.old.arguments ≡ front ++ last ∷ [] → (node.new.arguments ≡ front) × (right.new.arguments ≡ last ∷ right.old.arguments) }
+{
+    node.lend_last(key, right)
+}
+
+// The first child of the next node becomes the last of one, with the key that was between.
+fn takes_the_first_of_the_next<K: Drop, A: Drop>(
+    node: &mut InnerNode<K, A>,
+    key: K,
+    right: &mut InnerNode<K, A>,
+) -> K
+    requires some { 0 < length right.old.keys }
+    requires node { 0 < length node.old.children }
+    requires room { length node.old.keys < 64 }
+    ensures keys { (node.new.keys ≡ node.old.keys ++ key ∷ []) × (right.old.keys ≡ result ∷ right.new.keys) }
+    ensures children { (node.new.children ≡ node.old.children ++ take 1 right.old.children) × (right.new.children ≡ drop 1 right.old.children) }
+    ensures arguments { (node.new.arguments ≡ node.old.arguments ++ take 1 right.old.arguments) × (right.new.arguments ≡ drop 1 right.old.arguments) }
+{
+    node.lend_first(key, right)
+}
+
+// What was taken over is handed over again, and the key between comes back: both nodes are as before.
+#[tactic(auto, using(crate::proofs::Ends::handed_over))]
+fn hands_over_what_it_took<K: Drop, A: Drop>(
+    node: &mut InnerNode<K, A>,
+    key: K,
+    right: &mut InnerNode<K, A>,
+) -> K
+    requires node { 0 < length node.old.children }
+    requires right { 0 < length right.old.children }
+    requires fits { length node.old.keys + length right.old.keys < 64 }
+    ensures key { result ≡ key }
+    ensures node { node.new ≡ node.old }
+    ensures keys { right.new.keys ≡ right.old.keys }
+    ensures children { right.new.children ≡ right.old.children }
+    ensures arguments { right.new.arguments ≡ right.old.arguments }
+{
+    let kept = node.len();
+    let _moved = right.len();
+    node.take_over(key, right);
+    node.hand_over(kept + 1, right)
+}
+
+// The child for a key among two separators: behind an equal one, and before a greater one.
+fn goes_behind_an_equal_key<K: Ord + Drop, A: Drop>(
+    node: &InnerNode<K, A>,
+    key: &K,
+) -> (usize, NodeId)
+    requires node { 0 < length node.now.children }
+    requires ascending { IsStrictlySortedBy K.cmp node.now.keys }
+    ensures before { (x y : K) → node.now.keys ≡ x ∷ y ∷ [] → K.cmp x key.now ≡ Greater → K.cmp y key.now ≡ Greater → result.0 ≡ 0 }
+    ensures equal { (x y : K) → node.now.keys ≡ x ∷ y ∷ [] → K.cmp x key.now ≡ Equal → K.cmp y key.now ≡ Greater → result.0 ≡ 1 }
+    ensures behind { (x y : K) → node.now.keys ≡ x ∷ y ∷ [] → K.cmp x key.now ≡ Less → K.cmp y key.now ≡ Less → result.0 ≡ 2 }
+    ensures child { slice_get node.now.children result.0 ≡ Some result.1 }
+{
+    node.locate_child(key)
+}
+
+// A clone has the same children, and clones of the keys and summaries in their order.
+fn clones_keys_and_summaries<K: Clone + Drop, A: Clone + Drop>(
+    node: &InnerNode<K, A>,
+) -> Result<InnerNode<K, A>, AllocError>
+    ensures children { IfOk result (λ copy. copy.children ≡ node.now.children) }
+    ensures keys { IfOk result (λ copy. AllZip K.is_clone node.now.keys copy.keys) }
+    ensures arguments { IfOk result (λ copy. AllZip A.is_clone node.now.arguments copy.arguments) }
+{
+    node.clone()
+}

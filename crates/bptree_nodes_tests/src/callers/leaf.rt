@@ -1,0 +1,405 @@
+//! Callers of a leaf.
+ghost use Rattle.std.specs.Prelude.{◌≡◌, ◌<◌, ◌≤◌, ◌+◌, ◌-◌, ◌∷◌, ◌++◌, [], List, Some, None, true, false, length, take, drop, slice_get, remove, IfOk, IfSome, IsSomeAnd, option_copied};
+ghost use Rattle.std.specs.declared.cmp.Ordering.TheVariants.{Less, Equal, Greater};
+ghost use Rattle.std.specs.List.{AllZip};
+ghost use Rattle.std.specs.Iterator.{Yields, YieldsThen};
+ghost use Rattle.bptree_keys.specs.Contents.{IsAscending, below, has, value as value_of, put};
+ghost use Rattle.bptree_keys.specs.declared.node_id.LeafNodeId.{LeafNodeId};
+
+use bptree_keys::node_id::LeafNodeId;
+use bptree_nodes::leaf_node::{LeafDeleteResult, LeafNode, LeafUpsertResult};
+use std::alloc::{AllocError, Global};
+use std::cmp::Ordering;
+
+// A new leaf has no pairs and no neighbours.
+fn starts_empty<K: Drop, V: Drop>(
+    alloc: Global,
+) -> Result<(usize, Option<LeafNodeId>, Option<LeafNodeId>), AllocError>
+    ensures { IfOk result (λ shown. shown ≡ (0, None, None)) }
+{
+    let leaf = LeafNode::<K, V>::new(alloc)?;
+    Ok((leaf.len(), leaf.prev(), leaf.next()))
+}
+
+// Whether a leaf is at its minimum, can lend a pair, and is full: around 16 pairs and around 64.
+fn tells_its_bounds<K: Drop, V: Drop>(leaf: &LeafNode<K, V>) -> (bool, bool, bool)
+    ensures below_minimum { length leaf.now.pairs ≡ 15 → result ≡ (false, false, false) }
+    ensures minimum { length leaf.now.pairs ≡ 16 → result ≡ (true, false, false) }
+    ensures above_minimum { length leaf.now.pairs ≡ 17 → result ≡ (false, true, false) }
+    ensures one_free { length leaf.now.pairs ≡ 63 → result ≡ (false, true, false) }
+    ensures full { length leaf.now.pairs ≡ 64 → result ≡ (false, true, true) }
+{
+    (leaf.is_size_minimum(), leaf.able_to_lend(), leaf.is_full())
+}
+
+// How many pairs more there is room for.
+fn counts_free_places<K: Drop, V: Drop>(leaf: &LeafNode<K, V>) -> usize
+    ensures { result + length leaf.now.pairs ≡ 64 }
+{
+    usize::from(LeafNode::<K, V>::max_capacity()) - leaf.len()
+}
+
+// Each link is set without the other, and the pairs stay.
+fn sets_links<K: Drop, V: Drop>(
+    leaf: &mut LeafNode<K, V>,
+    prev: Option<LeafNodeId>,
+    next: Option<LeafNodeId>,
+) -> (Option<LeafNodeId>, Option<LeafNodeId>)
+    ensures shown { result ≡ (prev, next) }
+    ensures after { leaf.new ≡ record leaf.old { prev = prev; next = next } }
+{
+    leaf.set_prev(prev);
+    leaf.set_next(next);
+    (leaf.prev(), leaf.next())
+}
+
+// A leaf without neighbours is in range of every key, and an empty one with a neighbour of none. With a neighbour the
+// key at that end counts as in range, and one past it does not.
+fn is_in_range_of<K: Ord + Drop, V: Drop>(leaf: &LeafNode<K, V>, key: &K) -> bool
+    ensures alone { leaf.now.prev ≡ None → leaf.now.next ≡ None → result ≡ true }
+    ensures empty { (before : LeafNodeId) → leaf.now.prev ≡ Some before → leaf.now.pairs ≡ [] → result ≡ false }
+    ensures below_first { (before : LeafNodeId) → (pair : K × V) → leaf.now.prev ≡ Some before → leaf.now.pairs ≡ pair ∷ [] → K.cmp key.now pair.0 ≡ Less → result ≡ false }
+    ensures at_first { (before : LeafNodeId) → (pair : K × V) → leaf.now.prev ≡ Some before → leaf.now.next ≡ None → leaf.now.pairs ≡ pair ∷ [] → K.cmp key.now pair.0 ≡ Equal → result ≡ true }
+    ensures above_last { (after : LeafNodeId) → (pair : K × V) → leaf.now.prev ≡ None → leaf.now.next ≡ Some after → leaf.now.pairs ≡ pair ∷ [] → K.cmp key.now pair.0 ≡ Greater → result ≡ false }
+    ensures at_last { (after : LeafNodeId) → (pair : K × V) → leaf.now.prev ≡ None → leaf.now.next ≡ Some after → leaf.now.pairs ≡ pair ∷ [] → K.cmp key.now pair.0 ≡ Equal → result ≡ true }
+{
+    leaf.in_range(key)
+}
+
+// Of a leaf of two pairs with a leaf before it and none after it: a clone of the first key, and none.
+fn shows_its_first_key<K: Clone + Drop, V: Drop>(
+    leaf: &LeafNode<K, V>,
+) -> Result<(Option<K>, Option<K>), AllocError>
+    requires { 0 < length leaf.now.pairs }
+    ensures first { (before : LeafNodeId) → (first last : K × V) → leaf.now.prev ≡ Some before → leaf.now.pairs ≡ first ∷ last ∷ [] → IfOk result (λ ends. IsSomeAnd ends.0 (λ key. K.is_clone first.0 key)) }
+    ensures last { leaf.now.next ≡ None → IfOk result (λ ends. ends.1 ≡ None) }
+{
+    leaf.key_range()
+}
+
+// And with a leaf after it: a clone of the last key.
+fn shows_its_last_key<K: Clone + Drop, V: Drop>(
+    leaf: &LeafNode<K, V>,
+) -> Result<(Option<K>, Option<K>), AllocError>
+    requires { 0 < length leaf.now.pairs }
+    ensures first { leaf.now.prev ≡ None → IfOk result (λ ends. ends.0 ≡ None) }
+    ensures last { (after : LeafNodeId) → (first last : K × V) → leaf.now.next ≡ Some after → leaf.now.pairs ≡ first ∷ last ∷ [] → IfOk result (λ ends. IsSomeAnd ends.1 (λ key. K.is_clone last.0 key)) }
+{
+    leaf.key_range()
+}
+
+// A new leaf takes 64 items and leaves the others, or takes all where there are fewer.
+fn fills_a_new_leaf<K: Drop, V: Drop, I: Iterator<Item = (K, V)>>(
+    alloc: Global,
+    items: &mut I,
+) -> Result<Box<LeafNode<K, V>>, AllocError>
+    requires { I.can_next items.old }
+    ensures full { IfOk result (λ leaf. length leaf.value.pairs ≡ 64 → Yields I.next_gives items.old leaf.value.pairs items.new) }
+    ensures ended { IfOk result (λ leaf. length leaf.value.pairs < 64 → YieldsThen I.next_gives items.old leaf.value.pairs None items.new) }
+    ensures links { IfOk result (λ leaf. (leaf.value.prev ≡ None) × (leaf.value.next ≡ None)) }
+{
+    let mut leaf = LeafNode::new(alloc)?;
+    leaf.set_data(items);
+    Ok(leaf)
+}
+
+// The second pair, and that there is none behind the last.
+fn reads_the_second<K: Drop, V: Drop>(leaf: &LeafNode<K, V>) -> (&K, &V)
+    requires { 1 < length leaf.now.pairs }
+    ensures { (first second : K × V) → (rest : List (K × V)) → leaf.now.pairs ≡ first ∷ second ∷ rest → (result.0.now ≡ second.0) × (result.1.now ≡ second.1) }
+{
+    leaf.data_at(1)
+}
+
+fn tries_the_second<K: Drop, V: Drop>(leaf: &LeafNode<K, V>) -> Option<(&K, &V)>
+    ensures there { (first second : K × V) → (rest : List (K × V)) → leaf.now.pairs ≡ first ∷ second ∷ rest → IsSomeAnd result (λ pair. (pair.0.now ≡ second.0) × (pair.1.now ≡ second.1)) }
+    ensures past { (first : K × V) → leaf.now.pairs ≡ first ∷ [] → result ≡ None }
+{
+    leaf.try_data_at(1)
+}
+
+// The keys and the values stand in the order of the pairs.
+fn lends_keys_and_values<K: Drop, V: Drop>(leaf: &LeafNode<K, V>) -> (&[K], &[V])
+    ensures { (first second : K × V) → leaf.now.pairs ≡ first ∷ second ∷ [] → (result.0.now ≡ first.0 ∷ second.0 ∷ []) × (result.1.now ≡ first.1 ∷ second.1 ∷ []) }
+{
+    (leaf.keys(), leaf.values())
+}
+
+// A value that is written stands beside its key, and every other pair stays.
+fn writes_the_second<K: Drop, V: Drop>(leaf: &mut LeafNode<K, V>, value: V)
+    requires { 1 < length leaf.old.pairs }
+    ensures { (first second : K × V) → (rest : List (K × V)) → leaf.old.pairs ≡ first ∷ second ∷ rest → leaf.new ≡ record leaf.old { pairs = first ∷ (second.0, value) ∷ rest } }
+{
+    *leaf.value_at_mut(1) = value;
+}
+
+fn replaces_the_second<K: Drop, V: Drop>(leaf: &mut LeafNode<K, V>, value: V) -> V
+    requires { 1 < length leaf.old.pairs }
+    ensures { (first second : K × V) → (rest : List (K × V)) → leaf.old.pairs ≡ first ∷ second ∷ rest → (result ≡ second.1) × (leaf.new ≡ record leaf.old { pairs = first ∷ (second.0, value) ∷ rest }) }
+{
+    leaf.replace_value(1, value)
+}
+
+// At a place where a key was found the value is written, and at one to insert at nothing is.
+fn writes_where_it_was_found<K: Drop, V: Drop>(leaf: &mut LeafNode<K, V>, value: V)
+    requires { 1 < length leaf.old.pairs }
+    ensures { (first second : K × V) → (rest : List (K × V)) → leaf.old.pairs ≡ first ∷ second ∷ rest → leaf.new ≡ record leaf.old { pairs = first ∷ (second.0, value) ∷ rest } }
+{
+    if let Some(there) = leaf.value_if_present(Ok(1)) {
+        *there = value;
+    }
+}
+
+fn writes_nothing_where_none_was_found<K: Drop, V: Drop>(
+    leaf: &mut LeafNode<K, V>,
+    slot: usize,
+    value: V,
+)
+    ensures { leaf.new ≡ leaf.old }
+{
+    if let Some(there) = leaf.value_if_present(Err(slot)) {
+        *there = value;
+    }
+}
+
+// A search that finds a key finds an equal one, in whatever order the pairs stand.
+fn finds_an_equal_key<K: Ord + Drop, V: Drop>(leaf: &LeafNode<K, V>, key: &K) -> Option<Ordering>
+    ensures { IfSome result (λ order. order ≡ Equal) }
+{
+    match leaf.locate_slot(key) {
+        Ok(slot) => Some(leaf.data_at(slot).0.cmp(key)),
+        Err(_) => None,
+    }
+}
+
+// Where it finds none in an ascending leaf, the key is not there, and the place is the number of smaller keys.
+fn counts_smaller_keys<K: Ord + Drop, V: Drop>(leaf: &LeafNode<K, V>, key: &K) -> Option<usize>
+    requires { IsAscending K.cmp leaf.now.pairs }
+    ensures absent { IfSome result (λ _. has K.cmp leaf.now.pairs key.now ≡ false) }
+    ensures place { IfSome result (λ place. place ≡ length (below K.cmp leaf.now.pairs key.now)) }
+{
+    leaf.locate_slot(key).err()
+}
+
+// The value of a key, or none.
+fn reads_the_value<'a, K: Ord + Drop, V: Drop>(leaf: &'a LeafNode<K, V>, key: &K) -> Option<&'a V>
+    requires { IsAscending K.cmp leaf.now.pairs }
+    ensures { option_copied result ≡ value_of K.cmp leaf.now.pairs key.now }
+{
+    leaf.locate_slot_with_value(key).1
+}
+
+// A pair that is put where there is room: the contents are those of a map, and an old value is handed back.
+fn puts_a_pair<K: Ord + Drop, V: Drop>(leaf: &mut LeafNode<K, V>, key: K, value: V) -> Option<V>
+    requires ascending { IsAscending K.cmp leaf.old.pairs }
+    requires room { length leaf.old.pairs < 64 }
+    ensures contents { leaf.new ≡ record leaf.old { pairs = put K.cmp leaf.old.pairs key value } }
+    ensures replaced { IfSome result (λ old. value_of K.cmp leaf.old.pairs key ≡ Some old) }
+    ensures is_new { result ≡ None → has K.cmp leaf.old.pairs key ≡ false }
+{
+    match leaf.try_upsert(key, value) {
+        LeafUpsertResult::Updated(old) => Some(old),
+        LeafUpsertResult::Inserted => None,
+        LeafUpsertResult::IsFull(..) => None,
+    }
+}
+
+// A full leaf hands a new pair back with its place, and stays.
+fn hands_back_what_is_too_much<K: Ord + Drop, V: Drop>(
+    leaf: &mut LeafNode<K, V>,
+    key: K,
+    value: V,
+) -> Option<(usize, K, V)>
+    requires ascending { IsAscending K.cmp leaf.old.pairs }
+    requires full { length leaf.old.pairs ≡ 64 }
+    requires absent { value_of K.cmp leaf.old.pairs key ≡ None }
+    ensures back { result ≡ Some (length (below K.cmp leaf.old.pairs key), key, value) }
+    ensures leaf { leaf.new ≡ leaf.old }
+{
+    match leaf.try_upsert(key, value) {
+        LeafUpsertResult::IsFull(place, key, value) => Some((place, key, value)),
+        LeafUpsertResult::Updated(_) => None,
+        LeafUpsertResult::Inserted => None,
+    }
+}
+
+// A pair that is put at a slot is the one that is removed there, and the leaf is as before.
+#[tactic(auto, using(bptree_nodes::proofs::Inverses::delete_inserted))]
+fn takes_an_insertion_back<K: Drop, V: Drop>(
+    leaf: &mut LeafNode<K, V>,
+    slot: usize,
+    key: K,
+    value: V,
+) -> (K, V)
+    requires within { slot ≤ length leaf.old.pairs }
+    requires room { length leaf.old.pairs < 64 }
+    ensures pair { result ≡ (key, value) }
+    ensures leaf { leaf.new ≡ leaf.old }
+{
+    leaf.insert_at(slot, key, value);
+    leaf.delete_at(slot)
+}
+
+// A leaf of more than 16 pairs gives up the one at a slot, and one of 16 stays.
+fn deletes_above_the_minimum<K: Drop, V: Drop>(
+    leaf: &mut LeafNode<K, V>,
+    slot: usize,
+) -> Option<(K, V)>
+    requires { slot < length leaf.old.pairs }
+    ensures stays { length leaf.old.pairs ≡ 16 → (result ≡ None) × (leaf.new ≡ leaf.old) }
+    ensures deleted { length leaf.old.pairs ≡ 17 → (result ≡ slice_get leaf.old.pairs slot) × (leaf.new ≡ record leaf.old { pairs = remove leaf.old.pairs slot }) }
+{
+    match leaf.try_delete_at(slot) {
+        LeafDeleteResult::Done(pair) => Some(pair),
+        LeafDeleteResult::UnderSize(_) => None,
+    }
+}
+
+// The last pair, and the pairs before it.
+#[tactic(auto, using(bptree_nodes::proofs::Pairs::last_apart))]
+fn pops_the_last<K: Drop, V: Drop>(leaf: &mut LeafNode<K, V>) -> (K, V)
+    requires { 0 < length leaf.old.pairs }
+    ensures pair { slice_get leaf.old.pairs (length leaf.old.pairs - 1) ≡ Some result }
+    ensures leaf { leaf.new ≡ record leaf.old { pairs = take (length leaf.old.pairs - 1) leaf.old.pairs } }
+{
+    leaf.pop()
+}
+
+// The first pair, and the pairs behind it.
+fn pops_the_first<K: Drop, V: Drop>(leaf: &mut LeafNode<K, V>) -> (K, V)
+    requires { 0 < length leaf.old.pairs }
+    ensures { (first : K × V) → (rest : List (K × V)) → leaf.old.pairs ≡ first ∷ rest → (result ≡ first) × (leaf.new ≡ record leaf.old { pairs = rest }) }
+{
+    leaf.pop_front()
+}
+
+// The first pair gives way to one at the end, and to one in its own place.
+fn puts_at_the_end<K: Drop, V: Drop>(leaf: &mut LeafNode<K, V>, item: (K, V)) -> (K, V)
+    requires { 0 < length leaf.old.pairs }
+    ensures { (first : K × V) → (rest : List (K × V)) → leaf.old.pairs ≡ first ∷ rest → (result ≡ first) × (leaf.new ≡ record leaf.old { pairs = rest ++ item ∷ [] }) }
+{
+    leaf.delete_with_push(0, item)
+}
+
+fn puts_at_the_front<K: Drop, V: Drop>(leaf: &mut LeafNode<K, V>, item: (K, V)) -> (K, V)
+    requires { 1 < length leaf.old.pairs }
+    ensures { (first second : K × V) → (rest : List (K × V)) → leaf.old.pairs ≡ first ∷ second ∷ rest → (result ≡ second) × (leaf.new ≡ record leaf.old { pairs = item ∷ first ∷ rest }) }
+{
+    leaf.delete_with_push_front(1, item)
+}
+
+// A leaf that is cut keeps its links, and merged again it has the pairs that it had.
+fn merges_what_was_cut<K: Drop, V: Drop>(
+    leaf: &mut LeafNode<K, V>,
+    slot: usize,
+    room: Box<LeafNode<K, V>>,
+)
+    requires within { slot ≤ length leaf.old.pairs }
+    requires empty { room.value.pairs ≡ [] }
+    ensures pairs { leaf.new.pairs ≡ leaf.old.pairs }
+    ensures prev { leaf.new.prev ≡ leaf.old.prev }
+    ensures next { leaf.new.next ≡ room.value.next }
+{
+    let right = leaf.split_off(slot, room);
+    leaf.merge_right(right);
+}
+
+// Two leaves of two pairs, merged without the first pair of the later one.
+fn merges_but_for_one<K: Drop, V: Drop>(
+    leaf: &mut LeafNode<K, V>,
+    right: Box<LeafNode<K, V>>,
+) -> (K, V)
+    requires some { 0 < length right.value.pairs }
+    requires room { length leaf.old.pairs + length right.value.pairs ≤ 65 }
+    ensures pairs { (first : K × V) → (rest : List (K × V)) → right.value.pairs ≡ first ∷ rest → (result ≡ first) × (leaf.new.pairs ≡ leaf.old.pairs ++ rest) }
+    ensures next { leaf.new.next ≡ right.value.next }
+{
+    leaf.merge_right_delete_first(0, right)
+}
+
+// A full leaf that is split at any slot: how many pairs each part has, and the links from left to right.
+fn links_a_split<K: Drop, V: Drop>(
+    leaf: &mut LeafNode<K, V>,
+    slot: usize,
+    item: (K, V),
+    ids: (LeafNodeId, LeafNodeId),
+    room: Box<LeafNode<K, V>>,
+) -> (usize, usize, Box<LeafNode<K, V>>)
+    requires full { length leaf.old.pairs ≡ 64 }
+    requires within { slot ≤ 64 }
+    requires empty { room.value.pairs ≡ [] }
+    ensures before_middle { slot ≡ 31 → (result.0 ≡ 33) × (result.1 ≡ 32) }
+    ensures middle { slot ≡ 32 → (result.0 ≡ 32) × (result.1 ≡ 33) }
+    ensures left { (leaf.new.prev ≡ leaf.old.prev) × (leaf.new.next ≡ Some ids.1) }
+    ensures right { (result.2.value.prev ≡ Some ids.0) × (result.2.value.next ≡ leaf.old.next) }
+{
+    let right = leaf.split_new_leaf(slot, item, ids.1, ids.0, room);
+    (leaf.len(), right.len(), right)
+}
+
+// A split that is joined again leaves the leaf as it was, and gives back the item.
+fn takes_a_split_back<K: Drop, V: Drop>(
+    leaf: &mut LeafNode<K, V>,
+    slot: usize,
+    item: (K, V),
+    ids: (LeafNodeId, LeafNodeId),
+    room: Box<LeafNode<K, V>>,
+) -> (K, V)
+    requires full { length leaf.old.pairs ≡ 64 }
+    requires within { slot ≤ 64 }
+    requires empty { room.value.pairs ≡ [] }
+    ensures item { result ≡ item }
+    ensures leaf { leaf.new ≡ leaf.old }
+{
+    let right = leaf.split_new_leaf(slot, item, ids.1, ids.0, room);
+    leaf.join_split(slot, right)
+}
+
+// The last pair of one leaf becomes the first of the next.
+#[tactic(auto, using(crate::proofs::Ends::last_moves))]
+fn lends_its_last<K: Drop, V: Drop>(leaf: &mut LeafNode<K, V>, right: &mut LeafNode<K, V>)
+    requires some { 0 < length leaf.old.pairs }
+    requires room { length right.old.pairs < 64 }
+    ensures left { (front : List (K × V)) → (last : K × V) → leaf.old.pairs ≡ front ++ last ∷ [] → leaf.new.pairs ≡ front }
+    ensures right { (front : List (K × V)) → (last : K × V) → leaf.old.pairs ≡ front ++ last ∷ [] → right.new.pairs ≡ last ∷ right.old.pairs }
+    ensures left_links { (leaf.new.prev ≡ leaf.old.prev) × (leaf.new.next ≡ leaf.old.next) }
+    ensures right_links { (right.new.prev ≡ right.old.prev) × (right.new.next ≡ right.old.next) }
+{
+    leaf.lend_last(right);
+}
+
+// The first pair of the next leaf becomes the last of one.
+fn takes_the_first_of_the_next<K: Drop, V: Drop>(
+    leaf: &mut LeafNode<K, V>,
+    right: &mut LeafNode<K, V>,
+)
+    requires some { 0 < length right.old.pairs }
+    requires room { length leaf.old.pairs < 64 }
+    ensures left { leaf.new.pairs ≡ leaf.old.pairs ++ take 1 right.old.pairs }
+    ensures right { right.new.pairs ≡ drop 1 right.old.pairs }
+    ensures left_links { (leaf.new.prev ≡ leaf.old.prev) × (leaf.new.next ≡ leaf.old.next) }
+    ensures right_links { (right.new.prev ≡ right.old.prev) × (right.new.next ≡ right.old.next) }
+{
+    leaf.lend_first(right);
+}
+
+// What was taken over is handed over again: both have the pairs that they had, and `right` all that it had.
+fn hands_over_what_it_took<K: Drop, V: Drop>(leaf: &mut LeafNode<K, V>, right: &mut LeafNode<K, V>)
+    requires { length leaf.old.pairs + length right.old.pairs ≤ 64 }
+    ensures left { leaf.new ≡ record leaf.old { next = right.old.next } }
+    ensures right { right.new ≡ right.old }
+{
+    let kept = leaf.len();
+    leaf.take_over(right);
+    leaf.hand_over(kept, right);
+}
+
+// A clone has the same links, and clones of the pairs in their order.
+fn clones_pairs_and_links<K: Clone + Drop, V: Clone + Drop>(
+    leaf: &LeafNode<K, V>,
+) -> Result<LeafNode<K, V>, AllocError>
+    ensures links { IfOk result (λ copy. (copy.prev ≡ leaf.now.prev) × (copy.next ≡ leaf.now.next)) }
+    ensures pairs { IfOk result (λ copy. AllZip (λ p q. K.is_clone p.0 q.0 × V.is_clone p.1 q.1) leaf.now.pairs copy.pairs) }
+{
+    leaf.clone()
+}

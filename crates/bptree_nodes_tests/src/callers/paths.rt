@@ -1,0 +1,63 @@
+//! Callers of paths and of entries.
+ghost use Rattle.std.specs.Prelude.{◌≡◌, ◌<◌, suc, true, false, length};
+
+use bptree_keys::entry_ref::{EntryRef, VisitStack};
+use bptree_keys::node_id::{InnerNodeId, LeafNodeId, NodeId};
+
+// A new path is empty, by its length and by its word, and nothing can be taken off it.
+fn starts_empty() -> (usize, bool, Option<(InnerNodeId, usize, NodeId)>)
+    ensures { result ≡ (0, true, None) }
+{
+    let mut stack = VisitStack::new();
+    let (len, is_empty) = (stack.len(), stack.is_empty());
+    (len, is_empty, stack.pop())
+}
+
+// What was put on last comes off first, and the path is as it was.
+fn pops_what_was_pushed(
+    stack: &mut VisitStack,
+    id: InnerNodeId,
+    offset: usize,
+    child: NodeId,
+) -> Option<(InnerNodeId, usize, NodeId)>
+    requires { length stack.old < 15 }
+    ensures entry { result ≡ Some (id, offset, child) }
+    ensures path { stack.new ≡ stack.old }
+{
+    stack.push(id, offset, child);
+    stack.pop()
+}
+
+// A path with a node on it is not empty, and is one longer.
+fn grows_by_one(
+    stack: &mut VisitStack,
+    id: InnerNodeId,
+    offset: usize,
+    child: NodeId,
+) -> (usize, usize, bool)
+    requires { length stack.old < 15 }
+    ensures len { result.1 ≡ suc result.0 }
+    ensures is_empty { result.2 ≡ false }
+{
+    let before = stack.len();
+    stack.push(id, offset, child);
+    (before, stack.len(), stack.is_empty())
+}
+
+// An entry that goes without its tree, and then into another, keeps its path, its leaf and its place there.
+fn goes_into_another_tree<T: Drop, U>(
+    tree: T,
+    other: U,
+    inner_stack: VisitStack,
+    leaf_id: LeafNodeId,
+    offset: usize,
+) -> EntryRef<U>
+    ensures tree { result.tree ≡ other }
+    ensures path { result.inner_stack ≡ inner_stack }
+    ensures leaf { result.leaf_id ≡ leaf_id }
+    ensures offset { result.offset ≡ offset }
+{
+    EntryRef::new(tree, inner_stack, leaf_id, offset)
+        .to_detached()
+        .to_ref(other)
+}

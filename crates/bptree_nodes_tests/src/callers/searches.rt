@@ -1,0 +1,72 @@
+//! Callers of keys and of the searches among them.
+ghost use Rattle.std.specs.Prelude.{◌≡◌, ◌≤◌, ◌∷◌, [], length, IfOk};
+ghost use Rattle.std.specs.declared.cmp.Ordering.TheVariants.{Less, Equal, Greater};
+ghost use Rattle.std.specs.List.Sorted.{IsStrictlySortedBy};
+
+use bptree_keys::compares::{Compares, count_upto_counted, locate_counted};
+use bptree_keys::key::Key;
+use std::alloc::AllocError;
+use std::cmp::Ordering;
+
+// A clone of a key is equal to it.
+fn compares_with_its_clone<K: Key>(key: &K) -> Result<Ordering, AllocError>
+    ensures { IfOk result (λ order. order ≡ Equal) }
+{
+    let copy = key.clone()?;
+    Ok(key.cmp(&copy))
+}
+
+// Two comparisons are counted as two, and each answers the order of the keys.
+fn counts_two<K: Ord>(a: &K, b: &K) -> (Ordering, Ordering, usize)
+    ensures order { (result.0 ≡ K.cmp a.now b.now) × (result.1 ≡ K.cmp b.now a.now) }
+    ensures count { result.2 ≡ 2 }
+{
+    let mut compares = Compares::new();
+    let first = compares.compare(a, b);
+    let second = compares.compare(b, a);
+    (first, second, compares.count())
+}
+
+// A search of ascending keys: the place of the key or how many are smaller, after at most seven comparisons.
+fn finds_in_seven<K: Ord>(keys: &[K], key: &K) -> (Result<usize, usize>, usize)
+    requires few { length keys.now ≤ 64 }
+    requires ascending { IsStrictlySortedBy K.cmp keys.now }
+    ensures no_key { keys.now ≡ [] → result.0 ≡ Err 0 }
+    ensures first { (x y : K) → keys.now ≡ x ∷ y ∷ [] → K.cmp x key.now ≡ Equal → result.0 ≡ Ok 0 }
+    ensures second { (x y : K) → keys.now ≡ x ∷ y ∷ [] → K.cmp x key.now ≡ Less → K.cmp y key.now ≡ Equal → result.0 ≡ Ok 1 }
+    ensures between { (x y : K) → keys.now ≡ x ∷ y ∷ [] → K.cmp x key.now ≡ Less → K.cmp y key.now ≡ Greater → result.0 ≡ Err 1 }
+    ensures past { (x y : K) → keys.now ≡ x ∷ y ∷ [] → K.cmp x key.now ≡ Less → K.cmp y key.now ≡ Less → result.0 ≡ Err 2 }
+    ensures count { result.1 ≤ 7 }
+{
+    let mut compares = Compares::new();
+    let place = locate_counted(keys, key, &mut compares);
+    (place, compares.count())
+}
+
+// Whatever the order of the keys is, the place is one among them or the end.
+fn stays_among_the_keys<K: Ord>(keys: &[K], key: &K) -> (usize, usize)
+    requires { length keys.now ≤ 64 }
+    ensures child { result.0 ≤ length keys.now }
+    ensures place { result.1 ≤ length keys.now }
+{
+    let child = count_upto_counted(keys, key, &mut Compares::new());
+    let place = match locate_counted(keys, key, &mut Compares::new()) {
+        Ok(slot) => slot,
+        Err(slot) => slot,
+    };
+    (child, place)
+}
+
+// The child to go on in stands behind an equal key, and else behind the smaller ones.
+fn goes_behind_an_equal_key<K: Ord>(keys: &[K], key: &K) -> (usize, usize)
+    requires few { length keys.now ≤ 64 }
+    requires ascending { IsStrictlySortedBy K.cmp keys.now }
+    ensures first { (x y : K) → keys.now ≡ x ∷ y ∷ [] → K.cmp x key.now ≡ Greater → K.cmp y key.now ≡ Greater → result.0 ≡ 0 }
+    ensures equal { (x y : K) → keys.now ≡ x ∷ y ∷ [] → K.cmp x key.now ≡ Equal → K.cmp y key.now ≡ Greater → result.0 ≡ 1 }
+    ensures last { (x y : K) → keys.now ≡ x ∷ y ∷ [] → K.cmp x key.now ≡ Less → K.cmp y key.now ≡ Equal → result.0 ≡ 2 }
+    ensures count { result.1 ≤ 7 }
+{
+    let mut compares = Compares::new();
+    let child = count_upto_counted(keys, key, &mut compares);
+    (child, compares.count())
+}

@@ -1,0 +1,113 @@
+-- A pair is taken out of the leaf at the end of a path.
+use Rattle.std.proofs.Common.{◌≡◌, ℕ, ◌+◌, ◌≤◌, inl, inr, false, List, length, sym, ap, subst, ◌∙◌, arith, Some, slice_get}
+use Rattle.std.specs.declared.cmp.Ordering.{Ordering}
+use Rattle.std.specs.Cmp.{IsTotalOrder}
+use Rattle.std.specs.List.{remove}
+use Rattle.std.proofs.lemmas.Bool.{cases_eq}
+use Rattle.std.proofs.lemmas.List.Edits.{length-remove}
+use Rattle.bptree_keys.specs.Contents.{IsAscending, del}
+use Rattle.bptree_keys.proofs.Found.{hit_at}
+use Rattle.bptree_keys.proofs.Parted.{del_hit}
+use Rattle.bptree_keys.proofs.Updates.{length_del}
+use Rattle.bptree_nodes.specs.Inner.{Inner}
+use Rattle.bptree_nodes.specs.Leaf.{Leaf}
+use Rattle.bptree_nodes.specs.LeafResults.{HasEqualAt}
+use Rattle.bptree_nodes.specs.Slot.{Slot, Slots, Held, Present, IsPresent, UpdatesLeaf}
+use Rattle.bptree_keys.specs.declared.node_id.InnerNodeId.{InnerNodeId}
+use Rattle.bptree_keys.specs.declared.node_id.LeafNodeId.{LeafNodeId}
+use Rattle.bptree_keys.specs.declared.node_id.NodeId.{NodeId}
+use Rattle.bptree_keys.specs.declared.node_id.NodeId.TheVariants as kind
+use Rattle.bptree_insertion.specs.Climb.{Climb, Risen, StaysFew}
+use Rattle.bptree_shape.specs.Edit.{CanReach, Stays, Edits}
+use Rattle.bptree_shape.specs.Outcome.{Done}
+use Rattle.bptree_shape.specs.Shape.{leaf_pairs, pairs_at, root_least, IsWellShaped}
+use Rattle.bptree_removal.specs.Trim.{IsThere, IsLoose, Leaves}
+use Rattle.bptree_insertion.proofs.Climbing.{not_held}
+use Rattle.bptree_insertion.proofs.Placed.{none_is}
+use Rattle.bptree_removal.proofs.RemovedLeaf.{del_is_local, leaf_removed}
+use Rattle.bptree_insertion.proofs.Rooted.{reach_of, whole_done}
+use Rattle.bptree_shape.proofs.Ways.{way_can}
+use Rattle.bptree_shape.proofs.Widen.{tree_less}
+use Rattle.bptree_shape.proofs.ListReads.{read_below}
+
+pub loose_of : {K V A : Type 0} (cmp : K → K → Ordering) (is_summary : A → List K → Type 0) (slots : Slots (Inner K A) (Leaf K V)) (h : ℕ) (root : NodeId) → IsWellShaped cmp is_summary slots h root → IsLoose cmp is_summary slots h root
+loose_of cmp is_summary slots h root w = record {
+  tree = tree_less cmp slots (root_least h) 0 h root _ _ (omega arith) w.tree;
+  leaves = w.leaves;
+  inners = w.inners;
+  no_leaf_held = w.no_leaf_held;
+  no_inner_held = w.no_inner_held;
+  summed = w.summed;
+  linked = w.linked;
+}
+
+module _ {K V A : Type 0} {cmp : K → K → Ordering} (total : IsTotalOrder cmp) (is_summary : A → List K → Type 0) (old : Slots (Inner K A) (Leaf K V)) (path : List (InnerNodeId × ℕ × NodeId)) (leaf : LeafNodeId) (slot : ℕ) (k : K)
+    (there : IsThere cmp is_summary old path leaf slot k) where
+  can : CanReach cmp old 0 (kind.Leaf leaf) k
+  can = way_can cmp old k path there.top there.root 0 (kind.Leaf leaf) there.way (reach_of cmp is_summary old there.top there.root k there.shape)
+
+  pub leaf_there : IsPresent (old.leaf leaf.0)
+  leaf_there = can.tree.0
+
+  module _ (node : Leaf K V) (here : old.leaf leaf.0 ≡ Present node) (pair : K × V) (read : slice_get node.pairs slot ≡ Some pair) where
+    pub sorted_here : IsAscending cmp node.pairs
+    sorted_here = subst (λ (s : Slot (Leaf K V)). IsAscending cmp (leaf_pairs s)) here can.tree.2
+
+    pub most_here : length node.pairs ≤ 64
+    most_here = subst (λ (s : Slot (Leaf K V)). length (leaf_pairs s) ≤ 64) here can.tree.4
+
+    pub is_del : remove node.pairs slot ≡ del cmp node.pairs k
+    is_del =
+        let hit = hit_at cmp total node.pairs sorted_here k slot pair (subst (λ (s : Slot (Leaf K V)). HasEqualAt cmp (leaf_pairs s) k slot) here there.found) in
+        sym (del_hit cmp node.pairs _ _ _ k hit.1)
+
+    pub one_less : length (remove node.pairs slot) + 1 ≡ length node.pairs
+    one_less = omega (arith, length-remove node.pairs slot (read_below node.pairs slot pair read))
+
+    module _ (mid : Slots (Inner K A) (Leaf K V)) (takes : UpdatesLeaf old mid leaf.0 (Present (record node { pairs = remove node.pairs slot }))) (kept : ℕ) (left : kept ≤ length (remove node.pairs slot)) where
+      pub edits_taken : Edits cmp is_summary (λ l. del cmp l k) kept old mid 0 (kind.Leaf leaf) k leaf Stays Done
+      edits_taken =
+          leaf_removed total is_summary old mid leaf k node here kept (omega (arith, left, ap length is_del)) (omega (arith, ap length is_del, one_less, most_here)) (rw is_del at takes)
+
+      pub none_held : (n : ℕ) → mid.leaf n ≡ Held → ⊥
+      none_held n h =
+          elim (cases_eq n leaf.0) [
+            | inl same ↦ (let z = sym takes.leaf.changed ∙ (ap mid.leaf (sym same) ∙ h) in cc)
+            | inr other ↦ there.shape.no_leaf_held n (sym (takes.leaf.others n other) ∙ h)
+          ]
+
+      pub few_taken : StaysFew cmp (λ (l : List (K × V)). del cmp l k) (length (pairs_at old there.top there.root))
+      few_taken l sorted short = omega (arith, there.few, length_del cmp total l sorted k)
+
+      abbrev pub climb_taken : Climb cmp is_summary mid path Done
+      climb_taken = record {
+        old = old;
+        edit = λ l. del cmp l k;
+        k = k;
+        leaf = leaf;
+        turn = Stays;
+        kept = kept;
+        held_inner = λ n. false;
+        held_leaf = λ n. false;
+        top = there.top;
+        root = there.root;
+        height = 0;
+        id = kind.Leaf leaf;
+        shape = there.shape;
+        few = few_taken;
+        local = del_is_local cmp k;
+        way = there.way;
+        edits = edits_taken;
+        free = record {
+          inners = λ n. none_is (mid.inner n) (λ h. there.shape.no_inner_held n (ap (λ (f : ℕ → Slot (Inner K A)). f n) (sym takes.inner) ∙ h));
+          leaves = λ n. none_is (mid.leaf n) (none_held n);
+        };
+      }
+
+      pub leaves_taken : (new : Slots (Inner K A) (Leaf K V)) (top : A) → Risen climb_taken new top → Leaves cmp is_summary old new there.top there.root leaf slot k pair top
+      leaves_taken new top r = record {
+        pair_was = rw here read;
+        loose = loose_of cmp is_summary new there.top there.root (whole_done cmp is_summary (λ l. del cmp l k) old new there.top there.root k leaf there.shape (λ n. not_held _ (r.free.leaves n)) (λ n. not_held _ (r.free.inners n)) r.edits);
+        pairs = r.edits.pairs;
+        told = r.told;
+      }

@@ -1,0 +1,56 @@
+use Rattle.bptree_removal.proofs.TakenOut as out
+use Rattle.bptree_removal.proofs.removal.take_in_place.Goals as goal
+
+pub sum_of-requires : goal.sum_of-requires
+sum_of-requires g c =
+    let slots = g.S.NodeStore.slots in
+    let took = c.take_pair-pair.ensures in
+    out.present_taken g.met.S.K.Ord.total g.S.Argument.Argument.is_summary (slots c.args.store.now) c.args.path.now c.args.leaf c.args.slot c.requires.there.0 c.requires.there.1 c.take_pair-pair.result took.pair (slots c.take_pair-pair.new.store) took.takes
+
+pub ascend-requires : goal.ascend-requires
+ascend-requires g c =
+    let slots = g.S.NodeStore.slots in
+    let took = c.take_pair-pair.ensures in
+    out.climbs_in_place g.met.S.K.Ord.total g.S.Argument.Argument.is_summary (slots c.args.store.now) c.args.path.now c.args.leaf c.args.slot c.requires.there.0 c.requires.there.1 c.take_pair-pair.result took.pair (slots c.take_pair-pair.new.store) took.takes c.requires.spare c.in-Ok.summary c.in-Ok.ensures.some c.in-Ok.ensures.none
+
+pub returns-in-Ok-ascend-clause-leaves : goal.returns-in-Ok-ascend-clause-leaves
+returns-in-Ok-ascend-clause-leaves g c k there =
+    let slots = g.S.NodeStore.slots in
+    let took = c.take_pair-pair.ensures in
+    out.leaves_in_place g.met.S.K.Ord.total g.S.Argument.Argument.is_summary (slots c.args.store.now) c.args.path.now c.args.leaf c.args.slot k there c.take_pair-pair.result took.pair (slots c.take_pair-pair.new.store) took.takes c.requires.spare c.in-Ok.summary c.in-Ok.ensures.some c.in-Ok.ensures.none (slots c.ascend.new.store) c.in-Ok-ascend.top (c.in-Ok-ascend.ensures.rises (out.climbs_in_place g.met.S.K.Ord.total g.S.Argument.Argument.is_summary (slots c.args.store.now) c.args.path.now c.args.leaf c.args.slot k there c.take_pair-pair.result took.pair (slots c.take_pair-pair.new.store) took.takes c.requires.spare c.in-Ok.summary c.in-Ok.ensures.some c.in-Ok.ensures.none))
+
+pub put_pair-requires-clause-present : goal.put_pair-requires-clause-present
+put_pair-requires-clause-present g c =
+    let slots = g.S.NodeStore.slots in
+    let took = c.take_pair-pair.ensures in
+    out.present_taken g.met.S.K.Ord.total g.S.Argument.Argument.is_summary (slots c.args.store.now) c.args.path.now c.args.leaf c.args.slot c.requires.there.0 c.requires.there.1 c.take_pair-pair.result took.pair (slots c.take_pair-pair.new.store) took.takes
+
+pub put_pair-requires-clause-slot : goal.put_pair-requires-clause-slot
+put_pair-requires-clause-slot g c =
+    let slots = g.S.NodeStore.slots in
+    let took = c.take_pair-pair.ensures in
+    out.slot_taken g.met.S.K.Ord.total g.S.Argument.Argument.is_summary (slots c.args.store.now) c.args.path.now c.args.leaf c.args.slot c.requires.there.0 c.requires.there.1 c.take_pair-pair.result took.pair (slots c.take_pair-pair.new.store) took.takes
+
+pub put_pair-requires-clause-room : goal.put_pair-requires-clause-room
+put_pair-requires-clause-room g c =
+    let slots = g.S.NodeStore.slots in
+    let took = c.take_pair-pair.ensures in
+    out.room_taken g.met.S.K.Ord.total g.S.Argument.Argument.is_summary (slots c.args.store.now) c.args.path.now c.args.leaf c.args.slot c.requires.there.0 c.requires.there.1 c.take_pair-pair.result took.pair (slots c.take_pair-pair.new.store) took.takes
+
+pub put_pair-requires-in-Err-clause-present : goal.put_pair-requires-in-Err-clause-present
+put_pair-requires-in-Err-clause-present g c =
+    let slots = g.S.NodeStore.slots in
+    let took = c.take_pair-pair.ensures in
+    rw c.in-Err.ensures.refused (out.present_taken g.met.S.K.Ord.total g.S.Argument.Argument.is_summary (slots c.args.store.now) c.args.path.now c.args.leaf c.args.slot c.requires.there.0 c.requires.there.1 c.take_pair-pair.result took.pair (slots c.take_pair-pair.new.store) took.takes)
+
+pub put_pair-requires-in-Err-clause-slot : goal.put_pair-requires-in-Err-clause-slot
+put_pair-requires-in-Err-clause-slot g c =
+    let slots = g.S.NodeStore.slots in
+    let took = c.take_pair-pair.ensures in
+    rw c.in-Err.ensures.refused (out.slot_taken g.met.S.K.Ord.total g.S.Argument.Argument.is_summary (slots c.args.store.now) c.args.path.now c.args.leaf c.args.slot c.requires.there.0 c.requires.there.1 c.take_pair-pair.result took.pair (slots c.take_pair-pair.new.store) took.takes)
+
+pub put_pair-requires-in-Err-clause-room : goal.put_pair-requires-in-Err-clause-room
+put_pair-requires-in-Err-clause-room g c =
+    let slots = g.S.NodeStore.slots in
+    let took = c.take_pair-pair.ensures in
+    rw c.in-Err.ensures.refused (out.room_taken g.met.S.K.Ord.total g.S.Argument.Argument.is_summary (slots c.args.store.now) c.args.path.now c.args.leaf c.args.slot c.requires.there.0 c.requires.there.1 c.take_pair-pair.result took.pair (slots c.take_pair-pair.new.store) took.takes)

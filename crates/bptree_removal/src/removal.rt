@@ -1,0 +1,473 @@
+//! Removal from a tree that stands in a store.
+ghost use Rattle.std.specs.Prelude.{◌≡◌, ℕ, ◌<◌, ◌≤◌, ◌+◌, ◌^◌, false, List, ◌∷◌, ◌++◌, IfOk, OnErr, IsTrue, Some, length, slice_get, remove, MatchOption, [], Ok, None};
+ghost use Rattle.std.specs.Map.{keys_of};
+ghost use Rattle.bptree_keys.specs.Contents.{has};
+ghost use Rattle.bptree_keys.specs.declared.node_id.NodeId.TheVariants as kind;
+ghost use Rattle.bptree_nodes.specs.Inner.{Inner};
+ghost use Rattle.bptree_nodes.specs.Leaf.{Leaf};
+ghost use Rattle.bptree_nodes.specs.Slot.{Slots, Present, IsPresent, UpdatesLeaf};
+ghost use Rattle.bptree_shape.specs.ByArgument.{IsWithdrawn};
+ghost use Rattle.bptree_insertion.specs.Climb.{Climbs, Risen};
+ghost use Rattle.bptree_removal.specs.Help.{Helped, Helps, child_size, AllInner, AllLeaves};
+ghost use Rattle.bptree_insertion.specs.LeafChange.{SumsUpLeaf};
+ghost use Rattle.bptree_shape.specs.Shape.{leaf_pairs, inner_keys, inner_children, pairs_at, IsWellShaped};
+ghost use Rattle.bptree_insertion.specs.Sums.{PlaceAt};
+ghost use Rattle.bptree_removal.specs.Trim.{ClimbsShort, Sunk, ShortLeaf, Trims, IsThere, Leaves, IsLoose, IsRemoved};
+
+use crate::mending::{
+    join_inners_at, join_leaves_at, lend_inners_at, lend_leaves_at, part_inners_at, part_leaves_at,
+    unlend_inners_at, unlend_leaves_at,
+};
+use crate::sharing::Lender;
+use crate::statistics::Statistic;
+use bptree_arguments::argument::{Argument, SearchArgument};
+use bptree_insertion::ascent::ascend;
+use bptree_insertion::insertion::mend;
+use bptree_keys::entry_ref::VisitStack;
+use bptree_keys::node_id::{InnerNodeId, LeafNodeId, NodeId};
+use bptree_nodes::inner_node::INNER_MINIMUM;
+use bptree_nodes::leaf_node::LEAF_MINIMUM;
+use bptree_shape::by_argument::find_path_by_argument;
+use bptree_shape::descent::find_path;
+use bptree_stores::node_stores::NodeStore;
+use std::alloc::AllocError;
+
+/// A value, or a pair, that left a tree, with the root, the height, and a summary of all keys.
+#[derive(Drop)]
+pub struct Removed<V, A> {
+    pub value: V,
+    pub root: NodeId,
+    pub height: usize,
+    pub summary: A,
+}
+
+// The slot of the separator between a short child and the neighbour that helps it, and which of the two lends, where one
+// can. `lent` is whether the neighbour before it lends, and `after` how many the one behind it has, or 0 where none stands.
+fn helper(place: usize, lent: bool, after: usize) -> (usize, Option<Lender>)
+    requires { IsTrue lent → 0 < place }
+    ensures { Helped place lent after result.0 result.1 }
+{
+    if lent {
+        return (place - 1, Some(Lender::Left));
+    }
+    if after > LEAF_MINIMUM {
+        return (place, Some(Lender::Right));
+    }
+    if place > 0 {
+        return (place - 1, None);
+    }
+    (0, None)
+}
+
+// How many pairs the leaf at a place has, where one stands there.
+fn leaf_len<S: NodeStore>(store: &S, id: InnerNodeId, place: usize) -> usize
+    requires present { IsPresent ((S.slots store.now).inner id.0) }
+    requires children { AllLeaves (S.slots store.now) (inner_children ((S.slots store.now).inner id.0)) }
+    requires long { length (inner_children ((S.slots store.now).inner id.0)) ≡ length (inner_keys ((S.slots store.now).inner id.0)) + 1 }
+    ensures { result ≡ child_size (S.slots store.now) (inner_children ((S.slots store.now).inner id.0)) place }
+{
+    let node = store.get_inner(id);
+    if place > node.len() {
+        return 0;
+    }
+    match node.child_id(place) {
+        NodeId::Leaf(leaf) => store.get_leaf(leaf).len(),
+        NodeId::Inner(_) => 0,
+    }
+}
+
+// How many keys the inner node at a place has, where one stands there.
+fn inner_len<S: NodeStore>(store: &S, id: InnerNodeId, place: usize) -> usize
+    requires present { IsPresent ((S.slots store.now).inner id.0) }
+    requires children { AllInner (S.slots store.now) (inner_children ((S.slots store.now).inner id.0)) }
+    requires long { length (inner_children ((S.slots store.now).inner id.0)) ≡ length (inner_keys ((S.slots store.now).inner id.0)) + 1 }
+    ensures { result ≡ child_size (S.slots store.now) (inner_children ((S.slots store.now).inner id.0)) place }
+{
+    let node = store.get_inner(id);
+    if place > node.len() {
+        return 0;
+    }
+    match node.child_id(place) {
+        NodeId::Inner(inner) => store.get_inner(inner).len(),
+        NodeId::Leaf(_) => 0,
+    }
+}
+
+fn leaf_helper<S: NodeStore>(store: &S, id: InnerNodeId, place: usize) -> (usize, Option<Lender>)
+    requires present { IsPresent ((S.slots store.now).inner id.0) }
+    requires children { AllLeaves (S.slots store.now) (inner_children ((S.slots store.now).inner id.0)) }
+    requires long { length (inner_children ((S.slots store.now).inner id.0)) ≡ length (inner_keys ((S.slots store.now).inner id.0)) + 1 }
+    requires place { place < length (inner_children ((S.slots store.now).inner id.0)) }
+    requires fits { length (inner_children ((S.slots store.now).inner id.0)) ≤ 65 }
+    ensures { Helps (child_size (S.slots store.now) (inner_children ((S.slots store.now).inner id.0))) place result.0 result.1 }
+{
+    let after = leaf_len(store, id, place + 1);
+    if place == 0 {
+        return helper(place, false, after);
+    }
+    let before = leaf_len(store, id, place - 1);
+    helper(place, before > LEAF_MINIMUM && before > after, after)
+}
+
+fn inner_helper<S: NodeStore>(store: &S, id: InnerNodeId, place: usize) -> (usize, Option<Lender>)
+    requires present { IsPresent ((S.slots store.now).inner id.0) }
+    requires children { AllInner (S.slots store.now) (inner_children ((S.slots store.now).inner id.0)) }
+    requires long { length (inner_children ((S.slots store.now).inner id.0)) ≡ length (inner_keys ((S.slots store.now).inner id.0)) + 1 }
+    requires place { place < length (inner_children ((S.slots store.now).inner id.0)) }
+    requires fits { length (inner_children ((S.slots store.now).inner id.0)) ≤ 65 }
+    ensures { Helps (child_size (S.slots store.now) (inner_children ((S.slots store.now).inner id.0))) place result.0 result.1 }
+{
+    let after = inner_len(store, id, place + 1);
+    if place == 0 {
+        return helper(place, false, after);
+    }
+    let before = inner_len(store, id, place - 1);
+    helper(place, before > INNER_MINIMUM, after)
+}
+
+// Carries a node's new summary up the path above it.
+fn rise<S: NodeStore>(
+    store: &mut S,
+    path: &mut VisitStack,
+    summary: S::Argument,
+) -> Result<S::Argument, AllocError>
+    requires { Climbs S.K.cmp S.Argument.is_summary (S.slots store.old) path.old summary }
+    ensures rises { (c : Climbs S.K.cmp S.Argument.is_summary (S.slots store.old) path.old summary) → IfOk result (λ top. Risen c.climb (S.slots store.new) top) }
+    ensures refused { OnErr result (S.slots store.new ≡ S.slots store.old) }
+{
+    match ascend(store, path, summary) {
+        Ok(top) => Ok(top),
+        Err(_) => Err(AllocError),
+    }
+}
+
+// Carries a node's new summary up the path above it, where the node may be short of one key: then a neighbour lends it a
+// child, or the two become one, and the node above may be short in turn. It answers a summary of all keys.
+pub fn ascend_short<S: NodeStore>(
+    store: &mut S,
+    path: &mut VisitStack,
+    id: InnerNodeId,
+    summary: S::Argument,
+    statistic: &mut Statistic,
+) -> Result<S::Argument, AllocError>
+    requires { ClimbsShort S.K.cmp S.Argument.is_summary (S.slots store.old) path.old id summary }
+    ensures rises { (c : ClimbsShort S.K.cmp S.Argument.is_summary (S.slots store.old) path.old id summary) → IfOk result (λ top. Sunk c.climb (S.slots store.new) top) }
+    ensures refused { OnErr result (S.slots store.new ≡ S.slots store.old) }
+{
+    if store.get_inner(id).len() >= INNER_MINIMUM {
+        return rise(store, path, summary);
+    }
+    let Some((parent, place, _)) = path.pop() else {
+        return Ok(summary);
+    };
+    let (slot, lender) = inner_helper(store, parent, place);
+    let (left, right) = inners_at(store, parent, slot);
+    match lender {
+        Some(lender) => {
+            let (above, sides) = lend_inners_at(store, parent, slot, lender, left, right)?;
+            match rise(store, path, above) {
+                Ok(top) => {
+                    statistic.count_inner(Some(lender), false);
+                    Ok(top)
+                }
+                Err(_) => {
+                    unlend_inners_at(store, parent, slot, lender, sides, left, right);
+                    Err(AllocError)
+                }
+            }
+        }
+        None => {
+            let kept = store.get_inner(left).len();
+            let (above, sides, emptied) = join_inners_at(store, parent, slot, left, right)?;
+            match ascend_short(store, path, parent, above, statistic) {
+                Ok(top) => {
+                    store.release_inner(right);
+                    statistic.count_inner(None, slot < place);
+                    Ok(top)
+                }
+                Err(refusal) => {
+                    part_inners_at(store, parent, slot, sides, left, kept, right, emptied);
+                    Err(refusal)
+                }
+            }
+        }
+    }
+}
+
+// The inner node at a place of a node.
+fn inner_at<S: NodeStore>(store: &S, id: InnerNodeId, place: usize) -> InnerNodeId
+    requires present { IsPresent ((S.slots store.now).inner id.0) }
+    requires children { AllInner (S.slots store.now) (inner_children ((S.slots store.now).inner id.0)) }
+    requires place { place < length (inner_children ((S.slots store.now).inner id.0)) }
+    ensures { slice_get (inner_children ((S.slots store.now).inner id.0)) place ≡ Some (kind.Inner result) }
+{
+    match store.get_inner(id).child_id(place) {
+        NodeId::Inner(child) => child,
+        NodeId::Leaf(_) => unreachable!(),
+    }
+}
+
+// The two inner nodes on both sides of a separator.
+fn inners_at<S: NodeStore>(store: &S, id: InnerNodeId, slot: usize) -> (InnerNodeId, InnerNodeId)
+    requires present { IsPresent ((S.slots store.now).inner id.0) }
+    requires children { AllInner (S.slots store.now) (inner_children ((S.slots store.now).inner id.0)) }
+    requires fits { length (inner_children ((S.slots store.now).inner id.0)) ≤ 65 }
+    requires slot { slot + 1 < length (inner_children ((S.slots store.now).inner id.0)) }
+    ensures left { slice_get (inner_children ((S.slots store.now).inner id.0)) slot ≡ Some (kind.Inner result.0) }
+    ensures right { slice_get (inner_children ((S.slots store.now).inner id.0)) (slot + 1) ≡ Some (kind.Inner result.1) }
+{
+    (inner_at(store, id, slot), inner_at(store, id, slot + 1))
+}
+
+// The leaf at a place of a node.
+fn leaf_at<S: NodeStore>(store: &S, id: InnerNodeId, place: usize) -> LeafNodeId
+    requires present { IsPresent ((S.slots store.now).inner id.0) }
+    requires children { AllLeaves (S.slots store.now) (inner_children ((S.slots store.now).inner id.0)) }
+    requires place { place < length (inner_children ((S.slots store.now).inner id.0)) }
+    ensures { slice_get (inner_children ((S.slots store.now).inner id.0)) place ≡ Some (kind.Leaf result) }
+{
+    match store.get_inner(id).child_id(place) {
+        NodeId::Leaf(child) => child,
+        NodeId::Inner(_) => unreachable!(),
+    }
+}
+
+// The two leaves on both sides of a separator.
+fn leaves_at<S: NodeStore>(store: &S, id: InnerNodeId, slot: usize) -> (LeafNodeId, LeafNodeId)
+    requires present { IsPresent ((S.slots store.now).inner id.0) }
+    requires children { AllLeaves (S.slots store.now) (inner_children ((S.slots store.now).inner id.0)) }
+    requires fits { length (inner_children ((S.slots store.now).inner id.0)) ≤ 65 }
+    requires slot { slot + 1 < length (inner_children ((S.slots store.now).inner id.0)) }
+    ensures left { slice_get (inner_children ((S.slots store.now).inner id.0)) slot ≡ Some (kind.Leaf result.0) }
+    ensures right { slice_get (inner_children ((S.slots store.now).inner id.0)) (slot + 1) ≡ Some (kind.Leaf result.1) }
+{
+    (leaf_at(store, id, slot), leaf_at(store, id, slot + 1))
+}
+
+// Mends a leaf that is short of one pair, at a place of a node: a neighbour lends it one, or the two become one. It answers
+// a summary of all keys.
+fn mend_leaf<S: NodeStore>(
+    store: &mut S,
+    path: &mut VisitStack,
+    id: InnerNodeId,
+    place: usize,
+    statistic: &mut Statistic,
+) -> Result<S::Argument, AllocError>
+    requires { ShortLeaf S.K.cmp S.Argument.is_summary (S.slots store.old) path.old id place }
+    ensures trims { (c : ShortLeaf S.K.cmp S.Argument.is_summary (S.slots store.old) path.old id place) → IfOk result (λ top. Trims c.climb (S.slots store.new) top) }
+    ensures refused { OnErr result (S.slots store.new ≡ S.slots store.old) }
+{
+    let (slot, lender) = leaf_helper(store, id, place);
+    let (left, right) = leaves_at(store, id, slot);
+    match lender {
+        Some(lender) => {
+            let (above, joint) = lend_leaves_at(store, id, slot, lender, left, right)?;
+            match ascend(store, path, above) {
+                Ok(top) => {
+                    statistic.count_leaf(Some(lender), false);
+                    Ok(top)
+                }
+                Err(_) => {
+                    unlend_leaves_at(store, id, slot, lender, joint, left, right);
+                    Err(AllocError)
+                }
+            }
+        }
+        None => {
+            let kept = store.get_leaf(left).len();
+            let next = store.get_leaf(right).next();
+            let (above, joint, emptied) = join_leaves_at(store, id, slot, left, right)?;
+            match ascend_short(store, path, id, above, statistic) {
+                Ok(top) => {
+                    store.release_leaf(right);
+                    mend(store, left, next);
+                    statistic.count_leaf(None, slot < place);
+                    Ok(top)
+                }
+                Err(refusal) => {
+                    part_leaves_at(store, id, slot, joint, left, kept, right, emptied);
+                    Err(refusal)
+                }
+            }
+        }
+    }
+}
+
+// Takes the pair at a slot out of a leaf, with no summary.
+fn take_pair<S: NodeStore>(store: &mut S, id: LeafNodeId, slot: usize) -> (S::K, S::V)
+    requires present { IsPresent ((S.slots store.old).leaf id.0) }
+    requires slot { slot < length (leaf_pairs ((S.slots store.old).leaf id.0)) }
+    ensures takes { (was : Leaf S.K S.V) → (S.slots store.old).leaf id.0 ≡ Present was → UpdatesLeaf (S.slots store.old) (S.slots store.new) id.0 (Present (record was { pairs = remove was.pairs slot })) }
+    ensures pair { slice_get (leaf_pairs ((S.slots store.old).leaf id.0)) slot ≡ Some result }
+{
+    let mut leaf = store.take_leaf(id);
+    let pair = leaf.delete_at(slot);
+    store.assign_leaf(id, leaf);
+    pair
+}
+
+// Undoes what `take_pair` did.
+fn put_pair<S: NodeStore>(store: &mut S, id: LeafNodeId, slot: usize, pair: (S::K, S::V))
+    requires present { IsPresent ((S.slots store.old).leaf id.0) }
+    requires slot { slot ≤ length (leaf_pairs ((S.slots store.old).leaf id.0)) }
+    requires room { length (leaf_pairs ((S.slots store.old).leaf id.0)) < 64 }
+    ensures { (was : Slots (Inner S.K S.Argument) (Leaf S.K S.V)) (node : Leaf S.K S.V) → was.leaf id.0 ≡ Present node → slice_get node.pairs slot ≡ Some pair → UpdatesLeaf was (S.slots store.old) id.0 (Present (record node { pairs = remove node.pairs slot })) → S.slots store.new ≡ was }
+{
+    let (key, value) = pair;
+    let mut leaf = store.take_leaf(id);
+    leaf.insert_at(slot, key, value);
+    store.assign_leaf(id, leaf);
+}
+
+// A summary of a leaf's keys; of no keys what `Default` makes.
+fn sum_of<S: NodeStore>(store: &S, id: LeafNodeId) -> Result<S::Argument, AllocError>
+    requires { IsPresent ((S.slots store.now).leaf id.0) }
+    ensures some { IfOk result (SumsUpLeaf S.K.cmp S.Argument.is_summary (leaf_pairs ((S.slots store.now).leaf id.0))) }
+    ensures none { leaf_pairs ((S.slots store.now).leaf id.0) ≡ [] → IfOk result (λ a. S.Argument.is_summary a []) }
+{
+    let leaf = store.get_leaf(id);
+    if leaf.len() == 0 {
+        return Ok(S::Argument::default());
+    }
+    S::Argument::from_leaf(leaf.keys())
+}
+
+// Takes the pair at a slot out of the leaf at the end of a path, which stays where it is. It answers the pair and a summary
+// of all keys.
+fn take_in_place<S: NodeStore>(
+    store: &mut S,
+    path: &mut VisitStack,
+    leaf: LeafNodeId,
+    slot: usize,
+) -> Result<((S::K, S::V), S::Argument), AllocError>
+    requires there { (k : S.K) × IsThere S.K.cmp S.Argument.is_summary (S.slots store.old) path.old leaf slot k }
+    requires spare { 0 < length path.old → 16 < length (leaf_pairs ((S.slots store.old).leaf leaf.0)) }
+    ensures leaves { (k : S.K) (there : IsThere S.K.cmp S.Argument.is_summary (S.slots store.old) path.old leaf slot k) → IfOk result (λ done. Leaves S.K.cmp S.Argument.is_summary (S.slots store.old) (S.slots store.new) there.top there.root leaf slot k done.0 done.1) }
+    ensures refused { OnErr result (S.slots store.new ≡ S.slots store.old) }
+{
+    let pair = take_pair(store, leaf, slot);
+    let Ok(summary) = sum_of(store, leaf) else {
+        put_pair(store, leaf, slot, pair);
+        return Err(AllocError);
+    };
+    match ascend(store, path, summary) {
+        Ok(top) => Ok((pair, top)),
+        Err(_) => {
+            put_pair(store, leaf, slot, pair);
+            Err(AllocError)
+        }
+    }
+}
+
+/// Takes the pair at a slot out of the leaf at the end of a path. It answers the pair and a summary of all keys.
+pub fn take_out<S: NodeStore>(
+    store: &mut S,
+    path: &mut VisitStack,
+    leaf: LeafNodeId,
+    slot: usize,
+    statistic: &mut Statistic,
+) -> Result<((S::K, S::V), S::Argument), AllocError>
+    requires { (k : S.K) × IsThere S.K.cmp S.Argument.is_summary (S.slots store.old) path.old leaf slot k }
+    ensures leaves { (k : S.K) (there : IsThere S.K.cmp S.Argument.is_summary (S.slots store.old) path.old leaf slot k) → IfOk result (λ done. Leaves S.K.cmp S.Argument.is_summary (S.slots store.old) (S.slots store.new) there.top there.root leaf slot k done.0 done.1) }
+    ensures refused { OnErr result (S.slots store.new ≡ S.slots store.old) }
+{
+    if store.get_leaf(leaf).able_to_lend() {
+        return take_in_place(store, path, leaf, slot);
+    }
+    let Some((id, place, _)) = path.pop() else {
+        return take_in_place(store, path, leaf, slot);
+    };
+    let pair = take_pair(store, leaf, slot);
+    match mend_leaf(store, path, id, place, statistic) {
+        Ok(top) => Ok((pair, top)),
+        Err(refusal) => {
+            put_pair(store, leaf, slot, pair);
+            Err(refusal)
+        }
+    }
+}
+
+// A root without a key gives way to its only child. It takes no memory.
+fn settle<S: NodeStore>(store: &mut S, root: NodeId, height: usize) -> (NodeId, usize)
+    requires { IsLoose S.K.cmp S.Argument.is_summary (S.slots store.old) height root }
+    ensures shape { IsWellShaped S.K.cmp S.Argument.is_summary (S.slots store.new) result.1 result.0 }
+    ensures pairs { pairs_at (S.slots store.new) result.1 result.0 ≡ pairs_at (S.slots store.old) height root }
+{
+    let NodeId::Inner(id) = root else {
+        return (root, height);
+    };
+    let node = store.get_inner(id);
+    if node.len() > 0 {
+        return (root, height);
+    }
+    let child = node.child_id(0);
+    store.take_inner(id);
+    store.release_inner(id);
+    (child, height - 1)
+}
+
+/// Removes the pair with a key equal to `k` from a whole tree, where there is one. It takes no memory where there is none;
+/// a refusal changes no slot.
+pub fn remove<S: NodeStore>(
+    store: &mut S,
+    root: NodeId,
+    height: usize,
+    k: &S::K,
+    statistic: &mut Statistic,
+) -> Result<Option<Removed<S::V, S::Argument>>, AllocError>
+    requires shape { IsWellShaped S.K.cmp S.Argument.is_summary (S.slots store.old) height root }
+    requires few { length (pairs_at (S.slots store.old) height root) < 2 ^ 64 }
+    ensures removed { IfOk result (λ gone. MatchOption gone ((S.slots store.new ≡ S.slots store.old) × (has S.K.cmp (pairs_at (S.slots store.old) height root) k.now ≡ false)) (λ r. IsRemoved S.K.cmp S.Argument.is_summary (S.slots store.old) (S.slots store.new) height root k.now r.value r.root r.height r.summary)) }
+    ensures absent { has S.K.cmp (pairs_at (S.slots store.old) height root) k.now ≡ false → result ≡ Ok None }
+    ensures refused { OnErr result (S.slots store.new ≡ S.slots store.old) }
+{
+    let mut path = VisitStack::new();
+    let leaf = find_path(store, root, height, k, &mut path);
+    let found = store.get_leaf(leaf).locate_slot(k);
+    match found {
+        Ok(slot) => {
+            let (pair, summary) = take_out(store, &mut path, leaf, slot, statistic)?;
+            let (_, value) = pair;
+            let (root, height) = settle(store, root, height);
+            Ok(Some(Removed {
+                value,
+                root,
+                height,
+                summary,
+            }))
+        }
+        Err(_) => Ok(None),
+    }
+}
+
+/// Removes the pair at a place that is allowed for the query from a whole tree, where one is found; a refusal changes no
+/// slot.
+pub fn remove_by_argument<S: NodeStore>(
+    store: &mut S,
+    root: NodeId,
+    height: usize,
+    query: <S::Argument as SearchArgument<S::K>>::Query,
+    statistic: &mut Statistic,
+) -> Result<Option<Removed<(S::K, S::V), S::Argument>>, AllocError>
+where
+    S::Argument: SearchArgument<S::K>,
+    requires shape { IsWellShaped S.K.cmp S.Argument.is_summary (S.slots store.old) height root }
+    requires few { length (pairs_at (S.slots store.old) height root) < 2 ^ 64 }
+    ensures removed { IfOk result (λ gone. MatchOption gone ((S.slots store.new ≡ S.slots store.old) × S.Argument.selects query (keys_of (pairs_at (S.slots store.old) height root)) None) (λ r. IsWithdrawn S.Argument.selects query S.K.cmp S.Argument.is_summary (S.slots store.old) (S.slots store.new) height root r.value r.root r.height r.summary)) }
+    ensures refused { OnErr result (S.slots store.new ≡ S.slots store.old) }
+{
+    let mut path = VisitStack::new();
+    match find_path_by_argument(store, root, height, query, &mut path)? {
+        None => Ok(None),
+        Some((leaf, slot)) => {
+            let (value, summary) = take_out(store, &mut path, leaf, slot, statistic)?;
+            let (root, height) = settle(store, root, height);
+            Ok(Some(Removed {
+                value,
+                root,
+                height,
+                summary,
+            }))
+        }
+    }
+}

@@ -1,0 +1,15 @@
+pub mod Agreeing
+pub mod Down
+pub mod Ends
+pub mod Frame
+pub mod Hinted
+pub mod ListReads
+pub mod NodePieces
+pub mod Ordered
+pub mod Selected
+pub mod Slots
+pub mod Spot
+pub mod Summed
+pub mod Walk
+pub mod Ways
+pub mod Widen

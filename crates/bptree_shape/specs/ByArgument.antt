@@ -1,0 +1,64 @@
+-- What reads by summaries ask of a tree, and what they answer.
+use Rattle.std.specs.Prelude.{◌≡◌, ℕ, ◌+◌, ◌<◌, ◌^◌, List, ◌++◌, length, Option, Some, None, Result, MatchResult, slice_get, remove}
+use Rattle.std.specs.declared.cmp.Ordering.{Ordering}
+use Rattle.std.specs.List.Sorted.{IsStrictlySortedBy}
+use Rattle.std.specs.Map.{keys_of}
+use Rattle.std.specs.Option.{option_and_then}
+use Rattle.bptree_arguments.specs.Ranks.{AllAbove, AllBelow}
+use Rattle.bptree_arguments.specs.Selection.{IsPlaceIn}
+use Rattle.bptree_nodes.specs.Inner.{Inner}
+use Rattle.bptree_nodes.specs.Leaf.{Leaf}
+use Rattle.bptree_nodes.specs.Slot.{Slots}
+use Rattle.bptree_keys.specs.declared.node_id.InnerNodeId.{InnerNodeId}
+use Rattle.bptree_keys.specs.declared.node_id.LeafNodeId.{LeafNodeId}
+use Rattle.bptree_keys.specs.declared.node_id.NodeId.{NodeId}
+use Rattle.bptree_keys.specs.declared.node_id.NodeId.TheVariants as kind
+use Rattle.bptree_shape.specs.Leaves.{pairs_of, StandsIn, Stands}
+use Rattle.bptree_shape.specs.Path.{Way}
+use Rattle.bptree_shape.specs.Shape.{leaf_pairs, pairs_at, IsSummed, IsWellShaped}
+
+-- a tree below a number, with its summaries
+pub record IsSubtree {K V A : Type 0} (cmp : K → K → Ordering) (is_summary : A → List K → Type 0) (slots : Slots (Inner K A) (Leaf K V)) (height : ℕ) (id : NodeId) : Type 0 where
+  pub stands : Stands cmp slots height id
+  pub summed : IsSummed slots is_summary height id
+  pub fits : length (pairs_at slots height id) < 2 ^ 64
+
+-- the list without the member at a place, where one is named
+abbrev pub without_place : {X : Type 0} → List X → Option ℕ → List X
+without_place xs None = xs
+without_place xs (Some i) = remove xs i
+
+module _ {Q K V : Type 0} (selects : Q → List K → Option ℕ → Type 0) (query : Q) where
+  -- the pair at some allowed place, or none where none is allowed
+  abbrev pub IsSelected : List (K × V) → Option (K × V) → Type 0
+  IsSelected pairs answer = (place : Option ℕ) × IsPlaceIn pairs place × selects query (keys_of pairs) place × (answer ≡ option_and_then (λ i. slice_get pairs i) place)
+
+  -- the leaf and the slot of some allowed place of a tree, or none where none is allowed
+  abbrev pub IsSelectedAt : {A : Type 0} → Slots (Inner K A) (Leaf K V) → ℕ → NodeId → Option (LeafNodeId × ℕ) → Type 0
+  IsSelectedAt slots height id None = selects query (keys_of (pairs_at slots height id)) None
+  IsSelectedAt slots height id (Some at) = (stands : StandsIn slots height id at.0) × (at.1 < length (leaf_pairs (slots.leaf at.0.0))) × selects query (keys_of (pairs_at slots height id)) (Some (length (pairs_of slots stands.before) + at.1))
+
+  -- the pair at some allowed place left the list, or none where none is allowed
+  abbrev pub IsTaken : List (K × V) → List (K × V) → Option (K × V) → Type 0
+  IsTaken old new answer = (place : Option ℕ) × IsPlaceIn old place × selects query (keys_of old) place × (answer ≡ option_and_then (λ i. slice_get old i) place) × (new ≡ without_place old place)
+
+  -- the pair at some allowed place left a whole tree, and the tree that a root and a height then name is well shaped
+  pub record IsWithdrawn {A : Type 0} (cmp : K → K → Ordering) (is_summary : A → List K → Type 0) (old new : Slots (Inner K A) (Leaf K V)) (height : ℕ) (root : NodeId) (pair : K × V) (top : NodeId) (top_height : ℕ) (a : A) : Type 0 where
+    pub place : ℕ
+    pub was : slice_get (pairs_at old height root) place ≡ Some pair
+    pub selected : selects query (keys_of (pairs_at old height root)) (Some place)
+    pub shape : IsWellShaped cmp is_summary new top_height top
+    pub pairs : pairs_at new top_height top ≡ remove (pairs_at old height root) place
+    pub told : is_summary a (keys_of (pairs_at new top_height top))
+
+-- a search for the key that was found, come to a node by a path, goes on from there to the key's leaf by a longer one
+abbrev pub GoesOn : {K V A : Type 0} → (K → K → Ordering) → Slots (Inner K A) (Leaf K V) → ℕ → NodeId → List (InnerNodeId × ℕ × NodeId) → List (InnerNodeId × ℕ × NodeId) → Option (LeafNodeId × ℕ) → Type 0
+GoesOn cmp slots height id path longer None = Unit {0}
+GoesOn {K} {V} cmp slots height id path longer (Some at) =
+    (pair : K × V) → slice_get (leaf_pairs (slots.leaf at.0.0)) at.1 ≡ Some pair → (top : ℕ) (root : NodeId) → Way cmp slots pair.0 top root path height id → Way cmp slots pair.0 top root longer 0 (kind.Leaf at.0)
+
+-- with any smaller keys before these, for which the rank stands, and any greater keys behind, the answer ranks k
+abbrev pub RanksAmong : {R K : Type 0} → (K → K → Ordering) → (R → K → List K → Type 0) → (K → List K → R → Type 0) → K → R → List K → Result R R → Type 0
+RanksAmong {K = K} cmp stands_for ranks k rank keys answer =
+    (before after : List K) → IsStrictlySortedBy cmp (before ++ (keys ++ after)) → AllBelow cmp k before → AllAbove cmp k after → length (before ++ (keys ++ after)) < 2 ^ 64 → stands_for rank k before
+    → MatchResult answer (ranks k (before ++ (keys ++ after))) (ranks k (before ++ (keys ++ after)))

@@ -1,0 +1,47 @@
+-- Where a leaf stands in the order of a tree's leaves.
+use Rattle.std.specs.Prelude.{◌≡◌, ℕ, List, [], ◌∷◌, ◌++◌, Option}
+use Rattle.std.specs.declared.cmp.Ordering.{Ordering}
+use Rattle.std.specs.declared.cmp.Ordering.TheVariants.{Less, Greater}
+use Rattle.bptree_nodes.specs.Inner.{Inner}
+use Rattle.bptree_nodes.specs.Leaf.{Leaf}
+use Rattle.bptree_keys.specs.Places.{AllAnswer}
+use Rattle.bptree_nodes.specs.Slot.{Slots, IsPresent}
+use Rattle.bptree_keys.specs.declared.node_id.LeafNodeId.{LeafNodeId}
+use Rattle.bptree_keys.specs.declared.node_id.NodeId.{NodeId}
+use Rattle.bptree_shape.specs.Order.{flat}
+use Rattle.bptree_shape.specs.Shape.{leaf_pairs, leaves_at, IsTree}
+
+module _ {K V A : Type 0} (slots : Slots (Inner K A) (Leaf K V)) where
+  -- the pairs of leaves, one after another
+  abbrev pub pairs_of : List LeafNodeId → List (K × V)
+  pairs_of ids = flat (λ (id : LeafNodeId). leaf_pairs (slots.leaf id.0)) ids
+
+  -- the leaf is one of the tree's, behind some and before others
+  pub record StandsIn (h : ℕ) (root : NodeId) (leaf : LeafNodeId) : Type 0 where
+    pub before : List LeafNodeId
+    pub after : List LeafNodeId
+    pub leaves : leaves_at slots h root ≡ before ++ leaf ∷ after
+    pub present : IsPresent (slots.leaf leaf.0)
+
+  -- no leaf stands before it, or after it
+  pub record IsFirstLeaf (h : ℕ) (root : NodeId) (leaf : LeafNodeId) : Type 0 where
+    pub stands : StandsIn h root leaf
+    pub first : stands.before ≡ []
+
+  pub record IsLastLeaf (h : ℕ) (root : NodeId) (leaf : LeafNodeId) : Type 0 where
+    pub stands : StandsIn h root leaf
+    pub last : stands.after ≡ []
+
+module _ {K V A : Type 0} (cmp : K → K → Ordering) (slots : Slots (Inner K A) (Leaf K V)) where
+  -- a tree with its keys between some bounds
+  pub record Stands (h : ℕ) (root : NodeId) : Type 0 where
+    pub least : ℕ
+    pub low : Option K
+    pub high : Option K
+    pub tree : IsTree cmp slots least h root low high
+
+  -- the leaf is the only one that can hold the key
+  pub record IsLeafFor (h : ℕ) (root : NodeId) (k : K) (leaf : LeafNodeId) : Type 0 where
+    pub stands : StandsIn slots h root leaf
+    pub smaller : AllAnswer cmp k Less (pairs_of slots stands.before)
+    pub greater : AllAnswer cmp k Greater (pairs_of slots stands.after)

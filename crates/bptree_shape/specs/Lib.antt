@@ -1,0 +1,7 @@
+pub mod ByArgument
+pub mod Edit
+pub mod Leaves
+pub mod Order
+pub mod Outcome
+pub mod Path
+pub mod Shape

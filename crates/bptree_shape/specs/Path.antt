@@ -1,0 +1,19 @@
+-- The way that a search for a key takes down a tree.
+use Rattle.std.specs.Prelude.{◌≡◌, ℕ, zero, suc, List, [], ◌∷◌, Some, slice_get}
+use Rattle.std.specs.declared.cmp.Ordering.{Ordering}
+use Rattle.bptree_nodes.specs.Inner.{Inner}
+use Rattle.bptree_nodes.specs.Leaf.{Leaf}
+use Rattle.bptree_nodes.specs.Slot.{Slots, Present}
+use Rattle.bptree_keys.specs.declared.node_id.InnerNodeId.{InnerNodeId}
+use Rattle.bptree_keys.specs.declared.node_id.NodeId.{NodeId}
+use Rattle.bptree_keys.specs.declared.node_id.NodeId.TheVariants as kind
+use Rattle.bptree_shape.specs.Order.{Leads}
+
+module _ {K V A : Type 0} (cmp : K → K → Ordering) (slots : Slots (Inner K A) (Leaf K V)) (k : K) where
+  -- the search goes down from a root by the entries of a path, each an inner node with a place and the child there, and so far
+  -- has come to a node at a height
+  abbrev pub Way : ℕ → NodeId → List (InnerNodeId × ℕ × NodeId) → ℕ → NodeId → Type 0
+  Way top root [] h id = (top ≡ h) × (root ≡ id)
+  Way zero root (entry ∷ path) h id = ⊥
+  Way (suc m) root ((number, i, child) ∷ path) h id =
+      (root ≡ kind.Inner number) × (node : Inner K A) × (slots.inner number.0 ≡ Present node) × Leads cmp k node.keys i × (slice_get node.children i ≡ Some child) × Way m child path h id

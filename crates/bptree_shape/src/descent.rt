@@ -1,0 +1,79 @@
+//! Ways down a tree that stands in a store.
+ghost use Rattle.std.specs.Prelude.{◌≡◌, ◌+◌, ◌≤◌, ℕ, List, ◌∷◌, ◌++◌, [], length};
+ghost use Rattle.bptree_keys.specs.declared.node_id.LeafNodeId.{LeafNodeId};
+ghost use Rattle.bptree_shape.specs.Leaves.{Stands, IsLeafFor, IsFirstLeaf, IsLastLeaf};
+ghost use Rattle.bptree_keys.specs.declared.node_id.NodeId.{NodeId};
+ghost use Rattle.bptree_keys.specs.declared.node_id.NodeId.TheVariants as kind;
+ghost use Rattle.bptree_shape.specs.Path.{Way};
+ghost use Rattle.bptree_shape.specs.Shape.{leaves_at};
+
+use bptree_keys::entry_ref::VisitStack;
+use bptree_keys::node_id::{LeafNodeId, NodeId};
+use bptree_stores::node_stores::NodeStore;
+
+/// The leaf that a key belongs to, in the tree of a height under a number.
+pub fn find_leaf<S: NodeStore>(store: &S, id: NodeId, height: usize, key: &S::K) -> LeafNodeId
+    requires { Stands S.K.cmp (S.slots store.now) height id }
+    ensures { IsLeafFor S.K.cmp (S.slots store.now) height id key.now result }
+{
+    match id {
+        NodeId::Leaf(leaf) => leaf,
+        NodeId::Inner(inner) => {
+            let (_, child) = store.get_inner(inner).locate_child(key);
+            find_leaf(store, child, height - 1, key)
+        }
+    }
+}
+
+/// The leaf that a key belongs to, and at the end of a path the inner nodes on the way to it.
+pub fn find_path<S: NodeStore>(
+    store: &S,
+    id: NodeId,
+    height: usize,
+    key: &S::K,
+    path: &mut VisitStack,
+) -> LeafNodeId
+    requires stands { Stands S.K.cmp (S.slots store.now) height id }
+    requires room { length path.old + height ≤ 15 }
+    ensures leaf { IsLeafFor S.K.cmp (S.slots store.now) height id key.now result }
+    ensures way { (top : ℕ) (root : NodeId) → Way S.K.cmp (S.slots store.now) key.now top root path.old height id → Way S.K.cmp (S.slots store.now) key.now top root path.new 0 (kind.Leaf result) }
+{
+    match id {
+        NodeId::Leaf(leaf) => leaf,
+        NodeId::Inner(inner) => {
+            let (place, child) = store.get_inner(inner).locate_child(key);
+            path.push(inner, place, child);
+            find_path(store, child, height - 1, key, path)
+        }
+    }
+}
+
+/// The first leaf of the tree of a height under a number.
+pub fn first_leaf<S: NodeStore>(store: &S, id: NodeId, height: usize) -> LeafNodeId
+    requires { Stands S.K.cmp (S.slots store.now) height id }
+    ensures { IsFirstLeaf (S.slots store.now) height id result }
+{
+    match id {
+        NodeId::Leaf(leaf) => leaf,
+        NodeId::Inner(inner) => {
+            let node = store.get_inner(inner);
+            let child = node.child_id(0);
+            first_leaf(store, child, height - 1)
+        }
+    }
+}
+
+/// The last leaf of the tree of a height under a number.
+pub fn last_leaf<S: NodeStore>(store: &S, id: NodeId, height: usize) -> LeafNodeId
+    requires { Stands S.K.cmp (S.slots store.now) height id }
+    ensures { IsLastLeaf (S.slots store.now) height id result }
+{
+    match id {
+        NodeId::Leaf(leaf) => leaf,
+        NodeId::Inner(inner) => {
+            let node = store.get_inner(inner);
+            let child = node.child_id(node.len());
+            last_leaf(store, child, height - 1)
+        }
+    }
+}

@@ -1,0 +1,58 @@
+//! Reads of a tree that stands in a store.
+ghost use Rattle.std.specs.Prelude.{◌≡◌, ◌-◌, Some, length, slice_get};
+ghost use Rattle.std.specs.Option.{option_copied, option_map};
+ghost use Rattle.bptree_keys.specs.Contents.{value};
+ghost use Rattle.bptree_shape.specs.Leaves.{Stands, IsLeafFor};
+ghost use Rattle.bptree_shape.specs.Shape.{pairs_at, IsWellShaped};
+
+use crate::descent::{find_leaf, first_leaf, last_leaf};
+use bptree_keys::node_id::{LeafNodeId, NodeId};
+use bptree_stores::node_stores::NodeStore;
+
+/// The leaf that a key belongs to: the remembered one where it is that, else it is searched for from the root.
+///
+/// The leaf is then remembered.
+pub fn leaf_for<S: NodeStore>(store: &S, root: NodeId, height: usize, key: &S::K) -> LeafNodeId
+    requires { IsWellShaped S.K.cmp S.Argument.is_summary (S.slots store.now) height root }
+    ensures { IsLeafFor S.K.cmp (S.slots store.now) height root key.now result }
+{
+    if let Some(leaf) = store.try_cache(key) {
+        return leaf;
+    }
+    let leaf = find_leaf(store, root, height, key);
+    store.cache_leaf(leaf);
+    leaf
+}
+
+/// The value at a key.
+pub fn get<'a, S: NodeStore>(
+    store: &'a S,
+    root: NodeId,
+    height: usize,
+    key: &S::K,
+) -> Option<&'a S::V>
+    requires { IsWellShaped S.K.cmp S.Argument.is_summary (S.slots store.now) height root }
+    ensures { option_copied result ≡ value S.K.cmp (pairs_at (S.slots store.now) height root) key.now }
+{
+    let leaf = leaf_for(store, root, height, key);
+    let (_, value) = store.get_leaf(leaf).locate_slot_with_value(key);
+    value
+}
+
+/// The pair with the least key.
+pub fn first<S: NodeStore>(store: &S, root: NodeId, height: usize) -> Option<(&S::K, &S::V)>
+    requires { IsWellShaped S.K.cmp S.Argument.is_summary (S.slots store.now) height root }
+    ensures { option_map (λ pair. (pair.0.now, pair.1.now)) result ≡ slice_get (pairs_at (S.slots store.now) height root) 0 }
+{
+    let leaf = first_leaf(store, root, height);
+    store.get_leaf(leaf).try_data_at(0)
+}
+
+/// The pair with the greatest key.
+pub fn last<S: NodeStore>(store: &S, root: NodeId, height: usize) -> Option<(&S::K, &S::V)>
+    requires { IsWellShaped S.K.cmp S.Argument.is_summary (S.slots store.now) height root }
+    ensures { option_map (λ pair. (pair.0.now, pair.1.now)) result ≡ slice_get (pairs_at (S.slots store.now) height root) (length (pairs_at (S.slots store.now) height root) - 1) }
+{
+    let leaf = store.get_leaf(last_leaf(store, root, height));
+    leaf.try_data_at(leaf.len().saturating_sub(1))
+}

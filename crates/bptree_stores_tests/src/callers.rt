@@ -1,0 +1,254 @@
+//! Callers that are proved, of any store: what each ensures follows from the contracts of the functions that it calls.
+ghost use Rattle.std.specs.Prelude.{◌≡◌, ◌≢◌, ◌<◌, ◌≤◌, ◌∷◌, [], ℕ, true, false, length, slice_set, IfOk, IfErr, IfSome, OnErr, IsSome};
+ghost use Rattle.bptree_nodes.specs.Clones.{IsInnerClone, IsLeafClone};
+ghost use Rattle.bptree_nodes.specs.Inner.{Inner};
+ghost use Rattle.bptree_nodes.specs.Leaf.{Leaf};
+ghost use Rattle.bptree_nodes.specs.Slot.{Free, Held, Present, IsPresent};
+ghost use Rattle.bptree_stores.specs.Clones.{IsSlotClone};
+ghost use Rattle.bptree_stores.specs.StoreVec.{HasRoomFor};
+
+use bptree_arguments::argument::Argument;
+use bptree_keys::key::Key;
+use bptree_keys::node_id::{InnerNodeId, LeafNodeId};
+use bptree_nodes::inner_node::InnerNode;
+use bptree_nodes::leaf_node::LeafNode;
+use bptree_stores::node_store_vec::NodeStoreVec;
+use bptree_stores::node_stores::{CloneStore, NodeStore};
+use std::alloc::{AllocError, Global};
+
+// A new store has nothing under any number, and says so.
+fn starts_empty<S: NodeStore>(alloc: Global) -> (S, bool)
+    ensures inner { (number : ℕ) → (S.slots result.0).inner number ≡ Free }
+    ensures leaves { (number : ℕ) → (S.slots result.0).leaf number ≡ Free }
+    ensures says { result.1 ≡ true }
+{
+    let store = S::empty(alloc);
+    let says = store.is_empty();
+    (store, says)
+}
+
+// So has one over vectors, which has the room that was asked for and any less.
+fn starts_with_room<K: Key, V: Drop, A: Argument<K>>(
+    alloc: Global,
+    few: usize,
+    many: usize,
+) -> Result<NodeStoreVec<K, V, A>, AllocError>
+    requires { few ≤ many }
+    ensures room { IfOk result (HasRoomFor few) }
+{
+    NodeStoreVec::with_capacity(alloc, many)
+}
+
+fn says_that_it_is_empty<K: Key, V: Drop, A: Argument<K>>(
+    alloc: Global,
+    capacity: usize,
+) -> Result<(bool, bool), AllocError>
+    ensures { IfOk result (λ says. says ≡ (true, true)) }
+{
+    let plain = NodeStoreVec::<K, V, A>::new(alloc);
+    let roomy = NodeStoreVec::<K, V, A>::with_capacity(alloc, capacity)?;
+    Ok((plain.is_empty(), roomy.is_empty()))
+}
+
+// A number of either kind that is held is enough for a store not to be empty.
+fn is_not_empty_with_a_held_number<S: NodeStore>(store: &mut S) -> Result<(bool, bool), AllocError>
+    ensures { IfOk result (λ says. says ≡ (false, false)) }
+{
+    let id = store.reserve_inner()?;
+    let inner = store.is_empty();
+    store.release_inner(id);
+    let _leaf = store.reserve_leaf()?;
+    Ok((inner, store.is_empty()))
+}
+
+// The greatest sizes of the nodes.
+fn knows_the_sizes<S: NodeStore>() -> (u16, u16)
+    ensures { result ≡ (64, 64) }
+{
+    (S::inner_n(), S::leaf_n())
+}
+
+// A new node stands under a number apart from one that is held, which stays held. A refusal hands the node back.
+fn adds_beside_a_held_number<S: NodeStore>(
+    store: &mut S,
+    node: Box<InnerNode<S::K, S::Argument>>,
+    held: InnerNodeId,
+) -> Result<InnerNodeId, Box<InnerNode<S::K, S::Argument>>>
+    requires { (S.slots store.old).inner held.0 ≡ Held }
+    ensures apart { IfOk result (λ id. id.0 ≢ held.0) }
+    ensures there { IfOk result (λ id. (S.slots store.new).inner id.0 ≡ Present node.value) }
+    ensures held { (S.slots store.new).inner held.0 ≡ Held }
+    ensures leaves { (S.slots store.new).leaf ≡ (S.slots store.old).leaf }
+    ensures back { IfErr result (λ back. back ≡ node) }
+{
+    store.add_inner(node)
+}
+
+// Two numbers that are held are two.
+fn holds_two_inner_nodes<S: NodeStore>(
+    store: &mut S,
+) -> Result<(InnerNodeId, InnerNodeId), AllocError>
+    ensures apart { IfOk result (λ ids. ids.0.0 ≢ ids.1.0) }
+    ensures held { IfOk result (λ ids. ((S.slots store.new).inner ids.0.0 ≡ Held) × ((S.slots store.new).inner ids.1.0 ≡ Held)) }
+{
+    let first = store.reserve_inner()?;
+    let second = store.reserve_inner()?;
+    Ok((first, second))
+}
+
+fn holds_two_leaves<S: NodeStore>(store: &mut S) -> Result<(LeafNodeId, LeafNodeId), AllocError>
+    ensures apart { IfOk result (λ ids. ids.0.0 ≢ ids.1.0) }
+    ensures held { IfOk result (λ ids. ((S.slots store.new).leaf ids.0.0 ≡ Held) × ((S.slots store.new).leaf ids.1.0 ≡ Held)) }
+{
+    let first = store.reserve_leaf()?;
+    let second = store.reserve_leaf()?;
+    Ok((first, second))
+}
+
+// A number that goes through all its states: the node comes back, the number is free as before, and so is all else.
+pub fn walks_an_inner_number<S: NodeStore>(
+    store: &mut S,
+    node: Box<InnerNode<S::K, S::Argument>>,
+) -> Result<(InnerNodeId, Box<InnerNode<S::K, S::Argument>>), AllocError>
+    ensures node { IfOk result (λ walked. walked.1.value ≡ node.value) }
+    ensures free { IfOk result (λ walked. ((S.slots store.old).inner walked.0.0 ≡ Free) × ((S.slots store.new).inner walked.0.0 ≡ Free)) }
+    ensures others { IfOk result (λ walked. (other : ℕ) → other ≢ walked.0.0 → (S.slots store.new).inner other ≡ (S.slots store.old).inner other) }
+    ensures leaves { (S.slots store.new).leaf ≡ (S.slots store.old).leaf }
+    ensures refused { OnErr result (S.slots store.new ≡ S.slots store.old) }
+{
+    let id = store.reserve_inner()?;
+    store.put_back_inner(id, node);
+    let node = store.take_inner(id);
+    store.release_inner(id);
+    Ok((id, node))
+}
+
+pub fn walks_a_leaf_number<S: NodeStore>(
+    store: &mut S,
+    leaf: Box<LeafNode<S::K, S::V>>,
+) -> Result<(LeafNodeId, Box<LeafNode<S::K, S::V>>), AllocError>
+    ensures leaf { IfOk result (λ walked. walked.1.value ≡ leaf.value) }
+    ensures free { IfOk result (λ walked. ((S.slots store.old).leaf walked.0.0 ≡ Free) × ((S.slots store.new).leaf walked.0.0 ≡ Free)) }
+    ensures others { IfOk result (λ walked. (other : ℕ) → other ≢ walked.0.0 → (S.slots store.new).leaf other ≡ (S.slots store.old).leaf other) }
+    ensures inner { (S.slots store.new).inner ≡ (S.slots store.old).inner }
+    ensures refused { OnErr result (S.slots store.new ≡ S.slots store.old) }
+{
+    let id = store.reserve_leaf()?;
+    store.assign_leaf(id, leaf);
+    let leaf = store.take_leaf(id);
+    store.release_leaf(id);
+    Ok((id, leaf))
+}
+
+// A new leaf that takes a pair has that pair alone, and no neighbours.
+pub fn starts_a_leaf<S: NodeStore>(
+    store: &mut S,
+    key: S::K,
+    value: S::V,
+) -> Result<LeafNodeId, AllocError>
+    ensures was_free { IfOk result (λ id. (S.slots store.old).leaf id.0 ≡ Free) }
+    ensures there { IfOk result (λ id. (S.slots store.new).leaf id.0 ≡ Present (record { pairs = (key, value) ∷ []; prev = None; next = None })) }
+    ensures others { IfOk result (λ id. (other : ℕ) → other ≢ id.0 → (S.slots store.new).leaf other ≡ (S.slots store.old).leaf other) }
+    ensures inner { (S.slots store.new).inner ≡ (S.slots store.old).inner }
+{
+    let id = store.new_empty_leaf()?;
+    store.get_mut_leaf(id).insert_at(0, key, value);
+    Ok(id)
+}
+
+// A node in the allocator of a store.
+fn makes_a_leaf_for<S: NodeStore>(store: &S) -> Result<Box<LeafNode<S::K, S::V>>, AllocError>
+    ensures { IfOk result (λ leaf. leaf.value.pairs ≡ []) }
+{
+    LeafNode::new(store.allocator())
+}
+
+// A write to a node where it stands changes nothing else.
+pub fn writes_a_leaf<S: NodeStore>(store: &mut S, id: LeafNodeId)
+    requires { IsPresent ((S.slots store.old).leaf id.0) }
+    ensures there { (leaf : Leaf S.K S.V) → (S.slots store.old).leaf id.0 ≡ Present leaf → (S.slots store.new).leaf id.0 ≡ Present (record leaf { prev = None }) }
+    ensures others { (other : ℕ) → other ≢ id.0 → (S.slots store.new).leaf other ≡ (S.slots store.old).leaf other }
+    ensures inner { (S.slots store.new).inner ≡ (S.slots store.old).inner }
+{
+    store.get_mut_leaf(id).set_prev(None);
+}
+
+fn writes_an_inner_node<S: NodeStore>(store: &mut S, id: InnerNodeId, key: S::K) -> S::K
+    requires there { IsPresent ((S.slots store.old).inner id.0) }
+    requires keys { (node : Inner S.K S.Argument) → (S.slots store.old).inner id.0 ≡ Present node → 0 < length node.keys }
+    ensures there { (node : Inner S.K S.Argument) → (S.slots store.old).inner id.0 ≡ Present node → (S.slots store.new).inner id.0 ≡ Present (record node { keys = slice_set node.keys 0 key }) }
+    ensures others { (other : ℕ) → other ≢ id.0 → (S.slots store.new).inner other ≡ (S.slots store.old).inner other }
+    ensures leaves { (S.slots store.new).leaf ≡ (S.slots store.old).leaf }
+{
+    store.get_mut_inner(id).set_key(0, key)
+}
+
+// Where a node is present both reads lend it, and where a number is held there is none to lend.
+fn reads_an_inner_node<S: NodeStore>(
+    store: &S,
+    id: InnerNodeId,
+) -> (
+    &InnerNode<S::K, S::Argument>,
+    Option<&InnerNode<S::K, S::Argument>>,
+)
+    requires { IsPresent ((S.slots store.now).inner id.0) }
+    ensures there { (node : Inner S.K S.Argument) → (S.slots store.now).inner id.0 ≡ Present node → result.0.now ≡ node }
+    ensures both { IfSome result.1 (λ node. node.now ≡ result.0.now) }
+    ensures some { IsSome result.1 }
+{
+    (store.get_inner(id), store.try_get_inner(id))
+}
+
+fn reads_a_leaf<S: NodeStore>(
+    store: &S,
+    id: LeafNodeId,
+) -> (&LeafNode<S::K, S::V>, Option<&LeafNode<S::K, S::V>>)
+    requires { IsPresent ((S.slots store.now).leaf id.0) }
+    ensures there { (leaf : Leaf S.K S.V) → (S.slots store.now).leaf id.0 ≡ Present leaf → result.0.now ≡ leaf }
+    ensures both { IfSome result.1 (λ leaf. leaf.now ≡ result.0.now) }
+    ensures some { IsSome result.1 }
+{
+    (store.get_leaf(id), store.try_get_leaf(id))
+}
+
+fn finds_none_where_held<S: NodeStore>(
+    store: &S,
+    inner: InnerNodeId,
+    leaf: LeafNodeId,
+) -> (bool, bool)
+    requires inner { (S.slots store.now).inner inner.0 ≡ Held }
+    requires leaf { (S.slots store.now).leaf leaf.0 ≡ Held }
+    ensures { result ≡ (true, true) }
+{
+    (
+        store.try_get_inner(inner).is_none(),
+        store.try_get_leaf(leaf).is_none(),
+    )
+}
+
+// Whatever number was remembered: a hint is of a present leaf in whose range the key is.
+fn trusts_the_hint<S: NodeStore>(store: &S, any: LeafNodeId, key: &S::K) -> Option<bool>
+    ensures { IfSome result (λ holds. holds ≡ true) }
+{
+    store.cache_leaf(any);
+    let id = store.try_cache(key)?;
+    Some(store.get_leaf(id).in_range(key))
+}
+
+// A number that is held is held in the clone too, which can take a leaf there.
+pub fn assigns_in_a_clone<S: CloneStore>(
+    store: &S,
+    id: LeafNodeId,
+    leaf: Box<LeafNode<S::K, S::V>>,
+) -> Result<S, AllocError>
+where
+    S::V: Clone,
+    requires { (S.slots store.now).leaf id.0 ≡ Held }
+    ensures there { IfOk result (λ copy. (S.slots copy).leaf id.0 ≡ Present leaf.value) }
+    ensures others { IfOk result (λ copy. (other : ℕ) → other ≢ id.0 → IsSlotClone (IsLeafClone S.K.is_clone S.V.is_clone) ((S.slots store.now).leaf other) ((S.slots copy).leaf other)) }
+    ensures inner { IfOk result (λ copy. (number : ℕ) → IsSlotClone (IsInnerClone S.K.is_clone S.Argument.is_clone) ((S.slots store.now).inner number) ((S.slots copy).inner number)) }
+{
+    let mut copy = store.clone()?;
+    copy.assign_leaf(id, leaf);
+    Ok(copy)
+}

@@ -1,0 +1,69 @@
+//! Removals by the summaries of keys, and of all pairs.
+ghost use Rattle.std.specs.Prelude.{◌≡◌, [], None, Ok, IfOk, OnErr, MatchOption};
+ghost use Rattle.bptree_keys.specs.Contents.{del};
+ghost use Rattle.bptree_shape.specs.ByArgument.{IsTaken};
+ghost use Rattle.bptree_tree.specs.Whole.{IsWhole};
+
+use crate::tree::BPlusTree;
+use bptree_arguments::argument::SearchArgument;
+use bptree_removal::removal::{self, Removed};
+use bptree_stores::node_stores::NodeStore;
+use std::alloc::AllocError;
+
+impl<S: NodeStore> BPlusTree<S> {
+    /// Removes the pair at a place that is allowed for the query, and hands it back. Where none is found, nothing changes.
+    ///
+    /// The query is asked once on each level, as `get_by_argument` does. Each node on the way to the leaf takes a new summary
+    /// of its child, and a leaf's new separator is a clone of a key: both may take memory, and the argument may take some too.
+    /// Then a removal can be refused, and nothing has changed.
+    pub fn remove_by_argument(
+        &mut self,
+        query: <S::Argument as SearchArgument<S::K>>::Query,
+    ) -> Result<Option<(S::K, S::V)>, AllocError>
+    where
+        S::Argument: SearchArgument<S::K>,
+        ensures whole { IsWhole S.K.cmp S.Argument.is_summary (λ store. S.slots store) self.new }
+        ensures ok { IfOk result (IsTaken S.Argument.selects query self.old.contents self.new.contents) }
+        ensures by_key { IfOk result (λ gone. MatchOption gone (self.new.contents ≡ self.old.contents) (λ pair. self.new.contents ≡ del S.K.cmp self.old.contents pair.0)) }
+        ensures untouched { result ≡ Ok None → (S.slots self.new.store ≡ S.slots self.old.store) × (self.new.root ≡ self.old.root) × (self.new.height ≡ self.old.height) × (self.new.root_argument ≡ self.old.root_argument) }
+        ensures err { OnErr result (self.new.contents ≡ self.old.contents) }
+        ensures unchanged { OnErr result ((S.slots self.new.store ≡ S.slots self.old.store) × (self.new.root ≡ self.old.root) × (self.new.height ≡ self.old.height) × (self.new.root_argument ≡ self.old.root_argument)) }
+    {
+        // Read, so that it is known to fit.
+        let _len = self.len;
+        match removal::remove_by_argument(
+            &mut self.store,
+            self.root,
+            self.height,
+            query,
+            &mut self.statistic,
+        )? {
+            None => Ok(None),
+            Some(gone) => {
+                let Removed {
+                    value: pair,
+                    root,
+                    height,
+                    summary,
+                } = gone;
+                self.root = root;
+                self.height = height;
+                self.len -= 1;
+                self.root_argument = summary;
+                Ok(Some(pair))
+            }
+        }
+    }
+
+    /// Removes all pairs. It takes memory for one leaf, before the nodes are let go: a refusal changes nothing.
+    pub fn clear(&mut self) -> Result<(), AllocError>
+        ensures whole { IsWhole S.K.cmp S.Argument.is_summary (λ store. S.slots store) self.new }
+        ensures ok { IfOk result (λ _. self.new.contents ≡ []) }
+        ensures err { OnErr result (self.new.contents ≡ self.old.contents) }
+        ensures unchanged { OnErr result ((S.slots self.new.store ≡ S.slots self.old.store) × (self.new.root ≡ self.old.root) × (self.new.height ≡ self.old.height) × (self.new.root_argument ≡ self.old.root_argument)) }
+    {
+        let fresh = BPlusTree::new(S::empty(self.store.allocator()))?;
+        *self = fresh;
+        Ok(())
+    }
+}

@@ -1,0 +1,16 @@
+-- What two inputs are answered.
+use Rattle.std.proofs.Common.{◌≡◌, refl}
+use Rattle.std.specs.Prelude.{codes}
+use Rattle.std.specs.Fmt.{digits}
+use Rattle.sweep_bptree.specs.Answers.{text, answer, pairs_after}
+use Rattle.sweep_bptree.specs.Number.{number_of}
+use Rattle.sweep_bptree.specs.Request.{request_of, words}
+
+pub puts_and_gets_text : text (codes "put 2 20\nput 1 10\nput 2 21\nget 2\nget 3\nlen\nall\nget 01\n\nlen") ≡ codes "new\nnew\nold 20\n21\nnone\n2\n1 10,2 21\nbad\nbad\n2\n"
+unfolding answer pairs_after request_of words number_of digits
+puts_and_gets_text = refl
+
+pub places_and_ranks_text : text (codes "first\nlast\nat 0\nrank 7\nall\nput 7 70\nput 9 90\nfirst\nlast\nat 0\nat 1\nat 2\nrank 7\nrank 8\nrank 9\n")
+    ≡ codes "none\nnone\nnone\nout 0\nempty\nnew\nnew\n7 70\n9 90\n7 70\n9 90\nnone\nin 0\nout 1\nin 1\n"
+unfolding answer pairs_after request_of words number_of digits
+places_and_ranks_text = refl

@@ -1,0 +1,4 @@
+pub mod Ends
+pub mod Inputs
+pub mod Replies
+pub mod Runs

@@ -1,0 +1,308 @@
+//! Callers of the library's functions, which know nothing of them but their contracts.
+ghost use Rattle.std.specs.Prelude.{◌≡◌, ◌<◌, ◌≤◌, ◌==◌, ◌-◌, ◌+◌, ◌^◌, ◌↔◌, ◌⊎◌, ℕ, List, [], ◌++◌, length, codes, Some, None, IsTrue, true, false, if◌then◌else◌, IsSome, IsErr, IsErrOf, IfOk, OnOk, OnErr, IfSome, MatchResult, slice_get, string_bytes, vec_len};
+ghost use Rattle.std.specs.Io.KnownBytes.{Appends};
+ghost use Rattle.std.specs.List.{slice_split};
+ghost use Rattle.std.specs.Map.{keys_of};
+ghost use Rattle.std.specs.Ordering.{nat_cmp};
+ghost use Rattle.sweep_bptree.specs.Answers.{text};
+ghost use Rattle.sweep_bptree.specs.Contents.{has, value, put};
+ghost use Rattle.sweep_bptree.specs.CountLaws.{count_below};
+ghost use Rattle.sweep_bptree.specs.Lines.{ended_lines};
+ghost use Rattle.sweep_bptree.specs.Sent.{AppendsBeginning};
+ghost use Rattle.sweep_bptree.specs.Served.{StoppedBy};
+ghost use Rattle.sweep_bptree.specs.Steps.{Step};
+ghost use Rattle.sweep_bptree.specs.declared.script.session.Stop.TheVariants.{Reader, Writer};
+ghost use Rattle.bptree_nodes.specs.Leaf.{set_value_at};
+ghost use Rattle.bptree_insertion.specs.Lending.{written};
+
+use std::alloc::{AllocError, Global};
+use std::io::{Read, Write};
+use sweep_bptree::argument::count::Count;
+use sweep_bptree::argument::{RankArgument, SearchArgument};
+use sweep_bptree::script::{
+    Command, CommandOn, Reply, ReplyOf, ServeError, exit_status, parts_are_lines, run, serve,
+};
+use sweep_bptree::{BPlusTree, NodeStore, NodeStoreVec};
+
+// ---- how a program ends
+
+// No error is told as success.
+pub fn has_failed(served: &Result<(), ServeError>) -> bool
+    ensures { IsTrue result ↔ IsErr served.now }
+{
+    exit_status(served) != 0
+}
+
+// Each of the three endings has a status of its own.
+pub fn end_alike(one: &Result<(), ServeError>, other: &Result<(), ServeError>) -> bool
+    ensures { IsTrue result ↔ (one.now ≡ other.now) }
+{
+    exit_status(one) == exit_status(other)
+}
+
+// The status of an error is that of a program that ends by it.
+pub fn status_twice(error: ServeError) -> (u8, u8)
+    ensures { result.0 ≡ result.1 }
+{
+    (error.status(), exit_status(&Err(error)))
+}
+
+pub fn text_of_fault(alloc: Global) -> Result<String, AllocError>
+    ensures { IfOk result (λ text. string_bytes text ≡ codes "i/o fault") }
+{
+    ServeError::Io.to_string(alloc)
+}
+
+pub fn text_of_refusal(alloc: Global) -> Result<String, AllocError>
+    ensures { IfOk result (λ text. string_bytes text ≡ codes "out of memory") }
+{
+    ServeError::OutOfMemory.to_string(alloc)
+}
+
+// ---- lines
+
+// There is one part more than there are line feeds.
+pub fn parts_of_lines()
+    ensures { (bytes : List ℕ) → length (slice_split (λ b. b == 10) bytes) ≡ length (ended_lines bytes) + 1 }
+{
+    parts_are_lines();
+}
+
+// ---- whole inputs
+
+// What is put is got, looked for, counted and shown, the last line without a line feed too.
+pub fn puts_and_gets<R: Read, W: Write>(
+    alloc: Global,
+    reader: &mut R,
+    writer: &mut W,
+) -> Result<(), ServeError>
+    requires { R.remaining reader.old ≡ Some (codes "put 2 20\nput 1 10\nput 2 21\nget 2\nget 3\nlen\nall\nget 01\n\nlen") }
+    ensures { OnOk result (Appends (W.contents writer.old) (W.contents writer.new)
+        (codes "new\nnew\nold 20\n21\nnone\n2\n1 10,2 21\nbad\nbad\n2\n")) }
+{
+    serve(alloc, reader, writer)
+}
+
+// Places, ends and ranks, in a map without pairs and in one with two.
+pub fn places_and_ranks<R: Read, W: Write>(
+    alloc: Global,
+    reader: &mut R,
+    writer: &mut W,
+) -> Result<(), ServeError>
+    requires { R.remaining reader.old ≡ Some (codes "first\nlast\nat 0\nrank 7\nall\nput 7 70\nput 9 90\nfirst\nlast\nat 0\nat 1\nat 2\nrank 7\nrank 8\nrank 9\n") }
+    ensures { OnOk result (Appends (W.contents writer.old) (W.contents writer.new)
+        (codes "none\nnone\nnone\nout 0\nempty\nnew\nnew\n7 70\n9 90\n7 70\n9 90\nnone\nin 0\nout 1\nin 1\n")) }
+{
+    serve(alloc, reader, writer)
+}
+
+// An input alone says what is answered, whoever reads and writes.
+pub fn answers_alike<R: Read, S: Read, W: Write, X: Write>(
+    alloc: Global,
+    reader: &mut R,
+    other_reader: &mut S,
+    writer: &mut W,
+    other_writer: &mut X,
+) -> Result<(), ServeError>
+    requires known { IsSome (R.remaining reader.old) }
+    requires same { S.remaining other_reader.old ≡ R.remaining reader.old }
+    ensures { OnOk result ((written : List ℕ) × Appends (W.contents writer.old) (W.contents writer.new) written
+        × Appends (X.contents other_writer.old) (X.contents other_writer.new) written) }
+{
+    serve(alloc, reader, writer)?;
+    serve(alloc, other_reader, other_writer)
+}
+
+// However serving ends early, what was written is a beginning of what the whole input is answered.
+pub fn writes_a_beginning<R: Read, W: Write>(
+    alloc: Global,
+    reader: &mut R,
+    writer: &mut W,
+) -> Result<(), ServeError>
+    ensures { OnErr result (IfSome (R.remaining reader.old) (λ input.
+        AppendsBeginning (W.contents writer.old) (W.contents writer.new) (text input))) }
+{
+    serve(alloc, reader, writer)
+}
+
+// A known input is too short to have no end: `Io` tells of a reader or a writer that failed.
+pub fn gives_up_by_a_fault_alone<R: Read, W: Write>(
+    alloc: Global,
+    reader: &mut R,
+    writer: &mut W,
+) -> Result<(), ServeError>
+    requires short { IfSome (R.remaining reader.old) (λ input. length input < 2 ^ 64 - 1) }
+    requires known { IsSome (R.remaining reader.old) }
+    ensures { IsErrOf result ServeError.Io
+        → StoppedBy Reader (R.remaining reader.old) (R.remaining reader.new) (W.contents writer.old) (W.contents writer.new)
+        ⊎ StoppedBy Writer (R.remaining reader.old) (R.remaining reader.new) (W.contents writer.old) (W.contents writer.new) }
+{
+    serve(alloc, reader, writer)
+}
+
+// ---- commands
+
+// One command is answered by one reply that it allows, or is not carried out.
+pub fn reply_to<S: NodeStore>(
+    alloc: Global,
+    tree: &mut BPlusTree<S>,
+    command: CommandOn<S>,
+) -> Result<ReplyOf<S>, AllocError>
+where
+    S::V: Copy,
+    S::Argument: SearchArgument<S::K> + RankArgument<S::K>,
+    ensures { MatchResult result
+        (λ reply. Step S.K.cmp S.Argument.selects S.Argument.ranks tree.old.contents command reply tree.new.contents)
+        (λ _. tree.new ≡ tree.old) }
+{
+    let mut commands = Vec::new(alloc);
+    commands.push(command)?;
+    let (mut replies, _error) = run(alloc, tree, commands);
+    match replies.pop() {
+        Some(reply) => Ok(reply),
+        None => Err(AllocError),
+    }
+}
+
+// No command needs no memory, and changes nothing.
+pub fn runs_nothing<S: NodeStore>(alloc: Global, tree: &mut BPlusTree<S>) -> Option<AllocError>
+where
+    S::V: Copy,
+    S::Argument: SearchArgument<S::K> + RankArgument<S::K>,
+    ensures well { result ≡ None }
+    ensures stays { tree.new.contents ≡ tree.old.contents }
+{
+    run(alloc, tree, Vec::new(alloc)).1
+}
+
+// Where not all commands were carried out, none was.
+pub fn runs_all_or_none<S: NodeStore>(
+    alloc: Global,
+    tree: &mut BPlusTree<S>,
+    commands: Vec<CommandOn<S>>,
+) -> usize
+where
+    S::V: Copy,
+    S::Argument: SearchArgument<S::K> + RankArgument<S::K>,
+    ensures number { (result ≡ 0) ⊎ (result ≡ vec_len commands) }
+    ensures stays { result ≡ 0 → tree.new.contents ≡ tree.old.contents }
+{
+    run(alloc, tree, commands).0.len()
+}
+
+pub fn reply_to_get<S: NodeStore>(
+    alloc: Global,
+    tree: &mut BPlusTree<S>,
+    key: S::K,
+) -> Result<ReplyOf<S>, AllocError>
+where
+    S::V: Copy,
+    S::Argument: SearchArgument<S::K> + RankArgument<S::K>,
+    ensures { IfOk result (λ reply. (reply ≡ Reply.Value (value S.K.cmp tree.old.contents key))
+        × (tree.new.contents ≡ tree.old.contents)) }
+{
+    reply_to(alloc, tree, Command::Get(key))
+}
+
+pub fn reply_to_len<S: NodeStore>(
+    alloc: Global,
+    tree: &mut BPlusTree<S>,
+) -> Result<ReplyOf<S>, AllocError>
+where
+    S::V: Copy,
+    S::Argument: SearchArgument<S::K> + RankArgument<S::K>,
+    ensures { IfOk result (λ reply. (reply ≡ Reply.Number (length tree.old.contents))
+        × (tree.new.contents ≡ tree.old.contents)) }
+{
+    reply_to(alloc, tree, Command::Len)
+}
+
+// A pair is put, or it is told why not and nothing changes.
+pub fn reply_to_insert<S: NodeStore>(
+    alloc: Global,
+    tree: &mut BPlusTree<S>,
+    key: S::K,
+    new: S::V,
+) -> Result<ReplyOf<S>, AllocError>
+where
+    S::V: Copy,
+    S::Argument: SearchArgument<S::K> + RankArgument<S::K>,
+    ensures { IfOk result (λ reply. ((reply ≡ Reply.Value (value S.K.cmp tree.old.contents key)) × (tree.new.contents ≡ put S.K.cmp tree.old.contents key new))
+        ⊎ (((reply ≡ Reply.OutOfMemory) ⊎ ((reply ≡ Reply.Full) × (length tree.old.contents ≡ 2 ^ 64 - 1)))
+        × (has S.K.cmp tree.old.contents key ≡ false) × (tree.new.contents ≡ tree.old.contents))) }
+{
+    reply_to(alloc, tree, Command::Insert(key, new))
+}
+
+// A value is written where the key is there, and nothing else is changed; memory is not asked for.
+pub fn reply_to_set<S: NodeStore>(
+    alloc: Global,
+    tree: &mut BPlusTree<S>,
+    key: S::K,
+    new: S::V,
+) -> Result<ReplyOf<S>, AllocError>
+where
+    S::V: Copy,
+    S::Argument: SearchArgument<S::K> + RankArgument<S::K>,
+    ensures { IfOk result (λ reply. (reply ≡ Reply.Done (has S.K.cmp tree.old.contents key))
+        × (tree.new.contents ≡ (if has S.K.cmp tree.old.contents key then written S.K.cmp key tree.old.contents new else tree.old.contents))) }
+{
+    reply_to(alloc, tree, Command::Set(key, new))
+}
+
+/// A tree of numbers that counts its keys.
+pub type NumberTree = BPlusTree<NodeStoreVec<u64, u64, Count>>;
+
+// The first and the last pair, of numbers, and none of an empty tree.
+pub fn replies_to_ends(
+    alloc: Global,
+    tree: &mut NumberTree,
+) -> Result<(Reply<u64, u64, usize>, Reply<u64, u64, usize>), AllocError>
+    ensures { IfOk result (λ replies.
+        ((replies.0 ≡ Reply.Pair (slice_get tree.old.contents 0)) ⊎ (replies.0 ≡ Reply.OutOfMemory))
+        × ((replies.1 ≡ Reply.Pair (slice_get tree.old.contents (length tree.old.contents - 1))) ⊎ (replies.1 ≡ Reply.OutOfMemory))
+        × (tree.new.contents ≡ tree.old.contents)) }
+{
+    let first = reply_to(alloc, tree, Command::First)?;
+    let last = reply_to(alloc, tree, Command::Last)?;
+    Ok((first, last))
+}
+
+pub fn reply_to_at(
+    alloc: Global,
+    tree: &mut NumberTree,
+    place: usize,
+) -> Result<Reply<u64, u64, usize>, AllocError>
+    ensures { IfOk result (λ reply. ((reply ≡ Reply.Pair (slice_get tree.old.contents place)) ⊎ (reply ≡ Reply.OutOfMemory))
+        × (tree.new.contents ≡ tree.old.contents)) }
+{
+    reply_to(alloc, tree, Command::At(place))
+}
+
+// Whether the key is there, and how many are smaller.
+pub fn reply_to_rank(
+    alloc: Global,
+    tree: &mut NumberTree,
+    key: u64,
+) -> Result<Reply<u64, u64, usize>, AllocError>
+    ensures { IfOk result (λ reply. (let smaller = count_below nat_cmp key (keys_of tree.old.contents) in
+        (reply ≡ Reply.Rank (if has nat_cmp tree.old.contents key then Ok smaller else Err smaller)) ⊎ (reply ≡ Reply.OutOfMemory))
+        × (tree.new.contents ≡ tree.old.contents)) }
+{
+    reply_to(alloc, tree, Command::Rank(key))
+}
+
+// The value at a place is written, and nothing where there is no place.
+pub fn reply_to_set_at(
+    alloc: Global,
+    tree: &mut NumberTree,
+    place: usize,
+    new: u64,
+) -> Result<Reply<u64, u64, usize>, AllocError>
+    ensures { IfOk result (λ reply.
+        ((reply ≡ Reply.Done true) × (place < length tree.old.contents) × (tree.new.contents ≡ set_value_at tree.old.contents place new))
+        ⊎ ((reply ≡ Reply.Done false) × (length tree.old.contents ≤ place) × (tree.new.contents ≡ tree.old.contents))
+        ⊎ ((reply ≡ Reply.OutOfMemory) × (tree.new.contents ≡ tree.old.contents))) }
+{
+    reply_to(alloc, tree, Command::SetAt(place, new))
+}
