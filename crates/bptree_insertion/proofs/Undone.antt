@@ -104,3 +104,10 @@ module _ {K V A : Type 0} (cmp : K → K → Ordering) (was now first second thi
               | inr other ↦ freed.leaf.others n far ∙ (put.leaf.others n other ∙ (took.leaf.others n far ∙ (taken.leaf.others n other ∙ divides.others n other far)))
             ]
           ]
+
+-- a leaf that is written as it was changes no slot
+pub leaf_unwritten : {K V A : Type 0} (old new : Slots (Inner K A) (Leaf K V)) (id : LeafNodeId) (from back : Leaf K V) → old.leaf id.0 ≡ Present from → UpdatesLeaf old new id.0 (Present back) → back ≡ from → new ≡ old
+leaf_unwritten {K} {V} {A} old new id from back here put same = λ i. record { inner = put.inner i; leaf = λ n. each n i }
+  where
+    each : (n : ℕ) → new.leaf n ≡ old.leaf n
+    each n = elim (cases_eq n id.0) [ inl at ↦ (rw at (put.leaf.changed ∙ (ap Present same ∙ sym here))) | inr other ↦ put.leaf.others n other ]

@@ -63,18 +63,11 @@ fn add_at<S: NodeStore>(
     ensures refused { OnErr result (S.slots store.new ≡ S.slots store.old) }
     ensures handed_back { IfErr result (λ pair. pair ≡ (key, value)) }
 {
-    let mut leaf = store.take_leaf(id);
+    let leaf = store.get_mut_leaf(id);
     leaf.insert_at(slot, key, value);
     match S::Argument::from_leaf(leaf.keys()) {
-        Ok(summary) => {
-            store.assign_leaf(id, leaf);
-            Ok(summary)
-        }
-        Err(_) => {
-            let pair = leaf.delete_at(slot);
-            store.assign_leaf(id, leaf);
-            Err(pair)
-        }
+        Ok(summary) => Ok(summary),
+        Err(_) => Err(leaf.delete_at(slot)),
     }
 }
 

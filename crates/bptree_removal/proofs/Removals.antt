@@ -21,12 +21,12 @@ use Rattle.bptree_removal.proofs.Shares.{insert_removed}
 use Rattle.bptree_removal.proofs.Triples.{slots_same}
 use Rattle.bptree_insertion.proofs.Undone.{same_node}
 
-pub leaf_again : {K V A : Type 0} (was now mid new : Slots (Inner K A) (Leaf K V)) (id : LeafNodeId) (slot : ℕ) (node from back : Leaf K V) (pair : K × V) → was.leaf id.0 ≡ Present node → slice_get node.pairs slot ≡ Some pair
-    → UpdatesLeaf was now id.0 (Present (record node { pairs = remove node.pairs slot })) → now.leaf id.0 ≡ Present from → UpdatesLeaf now mid id.0 Held → back ≡ record from { pairs = insert from.pairs slot pair } → UpdatesLeaf mid new id.0 (Present back) → new ≡ was
-leaf_again {K} {V} {A} was now mid new id slot node from back pair here read takes there taken is put =
+pub leaf_again : {K V A : Type 0} (was now new : Slots (Inner K A) (Leaf K V)) (id : LeafNodeId) (slot : ℕ) (node from back : Leaf K V) (pair : K × V) → was.leaf id.0 ≡ Present node → slice_get node.pairs slot ≡ Some pair
+    → UpdatesLeaf was now id.0 (Present (record node { pairs = remove node.pairs slot })) → now.leaf id.0 ≡ Present from → back ≡ record from { pairs = insert from.pairs slot pair } → UpdatesLeaf now new id.0 (Present back) → new ≡ was
+leaf_again {K} {V} {A} was now new id slot node from back pair here read takes there is put =
     slots_same new was
-    (λ n. ap (λ (f : ℕ → Slot (Inner K A)). f n) (put.inner ∙ (taken.inner ∙ takes.inner)))
-    (λ n. elim (cases_eq n id.0) [ inl e ↦ (rw e (put.leaf.changed ∙ (ap Present undone ∙ sym here))) | inr far ↦ put.leaf.others n far ∙ (taken.leaf.others n far ∙ takes.leaf.others n far) ])
+    (λ n. ap (λ (f : ℕ → Slot (Inner K A)). f n) (put.inner ∙ takes.inner))
+    (λ n. elim (cases_eq n id.0) [ inl e ↦ (rw e (put.leaf.changed ∙ (ap Present undone ∙ sym here))) | inr far ↦ put.leaf.others n far ∙ takes.leaf.others n far ])
   where
     from_is : from ≡ record node { pairs = remove node.pairs slot }
     from_is = same_node (now.leaf id.0) from (record node { pairs = remove node.pairs slot }) there takes.leaf.changed

@@ -300,10 +300,7 @@ fn take_pair<S: NodeStore>(store: &mut S, id: LeafNodeId, slot: usize) -> (S::K,
     ensures takes { (was : Leaf S.K S.V) → (S.slots store.old).leaf id.0 ≡ Present was → UpdatesLeaf (S.slots store.old) (S.slots store.new) id.0 (Present (record was { pairs = remove was.pairs slot })) }
     ensures pair { slice_get (leaf_pairs ((S.slots store.old).leaf id.0)) slot ≡ Some result }
 {
-    let mut leaf = store.take_leaf(id);
-    let pair = leaf.delete_at(slot);
-    store.assign_leaf(id, leaf);
-    pair
+    store.get_mut_leaf(id).delete_at(slot)
 }
 
 // Undoes what `take_pair` did.
@@ -314,9 +311,7 @@ fn put_pair<S: NodeStore>(store: &mut S, id: LeafNodeId, slot: usize, pair: (S::
     ensures { (was : Slots (Inner S.K S.Argument) (Leaf S.K S.V)) (node : Leaf S.K S.V) → was.leaf id.0 ≡ Present node → slice_get node.pairs slot ≡ Some pair → UpdatesLeaf was (S.slots store.old) id.0 (Present (record node { pairs = remove node.pairs slot })) → S.slots store.new ≡ was }
 {
     let (key, value) = pair;
-    let mut leaf = store.take_leaf(id);
-    leaf.insert_at(slot, key, value);
-    store.assign_leaf(id, leaf);
+    store.get_mut_leaf(id).insert_at(slot, key, value);
 }
 
 // A summary of a leaf's keys; of no keys what `Default` makes.

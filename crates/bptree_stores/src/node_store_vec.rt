@@ -38,6 +38,8 @@ pub struct NodeStoreVec<K: Key, V, A: Argument<K> = ()> {
     leaf_nodes: Vec<Place<LeafNode<K, V>>>,
     alloc: Global,
     cached_leaf: Cell<usize>,
+    // The number that was given last to be remembered. It is remembered once it is given twice in turn.
+    last_leaf: Cell<usize>,
 }
 
 impl<K: Key, V: Drop, A: Argument<K>> NodeStoreVec<K, V, A> {
@@ -60,6 +62,7 @@ impl<K: Key, V: Drop, A: Argument<K>> NodeStoreVec<K, V, A> {
             leaf_nodes: Vec::with_capacity(alloc, capacity)?,
             alloc,
             cached_leaf: Cell::new(usize::MAX),
+            last_leaf: Cell::new(usize::MAX),
         })
     }
 }
@@ -87,6 +90,7 @@ impl<K: Key, V: Drop, A: Argument<K>> NodeStore for NodeStoreVec<K, V, A> {
             leaf_nodes: Vec::new(alloc),
             alloc,
             cached_leaf: Cell::new(usize::MAX),
+            last_leaf: Cell::new(usize::MAX),
         }
     }
 
@@ -191,7 +195,13 @@ impl<K: Key, V: Drop, A: Argument<K>> NodeStore for NodeStoreVec<K, V, A> {
     }
 
     fn cache_leaf(&self, id: LeafNodeId) {
-        self.cached_leaf.set(id.as_usize());
+        let number = id.as_usize();
+        if self.last_leaf.get() == number {
+            self.cached_leaf.set(number);
+        } else {
+            self.cached_leaf.set(usize::MAX);
+            self.last_leaf.set(number);
+        }
     }
 
     fn try_cache(&self, k: &K) -> Option<LeafNodeId> {
@@ -220,6 +230,7 @@ impl<K: Key, V: Clone, A: Argument<K>> Clone for NodeStoreVec<K, V, A> {
             leaf_nodes: self.leaf_nodes.clone()?,
             alloc: self.alloc,
             cached_leaf: Cell::new(self.cached_leaf.get()),
+            last_leaf: Cell::new(self.last_leaf.get()),
         })
     }
 }

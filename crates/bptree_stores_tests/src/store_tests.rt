@@ -78,8 +78,9 @@ fn even_leaf(alloc: Global) -> Result<Box<LeafNode<u64, u64>>, AllocError> {
     Ok(leaf)
 }
 
-// For which of these keys the remembered leaf is answered.
+// For which of these keys the leaf is answered, once it was found twice in turn and is remembered.
 fn hits<S: NodeStore<K = u64>>(store: &S, id: LeafNodeId) -> [bool; 4] {
+    store.cache_leaf(id);
     store.cache_leaf(id);
     [0, 2, 128, 129].map(|key| store.try_cache(&key) == Some(id))
 }

@@ -245,7 +245,7 @@ module _ {K V : Type 0} (leaves : LeafNodeId → Option (Leaf K V)) where
       record {
         leaf = leaf.0;
         found = leaf.1;
-        next = λ e. rw (front_over leaf.0 front from h.ids back to (pairs_left leaves front from len) h.span leaf.1 e (omega (arith, h.counted))).next refl;
+        next = λ e. (let over = front_over leaf.0 front from h.ids back to (pairs_left leaves front from len) h.span leaf.1 e (omega (arith, h.counted)) in (over.id, over.next, rw over.found refl));
       }
 
   -- one step of the front: the pair at its place, and what is left behind that

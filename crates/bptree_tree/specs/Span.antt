@@ -43,7 +43,7 @@ module _ {K V : Type 0} (leaves : LeafNodeId → Option (Leaf K V)) where
   pub record CanGoOn (id : LeafNodeId) (offset : ℕ) : Type 0 where
     pub leaf : Leaf K V
     pub found : leaves id ≡ Some leaf
-    pub next : offset ≡ length leaf.pairs → IsSome leaf.next
+    pub next : offset ≡ length leaf.pairs → (after : LeafNodeId) × (leaf.next ≡ Some after) × IsSome (leaves after)
 
   -- The place is the one at hand, or where that is the end of its leaf, the start of the next one.
   pub record IsFrontPlace (id : LeafNodeId) (offset : ℕ) (id' : LeafNodeId) (offset' : ℕ) : Type 0 where

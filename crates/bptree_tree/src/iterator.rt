@@ -20,6 +20,8 @@ pub struct Iter<'a, S: NodeStore> {
     // length.
     front: LeafNodeId,
     from: usize,
+    // The leaf under the number `front`, so that a step within it asks nothing of the store.
+    leaf: &'a LeafNode<S::K, S::V>,
     // The leaf of the last pair and the place after it, or the leaf after it and 0.
     back: LeafNodeId,
     to: usize,
@@ -29,14 +31,14 @@ pub struct Iter<'a, S: NodeStore> {
 }
 
 impl<'a, S: NodeStore> Model for Iter<'a, S> {
-    ghost use Rattle.std.specs.Prelude.{List};
+    ghost use Rattle.std.specs.Prelude.{◌≡◌, List, Some};
     ghost use Rattle.bptree_tree.specs.Span.{leaves_of, pairs_left, IsBetween};
 
     ghost Value = { List (S.K × S.V) };
 
     ghost view = { λ it. pairs_left (leaves_of (S.slots it.store.now)) it.front it.from it.len };
 
-    ghost invariant = { λ it. IsBetween (leaves_of (S.slots it.store.now)) it.front it.from it.back it.to it.len };
+    ghost invariant = { λ it. IsBetween (leaves_of (S.slots it.store.now)) it.front it.from it.back it.to it.len × (leaves_of (S.slots it.store.now) it.front ≡ Some it.leaf.now) };
 }
 
 impl<'a, S: NodeStore> Iter<'a, S> {
@@ -55,6 +57,7 @@ impl<'a, S: NodeStore> Iter<'a, S> {
             store,
             front,
             from,
+            leaf: leaf_at(store, front),
             back,
             to,
             len,
@@ -70,16 +73,24 @@ fn leaf_at<S: NodeStore>(store: &S, id: LeafNodeId) -> &LeafNode<S::K, S::V>
     store.get_leaf(id)
 }
 
-// The place of the next pair: where the place at hand is the end of its leaf, the start of the next.
-fn front_place<S: NodeStore>(store: &S, id: LeafNodeId, offset: usize) -> (LeafNodeId, usize)
-    requires { CanGoOn (leaves_of (S.slots store.now)) id offset }
-    ensures { IsFrontPlace (leaves_of (S.slots store.now)) id offset result.0 result.1 }
+// The leaf that the front place goes on to, and the place of the next pair there: where the place at hand is the end of its
+// leaf, the start of the next.
+fn front_place<'a, S: NodeStore>(
+    store: &'a S,
+    id: LeafNodeId,
+    leaf: &'a LeafNode<S::K, S::V>,
+    offset: usize,
+) -> (LeafNodeId, &'a LeafNode<S::K, S::V>, usize)
+    requires goes_on { CanGoOn (leaves_of (S.slots store.now)) id offset }
+    requires at { leaves_of (S.slots store.now) id ≡ Some leaf.now }
+    ensures place { IsFrontPlace (leaves_of (S.slots store.now)) id offset result.0 result.2 }
+    ensures leaf { leaves_of (S.slots store.now) result.0 ≡ Some result.1.now }
 {
-    let leaf = leaf_at(store, id);
     if offset == leaf.len() {
-        (leaf.next().unwrap(), 0)
+        let next = leaf.next().unwrap();
+        (next, leaf_at(store, next), 0)
     } else {
-        (id, offset)
+        (id, leaf, offset)
     }
 }
 
@@ -109,9 +120,10 @@ impl<'a, S: NodeStore> Iterator for Iter<'a, S> {
         if self.len == 0 {
             return None;
         }
-        let (front, from) = front_place(self.store, self.front, self.from);
-        let pair = leaf_at(self.store, front).data_at(from);
+        let (front, leaf, from) = front_place(self.store, self.front, self.leaf, self.from);
+        let pair = leaf.data_at(from);
         self.front = front;
+        self.leaf = leaf;
         self.from = from + 1;
         self.len -= 1;
         Some(pair)
@@ -160,6 +172,7 @@ impl<'a, S: NodeStore> Clone for Iter<'a, S> {
             store: self.store,
             front: self.front,
             from: self.from,
+            leaf: self.leaf,
             back: self.back,
             to: self.to,
             len: self.len,
