@@ -2,9 +2,9 @@
 #![tactic(auto)]
 
 #[cfg(test)]
-mod by_argument_tests;
-#[cfg(test)]
 mod insertion_tests;
+#[cfg(test)]
+mod probe;
 #[cfg(test)]
 mod reading_tests;
 #[cfg(test)]
@@ -12,4 +12,4 @@ mod removal_tests;
 #[cfg(test)]
 mod summary_tests;
 #[cfg(test)]
-mod withdrawal_tests;
+mod trees;

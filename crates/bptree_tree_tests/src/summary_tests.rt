@@ -1,101 +1,182 @@
-//! Trees that grow together with their summaries, and insertions whose summaries are refused.
-ghost use Rattle.std.specs.Prelude.{⊤};
-
-use crate::reading_tests::assert_well_shaped;
-use bptree_arguments::argument::Argument;
+//! Trees whose summaries are kept up, and reads, writes and removals by them.
+use crate::probe::Probe;
+use crate::trees::{
+    Keys, are_same, is_well_shaped, measures, new_tree, put, put_all, read, take_all, tree_of,
+    value_of,
+};
+use bptree_arguments::argument::{RankArgument, SearchArgument};
 use bptree_arguments::count::Count;
 use bptree_arguments_tests::even_count::EvenCount;
-use bptree_keys::node_id::{InnerNodeId, LeafNodeId};
 use bptree_stores::node_store_vec::NodeStoreVec;
 use bptree_stores::node_stores::NodeStore;
-use bptree_tree::{BPlusTree, InsertError, SelectError};
+use bptree_tree::{BPlusTree, SelectError};
 use std::alloc::{AllocError, Global};
-use std::process::Abort;
 use std::test::Fail;
 
-type Tree<A> = BPlusTree<NodeStoreVec<u64, u64, A>>;
+type Store = NodeStoreVec<u64, u64, Count>;
 
-// The value that stands at a key.
-fn value_of(key: u64) -> u64 {
-    key.wrapping_add(10_000)
-}
+type ProbedStore = NodeStoreVec<u64, u64, Probe>;
 
-// Puts `len` new keys from `least` on, each once: the first is `start` above the least, and each next one is `step` further,
-// round the end.
-fn fill<A: Argument<u64>>(
-    rt: &impl Abort,
-    tree: &mut Tree<A>,
-    least: u64,
-    len: u64,
-    start: u64,
-    step: u64,
-) {
-    let mut place = start;
-    for _ in 0..len {
-        let key = least.wrapping_add(place);
-        assert_eq!(rt; tree.insert(key, value_of(key)).ok(), Some(None));
-        place = place.wrapping_add(step) % len;
-    }
-}
-
-fn pair_at(tree: &Tree<Count>, place: usize) -> Result<Option<(u64, u64)>, AllocError> {
+// The pair that a place leads to.
+fn pair_at<S: NodeStore<K = u64, V = u64>>(
+    tree: &BPlusTree<S>,
+    place: usize,
+) -> Result<Option<(u64, u64)>, AllocError>
+where
+    S::Argument: SearchArgument<u64, Query = usize>,
+{
     match tree.get_by_argument(place)? {
         Some((key, value)) => Ok(Some((*key, *value))),
         None => Ok(None),
     }
 }
 
-fn rank(tree: &Tree<Count>, key: u64) -> Result<Result<usize, usize>, AllocError> {
+fn rank<S: NodeStore<K = u64, V = u64>>(
+    tree: &BPlusTree<S>,
+    key: u64,
+) -> Result<Result<usize, usize>, AllocError>
+where
+    S::Argument: RankArgument<u64, Rank = usize>,
+{
     tree.rank_by_argument(&key)
 }
 
-// Writes the value at a place.
-fn write(tree: &mut Tree<Count>, place: usize, value: u64) -> Result<(), SelectError> {
-    *tree.get_mut_by_argument(place)? = value;
-    Ok(())
+// Writes the value at a place, and answers why it can't.
+fn write<S: NodeStore<K = u64, V = u64>>(
+    tree: &mut BPlusTree<S>,
+    place: usize,
+    value: u64,
+) -> Option<SelectError>
+where
+    S::Argument: SearchArgument<u64, Query = usize>,
+{
+    match tree.get_mut_by_argument(place) {
+        Ok(there) => {
+            *there = value;
+            None
+        }
+        Err(error) => Some(error),
+    }
 }
 
-// Asserts the counts of a tree that holds `len` keys from `least` on, and each place and rank.
-fn assert_counted(
-    rt: &impl Abort,
-    tree: &Tree<Count>,
-    least: u64,
-    len: usize,
-) -> Result<(), AllocError> {
-    assert_eq!(rt; tree.len(), len);
-    assert_eq!(rt; tree.root_argument().count(), len);
+// Takes the pair at a place.
+fn take_at<S: NodeStore<K = u64, V = u64>>(
+    tree: &mut BPlusTree<S>,
+    place: usize,
+) -> Result<Option<(u64, u64)>, AllocError>
+where
+    S::Argument: SearchArgument<u64, Query = usize>,
+{
+    tree.remove_by_argument(place)
+}
+
+fn put_three<S: NodeStore<K = u64, V = u64>>(tree: &mut BPlusTree<S>) -> bool {
+    let mut all = true;
+    for (key, value) in [(1, 2), (2, 3), (3, 4)] {
+        all = all && matches!(tree.insert(key, value), Ok(None));
+    }
+    all
+}
+
+// Whether the keys 1, 2 and 3 stand at the first places, and have their ranks among others.
+fn are_counted<S: NodeStore<K = u64, V = u64, Argument = Count>>(
+    tree: &BPlusTree<S>,
+) -> Result<bool, AllocError> {
+    let mut all = tree.root_argument().count() == 3;
+    for (key, wanted) in [(0, Err(0)), (1, Ok(0)), (2, Ok(1)), (3, Ok(2)), (4, Err(3))] {
+        all = all && rank(tree, key)? == wanted;
+    }
+    for (place, wanted) in [
+        (0, Some((1, 2))),
+        (1, Some((2, 3))),
+        (2, Some((3, 4))),
+        (3, None),
+    ] {
+        all = all && pair_at(tree, place)? == wanted;
+    }
+    Ok(all)
+}
+
+fn three_pairs_are_counted<S: NodeStore<K = u64, V = u64, Argument = Count>>(
+    alloc: Global,
+) -> Result<bool, AllocError> {
+    let mut tree: BPlusTree<S> = new_tree(alloc)?;
+    let mut all = tree.root_argument().count() == 0
+        && rank(&tree, 1)? == Err(0)
+        && pair_at(&tree, 0)?.is_none()
+        && take_at(&mut tree, 0)?.is_none()
+        && put_three(&mut tree)
+        && are_counted(&tree)?
+        && write(&mut tree, 3, 20) == Some(SelectError::NotFound)
+        && write(&mut tree, 0, 20).is_none()
+        && pair_at(&tree, 0)? == Some((1, 20))
+        && take_at(&mut tree, 3)?.is_none();
+    for wanted in [Some((1, 20)), Some((2, 3)), Some((3, 4)), None] {
+        all = all && take_at(&mut tree, 0)? == wanted;
+    }
+    Ok(all && tree.is_empty() && tree.root_argument().count() == 0)
+}
+
+// Whether a tree holds the keys that were put, and each has its place and its rank.
+fn have_places<S: NodeStore<K = u64, V = u64, Argument = Count>>(
+    tree: &BPlusTree<S>,
+    keys: Keys,
+) -> Result<bool, AllocError> {
+    let len = keys.len as usize;
+    let mut all = tree.len() == len && tree.root_argument().count() == len;
     for place in 0..len {
-        let key = least.wrapping_add(place as u64);
-        assert_eq!(rt;
-            pair_at(tree, place)?,
-            Some((key, value_of(key))),
-            "place {place}"
-        );
-        assert_eq!(rt; rank(tree, key)?, Ok(place), "rank of {key}");
+        let key = keys.least.wrapping_add(place as u64);
+        all = all
+            && pair_at(tree, place)? == Some((key, value_of(key)))
+            && rank(tree, key)? == Ok(place);
     }
     for past in [0, 1, 1000] {
-        assert_eq!(rt; pair_at(tree, len.saturating_add(past))?, None);
+        all = all && pair_at(tree, len.saturating_add(past))?.is_none();
     }
-    Ok(())
+    Ok(all && rank(tree, keys.least.wrapping_add(keys.len))? == Err(len) && is_well_shaped(tree)?)
+}
+
+// The keys from 2 to 499.
+fn places_and_ranks<S: NodeStore<K = u64, V = u64, Argument = Count>>(
+    alloc: Global,
+    start: u64,
+    step: u64,
+) -> Result<bool, AllocError> {
+    let keys = Keys {
+        least: 2,
+        ..Keys::ordered(498, start, step)
+    };
+    let (tree, filled): (BPlusTree<S>, bool) = tree_of(alloc, keys)?;
+    Ok(
+        filled
+            && have_places(&tree, keys)?
+            && rank(&tree, 1)? == Err(0)
+            && rank(&tree, 2)? == Ok(0)
+            && rank(&tree, 500)? == Err(498)
+            && pair_at(&tree, 497)? == Some((499, value_of(499)))
+            && pair_at(&tree, 499)?.is_none(),
+    )
+}
+
+// Keys across each other split the root; put once more they are counted once.
+fn splits_keep_the_counts<S: NodeStore<K = u64, V = u64, Argument = Count>>(
+    alloc: Global,
+    len: u64,
+    height: usize,
+) -> Result<bool, AllocError> {
+    let keys = Keys::ordered(len, 0, 7919);
+    let (mut tree, filled): (BPlusTree<S>, bool) = tree_of(alloc, keys)?;
+    let all = filled && measures(&tree, len as usize, height) && have_places(&tree, keys)?;
+    let mut again = false;
+    for place in 0..len {
+        again = put(&mut tree, keys.key(place)) || again;
+    }
+    Ok(all && !again && have_places(&tree, keys)?)
 }
 
 #[test]
-fn three_pairs_are_counted(rt: HostRuntime) -> Result<(), Fail> {
-    let mut tree: Tree<Count> = BPlusTree::new(NodeStoreVec::new(rt.alloc()))?;
-    assert_eq!(rt; tree.root_argument().count(), 0);
-    for (key, value) in [(1, 2), (2, 3), (3, 4)] {
-        assert_eq!(rt; tree.insert(key, value).ok(), Some(None));
-    }
-    assert_eq!(rt; tree.root_argument().count(), 3);
-    for (key, wanted) in [(0, Err(0)), (1, Ok(0)), (2, Ok(1)), (3, Ok(2)), (4, Err(3))] {
-        assert_eq!(rt; rank(&tree, key)?, wanted, "rank of {key}");
-    }
-    for (place, pair) in [(0, (1, 2)), (1, (2, 3)), (2, (3, 4))] {
-        assert_eq!(rt; pair_at(&tree, place)?, Some(pair));
-    }
-    assert_eq!(rt; pair_at(&tree, 3)?, None);
-    assert_eq!(rt; write(&mut tree, 0, 20), Ok(()));
-    assert_eq!(rt; pair_at(&tree, 0)?, Some((1, 20)));
+fn three_pairs_are_counted_and_taken(rt: HostRuntime) -> Result<(), Fail> {
+    assert!(rt; three_pairs_are_counted::<Store>(rt.alloc())?);
     Ok(())
 }
 
@@ -103,237 +184,160 @@ fn three_pairs_are_counted(rt: HostRuntime) -> Result<(), Fail> {
 fn places_and_ranks_in_each_order(rt: HostRuntime) -> Result<(), Fail> {
     // Upward, downward, and across.
     for (start, step) in [(0, 1), (497, 497), (0, 7919)] {
-        let mut tree: Tree<Count> = BPlusTree::new(NodeStoreVec::new(rt.alloc()))?;
-        fill(&rt, &mut tree, 2, 498, start, step);
-        assert_counted(&rt, &tree, 2, 498)?;
-        assert_eq!(rt; rank(&tree, 1)?, Err(0));
-        assert_eq!(rt; rank(&tree, 500)?, Err(498));
-        assert_well_shaped(&rt, rt.alloc(), &tree)?;
-    }
-    Ok(())
-}
-
-#[test]
-fn the_first_split_keeps_the_counts(rt: HostRuntime) -> Result<(), Fail> {
-    let mut tree: Tree<Count> = BPlusTree::new(NodeStoreVec::new(rt.alloc()))?;
-    fill(&rt, &mut tree, 0, 65, 0, 1);
-    assert_eq!(rt; tree.height(), 1);
-    assert_eq!(rt; rank(&tree, 64)?, Ok(64));
-    assert_counted(&rt, &tree, 0, 65)?;
-    Ok(())
-}
-
-// One inner node has at most 65 leaves of 64 pairs below it, so that 4161 pairs need another level. For a third one there
-// would have to be 2 · 33 · 33 leaves of 32 pairs.
-#[test]
-fn split_inner_nodes_keep_the_counts(rt: HostRuntime) -> Result<(), Fail> {
-    let mut tree: Tree<Count> = BPlusTree::new(NodeStoreVec::new(rt.alloc()))?;
-    fill(&rt, &mut tree, 0, 4161, 0, 7919);
-    assert_eq!(rt; tree.height(), 2);
-    assert_counted(&rt, &tree, 0, 4161)?;
-    // Equal keys are counted once.
-    for key in 0..4161 {
-        assert_eq!(rt;
-            tree.insert(key, value_of(key)).ok(),
-            Some(Some(value_of(key)))
+        assert!(rt;
+            places_and_ranks::<Store>(rt.alloc(), start, step)?,
+            "by {step}"
         );
     }
-    assert_counted(&rt, &tree, 0, 4161)?;
     Ok(())
 }
 
 #[test]
-fn half_of_many_keys_are_even(rt: HostRuntime) -> Result<(), Fail> {
-    let mut tree: Tree<EvenCount> = BPlusTree::new(NodeStoreVec::new(rt.alloc()))?;
-    fill(&rt, &mut tree, 0, 100_000, 0, 1);
-    assert_eq!(rt; tree.len(), 100_000);
-    assert_eq!(rt; tree.root_argument().0, 50_000);
+fn split_nodes_keep_the_counts(rt: HostRuntime) -> Result<(), Fail> {
+    // One inner node has at most 65 leaves of 64 pairs below it, so that 4161 pairs need another level.
+    for (len, height) in [(65, 1), (4161, 2)] {
+        assert!(rt;
+            splits_keep_the_counts::<Store>(rt.alloc(), len, height)?,
+            "of {len}"
+        );
+    }
     Ok(())
 }
 
-/// What is known of the keys below a node whose summary can be refused. Every value serves for every list of keys.
-///
-/// The remainder of a key by 4 bars a level: 1 bars leaves, 2 the nodes above them, 3 those above these, and 0 none. A node of
-/// a level that a key below it bars is refused its summary.
-#[derive(Clone, Copy, Default, PartialEq, Debug)]
-struct Barred {
-    level: u64,
-    count: usize,
-    barred: u64,
-}
-
-impl Barred {
-    // The summary, where the level isn't barred.
-    fn on_level(level: u64, count: usize, barred: u64) -> Result<Barred, AllocError> {
-        if level == barred {
-            return Err(AllocError);
-        }
-        Ok(Barred {
-            level,
-            count,
-            barred,
-        })
-    }
-}
-
-impl Argument<u64> for Barred {
-    ghost is_summary = { λ _ _. ⊤ };
-
-    fn from_leaf(keys: &[u64]) -> Result<Barred, AllocError> {
-        let mut barred = 0;
-        for key in keys {
-            barred = barred.max(*key % 4);
-        }
-        Barred::on_level(1, keys.len(), barred)
-    }
-
-    fn from_inner(_keys: &[u64], arguments: &[Barred]) -> Result<Barred, AllocError> {
-        let mut level: u64 = 0;
-        let mut count: usize = 0;
-        let mut barred: u64 = 0;
-        for argument in arguments {
-            level = level.max(argument.level);
-            count = count.saturating_add(argument.count);
-            barred = barred.max(argument.barred);
-        }
-        Barred::on_level(level.saturating_add(1), count, barred)
-    }
-
-    ghost default_is_summary = { λ _ _. tt };
-}
-
-// A tree of the first `len` multiples of 4, put in upward or downward. Either way the leaves have 32 pairs but one, which is
-// the last or the first and has the others: at most 64.
-fn multiples(
-    rt: &impl Abort,
+// The place stays the same while what stands there leaves, and the keys behind it move up.
+fn places_move_up<S: NodeStore<K = u64, V = u64, Argument = Count>>(
     alloc: Global,
-    len: u64,
-    downward: bool,
-) -> Result<Tree<Barred>, AllocError> {
-    let mut tree: Tree<Barred> = BPlusTree::new(NodeStoreVec::new(alloc))?;
-    for place in 0..len {
-        let from_least = if downward {
-            len.wrapping_sub(place)
-        } else {
-            place.wrapping_add(1)
-        };
-        let key = from_least.wrapping_mul(4);
-        assert_eq!(rt; tree.insert(key, value_of(key)).ok(), Some(None));
+) -> Result<bool, AllocError> {
+    let (mut tree, mut all): (BPlusTree<S>, bool) = tree_of(alloc, Keys::below(200))?;
+    for key in 50..150 {
+        all = all
+            && take_at(&mut tree, 50)? == Some((key, value_of(key)))
+            && is_well_shaped(&tree)?;
     }
-    Ok(tree)
-}
-
-// Asserts that two trees hold the same pairs, in the same nodes under the same numbers, with the same links and summaries.
-fn assert_same(rt: &impl Abort, tree: &Tree<Barred>, wanted: &Tree<Barred>) {
-    assert_eq!(rt; tree.len(), wanted.len());
-    assert_eq!(rt; tree.height(), wanted.height());
-    assert_eq!(rt; tree.root_id(), wanted.root_id());
-    assert_eq!(rt; tree.root_argument(), wanted.root_argument());
-    assert_same_pairs(rt, tree, wanted);
-    for number in 0..100 {
-        assert_same_leaf(rt, tree, wanted, LeafNodeId::from_usize(number));
-        assert_same_inner(rt, tree, wanted, InnerNodeId::from_usize(number));
-    }
-}
-
-fn assert_same_pairs(rt: &impl Abort, tree: &Tree<Barred>, wanted: &Tree<Barred>) {
-    let mut pairs = wanted.iter();
-    for pair in tree.iter() {
-        assert_eq!(rt; Some(pair), pairs.next());
-    }
-    assert_eq!(rt; pairs.next(), None);
-}
-
-fn assert_same_leaf(rt: &impl Abort, tree: &Tree<Barred>, wanted: &Tree<Barred>, id: LeafNodeId) {
-    let Some(other) = wanted.node_store().try_get_leaf(id) else {
-        assert!(rt; tree.node_store().try_get_leaf(id).is_none());
-        return;
-    };
-    let leaf = tree
-        .node_store()
-        .try_get_leaf(id)
-        .expect(rt, "a leaf stands there");
-    assert_eq!(rt; leaf.keys(), other.keys());
-    assert_eq!(rt; leaf.values(), other.values());
-    assert_eq!(rt; (leaf.prev(), leaf.next()), (other.prev(), other.next()));
-}
-
-fn assert_same_inner(rt: &impl Abort, tree: &Tree<Barred>, wanted: &Tree<Barred>, id: InnerNodeId) {
-    let Some(other) = wanted.node_store().try_get_inner(id) else {
-        assert!(rt; tree.node_store().try_get_inner(id).is_none());
-        return;
-    };
-    let node = tree
-        .node_store()
-        .try_get_inner(id)
-        .expect(rt, "an inner node stands there");
-    assert_eq!(rt; node.keys(), other.keys());
-    assert_eq!(rt; node.arguments(), other.arguments());
-    assert!(rt; node.len() > 0);
-    assert!(rt; other.len() > 0);
-    for place in 0..node.len() {
-        assert!(rt; place < other.len());
-        assert_eq!(rt; node.child_id(place), other.child_id(place));
-    }
-    assert_eq!(rt; node.child_id(node.len()), other.child_id(other.len()));
-}
-
-// How many pairs the greatest leaf has.
-fn greatest_leaf(tree: &Tree<Barred>) -> usize {
-    let mut greatest: usize = 0;
-    for number in 0..100 {
-        if let Some(leaf) = tree
-            .node_store()
-            .try_get_leaf(LeafNodeId::from_usize(number))
-        {
-            greatest = greatest.max(leaf.len());
-        }
-    }
-    greatest
-}
-
-// Asserts that a pair is handed back for want of memory.
-fn assert_refused(rt: &impl Abort, tree: &mut Tree<Barred>, key: u64) {
-    match tree.insert(key, value_of(key)) {
-        Err(InsertError::OutOfMemory(k, v)) => {
-            assert_eq!(rt; (k, v), (key, value_of(key)));
-        }
-        _ => assert!(rt; false, "{key} is put in"),
-    }
+    Ok(
+        all && take_at(&mut tree, 99)? == Some((199, value_of(199)))
+            && take_at(&mut tree, 0)? == Some((0, value_of(0)))
+            && take_at(&mut tree, 98)?.is_none()
+            && tree.len() == 98
+            && tree.root_argument().count() == 98
+            && is_well_shaped(&tree)?,
+    )
 }
 
 #[test]
-fn refused_summaries_change_nothing(rt: HostRuntime) -> Result<(), Fail> {
-    // How many pairs, those of the greatest leaf, the height, and the greatest remainder that is refused. Where that leaf is
-    // full it is split; so is the root, which with 2112 pairs has 65 children, and a new root is the level above it.
-    for (len, most, height, greatest) in [
-        (10, 10, 0, 1),
-        (64, 64, 0, 2),
-        (65, 33, 1, 2),
-        (96, 64, 1, 2),
-        (2112, 64, 1, 3),
-        (2113, 33, 2, 3),
-        (2144, 64, 2, 3),
-    ] {
-        for downward in [false, true] {
-            // This one is never refused a pair.
-            let wanted = multiples(&rt, rt.alloc(), len, downward)?;
-            let mut tree = multiples(&rt, rt.alloc(), len, downward)?;
-            assert_eq!(rt; (greatest_leaf(&tree), tree.height()), (most, height));
-            // In that leaf, which was filled last.
-            let edge = if downward { 4 } else { len.wrapping_mul(4) };
-            for remainder in 1..=greatest {
-                assert_refused(&rt, &mut tree, edge.wrapping_add(remainder));
-                assert_same(&rt, &tree, &wanted);
-            }
-            assert_well_shaped(&rt, rt.alloc(), &tree)?;
-            let free = if downward { 0 } else { edge.wrapping_add(4) };
-            assert_eq!(rt; tree.insert(free, 7).ok(), Some(None));
-            assert_eq!(rt; tree.get(&free), Some(&7));
-            assert_eq!(rt; tree.len(), wanted.len().wrapping_add(1));
-            assert_eq!(rt; tree.root_argument().count, tree.len());
-            assert_well_shaped(&rt, rt.alloc(), &tree)?;
-        }
+fn places_behind_one_that_was_taken_move_up(rt: HostRuntime) -> Result<(), Fail> {
+    assert!(rt; places_move_up::<Store>(rt.alloc())?);
+    Ok(())
+}
+
+// The even keys among so many are half of them; then some even keys leave, and as many odd ones.
+fn even_keys_are_counted<S: NodeStore<K = u64, V = u64, Argument = EvenCount>>(
+    alloc: Global,
+) -> Result<bool, AllocError> {
+    let (mut tree, filled): (BPlusTree<S>, bool) = tree_of(alloc, Keys::below(100_000))?;
+    let even = Keys {
+        gap: 2,
+        ..Keys::below(100)
+    };
+    let odd = Keys { least: 1, ..even };
+    Ok(
+        filled
+            && tree.len() == 100_000
+            && tree.root_argument().0 == 50_000
+            && take_all(&mut tree, even)
+            && tree.root_argument().0 == 49_900
+            && take_all(&mut tree, odd)
+            && tree.root_argument().0 == 49_900
+            && tree.len() == 99_800,
+    )
+}
+
+#[test]
+fn even_keys_of_many_are_counted(rt: HostRuntime) -> Result<(), Fail> {
+    assert!(rt; even_keys_are_counted::<NodeStoreVec<u64, u64, EvenCount>>(rt.alloc())?);
+    Ok(())
+}
+
+// A leaf that is full keeps 32 of its pairs, so that 10,000 pairs in order make 312 leaves; an inner node that is full keeps
+// 33 of its children, so that they stand below 9 inner nodes, and these below the root. A query is a place in the first leaf, one
+// less on each level above.
+fn levels_are_asked_once<S: NodeStore<K = u64, V = u64, Argument = Probe>>(
+    alloc: Global,
+) -> Result<bool, AllocError> {
+    let (tree, filled): (BPlusTree<S>, bool) = tree_of(alloc, Keys::multiples(4, 10_000))?;
+    Ok(
+        filled
+            && measures(&tree, 10_000, 2)
+            && pair_at(&tree, 0)? == Some((12, value_of(12)))
+            && pair_at(&tree, 29)? == Some((128, value_of(128)))
+            && pair_at(&tree, 30)?.is_none()
+            && pair_at(&tree, 998).is_err()
+            && rank(&tree, 40_000)? == Ok(2)
+            && rank(&tree, 40_001)? == Err(2),
+    )
+}
+
+fn leaf_alone_is_asked<S: NodeStore<K = u64, V = u64, Argument = Probe>>(
+    alloc: Global,
+) -> Result<bool, AllocError> {
+    let mut tree: BPlusTree<S> = new_tree(alloc)?;
+    Ok(
+        pair_at(&tree, 0)?.is_none()
+            && rank(&tree, 4)? == Err(0)
+            && put_all(&mut tree, Keys::multiples(4, 64))
+            && measures(&tree, 64, 0)
+            && pair_at(&tree, 63)? == Some((256, value_of(256)))
+            && pair_at(&tree, 64)?.is_none()
+            && rank(&tree, 256)? == Ok(0)
+            && rank(&tree, 257)? == Err(0),
+    )
+}
+
+#[test]
+fn each_level_is_asked_once(rt: HostRuntime) -> Result<(), Fail> {
+    assert!(rt; levels_are_asked_once::<ProbedStore>(rt.alloc())?);
+    assert!(rt; leaf_alone_is_asked::<ProbedStore>(rt.alloc())?);
+    Ok(())
+}
+
+// Whether the keys have the values that they were put in with, and 24 has 7.
+fn one_is_written<S: NodeStore<K = u64, V = u64>>(tree: &BPlusTree<S>, keys: Keys) -> bool {
+    let mut all = true;
+    for place in 0..keys.len {
+        let key = keys.key(place);
+        let value = if key == 24 { 7 } else { value_of(key) };
+        all = all && read(tree, key) == Some(value);
     }
+    all
+}
+
+// Below one inner node the place is one further: 5 of the first leaf, then none, and then one that is refused.
+fn queries_write_and_are_refused<S: NodeStore<K = u64, V = u64, Argument = Probe>>(
+    alloc: Global,
+) -> Result<bool, AllocError> {
+    let keys = Keys::multiples(4, 97);
+    let (mut tree, filled): (BPlusTree<S>, bool) = tree_of(alloc, keys)?;
+    let (mut other, _): (BPlusTree<S>, bool) = tree_of(alloc, keys)?;
+    let written = filled
+        && write(&mut tree, 4, 7).is_none()
+        && write(&mut other, 4, 7).is_none()
+        && one_is_written(&tree, keys)
+        && write(&mut tree, 31, 8) == Some(SelectError::NotFound)
+        && write(&mut tree, 999, 8) == Some(SelectError::OutOfMemory)
+        && are_same(&tree, &other);
+    Ok(
+        written
+            && take_at(&mut tree, 31)?.is_none()
+            && take_at(&mut tree, 999).is_err()
+            && are_same(&tree, &other)
+            && take_at(&mut tree, 4)? == Some((24, 7))
+            && measures(&tree, 96, 1)
+            && is_well_shaped(&tree)?,
+    )
+}
+
+#[test]
+fn queries_that_are_refused_change_nothing(rt: HostRuntime) -> Result<(), Fail> {
+    assert!(rt; queries_write_and_are_refused::<ProbedStore>(rt.alloc())?);
     Ok(())
 }

@@ -1,10 +1,10 @@
 use Rattle.std.proofs.Common.{◌≡◌, ◌<◌, length}
 use Rattle.bptree_nodes.specs.Inner.{Fits}
-use Rattle.bptree_tree_tests.proofs.reading_tests.+assert_subtree.Given as goal
+use Rattle.bptree_tree_tests.proofs.trees.+is_subtree.Given as goal
 
 -- one level lower with each call
-abbrev pub decreases-assert_subtree : goal.decreases-assert_subtree
-decreases-assert_subtree g l = l.height
+abbrev pub decreases-is_subtree : goal.decreases-is_subtree
+decreases-is_subtree g l = l.height
 
 abbrev pub invariant-loop-place : goal.invariant-loop-place
 invariant-loop-place g l = record {

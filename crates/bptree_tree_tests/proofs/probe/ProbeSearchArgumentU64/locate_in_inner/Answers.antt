@@ -1,6 +1,6 @@
 use Rattle.std.proofs.Common.{arith}
 use Rattle.bptree_keys.proofs.PieceLemmas.{AllZip-length}
-use Rattle.bptree_tree_tests.proofs.by_argument_tests.LevelsSearchArgumentU64.locate_in_inner.Goals as goal
+use Rattle.bptree_tree_tests.proofs.probe.ProbeSearchArgumentU64.locate_in_inner.Goals as goal
 
 -- there are as many pieces as summaries
 pub returns : goal.returns
