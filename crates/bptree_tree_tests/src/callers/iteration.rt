@@ -1,0 +1,85 @@
+//! Callers of an iterator.
+ghost use Rattle.std.specs.Prelude.{◌≡◌, ◌-◌, ◌++◌, ◌∷◌, [], List, length, true, slice_get, IfOk, Some, None};
+ghost use Rattle.std.specs.Option.{option_map};
+
+use bptree_stores::node_stores::NodeStore;
+use bptree_tree::BPlusTree;
+use bptree_tree::iterator::Iter;
+use std::alloc::AllocError;
+
+// The pairs of a tree come in order, and it tells how many.
+fn starts_with_all<S: NodeStore>(tree: &BPlusTree<S>) -> (Iter<'_, S>, usize)
+    ensures pairs { result.0 ≡ tree.now.contents }
+    ensures len { result.1 ≡ length tree.now.contents }
+{
+    let pairs = tree.iter();
+    let len = pairs.len();
+    (pairs, len)
+}
+
+// The first pair from the front, and the last one from the back.
+fn gives_the_first<S: NodeStore>(tree: &BPlusTree<S>) -> Option<(&S::K, &S::V)>
+    ensures { option_map (λ pair. (pair.0.now, pair.1.now)) result ≡ slice_get tree.now.contents 0 }
+{
+    tree.iter().next()
+}
+
+// Of three pairs each comes once: the first, the last, the one between, and then none from either end.
+fn gives_three_from_both_ends<'a, S: NodeStore>(
+    pairs: &mut Iter<'a, S>,
+) -> (
+    (&'a S::K, &'a S::V),
+    (&'a S::K, &'a S::V),
+    (&'a S::K, &'a S::V),
+)
+    requires { length pairs.old ≡ 3 }
+    ensures pairs { pairs.old ≡ (result.0.0.now, result.0.1.now) ∷ (result.1.0.now, result.1.1.now) ∷ (result.2.0.now, result.2.1.now) ∷ [] }
+    ensures over { pairs.new ≡ [] }
+{
+    match (pairs.next(), pairs.next_back(), pairs.next()) {
+        (Some(first), Some(last), Some(middle)) => (first, middle, last),
+        _ => unreachable!(),
+    }
+}
+
+// With no pairs left nothing comes, however often it is asked.
+fn gives_nothing_at_the_end<S: NodeStore>(pairs: &mut Iter<'_, S>) -> (bool, bool, bool)
+    requires { pairs.old ≡ [] }
+    ensures { result ≡ (true, true, true) }
+{
+    (
+        pairs.next().is_none(),
+        pairs.next_back().is_none(),
+        pairs.next().is_none(),
+    )
+}
+
+// One step makes one fewer, and the hint is exact.
+fn counts_what_is_left<S: NodeStore>(pairs: &mut Iter<'_, S>) -> (usize, (usize, Option<usize>))
+    requires { length pairs.old ≡ 2 }
+    ensures { result ≡ (2, (1, Some 1)) }
+{
+    let before = (*pairs).len();
+    pairs.next_back();
+    (before, (*pairs).size_hint())
+}
+
+// A clone has the same pairs left, is never refused, and goes on alone.
+fn clones_what_is_left<'a, S: NodeStore>(pairs: &Iter<'a, S>) -> Iter<'a, S>
+    ensures { result ≡ pairs.now }
+{
+    match pairs.clone() {
+        Ok(copy) => copy,
+        Err(_) => unreachable!(),
+    }
+}
+
+fn leaves_the_clone_behind<'a, S: NodeStore>(
+    pairs: &mut Iter<'a, S>,
+) -> Result<Iter<'a, S>, AllocError>
+    ensures { IfOk result (λ copy. copy ≡ pairs.old) }
+{
+    let copy = pairs.clone()?;
+    pairs.next();
+    Ok(copy)
+}

@@ -1,0 +1,134 @@
+//! Callers that read, write and remove by summaries: of any argument, and of counts.
+ghost use Rattle.std.specs.Prelude.{◌≡◌, ◌<◌, ◌≤◌, ℕ, length, true, false, slice_get, remove, IfOk, IfErr, OnErr, OnOk, MatchResult, Some, None};
+ghost use Rattle.std.specs.Map.{keys_of};
+ghost use Rattle.std.specs.Ordering.{nat_cmp};
+ghost use Rattle.std.specs.Option.{option_map};
+ghost use Rattle.bptree_arguments.specs.CountLaws.{count_below};
+ghost use Rattle.bptree_keys.specs.Contents.{has, del};
+ghost use Rattle.bptree_nodes.specs.Leaf.{set_value_at};
+
+use bptree_arguments::argument::{RankArgument, SearchArgument};
+use bptree_arguments::count::Count;
+use bptree_stores::node_stores::NodeStore;
+use bptree_tree::{BPlusTree, SelectError};
+use std::alloc::AllocError;
+
+// The pair that is found stands at an allowed place; where none is found, none is allowed.
+fn finds_an_allowed_place<S: NodeStore>(
+    tree: &BPlusTree<S>,
+    query: <S::Argument as SearchArgument<S::K>>::Query,
+) -> Result<bool, AllocError>
+where
+    S::Argument: SearchArgument<S::K>,
+    ensures found { IfOk result (λ found. found ≡ true → (i : ℕ) × (i < length tree.now.contents) × S.Argument.selects query (keys_of tree.now.contents) (Some i)) }
+    ensures absent { IfOk result (λ found. found ≡ false → S.Argument.selects query (keys_of tree.now.contents) None) }
+{
+    Ok(tree.get_by_argument(query)?.is_some())
+}
+
+// By a count the pair at a place is found, and none past the end.
+fn finds_the_pair_at_a_place<S: NodeStore<K = u64, V = u64, Argument = Count>>(
+    tree: &BPlusTree<S>,
+    place: usize,
+) -> Result<Option<(&u64, &u64)>, AllocError>
+    ensures { IfOk result (λ found. option_map (λ pair. (pair.0.now, pair.1.now)) found ≡ slice_get tree.now.contents place) }
+{
+    tree.get_by_argument(place)
+}
+
+// By a count the rank of a key is how many keys are smaller, and tells whether the key is there.
+fn ranks_by_the_smaller_keys<S: NodeStore<K = u64, V = u64, Argument = Count>>(
+    tree: &BPlusTree<S>,
+    k: &u64,
+) -> Result<(bool, usize), AllocError>
+    ensures { IfOk result (λ rank. rank ≡ (has nat_cmp tree.now.contents k.now, count_below nat_cmp k.now (keys_of tree.now.contents))) }
+{
+    match tree.rank_by_argument(k)? {
+        Ok(rank) => Ok((true, rank)),
+        Err(rank) => Ok((false, rank)),
+    }
+}
+
+// A rank is allowed for the key.
+fn ranks_as_allowed<S: NodeStore>(
+    tree: &BPlusTree<S>,
+    k: &S::K,
+) -> Result<<S::Argument as RankArgument<S::K>>::Rank, AllocError>
+where
+    S::Argument: RankArgument<S::K>,
+    ensures { IfOk result (λ rank. S.Argument.ranks k.now (keys_of tree.now.contents) rank) }
+{
+    match tree.rank_by_argument(k)? {
+        Ok(rank) => Ok(rank),
+        Err(rank) => Ok(rank),
+    }
+}
+
+// The pair that leaves is the one with its key. Where none leaves, and where memory is refused, nothing changes.
+fn takes_a_pair<S: NodeStore>(
+    tree: &mut BPlusTree<S>,
+    query: <S::Argument as SearchArgument<S::K>>::Query,
+) -> Option<S::K>
+where
+    S::Argument: SearchArgument<S::K>,
+    ensures taken { (k : S.K) → result ≡ Some k → tree.new.contents ≡ del S.K.cmp tree.old.contents k }
+    ensures stays { result ≡ None → (tree.new.contents ≡ tree.old.contents) × (S.slots tree.new.store ≡ S.slots tree.old.store) }
+{
+    match tree.remove_by_argument(query) {
+        Ok(Some((k, _))) => Some(k),
+        Ok(None) => None,
+        Err(_) => None,
+    }
+}
+
+// By a count the pair at a place that there is leaves, and those behind it move up.
+fn takes_the_pair_at_a_place<S: NodeStore<K = u64, V = u64, Argument = Count>>(
+    tree: &mut BPlusTree<S>,
+    place: usize,
+) -> Result<(u64, u64), AllocError>
+    requires { place < length tree.old.contents }
+    ensures pair { IfOk result (λ pair. slice_get tree.old.contents place ≡ Some pair) }
+    ensures others { OnOk result (tree.new.contents ≡ remove tree.old.contents place) }
+    ensures refused { OnErr result ((tree.new.contents ≡ tree.old.contents) × (S.slots tree.new.store ≡ S.slots tree.old.store) × (tree.new.root ≡ tree.old.root) × (tree.new.height ≡ tree.old.height) × (tree.new.root_argument ≡ tree.old.root_argument)) }
+{
+    match tree.remove_by_argument(place)? {
+        Some(pair) => Ok(pair),
+        None => unreachable!(),
+    }
+}
+
+// And none past the end.
+fn takes_nothing_past_the_end<S: NodeStore<K = u64, V = u64, Argument = Count>>(
+    tree: &mut BPlusTree<S>,
+    place: usize,
+) -> Result<(), AllocError>
+    requires { length tree.old.contents ≤ place }
+    ensures contents { tree.new.contents ≡ tree.old.contents }
+    ensures slots { S.slots tree.new.store ≡ S.slots tree.old.store }
+{
+    match tree.remove_by_argument(place)? {
+        Some(_) => unreachable!(),
+        None => Ok(()),
+    }
+}
+
+// A value is written at an allowed place, and no key changes. Where the query is refused, nothing does.
+fn writes_by_a_query<S: NodeStore>(
+    tree: &mut BPlusTree<S>,
+    query: <S::Argument as SearchArgument<S::K>>::Query,
+    v: S::V,
+) -> Result<(), SelectError>
+where
+    S::Argument: SearchArgument<S::K>,
+    ensures written { OnOk result ((i : ℕ) × S.Argument.selects query (keys_of tree.old.contents) (Some i) × (tree.new.contents ≡ set_value_at tree.old.contents i v)) }
+    ensures refused { OnErr result (tree.new ≡ tree.old) }
+    ensures absent { IfErr result (λ error. error ≡ SelectError.NotFound → S.Argument.selects query (keys_of tree.old.contents) None) }
+{
+    match tree.get_mut_by_argument(query) {
+        Ok(there) => {
+            *there = v;
+            Ok(())
+        }
+        Err(error) => Err(error),
+    }
+}

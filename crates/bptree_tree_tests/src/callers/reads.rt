@@ -1,0 +1,144 @@
+//! Callers of a new tree, and of what is read of any tree.
+ghost use Rattle.std.specs.Prelude.{◌≡◌, ◌≢◌, ◌<◌, ◌-◌, [], length, true, false, slice_get, IfOk, Some, None};
+ghost use Rattle.std.specs.Map.{keys_of};
+ghost use Rattle.std.specs.Option.{option_copied};
+ghost use Rattle.bptree_keys.specs.Contents.{IsAscending, has, value as value_of};
+ghost use Rattle.bptree_nodes.specs.Slot.{IsEmpty};
+ghost use Rattle.bptree_shape.specs.Shape.{IsWellShaped};
+
+use bptree_arguments::count::Count;
+use bptree_keys::node_id::NodeId;
+use bptree_stores::node_stores::NodeStore;
+use bptree_tree::BPlusTree;
+use std::alloc::{AllocError, Global};
+
+// A new tree over an empty store has no pairs, and says so.
+fn starts_empty<S: NodeStore>(store: S) -> Result<(bool, usize, bool, bool), AllocError>
+    requires { IsEmpty (S.slots store) }
+    ensures { IfOk result (λ says. says ≡ (true, 0, true, true)) }
+{
+    let tree = BPlusTree::new(store)?;
+    Ok((
+        tree.is_empty(),
+        tree.len(),
+        tree.first().is_none(),
+        tree.last().is_none(),
+    ))
+}
+
+// A new tree has no key.
+fn finds_nothing_in_a_new_tree<S: NodeStore>(alloc: Global, k: &S::K) -> Result<bool, AllocError>
+    ensures { IfOk result (λ found. found ≡ false) }
+{
+    let tree: BPlusTree<S> = BPlusTree::new(S::empty(alloc))?;
+    Ok(tree.get(k).is_some())
+}
+
+// A tree without pairs says so, and has no ends.
+fn says_that_it_is_empty<S: NodeStore>(tree: &BPlusTree<S>) -> (bool, usize, bool, bool)
+    requires { tree.now.contents ≡ [] }
+    ensures { result ≡ (true, 0, true, true) }
+{
+    (
+        tree.is_empty(),
+        tree.len(),
+        tree.first().is_none(),
+        tree.last().is_none(),
+    )
+}
+
+// One with a pair doesn't.
+fn says_that_it_is_not_empty<S: NodeStore>(tree: &BPlusTree<S>) -> bool
+    requires { tree.now.contents ≢ [] }
+    ensures { result ≡ false }
+{
+    tree.is_empty()
+}
+
+// A tree that is not empty has both ends.
+fn has_a_first<S: NodeStore>(tree: &BPlusTree<S>) -> (&S::K, &S::V)
+    requires { 0 < length tree.now.contents }
+    ensures { slice_get tree.now.contents 0 ≡ Some (result.0.now, result.1.now) }
+{
+    match tree.first() {
+        Some(first) => first,
+        None => unreachable!(),
+    }
+}
+
+fn has_a_last<S: NodeStore>(tree: &BPlusTree<S>) -> (&S::K, &S::V)
+    requires { 0 < length tree.now.contents }
+    ensures { slice_get tree.now.contents (length tree.now.contents - 1) ≡ Some (result.0.now, result.1.now) }
+{
+    match tree.last() {
+        Some(last) => last,
+        None => unreachable!(),
+    }
+}
+
+// One pair alone is the first and the last.
+fn has_one_pair_at_both_ends<S: NodeStore>(tree: &BPlusTree<S>) -> (&S::V, &S::V)
+    requires { length tree.now.contents ≡ 1 }
+    ensures { result.0.now ≡ result.1.now }
+{
+    match (tree.first(), tree.last()) {
+        (Some(first), Some(last)) => (first.1, last.1),
+        _ => unreachable!(),
+    }
+}
+
+// The number of pairs, whose keys ascend.
+fn counts_ascending_pairs<S: NodeStore>(tree: &BPlusTree<S>) -> usize
+    ensures { IsAscending S.K.cmp tree.now.contents × (length tree.now.contents ≡ result) }
+{
+    tree.len()
+}
+
+// A key is found just where one equals it.
+fn finds_just_what_is_there<S: NodeStore>(tree: &BPlusTree<S>, k: &S::K) -> bool
+    ensures { result ≡ has S.K.cmp tree.now.contents k.now }
+{
+    tree.get(k).is_some()
+}
+
+// And with its value.
+fn finds_the_value<S: NodeStore>(tree: &BPlusTree<S>, k: &S::K) -> Option<S::V>
+where
+    S::V: Copy,
+    ensures { result ≡ value_of S.K.cmp tree.now.contents k.now }
+{
+    tree.get(k).copied()
+}
+
+// The summary of all keys, which of a count is their number.
+fn summarizes_all_keys<S: NodeStore>(tree: &BPlusTree<S>) -> &S::Argument
+    ensures { S.Argument.is_summary result.now (keys_of tree.now.contents) }
+{
+    tree.root_argument()
+}
+
+fn counts_all_keys<S: NodeStore<K = u64, V = u64, Argument = Count>>(tree: &BPlusTree<S>) -> usize
+    ensures { result ≡ length tree.now.contents }
+{
+    tree.root_argument().count()
+}
+
+// The nodes that the root and the height name are a whole tree.
+fn shows_its_nodes<S: NodeStore>(tree: &BPlusTree<S>) -> (&S, NodeId, usize)
+    ensures { IsWellShaped S.K.cmp S.Argument.is_summary (S.slots result.0.now) result.2 result.1 }
+{
+    (tree.node_store(), tree.root_id(), tree.height())
+}
+
+// The root is a leaf just where there are no levels above the leaves, and it stands in the store.
+fn reads_the_root<S: NodeStore>(tree: &BPlusTree<S>) -> bool
+    ensures { result ≡ true }
+{
+    let store = tree.node_store();
+    match (tree.root_id(), tree.height()) {
+        (NodeId::Leaf(id), 0) => store.try_get_leaf(id).is_some(),
+        (NodeId::Inner(_), 0) => unreachable!(),
+        (NodeId::Inner(id), _) => store.try_get_inner(id).is_some(),
+        (NodeId::Leaf(_), _) => unreachable!(),
+    }
+}
