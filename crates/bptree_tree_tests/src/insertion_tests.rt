@@ -1,22 +1,17 @@
 //! Trees that grow by insertion, with shapes that follow from how many pairs a leaf takes, and insertions that are refused.
 ghost use Rattle.std.proofs.Common.{rules};
 
-use crate::probe::Probe;
+use crate::probe::{Probe, ProbedStore};
 use crate::trees::{
-    Keys, are_same, has_leaves, holds_all_below, is_well_shaped, measures, new_tree, put, put_all,
-    read, tree_of, value_of,
+    CountedStore, Keys, are_same, has_leaves, holds_all_below, is_well_shaped, measures, new_tree,
+    put, put_all, read, tree_of, value_of,
 };
-use bptree_arguments::count::Count;
 use bptree_keys::key::Key;
 use bptree_stores::node_store_vec::NodeStoreVec;
 use bptree_stores::node_stores::NodeStore;
 use bptree_tree::{BPlusTree, InsertError};
 use std::alloc::{AllocError, Global};
 use std::test::Fail;
-
-type Store = NodeStoreVec<u64, u64, Count>;
-
-type ProbedStore = NodeStoreVec<u64, u64, Probe>;
 
 // A full leaf keeps 32 of its pairs, and the new one has the others.
 fn leaves_split_in_halves<S: NodeStore<K = u64, V = u64>>(
@@ -80,8 +75,8 @@ fn grows_to_two_levels<S: NodeStore<K = u64, V = u64>>(
 
 #[test]
 fn full_leaves_split_in_halves(rt: HostRuntime) -> Result<(), Fail> {
-    assert!(rt; leaves_split_in_halves::<Store>(rt.alloc())?);
-    assert!(rt; full_leaf_takes_a_new_value::<Store>(rt.alloc())?);
+    assert!(rt; leaves_split_in_halves::<CountedStore>(rt.alloc())?);
+    assert!(rt; full_leaf_takes_a_new_value::<CountedStore>(rt.alloc())?);
     Ok(())
 }
 
@@ -90,7 +85,7 @@ fn inner_nodes_split_in_each_order(rt: HostRuntime) -> Result<(), Fail> {
     // Upward, downward, and across.
     for (start, step) in [(0, 1), (4160, 4160), (0, 7919)] {
         assert!(rt;
-            grows_to_two_levels::<Store>(rt.alloc(), start, step)?,
+            grows_to_two_levels::<CountedStore>(rt.alloc(), start, step)?,
             "by {step}"
         );
     }

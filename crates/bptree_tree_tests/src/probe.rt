@@ -2,7 +2,10 @@
 ghost use Rattle.std.specs.Prelude.{⊤};
 
 use bptree_arguments::argument::{Argument, RankArgument, SearchArgument};
+use bptree_stores::node_store_vec::NodeStoreVec;
 use std::alloc::AllocError;
+
+pub type ProbedStore = NodeStoreVec<u64, u64, Probe>;
 
 /// What is known of the keys below a node whose summary can be refused. Every value serves for every list of keys, every place
 /// for every query, and every rank for every key.

@@ -1,16 +1,13 @@
 //! Reads of an empty tree, and of one inner node over three leaves, against pairs that are known beforehand.
 use crate::trees::{
-    Keys, front, has_leaves, is_well_shaped, measures, new_tree, read, tree_of, value_of,
+    CountedStore, Keys, front, has_leaves, is_well_shaped, measures, new_tree, read, tree_of,
+    value_of,
 };
-use bptree_arguments::count::Count;
-use bptree_stores::node_store_vec::NodeStoreVec;
 use bptree_stores::node_stores::NodeStore;
 use bptree_tree::BPlusTree;
 use bptree_tree::iterator::Iter;
 use std::alloc::{AllocError, Global};
 use std::test::Fail;
-
-type Store = NodeStoreVec<u64, u64, Count>;
 
 // Writes the value at a key, and tells whether it is there.
 fn write<S: NodeStore<K = u64, V = u64>>(tree: &mut BPlusTree<S>, key: u64, value: u64) -> bool {
@@ -180,30 +177,30 @@ fn clone_of_an_iterator_goes_on_alone<S: NodeStore<K = u64, V = u64>>(
 
 #[test]
 fn an_empty_tree_has_nothing_to_read(rt: HostRuntime) -> Result<(), Fail> {
-    assert!(rt; empty_tree_is_read::<Store>(rt.alloc())?);
+    assert!(rt; empty_tree_is_read::<CountedStore>(rt.alloc())?);
     Ok(())
 }
 
 #[test]
 fn finds_each_key_and_no_gap(rt: HostRuntime) -> Result<(), Fail> {
-    assert!(rt; three_leaves_are_read::<Store>(rt.alloc())?);
+    assert!(rt; three_leaves_are_read::<CountedStore>(rt.alloc())?);
     Ok(())
 }
 
 #[test]
 fn writes_one_value_alone(rt: HostRuntime) -> Result<(), Fail> {
-    assert!(rt; one_value_is_written::<Store>(rt.alloc())?);
+    assert!(rt; one_value_is_written::<CountedStore>(rt.alloc())?);
     Ok(())
 }
 
 #[test]
 fn gives_the_pairs_from_both_ends(rt: HostRuntime) -> Result<(), Fail> {
-    assert!(rt; pairs_come_from_each_end::<Store>(rt.alloc())?);
+    assert!(rt; pairs_come_from_each_end::<CountedStore>(rt.alloc())?);
     Ok(())
 }
 
 #[test]
 fn a_clone_of_an_iterator_goes_on_alone(rt: HostRuntime) -> Result<(), Fail> {
-    assert!(rt; clone_of_an_iterator_goes_on_alone::<Store>(rt.alloc())?);
+    assert!(rt; clone_of_an_iterator_goes_on_alone::<CountedStore>(rt.alloc())?);
     Ok(())
 }

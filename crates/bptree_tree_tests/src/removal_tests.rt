@@ -1,19 +1,14 @@
 //! Trees that shrink by removal, and removals that are refused.
-use crate::probe::Probe;
+use crate::probe::{Probe, ProbedStore};
 use crate::trees::{
-    Keys, are_same, front, has_leaves, is_well_shaped, measures, new_tree, nodes_below, put,
-    put_all, take, take_all, tree_of, value_of,
+    CountedStore, Keys, are_same, front, has_leaves, is_well_shaped, measures, new_tree,
+    nodes_below, put, put_all, rank, take, take_all, tree_of, value_of,
 };
 use bptree_arguments::count::Count;
-use bptree_stores::node_store_vec::NodeStoreVec;
 use bptree_stores::node_stores::NodeStore;
 use bptree_tree::BPlusTree;
 use std::alloc::{AllocError, Global};
 use std::test::Fail;
-
-type Store = NodeStoreVec<u64, u64, Count>;
-
-type ProbedStore = NodeStoreVec<u64, u64, Probe>;
 
 // Takes keys, and tells whether the tree is well shaped and counted, each time that so many more have left.
 fn shrinks_well<S: NodeStore<K = u64, V = u64, Argument = Count>>(
@@ -41,13 +36,6 @@ fn key_behind<S: NodeStore<K = u64, V = u64>>(tree: &BPlusTree<S>, count: usize)
         Some((key, _)) => Some(key),
         None => None,
     }
-}
-
-fn rank<S: NodeStore<K = u64, V = u64, Argument = Count>>(
-    tree: &BPlusTree<S>,
-    key: u64,
-) -> Result<Result<usize, usize>, AllocError> {
-    tree.rank_by_argument(&key)
 }
 
 // The keys from one up to another, both included.
@@ -106,8 +94,8 @@ fn middle_leaf_is_helped<S: NodeStore<K = u64, V = u64>>(
 
 #[test]
 fn neighbours_lend_and_join(rt: HostRuntime) -> Result<(), Fail> {
-    assert!(rt; two_leaves_lend_and_join::<Store>(rt.alloc())?);
-    assert!(rt; middle_leaf_is_helped::<Store>(rt.alloc())?);
+    assert!(rt; two_leaves_lend_and_join::<CountedStore>(rt.alloc())?);
+    assert!(rt; middle_leaf_is_helped::<CountedStore>(rt.alloc())?);
     Ok(())
 }
 
@@ -132,7 +120,7 @@ fn all_leave<S: NodeStore<K = u64, V = u64, Argument = Count>>(
 
 #[test]
 fn all_of_twenty_thousand_keys_leave(rt: HostRuntime) -> Result<(), Fail> {
-    assert!(rt; all_leave::<Store>(rt.alloc(), Keys::ordered(20_000, 0, 6007), 1000)?);
+    assert!(rt; all_leave::<CountedStore>(rt.alloc(), Keys::ordered(20_000, 0, 6007), 1000)?);
     Ok(())
 }
 
@@ -141,7 +129,7 @@ fn many_keys_leave_in_each_order(rt: HostRuntime) -> Result<(), Fail> {
     let upward = Keys::below(4161);
     for keys in [upward, upward.downward(), Keys::ordered(4161, 2080, 4)] {
         assert!(rt;
-            all_leave::<Store>(rt.alloc(), keys, 37)?,
+            all_leave::<CountedStore>(rt.alloc(), keys, 37)?,
             "from {}",
             keys.start
         );
@@ -227,13 +215,13 @@ fn cleared_tree_is_empty<S: NodeStore<K = u64, V = u64, Argument = Count>>(
 
 #[test]
 fn what_mends_short_nodes_is_counted(rt: HostRuntime) -> Result<(), Fail> {
-    assert!(rt; mending_is_counted::<Store>(rt.alloc())?);
+    assert!(rt; mending_is_counted::<CountedStore>(rt.alloc())?);
     Ok(())
 }
 
 #[test]
 fn a_tree_that_was_cleared_is_empty(rt: HostRuntime) -> Result<(), Fail> {
-    assert!(rt; cleared_tree_is_empty::<Store>(rt.alloc())?);
+    assert!(rt; cleared_tree_is_empty::<CountedStore>(rt.alloc())?);
     Ok(())
 }
 

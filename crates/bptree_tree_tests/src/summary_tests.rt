@@ -1,10 +1,10 @@
 //! Trees whose summaries are kept up, and reads, writes and removals by them.
-use crate::probe::Probe;
+use crate::probe::{Probe, ProbedStore};
 use crate::trees::{
-    Keys, are_same, is_well_shaped, measures, new_tree, put, put_all, read, take_all, tree_of,
-    value_of,
+    CountedStore, Keys, are_same, is_well_shaped, measures, new_tree, put, put_all, rank, read,
+    take_all, tree_of, value_of,
 };
-use bptree_arguments::argument::{RankArgument, SearchArgument};
+use bptree_arguments::argument::SearchArgument;
 use bptree_arguments::count::Count;
 use bptree_arguments_tests::even_count::EvenCount;
 use bptree_stores::node_store_vec::NodeStoreVec;
@@ -12,10 +12,6 @@ use bptree_stores::node_stores::NodeStore;
 use bptree_tree::{BPlusTree, SelectError};
 use std::alloc::{AllocError, Global};
 use std::test::Fail;
-
-type Store = NodeStoreVec<u64, u64, Count>;
-
-type ProbedStore = NodeStoreVec<u64, u64, Probe>;
 
 // The pair that a place leads to.
 fn pair_at<S: NodeStore<K = u64, V = u64>>(
@@ -29,16 +25,6 @@ where
         Some((key, value)) => Ok(Some((*key, *value))),
         None => Ok(None),
     }
-}
-
-fn rank<S: NodeStore<K = u64, V = u64>>(
-    tree: &BPlusTree<S>,
-    key: u64,
-) -> Result<Result<usize, usize>, AllocError>
-where
-    S::Argument: RankArgument<u64, Rank = usize>,
-{
-    tree.rank_by_argument(&key)
 }
 
 // Writes the value at a place, and answers why it can't.
@@ -176,7 +162,7 @@ fn splits_keep_the_counts<S: NodeStore<K = u64, V = u64, Argument = Count>>(
 
 #[test]
 fn three_pairs_are_counted_and_taken(rt: HostRuntime) -> Result<(), Fail> {
-    assert!(rt; three_pairs_are_counted::<Store>(rt.alloc())?);
+    assert!(rt; three_pairs_are_counted::<CountedStore>(rt.alloc())?);
     Ok(())
 }
 
@@ -185,7 +171,7 @@ fn places_and_ranks_in_each_order(rt: HostRuntime) -> Result<(), Fail> {
     // Upward, downward, and across.
     for (start, step) in [(0, 1), (497, 497), (0, 7919)] {
         assert!(rt;
-            places_and_ranks::<Store>(rt.alloc(), start, step)?,
+            places_and_ranks::<CountedStore>(rt.alloc(), start, step)?,
             "by {step}"
         );
     }
@@ -197,7 +183,7 @@ fn split_nodes_keep_the_counts(rt: HostRuntime) -> Result<(), Fail> {
     // One inner node has at most 65 leaves of 64 pairs below it, so that 4161 pairs need another level.
     for (len, height) in [(65, 1), (4161, 2)] {
         assert!(rt;
-            splits_keep_the_counts::<Store>(rt.alloc(), len, height)?,
+            splits_keep_the_counts::<CountedStore>(rt.alloc(), len, height)?,
             "of {len}"
         );
     }
@@ -226,7 +212,7 @@ fn places_move_up<S: NodeStore<K = u64, V = u64, Argument = Count>>(
 
 #[test]
 fn places_behind_one_that_was_taken_move_up(rt: HostRuntime) -> Result<(), Fail> {
-    assert!(rt; places_move_up::<Store>(rt.alloc())?);
+    assert!(rt; places_move_up::<CountedStore>(rt.alloc())?);
     Ok(())
 }
 

@@ -1,12 +1,17 @@
 //! What the tests do with trees: they make, fill and empty them, and walk over their nodes.
+use bptree_arguments::argument::RankArgument;
+use bptree_arguments::count::Count;
 use bptree_keys::key::Key;
 use bptree_keys::node_id::{InnerNodeId, LeafNodeId, NodeId};
 use bptree_nodes::inner_node::InnerNode;
 use bptree_nodes::leaf_node::LeafNode;
+use bptree_stores::node_store_vec::NodeStoreVec;
 use bptree_stores::node_stores::NodeStore;
 use bptree_tree::BPlusTree;
 use bptree_tree::iterator::Iter;
 use std::alloc::{AllocError, Global};
+
+pub type CountedStore = NodeStoreVec<u64, u64, Count>;
 
 /// So many keys from a least one on, a gap apart. They come in an order that begins at one of them and goes some places further
 /// each time, round the end.
@@ -117,6 +122,17 @@ pub fn tree_of<S: NodeStore<K = u64, V = u64>>(
 /// The value at a key.
 pub fn read<S: NodeStore<K = u64, V = u64>>(tree: &BPlusTree<S>, key: u64) -> Option<u64> {
     tree.get(&key).copied()
+}
+
+/// The rank of a key: `Ok` where it is there.
+pub fn rank<S: NodeStore<K = u64, V = u64>>(
+    tree: &BPlusTree<S>,
+    key: u64,
+) -> Result<Result<usize, usize>, AllocError>
+where
+    S::Argument: RankArgument<u64, Rank = usize>,
+{
+    tree.rank_by_argument(&key)
 }
 
 /// Whether the tree has so many pairs, and so many levels of inner nodes.
