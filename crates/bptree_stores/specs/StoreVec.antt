@@ -1,5 +1,5 @@
 -- What a store in vectors means, and that store with a node changed.
-use Rattle.std.specs.Prelude.{◌≡◌, ◌≤◌, ℕ, slice_index_or, vec_capacity, refl}
+use Rattle.std.specs.Prelude.{◌≡◌, ℕ, slice_index_or, refl}
 use Rattle.std.proofs.Common.{sym, ap, ◌∙◌}
 use Rattle.std.specs.Vec.{with_item}
 use Rattle.bptree_nodes.specs.Inner.{Inner}
@@ -13,11 +13,6 @@ use Rattle.bptree_stores.specs.declared.node_store_vec.NodeStoreVec.{NodeStoreVe
 module _ {K V A : Type 0} where
   abbrev pub slots : NodeStoreVec K V A → Slots (Inner K A) (Leaf K V)
   slots s = record { inner = slot_at s.inner_nodes.items; leaf = slot_at s.leaf_nodes.items }
-
-  -- so many numbers of each kind can be given out before a vector grows
-  pub record HasRoomFor (capacity : ℕ) (s : NodeStoreVec K V A) : Type 0 where
-    pub inner : capacity ≤ vec_capacity s.inner_nodes
-    pub leaf : capacity ≤ vec_capacity s.leaf_nodes
 
   abbrev pub vec_with_leaf : NodeStoreVec K V A → ℕ → Leaf K V → NodeStoreVec K V A
   vec_with_leaf s id leaf = record s { leaf_nodes = with_item s.leaf_nodes id (with_node (slice_index_or s.leaf_nodes.items id Vacant) leaf) }

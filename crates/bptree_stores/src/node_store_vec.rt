@@ -43,7 +43,7 @@ pub struct NodeStoreVec<K: Key, V, A: Argument<K> = ()> {
 }
 
 impl<K: Key, V: Drop, A: Argument<K>> NodeStoreVec<K, V, A> {
-    ghost use Rattle.bptree_stores.specs.StoreVec.{slots, HasRoomFor};
+    ghost use Rattle.bptree_stores.specs.StoreVec.{slots};
 
     /// A store with no node and no number held. It takes no memory now.
     pub fn new(alloc: Global) -> Self
@@ -54,8 +54,7 @@ impl<K: Key, V: Drop, A: Argument<K>> NodeStoreVec<K, V, A> {
 
     /// The same, with room for so many numbers of each kind before a vector grows.
     pub fn with_capacity(alloc: Global, capacity: usize) -> Result<Self, AllocError>
-        ensures empty { IfOk result (λ store. IsEmpty (slots store)) }
-        ensures room { IfOk result (HasRoomFor capacity) }
+        ensures { IfOk result (λ store. IsEmpty (slots store)) }
     {
         Ok(NodeStoreVec {
             inner_nodes: Vec::with_capacity(alloc, capacity)?,

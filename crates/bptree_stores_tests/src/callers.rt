@@ -5,7 +5,6 @@ ghost use Rattle.bptree_nodes.specs.Inner.{Inner};
 ghost use Rattle.bptree_nodes.specs.Leaf.{Leaf};
 ghost use Rattle.bptree_nodes.specs.Slot.{Free, Held, Present, IsPresent};
 ghost use Rattle.bptree_stores.specs.Clones.{IsSlotClone};
-ghost use Rattle.bptree_stores.specs.StoreVec.{HasRoomFor};
 
 use bptree_arguments::argument::Argument;
 use bptree_keys::key::Key;
@@ -27,18 +26,7 @@ fn starts_empty<S: NodeStore>(alloc: Global) -> (S, bool)
     (store, says)
 }
 
-// So has one over vectors, which has the room that was asked for and any less.
-fn starts_with_room<K: Key, V: Drop, A: Argument<K>>(
-    alloc: Global,
-    few: usize,
-    many: usize,
-) -> Result<NodeStoreVec<K, V, A>, AllocError>
-    requires { few ≤ many }
-    ensures room { IfOk result (HasRoomFor few) }
-{
-    NodeStoreVec::with_capacity(alloc, many)
-}
-
+// So has one over vectors, with or without room.
 fn says_that_it_is_empty<K: Key, V: Drop, A: Argument<K>>(
     alloc: Global,
     capacity: usize,

@@ -119,8 +119,8 @@ impl<S: NodeStore> BPlusTree<S> {
     /// Puts `v` at `k`, and hands back the value that was there.
     ///
     /// A key that equals `k` stays, and its value alone is replaced: that takes no memory and is never refused. A new key
-    /// takes memory where a leaf is full, for one node on each level that is split and for a clone of one key, and where a
-    /// summary takes some. Each node on the way to its leaf takes a new summary of its child. A pair with a new key can be
+    /// takes memory where a leaf is full: for one node on each level that is split, for a new root where the root is, for the
+    /// places of their numbers in the store, and for a clone of one key; and where a summary takes some. Each node on the way to its leaf takes a new summary of its child. A pair with a new key can be
     /// refused: for want of memory, or in a tree of `usize::MAX` pairs. Then nothing has changed.
     pub fn insert(&mut self, k: S::K, v: S::V) -> Result<Option<S::V>, InsertError<S::K, S::V>>
         ensures ok { IfOk result (λ old. (old ≡ value S.K.cmp self.old.contents k) × (self.new.contents ≡ put S.K.cmp self.old.contents k v)) }
