@@ -80,16 +80,16 @@ pub fn value_of(key: u64) -> u64 {
 /// Puts a new key.
 pub fn put<S: NodeStore<K = u64, V = u64>>(tree: &mut BPlusTree<S>, key: u64) -> bool {
     match tree.insert(key, value_of(key)) {
-        Ok(old) => old.is_none(),
-        Err(_) => false,
+        Ok(None) => true,
+        _ => false,
     }
 }
 
 /// Removes a key that is there.
 pub fn take<S: NodeStore<K = u64, V = u64>>(tree: &mut BPlusTree<S>, key: u64) -> bool {
     match tree.remove(&key) {
-        Ok(old) => old == Some(value_of(key)),
-        Err(_) => false,
+        Ok(Some(old)) => old == value_of(key),
+        _ => false,
     }
 }
 
@@ -170,9 +170,10 @@ fn fits<K>(len: usize, root_least: usize, low: Option<&K>, high: Option<&K>) -> 
 fn ascend<K: Key>(keys: &[K], low: Option<&K>, high: Option<&K>) -> bool {
     let mut before = None;
     for key in keys {
-        let above = match before {
-            Some(smaller) => smaller < key,
-            None => low.is_none_or(|bound| bound <= key),
+        let above = match (before, low) {
+            (Some(smaller), _) => smaller < key,
+            (None, Some(bound)) => bound <= key,
+            (None, None) => true,
         };
         if !above {
             return false;
@@ -267,7 +268,12 @@ pub fn is_well_shaped<S: NodeStore>(tree: &BPlusTree<S>) -> Result<bool, AllocEr
 // Whether a leaf begins and ends with these keys, and has so many.
 fn ends_with<V: Drop>(leaf: &LeafNode<u64, V>, wanted: (u64, u64, usize)) -> bool {
     let keys = leaf.keys();
-    keys.first() == Some(&wanted.0) && keys.last() == Some(&wanted.1) && keys.len() == wanted.2
+    match (keys.first(), keys.last()) {
+        (Some(first), Some(last)) => {
+            *first == wanted.0 && *last == wanted.1 && keys.len() == wanted.2
+        }
+        _ => false,
+    }
 }
 
 /// Whether a well shaped tree has these leaves in order: the first key, the last key and how many there are.
