@@ -15,7 +15,7 @@ use Rattle.bptree_shape.specs.Shape.{pairs_at, IsWellShaped}
 use Rattle.bptree_insertion.proofs.Upserted.{node_ascends, value_there}
 use Rattle.bptree_nodes.specs.Inner.{Inner}
 use Rattle.bptree_nodes.specs.Leaf.{Leaf}
-use Rattle.bptree_nodes.specs.Slot.{Slot, Slots, Held, Present, UpdatesLeaf}
+use Rattle.bptree_nodes.specs.Slot.{Slot, Slots, Present, UpdatesLeaf}
 use Rattle.bptree_keys.specs.declared.node_id.LeafNodeId.{LeafNodeId}
 use Rattle.bptree_removal.proofs.Shares.{insert_removed}
 use Rattle.bptree_removal.proofs.Triples.{slots_same}

@@ -14,12 +14,12 @@ use Rattle.bptree_keys.specs.declared.node_id.NodeId.TheVariants as kind
 use Rattle.bptree_insertion.specs.Climb.{least_at, Climbs, Risen}
 use Rattle.bptree_shape.specs.Edit.{Edits}
 use Rattle.bptree_shape.specs.Outcome.{Done}
-use Rattle.bptree_removal.specs.Help.{Helps, node_size, child_size, IsInnerAt}
+use Rattle.bptree_removal.specs.Help.{Helps, node_size, child_size, IsInnerAt, AllInner}
 use Rattle.bptree_shape.specs.Order.{Chain}
 use Rattle.bptree_shape.specs.Path.{Way}
 use Rattle.bptree_shape.specs.Shape.{inner_keys, inner_children, pairs_at, inner_count, stands, root_least, IsTree}
 use Rattle.bptree_removal.specs.Share.{CanLend, Moves, HasEntry}
-use Rattle.bptree_insertion.specs.Sums.{HasPlace}
+use Rattle.bptree_insertion.specs.Sums.{HasPlace, PlaceAt}
 use Rattle.bptree_removal.specs.Trim.{ClimbsShort, Sunk}
 use Rattle.bptree_removal.specs.declared.sharing.Lender.{Lender}
 use Rattle.bptree_shape.proofs.Agreeing.{stands_le}
@@ -220,3 +220,69 @@ module _ {K V A : Type 0} {cmp : K → K → Ordering} (total : IsTotalOrder cmp
 
     pub within_of : (slot : ℕ) (lender : Option Lender) → Helps (child_size now node.children) i slot lender → slot < length node.keys
     within_of slot lender helps = help.within_of now node.children (length node.keys) i slot lender place.children place.within some_key helps
+
+-- The same of what stands under the number of the node above.
+module _ {K V A : Type 0} {cmp : K → K → Ordering} (total : IsTotalOrder cmp) {is_summary : A → List K → Type 0} {now : Slots (Inner K A) (Leaf K V)} {path : List (InnerNodeId × ℕ × NodeId)} {nid : InnerNodeId} {a : A}
+    (c : ClimbsShort cmp is_summary now path nid a) (rest : List (InnerNodeId × ℕ × NodeId)) (number : InnerNodeId) (i : ℕ) (child : NodeId) (e : path ≡ rest ++ (number, i, child) ∷ []) where
+  at_number : now.inner number.0 ≡ Present (node total is_summary now path nid a c rest number i child e)
+  at_number = here total is_summary now path nid a c rest number i child e
+
+  pub node_there : IsPresent (now.inner number.0)
+  node_there = rw at_number tt
+
+  pub inners_there : AllInner now (inner_children (now.inner number.0))
+  inners_there = rw at_number (all_inner total is_summary now path nid a c rest number i child e)
+
+  pub long_there : length (inner_children (now.inner number.0)) ≡ length (inner_keys (now.inner number.0)) + 1
+  long_there = rw at_number (place total is_summary now path nid a c rest number i child e).children
+
+  pub most_there : length (inner_keys (now.inner number.0)) ≤ 64
+  most_there = rw at_number (low total is_summary now path nid a c rest number i child e)
+
+  pub fits_there : length (inner_children (now.inner number.0)) ≤ 65
+  fits_there = omega (arith, long_there, most_there)
+
+  pub place_there : i < length (inner_children (now.inner number.0))
+  place_there = let p = place total is_summary now path nid a c rest number i child e in rw at_number (omega (arith, p.within, p.children))
+
+  module _ (slot : ℕ) (helper : Option Lender) (helps : Helps (child_size now (inner_children (now.inner number.0))) i slot helper) where
+    helps_so : Helps (child_size now (node total is_summary now path nid a c rest number i child e).children) i slot helper
+    helps_so = subst (λ (x : Slot (Inner K A)). Helps (child_size now (inner_children x)) i slot helper) at_number helps
+
+    within_so : slot < length (node total is_summary now path nid a c rest number i child e).keys
+    within_so = within_of total is_summary now path nid a c rest number i child e slot helper helps_so
+
+    pub slot_there : slot + 1 < length (inner_children (now.inner number.0))
+    slot_there = rw at_number (omega (arith, within_so, (place total is_summary now path nid a c rest number i child e).children))
+
+    pub entry_at : PlaceAt (now.inner number.0) (slot + 1)
+    entry_at = let p = place total is_summary now path nid a c rest number i child e in rw at_number (record { within = omega (arith, within_so); children = p.children; arguments = p.arguments })
+
+    pub beside_there : (i ≡ slot) ⊎ (i ≡ suc slot)
+    beside_there = beside_of total is_summary now path nid a c rest number i child e slot helper helps_so
+
+    module _ (left right : InnerNodeId) (read_left : slice_get (inner_children (now.inner number.0)) slot ≡ Some (kind.Inner left)) (read_right : slice_get (inner_children (now.inner number.0)) (slot + 1) ≡ Some (kind.Inner right)) where
+      pub left_so : slice_get (node total is_summary now path nid a c rest number i child e).children slot ≡ Some (kind.Inner left)
+      left_so = subst (λ (x : Slot (Inner K A)). slice_get (inner_children x) slot ≡ Some (kind.Inner left)) at_number read_left
+
+      pub right_so : slice_get (node total is_summary now path nid a c rest number i child e).children (slot + 1) ≡ Some (kind.Inner right)
+      right_so = subst (λ (x : Slot (Inner K A)). slice_get (inner_children x) (slot + 1) ≡ Some (kind.Inner right)) at_number read_right
+
+      pub left_there : IsFull now (kind.Inner left)
+      left_there = full_at total is_summary now path nid a c rest number i child e slot left left_so
+
+      pub right_there : IsFull now (kind.Inner right)
+      right_there = full_at total is_summary now path nid a c rest number i child e (slot + 1) right right_so
+
+      pub apart_there : (left.0 ≡ right.0 → ⊥) × (left.0 ≡ number.0 → ⊥) × (right.0 ≡ number.0 → ⊥)
+      apart_there = apart total is_summary now path nid a c rest number i child e slot left right beside_there within_so left_so right_so
+
+      module _ (lacks : length (inner_keys (now.inner nid.0)) < 16) where
+        pub lends_there : (lender : Lender) → helper ≡ Some lender → CanLend lender (length (inner_keys (now.inner left.0))) (length (inner_keys (now.inner right.0)))
+        lends_there lender same = lends_here total is_summary now path nid a c rest number i child e slot left right beside_there within_so left_so right_so lacks lender (rw same at helps_so)
+
+        pub enough_there : (lender : Lender) (x y : ℕ) → helper ≡ Some lender → Moves lender (length (inner_keys (now.inner left.0))) (length (inner_keys (now.inner right.0))) x y → (16 ≤ x) × (16 ≤ y)
+        enough_there lender x y same moves = enough_then total is_summary now path nid a c rest number i child e slot left right beside_there within_so left_so right_so lacks lender x y (rw same at helps_so) moves
+
+        pub joins_there : helper ≡ None → length (inner_keys (now.inner left.0)) + length (inner_keys (now.inner right.0)) < 64
+        joins_there same = fits_here total is_summary now path nid a c rest number i child e slot left right beside_there within_so left_so right_so lacks (rw same at helps_so)

@@ -1,5 +1,5 @@
 -- What two inner nodes that were mended in a store make of a climb, and how a climb ends.
-use Rattle.std.proofs.Common.{◌≡◌, ℕ, suc, ◌+◌, ◌≤◌, inl, inr, ◌⊎◌, true, false, cond, List, [], ◌∷◌, ◌++◌, length, refl, sym, ap, subst, ◌∙◌, arith, Some, eqb, slice_get}
+use Rattle.std.proofs.Common.{◌≡◌, ℕ, suc, ◌+◌, ◌<◌, ◌≤◌, inl, inr, ◌⊎◌, true, false, cond, List, [], ◌∷◌, ◌++◌, length, refl, sym, ap, subst, ◌∙◌, arith, Option, Some, eqb, slice_get}
 use Rattle.std.specs.declared.cmp.Ordering.{Ordering}
 use Rattle.std.specs.Cmp.{IsTotalOrder}
 use Rattle.std.specs.Map.{keys_of}
@@ -15,9 +15,10 @@ use Rattle.bptree_keys.specs.declared.node_id.NodeId.{NodeId}
 use Rattle.bptree_keys.specs.declared.node_id.NodeId.TheVariants as kind
 use Rattle.bptree_insertion.specs.Climb.{is_held, HeldAre, Climbs, Risen}
 use Rattle.bptree_shape.specs.Edit.{Turn, Edits}
+use Rattle.bptree_removal.specs.Help.{Helps, child_size}
 use Rattle.bptree_removal.specs.Mend.{MendsPair}
 use Rattle.bptree_shape.specs.Outcome.{Done, Split}
-use Rattle.bptree_shape.specs.Shape.{pairs_at, leaves_at, inner_count, stands, root_least, IsWellShaped}
+use Rattle.bptree_shape.specs.Shape.{inner_children, inner_keys, pairs_at, leaves_at, inner_count, stands, root_least, IsWellShaped}
 use Rattle.bptree_removal.specs.Share.{HasEntry}
 use Rattle.bptree_removal.specs.Shared.{LendsInnersAt, JoinsInnersAt}
 use Rattle.bptree_insertion.specs.Sums.{SumsUpAt, with_split}
@@ -29,6 +30,7 @@ use Rattle.bptree_removal.proofs.ClimbingShort as short
 use Rattle.bptree_shape.proofs.Frame.{Same, same}
 use Rattle.bptree_insertion.proofs.Lift.{links_moved}
 use Rattle.bptree_removal.proofs.MendInner as mend
+use Rattle.bptree_removal.proofs.ShortNode as spot
 use Rattle.bptree_insertion.proofs.Undone.{same_node}
 
 -- an edit is what it was once a held number that it does not reach is let go
@@ -205,3 +207,43 @@ module _ {K V A : Type 0} {cmp : K → K → Ordering} (total : IsTotalOrder cmp
         free = r.free;
         told = r.told;
       }
+
+-- The same of what stands under the number of the node above.
+module _ {K V A : Type 0} {cmp : K → K → Ordering} (total : IsTotalOrder cmp) {is_summary : A → List K → Type 0} {now : Slots (Inner K A) (Leaf K V)} {path : List (InnerNodeId × ℕ × NodeId)} {nid : InnerNodeId} {a : A}
+    (c : ClimbsShort cmp is_summary now path nid a) (rest : List (InnerNodeId × ℕ × NodeId)) (number : InnerNodeId) (i : ℕ) (child : NodeId) (e : path ≡ rest ++ (number, i, child) ∷ [])
+    (slot : ℕ) (helper : Option Lender) (helps : Helps (child_size now (inner_children (now.inner number.0))) i slot helper) (left right : InnerNodeId)
+    (read_left : slice_get (inner_children (now.inner number.0)) slot ≡ Some (kind.Inner left)) (read_right : slice_get (inner_children (now.inner number.0)) (slot + 1) ≡ Some (kind.Inner right)) where
+  pub beside_so : (i ≡ slot) ⊎ (i ≡ suc slot)
+  beside_so = spot.beside_there total c rest number i child e slot helper helps
+
+  pub left_so : slice_get (short.step total is_summary now now path nid a c rest number i child e).node.children slot ≡ Some (kind.Inner left)
+  left_so = spot.left_so total c rest number i child e slot helper helps left right read_left read_right
+
+  pub right_so : slice_get (short.step total is_summary now now path nid a c rest number i child e).node.children (slot + 1) ≡ Some (kind.Inner right)
+  right_so = spot.right_so total c rest number i child e slot helper helps left right read_left read_right
+
+  module _ {after : Slots (Inner K A) (Leaf K V)} (sides : Sides A) where
+    -- where the two became one
+    module _ (emptied : Inner K A) (j : JoinsInnersAt cmp is_summary slot now after number left right sides emptied) (above : A) (sums : SumsUpAt cmp is_summary (after.inner number.0) above) where
+      abbrev pub joined : ClimbsShort cmp is_summary after rest number above
+      joined = joined_climbs total is_summary now after path nid a c rest number i child e slot left right beside_so left_so right_so sides emptied j above sums
+
+      module _ (new : Slots (Inner K A) (Leaf K V)) (top : A) (sunk : Sunk joined.climb new top) where
+        pub held_so : new.inner right.0 ≡ Held
+        held_so = still_held total is_summary now after path nid a c rest number i child e slot left right beside_so left_so right_so sides emptied j above sums new top sunk
+
+        pub joined_sinks : (final : Slots (Inner K A) (Leaf K V)) → UpdatesInner new final right.0 Free → Sunk c.climb final top
+        joined_sinks final frees =
+            sunk_joined total is_summary now after path nid a c rest number i child e slot left right beside_so left_so right_so sides emptied j above sums new top sunk final
+            (right_was_not total is_summary now after path nid a c rest number i child e slot left right beside_so left_so right_so sides emptied j above sums new top sunk) frees
+
+    -- where the one lent a child to the other
+    module _ (lacks : length (inner_keys (now.inner nid.0)) < 16) (lender : Lender) (same : helper ≡ Some lender) (l : LendsInnersAt cmp is_summary slot now after number lender left right sides) (above : A) (sums : SumsUpAt cmp is_summary (after.inner number.0) above) where
+      pub least_so : (16 ≤ length l.one'.keys) × (16 ≤ length l.other'.keys)
+      least_so = spot.enough_there total c rest number i child e slot helper helps left right read_left read_right lacks lender (length l.one'.keys) (length l.other'.keys) same (rw (l.at_left, l.at_right) l.shares.moves.sizes)
+
+      abbrev pub lent : Climbs cmp is_summary after rest above
+      lent = lent_climbs total is_summary now after path nid a c rest number i child e slot left right beside_so left_so right_so sides lender l least_so above sums
+
+      pub lent_sinks : (new : Slots (Inner K A) (Leaf K V)) (top : A) → Risen lent.climb new top → Sunk c.climb new top
+      lent_sinks new top r = sunk_lent total is_summary now after path nid a c rest number i child e slot left right beside_so left_so right_so sides lender l least_so above sums new top r

@@ -1,4 +1,4 @@
-use Rattle.std.proofs.Common.{◌<◌, ◌≤◌, ◌+◌, [], ◌∷◌, length, length-append, arith, ap, sym}
+use Rattle.std.proofs.Common.{◌<◌, ◌≤◌, ◌∷◌, [], length, length-append, arith, ap, sym}
 use mathlib.Core.Bool.{true≢false}
 use Rattle.bptree_shape.specs.Shape.{inner_keys}
 use Rattle.bptree_insertion.proofs.Climbing.{empty_path}
@@ -31,629 +31,103 @@ returns-in_default-clause-rises g t c climbs =
     sn.sunk_here g.met.S.K.Ord.total g.S.Argument.Argument.is_summary (g.S.NodeStore.slots c.args.store.now) c.args.path.now c.args.id c.args.summary climbs none
 
 pub inner_helper-slot-requires-clause-present : goal.inner_helper-slot-requires-clause-present
-inner_helper-slot-requires-clause-present g t c =
-    let total = g.met.S.K.Ord.total in
-    let sum = g.S.Argument.Argument.is_summary in
-    let now = g.S.NodeStore.slots c.args.store.now in
-    let path = c.args.path.now in
-    let nid = c.args.id in
-    let a = c.args.summary in
-    let rest = c.pop.new.self in
-    let number = c.in-Some.parent in
-    let i = c.in-Some.place in
-    let child = c.in-Some.field-0-2 in
-    let e = c.in-Some.ensures.some in
-    let r = c.requires in
-    let here = sn.here total sum now path nid a r rest number i child e in
-    rw here tt
+inner_helper-slot-requires-clause-present g t c = sn.node_there g.met.S.K.Ord.total c.requires c.pop.new.self c.in-Some.parent c.in-Some.place c.in-Some.field-0-2 c.in-Some.ensures.some
 
 pub inner_helper-slot-requires-clause-children : goal.inner_helper-slot-requires-clause-children
-inner_helper-slot-requires-clause-children g t c =
-    let total = g.met.S.K.Ord.total in
-    let sum = g.S.Argument.Argument.is_summary in
-    let now = g.S.NodeStore.slots c.args.store.now in
-    let path = c.args.path.now in
-    let nid = c.args.id in
-    let a = c.args.summary in
-    let rest = c.pop.new.self in
-    let number = c.in-Some.parent in
-    let i = c.in-Some.place in
-    let child = c.in-Some.field-0-2 in
-    let e = c.in-Some.ensures.some in
-    let r = c.requires in
-    let here = sn.here total sum now path nid a r rest number i child e in
-    rw here (sn.all_inner total sum now path nid a r rest number i child e)
+inner_helper-slot-requires-clause-children g t c = sn.inners_there g.met.S.K.Ord.total c.requires c.pop.new.self c.in-Some.parent c.in-Some.place c.in-Some.field-0-2 c.in-Some.ensures.some
 
 pub inner_helper-slot-requires-clause-long : goal.inner_helper-slot-requires-clause-long
-inner_helper-slot-requires-clause-long g t c =
-    let total = g.met.S.K.Ord.total in
-    let sum = g.S.Argument.Argument.is_summary in
-    let now = g.S.NodeStore.slots c.args.store.now in
-    let path = c.args.path.now in
-    let nid = c.args.id in
-    let a = c.args.summary in
-    let rest = c.pop.new.self in
-    let number = c.in-Some.parent in
-    let i = c.in-Some.place in
-    let child = c.in-Some.field-0-2 in
-    let e = c.in-Some.ensures.some in
-    let r = c.requires in
-    let here = sn.here total sum now path nid a r rest number i child e in
-    rw here (sn.place total sum now path nid a r rest number i child e).children
+inner_helper-slot-requires-clause-long g t c = sn.long_there g.met.S.K.Ord.total c.requires c.pop.new.self c.in-Some.parent c.in-Some.place c.in-Some.field-0-2 c.in-Some.ensures.some
 
 pub inner_helper-slot-requires-clause-place : goal.inner_helper-slot-requires-clause-place
-inner_helper-slot-requires-clause-place g t c =
-    let total = g.met.S.K.Ord.total in
-    let sum = g.S.Argument.Argument.is_summary in
-    let now = g.S.NodeStore.slots c.args.store.now in
-    let path = c.args.path.now in
-    let nid = c.args.id in
-    let a = c.args.summary in
-    let rest = c.pop.new.self in
-    let number = c.in-Some.parent in
-    let i = c.in-Some.place in
-    let child = c.in-Some.field-0-2 in
-    let e = c.in-Some.ensures.some in
-    let r = c.requires in
-    let here = sn.here total sum now path nid a r rest number i child e in
-    let p = sn.place total sum now path nid a r rest number i child e in
-    rw here (omega (arith, p.within, p.children))
+inner_helper-slot-requires-clause-place g t c = sn.place_there g.met.S.K.Ord.total c.requires c.pop.new.self c.in-Some.parent c.in-Some.place c.in-Some.field-0-2 c.in-Some.ensures.some
 
 pub inner_helper-slot-requires-clause-fits : goal.inner_helper-slot-requires-clause-fits
-inner_helper-slot-requires-clause-fits g t c =
-    let total = g.met.S.K.Ord.total in
-    let sum = g.S.Argument.Argument.is_summary in
-    let now = g.S.NodeStore.slots c.args.store.now in
-    let path = c.args.path.now in
-    let nid = c.args.id in
-    let a = c.args.summary in
-    let rest = c.pop.new.self in
-    let number = c.in-Some.parent in
-    let i = c.in-Some.place in
-    let child = c.in-Some.field-0-2 in
-    let e = c.in-Some.ensures.some in
-    let r = c.requires in
-    let here = sn.here total sum now path nid a r rest number i child e in
-    let p = sn.place total sum now path nid a r rest number i child e in
-    rw here (omega (arith, p.children, sn.low total sum now path nid a r rest number i child e))
+inner_helper-slot-requires-clause-fits g t c = sn.fits_there g.met.S.K.Ord.total c.requires c.pop.new.self c.in-Some.parent c.in-Some.place c.in-Some.field-0-2 c.in-Some.ensures.some
 
 pub inners_at-requires-clause-present : goal.inners_at-requires-clause-present
-inners_at-requires-clause-present g t c =
-    let total = g.met.S.K.Ord.total in
-    let sum = g.S.Argument.Argument.is_summary in
-    let now = g.S.NodeStore.slots c.args.store.now in
-    let path = c.args.path.now in
-    let nid = c.args.id in
-    let a = c.args.summary in
-    let rest = c.pop.new.self in
-    let number = c.in-Some.parent in
-    let i = c.in-Some.place in
-    let child = c.in-Some.field-0-2 in
-    let e = c.in-Some.ensures.some in
-    let r = c.requires in
-    let here = sn.here total sum now path nid a r rest number i child e in
-    rw here tt
+inners_at-requires-clause-present g t c = sn.node_there g.met.S.K.Ord.total c.requires c.pop.new.self c.in-Some.parent c.in-Some.place c.in-Some.field-0-2 c.in-Some.ensures.some
 
 pub inners_at-requires-clause-children : goal.inners_at-requires-clause-children
-inners_at-requires-clause-children g t c =
-    let total = g.met.S.K.Ord.total in
-    let sum = g.S.Argument.Argument.is_summary in
-    let now = g.S.NodeStore.slots c.args.store.now in
-    let path = c.args.path.now in
-    let nid = c.args.id in
-    let a = c.args.summary in
-    let rest = c.pop.new.self in
-    let number = c.in-Some.parent in
-    let i = c.in-Some.place in
-    let child = c.in-Some.field-0-2 in
-    let e = c.in-Some.ensures.some in
-    let r = c.requires in
-    let here = sn.here total sum now path nid a r rest number i child e in
-    rw here (sn.all_inner total sum now path nid a r rest number i child e)
+inners_at-requires-clause-children g t c = sn.inners_there g.met.S.K.Ord.total c.requires c.pop.new.self c.in-Some.parent c.in-Some.place c.in-Some.field-0-2 c.in-Some.ensures.some
 
 pub inners_at-requires-clause-fits : goal.inners_at-requires-clause-fits
-inners_at-requires-clause-fits g t c =
-    let total = g.met.S.K.Ord.total in
-    let sum = g.S.Argument.Argument.is_summary in
-    let now = g.S.NodeStore.slots c.args.store.now in
-    let path = c.args.path.now in
-    let nid = c.args.id in
-    let a = c.args.summary in
-    let rest = c.pop.new.self in
-    let number = c.in-Some.parent in
-    let i = c.in-Some.place in
-    let child = c.in-Some.field-0-2 in
-    let e = c.in-Some.ensures.some in
-    let r = c.requires in
-    let here = sn.here total sum now path nid a r rest number i child e in
-    let p = sn.place total sum now path nid a r rest number i child e in
-    rw here (omega (arith, p.children, sn.low total sum now path nid a r rest number i child e))
+inners_at-requires-clause-fits g t c = sn.fits_there g.met.S.K.Ord.total c.requires c.pop.new.self c.in-Some.parent c.in-Some.place c.in-Some.field-0-2 c.in-Some.ensures.some
 
 pub inners_at-requires-clause-slot : goal.inners_at-requires-clause-slot
-inners_at-requires-clause-slot g t c =
-    let total = g.met.S.K.Ord.total in
-    let sum = g.S.Argument.Argument.is_summary in
-    let now = g.S.NodeStore.slots c.args.store.now in
-    let path = c.args.path.now in
-    let nid = c.args.id in
-    let a = c.args.summary in
-    let rest = c.pop.new.self in
-    let number = c.in-Some.parent in
-    let i = c.in-Some.place in
-    let child = c.in-Some.field-0-2 in
-    let e = c.in-Some.ensures.some in
-    let r = c.requires in
-    let here = sn.here total sum now path nid a r rest number i child e in
-    let slot = c.inner_helper-slot.result.0 in
-    let helps = rw here at c.inner_helper-slot.ensures in
-    let within = sn.within_of total sum now path nid a r rest number i child e slot c.inner_helper-slot.result.1 helps in
-    let p = sn.place total sum now path nid a r rest number i child e in
-    rw here (omega (arith, p.children, within))
+inners_at-requires-clause-slot g t c = sn.slot_there g.met.S.K.Ord.total c.requires c.pop.new.self c.in-Some.parent c.in-Some.place c.in-Some.field-0-2 c.in-Some.ensures.some c.inner_helper-slot.result.0 c.inner_helper-slot.result.1 c.inner_helper-slot.ensures
 
 pub lend_inners_at-requires-clause-place : goal.lend_inners_at-requires-clause-place
-lend_inners_at-requires-clause-place g t c =
-    let total = g.met.S.K.Ord.total in
-    let sum = g.S.Argument.Argument.is_summary in
-    let now = g.S.NodeStore.slots c.args.store.now in
-    let path = c.args.path.now in
-    let nid = c.args.id in
-    let a = c.args.summary in
-    let rest = c.pop.new.self in
-    let number = c.in-Some.parent in
-    let i = c.in-Some.place in
-    let child = c.in-Some.field-0-2 in
-    let e = c.in-Some.ensures.some in
-    let r = c.requires in
-    let here = sn.here total sum now path nid a r rest number i child e in
-    let slot = c.inner_helper-slot.result.0 in
-    let helps = rw here at c.inner_helper-slot.ensures in
-    let within = sn.within_of total sum now path nid a r rest number i child e slot c.inner_helper-slot.result.1 helps in
-    let p = sn.place total sum now path nid a r rest number i child e in
-    rw here (record { within = omega (arith, within); children = p.children; arguments = p.arguments })
+lend_inners_at-requires-clause-place g t c = sn.entry_at g.met.S.K.Ord.total c.requires c.pop.new.self c.in-Some.parent c.in-Some.place c.in-Some.field-0-2 c.in-Some.ensures.some c.inner_helper-slot.result.0 c.inner_helper-slot.result.1 c.inner_helper-slot.ensures
 
 pub lend_inners_at-requires-clause-most : goal.lend_inners_at-requires-clause-most
-lend_inners_at-requires-clause-most g t c =
-    let total = g.met.S.K.Ord.total in
-    let sum = g.S.Argument.Argument.is_summary in
-    let now = g.S.NodeStore.slots c.args.store.now in
-    let path = c.args.path.now in
-    let nid = c.args.id in
-    let a = c.args.summary in
-    let rest = c.pop.new.self in
-    let number = c.in-Some.parent in
-    let i = c.in-Some.place in
-    let child = c.in-Some.field-0-2 in
-    let e = c.in-Some.ensures.some in
-    let r = c.requires in
-    let here = sn.here total sum now path nid a r rest number i child e in
-    rw here (sn.low total sum now path nid a r rest number i child e)
+lend_inners_at-requires-clause-most g t c = sn.most_there g.met.S.K.Ord.total c.requires c.pop.new.self c.in-Some.parent c.in-Some.place c.in-Some.field-0-2 c.in-Some.ensures.some
 
 pub lend_inners_at-requires-clause-left : goal.lend_inners_at-requires-clause-left
-lend_inners_at-requires-clause-left g t c =
-    let total = g.met.S.K.Ord.total in
-    let sum = g.S.Argument.Argument.is_summary in
-    let now = g.S.NodeStore.slots c.args.store.now in
-    let path = c.args.path.now in
-    let nid = c.args.id in
-    let a = c.args.summary in
-    let rest = c.pop.new.self in
-    let number = c.in-Some.parent in
-    let i = c.in-Some.place in
-    let child = c.in-Some.field-0-2 in
-    let e = c.in-Some.ensures.some in
-    let r = c.requires in
-    let here = sn.here total sum now path nid a r rest number i child e in
-    let slot = c.inner_helper-slot.result.0 in
-    let helps = rw here at c.inner_helper-slot.ensures in
-    let within = sn.within_of total sum now path nid a r rest number i child e slot c.inner_helper-slot.result.1 helps in
-    let beside = sn.beside_of total sum now path nid a r rest number i child e slot c.inner_helper-slot.result.1 helps in
-    let left = c.inners_at.result.0 in
-    let right = c.inners_at.result.1 in
-    let read_left = rw here at c.inners_at.ensures.left in
-    let read_right = rw here at c.inners_at.ensures.right in
-    let lacks : length (inner_keys (now.inner nid.0)) < 16 = rw c.get_inner.ensures (omega (arith, c.len.ensures.value, c.if-len-ge-INNER_MINIMUM.false)) in
-    let f = sn.full_at total sum now path nid a r rest number i child e slot left read_left in
-    omega (arith, f.3)
+lend_inners_at-requires-clause-left g t c = omega (arith, (sn.left_there g.met.S.K.Ord.total c.requires c.pop.new.self c.in-Some.parent c.in-Some.place c.in-Some.field-0-2 c.in-Some.ensures.some c.inner_helper-slot.result.0 c.inner_helper-slot.result.1 c.inner_helper-slot.ensures c.inners_at.result.0 c.inners_at.result.1 c.inners_at.ensures.left c.inners_at.ensures.right).3)
 
 pub lend_inners_at-requires-clause-right : goal.lend_inners_at-requires-clause-right
-lend_inners_at-requires-clause-right g t c =
-    let total = g.met.S.K.Ord.total in
-    let sum = g.S.Argument.Argument.is_summary in
-    let now = g.S.NodeStore.slots c.args.store.now in
-    let path = c.args.path.now in
-    let nid = c.args.id in
-    let a = c.args.summary in
-    let rest = c.pop.new.self in
-    let number = c.in-Some.parent in
-    let i = c.in-Some.place in
-    let child = c.in-Some.field-0-2 in
-    let e = c.in-Some.ensures.some in
-    let r = c.requires in
-    let here = sn.here total sum now path nid a r rest number i child e in
-    let slot = c.inner_helper-slot.result.0 in
-    let helps = rw here at c.inner_helper-slot.ensures in
-    let within = sn.within_of total sum now path nid a r rest number i child e slot c.inner_helper-slot.result.1 helps in
-    let beside = sn.beside_of total sum now path nid a r rest number i child e slot c.inner_helper-slot.result.1 helps in
-    let left = c.inners_at.result.0 in
-    let right = c.inners_at.result.1 in
-    let read_left = rw here at c.inners_at.ensures.left in
-    let read_right = rw here at c.inners_at.ensures.right in
-    let lacks : length (inner_keys (now.inner nid.0)) < 16 = rw c.get_inner.ensures (omega (arith, c.len.ensures.value, c.if-len-ge-INNER_MINIMUM.false)) in
-    let f = sn.full_at total sum now path nid a r rest number i child e (slot + 1) right read_right in
-    omega (arith, f.3)
+lend_inners_at-requires-clause-right g t c = omega (arith, (sn.right_there g.met.S.K.Ord.total c.requires c.pop.new.self c.in-Some.parent c.in-Some.place c.in-Some.field-0-2 c.in-Some.ensures.some c.inner_helper-slot.result.0 c.inner_helper-slot.result.1 c.inner_helper-slot.ensures c.inners_at.result.0 c.inners_at.result.1 c.inners_at.ensures.left c.inners_at.ensures.right).3)
 
 pub lend_inners_at-requires-clause-apart : goal.lend_inners_at-requires-clause-apart
-lend_inners_at-requires-clause-apart g t c =
-    let total = g.met.S.K.Ord.total in
-    let sum = g.S.Argument.Argument.is_summary in
-    let now = g.S.NodeStore.slots c.args.store.now in
-    let path = c.args.path.now in
-    let nid = c.args.id in
-    let a = c.args.summary in
-    let rest = c.pop.new.self in
-    let number = c.in-Some.parent in
-    let i = c.in-Some.place in
-    let child = c.in-Some.field-0-2 in
-    let e = c.in-Some.ensures.some in
-    let r = c.requires in
-    let here = sn.here total sum now path nid a r rest number i child e in
-    let slot = c.inner_helper-slot.result.0 in
-    let helps = rw here at c.inner_helper-slot.ensures in
-    let within = sn.within_of total sum now path nid a r rest number i child e slot c.inner_helper-slot.result.1 helps in
-    let beside = sn.beside_of total sum now path nid a r rest number i child e slot c.inner_helper-slot.result.1 helps in
-    let left = c.inners_at.result.0 in
-    let right = c.inners_at.result.1 in
-    let read_left = rw here at c.inners_at.ensures.left in
-    let read_right = rw here at c.inners_at.ensures.right in
-    let lacks : length (inner_keys (now.inner nid.0)) < 16 = rw c.get_inner.ensures (omega (arith, c.len.ensures.value, c.if-len-ge-INNER_MINIMUM.false)) in
-    sn.apart total sum now path nid a r rest number i child e slot left right beside within read_left read_right
+lend_inners_at-requires-clause-apart g t c = sn.apart_there g.met.S.K.Ord.total c.requires c.pop.new.self c.in-Some.parent c.in-Some.place c.in-Some.field-0-2 c.in-Some.ensures.some c.inner_helper-slot.result.0 c.inner_helper-slot.result.1 c.inner_helper-slot.ensures c.inners_at.result.0 c.inners_at.result.1 c.inners_at.ensures.left c.inners_at.ensures.right
 
 pub join_inners_at-requires-clause-place : goal.join_inners_at-requires-clause-place
-join_inners_at-requires-clause-place g t c =
-    let total = g.met.S.K.Ord.total in
-    let sum = g.S.Argument.Argument.is_summary in
-    let now = g.S.NodeStore.slots c.args.store.now in
-    let path = c.args.path.now in
-    let nid = c.args.id in
-    let a = c.args.summary in
-    let rest = c.pop.new.self in
-    let number = c.in-Some.parent in
-    let i = c.in-Some.place in
-    let child = c.in-Some.field-0-2 in
-    let e = c.in-Some.ensures.some in
-    let r = c.requires in
-    let here = sn.here total sum now path nid a r rest number i child e in
-    let slot = c.inner_helper-slot.result.0 in
-    let helps = rw here at c.inner_helper-slot.ensures in
-    let within = sn.within_of total sum now path nid a r rest number i child e slot c.inner_helper-slot.result.1 helps in
-    let p = sn.place total sum now path nid a r rest number i child e in
-    rw here (record { within = omega (arith, within); children = p.children; arguments = p.arguments })
+join_inners_at-requires-clause-place g t c = sn.entry_at g.met.S.K.Ord.total c.requires c.pop.new.self c.in-Some.parent c.in-Some.place c.in-Some.field-0-2 c.in-Some.ensures.some c.inner_helper-slot.result.0 c.inner_helper-slot.result.1 c.inner_helper-slot.ensures
 
 pub join_inners_at-requires-clause-most : goal.join_inners_at-requires-clause-most
-join_inners_at-requires-clause-most g t c =
-    let total = g.met.S.K.Ord.total in
-    let sum = g.S.Argument.Argument.is_summary in
-    let now = g.S.NodeStore.slots c.args.store.now in
-    let path = c.args.path.now in
-    let nid = c.args.id in
-    let a = c.args.summary in
-    let rest = c.pop.new.self in
-    let number = c.in-Some.parent in
-    let i = c.in-Some.place in
-    let child = c.in-Some.field-0-2 in
-    let e = c.in-Some.ensures.some in
-    let r = c.requires in
-    let here = sn.here total sum now path nid a r rest number i child e in
-    rw here (sn.low total sum now path nid a r rest number i child e)
+join_inners_at-requires-clause-most g t c = sn.most_there g.met.S.K.Ord.total c.requires c.pop.new.self c.in-Some.parent c.in-Some.place c.in-Some.field-0-2 c.in-Some.ensures.some
 
 pub join_inners_at-requires-clause-left : goal.join_inners_at-requires-clause-left
-join_inners_at-requires-clause-left g t c =
-    let total = g.met.S.K.Ord.total in
-    let sum = g.S.Argument.Argument.is_summary in
-    let now = g.S.NodeStore.slots c.args.store.now in
-    let path = c.args.path.now in
-    let nid = c.args.id in
-    let a = c.args.summary in
-    let rest = c.pop.new.self in
-    let number = c.in-Some.parent in
-    let i = c.in-Some.place in
-    let child = c.in-Some.field-0-2 in
-    let e = c.in-Some.ensures.some in
-    let r = c.requires in
-    let here = sn.here total sum now path nid a r rest number i child e in
-    let slot = c.inner_helper-slot.result.0 in
-    let helps = rw here at c.inner_helper-slot.ensures in
-    let within = sn.within_of total sum now path nid a r rest number i child e slot c.inner_helper-slot.result.1 helps in
-    let beside = sn.beside_of total sum now path nid a r rest number i child e slot c.inner_helper-slot.result.1 helps in
-    let left = c.inners_at.result.0 in
-    let right = c.inners_at.result.1 in
-    let read_left = rw here at c.inners_at.ensures.left in
-    let read_right = rw here at c.inners_at.ensures.right in
-    let lacks : length (inner_keys (now.inner nid.0)) < 16 = rw c.get_inner.ensures (omega (arith, c.len.ensures.value, c.if-len-ge-INNER_MINIMUM.false)) in
-    let f = sn.full_at total sum now path nid a r rest number i child e slot left read_left in
-    omega (arith, f.3)
+join_inners_at-requires-clause-left g t c = omega (arith, (sn.left_there g.met.S.K.Ord.total c.requires c.pop.new.self c.in-Some.parent c.in-Some.place c.in-Some.field-0-2 c.in-Some.ensures.some c.inner_helper-slot.result.0 c.inner_helper-slot.result.1 c.inner_helper-slot.ensures c.inners_at.result.0 c.inners_at.result.1 c.inners_at.ensures.left c.inners_at.ensures.right).3)
 
 pub join_inners_at-requires-clause-right : goal.join_inners_at-requires-clause-right
-join_inners_at-requires-clause-right g t c =
-    let total = g.met.S.K.Ord.total in
-    let sum = g.S.Argument.Argument.is_summary in
-    let now = g.S.NodeStore.slots c.args.store.now in
-    let path = c.args.path.now in
-    let nid = c.args.id in
-    let a = c.args.summary in
-    let rest = c.pop.new.self in
-    let number = c.in-Some.parent in
-    let i = c.in-Some.place in
-    let child = c.in-Some.field-0-2 in
-    let e = c.in-Some.ensures.some in
-    let r = c.requires in
-    let here = sn.here total sum now path nid a r rest number i child e in
-    let slot = c.inner_helper-slot.result.0 in
-    let helps = rw here at c.inner_helper-slot.ensures in
-    let within = sn.within_of total sum now path nid a r rest number i child e slot c.inner_helper-slot.result.1 helps in
-    let beside = sn.beside_of total sum now path nid a r rest number i child e slot c.inner_helper-slot.result.1 helps in
-    let left = c.inners_at.result.0 in
-    let right = c.inners_at.result.1 in
-    let read_left = rw here at c.inners_at.ensures.left in
-    let read_right = rw here at c.inners_at.ensures.right in
-    let lacks : length (inner_keys (now.inner nid.0)) < 16 = rw c.get_inner.ensures (omega (arith, c.len.ensures.value, c.if-len-ge-INNER_MINIMUM.false)) in
-    let f = sn.full_at total sum now path nid a r rest number i child e (slot + 1) right read_right in
-    omega (arith, f.3)
+join_inners_at-requires-clause-right g t c = omega (arith, (sn.right_there g.met.S.K.Ord.total c.requires c.pop.new.self c.in-Some.parent c.in-Some.place c.in-Some.field-0-2 c.in-Some.ensures.some c.inner_helper-slot.result.0 c.inner_helper-slot.result.1 c.inner_helper-slot.ensures c.inners_at.result.0 c.inners_at.result.1 c.inners_at.ensures.left c.inners_at.ensures.right).3)
 
 pub join_inners_at-requires-clause-apart : goal.join_inners_at-requires-clause-apart
-join_inners_at-requires-clause-apart g t c =
-    let total = g.met.S.K.Ord.total in
-    let sum = g.S.Argument.Argument.is_summary in
-    let now = g.S.NodeStore.slots c.args.store.now in
-    let path = c.args.path.now in
-    let nid = c.args.id in
-    let a = c.args.summary in
-    let rest = c.pop.new.self in
-    let number = c.in-Some.parent in
-    let i = c.in-Some.place in
-    let child = c.in-Some.field-0-2 in
-    let e = c.in-Some.ensures.some in
-    let r = c.requires in
-    let here = sn.here total sum now path nid a r rest number i child e in
-    let slot = c.inner_helper-slot.result.0 in
-    let helps = rw here at c.inner_helper-slot.ensures in
-    let within = sn.within_of total sum now path nid a r rest number i child e slot c.inner_helper-slot.result.1 helps in
-    let beside = sn.beside_of total sum now path nid a r rest number i child e slot c.inner_helper-slot.result.1 helps in
-    let left = c.inners_at.result.0 in
-    let right = c.inners_at.result.1 in
-    let read_left = rw here at c.inners_at.ensures.left in
-    let read_right = rw here at c.inners_at.ensures.right in
-    let lacks : length (inner_keys (now.inner nid.0)) < 16 = rw c.get_inner.ensures (omega (arith, c.len.ensures.value, c.if-len-ge-INNER_MINIMUM.false)) in
-    sn.apart total sum now path nid a r rest number i child e slot left right beside within read_left read_right
+join_inners_at-requires-clause-apart g t c = sn.apart_there g.met.S.K.Ord.total c.requires c.pop.new.self c.in-Some.parent c.in-Some.place c.in-Some.field-0-2 c.in-Some.ensures.some c.inner_helper-slot.result.0 c.inner_helper-slot.result.1 c.inner_helper-slot.ensures c.inners_at.result.0 c.inners_at.result.1 c.inners_at.ensures.left c.inners_at.ensures.right
 
 pub lend_inners_at-requires-clause-lends : goal.lend_inners_at-requires-clause-lends
 lend_inners_at-requires-clause-lends g t c =
-    let total = g.met.S.K.Ord.total in
-    let sum = g.S.Argument.Argument.is_summary in
-    let now = g.S.NodeStore.slots c.args.store.now in
-    let path = c.args.path.now in
-    let nid = c.args.id in
-    let a = c.args.summary in
-    let rest = c.pop.new.self in
-    let number = c.in-Some.parent in
-    let i = c.in-Some.place in
-    let child = c.in-Some.field-0-2 in
-    let e = c.in-Some.ensures.some in
-    let r = c.requires in
-    let here = sn.here total sum now path nid a r rest number i child e in
-    let slot = c.inner_helper-slot.result.0 in
-    let helps = rw here at c.inner_helper-slot.ensures in
-    let within = sn.within_of total sum now path nid a r rest number i child e slot c.inner_helper-slot.result.1 helps in
-    let beside = sn.beside_of total sum now path nid a r rest number i child e slot c.inner_helper-slot.result.1 helps in
-    let left = c.inners_at.result.0 in
-    let right = c.inners_at.result.1 in
-    let read_left = rw here at c.inners_at.ensures.left in
-    let read_right = rw here at c.inners_at.ensures.right in
-    let lacks : length (inner_keys (now.inner nid.0)) < 16 = rw c.get_inner.ensures (omega (arith, c.len.ensures.value, c.if-len-ge-INNER_MINIMUM.false)) in
-    sn.lends_here total sum now path nid a r rest number i child e slot left right beside within read_left read_right lacks c.in-Some-lender.lender (rw c.in-Some-lender.is at helps)
+    let lacks : length (inner_keys ((g.S.NodeStore.slots c.args.store.now).inner c.args.id.0)) < 16 = rw c.get_inner.ensures (omega (arith, c.len.ensures.value, c.if-len-ge-INNER_MINIMUM.false)) in
+    sn.lends_there g.met.S.K.Ord.total c.requires c.pop.new.self c.in-Some.parent c.in-Some.place c.in-Some.field-0-2 c.in-Some.ensures.some c.inner_helper-slot.result.0 c.inner_helper-slot.result.1 c.inner_helper-slot.ensures c.inners_at.result.0 c.inners_at.result.1 c.inners_at.ensures.left c.inners_at.ensures.right lacks c.in-Some-lender.lender c.in-Some-lender.is
 
 pub join_inners_at-requires-clause-fits : goal.join_inners_at-requires-clause-fits
 join_inners_at-requires-clause-fits g t c =
-    let total = g.met.S.K.Ord.total in
-    let sum = g.S.Argument.Argument.is_summary in
-    let now = g.S.NodeStore.slots c.args.store.now in
-    let path = c.args.path.now in
-    let nid = c.args.id in
-    let a = c.args.summary in
-    let rest = c.pop.new.self in
-    let number = c.in-Some.parent in
-    let i = c.in-Some.place in
-    let child = c.in-Some.field-0-2 in
-    let e = c.in-Some.ensures.some in
-    let r = c.requires in
-    let here = sn.here total sum now path nid a r rest number i child e in
-    let slot = c.inner_helper-slot.result.0 in
-    let helps = rw here at c.inner_helper-slot.ensures in
-    let within = sn.within_of total sum now path nid a r rest number i child e slot c.inner_helper-slot.result.1 helps in
-    let beside = sn.beside_of total sum now path nid a r rest number i child e slot c.inner_helper-slot.result.1 helps in
-    let left = c.inners_at.result.0 in
-    let right = c.inners_at.result.1 in
-    let read_left = rw here at c.inners_at.ensures.left in
-    let read_right = rw here at c.inners_at.ensures.right in
-    let lacks : length (inner_keys (now.inner nid.0)) < 16 = rw c.get_inner.ensures (omega (arith, c.len.ensures.value, c.if-len-ge-INNER_MINIMUM.false)) in
-    sn.fits_here total sum now path nid a r rest number i child e slot left right beside within read_left read_right lacks (rw c.in-None.is at helps)
+    let lacks : length (inner_keys ((g.S.NodeStore.slots c.args.store.now).inner c.args.id.0)) < 16 = rw c.get_inner.ensures (omega (arith, c.len.ensures.value, c.if-len-ge-INNER_MINIMUM.false)) in
+    sn.joins_there g.met.S.K.Ord.total c.requires c.pop.new.self c.in-Some.parent c.in-Some.place c.in-Some.field-0-2 c.in-Some.ensures.some c.inner_helper-slot.result.0 c.inner_helper-slot.result.1 c.inner_helper-slot.ensures c.inners_at.result.0 c.inners_at.result.1 c.inners_at.ensures.left c.inners_at.ensures.right lacks c.in-None.is
 
 pub rise-requires-in-Some-lender : goal.rise-requires-in-Some-lender
 rise-requires-in-Some-lender g t c =
-    let total = g.met.S.K.Ord.total in
-    let sum = g.S.Argument.Argument.is_summary in
-    let now = g.S.NodeStore.slots c.args.store.now in
-    let path = c.args.path.now in
-    let nid = c.args.id in
-    let a = c.args.summary in
-    let rest = c.pop.new.self in
-    let number = c.in-Some.parent in
-    let i = c.in-Some.place in
-    let child = c.in-Some.field-0-2 in
-    let e = c.in-Some.ensures.some in
-    let r = c.requires in
-    let here = sn.here total sum now path nid a r rest number i child e in
-    let slot = c.inner_helper-slot.result.0 in
-    let helps = rw here at c.inner_helper-slot.ensures in
-    let within = sn.within_of total sum now path nid a r rest number i child e slot c.inner_helper-slot.result.1 helps in
-    let beside = sn.beside_of total sum now path nid a r rest number i child e slot c.inner_helper-slot.result.1 helps in
-    let left = c.inners_at.result.0 in
-    let right = c.inners_at.result.1 in
-    let read_left = rw here at c.inners_at.ensures.left in
-    let read_right = rw here at c.inners_at.ensures.right in
-    let lacks : length (inner_keys (now.inner nid.0)) < 16 = rw c.get_inner.ensures (omega (arith, c.len.ensures.value, c.if-len-ge-INNER_MINIMUM.false)) in
-    let after = g.S.NodeStore.slots c.lend_inners_at.new.store in
+    let lacks : length (inner_keys ((g.S.NodeStore.slots c.args.store.now).inner c.args.id.0)) < 16 = rw c.get_inner.ensures (omega (arith, c.len.ensures.value, c.if-len-ge-INNER_MINIMUM.false)) in
     let done = c.in_ok-above-in-Some-lender in
-    let lender = c.in-Some-lender.lender in
-    let lent = done.ensures.lends in
-    let least = sn.enough_then total sum now path nid a r rest number i child e slot left right beside within read_left read_right lacks lender (length lent.one'.keys) (length lent.other'.keys) (rw c.in-Some-lender.is at helps) (rw (lent.at_left, lent.at_right) lent.shares.moves.sizes) in
-    sh.lent_climbs total sum now after path nid a r rest number i child e slot left right beside read_left read_right done.sides lender lent least done.above done.ensures.sums
+    sh.lent g.met.S.K.Ord.total c.requires c.pop.new.self c.in-Some.parent c.in-Some.place c.in-Some.field-0-2 c.in-Some.ensures.some c.inner_helper-slot.result.0 c.inner_helper-slot.result.1 c.inner_helper-slot.ensures c.inners_at.result.0 c.inners_at.result.1 c.inners_at.ensures.left c.inners_at.ensures.right done.sides lacks c.in-Some-lender.lender c.in-Some-lender.is done.ensures.lends done.above done.ensures.sums
 
 pub returns-in-Ok-clause-rises : goal.returns-in-Ok-clause-rises
-returns-in-Ok-clause-rises g t c climbs =
-    let total = g.met.S.K.Ord.total in
-    let sum = g.S.Argument.Argument.is_summary in
-    let now = g.S.NodeStore.slots c.args.store.now in
-    let path = c.args.path.now in
-    let nid = c.args.id in
-    let a = c.args.summary in
-    let rest = c.pop.new.self in
-    let number = c.in-Some.parent in
-    let i = c.in-Some.place in
-    let child = c.in-Some.field-0-2 in
-    let e = c.in-Some.ensures.some in
-    let r = climbs in
-    let here = sn.here total sum now path nid a r rest number i child e in
-    let slot = c.inner_helper-slot.result.0 in
-    let helps = rw here at c.inner_helper-slot.ensures in
-    let within = sn.within_of total sum now path nid a r rest number i child e slot c.inner_helper-slot.result.1 helps in
-    let beside = sn.beside_of total sum now path nid a r rest number i child e slot c.inner_helper-slot.result.1 helps in
-    let left = c.inners_at.result.0 in
-    let right = c.inners_at.result.1 in
-    let read_left = rw here at c.inners_at.ensures.left in
-    let read_right = rw here at c.inners_at.ensures.right in
-    let lacks : length (inner_keys (now.inner nid.0)) < 16 = rw c.get_inner.ensures (omega (arith, c.len.ensures.value, c.if-len-ge-INNER_MINIMUM.false)) in
-    let after = g.S.NodeStore.slots c.lend_inners_at.new.store in
+returns-in-Ok-clause-rises g t c short =
+    let lacks : length (inner_keys ((g.S.NodeStore.slots c.args.store.now).inner c.args.id.0)) < 16 = rw c.get_inner.ensures (omega (arith, c.len.ensures.value, c.if-len-ge-INNER_MINIMUM.false)) in
     let done = c.in_ok-above-in-Some-lender in
-    let lender = c.in-Some-lender.lender in
-    let lent = done.ensures.lends in
-    let least = sn.enough_then total sum now path nid a r rest number i child e slot left right beside within read_left read_right lacks lender (length lent.one'.keys) (length lent.other'.keys) (rw c.in-Some-lender.is at helps) (rw (lent.at_left, lent.at_right) lent.shares.moves.sizes) in
-    sh.sunk_lent total sum now after path nid a r rest number i child e slot left right beside read_left read_right done.sides lender lent least done.above done.ensures.sums (g.S.NodeStore.slots c.rise-in-Some-lender.new.store) c.in-Ok.top (c.in-Ok.ensures.rises (sh.lent_climbs total sum now after path nid a r rest number i child e slot left right beside read_left read_right done.sides lender lent least done.above done.ensures.sums))
+    sh.lent_sinks g.met.S.K.Ord.total short c.pop.new.self c.in-Some.parent c.in-Some.place c.in-Some.field-0-2 c.in-Some.ensures.some c.inner_helper-slot.result.0 c.inner_helper-slot.result.1 c.inner_helper-slot.ensures c.inners_at.result.0 c.inners_at.result.1 c.inners_at.ensures.left c.inners_at.ensures.right done.sides lacks c.in-Some-lender.lender c.in-Some-lender.is done.ensures.lends done.above done.ensures.sums (g.S.NodeStore.slots c.rise-in-Some-lender.new.store) c.in-Ok.top
+    (c.in-Ok.ensures.rises (sh.lent g.met.S.K.Ord.total short c.pop.new.self c.in-Some.parent c.in-Some.place c.in-Some.field-0-2 c.in-Some.ensures.some c.inner_helper-slot.result.0 c.inner_helper-slot.result.1 c.inner_helper-slot.ensures c.inners_at.result.0 c.inners_at.result.1 c.inners_at.ensures.left c.inners_at.ensures.right done.sides lacks c.in-Some-lender.lender c.in-Some-lender.is done.ensures.lends done.above done.ensures.sums))
 
 pub get_inner-requires-in-None : goal.get_inner-requires-in-None
-get_inner-requires-in-None g t c =
-    let total = g.met.S.K.Ord.total in
-    let sum = g.S.Argument.Argument.is_summary in
-    let now = g.S.NodeStore.slots c.args.store.now in
-    let path = c.args.path.now in
-    let nid = c.args.id in
-    let a = c.args.summary in
-    let rest = c.pop.new.self in
-    let number = c.in-Some.parent in
-    let i = c.in-Some.place in
-    let child = c.in-Some.field-0-2 in
-    let e = c.in-Some.ensures.some in
-    let r = c.requires in
-    let here = sn.here total sum now path nid a r rest number i child e in
-    let slot = c.inner_helper-slot.result.0 in
-    let helps = rw here at c.inner_helper-slot.ensures in
-    let within = sn.within_of total sum now path nid a r rest number i child e slot c.inner_helper-slot.result.1 helps in
-    let beside = sn.beside_of total sum now path nid a r rest number i child e slot c.inner_helper-slot.result.1 helps in
-    let left = c.inners_at.result.0 in
-    let right = c.inners_at.result.1 in
-    let read_left = rw here at c.inners_at.ensures.left in
-    let read_right = rw here at c.inners_at.ensures.right in
-    let lacks : length (inner_keys (now.inner nid.0)) < 16 = rw c.get_inner.ensures (omega (arith, c.len.ensures.value, c.if-len-ge-INNER_MINIMUM.false)) in
-    (sn.full_at total sum now path nid a r rest number i child e slot left read_left).0
+get_inner-requires-in-None g t c = (sn.left_there g.met.S.K.Ord.total c.requires c.pop.new.self c.in-Some.parent c.in-Some.place c.in-Some.field-0-2 c.in-Some.ensures.some c.inner_helper-slot.result.0 c.inner_helper-slot.result.1 c.inner_helper-slot.ensures c.inners_at.result.0 c.inners_at.result.1 c.inners_at.ensures.left c.inners_at.ensures.right).0
 
 pub ascend_short-requires : goal.ascend_short-requires
-ascend_short-requires g t c κs within' =
-    let total = g.met.S.K.Ord.total in
-    let sum = g.S.Argument.Argument.is_summary in
-    let now = g.S.NodeStore.slots c.args.store.now in
-    let path = c.args.path.now in
-    let nid = c.args.id in
-    let a = c.args.summary in
-    let rest = c.pop.new.self in
-    let number = c.in-Some.parent in
-    let i = c.in-Some.place in
-    let child = c.in-Some.field-0-2 in
-    let e = c.in-Some.ensures.some in
-    let r = c.requires in
-    let here = sn.here total sum now path nid a r rest number i child e in
-    let slot = c.inner_helper-slot.result.0 in
-    let helps = rw here at c.inner_helper-slot.ensures in
-    let within = sn.within_of total sum now path nid a r rest number i child e slot c.inner_helper-slot.result.1 helps in
-    let beside = sn.beside_of total sum now path nid a r rest number i child e slot c.inner_helper-slot.result.1 helps in
-    let left = c.inners_at.result.0 in
-    let right = c.inners_at.result.1 in
-    let read_left = rw here at c.inners_at.ensures.left in
-    let read_right = rw here at c.inners_at.ensures.right in
-    let lacks : length (inner_keys (now.inner nid.0)) < 16 = rw c.get_inner.ensures (omega (arith, c.len.ensures.value, c.if-len-ge-INNER_MINIMUM.false)) in
-    let after = g.S.NodeStore.slots c.join_inners_at.new.store in
-    let done = c.in_ok-above-in-None in
-    let joined = done.ensures.joins in (
-      omega (arith, ap length e, length-append rest ((number, i, child) ∷ [])),
-      (within'.0, (within'.1.0, (within'.1.1.0, (within'.1.1.1, sh.joined_climbs total sum now after path nid a r rest number i child e slot left right beside read_left read_right done.sides done.emptied.value joined done.above done.ensures.sums)))),
+ascend_short-requires g t c κs within =
+    let done = c.in_ok-above-in-None in (
+      omega (arith, ap length c.in-Some.ensures.some, length-append c.pop.new.self ((c.in-Some.parent, c.in-Some.place, c.in-Some.field-0-2) ∷ [])),
+      (within.0, (within.1.0, (within.1.1.0, (within.1.1.1, sh.joined g.met.S.K.Ord.total c.requires c.pop.new.self c.in-Some.parent c.in-Some.place c.in-Some.field-0-2 c.in-Some.ensures.some c.inner_helper-slot.result.0 c.inner_helper-slot.result.1 c.inner_helper-slot.ensures c.inners_at.result.0 c.inners_at.result.1 c.inners_at.ensures.left c.inners_at.ensures.right done.sides done.emptied.value done.ensures.joins done.above done.ensures.sums)))),
     )
 
 pub release_inner-requires : goal.release_inner-requires
 release_inner-requires g t c =
-    let total = g.met.S.K.Ord.total in
-    let sum = g.S.Argument.Argument.is_summary in
-    let now = g.S.NodeStore.slots c.args.store.now in
-    let path = c.args.path.now in
-    let nid = c.args.id in
-    let a = c.args.summary in
-    let rest = c.pop.new.self in
-    let number = c.in-Some.parent in
-    let i = c.in-Some.place in
-    let child = c.in-Some.field-0-2 in
-    let e = c.in-Some.ensures.some in
-    let r = c.requires in
-    let here = sn.here total sum now path nid a r rest number i child e in
-    let slot = c.inner_helper-slot.result.0 in
-    let helps = rw here at c.inner_helper-slot.ensures in
-    let within = sn.within_of total sum now path nid a r rest number i child e slot c.inner_helper-slot.result.1 helps in
-    let beside = sn.beside_of total sum now path nid a r rest number i child e slot c.inner_helper-slot.result.1 helps in
-    let left = c.inners_at.result.0 in
-    let right = c.inners_at.result.1 in
-    let read_left = rw here at c.inners_at.ensures.left in
-    let read_right = rw here at c.inners_at.ensures.right in
-    let lacks : length (inner_keys (now.inner nid.0)) < 16 = rw c.get_inner.ensures (omega (arith, c.len.ensures.value, c.if-len-ge-INNER_MINIMUM.false)) in
-    let after = g.S.NodeStore.slots c.join_inners_at.new.store in
     let done = c.in_ok-above-in-None in
-    let joined = done.ensures.joins in
-    let climbs = sh.joined_climbs total sum now after path nid a r rest number i child e slot left right beside read_left read_right done.sides done.emptied.value joined done.above done.ensures.sums in
-    sh.still_held total sum now after path nid a r rest number i child e slot left right beside read_left read_right done.sides done.emptied.value joined done.above done.ensures.sums (g.S.NodeStore.slots c.ascend_short.new.store) c.in-Ok-ascend_short.top (c.in-Ok-ascend_short.ensures.rises climbs)
+    sh.held_so g.met.S.K.Ord.total c.requires c.pop.new.self c.in-Some.parent c.in-Some.place c.in-Some.field-0-2 c.in-Some.ensures.some c.inner_helper-slot.result.0 c.inner_helper-slot.result.1 c.inner_helper-slot.ensures c.inners_at.result.0 c.inners_at.result.1 c.inners_at.ensures.left c.inners_at.ensures.right done.sides done.emptied.value done.ensures.joins done.above done.ensures.sums (g.S.NodeStore.slots c.ascend_short.new.store) c.in-Ok-ascend_short.top
+    (c.in-Ok-ascend_short.ensures.rises (sh.joined g.met.S.K.Ord.total c.requires c.pop.new.self c.in-Some.parent c.in-Some.place c.in-Some.field-0-2 c.in-Some.ensures.some c.inner_helper-slot.result.0 c.inner_helper-slot.result.1 c.inner_helper-slot.ensures c.inners_at.result.0 c.inners_at.result.1 c.inners_at.ensures.left c.inners_at.ensures.right done.sides done.emptied.value done.ensures.joins done.above done.ensures.sums))
 
 pub returns-in-Ok-ascend_short-clause-rises : goal.returns-in-Ok-ascend_short-clause-rises
-returns-in-Ok-ascend_short-clause-rises g t c climbs =
-    let total = g.met.S.K.Ord.total in
-    let sum = g.S.Argument.Argument.is_summary in
-    let now = g.S.NodeStore.slots c.args.store.now in
-    let path = c.args.path.now in
-    let nid = c.args.id in
-    let a = c.args.summary in
-    let rest = c.pop.new.self in
-    let number = c.in-Some.parent in
-    let i = c.in-Some.place in
-    let child = c.in-Some.field-0-2 in
-    let e = c.in-Some.ensures.some in
-    let r = climbs in
-    let here = sn.here total sum now path nid a r rest number i child e in
-    let slot = c.inner_helper-slot.result.0 in
-    let helps = rw here at c.inner_helper-slot.ensures in
-    let within = sn.within_of total sum now path nid a r rest number i child e slot c.inner_helper-slot.result.1 helps in
-    let beside = sn.beside_of total sum now path nid a r rest number i child e slot c.inner_helper-slot.result.1 helps in
-    let left = c.inners_at.result.0 in
-    let right = c.inners_at.result.1 in
-    let read_left = rw here at c.inners_at.ensures.left in
-    let read_right = rw here at c.inners_at.ensures.right in
-    let lacks : length (inner_keys (now.inner nid.0)) < 16 = rw c.get_inner.ensures (omega (arith, c.len.ensures.value, c.if-len-ge-INNER_MINIMUM.false)) in
-    let after = g.S.NodeStore.slots c.join_inners_at.new.store in
+returns-in-Ok-ascend_short-clause-rises g t c short =
     let done = c.in_ok-above-in-None in
-    let joined = done.ensures.joins in
-    let up = sh.joined_climbs total sum now after path nid a r rest number i child e slot left right beside read_left read_right done.sides done.emptied.value joined done.above done.ensures.sums in
-    sh.sunk_joined total sum now after path nid a r rest number i child e slot left right beside read_left read_right done.sides done.emptied.value joined done.above done.ensures.sums (g.S.NodeStore.slots c.ascend_short.new.store) c.in-Ok-ascend_short.top (c.in-Ok-ascend_short.ensures.rises up)
-    (g.S.NodeStore.slots c.release_inner.new.self) (sh.right_was_not total sum now after path nid a r rest number i child e slot left right beside read_left read_right done.sides done.emptied.value joined done.above done.ensures.sums (g.S.NodeStore.slots c.ascend_short.new.store) c.in-Ok-ascend_short.top (c.in-Ok-ascend_short.ensures.rises up)) c.release_inner.ensures
+    sh.joined_sinks g.met.S.K.Ord.total short c.pop.new.self c.in-Some.parent c.in-Some.place c.in-Some.field-0-2 c.in-Some.ensures.some c.inner_helper-slot.result.0 c.inner_helper-slot.result.1 c.inner_helper-slot.ensures c.inners_at.result.0 c.inners_at.result.1 c.inners_at.ensures.left c.inners_at.ensures.right done.sides done.emptied.value done.ensures.joins done.above done.ensures.sums (g.S.NodeStore.slots c.ascend_short.new.store) c.in-Ok-ascend_short.top
+    (c.in-Ok-ascend_short.ensures.rises (sh.joined g.met.S.K.Ord.total short c.pop.new.self c.in-Some.parent c.in-Some.place c.in-Some.field-0-2 c.in-Some.ensures.some c.inner_helper-slot.result.0 c.inner_helper-slot.result.1 c.inner_helper-slot.ensures c.inners_at.result.0 c.inners_at.result.1 c.inners_at.ensures.left c.inners_at.ensures.right done.sides done.emptied.value done.ensures.joins done.above done.ensures.sums)) (g.S.NodeStore.slots c.release_inner.new.self) c.release_inner.ensures
