@@ -1,2 +1,3 @@
 pub mod CountLemmas
 pub mod RankLemmas
+pub mod VisitLemmas

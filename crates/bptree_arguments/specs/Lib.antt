@@ -1,3 +1,4 @@
 pub mod CountLaws
 pub mod Ranks
 pub mod Selection
+pub mod Visits

@@ -3,3 +3,4 @@
 
 pub mod argument;
 pub mod count;
+pub mod visit;
