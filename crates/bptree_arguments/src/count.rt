@@ -24,20 +24,19 @@ impl Count {
     }
 }
 
-/// The counts added to a number, or the greatest `usize` where that is less. The sum is wide enough for every slice, so
-/// that it is cut down once, at the end, and a step is one addition.
+/// The counts added to a number, or the greatest `usize` where that is less: a step is one addition, and the first sum that
+/// doesn't fit ends it.
 fn total_of(start: usize, arguments: &[Count]) -> usize
     ensures { result ≡ min (start + sum_by (λ b. b.0) arguments.now) (2 ^ 64 - 1) }
 {
-    let mut total = start as u128;
+    let mut total = start;
     for argument in arguments {
-        total += argument.0 as u128;
+        match total.checked_add(argument.0) {
+            Some(sum) => total = sum,
+            None => return usize::MAX,
+        }
     }
-    if total > usize::MAX as u128 {
-        usize::MAX
-    } else {
-        total as usize
-    }
+    total
 }
 
 /// The number of keys, exact. No memory is asked for, so nothing fails.
