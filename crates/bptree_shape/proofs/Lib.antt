@@ -10,6 +10,7 @@ pub mod Selected
 pub mod Slots
 pub mod Spot
 pub mod Summed
+pub mod Visited
 pub mod Walk
 pub mod Ways
 pub mod Widen

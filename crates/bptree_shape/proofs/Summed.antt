@@ -50,29 +50,29 @@ get_early (x ∷ xs) ys (suc i) within = let small : i < length xs = omega arith
 module _ {K V A : Type 0} {cmp : K → K → Ordering} (total : IsTotalOrder cmp) (is_summary : A → List K → Type 0) (slots : Slots (Inner K A) (Leaf K V)) where
   module _ (h : ℕ) (id : InnerNodeId) (node : Inner K A) (s : IsSubtree cmp is_summary slots (suc h) (kind.Inner id)) (e : slots.inner id.0 ≡ Present node) where
     -- the keys below each child
-    abbrev pieces : List (List K)
+    abbrev pub pieces : List (List K)
     pieces = keys_each (pairs_at slots h) node.children
 
     chain : Chain cmp (IsTree cmp slots 16 h) node.keys node.children s.stands.low s.stands.high
     chain = subst (λ (x : Slot (Inner K A)). Chain cmp (IsTree cmp slots 16 h) (inner_keys x) (inner_children x) s.stands.low s.stands.high) e s.stands.tree.1
 
-    summaries : AllZip is_summary node.arguments pieces
+    pub summaries : AllZip is_summary node.arguments pieces
     summaries = subst (λ (x : Slot (Inner K A)). AllZip is_summary (inner_arguments x) (keys_each (pairs_at slots h) (inner_children x))) e s.summed.0
 
     summed_below : AllByRecursion (IsSummed slots is_summary h) node.children
     summed_below = subst (λ (x : Slot (Inner K A)). AllByRecursion (IsSummed slots is_summary h) (inner_children x)) e s.summed.1
 
-    whole : pairs_at slots (suc h) (kind.Inner id) ≡ flat (pairs_at slots h) node.children
+    pub whole : pairs_at slots (suc h) (kind.Inner id) ≡ flat (pairs_at slots h) node.children
     whole = ap (λ (x : Slot (Inner K A)). flat (pairs_at slots h) (inner_children x)) e
 
     whole_keys : keys_of (pairs_at slots (suc h) (kind.Inner id)) ≡ flatten pieces
     whole_keys = ap keys_of whole ∙ keys_of_flat (pairs_at slots h) node.children
 
-    are_pieces : ArePieces cmp pieces
+    pub are_pieces : ArePieces cmp pieces
     are_pieces = chain_pieces total slots h node.keys node.children s.stands.low s.stands.high chain (subst (λ l. length l < 2 ^ 64) whole s.fits)
 
     module _ (i : ℕ) (child : NodeId) (within : i < length node.children) (read : slice_get node.children i ≡ Some child) where
-      same : get_or node.children i child ≡ child
+      pub same : get_or node.children i child ≡ child
       same = get_or_from_slice_get node.children i child child read
 
       parts : flat (pairs_at slots h) node.children ≡ flat (pairs_at slots h) (take i node.children) ++ (pairs_at slots h child ++ flat (pairs_at slots h) (drop (suc i) node.children))
@@ -172,7 +172,7 @@ module _ {K V A : Type 0} {cmp : K → K → Ordering} (total : IsTotalOrder cmp
       led_on i next some child read found selected = selected_above i child (led_within i next some) read selects query next (subst (LeadsTo selects query pieces) some led) found selected
 
   -- the same at a height that the code knows
-  down : (h : ℕ) → suc h - 1 ≡ h
+  pub down : (h : ℕ) → suc h - 1 ≡ h
   down h = omega arith
 
   pub child_subtree : (h : ℕ) (id : InnerNodeId) (node : Inner K A) → IsSubtree cmp is_summary slots h (kind.Inner id) → slots.inner id.0 ≡ Present node → (i : ℕ) (child : NodeId) → i < length node.children → slice_get node.children i ≡ Some child → IsSubtree cmp is_summary slots (h - 1) child

@@ -4,3 +4,4 @@
 pub mod by_argument;
 pub mod descent;
 pub mod reading;
+pub mod visiting;

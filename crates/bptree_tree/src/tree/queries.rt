@@ -1,14 +1,17 @@
 //! Reads of a tree by the summaries of its keys.
-ghost use Rattle.std.specs.Prelude.{◌≡◌, IfOk, MatchResult, is_ok};
+ghost use Rattle.std.specs.Prelude.{◌≡◌, IfOk, IfErr, MatchResult, is_ok};
 ghost use Rattle.std.specs.Map.{keys_of};
 ghost use Rattle.std.specs.Option.{option_map};
+ghost use Rattle.bptree_arguments.specs.Visits.{answered, IsAllowedError};
 ghost use Rattle.bptree_keys.specs.Contents.{has};
 ghost use Rattle.bptree_shape.specs.ByArgument.{IsSelected};
 
 use crate::SelectError;
 use crate::tree::BPlusTree;
 use bptree_arguments::argument::{RankArgument, SearchArgument};
+use bptree_arguments::visit::{DescendError, DescendVisit};
 use bptree_shape::by_argument;
+use bptree_shape::visiting;
 use bptree_stores::node_stores::NodeStore;
 use std::alloc::AllocError;
 
@@ -53,6 +56,24 @@ impl<S: NodeStore> BPlusTree<S> {
         // Read, so that it is known to fit.
         let _len = self.len;
         by_argument::rank_by_argument(&self.store, self.root, self.height, k)
+    }
+
+    /// What a visitor answers on its way down, or none where it ends without an answer. It takes no memory but what the
+    /// visitor takes.
+    ///
+    /// The visitor sees one node a level, from the root down: an inner node by its separators and summaries, and at last one
+    /// leaf, unless it ends before. It fails with `OutOfMemory` where the visitor is refused memory, and with `InvalidChild`
+    /// where it names a child whose number is above the number of separators.
+    pub fn descend_visit<W: DescendVisit<S::K, S::V, S::Argument>>(
+        &self,
+        visitor: W,
+    ) -> Result<Option<W::Result>, DescendError>
+        ensures answer { IfOk result (λ answer. W.answers visitor self.now.contents (answered answer)) }
+        ensures error { IfErr result (IsAllowedError W.answers visitor self.now.contents) }
+    {
+        // Read, so that it is known to fit.
+        let _len = self.len;
+        visiting::descend_visit(&self.store, self.root, self.height, visitor)
     }
 }
 

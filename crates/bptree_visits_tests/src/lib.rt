@@ -1,0 +1,6 @@
+//! Tests of visits of trees, and of trees that keep groups of keys.
+#![tactic(auto)]
+
+#[cfg(test)]
+mod visit_tests;
+pub mod visitors;
