@@ -1,0 +1,209 @@
+//! Times the calls of a tree: each line of input has a number of pairs and a number of rounds. It prints a line for each
+//! call and round: the number of pairs, the tree's kind, the call, the time of one in hundredths of a nanosecond, and a sum
+//! of what was answered.
+#![tactic(auto)]
+
+use std::alloc::{AllocError, Global};
+use std::process::ExitCode;
+use std::time::Instant;
+use sweep_bptree::tree::count::Count;
+use sweep_bptree::tree::{Argument, BPlusTree, NodeStoreVec};
+
+type Tree<A> = BPlusTree<NodeStoreVec<u64, u64, A>>;
+
+// Numbers in no order: each is made of the one before by shifts.
+fn next_number(state: u64) -> u64 {
+    let mut next = state;
+    next ^= next << 13;
+    next ^= next >> 7;
+    next ^= next << 17;
+    next
+}
+
+// Odd numbers, of which hardly two are equal.
+fn odd_numbers(alloc: Global, many: usize) -> Result<Vec<u64>, AllocError> {
+    let mut numbers = Vec::with_capacity(alloc, many)?;
+    let mut state = 0x9e37_79b9_7f4a_7c15;
+    for _ in 0..many {
+        state = next_number(state);
+        numbers.push(state | 1)?;
+    }
+    Ok(numbers)
+}
+
+// The same numbers in another order.
+fn shuffled(alloc: Global, numbers: &[u64]) -> Result<Vec<u64>, AllocError> {
+    let mut others = numbers.to_vec(alloc)?;
+    let mut state = 0x2545_f491_4f6c_dd1d;
+    let many = others.len();
+    for i in 1..many {
+        state = next_number(state);
+        let place = (state % (i as u64 + 1)) as usize;
+        if place < others.len() && i < others.len() {
+            others.swap(i, place);
+        }
+    }
+    Ok(others)
+}
+
+// The time since the start, told for one of the calls.
+fn tell(rt: &HostRuntime, kind: &str, call: &str, start: Instant, calls: usize, sum: u64) {
+    if let Ok(spent) = start.elapsed(rt) {
+        let each = spent.as_nanos() * 100 / (calls as u128 + 1);
+        let _ = println!(rt; "{calls} {kind} {call} {each} {sum}");
+    }
+}
+
+// Each key with itself as its value.
+fn insert_all<A: Argument<u64>>(tree: &mut Tree<A>, keys: &[u64]) -> Result<u64, ()> {
+    let mut found = 0u64;
+    for key in keys {
+        match tree.insert(*key, *key) {
+            Ok(None) => {}
+            Ok(Some(_)) => found = found.wrapping_add(1),
+            Err(_) => return Err(()),
+        }
+    }
+    Ok(found)
+}
+
+fn get_all<A: Argument<u64>>(tree: &Tree<A>, keys: &[u64], mask: u64) -> u64 {
+    let mut sum = 0u64;
+    for key in keys {
+        if let Some(value) = tree.get(&(*key & mask)) {
+            sum = sum.wrapping_add(*value);
+        }
+    }
+    sum
+}
+
+fn step_through<A: Argument<u64>>(tree: &Tree<A>) -> u64 {
+    let mut sum = 0u64;
+    for (key, _) in tree.iter() {
+        sum = sum.wrapping_add(*key);
+    }
+    sum
+}
+
+fn remove_all<A: Argument<u64>>(tree: &mut Tree<A>, keys: &[u64]) -> Result<u64, AllocError> {
+    let mut sum = 0u64;
+    for key in keys {
+        if let Some(value) = tree.remove(key)? {
+            sum = sum.wrapping_add(value);
+        }
+    }
+    Ok(sum)
+}
+
+// The keys name places, and are ranked.
+fn place_all(tree: &Tree<Count>, keys: &[u64]) -> Result<u64, AllocError> {
+    let mut sum = 0u64;
+    let many = keys.len() as u64 + 1;
+    for key in keys {
+        if let Some((found, _)) = tree.get_by_argument((*key % many) as usize)? {
+            sum = sum.wrapping_add(*found);
+        }
+    }
+    Ok(sum)
+}
+
+fn rank_all(tree: &Tree<Count>, keys: &[u64]) -> Result<u64, AllocError> {
+    let mut sum = 0u64;
+    for key in keys {
+        if let Ok(rank) = tree.rank_by_argument(key)? {
+            sum = sum.wrapping_add(rank as u64);
+        }
+    }
+    Ok(sum)
+}
+
+// One tree, filled and read. It is none where memory was refused.
+fn filled<A: Argument<u64>>(
+    rt: &HostRuntime,
+    kind: &str,
+    keys: &[u64],
+    others: &[u64],
+    sorted: &[u64],
+) -> Option<Tree<A>> {
+    let Ok(mut tree) = BPlusTree::new(NodeStoreVec::new(rt.alloc())) else {
+        return None;
+    };
+    let Ok(start) = Instant::now(rt) else {
+        return None;
+    };
+    let Ok(found) = insert_all(&mut tree, keys) else {
+        return None;
+    };
+    tell(rt, kind, "insert", start, keys.len(), found);
+    for (call, wanted, mask) in [
+        ("get", others, u64::MAX),
+        ("absent", others, u64::MAX - 1),
+        ("inorder", sorted, u64::MAX),
+    ] {
+        if let Ok(start) = Instant::now(rt) {
+            let sum = get_all(&tree, wanted, mask);
+            tell(rt, kind, call, start, wanted.len(), sum);
+        }
+    }
+    if let Ok(start) = Instant::now(rt) {
+        let sum = step_through(&tree);
+        tell(rt, kind, "step", start, keys.len(), sum);
+    }
+    Some(tree)
+}
+
+fn emptied<A: Argument<u64>>(rt: &HostRuntime, kind: &str, tree: &mut Tree<A>, keys: &[u64]) {
+    if let Ok(start) = Instant::now(rt) {
+        if let Ok(sum) = remove_all(tree, keys) {
+            tell(rt, kind, "remove", start, keys.len(), sum);
+        }
+    }
+}
+
+fn counted(rt: &HostRuntime, tree: &Tree<Count>, keys: &[u64]) {
+    if let Ok(start) = Instant::now(rt) {
+        if let Ok(sum) = place_all(tree, keys) {
+            tell(rt, "count", "at", start, keys.len(), sum);
+        }
+    }
+    if let Ok(start) = Instant::now(rt) {
+        if let Ok(sum) = rank_all(tree, keys) {
+            tell(rt, "count", "rank", start, keys.len(), sum);
+        }
+    }
+}
+
+fn rounds(rt: &HostRuntime, pairs: usize, rounds: usize) -> Result<(), AllocError> {
+    let keys = odd_numbers(rt.alloc(), pairs)?;
+    let others = shuffled(rt.alloc(), &keys)?;
+    let mut sorted = keys.to_vec(rt.alloc())?;
+    sorted.sort_unstable();
+    for _ in 0..rounds {
+        if let Some(mut tree) = filled::<()>(rt, "plain", &keys, &others, &sorted) {
+            emptied(rt, "plain", &mut tree, &others);
+        }
+        if let Some(mut tree) = filled::<Count>(rt, "count", &keys, &others, &sorted) {
+            counted(rt, &tree, &others);
+            emptied(rt, "count", &mut tree, &others);
+        }
+    }
+    Ok(())
+}
+
+fn main(rt: HostRuntime) -> ExitCode {
+    for line in rt.lines(rt.alloc()) {
+        let Ok(line) = line else {
+            return ExitCode::FAILURE;
+        };
+        let Some((pairs, times)) = line.split_once(' ') else {
+            return ExitCode::FAILURE;
+        };
+        let (Ok(pairs), Ok(times)) = (pairs.parse::<usize>(), times.parse::<usize>()) else {
+            return ExitCode::FAILURE;
+        };
+        if rounds(&rt, pairs, times).is_err() {
+            return ExitCode::FAILURE;
+        }
+    }
+    ExitCode::SUCCESS
+}

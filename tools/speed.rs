@@ -1,0 +1,92 @@
+// The same calls as the crate `bptree_speed` times, over the `BTreeMap` of Rust's standard library.
+use std::collections::BTreeMap;
+use std::io::stdin;
+use std::time::Instant;
+
+fn next_number(state: u64) -> u64 {
+    let mut next = state;
+    next ^= next << 13;
+    next ^= next >> 7;
+    next ^= next << 17;
+    next
+}
+
+fn odd_numbers(many: usize) -> Vec<u64> {
+    let mut state = 0x9e37_79b9_7f4a_7c15;
+    (0..many)
+        .map(|_| {
+            state = next_number(state);
+            state | 1
+        })
+        .collect()
+}
+
+fn shuffled(numbers: &[u64]) -> Vec<u64> {
+    let mut others = numbers.to_vec();
+    let mut state = 0x2545_f491_4f6c_dd1d;
+    for i in 1..others.len() {
+        state = next_number(state);
+        others.swap(i, (state % (i as u64 + 1)) as usize);
+    }
+    others
+}
+
+fn tell(call: &str, start: Instant, calls: usize, sum: u64) {
+    let each = start.elapsed().as_nanos() * 100 / (calls as u128 + 1);
+    println!("{calls} map {call} {each} {sum}");
+}
+
+fn get_all(map: &BTreeMap<u64, u64>, keys: &[u64], mask: u64) -> u64 {
+    let mut sum = 0u64;
+    for key in keys {
+        if let Some(value) = map.get(&(*key & mask)) {
+            sum = sum.wrapping_add(*value);
+        }
+    }
+    sum
+}
+
+fn main() {
+    for line in stdin().lines() {
+        let line = line.unwrap();
+        let (pairs, rounds) = line.split_once(' ').unwrap();
+        let keys = odd_numbers(pairs.parse().unwrap());
+        let others = shuffled(&keys);
+        let mut sorted = keys.clone();
+        sorted.sort_unstable();
+        for _ in 0..rounds.parse().unwrap() {
+            let mut map = BTreeMap::new();
+            let start = Instant::now();
+            let mut sum = 0u64;
+            for key in &keys {
+                if map.insert(*key, *key).is_some() {
+                    sum += 1;
+                }
+            }
+            tell("insert", start, keys.len(), sum);
+            for (call, wanted, mask) in [
+                ("get", &others, u64::MAX),
+                ("absent", &others, u64::MAX - 1),
+                ("inorder", &sorted, u64::MAX),
+            ] {
+                let start = Instant::now();
+                let sum = get_all(&map, wanted, mask);
+                tell(call, start, wanted.len(), sum);
+            }
+            let start = Instant::now();
+            let mut sum = 0u64;
+            for (key, _) in &map {
+                sum = sum.wrapping_add(*key);
+            }
+            tell("step", start, keys.len(), sum);
+            let start = Instant::now();
+            let mut sum = 0u64;
+            for key in &others {
+                if let Some(value) = map.remove(key) {
+                    sum = sum.wrapping_add(value);
+                }
+            }
+            tell("remove", start, keys.len(), sum);
+        }
+    }
+}
