@@ -273,9 +273,11 @@ fn top_of(root: NodeId, height: usize, top: Option<InnerNodeId>) -> (NodeId, usi
 /// Puts a pair into a whole tree.
 ///
 /// An equal key stays, and its value alone is replaced. A new key's leaf, and each node above it, takes a new summary;
-/// each of them that is full is split. A refusal hands the pair back, and no slot has changed.
+/// each of them that is full is split. A refusal hands the pair back, and no slot has changed. What the path held before
+/// plays no part: it is lent, so that none need be made.
 pub fn upsert<S: NodeStore>(
     store: &mut S,
+    path: &mut VisitStack,
     root: NodeId,
     height: usize,
     k: S::K,
@@ -289,12 +291,12 @@ pub fn upsert<S: NodeStore>(
     ensures handed_back { IfErr result (λ pair. pair ≡ (k, v)) }
     ensures absent { OnErr result (has S.K.cmp (pairs_at (S.slots store.old) height root) k ≡ false) }
 {
-    let mut path = VisitStack::new();
-    let leaf = find_path(store, root, height, &k, &mut path);
+    path.clear();
+    let leaf = find_path(store, root, height, &k, path);
     let found = store.get_leaf(leaf).locate_slot(&k);
     match found {
         Ok(slot) => Ok(Put::Replaced(replace_at(store, leaf, slot, v))),
-        Err(slot) => match put_new(store, &mut path, root, leaf, slot, k, v) {
+        Err(slot) => match put_new(store, path, root, leaf, slot, k, v) {
             Ok((top, summary)) => {
                 let (root, height) = top_of(root, height, top);
                 Ok(Put::Added(root, height, summary))

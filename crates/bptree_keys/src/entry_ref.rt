@@ -55,6 +55,13 @@ impl VisitStack {
         self.entries.push((id, offset, child));
     }
 
+    /// Takes all inner nodes off the path.
+    pub fn clear(&mut self)
+        ensures { self.new ≡ [] }
+    {
+        self.entries.clear();
+    }
+
     /// Takes the last inner node off the path, if there is one.
     pub fn pop(&mut self) -> Option<(InnerNodeId, usize, NodeId)>
         ensures variant { IsSome result ↔ (0 < length self.old) }

@@ -402,9 +402,10 @@ fn settle<S: NodeStore>(store: &mut S, root: NodeId, height: usize) -> (NodeId, 
 }
 
 /// Removes the pair with a key equal to `k` from a whole tree, where there is one. It takes no memory where there is none;
-/// a refusal changes no slot.
+/// a refusal changes no slot. What the path held before plays no part: it is lent, so that none need be made.
 pub fn remove<S: NodeStore>(
     store: &mut S,
+    path: &mut VisitStack,
     root: NodeId,
     height: usize,
     k: &S::K,
@@ -416,12 +417,12 @@ pub fn remove<S: NodeStore>(
     ensures absent { has S.K.cmp (pairs_at (S.slots store.old) height root) k.now ≡ false → result ≡ Ok None }
     ensures refused { OnErr result (S.slots store.new ≡ S.slots store.old) }
 {
-    let mut path = VisitStack::new();
-    let leaf = find_path(store, root, height, k, &mut path);
+    path.clear();
+    let leaf = find_path(store, root, height, k, path);
     let found = store.get_leaf(leaf).locate_slot(k);
     match found {
         Ok(slot) => {
-            let (pair, summary) = take_out(store, &mut path, leaf, slot, statistic)?;
+            let (pair, summary) = take_out(store, path, leaf, slot, statistic)?;
             let (_, value) = pair;
             let (root, height) = settle(store, root, height);
             Ok(Some(Removed {
@@ -436,9 +437,10 @@ pub fn remove<S: NodeStore>(
 }
 
 /// Removes the pair at a place that is allowed for the query from a whole tree, where one is found; a refusal changes no
-/// slot.
+/// slot. The path is lent as to `remove`.
 pub fn remove_by_argument<S: NodeStore>(
     store: &mut S,
+    path: &mut VisitStack,
     root: NodeId,
     height: usize,
     query: <S::Argument as SearchArgument<S::K>>::Query,
@@ -451,11 +453,11 @@ where
     ensures removed { IfOk result (λ gone. MatchOption gone ((S.slots store.new ≡ S.slots store.old) × S.Argument.selects query (keys_of (pairs_at (S.slots store.old) height root)) None) (λ r. IsWithdrawn S.Argument.selects query S.K.cmp S.Argument.is_summary (S.slots store.old) (S.slots store.new) height root r.value r.root r.height r.summary)) }
     ensures refused { OnErr result (S.slots store.new ≡ S.slots store.old) }
 {
-    let mut path = VisitStack::new();
-    match find_path_by_argument(store, root, height, query, &mut path)? {
+    path.clear();
+    match find_path_by_argument(store, root, height, query, path)? {
         None => Ok(None),
         Some((leaf, slot)) => {
-            let (value, summary) = take_out(store, &mut path, leaf, slot, statistic)?;
+            let (value, summary) = take_out(store, path, leaf, slot, statistic)?;
             let (root, height) = settle(store, root, height);
             Ok(Some(Removed {
                 value,

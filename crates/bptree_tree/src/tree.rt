@@ -15,6 +15,7 @@ mod removals;
 use crate::InsertError;
 use crate::iterator::Iter;
 use bptree_insertion::insertion::{Put, upsert};
+use bptree_keys::entry_ref::VisitStack;
 use bptree_keys::node_id::NodeId;
 use bptree_removal::removal::{Removed, remove};
 use bptree_removal::statistics::Statistic;
@@ -33,6 +34,8 @@ pub struct BPlusTree<S: NodeStore> {
     len: usize,
     root_argument: S::Argument,
     statistic: Statistic,
+    // Lent to each change, which begins with none of what it holds.
+    path: VisitStack,
 }
 
 impl<S: NodeStore> Model for BPlusTree<S> {
@@ -65,6 +68,7 @@ impl<S: NodeStore> BPlusTree<S> {
             len: 0,
             root_argument: S::Argument::default(),
             statistic: Statistic::default(),
+            path: VisitStack::new(),
         })
     }
 
@@ -133,7 +137,7 @@ impl<S: NodeStore> BPlusTree<S> {
         if self.len == usize::MAX && self.get(&k).is_none() {
             return Err(InsertError::Full(k, v));
         }
-        match upsert(&mut self.store, self.root, self.height, k, v) {
+        match upsert(&mut self.store, &mut self.path, self.root, self.height, k, v) {
             Ok(Put::Replaced(was)) => Ok(Some(was)),
             Ok(Put::Added(root, height, summary)) => {
                 self.root = root;
@@ -161,6 +165,7 @@ impl<S: NodeStore> BPlusTree<S> {
     {
         match remove(
             &mut self.store,
+            &mut self.path,
             self.root,
             self.height,
             k,

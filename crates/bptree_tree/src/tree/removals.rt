@@ -33,6 +33,7 @@ impl<S: NodeStore> BPlusTree<S> {
         let _len = self.len;
         match removal::remove_by_argument(
             &mut self.store,
+            &mut self.path,
             self.root,
             self.height,
             query,

@@ -7,7 +7,7 @@ use Rattle.bptree_insertion.proofs.insertion.upsert.Goals as goal
 pub find_path-leaf-requires-clause-room : goal.find_path-leaf-requires-clause-room
 find_path-leaf-requires-clause-room g c =
     let low = low_tree g.S.K.Ord.cmp g.S.Argument.Argument.is_summary (g.S.NodeStore.slots c.args.store.now) c.args.height c.args.root c.requires.shape c.requires.few in
-    omega (arith, low, ap length c.new-path.ensures)
+    omega (arith, low, ap length c.clear.ensures)
 
 pub put_new-requires : goal.put_new-requires
 put_new-requires g c =
@@ -23,7 +23,7 @@ put_new-requires g c =
           root = c.args.root;
           shape = c.requires.shape;
           few = c.requires.room (absent_there total sum old c.args.height c.args.root c.args.k c.find_path-leaf.result node c.requires.shape c.find_path-leaf.ensures.leaf c.get_leaf.ensures place.0);
-          way = c.find_path-leaf.ensures.way c.args.height c.args.root (rw c.new-path.ensures (refl, refl));
+          way = c.find_path-leaf.ensures.way c.args.height c.args.root (rw c.clear.ensures (refl, refl));
           absent = rw c.get_leaf.ensures place.0;
           place = rw c.get_leaf.ensures place.1;
         },
@@ -55,7 +55,7 @@ returns-in-Ok-put_new-clause-put g c =
             root = c.args.root;
             shape = c.requires.shape;
             few = c.requires.room absent;
-            way = c.find_path-leaf.ensures.way c.args.height c.args.root (rw c.new-path.ensures (refl, refl));
+            way = c.find_path-leaf.ensures.way c.args.height c.args.root (rw c.clear.ensures (refl, refl));
             absent = rw c.get_leaf.ensures place.0;
             place = rw c.get_leaf.ensures place.1;
           }) refl),

@@ -10,7 +10,7 @@ use Rattle.bptree_removal.proofs.removal.remove.Goals as goal
 pub find_path-leaf-requires-clause-room : goal.find_path-leaf-requires-clause-room
 find_path-leaf-requires-clause-room g c =
     let low = low_tree g.S.K.Ord.cmp g.S.Argument.Argument.is_summary (g.S.NodeStore.slots c.args.store.now) c.args.height c.args.root c.requires.shape c.requires.few in
-    omega (arith, low, ap length c.new-path.ensures)
+    omega (arith, low, ap length c.clear.ensures)
 
 pub take_out-requires : goal.take_out-requires
 take_out-requires g c = (
@@ -20,7 +20,7 @@ take_out-requires g c = (
     root = c.args.root;
     shape = c.requires.shape;
     few = c.requires.few;
-    way = c.find_path-leaf.ensures.way c.args.height c.args.root (rw c.new-path.ensures (refl, refl));
+    way = c.find_path-leaf.ensures.way c.args.height c.args.root (rw c.clear.ensures (refl, refl));
     found = rw c.get_leaf.ensures c.in-Ok.ensures.found;
   },
 )
@@ -33,7 +33,7 @@ settle-root-requires g c =
       root = c.args.root;
       shape = c.requires.shape;
       few = c.requires.few;
-      way = c.find_path-leaf.ensures.way c.args.height c.args.root (rw c.new-path.ensures (refl, refl));
+      way = c.find_path-leaf.ensures.way c.args.height c.args.root (rw c.clear.ensures (refl, refl));
       found = rw c.get_leaf.ensures c.in-Ok.ensures.found;
     })).loose
 
@@ -49,7 +49,7 @@ returns-in_ok-pair-in-Ok-clause-removed g c =
       root = c.args.root;
       shape = c.requires.shape;
       few = c.requires.few;
-      way = c.find_path-leaf.ensures.way c.args.height c.args.root (rw c.new-path.ensures (refl, refl));
+      way = c.find_path-leaf.ensures.way c.args.height c.args.root (rw c.clear.ensures (refl, refl));
       found = rw c.get_leaf.ensures c.in-Ok.ensures.found;
     }) in
     let read : slice_get node.pairs c.in-Ok.slot ≡ Some c.in_ok-pair-in-Ok.pair = rw c.get_leaf.ensures at gone.pair_was in

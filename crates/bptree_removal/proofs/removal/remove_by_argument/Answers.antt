@@ -12,7 +12,7 @@ find_path_by_argument-requires-clause-subtree g c =
 pub find_path_by_argument-requires-clause-room : goal.find_path_by_argument-requires-clause-room
 find_path_by_argument-requires-clause-room g c =
     let low = low_tree g.S.K.Ord.cmp g.S.Argument.Argument.is_summary (g.S.NodeStore.slots c.args.store.now) c.args.height c.args.root c.requires.shape c.requires.few in
-    omega (arith, low, ap length c.new-path.ensures)
+    omega (arith, low, ap length c.clear.ensures)
 
 pub take_out-requires : goal.take_out-requires
 take_out-requires g c =
@@ -25,7 +25,7 @@ take_out-requires g c =
     let slot = c.in-Some.slot in
     let found : IsSelectedAt selects c.args.query old c.args.height c.args.root (Some (leaf, slot)) = rw c.in-Some.is at c.in_ok-find_path_by_argument.ensures.selected in
     let on = rw c.in-Some.is at c.in_ok-find_path_by_argument.ensures.way in
-    let there = is_there total sum old selects c.args.query c.args.height c.args.root c.requires.shape c.requires.few leaf slot found c.new-path.result c.find_path_by_argument.new.path c.new-path.ensures on in
+    let there = is_there total sum old selects c.args.query c.args.height c.args.root c.requires.shape c.requires.few leaf slot found c.clear.new.self c.find_path_by_argument.new.path c.clear.ensures on in
     ((found_pair total sum old selects c.args.query c.args.height c.args.root c.requires.shape c.requires.few leaf slot found).0.0, there)
 
 pub settle-root-requires : goal.settle-root-requires
@@ -39,7 +39,7 @@ settle-root-requires g c =
     let slot = c.in-Some.slot in
     let found : IsSelectedAt selects c.args.query old c.args.height c.args.root (Some (leaf, slot)) = rw c.in-Some.is at c.in_ok-find_path_by_argument.ensures.selected in
     let on = rw c.in-Some.is at c.in_ok-find_path_by_argument.ensures.way in
-    let there = is_there total sum old selects c.args.query c.args.height c.args.root c.requires.shape c.requires.few leaf slot found c.new-path.result c.find_path_by_argument.new.path c.new-path.ensures on in
+    let there = is_there total sum old selects c.args.query c.args.height c.args.root c.requires.shape c.requires.few leaf slot found c.clear.new.self c.find_path_by_argument.new.path c.clear.ensures on in
     (c.in_ok-value-in-Some.ensures.leaves (found_pair total sum old selects c.args.query c.args.height c.args.root c.requires.shape c.requires.few leaf slot found).0.0 there).loose
 
 pub returns-in_ok-value-in-Some-clause-removed : goal.returns-in_ok-value-in-Some-clause-removed
@@ -53,6 +53,6 @@ returns-in_ok-value-in-Some-clause-removed g c =
     let slot = c.in-Some.slot in
     let found : IsSelectedAt selects c.args.query old c.args.height c.args.root (Some (leaf, slot)) = rw c.in-Some.is at c.in_ok-find_path_by_argument.ensures.selected in
     let on = rw c.in-Some.is at c.in_ok-find_path_by_argument.ensures.way in
-    let there = is_there total sum old selects c.args.query c.args.height c.args.root c.requires.shape c.requires.few leaf slot found c.new-path.result c.find_path_by_argument.new.path c.new-path.ensures on in
+    let there = is_there total sum old selects c.args.query c.args.height c.args.root c.requires.shape c.requires.few leaf slot found c.clear.new.self c.find_path_by_argument.new.path c.clear.ensures on in
     withdrawn total sum old selects c.args.query c.args.height c.args.root c.requires.shape c.requires.few leaf slot found (slots c.take_out.new.store) (slots c.settle-root.new.store) c.in_ok-value-in-Some.value c.in_ok-value-in-Some.summary c.settle-root.result.0 c.settle-root.result.1
     (c.in_ok-value-in-Some.ensures.leaves (found_pair total sum old selects c.args.query c.args.height c.args.root c.requires.shape c.requires.few leaf slot found).0.0 there) c.settle-root.ensures.shape c.settle-root.ensures.pairs
