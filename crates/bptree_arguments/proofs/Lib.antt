@@ -1,2 +1,6 @@
 pub mod CountLemmas
+pub mod GroupLemmas
+pub mod GroupSelectLemmas
+pub mod GroupSizeLemmas
 pub mod RankLemmas
+pub mod VisitLemmas

@@ -3,3 +3,6 @@
 
 pub mod argument;
 pub mod count;
+pub mod group;
+pub mod group_size;
+pub mod visit;

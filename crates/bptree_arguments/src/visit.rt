@@ -1,0 +1,54 @@
+//! Visitors, which go down one path of a tree and take an answer from its summaries.
+ghost use Rattle.std.specs.Prelude.{◌≡◌, ◌+◌, ◌≤◌, List, length, IfOk};
+ghost use Rattle.std.specs.List.{AllZip};
+ghost use Rattle.std.specs.List.Sorted.{IsStrictlySortedBy};
+ghost use Rattle.std.specs.Map.{keys_of, values_of};
+ghost use Rattle.bptree_arguments.specs.Visits.{VisitAnswer, answered, IsStep, key_pieces};
+ghost use Rattle.bptree_keys.specs.Pieces.{ArePieces};
+
+use crate::argument::Argument;
+use bptree_keys::key::Key;
+use std::alloc::AllocError;
+
+/// What a visitor wants after it has seen an inner node.
+#[derive(Drop)]
+pub enum DescendVisitResult<R> {
+    /// To see the child of this number. The number of keys is that of the last child.
+    GoDown(usize),
+    /// To end without an answer.
+    Cancel,
+    /// To end with this answer.
+    Complete(R),
+}
+
+/// Why a visit came to no end.
+#[derive(Clone, Copy, Debug, PartialEq)]
+pub enum DescendError {
+    /// A request for memory was refused.
+    OutOfMemory = 1,
+    /// The visitor named a child that its node doesn't have.
+    InvalidChild = 2,
+}
+
+/// A visitor of a tree. It is shown one node a level, from the root down, and says where to go on.
+pub trait DescendVisit<K: Key, V, A: Argument<K>>: Drop {
+    /// What is answered.
+    type Result: Drop;
+
+    /// The answer is allowed for the visitor on the pairs.
+    ghost answers: { Self → List (K × V) → VisitAnswer Self.Result → Type 0 };
+
+    /// Sees an inner node: its separators, and one summary for each child. It fails only where memory is refused.
+    fn visit_inner(
+        &mut self,
+        keys: &[K],
+        arguments: &[A],
+    ) -> Result<DescendVisitResult<Self::Result>, AllocError>
+        ensures step { IfOk result (λ step. (pieces : List (List (K × V))) → ArePieces K.cmp (key_pieces pieces) → AllZip A.is_summary arguments.now (key_pieces pieces) → length pieces ≡ length keys.now + 1 → IsStep answers self.old self.new pieces step) };
+
+    /// Sees the pairs of a leaf, whose keys ascend, and answers. It fails only where memory is refused.
+    fn visit_leaf(&mut self, keys: &[K], values: &[V]) -> Result<Option<Self::Result>, AllocError>
+        requires few { length keys.now ≤ 64 }
+        requires paired { length keys.now ≡ length values.now }
+        ensures answer { IfOk result (λ answer. (pairs : List (K × V)) → keys_of pairs ≡ keys.now → values_of pairs ≡ values.now → IsStrictlySortedBy K.cmp keys.now → answers self.old pairs (answered answer)) };
+}
