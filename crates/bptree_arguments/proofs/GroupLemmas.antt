@@ -24,7 +24,7 @@ list_any_none p (x ∷ xs) h = rw h.0 (list_any_none p xs h.1)
 
 module _ {G : Type 0} {R : G → G → Ordering} (o : IsTotalOrder R) where
   -- an order that is not above is below where it is not equal
-  less_by : (r : Ordering) → is_gt r ≡ false → (r ≡ Equal → ⊥) → r ≡ Less
+  pub less_by : (r : Ordering) → is_gt r ≡ false → (r ≡ Equal → ⊥) → r ≡ Less
   less_by Less h k = refl
   less_by Equal h k = absurd (k refl)
   less_by Greater h k = absurd (true≢false h)
@@ -167,16 +167,16 @@ module _ {G : Type 0} {R : G → G → Ordering} (o : IsTotalOrder R) where
     greatest_all = AllByRecursion-append (λ x. is_gt (R x g2.0) ≡ false) xs ys (AllByRecursion-weaker (λ x. is_gt (R x g1.0) ≡ false) (λ x. is_gt (R x g2.0) ≡ false) (λ x e. upto o x g1.0 g2.0 e (upto o g1.0 l2.0 g2.0 boundary least_le_greatest')) xs a.greatest_bound) b.greatest_bound
 
     -- how many keys of the other part are in the least or the greatest group
-    least_shared : R l1.0 l2.0 ≡ Equal → group_size R l1.0 ys ≡ l2.1
+    pub least_shared : R l1.0 l2.0 ≡ Equal → group_size R l1.0 ys ≡ l2.1
     least_shared e = size_alike l1.0 l2.0 e ys ∙ sym b.least_size
 
-    least_apart : R l1.0 l2.0 ≡ Less → group_size R l1.0 ys ≡ 0
+    pub least_apart : R l1.0 l2.0 ≡ Less → group_size R l1.0 ys ≡ 0
     least_apart e = size_above l1.0 ys (AllByRecursion-weaker (λ y. is_gt (R l2.0 y) ≡ false) (λ y. R l1.0 y ≡ Less) (λ y f. less_le l1.0 l2.0 y e f) ys b.least_bound)
 
-    greatest_shared : R g1.0 g2.0 ≡ Equal → group_size R g2.0 xs ≡ g1.1
+    pub greatest_shared : R g1.0 g2.0 ≡ Equal → group_size R g2.0 xs ≡ g1.1
     greatest_shared e = sym (size_alike g1.0 g2.0 e xs) ∙ sym a.greatest_size
 
-    greatest_apart : R g1.0 g2.0 ≡ Less → group_size R g2.0 xs ≡ 0
+    pub greatest_apart : R g1.0 g2.0 ≡ Less → group_size R g2.0 xs ≡ 0
     greatest_apart e = size_below g2.0 xs (AllByRecursion-weaker (λ x. is_gt (R x g1.0) ≡ false) (λ x. R x g2.0 ≡ Less) (λ x f. le_less x g1.0 g2.0 f e) xs a.greatest_bound)
 
     -- the number of different groups of both
@@ -261,36 +261,23 @@ module _ {G : Type 0} {R : G → G → Ordering} (o : IsTotalOrder R) where
 
   -- the arms of a merge
   module _ (xs ys : List G) (l1 g1 l2 g2 : G × ℕ) (d1 d2 : ℕ) (a : AreExtremes R xs l1 g1 d1) (b : AreExtremes R ys l2 g2 d2) (h : IsNonDescending R (xs ++ ys)) (fits : length (xs ++ ys) < 2 ^ 64) where
-    below : (R g1.0 l2.0 ≡ Equal → ⊥) → R g1.0 l2.0 ≡ Less
+    pub below : (R g1.0 l2.0 ≡ Equal → ⊥) → R g1.0 l2.0 ≡ Less
     below k = less_by (R g1.0 l2.0) (boundary xs ys l1 g1 l2 g2 d1 d2 a b h) k
 
     both : (n m d : ℕ) → n ≡ l1.1 + group_size R l1.0 ys → m ≡ group_size R g2.0 xs + g2.1 → d ≡ different R (xs ++ ys) → AreExtremes R (xs ++ ys) (l1.0, n) (g2.0, m) d
     both = merged xs ys l1 g1 l2 g2 d1 d2 a b h
 
-    many_left : R l1.0 g1.0 ≡ Less → l1.1 ≡ l1.1 + group_size R l1.0 ys
+    pub many_left : R l1.0 g1.0 ≡ Less → l1.1 ≡ l1.1 + group_size R l1.0 ys
     many_left e = omega (arith, least_apart xs ys l1 g1 l2 g2 d1 d2 a b h (less_le l1.0 g1.0 l2.0 e (boundary xs ys l1 g1 l2 g2 d1 d2 a b h)))
 
-    many_right : R l2.0 g2.0 ≡ Less → g2.1 ≡ group_size R g2.0 xs + g2.1
+    pub many_right : R l2.0 g2.0 ≡ Less → g2.1 ≡ group_size R g2.0 xs + g2.1
     many_right e = omega (arith, greatest_apart xs ys l1 g1 l2 g2 d1 d2 a b h (le_less g1.0 l2.0 g2.0 (boundary xs ys l1 g1 l2 g2 d1 d2 a b h) e))
 
-    shared_count : R g1.0 l2.0 ≡ Equal → min (d1 + d2) (2 ^ 64 - 1) - 1 ≡ different R (xs ++ ys)
+    pub shared_count : R g1.0 l2.0 ≡ Equal → min (d1 + d2) (2 ^ 64 - 1) - 1 ≡ different R (xs ++ ys)
     shared_count e = omega (arith, count_shared xs ys l1 g1 l2 g2 d1 d2 a b h e, capped d1 d2 xs ys (sizes_fit xs l1 g1 d1 a).2 (sizes_fit ys l2 g2 d2 b).2 fits)
 
-    apart_count : R g1.0 l2.0 ≡ Less → min (d1 + d2) (2 ^ 64 - 1) ≡ different R (xs ++ ys)
+    pub apart_count : R g1.0 l2.0 ≡ Less → min (d1 + d2) (2 ^ 64 - 1) ≡ different R (xs ++ ys)
     apart_count e = omega (arith, count_apart xs ys l1 g1 l2 g2 d1 d2 a b h e, capped d1 d2 xs ys (sizes_fit xs l1 g1 d1 a).2 (sizes_fit ys l2 g2 d2 b).2 fits)
-
-    -- several groups in each part
-    pub many_many_shared : (c : G) → R g2.0 c ≡ Equal → R l1.0 g1.0 ≡ Less → R l2.0 g2.0 ≡ Less → R g1.0 l2.0 ≡ Equal → AreExtremes R (xs ++ ys) l1 (c, g2.1) (min (d1 + d2) (2 ^ 64 - 1) - 1) × (R l1.0 c ≡ Less)
-    many_many_shared c k e f q = (
-      greatest_alike (xs ++ ys) l1 (g2.0, g2.1) _ c k (both l1.1 g2.1 _ (many_left e) (many_right f) (shared_count q)),
-      less_le l1.0 g2.0 c (le_less l1.0 l2.0 g2.0 (ap is_gt (sym (alike_right o g1.0 l2.0 l1.0 q) ∙ e)) f) (ap is_gt k),
-    )
-
-    pub many_many_apart : (c : G) → R g2.0 c ≡ Equal → R l1.0 g1.0 ≡ Less → R l2.0 g2.0 ≡ Less → (R g1.0 l2.0 ≡ Equal → ⊥) → AreExtremes R (xs ++ ys) l1 (c, g2.1) (min (d1 + d2) (2 ^ 64 - 1)) × (R l1.0 c ≡ Less)
-    many_many_apart c k e f q = (
-      greatest_alike (xs ++ ys) l1 (g2.0, g2.1) _ c k (both l1.1 g2.1 _ (many_left e) (many_right f) (apart_count (below q))),
-      less_le l1.0 g2.0 c (o.trans l1.0 l2.0 g2.0 (o.trans l1.0 g1.0 l2.0 e (below q)) f) (ap is_gt k),
-    )
 
   module _ (xs ys : List G) (h : IsNonDescending R (xs ++ ys)) (fits : length (xs ++ ys) < 2 ^ 64) where
     -- one group in each part
@@ -311,27 +298,6 @@ module _ {G : Type 0} {R : G → G → Ordering} (o : IsTotalOrder R) where
         let count = count_apart xs ys (x, n) (x, n) (y, m) (y, m) 1 1 a b h low in (
           greatest_alike (xs ++ ys) (x, n) (y, m) 2 c k (merged xs ys (x, n) (x, n) (y, m) (y, m) 1 1 a b h n m 2 (omega (arith, left)) (omega (arith, right)) (omega (arith, count))),
           less_le x y c low (ap is_gt k),
-        )
-
-    -- one group, and then several
-    pub one_many_shared : (x c : G) (n : ℕ) (l g : G × ℕ) (d : ℕ) → AreExtremes R xs (x, n) (x, n) 1 → AreExtremes R ys l g d → R l.0 g.0 ≡ Less → R g.0 c ≡ Equal → R x l.0 ≡ Equal → AreExtremes R (xs ++ ys) (x, min (n + l.1) (2 ^ 64 - 1)) (c, g.1) d × (R x c ≡ Less)
-    one_many_shared x c n l g d a b f k q =
-        let sum = capped n l.1 xs ys (sizes_fit xs (x, n) (x, n) 1 a).0 (sizes_fit ys l g d b).0 fits in
-        let left = least_shared xs ys (x, n) (x, n) l g 1 d a b h q in
-        let right = many_right xs ys (x, n) (x, n) l g 1 d a b h fits f in
-        let count = count_shared xs ys (x, n) (x, n) l g 1 d a b h q in (
-          greatest_alike (xs ++ ys) (x, min (n + l.1) (2 ^ 64 - 1)) g d c k (merged xs ys (x, n) (x, n) l g 1 d a b h _ g.1 d (omega (arith, sum, left)) right (omega (arith, count))),
-          less_le x g.0 c (o.congr x l.0 g.0 q ∙ f) (ap is_gt k),
-        )
-
-    pub one_many_apart : (x c : G) (n : ℕ) (l g : G × ℕ) (d : ℕ) → AreExtremes R xs (x, n) (x, n) 1 → AreExtremes R ys l g d → R l.0 g.0 ≡ Less → R g.0 c ≡ Equal → (R x l.0 ≡ Equal → ⊥) → AreExtremes R (xs ++ ys) (x, n) (c, g.1) (min (d + 1) (2 ^ 64 - 1)) × (R x c ≡ Less)
-    one_many_apart x c n l g d a b f k q =
-        let low : R x l.0 ≡ Less = below xs ys (x, n) (x, n) l g 1 d a b h fits q in
-        let left = least_apart xs ys (x, n) (x, n) l g 1 d a b h low in
-        let right = many_right xs ys (x, n) (x, n) l g 1 d a b h fits f in
-        let count = apart_count xs ys (x, n) (x, n) l g 1 d a b h fits low in (
-          greatest_alike (xs ++ ys) (x, n) g _ c k (merged xs ys (x, n) (x, n) l g 1 d a b h n g.1 _ (omega (arith, left)) right (omega (arith, count))),
-          less_le x g.0 c (o.trans x l.0 g.0 low f) (ap is_gt k),
         )
 
     -- several groups, and then one
@@ -355,13 +321,9 @@ module _ {G : Type 0} {R : G → G → Ordering} (o : IsTotalOrder R) where
           less_le l.0 y c (o.trans l.0 g.0 y f low) (ap is_gt k),
         )
 
-  -- what a merge ensures
-  abbrev pub Merges : GroupCount G → GroupCount G → GroupCount G → Type 0
-  Merges left right merged = (xs ys : List G) → IsGroupSummary R left xs → IsGroupSummary R right ys → IsNonDescending R (xs ++ ys) → length (xs ++ ys) < 2 ^ 64 → IsGroupSummary R merged (xs ++ ys)
-
-  pub merge_none : {E : Type 0} (r : Result (GroupCount G) E) (Q : E → Type 0) (left right : GroupCount G) → left ≡ Zero → MatchResult r (AreAlike R right) Q → IfOk r (Merges left right)
-  merge_none (Ok y) Q left right e alike = λ xs ys a b h fits. let none : xs ≡ [] = rw e at a in rw none (summary_alike right y ys alike b)
-  merge_none (Err e') Q left right e alike = tt
+  -- the summary after one more group
+  abbrev pub TakesNext : GroupCount G → G → GroupCount G → Type 0
+  TakesNext before next after = (groups : List G) (x : G) → R next x ≡ Equal → IsGroupSummary R before groups → IsNonDescending R (groups ++ x ∷ []) → length (groups ++ x ∷ []) < 2 ^ 64 → IsGroupSummary R after (groups ++ x ∷ [])
 
   -- one key
   pub single : (x g : G) → R g x ≡ Equal → AreExtremes R (x ∷ []) (g, 1) (g, 1) 1
@@ -404,27 +366,34 @@ module _ {K G : Type 0} (cmp : K → K → Ordering) (R : G → G → Ordering) 
 
   module _ (o : IsTotalOrder R) where
     -- one more key of a leaf
-    pub key_step : (keys : List K) (i : ℕ) (k : K) (g : G) (left after : GroupCount G) → i < length keys → k ≡ get_or keys i k → length keys < 2 ^ 64 → IsStrictlySortedBy cmp keys → R g (group_of k) ≡ Equal → Merges o left (One g 1) after → IsGroupSummary R left (map group_of (take i keys)) → IsGroupSummary R after (map group_of (take (i + 1) keys))
-    key_step keys i k g left after l read fits s e m a =
+    pub key_step : (keys : List K) (i : ℕ) (k : K) (g : G) (before after : GroupCount G) → i < length keys → k ≡ get_or keys i k → length keys < 2 ^ 64 → IsStrictlySortedBy cmp keys → R g (group_of k) ≡ Equal → TakesNext o before g after → IsGroupSummary R before (map group_of (take i keys)) → IsGroupSummary R after (map group_of (take (i + 1) keys))
+    key_step keys i k g before after l read fits s e m a =
         let front = map group_of (take i keys) in
         let more : take (i + 1) keys ≡ take i keys ++ k ∷ [] = take_more keys i k l ∙ ap (λ x. take i keys ++ x ∷ []) (sym read) in
         let whole : map group_of (take (i + 1) keys) ≡ front ++ group_of k ∷ [] = ap (map group_of) more ∙ map-append group_of (take i keys) (k ∷ []) in
         let ascends : IsStrictlySortedBy cmp (take (i + 1) keys) = sorted_left cmp (take (i + 1) keys) (drop (i + 1) keys) (rw (take-append-drop (i + 1) keys) s) in
         let fits' : length (front ++ group_of k ∷ []) < 2 ^ 64 = omega (arith, length-append front (group_of k ∷ []), length-map (take i keys) group_of, length-take i keys, l, fits) in
-        rw whole (m front (group_of k ∷ []) a (single o (group_of k) g e) (rw whole at (groups_ascend (take (i + 1) keys) ascends)) fits')
+        rw whole (m front (group_of k) e a (rw whole at (groups_ascend (take (i + 1) keys) ascends)) fits')
 
-    -- one more child of an inner node
-    pub piece_step : (pieces : List (List K)) (i : ℕ) (left right after : GroupCount G) → i < length pieces → ArePieces cmp pieces → Merges o left right after → IsGroupSummary R left (map group_of (flatten (take i pieces))) → IsGroupSummary R right (map group_of (piece_at pieces i)) → IsGroupSummary R after (map group_of (flatten (take (i + 1) pieces)))
-    piece_step pieces i left right after l are m a b =
-        let front = flatten (take i pieces) in
-        let piece = piece_at pieces i in
-        let back = flatten (drop (suc i) pieces) in
-        let cut = flatten-cut pieces i l in
-        let s : IsStrictlySortedBy cmp (front ++ (piece ++ back)) = rw cut at are.ascending in
-        let s' : IsStrictlySortedBy cmp (front ++ piece) = sorted_left cmp (front ++ piece) back (rw append_assoc s) in
-        let whole : map group_of (flatten (take (i + 1) pieces)) ≡ map group_of front ++ map group_of piece = ap (map group_of) (flatten-take_more pieces i l) ∙ map-append group_of front piece in
-        let fits' : length (map group_of front ++ map group_of piece) < 2 ^ 64 = omega (arith, length-append (map group_of front) (map group_of piece), length-map front group_of, length-map piece group_of, are.fits, ap length cut, length-append front (piece ++ back), length-append piece back) in
-        rw whole (m (map group_of front) (map group_of piece) a b (rw map-append at (groups_ascend (front ++ piece) s')) fits')
+    -- the groups below one more child of an inner node
+    module _ (pieces : List (List K)) (i : ℕ) (l : i < length pieces) where
+      pub piece_whole : map group_of (flatten (take (i + 1) pieces)) ≡ map group_of (flatten (take i pieces)) ++ map group_of (piece_at pieces i)
+      piece_whole = ap (map group_of) (flatten-take_more pieces i l) ∙ map-append group_of (flatten (take i pieces)) (piece_at pieces i)
+
+      pub piece_order : ArePieces cmp pieces → IsNonDescending R (map group_of (flatten (take i pieces)) ++ map group_of (piece_at pieces i))
+      piece_order are =
+          let front = flatten (take i pieces) in
+          let piece = piece_at pieces i in
+          let back = flatten (drop (suc i) pieces) in
+          let s : IsStrictlySortedBy cmp (front ++ (piece ++ back)) = rw (flatten-cut pieces i l) at are.ascending in
+          rw map-append at (groups_ascend (front ++ piece) (sorted_left cmp (front ++ piece) back (rw append_assoc s)))
+
+      pub piece_fits : ArePieces cmp pieces → length (map group_of (flatten (take i pieces)) ++ map group_of (piece_at pieces i)) < 2 ^ 64
+      piece_fits are =
+          let front = flatten (take i pieces) in
+          let piece = piece_at pieces i in
+          let back = flatten (drop (suc i) pieces) in
+          omega (arith, length-append (map group_of front) (map group_of piece), length-map front group_of, length-map piece group_of, are.fits, ap length (flatten-cut pieces i l), length-append front (piece ++ back), length-append piece back)
 
     -- the groups of a part of ascending keys, and what follows it
     pub piece_ascends : (pieces : List (List K)) (i : ℕ) → i < length pieces → IsStrictlySortedBy cmp (flatten pieces) → IsNonDescending R (map group_of (piece_at pieces i) ++ map group_of (flatten (drop (suc i) pieces)))

@@ -1,4 +1,5 @@
 pub mod CountLemmas
+pub mod GroupEndsLemmas
 pub mod GroupLemmas
 pub mod GroupSelectLemmas
 pub mod GroupSizeLemmas

@@ -6,6 +6,7 @@ use Rattle.std.specs.Ordering.{is_eq, is_gt, ordering_then}
 use Rattle.std.specs.List.{AllByRecursion, filter, list_any}
 use Rattle.bptree_arguments.specs.declared.group.GroupCount.{GroupCount}
 use Rattle.bptree_arguments.specs.declared.group.GroupCount.TheVariants.{Zero, One, Multiple}
+use Rattle.bptree_arguments.specs.declared.group.Ends.{Ends}
 
 module _ {G : Type 0} (cmp : G → G → Ordering) where
   -- how many of the groups are equal to g
@@ -60,3 +61,7 @@ pub first_not_above : (r s : Ordering) → is_gt (ordering_then r s) ≡ false �
 first_not_above Less s h = refl
 first_not_above Equal s h = refl
 first_not_above Greater s h = h
+
+-- the extremes of a list of groups, lent
+abbrev pub AreEnds : {G : Type 0} → (G → G → Ordering) → List G → Ends G → Type 0
+AreEnds cmp groups ends = AreExtremes cmp groups (ends.least.now, ends.least_size) (ends.greatest.now, ends.greatest_size) ends.group_count

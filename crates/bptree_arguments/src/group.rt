@@ -1,8 +1,12 @@
 //! Groups of keys, and how many keys each has.
-ghost use Rattle.std.specs.Prelude.{◌≡◌, ℕ, ◌<◌, ◌^◌, List, ◌++◌, length, map, IfOk, true, false};
+ghost use Rattle.std.specs.Prelude.{◌≡◌, ◌≢◌, ◌↔◌, ℕ, ◌+◌, ◌-◌, ◌<◌, ◌^◌, min, List, [], ◌∷◌, ◌++◌, length, map, IfOk, IsTrue, MatchOption, true, false};
 ghost use Rattle.std.specs.Ordering.{is_gt};
-ghost use Rattle.bptree_arguments.specs.Groups.{IsGroupSummary, IsNonDescending, AreAlike, IsGreatestGroup, SelectsInGroup};
+ghost use Rattle.bptree_arguments.specs.Groups.{AreEnds, IsGroupSummary, IsNonDescending, AreAlike, IsGreatestGroup, SelectsInGroup, different};
+ghost use Rattle.std.specs.List.{AllZip};
+ghost use Rattle.std.specs.List.Sorted.{IsStrictlySortedBy};
 ghost use Rattle.std.specs.Option.{option_map};
+ghost use Rattle.bptree_arguments.specs.declared.group.GroupCount.TheVariants.{Zero};
+ghost use Rattle.bptree_keys.specs.Pieces.{ArePieces, flatten};
 
 use crate::argument::{Argument, SearchArgument};
 pub use bptree_keys::key::Tuple2;
@@ -93,94 +97,155 @@ impl<G: Key> GroupCount<G> {
         }
     }
 
-    /// The summary of two lists, one after the other.
-    pub fn merge_with(self, right: &GroupCount<G>) -> Result<GroupCount<G>, AllocError>
-        ensures { IfOk result (λ merged. (xs ys : List G) → IsGroupSummary G.cmp self xs → IsGroupSummary G.cmp right.now ys → IsNonDescending G.cmp (xs ++ ys) → length (xs ++ ys) < 2 ^ 64 → IsGroupSummary G.cmp merged (xs ++ ys)) }
+    /// Whether there is no group.
+    pub fn is_zero(&self) -> bool
+        ensures { (groups : List G) → IsGroupSummary G.cmp self.now groups → IsTrue result ↔ (groups ≡ []) }
     {
         match self {
-            GroupCount::Zero => right.clone(),
-            GroupCount::One(group, size) => match right {
-                GroupCount::Zero => Ok(GroupCount::One(group, size)),
-                GroupCount::One(next, next_size) => match group.cmp(next) {
-                    Ordering::Equal => Ok(GroupCount::One(group, size.saturating_add(*next_size))),
-                    _ => {
-                        let greatest = next.clone()?;
-                        Ok(GroupCount::Multiple {
-                            min_group: (group, size),
-                            max_group: (greatest, *next_size),
-                            group_count: 2,
-                        })
-                    }
+            GroupCount::Zero => true,
+            _ => false,
+        }
+    }
+
+    /// The number of different groups.
+    pub fn group_count(&self) -> usize
+        ensures { (groups : List G) → IsGroupSummary G.cmp self.now groups → result ≡ different G.cmp groups }
+    {
+        match self {
+            GroupCount::Zero => 0,
+            GroupCount::One(..) => 1,
+            GroupCount::Multiple { group_count, .. } => *group_count,
+        }
+    }
+
+    /// The summary after one more group, which is not below the others.
+    fn with_next(self, next: G) -> GroupCount<G>
+        ensures { (groups : List G) (x : G) → G.cmp next x ≡ Ordering.Equal → IsGroupSummary G.cmp self groups → IsNonDescending G.cmp (groups ++ x ∷ []) → length (groups ++ x ∷ []) < 2 ^ 64 → IsGroupSummary G.cmp result (groups ++ x ∷ []) }
+    {
+        match self {
+            GroupCount::Zero => GroupCount::One(next, 1),
+            GroupCount::One(group, size) => match group.cmp(&next) {
+                Ordering::Equal => GroupCount::One(group, size.saturating_add(1)),
+                _ => GroupCount::Multiple {
+                    min_group: (group, size),
+                    max_group: (next, 1),
+                    group_count: 2,
                 },
-                GroupCount::Multiple {
-                    min_group,
-                    max_group,
-                    group_count,
-                } => {
-                    let greatest = max_group.0.clone()?;
-                    match group.cmp(&min_group.0) {
-                        Ordering::Equal => Ok(GroupCount::Multiple {
-                            min_group: (group, size.saturating_add(min_group.1)),
-                            max_group: (greatest, max_group.1),
-                            group_count: *group_count,
-                        }),
-                        _ => Ok(GroupCount::Multiple {
-                            min_group: (group, size),
-                            max_group: (greatest, max_group.1),
-                            group_count: group_count.saturating_add(1),
-                        }),
-                    }
-                }
             },
             GroupCount::Multiple {
                 min_group,
                 max_group,
                 group_count,
-            } => match right {
-                GroupCount::Zero => Ok(GroupCount::Multiple {
-                    min_group,
-                    max_group,
-                    group_count,
-                }),
-                GroupCount::One(next, next_size) => match max_group.0.cmp(next) {
-                    Ordering::Equal => {
-                        let (greatest, greatest_size) = max_group;
-                        Ok(GroupCount::Multiple {
-                            min_group,
-                            max_group: (greatest, greatest_size.saturating_add(*next_size)),
-                            group_count,
-                        })
-                    }
-                    _ => {
-                        let greatest = next.clone()?;
-                        Ok(GroupCount::Multiple {
-                            min_group,
-                            max_group: (greatest, *next_size),
-                            group_count: group_count.saturating_add(1),
-                        })
-                    }
-                },
-                GroupCount::Multiple {
-                    min_group: next,
-                    max_group: last,
-                    group_count: more,
-                } => {
-                    let greatest = last.0.clone()?;
-                    let total = group_count.saturating_add(*more);
-                    match max_group.0.cmp(&next.0) {
-                        Ordering::Equal => Ok(GroupCount::Multiple {
-                            min_group,
-                            max_group: (greatest, last.1),
-                            group_count: total.saturating_sub(1),
-                        }),
-                        _ => Ok(GroupCount::Multiple {
-                            min_group,
-                            max_group: (greatest, last.1),
-                            group_count: total,
-                        }),
+            } => match max_group.0.cmp(&next) {
+                Ordering::Equal => {
+                    let (group, size) = max_group;
+                    GroupCount::Multiple {
+                        min_group,
+                        max_group: (group, size.saturating_add(1)),
+                        group_count,
                     }
                 }
+                _ => GroupCount::Multiple {
+                    min_group,
+                    max_group: (next, 1),
+                    group_count: group_count.saturating_add(1),
+                },
             },
+        }
+    }
+
+    /// The least and the greatest group, where there is one.
+    pub(crate) fn ends(&self) -> Option<Ends<'_, G>>
+        ensures { (groups : List G) → IsGroupSummary G.cmp self.now groups → MatchOption result (groups ≡ []) (λ ends. AreEnds G.cmp groups ends) }
+    {
+        match self {
+            GroupCount::Zero => None,
+            GroupCount::One(group, size) => Some(Ends {
+                least: group,
+                least_size: *size,
+                greatest: group,
+                greatest_size: *size,
+                group_count: 1,
+            }),
+            GroupCount::Multiple {
+                min_group,
+                max_group,
+                group_count,
+            } => Some(Ends {
+                least: &min_group.0,
+                least_size: min_group.1,
+                greatest: &max_group.0,
+                greatest_size: max_group.1,
+                group_count: *group_count,
+            }),
+        }
+    }
+}
+
+/// The least and the greatest group of a list, each with its size, and the number of groups.
+#[derive(Clone, Copy)]
+pub(crate) struct Ends<'a, G> {
+    pub(crate) least: &'a G,
+    pub(crate) least_size: usize,
+    pub(crate) greatest: &'a G,
+    pub(crate) greatest_size: usize,
+    pub(crate) group_count: usize,
+}
+
+// The size of a group at an end, of which the neighbour has a share where it is the only group.
+fn with_share(size: usize, group_count: usize, share: usize) -> usize
+    ensures only { group_count ≡ 1 → result ≡ min (size + share) (2 ^ 64 - 1) }
+    ensures of_several { group_count ≢ 1 → result ≡ size }
+{
+    if group_count == 1 {
+        size.saturating_add(share)
+    } else {
+        size
+    }
+}
+
+impl<'a, G: Key> Ends<'a, G> {
+    /// The ends of two lists, one after the other.
+    fn followed_by(self, next: Ends<'a, G>) -> Ends<'a, G>
+        ensures { (xs ys : List G) → AreEnds G.cmp xs self.entry → AreEnds G.cmp ys next.entry → IsNonDescending G.cmp (xs ++ ys) → length (xs ++ ys) < 2 ^ 64 → AreEnds G.cmp (xs ++ ys) result }
+    {
+        let total = self.group_count.saturating_add(next.group_count);
+        match self.greatest.cmp(next.least) {
+            Ordering::Equal => Ends {
+                least: self.least,
+                least_size: with_share(self.least_size, self.group_count, next.least_size),
+                greatest: next.greatest,
+                greatest_size: with_share(
+                    next.greatest_size,
+                    next.group_count,
+                    self.greatest_size,
+                ),
+                group_count: total.saturating_sub(1),
+            },
+            _ => Ends {
+                least: self.least,
+                least_size: self.least_size,
+                greatest: next.greatest,
+                greatest_size: next.greatest_size,
+                group_count: total,
+            },
+        }
+    }
+
+    /// A summary of its own, with clones of the groups.
+    fn to_summary(self) -> Result<GroupCount<G>, AllocError>
+        ensures { IfOk result (λ summary. (groups : List G) → AreEnds G.cmp groups self.entry → IsGroupSummary G.cmp summary groups) }
+    {
+        let least = self.least.clone()?;
+        if self.group_count == 1 {
+            Ok(GroupCount::One(least, self.least_size))
+        } else {
+            let greatest = self.greatest.clone()?;
+            Ok(GroupCount::Multiple {
+                min_group: (least, self.least_size),
+                max_group: (greatest, self.greatest_size),
+                group_count: self.group_count,
+            })
         }
     }
 }
@@ -188,21 +253,48 @@ impl<G: Key> GroupCount<G> {
 impl<K: Key, G: FromRef<K> + Key> Argument<K> for GroupCount<G> {
     ghost is_summary = { λ a keys. IsGroupSummary G.cmp a (map G.group_of keys) };
 
-    fn from_leaf(keys: &[K]) -> Result<Self, AllocError> {
-        let mut summary = GroupCount::Zero;
-        for key in keys {
-            let one = GroupCount::One(G::from_ref(key)?, 1);
-            summary = summary.merge_with(&one)?;
+    /// Where the first and the last key have equal groups, these two groups alone are made of keys. Else one is made of
+    /// each key, and none is cloned.
+    fn from_leaf(keys: &[K]) -> Result<Self, AllocError>
+        ensures summary { IfOk result (λ a. 0 < length keys.now → IsStrictlySortedBy K.cmp keys.now → IsGroupSummary G.cmp a (map G.group_of keys.now)) }
+        ensures empty { keys.now ≡ [] → result ≡ Ok Zero }
+    {
+        if keys.is_empty() {
+            return Ok(GroupCount::Zero);
         }
-        Ok(summary)
+        let first = G::from_ref(&keys[0])?;
+        let last = G::from_ref(&keys[keys.len() - 1])?;
+        if let Ordering::Equal = first.cmp(&last) {
+            return Ok(GroupCount::One(first, keys.len()));
+        }
+        let mut summary = GroupCount::One(first, 1);
+        for i in 1..keys.len() - 1 {
+            summary = summary.with_next(G::from_ref(&keys[i])?);
+        }
+        Ok(summary.with_next(last))
     }
 
-    fn from_inner(_keys: &[K], arguments: &[Self]) -> Result<Self, AllocError> {
-        let mut summary = GroupCount::Zero;
+    /// One comparison a child, and at most two clones of groups.
+    fn from_inner(_keys: &[K], arguments: &[Self]) -> Result<Self, AllocError>
+        ensures summary { IfOk result (λ a. (pieces : List (List K)) → ArePieces K.cmp pieces → AllZip (λ b keys. IsGroupSummary G.cmp b (map G.group_of keys)) arguments.now pieces → IsGroupSummary G.cmp a (map G.group_of (flatten pieces))) }
+        ensures empty { arguments.now ≡ [] → result ≡ Ok Zero }
+    {
+        let mut whole: Option<Ends<'_, G>> = None;
         for argument in arguments {
-            summary = summary.merge_with(argument)?;
+            match argument.ends() {
+                None => {}
+                Some(next) => {
+                    whole = Some(match whole {
+                        None => next,
+                        Some(ends) => ends.followed_by(next),
+                    });
+                }
+            }
         }
-        Ok(summary)
+        match whole {
+            None => Ok(GroupCount::Zero),
+            Some(ends) => ends.to_summary(),
+        }
     }
 
     ghost use Rattle.std.proofs.Common.{rules};
