@@ -13,7 +13,7 @@ use Rattle.std.proofs.lemmas.List.Folds.{list_any-append}
 use Rattle.std.proofs.lemmas.List.Elements.{filter-append, filter_agree}
 use Rattle.bptree_arguments.specs.declared.group.GroupCount.{GroupCount}
 use Rattle.bptree_arguments.specs.declared.group.GroupCount.TheVariants.{Zero, One, Multiple}
-use Rattle.bptree_arguments.specs.Groups.{group_size, different, IsNonDescending, AreExtremes, IsGroupSummary, AreAlike}
+use Rattle.bptree_arguments.specs.Groups.{group, group_size, different, IsNonDescending, AreExtremes, IsGroupSummary, AreAlike}
 use Rattle.bptree_keys.specs.Pieces.{flatten, piece_at, ArePieces}
 use Rattle.bptree_keys.proofs.PieceLemmas.{AllByRecursion-append, AllByRecursion-right, AllByRecursion-weaker, flatten-cut, sorted_left, sorted_right, flatten-take_more}
 use Rattle.bptree_arguments.proofs.RankLemmas.{filter_none}
@@ -413,3 +413,11 @@ module _ {K G : Type 0} (cmp : K → K → Ordering) (R : G → G → Ordering) 
     pub size_more : (g : G) (pieces : List (List K)) (i : ℕ) → i < length pieces → group_size R g (map group_of (flatten (take (i + 1) pieces))) ≡ group_size R g (map group_of (flatten (take i pieces))) + group_size R g (map group_of (piece_at pieces i))
     size_more g pieces i l =
         ap (λ t. group_size R g (map group_of t)) (flatten-take_more pieces i l) ∙ rw (map-append group_of (flatten (take i pieces)) (piece_at pieces i), size-append o g (map group_of (flatten (take i pieces))) (map group_of (piece_at pieces i))) refl
+
+-- the size of a group is the number of its keys
+pub size_of_keys : {K G : Type 0} (R : G → G → Ordering) (group_of : K → G) (g : G) (keys : List K) → group_size R g (map group_of keys) ≡ length (group R group_of g keys)
+size_of_keys R group_of g [] = refl
+size_of_keys R group_of g (k ∷ ks) = by (is_eq (R (group_of k) g)) (size_of_keys R group_of g ks) where
+  by : (b : Bool) → group_size R g (map group_of ks) ≡ length (group R group_of g ks) → length (cond b (group_of k ∷ filter (λ x. is_eq (R x g)) (map group_of ks)) (filter (λ x. is_eq (R x g)) (map group_of ks))) ≡ length (cond b (k ∷ filter (λ x. is_eq (R (group_of x) g)) ks) (filter (λ x. is_eq (R (group_of x) g)) ks))
+  by true e = ap suc e
+  by false e = e

@@ -65,3 +65,8 @@ first_not_above Greater s h = h
 -- the extremes of a list of groups, lent
 abbrev pub AreEnds : {G : Type 0} → (G → G → Ordering) → List G → Ends G → Type 0
 AreEnds cmp groups ends = AreExtremes cmp groups (ends.least.now, ends.least_size) (ends.greatest.now, ends.greatest_size) ends.group_count
+
+module _ {K G : Type 0} (cmp : G → G → Ordering) (group_of : K → G) where
+  -- the keys whose group equals g
+  abbrev pub group : G → List K → List K
+  group g keys = filter (λ k. is_eq (cmp (group_of k) g)) keys

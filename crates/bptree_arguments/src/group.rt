@@ -1,7 +1,7 @@
 //! Groups of keys, and how many keys each has.
 ghost use Rattle.std.specs.Prelude.{◌≡◌, ◌≢◌, ◌↔◌, ℕ, ◌+◌, ◌-◌, ◌<◌, ◌^◌, min, List, [], ◌∷◌, ◌++◌, length, map, IfOk, IsTrue, MatchOption, true, false};
 ghost use Rattle.std.specs.Ordering.{is_gt};
-ghost use Rattle.bptree_arguments.specs.Groups.{AreEnds, IsGroupSummary, IsNonDescending, AreAlike, IsGreatestGroup, SelectsInGroup, different};
+ghost use Rattle.bptree_arguments.specs.Groups.{AreEnds, IsGroupSummary, IsNonDescending, AreAlike, IsGreatestGroup, SelectsInGroup, different, group, group_size};
 ghost use Rattle.std.specs.List.{AllZip};
 ghost use Rattle.std.specs.List.Sorted.{IsStrictlySortedBy};
 ghost use Rattle.std.specs.Option.{option_map};
@@ -9,9 +9,8 @@ ghost use Rattle.bptree_arguments.specs.declared.group.GroupCount.TheVariants.{Z
 ghost use Rattle.bptree_keys.specs.Pieces.{ArePieces, flatten};
 
 use crate::argument::{Argument, SearchArgument};
-pub use bptree_keys::key::Tuple2;
-
 use bptree_keys::key::Key;
+pub use bptree_keys::key::Tuple2;
 use std::alloc::AllocError;
 use std::cmp::Ordering;
 
@@ -38,6 +37,15 @@ impl<T1: Key, T2: Key> FromRef<(T1, T2)> for Tuple2<T1> {
 
     ghost keeps_order = { λ x y h. first_not_above (T1.cmp x.0 y.0) (T2.cmp x.1 y.1) h };
 }
+
+/// A law of groups: it does nothing, its contract is the law. The size of a group is the number of its keys, and the
+/// keys of a group of two lists, one after the other, are those of the first and then those of the second. A clone of a
+/// summary is a summary of the same groups.
+pub fn laws_of_groups<K: Key, G: FromRef<K> + Key>()
+    ensures size { (g : G) → (keys : List K) → group_size G.cmp g (map G.group_of keys) ≡ length (group G.cmp G.group_of g keys) }
+    ensures append { (g : G) → (front back : List K) → group G.cmp G.group_of g (front ++ back) ≡ group G.cmp G.group_of g front ++ group G.cmp G.group_of g back }
+    ensures clones { (a b : GroupCount G) → (groups : List G) → AreAlike G.cmp a b → IsGroupSummary G.cmp a groups → IsGroupSummary G.cmp b groups }
+{}
 
 /// The groups of a list of keys: none, one with its size, or the least and the greatest with their sizes.
 #[derive(Debug, Drop)]
@@ -136,21 +144,21 @@ impl<G: Key> GroupCount<G> {
                 min_group,
                 max_group,
                 group_count,
-            } => match max_group.0.cmp(&next) {
-                Ordering::Equal => {
-                    let (group, size) = max_group;
-                    GroupCount::Multiple {
+            } => {
+                let (greatest, size) = max_group;
+                match greatest.cmp(&next) {
+                    Ordering::Equal => GroupCount::Multiple {
                         min_group,
-                        max_group: (group, size.saturating_add(1)),
+                        max_group: (greatest, size.saturating_add(1)),
                         group_count,
-                    }
+                    },
+                    _ => GroupCount::Multiple {
+                        min_group,
+                        max_group: (next, 1),
+                        group_count: group_count.saturating_add(1),
+                    },
                 }
-                _ => GroupCount::Multiple {
-                    min_group,
-                    max_group: (next, 1),
-                    group_count: group_count.saturating_add(1),
-                },
-            },
+            }
         }
     }
 
@@ -215,11 +223,7 @@ impl<'a, G: Key> Ends<'a, G> {
                 least: self.least,
                 least_size: with_share(self.least_size, self.group_count, next.least_size),
                 greatest: next.greatest,
-                greatest_size: with_share(
-                    next.greatest_size,
-                    next.group_count,
-                    self.greatest_size,
-                ),
+                greatest_size: with_share(next.greatest_size, next.group_count, self.greatest_size),
                 group_count: total.saturating_sub(1),
             },
             _ => Ends {

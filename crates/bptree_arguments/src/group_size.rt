@@ -5,8 +5,8 @@ ghost use Rattle.std.specs.Map.{keys_of};
 ghost use Rattle.bptree_arguments.specs.GroupSizes.{IsSizeAnswer, is_before, count_before};
 
 use crate::group::{FromRef, GroupCount};
-use bptree_keys::key::Key;
 use crate::visit::{DescendVisit, DescendVisitResult};
+use bptree_keys::key::Key;
 use std::alloc::AllocError;
 use std::cmp::Ordering;
 use std::marker::{Model, PhantomData};
@@ -101,9 +101,9 @@ impl<K: Key, V, G: FromRef<K> + Key> DescendVisit<K, V, GroupCount<G>> for Extra
                             return Ok(DescendVisitResult::GoDown(i));
                         }
                         Ordering::Equal => {
-                            return Ok(DescendVisitResult::Complete(
-                                counted.saturating_add(ends.least_size),
-                            ));
+                            return Ok(DescendVisitResult::Complete(counted.saturating_add(
+                                ends.least_size,
+                            )));
                         }
                         Ordering::Greater => return Ok(DescendVisitResult::Complete(counted)),
                     },

@@ -1,4 +1,4 @@
-use Rattle.std.proofs.Common.{◌≡◌, ℕ, ◌≤◌, length, Some, None, sym, ap, ◌∙◌, arith}
+use Rattle.std.proofs.Common.{◌≡◌, length, None, ap, arith}
 use Rattle.std.proofs.lemmas.List.{take_all}
 use Rattle.bptree_keys.proofs.PieceLemmas.{AllZip-length}
 use Rattle.bptree_arguments.proofs.GroupEndsLemmas.{summary_at, ends_kept, ends_skip, ends_first, ends_more}
@@ -35,8 +35,8 @@ pub returns-in-Some-whole-2-clause-summary : goal.returns-in-Some-whole-2-clause
 returns-in-Some-whole-2-clause-summary g c =
     ends_kept g.K.Ord.cmp g.G.Ord.cmp g.G.FromRef.group_of c.to_summary.result c.args.arguments.now c.in-Some-whole-2.ends c.to_summary.ensures
     (λ pieces are summaries.
-      let whole = take_all c.loop-argument.argument-index pieces (omega (arith, c.loop-argument-test.false, AllZip-length _ c.args.arguments.now pieces summaries)) in
-      rw (whole, c.in-Some-whole-2.is) at (c.loop-argument.invariant.known pieces are summaries))
+    let whole = take_all c.loop-argument.argument-index pieces (omega (arith, c.loop-argument-test.false, AllZip-length _ c.args.arguments.now pieces summaries)) in
+    rw (whole, c.in-Some-whole-2.is) at (c.loop-argument.invariant.known pieces are summaries))
 
 pub returns-in-Some-whole-2-clause-empty : goal.returns-in-Some-whole-2-clause-empty
 returns-in-Some-whole-2-clause-empty g c = λ e.

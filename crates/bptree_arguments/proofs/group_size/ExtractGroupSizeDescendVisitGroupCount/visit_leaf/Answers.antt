@@ -1,5 +1,4 @@
-use Rattle.std.proofs.Common.{◌+◌, ◌-◌, ◌^◌, min, Some, refl, arith}
-use Rattle.bptree_arguments.specs.Visits.{answered}
+use Rattle.std.proofs.Common.{refl, arith}
 use Rattle.bptree_arguments.proofs.GroupPlaceLemmas.{begins_upto_end, size_between}
 use Rattle.bptree_arguments.proofs.group_size.ExtractGroupSizeDescendVisitGroupCount.visit_leaf.Goals as goal
 
