@@ -117,6 +117,7 @@ impl<K: Key, V, G: FromRef<K> + Key> DescendVisit<K, V, GroupCount<G>> for Extra
     fn visit_leaf(&mut self, keys: &[K], _values: &[V]) -> Result<Option<usize>, AllocError> {
         let start = count_before(keys, &self.group, false, 0)?;
         let end = count_before(keys, &self.group, true, start)?;
-        Ok(Some(self.counted.saturating_add(end - start)))
+        let counted = self.counted.saturating_add(end - start);
+        Ok(Some(counted))
     }
 }

@@ -33,10 +33,7 @@ returns-in-None-whole-2-clause-summary g c = λ pieces are summaries.
 
 pub returns-in-Some-whole-2-clause-summary : goal.returns-in-Some-whole-2-clause-summary
 returns-in-Some-whole-2-clause-summary g c =
-    ends_kept g.K.Ord.cmp g.G.Ord.cmp g.G.FromRef.group_of c.to_summary.result c.args.arguments.now c.in-Some-whole-2.ends c.to_summary.ensures
-    (λ pieces are summaries.
-    let whole = take_all c.loop-argument.argument-index pieces (omega (arith, c.loop-argument-test.false, AllZip-length _ c.args.arguments.now pieces summaries)) in
-    rw (whole, c.in-Some-whole-2.is) at (c.loop-argument.invariant.known pieces are summaries))
+    ends_kept g.K.Ord.cmp g.G.Ord.cmp g.G.FromRef.group_of c.to_summary.result c.args.arguments.now c.in-Some-whole-2.ends c.to_summary.ensures (λ pieces are summaries. rw (take_all c.loop-argument.argument-index pieces (omega (arith, c.loop-argument-test.false, AllZip-length _ c.args.arguments.now pieces summaries)), c.in-Some-whole-2.is) at (c.loop-argument.invariant.known pieces are summaries))
 
 pub returns-in-Some-whole-2-clause-empty : goal.returns-in-Some-whole-2-clause-empty
 returns-in-Some-whole-2-clause-empty g c = λ e.
