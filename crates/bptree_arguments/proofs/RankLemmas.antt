@@ -16,7 +16,7 @@ module _ {X : Type 0} (p : X → Bool) where
   filter_all [] h = refl
   filter_all (x ∷ xs) h = rw h.0 (ap (λ t. x ∷ t) (filter_all xs h.1))
 
-  filter_none : (xs : List X) → AllByRecursion (λ x. p x ≡ false) xs → filter p xs ≡ []
+  pub filter_none : (xs : List X) → AllByRecursion (λ x. p x ≡ false) xs → filter p xs ≡ []
   filter_none [] h = refl
   filter_none (x ∷ xs) h = rw h.0 (filter_none xs h.1)
 

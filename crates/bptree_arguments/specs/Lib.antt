@@ -1,4 +1,6 @@
 pub mod CountLaws
+pub mod GroupSizes
+pub mod Groups
 pub mod Ranks
 pub mod Selection
 pub mod Visits

@@ -2,4 +2,5 @@
 
 mod arguments;
 mod counts;
+mod groups;
 mod requests;

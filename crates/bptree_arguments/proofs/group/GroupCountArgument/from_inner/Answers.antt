@@ -1,0 +1,42 @@
+use Rattle.std.proofs.Common.{◌≡◌, length, None, ap, arith}
+use Rattle.std.proofs.lemmas.List.{take_all}
+use Rattle.bptree_keys.proofs.PieceLemmas.{AllZip-length}
+use Rattle.bptree_arguments.proofs.GroupEndsLemmas.{summary_at, ends_kept, ends_skip, ends_first, ends_more}
+use Rattle.bptree_arguments.proofs.group.GroupCountArgument.from_inner.Goals as goal
+use Rattle.bptree_arguments.proofs.group.GroupCountArgument.from_inner.Goals.{in-None, in-Some, in-None-whole, in-Some-whole}
+
+pub loop-argument-preserved : goal.loop-argument-preserved
+loop-argument-preserved g c = record {
+  first = λ e. absurd (omega (arith, e));
+  known = λ pieces are summaries.
+      let cmp = g.K.Ord.cmp in
+      let compare = g.G.Ord.cmp in
+      let group_of = g.G.FromRef.group_of in
+      let keeps = g.met.G.FromRef.keeps_order in
+      let total = g.met.G.Ord.total in
+      let i = c.loop-argument.argument-index in
+      let here = summary_at cmp compare group_of pieces c.args.arguments.now summaries i c.loop-argument-test.true c.argument-item.result c.argument-item.is in
+      let known = c.loop-argument.invariant.known pieces are summaries in
+      elim c.match-ends.branch [
+        | in-None w ↦ rw w.whole-is (ends_skip cmp compare group_of keeps total pieces i here.0 are c.loop-argument.whole known (w.in-None.ensures _ here.1))
+        | in-Some w ↦ elim w.match-whole.branch [
+          | in-None-whole v ↦ rw (w.whole-is, v.whole-is) (ends_first cmp compare group_of keeps total pieces i here.0 are w.in-Some.next (rw v.in-None-whole.is at known) (w.in-Some.ensures _ here.1))
+          | in-Some-whole v ↦ rw (w.whole-is, v.whole-is) (ends_more cmp compare group_of keeps total pieces i here.0 are v.in-Some-whole.ends w.in-Some.next v.followed_by.result v.followed_by.ensures (rw v.in-Some-whole.is at known) (w.in-Some.ensures _ here.1))
+        ]
+      ];
+}
+
+pub returns-in-None-whole-2-clause-summary : goal.returns-in-None-whole-2-clause-summary
+returns-in-None-whole-2-clause-summary g c = λ pieces are summaries.
+    let whole = take_all c.loop-argument.argument-index pieces (omega (arith, c.loop-argument-test.false, AllZip-length _ c.args.arguments.now pieces summaries)) in
+    rw (whole, c.in-None-whole-2.is) at (c.loop-argument.invariant.known pieces are summaries)
+
+pub returns-in-Some-whole-2-clause-summary : goal.returns-in-Some-whole-2-clause-summary
+returns-in-Some-whole-2-clause-summary g c =
+    ends_kept g.K.Ord.cmp g.G.Ord.cmp g.G.FromRef.group_of c.to_summary.result c.args.arguments.now c.in-Some-whole-2.ends c.to_summary.ensures (λ pieces are summaries. rw (take_all c.loop-argument.argument-index pieces (omega (arith, c.loop-argument-test.false, AllZip-length _ c.args.arguments.now pieces summaries)), c.in-Some-whole-2.is) at (c.loop-argument.invariant.known pieces are summaries))
+
+pub returns-in-Some-whole-2-clause-empty : goal.returns-in-Some-whole-2-clause-empty
+returns-in-Some-whole-2-clause-empty g c = λ e.
+    let none : c.loop-argument.whole ≡ None = c.loop-argument.invariant.first (omega (arith, ap length e)) in
+    let some = c.in-Some-whole-2.is in
+    cc

@@ -1,0 +1,72 @@
+use Rattle.std.specs.Prelude.{◌≡◌, ℕ, ◌+◌, ◌<◌, ◌≤◌, List, [], ◌∷◌, length, take, get_or, false, cond, Option, Some, None, ⊤}
+use Rattle.std.proofs.Common.{refl}
+use Rattle.std.specs.declared.cmp.Ordering.{Ordering}
+use Rattle.std.specs.declared.cmp.Ordering.TheVariants.{Less, Equal, Greater}
+use Rattle.std.specs.Ordering.{is_eq, is_gt, ordering_then}
+use Rattle.std.specs.List.{AllByRecursion, filter, list_any}
+use Rattle.bptree_arguments.specs.declared.group.GroupCount.{GroupCount}
+use Rattle.bptree_arguments.specs.declared.group.GroupCount.TheVariants.{Zero, One, Multiple}
+use Rattle.bptree_arguments.specs.declared.group.Ends.{Ends}
+
+module _ {G : Type 0} (cmp : G → G → Ordering) where
+  -- how many of the groups are equal to g
+  abbrev pub group_size : G → List G → ℕ
+  group_size g groups = length (filter (λ x. is_eq (cmp x g)) groups)
+
+  -- how many different groups there are
+  abbrev pub different : List G → ℕ
+  different [] = 0
+  different (x ∷ xs) = cond (list_any (λ y. is_eq (cmp x y)) xs) 0 1 + different xs
+
+  -- no group is above a later one
+  abbrev pub IsNonDescending : List G → Type 0
+  IsNonDescending [] = ⊤
+  IsNonDescending (x ∷ xs) = AllByRecursion (λ y. is_gt (cmp x y) ≡ false) xs × IsNonDescending xs
+
+  -- the least and the greatest group, each with its size, and the number of different groups
+  pub record AreExtremes (groups : List G) (least greatest : G × ℕ) (count : ℕ) : Type 0 where
+    pub least_bound : AllByRecursion (λ x. is_gt (cmp least.0 x) ≡ false) groups
+    pub least_size : least.1 ≡ group_size least.0 groups
+    pub least_there : 0 < least.1
+    pub greatest_bound : AllByRecursion (λ x. is_gt (cmp x greatest.0) ≡ false) groups
+    pub greatest_size : greatest.1 ≡ group_size greatest.0 groups
+    pub greatest_there : 0 < greatest.1
+    pub count_is : count ≡ different groups
+
+  -- what a `GroupCount` says of the groups of the keys, in order
+  abbrev pub IsGroupSummary : GroupCount G → List G → Type 0
+  IsGroupSummary Zero groups = groups ≡ []
+  IsGroupSummary (One g n) groups = AreExtremes groups (g, n) (g, n) 1
+  IsGroupSummary (Multiple least greatest count) groups = AreExtremes groups least greatest count × (cmp least.0 greatest.0 ≡ Less)
+
+  -- the same but for groups that are equal
+  abbrev pub AreAlike : GroupCount G → GroupCount G → Type 0
+  AreAlike Zero Zero = ⊤
+  AreAlike (One g n) (One h m) = (cmp g h ≡ Equal) × (n ≡ m)
+  AreAlike (Multiple l g n) (Multiple l' g' m) = (cmp l.0 l'.0 ≡ Equal) × (l.1 ≡ l'.1) × (cmp g.0 g'.0 ≡ Equal) × (g.1 ≡ g'.1) × (n ≡ m)
+  AreAlike _ _ = ⊥
+
+  -- the greatest group with its size, or none where there is no group
+  abbrev pub IsGreatestGroup : List G → Option (G × ℕ) → Type 0
+  IsGreatestGroup groups None = groups ≡ []
+  IsGreatestGroup groups (Some greatest) = AllByRecursion (λ x. is_gt (cmp x greatest.0) ≡ false) groups × (greatest.1 ≡ group_size greatest.0 groups) × (0 < greatest.1)
+
+  -- a query is a group and a place in it: the place of that key, or none where the group has no such key
+  abbrev pub SelectsInGroup : G → ℕ → List G → Option ℕ → Type 0
+  SelectsInGroup g n groups None = group_size g groups ≤ n
+  SelectsInGroup g n groups (Some j) = (j < length groups) × ((d : G) → cmp (get_or groups j d) g ≡ Equal) × (group_size g (take j groups) ≡ n)
+
+-- where a pair is not above another, neither is its first
+pub first_not_above : (r s : Ordering) → is_gt (ordering_then r s) ≡ false → is_gt r ≡ false
+first_not_above Less s h = refl
+first_not_above Equal s h = refl
+first_not_above Greater s h = h
+
+-- the extremes of a list of groups, lent
+abbrev pub AreEnds : {G : Type 0} → (G → G → Ordering) → List G → Ends G → Type 0
+AreEnds cmp groups ends = AreExtremes cmp groups (ends.least.now, ends.least_size) (ends.greatest.now, ends.greatest_size) ends.group_count
+
+module _ {K G : Type 0} (cmp : G → G → Ordering) (group_of : K → G) where
+  -- the keys whose group equals g
+  abbrev pub group : G → List K → List K
+  group g keys = filter (λ k. is_eq (cmp (group_of k) g)) keys

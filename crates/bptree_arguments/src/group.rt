@@ -1,0 +1,356 @@
+//! Groups of keys, and how many keys each has.
+ghost use Rattle.std.specs.Prelude.{◌≡◌, ◌≢◌, ◌↔◌, ℕ, ◌+◌, ◌-◌, ◌<◌, ◌^◌, min, List, [], ◌∷◌, ◌++◌, length, map, IfOk, IsTrue, MatchOption, true, false};
+ghost use Rattle.std.specs.Ordering.{is_gt};
+ghost use Rattle.bptree_arguments.specs.Groups.{AreEnds, IsGroupSummary, IsNonDescending, AreAlike, IsGreatestGroup, SelectsInGroup, different, group, group_size};
+ghost use Rattle.std.specs.List.{AllZip};
+ghost use Rattle.std.specs.List.Sorted.{IsStrictlySortedBy};
+ghost use Rattle.std.specs.Option.{option_map};
+ghost use Rattle.bptree_arguments.specs.declared.group.GroupCount.TheVariants.{Zero};
+ghost use Rattle.bptree_keys.specs.Pieces.{ArePieces, flatten};
+
+use crate::argument::{Argument, SearchArgument};
+use bptree_keys::key::Key;
+pub use bptree_keys::key::Tuple2;
+use std::alloc::AllocError;
+use std::cmp::Ordering;
+
+/// A group that is made of a key.
+pub trait FromRef<T: Ord>: Ord {
+    /// The group of a key, up to equality.
+    ghost group_of: { T → Self };
+
+    fn from_ref(input: &T) -> Result<Self, AllocError>
+        ensures { IfOk result (λ group. Self.cmp group (group_of input.now) ≡ Ordering.Equal) };
+
+    /// A key that is not above another has a group that is not above the other's.
+    ghost keeps_order: { (x y : T) → is_gt (T.cmp x y) ≡ false → is_gt (Self.cmp (group_of x) (group_of y)) ≡ false };
+}
+
+impl<T1: Key, T2: Key> FromRef<(T1, T2)> for Tuple2<T1> {
+    ghost group_of = { λ pair. record { 0 = pair.0 } };
+
+    fn from_ref(input: &(T1, T2)) -> Result<Self, AllocError> {
+        Ok(Tuple2(input.0.clone()?))
+    }
+
+    ghost use Rattle.bptree_arguments.specs.Groups.{first_not_above};
+
+    ghost keeps_order = { λ x y h. first_not_above (T1.cmp x.0 y.0) (T2.cmp x.1 y.1) h };
+}
+
+/// A law of groups: it does nothing, its contract is the law. The size of a group is the number of its keys, and the
+/// keys of a group of two lists, one after the other, are those of the first and then those of the second. A clone of a
+/// summary is a summary of the same groups.
+pub fn laws_of_groups<K: Key, G: FromRef<K> + Key>()
+    ensures size { (g : G) → (keys : List K) → group_size G.cmp g (map G.group_of keys) ≡ length (group G.cmp G.group_of g keys) }
+    ensures append { (g : G) → (front back : List K) → group G.cmp G.group_of g (front ++ back) ≡ group G.cmp G.group_of g front ++ group G.cmp G.group_of g back }
+    ensures clones { (a b : GroupCount G) → (groups : List G) → AreAlike G.cmp a b → IsGroupSummary G.cmp a groups → IsGroupSummary G.cmp b groups }
+{}
+
+/// The groups of a list of keys: none, one with its size, or the least and the greatest with their sizes.
+#[derive(Debug, Drop)]
+pub enum GroupCount<G> {
+    Zero,
+    One(G, usize),
+    Multiple {
+        min_group: (G, usize),
+        max_group: (G, usize),
+        group_count: usize,
+    },
+}
+
+impl<G: Key> Default for GroupCount<G> {
+    ghost use Rattle.bptree_arguments.specs.declared.group.GroupCount.TheVariants.{Zero};
+
+    ghost is_default = { λ x. x ≡ Zero };
+
+    fn default() -> Self {
+        GroupCount::Zero
+    }
+}
+
+impl<G: Key> Clone for GroupCount<G> {
+    ghost is_clone = { AreAlike G.cmp };
+
+    fn clone(&self) -> Result<Self, AllocError> {
+        match self {
+            GroupCount::Zero => Ok(GroupCount::Zero),
+            GroupCount::One(group, size) => Ok(GroupCount::One(group.clone()?, *size)),
+            GroupCount::Multiple {
+                min_group,
+                max_group,
+                group_count,
+            } => {
+                let least = min_group.0.clone()?;
+                let greatest = max_group.0.clone()?;
+                Ok(GroupCount::Multiple {
+                    min_group: (least, min_group.1),
+                    max_group: (greatest, max_group.1),
+                    group_count: *group_count,
+                })
+            }
+        }
+    }
+}
+
+impl<G: Key> GroupCount<G> {
+    /// The greatest group, with its size.
+    pub fn max_group(&self) -> Option<(&G, usize)>
+        ensures { (groups : List G) → IsGroupSummary G.cmp self.now groups → IsGreatestGroup G.cmp groups (option_map (λ r. (r.0.now, r.1)) result) }
+    {
+        match self {
+            GroupCount::Zero => None,
+            GroupCount::One(group, size) => Some((group, *size)),
+            GroupCount::Multiple { max_group, .. } => Some((&max_group.0, max_group.1)),
+        }
+    }
+
+    /// Whether there is no group.
+    pub fn is_zero(&self) -> bool
+        ensures { (groups : List G) → IsGroupSummary G.cmp self.now groups → IsTrue result ↔ (groups ≡ []) }
+    {
+        match self {
+            GroupCount::Zero => true,
+            _ => false,
+        }
+    }
+
+    /// The number of different groups.
+    pub fn group_count(&self) -> usize
+        ensures { (groups : List G) → IsGroupSummary G.cmp self.now groups → result ≡ different G.cmp groups }
+    {
+        match self {
+            GroupCount::Zero => 0,
+            GroupCount::One(..) => 1,
+            GroupCount::Multiple { group_count, .. } => *group_count,
+        }
+    }
+
+    /// The summary after one more group, which is not below the others.
+    fn with_next(self, next: G) -> GroupCount<G>
+        ensures { (groups : List G) (x : G) → G.cmp next x ≡ Ordering.Equal → IsGroupSummary G.cmp self groups → IsNonDescending G.cmp (groups ++ x ∷ []) → length (groups ++ x ∷ []) < 2 ^ 64 → IsGroupSummary G.cmp result (groups ++ x ∷ []) }
+    {
+        match self {
+            GroupCount::Zero => GroupCount::One(next, 1),
+            GroupCount::One(group, size) => match group.cmp(&next) {
+                Ordering::Equal => GroupCount::One(group, size.saturating_add(1)),
+                _ => GroupCount::Multiple {
+                    min_group: (group, size),
+                    max_group: (next, 1),
+                    group_count: 2,
+                },
+            },
+            GroupCount::Multiple {
+                min_group,
+                max_group,
+                group_count,
+            } => {
+                let (greatest, size) = max_group;
+                match greatest.cmp(&next) {
+                    Ordering::Equal => GroupCount::Multiple {
+                        min_group,
+                        max_group: (greatest, size.saturating_add(1)),
+                        group_count,
+                    },
+                    _ => GroupCount::Multiple {
+                        min_group,
+                        max_group: (next, 1),
+                        group_count: group_count.saturating_add(1),
+                    },
+                }
+            }
+        }
+    }
+
+    /// The least and the greatest group, where there is one.
+    pub(crate) fn ends(&self) -> Option<Ends<'_, G>>
+        ensures { (groups : List G) → IsGroupSummary G.cmp self.now groups → MatchOption result (groups ≡ []) (λ ends. AreEnds G.cmp groups ends) }
+    {
+        match self {
+            GroupCount::Zero => None,
+            GroupCount::One(group, size) => Some(Ends {
+                least: group,
+                least_size: *size,
+                greatest: group,
+                greatest_size: *size,
+                group_count: 1,
+            }),
+            GroupCount::Multiple {
+                min_group,
+                max_group,
+                group_count,
+            } => Some(Ends {
+                least: &min_group.0,
+                least_size: min_group.1,
+                greatest: &max_group.0,
+                greatest_size: max_group.1,
+                group_count: *group_count,
+            }),
+        }
+    }
+}
+
+/// The least and the greatest group of a list, each with its size, and the number of groups.
+#[derive(Clone, Copy)]
+pub(crate) struct Ends<'a, G> {
+    pub(crate) least: &'a G,
+    pub(crate) least_size: usize,
+    pub(crate) greatest: &'a G,
+    pub(crate) greatest_size: usize,
+    pub(crate) group_count: usize,
+}
+
+// The size of a group at an end, of which the neighbour has a share where it is the only group.
+fn with_share(size: usize, group_count: usize, share: usize) -> usize
+    ensures only { group_count ≡ 1 → result ≡ min (size + share) (2 ^ 64 - 1) }
+    ensures of_several { group_count ≢ 1 → result ≡ size }
+{
+    if group_count == 1 {
+        size.saturating_add(share)
+    } else {
+        size
+    }
+}
+
+impl<'a, G: Key> Ends<'a, G> {
+    /// The ends of two lists, one after the other.
+    fn followed_by(self, next: Ends<'a, G>) -> Ends<'a, G>
+        ensures { (xs ys : List G) → AreEnds G.cmp xs self.entry → AreEnds G.cmp ys next.entry → IsNonDescending G.cmp (xs ++ ys) → length (xs ++ ys) < 2 ^ 64 → AreEnds G.cmp (xs ++ ys) result }
+    {
+        let total = self.group_count.saturating_add(next.group_count);
+        match self.greatest.cmp(next.least) {
+            Ordering::Equal => Ends {
+                least: self.least,
+                least_size: with_share(self.least_size, self.group_count, next.least_size),
+                greatest: next.greatest,
+                greatest_size: with_share(next.greatest_size, next.group_count, self.greatest_size),
+                group_count: total.saturating_sub(1),
+            },
+            _ => Ends {
+                least: self.least,
+                least_size: self.least_size,
+                greatest: next.greatest,
+                greatest_size: next.greatest_size,
+                group_count: total,
+            },
+        }
+    }
+
+    /// A summary of its own, with clones of the groups.
+    fn to_summary(self) -> Result<GroupCount<G>, AllocError>
+        ensures { IfOk result (λ summary. (groups : List G) → AreEnds G.cmp groups self.entry → IsGroupSummary G.cmp summary groups) }
+    {
+        let least = self.least.clone()?;
+        if self.group_count == 1 {
+            Ok(GroupCount::One(least, self.least_size))
+        } else {
+            let greatest = self.greatest.clone()?;
+            Ok(GroupCount::Multiple {
+                min_group: (least, self.least_size),
+                max_group: (greatest, self.greatest_size),
+                group_count: self.group_count,
+            })
+        }
+    }
+}
+
+impl<K: Key, G: FromRef<K> + Key> Argument<K> for GroupCount<G> {
+    ghost is_summary = { λ a keys. IsGroupSummary G.cmp a (map G.group_of keys) };
+
+    /// Where the first and the last key have equal groups, these two groups alone are made of keys. Else one is made of
+    /// each key, and none is cloned.
+    fn from_leaf(keys: &[K]) -> Result<Self, AllocError>
+        ensures summary { IfOk result (λ a. 0 < length keys.now → IsStrictlySortedBy K.cmp keys.now → IsGroupSummary G.cmp a (map G.group_of keys.now)) }
+        ensures empty { keys.now ≡ [] → result ≡ Ok Zero }
+    {
+        if keys.is_empty() {
+            return Ok(GroupCount::Zero);
+        }
+        let first = G::from_ref(&keys[0])?;
+        let last = G::from_ref(&keys[keys.len() - 1])?;
+        if let Ordering::Equal = first.cmp(&last) {
+            return Ok(GroupCount::One(first, keys.len()));
+        }
+        let mut summary = GroupCount::One(first, 1);
+        for i in 1..keys.len() - 1 {
+            summary = summary.with_next(G::from_ref(&keys[i])?);
+        }
+        Ok(summary.with_next(last))
+    }
+
+    /// One comparison a child, and at most two clones of groups.
+    fn from_inner(_keys: &[K], arguments: &[Self]) -> Result<Self, AllocError>
+        ensures summary { IfOk result (λ a. (pieces : List (List K)) → ArePieces K.cmp pieces → AllZip (λ b keys. IsGroupSummary G.cmp b (map G.group_of keys)) arguments.now pieces → IsGroupSummary G.cmp a (map G.group_of (flatten pieces))) }
+        ensures empty { arguments.now ≡ [] → result ≡ Ok Zero }
+    {
+        let mut whole: Option<Ends<'_, G>> = None;
+        for argument in arguments {
+            match argument.ends() {
+                None => {}
+                Some(next) => {
+                    whole = Some(match whole {
+                        None => next,
+                        Some(ends) => ends.followed_by(next),
+                    });
+                }
+            }
+        }
+        match whole {
+            None => Ok(GroupCount::Zero),
+            Some(ends) => ends.to_summary(),
+        }
+    }
+
+    ghost use Rattle.std.proofs.Common.{rules};
+
+    ghost default_is_summary = { λ a h. Prim.search rules };
+}
+
+impl<K: Key, G: FromRef<K> + Key> SearchArgument<K> for GroupCount<G> {
+    type Query = (G, usize);
+
+    ghost selects = { λ query keys place. SelectsInGroup G.cmp query.0 query.1 (map G.group_of keys) place };
+
+    fn locate_in_leaf(query: (G, usize), keys: &[K]) -> Result<Option<usize>, AllocError> {
+        let (group, offset) = query;
+        let mut seen = 0;
+        for (i, key) in keys.iter().enumerate() {
+            let of_key = G::from_ref(key)?;
+            match of_key.cmp(&group) {
+                Ordering::Equal => {
+                    if seen == offset {
+                        return Ok(Some(i));
+                    }
+                    seen += 1;
+                }
+                _ => {}
+            }
+        }
+        Ok(None)
+    }
+
+    fn locate_in_inner(
+        query: (G, usize),
+        _keys: &[K],
+        arguments: &[Self],
+    ) -> Result<Option<(usize, (G, usize))>, AllocError> {
+        let (group, offset) = query;
+        let mut rest = offset;
+        for (i, argument) in arguments.iter().enumerate() {
+            match argument.max_group() {
+                None => {}
+                Some((greatest, size)) => match greatest.cmp(&group) {
+                    Ordering::Less => {}
+                    Ordering::Equal => {
+                        if rest < size {
+                            return Ok(Some((i, (group, rest))));
+                        }
+                        rest -= size;
+                    }
+                    Ordering::Greater => return Ok(Some((i, (group, rest)))),
+                },
+            }
+        }
+        Ok(None)
+    }
+}

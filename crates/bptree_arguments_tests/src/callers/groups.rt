@@ -1,0 +1,135 @@
+//! Callers of groups and of what counts the keys of one.
+ghost use Rattle.std.specs.Prelude.{◌≡◌, ◌<◌, ◌≤◌, ◌+◌, ◌∷◌, ◌++◌, [], List, Some, length, map, true, false, IfOk, IfSome};
+ghost use Rattle.std.specs.declared.cmp.Ordering.TheVariants.{Equal};
+ghost use Rattle.std.specs.List.{AllByRecursion, AllZip};
+ghost use Rattle.std.specs.List.Sorted.{IsStrictlySortedBy};
+ghost use Rattle.std.specs.Map.{keys_of};
+ghost use Rattle.std.specs.Ordering.{is_gt};
+ghost use Rattle.bptree_arguments.specs.Groups.{IsGroupSummary, different, group_size};
+ghost use Rattle.bptree_keys.specs.Pieces.{ArePieces};
+
+use bptree_arguments::argument::Argument;
+use bptree_arguments::group::{FromRef, GroupCount, Tuple2, laws_of_groups};
+use bptree_arguments::group_size::ExtractGroupSize;
+use bptree_arguments::visit::{DescendVisit, DescendVisitResult};
+use bptree_keys::key::Key;
+use std::alloc::AllocError;
+
+// The group of a pair is its first part, up to equality.
+fn first_of_a_pair<A: Key, B: Key>(pair: &(A, B)) -> Result<A, AllocError>
+    ensures { IfOk result (λ first. A.cmp first pair.now.0 ≡ Equal) }
+{
+    let group = Tuple2::<A>::from_ref(pair)?;
+    Ok(group.0)
+}
+
+// The summary of a leaf has as many groups as its keys have, and some.
+fn counts_the_groups_of_a_leaf<K: Key, G: FromRef<K> + Key>(
+    keys: &[K],
+) -> Result<(bool, usize), AllocError>
+    requires some { 0 < length keys.now }
+    requires ascending { IsStrictlySortedBy K.cmp keys.now }
+    ensures some { IfOk result (λ told. told.0 ≡ false) }
+    ensures groups { IfOk result (λ told. told.1 ≡ different G.cmp (map G.group_of keys.now)) }
+{
+    let summary = <GroupCount<G> as Argument<K>>::from_leaf(keys)?;
+    Ok((summary.is_zero(), summary.group_count()))
+}
+
+// Without keys, without children and by default there is no group.
+fn has_no_group<K: Key, G: FromRef<K> + Key>(
+    keys: &[K],
+    arguments: &[GroupCount<G>],
+) -> Result<(bool, usize, bool, bool), AllocError>
+    requires no_keys { keys.now ≡ [] }
+    requires no_children { arguments.now ≡ [] }
+    ensures { IfOk result (λ told. told ≡ (true, 0, true, true)) }
+{
+    let none = <GroupCount<G> as Argument<K>>::from_leaf(keys)?;
+    let below_none = <GroupCount<G> as Argument<K>>::from_inner(keys, arguments)?;
+    let first = GroupCount::<G>::default();
+    Ok((
+        none.is_zero(),
+        none.group_count(),
+        below_none.is_zero(),
+        first.is_zero(),
+    ))
+}
+
+// Over two leaves the groups of all keys are counted, whatever the separators are.
+fn counts_the_groups_of_two_leaves<K: Key, G: FromRef<K> + Key>(
+    left: &[K],
+    separators: &[K],
+    right: &[K],
+    arguments: &[GroupCount<G>],
+) -> Result<usize, AllocError>
+    requires pieces { ArePieces K.cmp (left.now ∷ right.now ∷ []) }
+    requires summaries { AllZip (λ a keys. IsGroupSummary G.cmp a (map G.group_of keys)) arguments.now (left.now ∷ right.now ∷ []) }
+    ensures { IfOk result (λ n. n ≡ different G.cmp (map G.group_of (left.now ++ right.now))) }
+{
+    let both = <GroupCount<G> as Argument<K>>::from_inner(separators, arguments)?;
+    Ok(both.group_count())
+}
+
+// The size of the greatest group, and 0 where there is none.
+fn size_of_the_greatest_group<G: Key>(summary: &GroupCount<G>) -> usize
+    ensures none { IsGroupSummary G.cmp summary.now [] → result ≡ 0 }
+    ensures size { (groups : List G) (g : G) → IsGroupSummary G.cmp summary.now groups → AllByRecursion (λ x. is_gt (G.cmp x g) ≡ false) groups → 0 < group_size G.cmp g groups → result ≡ group_size G.cmp g groups }
+{
+    match summary.max_group() {
+        None => 0,
+        Some((_, size)) => size,
+    }
+}
+
+// A clone is a summary of what its original is a summary of.
+fn clones_a_summary<K: Key, G: FromRef<K> + Key>(
+    summary: &GroupCount<G>,
+) -> Result<GroupCount<G>, AllocError>
+    ensures { IfOk result (λ copy. (groups : List G) → IsGroupSummary G.cmp summary.now groups → IsGroupSummary G.cmp copy groups) }
+{
+    laws_of_groups::<K, G>();
+    let copy = summary.clone()?;
+    Ok(copy)
+}
+
+// The keys of a group in a leaf are counted, and where there is none the answer is 0.
+fn counts_a_group_of_a_leaf<K: Key, V, G: FromRef<K> + Key>(
+    group: G,
+    keys: &[K],
+    values: &[V],
+) -> Result<Option<usize>, AllocError>
+    requires few { length keys.now ≤ 64 }
+    requires paired { length keys.now ≡ length values.now }
+    requires ascending { IsStrictlySortedBy K.cmp keys.now }
+    ensures size { IfOk result (λ size. size ≡ Some (group_size G.cmp group (map G.group_of keys.now))) }
+    ensures absent { group_size G.cmp group (map G.group_of keys.now) ≡ 0 → IfOk result (λ size. size ≡ Some 0) }
+{
+    let mut visitor = ExtractGroupSize::<G, K>::new(group);
+    <ExtractGroupSize<G, K> as DescendVisit<K, V, GroupCount<G>>>::visit_leaf(
+        &mut visitor,
+        keys,
+        values,
+    )
+}
+
+// Where the count is complete above two leaves, it is that of the group in both.
+fn counts_a_group_above_two_leaves<K: Key, V, G: FromRef<K> + Key>(
+    group: G,
+    separators: &[K],
+    arguments: &[GroupCount<G>],
+) -> Result<Option<usize>, AllocError>
+    requires { length separators.now ≡ 1 }
+    ensures { IfOk result (λ size. (left right : List (K × V)) → ArePieces K.cmp (keys_of left ∷ keys_of right ∷ []) → AllZip (λ a keys. IsGroupSummary G.cmp a (map G.group_of keys)) arguments.now (keys_of left ∷ keys_of right ∷ []) → IfSome size (λ n. n ≡ group_size G.cmp group (map G.group_of (keys_of left ++ keys_of right)))) }
+{
+    let mut visitor = ExtractGroupSize::<G, K>::new(group);
+    let step = <ExtractGroupSize<G, K> as DescendVisit<K, V, GroupCount<G>>>::visit_inner(
+        &mut visitor,
+        separators,
+        arguments,
+    )?;
+    match step {
+        DescendVisitResult::Complete(size) => Ok(Some(size)),
+        _ => Ok(None),
+    }
+}
