@@ -1,6 +1,6 @@
 use Rattle.std.proofs.Common.{◌≡◌, ◌≤◌, map, take}
 use Rattle.bptree_arguments.specs.Groups.{group_size}
-use Rattle.bptree_arguments.proofs.group.GroupCountSearchArgument.locate_in_leaf.Given as goal
+use Rattle.bptree_arguments.proofs.group.search.GroupCountSearchArgument.locate_in_leaf.Given as goal
 
 abbrev pub invariant-loop-i : goal.invariant-loop-i
 invariant-loop-i g l = record {

@@ -1,6 +1,6 @@
 use Rattle.std.proofs.Common.{sym, ◌∙◌}
 use Rattle.bptree_arguments.proofs.GroupSelectLemmas.{leaf_item}
-use Rattle.bptree_arguments.proofs.group.GroupCountSearchArgument.locate_in_leaf.Goals as goal
+use Rattle.bptree_arguments.proofs.group.search.GroupCountSearchArgument.locate_in_leaf.Goals as goal
 
 pub returns-then-seen-offset-clause-selected : goal.returns-then-seen-offset-clause-selected
 returns-then-seen-offset-clause-selected g c = λ _.

@@ -3,18 +3,22 @@ use Rattle.std.proofs.lemmas.List.{take_all}
 use Rattle.bptree_keys.proofs.PieceLemmas.{AllZip-length}
 use Rattle.bptree_arguments.proofs.GroupSizeLemmas.{summary_here}
 use Rattle.bptree_arguments.proofs.GroupSelectLemmas.{leads_same, leads_above, next_none, next_below, next_same}
-use Rattle.bptree_arguments.proofs.group.GroupCountSearchArgument.locate_in_inner.Goals as goal
-use Rattle.bptree_arguments.proofs.group.GroupCountSearchArgument.locate_in_inner.Goals.{in-None, in-Some+in-Less, in-Some+in-Equal+else-rest-size}
+use Rattle.bptree_arguments.proofs.group.search.GroupCountSearchArgument.locate_in_inner.Goals as goal
+use Rattle.bptree_arguments.proofs.group.search.GroupCountSearchArgument.locate_in_inner.Goals.{in-None, in-Some+in-Less, in-Some+in-Equal+else-rest-size}
 
 pub returns-then-rest-size : goal.returns-then-rest-size
-returns-then-rest-size g c = λ pieces are summaries.
-    let summary = summary_here g.K.Ord.cmp g.G.Ord.cmp g.G.FromRef.group_of g.met.G.FromRef.keeps_order g.met.G.Ord.total c.args.query.0 pieces are c.args.arguments.now summaries c.loop-i.i c.loop-i-test.true c.index-arguments-i.result c.index-arguments-i.is in
-    leads_same g.K.Ord.cmp g.G.Ord.cmp g.G.FromRef.group_of g.met.G.FromRef.keeps_order g.met.G.Ord.total c.args.query.0 pieces are c.args.arguments.now summaries c.loop-i.i c.loop-i-test.true c.loop-i.rest c.args.query.1 (c.loop-i.invariant pieces are summaries) c.in-Some.greatest.now c.in-Some.size (c.in-Some.ensures _ summary) (sym c.cmp.ensures ∙ c.in-Equal.is) c.if-rest-size.true
+returns-then-rest-size g c = record {
+  leads = λ pieces are summaries.
+      let summary = summary_here g.K.Ord.cmp g.G.Ord.cmp g.G.FromRef.group_of g.met.G.FromRef.keeps_order g.met.G.Ord.total c.args.query.0 pieces are c.args.arguments.now summaries c.loop-i.i c.loop-i-test.true c.index-arguments-i.result c.index-arguments-i.is in
+      leads_same g.K.Ord.cmp g.G.Ord.cmp g.G.FromRef.group_of g.met.G.FromRef.keeps_order g.met.G.Ord.total c.args.query.0 pieces are c.args.arguments.now summaries c.loop-i.i c.loop-i-test.true c.loop-i.rest c.args.query.1 (c.loop-i.invariant pieces are summaries) c.in-Some.greatest.now c.in-Some.size (c.in-Some.ensures _ summary) (sym c.cmp.ensures ∙ c.in-Equal.is) c.if-rest-size.true;
+}
 
 pub returns-in-Greater : goal.returns-in-Greater
-returns-in-Greater g c = λ pieces are summaries.
-    let summary = summary_here g.K.Ord.cmp g.G.Ord.cmp g.G.FromRef.group_of g.met.G.FromRef.keeps_order g.met.G.Ord.total c.args.query.0 pieces are c.args.arguments.now summaries c.loop-i.i c.loop-i-test.true c.index-arguments-i.result c.index-arguments-i.is in
-    leads_above g.K.Ord.cmp g.G.Ord.cmp g.G.FromRef.group_of g.met.G.FromRef.keeps_order g.met.G.Ord.total c.args.query.0 pieces are c.args.arguments.now summaries c.loop-i.i c.loop-i-test.true c.loop-i.rest c.args.query.1 (c.loop-i.invariant pieces are summaries) c.in-Some.greatest.now c.in-Some.size (c.in-Some.ensures _ summary) (sym c.cmp.ensures ∙ c.in-Greater.is)
+returns-in-Greater g c = record {
+  leads = λ pieces are summaries.
+      let summary = summary_here g.K.Ord.cmp g.G.Ord.cmp g.G.FromRef.group_of g.met.G.FromRef.keeps_order g.met.G.Ord.total c.args.query.0 pieces are c.args.arguments.now summaries c.loop-i.i c.loop-i-test.true c.index-arguments-i.result c.index-arguments-i.is in
+      leads_above g.K.Ord.cmp g.G.Ord.cmp g.G.FromRef.group_of g.met.G.FromRef.keeps_order g.met.G.Ord.total c.args.query.0 pieces are c.args.arguments.now summaries c.loop-i.i c.loop-i-test.true c.loop-i.rest c.args.query.1 (c.loop-i.invariant pieces are summaries) c.in-Some.greatest.now c.in-Some.size (c.in-Some.ensures _ summary) (sym c.cmp.ensures ∙ c.in-Greater.is);
+}
 
 pub loop-i-preserved : goal.loop-i-preserved
 loop-i-preserved g c = λ pieces are summaries.
@@ -26,7 +30,9 @@ loop-i-preserved g c = λ pieces are summaries.
     ]
 
 pub returns : goal.returns
-returns g c = λ pieces are summaries.
-    let whole = take_all c.loop-i.i pieces (omega (arith, c.loop-i-test.false, AllZip-length _ c.args.arguments.now pieces summaries)) in
-    let passed = rw whole at (c.loop-i.invariant pieces are summaries) in
-    omega (arith, passed)
+returns g c = record {
+  leads = λ pieces are summaries.
+      let whole = take_all c.loop-i.i pieces (omega (arith, c.loop-i-test.false, AllZip-length _ c.args.arguments.now pieces summaries)) in
+      let passed = rw whole at (c.loop-i.invariant pieces are summaries) in
+      omega (arith, passed);
+}
