@@ -1,5 +1,6 @@
 pub mod CountLemmas
 pub mod GroupLemmas
+pub mod GroupOrderLemmas
 pub mod GroupSelectLemmas
 pub mod GroupSizeLemmas
 pub mod RankLemmas
