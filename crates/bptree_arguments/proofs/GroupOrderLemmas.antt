@@ -44,6 +44,11 @@ module _ {G : Type 0} {R : G → G → Ordering} (o : IsTotalOrder R) where
   items_from (x ∷ xs) zero d l h = (ap is_gt (tied_itself o x), h.0)
   items_from (x ∷ xs) (suc m) d l h = let small : m < length xs = omega arith in items_from xs m d small h.1
 
+  pub nondescending_drop : (gs : List G) (n : ℕ) → IsNonDescending R gs → IsNonDescending R (drop n gs)
+  nondescending_drop gs zero h = h
+  nondescending_drop [] (suc n) h = h
+  nondescending_drop (x ∷ xs) (suc n) h = nondescending_drop xs n h.1
+
   module _ (g : G) (gs : List G) (h : IsNonDescending R gs) (m : ℕ) (d : G) (l : m < length gs) where
     -- where an item is below g, so are those up to it, and where it is not, neither are those from it on
     pub all_below : R (get_or gs m d) g ≡ Less → AllByRecursion (λ x. R x g ≡ Less) (take (m + 1) gs)
