@@ -4,12 +4,12 @@ ghost use Rattle.std.specs.Ordering.{is_gt};
 ghost use Rattle.bptree_arguments.specs.Groups.{IsGroupSummary, IsNonDescending, AreAlike, IsGreatestGroup};
 ghost use Rattle.std.specs.Option.{option_map};
 
+mod rank;
 mod search;
 
 use crate::argument::Argument;
-pub use bptree_keys::key::Tuple2;
-
 use bptree_keys::key::Key;
+pub use bptree_keys::key::Tuple2;
 use std::alloc::AllocError;
 use std::cmp::Ordering;
 
