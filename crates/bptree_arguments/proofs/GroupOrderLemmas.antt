@@ -7,6 +7,7 @@ use Rattle.std.specs.Cmp.{IsTotalOrder}
 use Rattle.std.specs.List.{AllByRecursion}
 use Rattle.std.specs.List.Sorted.{IsStrictlySortedBy}
 use Rattle.std.proofs.lemmas.List.{length-map, get_or-map}
+use Rattle.std.proofs.lemmas.Bool.{true≢false}
 use Rattle.std.proofs.lemmas.Cmp.{upto, tied_itself}
 use Rattle.bptree_arguments.specs.Groups.{IsNonDescending}
 use Rattle.bptree_keys.proofs.PieceLemmas.{AllByRecursion-at, AllByRecursion-weaker}
@@ -16,6 +17,12 @@ not_less : (r : Ordering) → (r ≡ Less → ⊥) → is_lt r ≡ false
 not_less Less h = absurd (h refl)
 not_less Equal h = refl
 not_less Greater h = refl
+
+-- which is neither below nor above is equal
+pub between : (r : Ordering) → is_lt r ≡ false → is_gt r ≡ false → r ≡ Equal
+between Less h k = absurd (true≢false h)
+between Equal h k = refl
+between Greater h k = absurd (true≢false k)
 
 module _ {G : Type 0} {R : G → G → Ordering} (o : IsTotalOrder R) where
   -- which is not below another is one that the other is not above, and the other way round

@@ -1,28 +1,27 @@
 -- The rank of a key in its group: how many keys of the group are smaller.
-use Rattle.std.proofs.Common.{◌≡◌, ℕ, zero, suc, ◌+◌, ◌-◌, ◌^◌, ◌<◌, ◌≤◌, min, List, [], ◌∷◌, ◌++◌, length, map, take, drop, Option, Some, None, Ok, Err, Bool, true, false, cond, refl, sym, ap, ◌∙◌, arith, append_assoc, length-append, length-drop}
+use Rattle.std.proofs.Common.{◌≡◌, ℕ, zero, suc, ◌+◌, ◌-◌, ◌^◌, ◌<◌, ◌≤◌, min, List, [], ◌∷◌, ◌++◌, length, map, take, drop, get_or, Option, Some, None, Ok, Err, Bool, true, false, cond, refl, sym, ap, ◌∙◌, subst, arith, append_assoc, length-append, length-drop}
 use Rattle.std.specs.declared.cmp.Ordering.{Ordering}
 use Rattle.std.specs.declared.cmp.Ordering.TheVariants.{Less, Equal, Greater}
 use Rattle.std.specs.Ordering.{is_eq, is_gt, is_lt}
 use Rattle.std.specs.Cmp.{IsTotalOrder}
-use Rattle.std.specs.List.{AllByRecursion, filter}
+use Rattle.std.specs.List.{AllByRecursion, AllZip, filter}
 use Rattle.std.specs.List.Sorted.{IsStrictlySortedBy}
+use Rattle.std.proofs.Math.Seq.{drop-length}
 use Rattle.std.proofs.lemmas.Bool.{true≢false}
 use Rattle.std.proofs.lemmas.Cmp.{alike_right}
 use Rattle.std.proofs.lemmas.List.{length-map, map-append, take-append-drop, take_at}
+use Rattle.bptree_arguments.specs.declared.group.GroupCount.{GroupCount}
+use Rattle.bptree_keys.specs.Pieces.{flatten, piece_at}
 use Rattle.bptree_arguments.specs.CountLaws.{count_below}
 use Rattle.bptree_arguments.specs.GroupAnswers.{IsStartOf, carried, keys_in_group, IsRankInGroup}
-use Rattle.bptree_arguments.specs.Groups.{group_size, IsNonDescending}
+use Rattle.bptree_arguments.specs.Groups.{group_size, IsGreatestGroup, IsGroupSummary, IsNonDescending}
 use Rattle.bptree_arguments.specs.Ranks.{AllAbove, AllBelow, IsSlotOf, SplitsAt}
-use Rattle.bptree_keys.proofs.PieceLemmas.{AllByRecursion-append, AllByRecursion-right, AllByRecursion-weaker, sorted_left, sorted_right}
-use Rattle.bptree_arguments.proofs.GroupLemmas.{crossing, groups_ascend, le_less, size-append, size-le, size_alike, size_below}
+use Rattle.bptree_keys.proofs.PieceLemmas.{AllByRecursion-append, AllByRecursion-left, AllByRecursion-right, AllByRecursion-weaker, AllZip-at, AllZip-length, flatten-cut, sorted_left, sorted_right}
+use Rattle.bptree_arguments.proofs.GroupLemmas.{crossing, groups_ascend, le_less, size-append, size-le, size_alike, size_below, size_greatest_below, size_greatest_same, witness}
+use Rattle.bptree_arguments.proofs.GroupOrderLemmas.{between}
 use Rattle.bptree_arguments.proofs.RankLemmas.{SplitsAt-within}
 
 module _ {G : Type 0} {R : G → G → Ordering} (o : IsTotalOrder R) (v : G) where
-  between : (r : Ordering) → is_lt r ≡ false → is_gt r ≡ false → r ≡ Equal
-  between Less h k = absurd (true≢false h)
-  between Equal h k = refl
-  between Greater h k = absurd (true≢false k)
-
   -- groups that are neither below v nor above it
   size_all : (gs : List G) → AllByRecursion (λ x. is_lt (R x v) ≡ false) gs → AllByRecursion (λ x. is_gt (R x v) ≡ false) gs → group_size R v gs ≡ length gs
   size_all [] h k = refl
@@ -113,3 +112,103 @@ module _ {K G : Type 0} (cmp : K → K → Ordering) (R : G → G → Ordering) 
 
     pub rank_absent : IsSlotOf cmp k keys (Err i) → IsRankInGroup cmp R group_of k (before ++ (keys ++ after)) (Some r)
     rank_absent (front, back, l, s) = rank_at front [] back l s
+
+-- the groups before those of which the greatest is below v
+size_before_greatest : {G : Type 0} {R : G → G → Ordering} (o : IsTotalOrder R) (v m : G) (fs gs : List G) → 0 < group_size R m gs → R m v ≡ Less → IsNonDescending R (fs ++ gs) → group_size R v fs ≡ 0
+size_before_greatest {G} {R} o v m fs gs there e h = size_below o v fs (AllByRecursion-weaker (λ y. AllByRecursion (λ z. is_gt (R y z) ≡ false) gs) (λ y. R y v ≡ Less) each fs (crossing o fs gs h)) where
+  each : (y : G) → AllByRecursion (λ z. is_gt (R y z) ≡ false) gs → R y v ≡ Less
+  each y f = let w = witness o (λ z. is_gt (R y z) ≡ false) m gs there f in le_less o y w.0 v w.1 (o.congr w.0 m v w.2 ∙ e)
+
+less_if : (r : Ordering) → is_gt r ≡ false → (r ≡ Equal → ⊥) → r ≡ Less
+less_if Less h n = refl
+less_if Equal h n = absurd (n refl)
+less_if Greater h n = absurd (true≢false h)
+
+-- the pieces from one on are that one and those behind it
+flatten-from : {X : Type 0} (pieces : List (List X)) (i : ℕ) → i < length pieces → flatten (drop i pieces) ≡ piece_at pieces i ++ flatten (drop (suc i) pieces)
+flatten-from [] i h = absurd (omega arith)
+flatten-from (p ∷ ps) zero h = refl
+flatten-from (p ∷ ps) (suc i) h = let small : i < length ps = omega arith in flatten-from ps i small
+
+-- the children before the one for k, from the last on
+module _ {K G : Type 0} (cmp : K → K → Ordering) (R : G → G → Ordering) (group_of : K → G) (keeps : (x y : K) → is_gt (cmp x y) ≡ false → is_gt (R (group_of x) (group_of y)) ≡ false) (o : IsTotalOrder R) (k : K) (v : G) (made : R v (group_of k) ≡ Equal) (arguments : List (GroupCount G)) (pieces : List (List K)) (summaries : AllZip (λ a keys. IsGroupSummary R a (map group_of keys)) arguments pieces) where
+  same_length : length arguments ≡ length pieces
+  same_length = AllZip-length (λ a keys. IsGroupSummary R a (map group_of keys)) arguments pieces summaries
+
+  -- behind the last
+  pub none_behind : 0 ≡ min (group_size R v (map group_of (flatten (drop (length arguments) pieces)))) (2 ^ 64 - 1)
+  none_behind = let none : drop (length arguments) pieces ≡ [] = rw same_length (drop-length pieces) in rw none (omega arith)
+
+  module _ (m count : ℕ) (counted : count ≡ min (group_size R v (map group_of (flatten (drop m pieces)))) (2 ^ 64 - 1)) where
+    -- where no child is left, the whole is what they have and what the rank carries
+    pub all_counted : (rank : Option (G × ℕ)) (n : ℕ) (before : List K) → m ≤ 0 → length (before ++ flatten pieces) < 2 ^ 64 → group_size R (group_of k) (map group_of before) ≡ carried R (group_of k) rank → n ≡ carried R v rank → group_size R (group_of k) (map group_of (before ++ flatten pieces)) ≡ carried R (group_of k) (Some (v, min (count + n) (2 ^ 64 - 1)))
+    all_counted rank n before l fits stands e =
+        let first : m ≡ 0 = omega arith in
+        let here : count ≡ min (group_size R v (map group_of (flatten pieces))) (2 ^ 64 - 1) = rw first at counted in
+        let total = ap (group_size R (group_of k)) (map-append group_of before (flatten pieces)) ∙ size-append o (group_of k) (map group_of before) (map group_of (flatten pieces)) in
+        rw made (omega (arith, total, here, stands, e, size_alike o v (group_of k) made (map group_of (flatten pieces)), carried_alike o v (group_of k) made rank, size-le o (group_of k) (map group_of (before ++ flatten pieces)), length-map (before ++ flatten pieces) group_of, fits))
+
+    module _ (positive : 0 < m) (within : m ≤ length arguments) (argument : GroupCount G) (read : argument ≡ get_or arguments (m - 1) argument) where
+      abbrev here : List G
+      here = map group_of (piece_at pieces (m - 1))
+
+      inside : m - 1 < length pieces
+      inside = omega (arith, same_length)
+
+      one_on : suc (m - 1) ≡ m
+      one_on = omega arith
+
+      summary : IsGroupSummary R argument here
+      summary = let l : m - 1 < length arguments = omega arith in subst (λ a. IsGroupSummary R a here) (sym read) (AllZip-at (λ a keys. IsGroupSummary R a (map group_of keys)) arguments pieces (m - 1) argument [] summaries l)
+
+      sizes : group_size R v (map group_of (flatten (drop (m - 1) pieces))) ≡ group_size R v here + group_size R v (map group_of (flatten (drop m pieces)))
+      sizes =
+          let back = flatten (drop m pieces) in
+          let parts : flatten (drop (m - 1) pieces) ≡ piece_at pieces (m - 1) ++ back = rw one_on at (flatten-from pieces (m - 1) inside) in
+          ap (λ t. group_size R v (map group_of t)) parts ∙ (ap (group_size R v) (map-append group_of (piece_at pieces (m - 1)) back) ∙ size-append o v here (map group_of back))
+
+      more : (n : ℕ) → group_size R v here ≡ n → min (count + n) (2 ^ 64 - 1) ≡ min (group_size R v (map group_of (flatten (drop (m - 1) pieces)))) (2 ^ 64 - 1)
+      more n e = omega (arith, sizes, e, counted)
+
+      -- one child more, which has no keys
+      pub more_none : ((groups : List G) → IsGroupSummary R argument groups → IsGreatestGroup R groups None) → count ≡ min (group_size R v (map group_of (flatten (drop (m - 1) pieces)))) (2 ^ 64 - 1)
+      more_none found = let none : group_size R v here ≡ 0 = ap (group_size R v) (found here summary) in omega (arith, more 0 none, counted)
+
+      module _ (h : G) (n : ℕ) (found : (groups : List G) → IsGroupSummary R argument groups → IsGreatestGroup R groups (Some (h, n))) where
+        greatest : IsGreatestGroup R here (Some (h, n))
+        greatest = found here summary
+
+        -- one child more, whose greatest group is that of k
+        pub more_same : Equal ≡ R h v → min (count + n) (2 ^ 64 - 1) ≡ min (group_size R v (map group_of (flatten (drop (m - 1) pieces)))) (2 ^ 64 - 1)
+        more_same e = more n (size_greatest_same o v h n here greatest.0 greatest.1 greatest.2 (sym e))
+
+        -- a child whose greatest group is another: no key of k's group is in it or before it
+        module _ (r : Ordering) (compared : r ≡ R h v) (other : r ≡ Equal → ⊥) (before : List K) (ascending : IsStrictlySortedBy cmp (before ++ flatten pieces)) (below : AllBelow cmp k (before ++ flatten pieces)) (fits : length (before ++ flatten pieces) < 2 ^ 64) where
+          abbrev front : List K
+          front = before ++ flatten (take (m - 1) pieces)
+
+          abbrev back : List K
+          back = flatten (drop m pieces)
+
+          cut : before ++ flatten pieces ≡ front ++ (piece_at pieces (m - 1) ++ back)
+          cut = ap (λ t. before ++ t) (rw one_on at (flatten-cut pieces (m - 1) inside)) ∙ sym (append_assoc before (flatten (take (m - 1) pieces)) (piece_at pieces (m - 1) ++ back))
+
+          lower : R h v ≡ Less
+          lower =
+              let low = AllByRecursion-left (λ x. cmp x k ≡ Less) (piece_at pieces (m - 1)) back (AllByRecursion-right (λ x. cmp x k ≡ Less) front (piece_at pieces (m - 1) ++ back) (rw cut at below)) in
+              let upto = AllByRecursion-weaker (λ x. is_gt (R x (group_of k)) ≡ false) (λ x. is_gt (R x v) ≡ false) (λ x e. ap is_gt (alike_right o v (group_of k) x made) ∙ e) here (groups_upto cmp R group_of keeps o k (piece_at pieces (m - 1)) low) in
+              let w = witness o (λ x. is_gt (R x v) ≡ false) h here (omega (arith, greatest.1, greatest.2)) upto in
+              less_if (R h v) (ap is_gt (sym (o.congr w.0 h v w.2)) ∙ w.1) (λ e. other (compared ∙ e))
+
+          none_in_front : group_size R v (map group_of front) ≡ 0
+          none_in_front =
+              let sorted : IsStrictlySortedBy cmp (front ++ piece_at pieces (m - 1)) = sorted_left cmp (front ++ piece_at pieces (m - 1)) back (rw (append_assoc front (piece_at pieces (m - 1)) back) (rw cut at ascending)) in
+              size_before_greatest o v h (map group_of front) here (omega (arith, greatest.1, greatest.2)) lower (rw map-append at (groups_ascend cmp R group_of keeps (front ++ piece_at pieces (m - 1)) sorted))
+
+          pub stopped : group_size R (group_of k) (map group_of (before ++ flatten pieces)) ≡ carried R (group_of k) (Some (v, count))
+          stopped =
+              let none = size_greatest_below o v h n here greatest.0 greatest.1 greatest.2 lower in
+              let outer = ap (group_size R v) (map-append group_of front (piece_at pieces (m - 1) ++ back)) ∙ size-append o v (map group_of front) (map group_of (piece_at pieces (m - 1) ++ back)) in
+              let inner = ap (group_size R v) (map-append group_of (piece_at pieces (m - 1)) back) ∙ size-append o v here (map group_of back) in
+              let total = ap (λ t. group_size R v (map group_of t)) cut in
+              rw made (omega (arith, total, outer, inner, none, none_in_front, counted, size_alike o v (group_of k) made (map group_of (before ++ flatten pieces)), size-le o v (map group_of (before ++ flatten pieces)), length-map (before ++ flatten pieces) group_of, fits))

@@ -17,7 +17,7 @@ use Rattle.bptree_arguments.specs.Groups.{group_size, IsGroupSummary, IsGreatest
 use Rattle.bptree_arguments.specs.GroupAnswers.{IsStartOf}
 use Rattle.bptree_keys.proofs.PieceLemmas.{AllByRecursion-at, AllByRecursion-weaker, AllZip-length, flatten-cut}
 use Rattle.bptree_arguments.proofs.GroupLemmas.{less_le, size-append, size-le, size_above, size_below, size_greatest_below, size_greatest_same, size_after_greatest, groups_ascend, piece_ascends, size_parts, size_more}
-use Rattle.bptree_arguments.proofs.GroupOrderLemmas.{nondescending_drop}
+use Rattle.bptree_arguments.proofs.GroupOrderLemmas.{between, nondescending_drop}
 use Rattle.bptree_arguments.proofs.GroupSizeLemmas.{summary_here}
 
 -- an item of the middle part, as an item of the whole
@@ -87,11 +87,6 @@ equal_from Greater e = absurd (true≢false (sym e))
 
 -- the place of an item of a leaf, from where its group begins
 module _ {G : Type 0} {R : G → G → Ordering} (o : IsTotalOrder R) (g : G) where
-  between : (r : Ordering) → is_lt r ≡ false → is_gt r ≡ false → r ≡ Equal
-  between Less h k = absurd (true≢false h)
-  between Equal h k = refl
-  between Greater h k = absurd (true≢false k)
-
   -- of groups that are not below g, those before one that is equal are equal too
   size_before : (gs : List G) (n : ℕ) (d : G) → n < length gs → IsNonDescending R gs → AllByRecursion (λ x. is_lt (R x g) ≡ false) gs → R (get_or gs n d) g ≡ Equal → group_size R g (take n gs) ≡ n
   size_before [] n d l h k e = absurd (omega arith)
