@@ -1,5 +1,5 @@
 -- Where a group begins, and what a rank says of a key among the keys of its group.
-use Rattle.std.specs.Prelude.{◌≡◌, ℕ, List, length, take, drop, false, cond, Option, Some, None}
+use Rattle.std.specs.Prelude.{◌≡◌, ℕ, List, take, drop, false, cond, Option, Some, None}
 use Rattle.std.specs.declared.cmp.Ordering.{Ordering}
 use Rattle.std.specs.declared.cmp.Ordering.TheVariants.{Less, Equal}
 use Rattle.std.specs.Ordering.{is_eq, is_lt}
