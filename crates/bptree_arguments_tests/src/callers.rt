@@ -2,4 +2,5 @@
 
 mod arguments;
 mod counts;
+mod group_answers;
 mod requests;
