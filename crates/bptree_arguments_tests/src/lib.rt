@@ -8,3 +8,5 @@ mod callers;
 #[cfg(test)]
 mod count_tests;
 pub mod even_count;
+#[cfg(test)]
+mod group_answer_tests;
