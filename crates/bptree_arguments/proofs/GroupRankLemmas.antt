@@ -9,7 +9,7 @@ use Rattle.std.specs.List.Sorted.{IsStrictlySortedBy}
 use Rattle.std.proofs.Math.Seq.{drop-length}
 use Rattle.std.proofs.lemmas.Bool.{true≢false}
 use Rattle.std.proofs.lemmas.Cmp.{alike_right}
-use Rattle.std.proofs.lemmas.List.{length-map, map-append, take-append-drop, take_at}
+use Rattle.std.proofs.lemmas.List.{append-nil, length-map, map-append, nil_from_length, take-append-drop, take_at}
 use Rattle.bptree_arguments.specs.declared.group.GroupCount.{GroupCount}
 use Rattle.bptree_keys.specs.Pieces.{flatten, piece_at}
 use Rattle.bptree_arguments.specs.CountLaws.{count_below}
@@ -129,6 +129,10 @@ flatten-from : {X : Type 0} (pieces : List (List X)) (i : ℕ) → i < length pi
 flatten-from [] i h = absurd (omega arith)
 flatten-from (p ∷ ps) zero h = refl
 flatten-from (p ∷ ps) (suc i) h = let small : i < length ps = omega arith in flatten-from ps i small
+
+-- where there is no child, nothing is added
+pub no_child : {A X : Type 0} (P : A → List X → Type 0) (arguments : List A) (pieces : List (List X)) → AllZip P arguments pieces → length arguments ≡ 0 → (before : List X) → before ++ flatten pieces ≡ before
+no_child P arguments pieces summaries e before = let none : pieces ≡ [] = nil_from_length pieces (sym (AllZip-length P arguments pieces summaries) ∙ e) in rw none (append-nil before)
 
 -- the children before the one for k, from the last on
 module _ {K G : Type 0} (cmp : K → K → Ordering) (R : G → G → Ordering) (group_of : K → G) (keeps : (x y : K) → is_gt (cmp x y) ≡ false → is_gt (R (group_of x) (group_of y)) ≡ false) (o : IsTotalOrder R) (k : K) (v : G) (made : R v (group_of k) ≡ Equal) (arguments : List (GroupCount G)) (pieces : List (List K)) (summaries : AllZip (λ a keys. IsGroupSummary R a (map group_of keys)) arguments pieces) where

@@ -6,6 +6,7 @@ use Rattle.std.specs.declared.cmp.Ordering.{Ordering}
 use Rattle.std.specs.declared.cmp.Ordering.TheVariants.{Equal}
 use Rattle.std.specs.Ordering.{is_eq, is_lt}
 use Rattle.std.specs.List.{HoldsAt, filter}
+use Rattle.std.proofs.Math.Bool.{and-true, and-false}
 use Rattle.std.proofs.lemmas.Bool.{true≢false}
 use Rattle.std.proofs.lemmas.List.{get_or-map, length-map, take-map}
 use Rattle.std.proofs.lemmas.Option.{slice_get_past}
@@ -110,21 +111,13 @@ module _ {K G : Type 0} (R : G → G → Ordering) (group_of : K → G) (g : G) 
 
 -- ---- ranks
 
-and_true : (a : Bool) → (a && true) ≡ a
-and_true true = refl
-and_true false = refl
-
-and_false : (a : Bool) → (a && false) ≡ false
-and_false true = refl
-and_false false = refl
-
 -- what passes one test and then another passes both
 filter_both : {X : Type 0} (p q : X → Bool) (xs : List X) → filter p (filter q xs) ≡ filter (λ x. p x && q x) xs
 filter_both p q [] = refl
 filter_both p q (x ∷ xs) = by (q x) (filter_both p q xs) where
   by : (b : Bool) → filter p (filter q xs) ≡ filter (λ y. p y && q y) xs → filter p (cond b (x ∷ filter q xs) (filter q xs)) ≡ cond (p x && b) (x ∷ filter (λ y. p y && q y) xs) (filter (λ y. p y && q y) xs)
-  by true e = rw (and_true (p x), e) refl
-  by false e = rw (and_false (p x)) e
+  by true e = rw (and-true (p x), e) refl
+  by false e = rw (and-false (p x)) e
 
 module _ {K G : Type 0} (cmp : K → K → Ordering) (R : G → G → Ordering) (group_of : K → G) (k : K) (keys : List K) where
   -- the rank in a leaf, which is the only one

@@ -1,6 +1,14 @@
-use Rattle.std.proofs.Common.{refl}
-use Rattle.bptree_arguments.proofs.GroupRankLemmas.{all_counted, more_none, more_same, none_behind, stopped}
+use Rattle.std.proofs.Common.{length, refl, sym}
+use Rattle.std.proofs.lemmas.Bool.{eqb-true}
+use Rattle.bptree_arguments.proofs.GroupRankLemmas.{all_counted, more_none, more_same, no_child, none_behind, stopped}
 use Rattle.bptree_arguments.proofs.group.rank.GroupCountRankArgument.fold_inner.Goals as goal
+
+pub returns-then-is_empty-clause-carries : goal.returns-then-is_empty-clause-carries
+returns-then-is_empty-clause-carries g c = λ before pieces nonempty summaries ascending below fits stands.
+    rw (no_child _ c.args.arguments.now pieces summaries (eqb-true (length c.args.arguments.now) 0 (sym c.if-is_empty.ensures)) before) stands
+
+pub returns-then-is_empty-clause-unchanged : goal.returns-then-is_empty-clause-unchanged
+returns-then-is_empty-clause-unchanged g c = λ none. refl
 
 pub loop-i-init : goal.loop-i-init
 loop-i-init g c = record {
