@@ -1,26 +1,30 @@
-use Rattle.std.proofs.Common.{◌≡◌, ℕ, suc, ◌+◌, ◌-◌, ◌<◌, ◌≤◌, List, [], ◌∷◌, ◌++◌, length, map, take, drop, get_or, Option, Some, None, false, refl, sym, ap, ◌∙◌, arith, length-append}
+-- Items of groups: where they stand in a leaf and below the children of a node.
+use Rattle.std.proofs.Common.{◌≡◌, ℕ, zero, suc, ◌+◌, ◌-◌, ◌<◌, ◌≤◌, List, [], ◌∷◌, ◌++◌, length, map, take, drop, get_or, Option, Some, None, Bool, true, false, cond, refl, sym, ap, ◌∙◌, arith, length-append, length-drop}
 use Rattle.std.specs.declared.cmp.Ordering.{Ordering}
 use Rattle.std.specs.declared.cmp.Ordering.TheVariants.{Less, Equal, Greater}
-use Rattle.std.specs.Ordering.{is_gt, ordering_reverse}
+use Rattle.std.specs.Ordering.{is_eq, is_gt, is_lt, ordering_reverse}
 use Rattle.std.specs.Cmp.{IsTotalOrder}
-use Rattle.std.specs.List.{AllZip}
-use Rattle.std.proofs.lemmas.List.{length-map, map-append, take-append-le, get_or_append_left, get_or-append-add, get_or-map, take-map}
+use Rattle.std.specs.List.{AllByRecursion, AllZip, filter}
+use Rattle.std.specs.List.Sorted.{IsStrictlySortedBy}
+use Rattle.std.proofs.Math.Seq.{take-add, take-append-add}
+use Rattle.std.proofs.lemmas.Bool.{true≢false}
+use Rattle.std.proofs.lemmas.Cmp.{upto}
+use Rattle.std.proofs.lemmas.List.{length-map, map-append, take-append-drop, take-append-le, get_or_append_left, get_or-append-add, get_or-drop, get_or-map}
 use Rattle.bptree_arguments.specs.declared.group.GroupCount.{GroupCount}
 use Rattle.bptree_keys.specs.Pieces.{flatten, piece_at, start_of, ArePieces}
 use Rattle.bptree_arguments.specs.Selection.{moved_by, IsPlaceIn, LeadsTo}
-use Rattle.bptree_arguments.specs.Groups.{group_size, IsGroupSummary, IsGreatestGroup, SelectsInGroup}
-use Rattle.bptree_keys.proofs.PieceLemmas.{AllZip-length, flatten-cut}
-use Rattle.bptree_arguments.proofs.GroupLemmas.{size-append, size_greatest_below, size_greatest_same, size_after_greatest, piece_ascends, size_parts, size_more}
-
-take_past : {X : Type 0} (xs ys : List X) (n : ℕ) → take (length xs + n) (xs ++ ys) ≡ xs ++ take n ys
-take_past [] ys n = let e : 0 + n ≡ n = omega arith in ap (λ k. take k ys) e
-take_past (x ∷ xs) ys n = let e : suc (length xs) + n ≡ suc (length xs + n) = omega arith in rw e (ap (λ t. x ∷ t) (take_past xs ys n))
+use Rattle.bptree_arguments.specs.Groups.{group_size, IsGroupSummary, IsGreatestGroup, IsNonDescending, SelectsInGroup}
+use Rattle.bptree_arguments.specs.GroupAnswers.{IsStartOf}
+use Rattle.bptree_keys.proofs.PieceLemmas.{AllByRecursion-at, AllByRecursion-weaker, AllZip-length, flatten-cut}
+use Rattle.bptree_arguments.proofs.GroupLemmas.{less_le, size-append, size-le, size_above, size_below, size_greatest_below, size_greatest_same, size_after_greatest, groups_ascend, piece_ascends, size_parts, size_more}
+use Rattle.bptree_arguments.proofs.GroupOrderLemmas.{between, nondescending_drop}
+use Rattle.bptree_arguments.proofs.GroupSizeLemmas.{summary_here}
 
 -- an item of the middle part, as an item of the whole
 module _ {G : Type 0} {R : G → G → Ordering} (o : IsTotalOrder R) (g : G) (front here back : List G) (j n : ℕ) (l : j < length here) where
   pub item_moved : SelectsInGroup R g n here (Some j) → SelectsInGroup R g (group_size R g front + n) (front ++ (here ++ back)) (Some (length front + j))
   item_moved s =
-      let taken : take (length front + j) (front ++ (here ++ back)) ≡ front ++ take j here = take_past front (here ++ back) j ∙ ap (λ t. front ++ t) (take-append-le j here back (omega arith)) in (
+      let taken : take (length front + j) (front ++ (here ++ back)) ≡ front ++ take j here = take-append-add front (here ++ back) j ∙ ap (λ t. front ++ t) (take-append-le j here back (omega arith)) in (
         omega (arith, l, length-append front (here ++ back), length-append here back),
         (λ d. rw (get_or-append-add front (here ++ back) j d, get_or_append_left here back d j l) (s.1 d)),
         ap (group_size R g) taken ∙ size-append o g front (take j here) ∙ ap (λ k. group_size R g front + k) s.2,
@@ -51,26 +55,119 @@ module _ {K G : Type 0} (cmp : K → K → Ordering) (R : G → G → Ordering) 
         let total : group_size R g (map group_of front) + rest ≡ offset = omega (arith, passed) in
         rw (cut, ← total, ← length-map front group_of) item
 
-  pub next_none : IsGreatestGroup R here None → rest + group_size R g (map group_of (flatten (take (i + 1) pieces))) ≡ offset
-  next_none e = let none : group_size R g here ≡ 0 = ap (group_size R g) e in omega (arith, next 0 none (omega arith))
+  module _ (argument : GroupCount G) (read : argument ≡ get_or arguments i argument) where
+    summary : IsGroupSummary R argument here
+    summary = summary_here cmp R group_of keeps o g pieces are arguments summaries i l argument read
 
-  module _ (m : G) (n : ℕ) (greatest : IsGreatestGroup R here (Some (m, n))) where
-    pub next_below : R m g ≡ Less → rest + group_size R g (map group_of (flatten (take (i + 1) pieces))) ≡ offset
-    next_below e = omega (arith, next 0 (size_greatest_below o g m n here greatest.0 greatest.1 greatest.2 e) (omega arith))
+    -- past a child: what is left of the place, and the keys of the group so far
+    pub next_none : ((groups : List G) → IsGroupSummary R argument groups → IsGreatestGroup R groups None) → rest + group_size R g (map group_of (flatten (take (i + 1) pieces))) ≡ offset
+    next_none found = let none : group_size R g here ≡ 0 = ap (group_size R g) (found here summary) in omega (arith, next 0 none (omega arith))
 
-    pub next_same : R m g ≡ Equal → n ≤ rest → (rest - n) + group_size R g (map group_of (flatten (take (i + 1) pieces))) ≡ offset
-    next_same e k = next n (size_greatest_same o g m n here greatest.0 greatest.1 greatest.2 e) k
+    module _ (m : G) (n : ℕ) (found : (groups : List G) → IsGroupSummary R argument groups → IsGreatestGroup R groups (Some (m, n))) where
+      greatest : IsGreatestGroup R here (Some (m, n))
+      greatest = found here summary
 
-    pub leads_same : R m g ≡ Equal → rest < n → LeadsTo selects (g, offset) pieces (Some (i, (g, rest)))
-    leads_same e k = leads (λ s. absurd (omega (arith, s, k, size_greatest_same o g m n here greatest.0 greatest.1 greatest.2 e)))
+      pub next_below : Less ≡ R m g → rest + group_size R g (map group_of (flatten (take (i + 1) pieces))) ≡ offset
+      next_below e = omega (arith, next 0 (size_greatest_below o g m n here greatest.0 greatest.1 greatest.2 (sym e)) (omega arith))
 
-    pub leads_above : R m g ≡ Greater → LeadsTo selects (g, offset) pieces (Some (i, (g, rest)))
-    leads_above e = leads (λ _. size_after_greatest o g m n here greatest.0 greatest.1 greatest.2 (map group_of (flatten (drop (suc i) pieces))) (piece_ascends cmp R group_of keeps o pieces i inside are.ascending) (o.antisymm g m ∙ ap ordering_reverse e))
+      pub next_same : Equal ≡ R m g → n ≤ rest → (rest - n) + group_size R g (map group_of (flatten (take (i + 1) pieces))) ≡ offset
+      next_same e k = next n (size_greatest_same o g m n here greatest.0 greatest.1 greatest.2 (sym e)) k
 
--- the item of a leaf that is found
-pub leaf_item : {K G : Type 0} {R : G → G → Ordering} (o : IsTotalOrder R) (group_of : K → G) (g v : G) (n : ℕ) (keys : List K) (i : ℕ) (k : K) → i < length keys → k ≡ get_or keys i k → R v (group_of k) ≡ Equal → R v g ≡ Equal → n ≡ group_size R g (map group_of (take i keys)) → SelectsInGroup R g n (map group_of keys) (Some i)
-leaf_item {R = R} o group_of g v n keys i k l read e f s = (
-  omega (arith, l, length-map keys group_of),
-  (λ d. let at' : get_or (map group_of keys) i d ≡ group_of k = get_or-map group_of keys i k d l ∙ ap group_of (sym read) in rw at' (sym (o.congr v (group_of k) g e) ∙ f)),
-  rw take-map (sym s),
-)
+      -- the child leads on, where its greatest group has the key, and where it is above the query's
+      pub leads_same : Equal ≡ R m g → rest < n → LeadsTo selects (g, offset) pieces (Some (i, (g, rest)))
+      leads_same e k = leads (λ s. absurd (omega (arith, s, k, size_greatest_same o g m n here greatest.0 greatest.1 greatest.2 (sym e))))
+
+      pub leads_above : Greater ≡ R m g → LeadsTo selects (g, offset) pieces (Some (i, (g, rest)))
+      leads_above e = leads (λ _. size_after_greatest o g m n here greatest.0 greatest.1 greatest.2 (map group_of (flatten (drop (suc i) pieces))) (piece_ascends cmp R group_of keeps o pieces i inside are.ascending) (o.antisymm g m ∙ ap ordering_reverse (sym e)))
+
+equal_from : (r : Ordering) → is_eq r ≡ true → r ≡ Equal
+equal_from Less e = absurd (true≢false (sym e))
+equal_from Equal e = refl
+equal_from Greater e = absurd (true≢false (sym e))
+
+-- the place of an item of a leaf, from where its group begins
+module _ {G : Type 0} {R : G → G → Ordering} (o : IsTotalOrder R) (g : G) where
+  -- of groups that are not below g, those before one that is equal are equal too
+  size_before : (gs : List G) (n : ℕ) (d : G) → n < length gs → IsNonDescending R gs → AllByRecursion (λ x. is_lt (R x g) ≡ false) gs → R (get_or gs n d) g ≡ Equal → group_size R g (take n gs) ≡ n
+  size_before [] n d l h k e = absurd (omega arith)
+  size_before (x ∷ xs) zero d l h k e = refl
+  size_before (x ∷ xs) (suc n) d l h k e =
+      let small : n < length xs = omega arith in
+      let low : is_gt (R x g) ≡ false = upto o x (get_or xs n d) g (AllByRecursion-at (λ y. is_gt (R x y) ≡ false) xs n d small h.0) (ap is_gt e) in
+      rw (between (R x g) k.0 low) (ap suc (size_before xs n d small h.1 k.1 e))
+
+  -- and from one that is not equal on, none is
+  size_to : (gs : List G) (n : ℕ) (d : G) → n < length gs → IsNonDescending R gs → AllByRecursion (λ x. is_lt (R x g) ≡ false) gs → is_eq (R (get_or gs n d) g) ≡ false → group_size R g gs ≤ n
+  size_to [] n d l h k e = absurd (omega arith)
+  size_to (x ∷ xs) zero d l h k e =
+      let above : R g x ≡ Less = o.antisymm g x ∙ turned (R x g) k.0 e in
+      rw e (omega (arith, size_above o g xs (AllByRecursion-weaker (λ y. is_gt (R x y) ≡ false) (λ y. R g y ≡ Less) (λ y f. less_le o g x y above f) xs h.0)))
+    where
+      turned : (r : Ordering) → is_lt r ≡ false → is_eq r ≡ false → ordering_reverse r ≡ Less
+      turned Less a b = absurd (true≢false a)
+      turned Equal a b = absurd (true≢false b)
+      turned Greater a b = refl
+  size_to (x ∷ xs) (suc n) d l h k e =
+      let small : n < length xs = omega arith in
+      by (is_eq (R x g)) (size_to xs n d small h.1 k.1 e)
+    where
+      by : (b : Bool) → group_size R g xs ≤ n → length (cond b (x ∷ filter (λ y. is_eq (R y g)) xs) (filter (λ y. is_eq (R y g)) xs)) ≤ suc n
+      by true m = omega arith
+      by false m = omega arith
+
+  module _ (gs : List G) (h : IsNonDescending R gs) (start : ℕ) (s : IsStartOf R g gs start) (n : ℕ) where
+    front_none : group_size R g (take start gs) ≡ 0
+    front_none = size_below o g (take start gs) s.before
+
+    whole : group_size R g gs ≡ group_size R g (drop start gs)
+    whole = let sum = rw take-append-drop at (size-append o g (take start gs) (drop start gs)) in omega (arith, sum, front_none)
+
+    ascends : IsNonDescending R (drop start gs)
+    ascends = nondescending_drop o gs start h
+
+    past : length gs ≤ start + n → group_size R g gs ≤ n
+    past l = omega (arith, whole, size-le o g (drop start gs), length-drop start gs, l)
+
+    module _ (d : G) (l : start + n < length gs) where
+      there : get_or (drop start gs) n d ≡ get_or gs (start + n) d
+      there = get_or-drop start gs n d
+
+      small : n < length (drop start gs)
+      small = omega (arith, l, length-drop start gs)
+
+      other : is_eq (R (get_or gs (start + n) d) g) ≡ false → group_size R g gs ≤ n
+      other e = omega (arith, whole, size_to (drop start gs) n d small ascends s.from_there (rw there e))
+
+      place : R (get_or gs (start + n) d) g ≡ Equal → group_size R g (take (start + n) gs) ≡ n
+      place e =
+          let parts : take (start + n) gs ≡ take start gs ++ take n (drop start gs) = take-add start n gs in
+          let sum = size-append o g (take start gs) (take n (drop start gs)) in
+          ap (group_size R g) parts ∙ omega (arith, sum, front_none, size_before (drop start gs) n d small ascends s.from_there (rw there e))
+
+module _ {K G : Type 0} (cmp : K → K → Ordering) (R : G → G → Ordering) (group_of : K → G) (keeps : (x y : K) → is_gt (cmp x y) ≡ false → is_gt (R (group_of x) (group_of y)) ≡ false) (o : IsTotalOrder R) (g : G) (keys : List K) (ascending : IsStrictlySortedBy cmp keys) (start : ℕ) (s : IsStartOf R g (map group_of keys) start) (n : ℕ) where
+  ascend : IsNonDescending R (map group_of keys)
+  ascend = groups_ascend cmp R group_of keeps keys ascending
+
+  -- the place is past the leaf
+  pub leaf_past : length keys - start ≤ n → SelectsInGroup R g n (map group_of keys) None
+  leaf_past l = past o g (map group_of keys) ascend start s n (omega (arith, l, length-map keys group_of))
+
+  module _ (l : n < length keys - start) (k : K) (read : k ≡ get_or keys (start + n) k) (v : G) (made : R v (group_of k) ≡ Equal) (r : Ordering) (compared : r ≡ R v g) (answer : Bool) (is : answer ≡ is_eq r) where
+    within_leaf : start + n < length (map group_of keys)
+    within_leaf = omega (arith, l, length-map keys group_of)
+
+    same : (d : G) → R (get_or (map group_of keys) (start + n) d) g ≡ r
+    same d =
+        let within : start + n < length keys = omega (arith, l) in
+        let here : get_or (map group_of keys) (start + n) d ≡ group_of k = get_or-map group_of keys (start + n) k d within ∙ ap group_of (sym read) in
+        rw here (sym (compared ∙ o.congr v (group_of k) g made))
+
+    -- the key at it is of another group
+    pub leaf_other : answer ≡ false → SelectsInGroup R g n (map group_of keys) None
+    leaf_other e = other o g (map group_of keys) ascend start s n v within_leaf (ap is_eq (same v) ∙ (sym is ∙ e))
+
+    -- the key at it is of the group
+    pub leaf_item : answer ≡ true → SelectsInGroup R g n (map group_of keys) (Some (start + n))
+    leaf_item e =
+        let equal = equal_from r (sym is ∙ e) in
+        (within_leaf, (λ d. same d ∙ equal), place o g (map group_of keys) ascend start s n v within_leaf (same v ∙ equal))

@@ -1,7 +1,9 @@
 pub mod CountLemmas
 pub mod GroupEndsLemmas
 pub mod GroupLemmas
+pub mod GroupOrderLemmas
 pub mod GroupPlaceLemmas
+pub mod GroupRankLemmas
 pub mod GroupSelectLemmas
 pub mod GroupSizeLemmas
 pub mod RankLemmas

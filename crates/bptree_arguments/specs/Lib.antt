@@ -1,4 +1,5 @@
 pub mod CountLaws
+pub mod GroupAnswers
 pub mod GroupSizes
 pub mod Groups
 pub mod Ranks

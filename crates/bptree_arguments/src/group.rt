@@ -1,14 +1,17 @@
 //! Groups of keys, and how many keys each has.
 ghost use Rattle.std.specs.Prelude.{◌≡◌, ◌≢◌, ◌↔◌, ℕ, ◌+◌, ◌-◌, ◌<◌, ◌^◌, min, List, [], ◌∷◌, ◌++◌, length, map, IfOk, IsTrue, MatchOption, true, false};
 ghost use Rattle.std.specs.Ordering.{is_gt};
-ghost use Rattle.bptree_arguments.specs.Groups.{AreEnds, IsGroupSummary, IsNonDescending, AreAlike, IsGreatestGroup, SelectsInGroup, different, group, group_size};
+ghost use Rattle.bptree_arguments.specs.Groups.{AreEnds, IsGroupSummary, IsNonDescending, AreAlike, IsGreatestGroup, different, group, group_size};
 ghost use Rattle.std.specs.List.{AllZip};
 ghost use Rattle.std.specs.List.Sorted.{IsStrictlySortedBy};
 ghost use Rattle.std.specs.Option.{option_map};
 ghost use Rattle.bptree_arguments.specs.declared.group.GroupCount.TheVariants.{Zero};
 ghost use Rattle.bptree_keys.specs.Pieces.{ArePieces, flatten};
 
-use crate::argument::{Argument, SearchArgument};
+mod rank;
+mod search;
+
+use crate::argument::Argument;
 use bptree_keys::key::Key;
 pub use bptree_keys::key::Tuple2;
 use std::alloc::AllocError;
@@ -304,53 +307,4 @@ impl<K: Key, G: FromRef<K> + Key> Argument<K> for GroupCount<G> {
     ghost use Rattle.std.proofs.Common.{rules};
 
     ghost default_is_summary = { λ a h. Prim.search rules };
-}
-
-impl<K: Key, G: FromRef<K> + Key> SearchArgument<K> for GroupCount<G> {
-    type Query = (G, usize);
-
-    ghost selects = { λ query keys place. SelectsInGroup G.cmp query.0 query.1 (map G.group_of keys) place };
-
-    fn locate_in_leaf(query: (G, usize), keys: &[K]) -> Result<Option<usize>, AllocError> {
-        let (group, offset) = query;
-        let mut seen = 0;
-        for (i, key) in keys.iter().enumerate() {
-            let of_key = G::from_ref(key)?;
-            match of_key.cmp(&group) {
-                Ordering::Equal => {
-                    if seen == offset {
-                        return Ok(Some(i));
-                    }
-                    seen += 1;
-                }
-                _ => {}
-            }
-        }
-        Ok(None)
-    }
-
-    fn locate_in_inner(
-        query: (G, usize),
-        _keys: &[K],
-        arguments: &[Self],
-    ) -> Result<Option<(usize, (G, usize))>, AllocError> {
-        let (group, offset) = query;
-        let mut rest = offset;
-        for (i, argument) in arguments.iter().enumerate() {
-            match argument.max_group() {
-                None => {}
-                Some((greatest, size)) => match greatest.cmp(&group) {
-                    Ordering::Less => {}
-                    Ordering::Equal => {
-                        if rest < size {
-                            return Ok(Some((i, (group, rest))));
-                        }
-                        rest -= size;
-                    }
-                    Ordering::Greater => return Ok(Some((i, (group, rest)))),
-                },
-            }
-        }
-        Ok(None)
-    }
 }

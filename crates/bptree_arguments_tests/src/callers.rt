@@ -3,4 +3,5 @@
 mod arguments;
 mod counts;
 mod groups;
+mod group_answers;
 mod requests;

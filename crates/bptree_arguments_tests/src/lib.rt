@@ -9,4 +9,6 @@ mod callers;
 mod count_tests;
 pub mod even_count;
 #[cfg(test)]
+mod group_answer_tests;
+#[cfg(test)]
 mod group_tests;

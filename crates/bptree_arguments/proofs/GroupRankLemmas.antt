@@ -1,0 +1,218 @@
+-- The rank of a key in its group: how many keys of the group are smaller.
+use Rattle.std.proofs.Common.{◌≡◌, ℕ, zero, suc, ◌+◌, ◌-◌, ◌^◌, ◌<◌, ◌≤◌, min, List, [], ◌∷◌, ◌++◌, length, map, take, drop, get_or, Option, Some, None, Ok, Err, Bool, true, false, cond, refl, sym, ap, ◌∙◌, subst, arith, append_assoc, length-append, length-drop}
+use Rattle.std.specs.declared.cmp.Ordering.{Ordering}
+use Rattle.std.specs.declared.cmp.Ordering.TheVariants.{Less, Equal, Greater}
+use Rattle.std.specs.Ordering.{is_eq, is_gt, is_lt}
+use Rattle.std.specs.Cmp.{IsTotalOrder}
+use Rattle.std.specs.List.{AllByRecursion, AllZip, filter}
+use Rattle.std.specs.List.Sorted.{IsStrictlySortedBy}
+use Rattle.std.proofs.Math.Seq.{drop-length}
+use Rattle.std.proofs.lemmas.Bool.{true≢false}
+use Rattle.std.proofs.lemmas.Cmp.{alike_right}
+use Rattle.std.proofs.lemmas.List.{append-nil, length-map, map-append, nil_from_length, take-append-drop, take_at}
+use Rattle.bptree_arguments.specs.declared.group.GroupCount.{GroupCount}
+use Rattle.bptree_keys.specs.Pieces.{flatten, piece_at}
+use Rattle.bptree_arguments.specs.CountLaws.{count_below}
+use Rattle.bptree_arguments.specs.GroupAnswers.{IsStartOf, carried, keys_in_group, IsRankInGroup}
+use Rattle.bptree_arguments.specs.Groups.{group_size, IsGreatestGroup, IsGroupSummary, IsNonDescending}
+use Rattle.bptree_arguments.specs.Ranks.{AllAbove, AllBelow, IsSlotOf, SplitsAt}
+use Rattle.bptree_keys.proofs.PieceLemmas.{AllByRecursion-append, AllByRecursion-left, AllByRecursion-right, AllByRecursion-weaker, AllZip-at, AllZip-length, flatten-cut, sorted_left, sorted_right}
+use Rattle.bptree_arguments.proofs.GroupLemmas.{crossing, groups_ascend, le_less, size-append, size-le, size_alike, size_below, size_greatest_below, size_greatest_same, witness}
+use Rattle.bptree_arguments.proofs.GroupOrderLemmas.{between}
+use Rattle.bptree_arguments.proofs.RankLemmas.{SplitsAt-within}
+
+module _ {G : Type 0} {R : G → G → Ordering} (o : IsTotalOrder R) (v : G) where
+  -- groups that are neither below v nor above it
+  size_all : (gs : List G) → AllByRecursion (λ x. is_lt (R x v) ≡ false) gs → AllByRecursion (λ x. is_gt (R x v) ≡ false) gs → group_size R v gs ≡ length gs
+  size_all [] h k = refl
+  size_all (x ∷ xs) h k = rw (between (R x v) h.0 k.0) (ap suc (size_all xs h.1 k.1))
+
+  -- of groups that are not above v, those from where it begins are equal to it
+  size_from : (gs : List G) (start : ℕ) → IsStartOf R v gs start → AllByRecursion (λ x. is_gt (R x v) ≡ false) gs → group_size R v gs ≡ length gs - start
+  size_from gs start s h =
+      let sum = rw take-append-drop at (size-append o v (take start gs) (drop start gs)) in
+      let back = AllByRecursion-right (λ x. is_gt (R x v) ≡ false) (take start gs) (drop start gs) (rw take-append-drop h) in
+      omega (arith, sum, size_below o v (take start gs) s.before, size_all (drop start gs) s.from_there back, length-drop start gs)
+
+  -- in front of groups of which the first is below v, none is equal to it
+  size_in_front : (fs gs : List G) (start : ℕ) → 0 < start → start ≤ length gs → AllByRecursion (λ x. R x v ≡ Less) (take start gs) → IsNonDescending R (fs ++ gs) → group_size R v fs ≡ 0
+  size_in_front fs [] start p l b h = absurd (omega arith)
+  size_in_front fs (x ∷ xs) zero p l b h = absurd (omega arith)
+  size_in_front fs (x ∷ xs) (suc n) p l b h =
+      size_below o v fs (AllByRecursion-weaker (λ y. AllByRecursion (λ z. is_gt (R y z) ≡ false) (x ∷ xs)) (λ y. R y v ≡ Less) (λ y f. le_less o y x v f.0 b.0) fs (crossing o fs (x ∷ xs) h))
+
+  -- an equal group is carried as well
+  pub carried_alike : (g : G) → R v g ≡ Equal → (rank : Option (G × ℕ)) → carried R v rank ≡ carried R g rank
+  carried_alike g e None = refl
+  carried_alike g e (Some r) = ap (λ b. cond b r.1 0) (ap is_eq (alike_right o v g r.0 e))
+
+module _ {K G : Type 0} (cmp : K → K → Ordering) (R : G → G → Ordering) (group_of : K → G) (keeps : (x y : K) → is_gt (cmp x y) ≡ false → is_gt (R (group_of x) (group_of y)) ≡ false) (o : IsTotalOrder R) (k : K) where
+  -- keys below k are in no group above its own
+  pub groups_upto : (keys : List K) → AllBelow cmp k keys → AllByRecursion (λ x. is_gt (R x (group_of k)) ≡ false) (map group_of keys)
+  groups_upto [] h = tt
+  groups_upto (x ∷ xs) h = (keeps x k (ap is_gt h.0), groups_upto xs h.1)
+
+  module _ (v : G) (made : R v (group_of k) ≡ Equal) (smaller : List K) (start : ℕ) (within : start ≤ length smaller) (begins : IsStrictlySortedBy cmp smaller → IsStartOf R v (map group_of smaller) start) (before : List K) (ascending : IsStrictlySortedBy cmp (before ++ smaller)) (below : AllBelow cmp k smaller) where
+    starts : IsStartOf R v (map group_of smaller) start
+    starts = begins (sorted_right cmp before smaller ascending)
+
+    in_leaf : group_size R (group_of k) (map group_of smaller) ≡ length smaller - start
+    in_leaf =
+        let upto = AllByRecursion-weaker (λ x. is_gt (R x (group_of k)) ≡ false) (λ x. is_gt (R x v) ≡ false) (λ x e. ap is_gt (alike_right o v (group_of k) x made) ∙ e) (map group_of smaller) (groups_upto smaller below) in
+        omega (arith, size_alike o v (group_of k) made (map group_of smaller), size_from o v (map group_of smaller) start starts upto, length-map smaller group_of)
+
+    whole : group_size R (group_of k) (map group_of (before ++ smaller)) ≡ group_size R (group_of k) (map group_of before) + (length smaller - start)
+    whole = omega (arith, ap (group_size R (group_of k)) (map-append group_of before smaller), size-append o (group_of k) (map group_of before) (map group_of smaller), in_leaf)
+
+    -- some key of the leaf is of a lesser group
+    pub ranked_in_leaf : 0 < start → length smaller - start ≡ group_size R (group_of k) (map group_of (before ++ smaller))
+    ranked_in_leaf p =
+        let ascend = rw map-append at (groups_ascend cmp R group_of keeps (before ++ smaller) ascending) in
+        let none = size_in_front o v (map group_of before) (map group_of smaller) start p (omega (arith, within, length-map smaller group_of)) starts.before ascend in
+        omega (arith, whole, none, size_alike o v (group_of k) made (map group_of before))
+
+    -- none is
+    pub ranked_with_carried : (rank : Option (G × ℕ)) (n : ℕ) → length (before ++ smaller) < 2 ^ 64 → group_size R (group_of k) (map group_of before) ≡ carried R (group_of k) rank → start ≤ 0 → n ≡ carried R v rank → min ((length smaller - start) + n) (2 ^ 64 - 1) ≡ group_size R (group_of k) (map group_of (before ++ smaller))
+    ranked_with_carried rank n fits stands l e =
+        omega (arith, whole, stands, e, carried_alike o v (group_of k) made rank, size-le o (group_of k) (map group_of (before ++ smaller)), length-map (before ++ smaller) group_of, fits)
+
+  -- how many keys of k's group are below k, where a list is split there
+  none_counted : (rest : List K) → AllByRecursion (λ x. is_lt (cmp x k) ≡ false) rest → count_below cmp k (keys_in_group cmp R group_of k rest) ≡ 0
+  none_counted [] h = refl
+  none_counted (x ∷ xs) h = by (is_eq (R (group_of x) (group_of k))) (none_counted xs h.1) where
+    by : (b : Bool) → count_below cmp k (keys_in_group cmp R group_of k xs) ≡ 0 → count_below cmp k (cond b (x ∷ keys_in_group cmp R group_of k xs) (keys_in_group cmp R group_of k xs)) ≡ 0
+    by true e = rw h.0 e
+    by false e = e
+
+  counted : (front rest : List K) → AllBelow cmp k front → AllByRecursion (λ x. is_lt (cmp x k) ≡ false) rest → count_below cmp k (keys_in_group cmp R group_of k (front ++ rest)) ≡ group_size R (group_of k) (map group_of front)
+  counted [] rest h n = none_counted rest n
+  counted (x ∷ xs) rest h n = by (is_eq (R (group_of x) (group_of k))) (counted xs rest h.1 n) where
+    by : (b : Bool) → count_below cmp k (keys_in_group cmp R group_of k (xs ++ rest)) ≡ group_size R (group_of k) (map group_of xs) → count_below cmp k (cond b (x ∷ keys_in_group cmp R group_of k (xs ++ rest)) (keys_in_group cmp R group_of k (xs ++ rest))) ≡ length (cond b (group_of x ∷ filter (λ y. is_eq (R y (group_of k))) (map group_of xs)) (filter (λ y. is_eq (R y (group_of k))) (map group_of xs)))
+    by true e = rw (ap is_lt h.0) (ap suc e)
+    by false e = e
+
+  pub count_in_group : (keys front middle back : List K) → SplitsAt cmp k keys front middle back → count_below cmp k (keys_in_group cmp R group_of k keys) ≡ group_size R (group_of k) (map group_of front)
+  count_in_group keys front middle back s =
+      let equal = AllByRecursion-weaker (λ x. cmp x k ≡ Equal) (λ x. is_lt (cmp x k) ≡ false) (λ x e. ap is_lt e) middle s.equal in
+      let above = AllByRecursion-weaker (λ x. cmp x k ≡ Greater) (λ x. is_lt (cmp x k) ≡ false) (λ x e. ap is_lt e) back s.above in
+      rw s.parts (counted front (middle ++ back) s.below (AllByRecursion-append (λ x. is_lt (cmp x k) ≡ false) middle back equal above))
+
+  -- the rank at a place of a leaf, from what the smaller keys of the leaf and the rank before it come to
+  module _ (keys before after : List K) (ascending : IsStrictlySortedBy cmp (before ++ (keys ++ after))) (low : AllBelow cmp k before) (high : AllAbove cmp k after) (fits : length (before ++ (keys ++ after)) < 2 ^ 64) (i : ℕ) (r : G × ℕ) (made : R r.0 (group_of k) ≡ Equal) (ranked : IsStrictlySortedBy cmp (before ++ take i keys) → AllBelow cmp k (take i keys) → length (before ++ take i keys) < 2 ^ 64 → r.1 ≡ group_size R (group_of k) (map group_of (before ++ take i keys))) where
+    rank_at : (front middle back : List K) → length front ≡ i → SplitsAt cmp k keys front middle back → IsRankInGroup cmp R group_of k (before ++ (keys ++ after)) (Some r)
+    rank_at front middle back l s =
+        let smaller : take i keys ≡ front = rw s.parts (take_at front (middle ++ back) i l) in
+        let split = SplitsAt-within cmp k keys front middle back before after s low high in
+        let sorted : IsStrictlySortedBy cmp (before ++ front) = sorted_left cmp (before ++ front) (middle ++ (back ++ after)) (rw split.parts at ascending) in
+        let long : length (before ++ front) < 2 ^ 64 = omega (arith, length-append (before ++ front) (middle ++ (back ++ after)), ap length split.parts, fits) in
+        (made, rw smaller at ranked sorted s.below long ∙ sym (count_in_group (before ++ (keys ++ after)) (before ++ front) middle (back ++ after) split))
+
+    pub rank_present : IsSlotOf cmp k keys (Ok i) → IsRankInGroup cmp R group_of k (before ++ (keys ++ after)) (Some r)
+    rank_present (front, back, x, l, s) = rank_at front (x ∷ []) back l s
+
+    pub rank_absent : IsSlotOf cmp k keys (Err i) → IsRankInGroup cmp R group_of k (before ++ (keys ++ after)) (Some r)
+    rank_absent (front, back, l, s) = rank_at front [] back l s
+
+-- the groups before those of which the greatest is below v
+size_before_greatest : {G : Type 0} {R : G → G → Ordering} (o : IsTotalOrder R) (v m : G) (fs gs : List G) → 0 < group_size R m gs → R m v ≡ Less → IsNonDescending R (fs ++ gs) → group_size R v fs ≡ 0
+size_before_greatest {G} {R} o v m fs gs there e h = size_below o v fs (AllByRecursion-weaker (λ y. AllByRecursion (λ z. is_gt (R y z) ≡ false) gs) (λ y. R y v ≡ Less) each fs (crossing o fs gs h)) where
+  each : (y : G) → AllByRecursion (λ z. is_gt (R y z) ≡ false) gs → R y v ≡ Less
+  each y f = let w = witness o (λ z. is_gt (R y z) ≡ false) m gs there f in le_less o y w.0 v w.1 (o.congr w.0 m v w.2 ∙ e)
+
+less_if : (r : Ordering) → is_gt r ≡ false → (r ≡ Equal → ⊥) → r ≡ Less
+less_if Less h n = refl
+less_if Equal h n = absurd (n refl)
+less_if Greater h n = absurd (true≢false h)
+
+-- the pieces from one on are that one and those behind it
+flatten-from : {X : Type 0} (pieces : List (List X)) (i : ℕ) → i < length pieces → flatten (drop i pieces) ≡ piece_at pieces i ++ flatten (drop (suc i) pieces)
+flatten-from [] i h = absurd (omega arith)
+flatten-from (p ∷ ps) zero h = refl
+flatten-from (p ∷ ps) (suc i) h = let small : i < length ps = omega arith in flatten-from ps i small
+
+-- where there is no child, nothing is added
+pub no_child : {A X : Type 0} (P : A → List X → Type 0) (arguments : List A) (pieces : List (List X)) → AllZip P arguments pieces → length arguments ≡ 0 → (before : List X) → before ++ flatten pieces ≡ before
+no_child P arguments pieces summaries e before = let none : pieces ≡ [] = nil_from_length pieces (sym (AllZip-length P arguments pieces summaries) ∙ e) in rw none (append-nil before)
+
+-- the children before the one for k, from the last on
+module _ {K G : Type 0} (cmp : K → K → Ordering) (R : G → G → Ordering) (group_of : K → G) (keeps : (x y : K) → is_gt (cmp x y) ≡ false → is_gt (R (group_of x) (group_of y)) ≡ false) (o : IsTotalOrder R) (k : K) (v : G) (made : R v (group_of k) ≡ Equal) (arguments : List (GroupCount G)) (pieces : List (List K)) (summaries : AllZip (λ a keys. IsGroupSummary R a (map group_of keys)) arguments pieces) where
+  same_length : length arguments ≡ length pieces
+  same_length = AllZip-length (λ a keys. IsGroupSummary R a (map group_of keys)) arguments pieces summaries
+
+  -- behind the last
+  pub none_behind : 0 ≡ min (group_size R v (map group_of (flatten (drop (length arguments) pieces)))) (2 ^ 64 - 1)
+  none_behind = let none : drop (length arguments) pieces ≡ [] = rw same_length (drop-length pieces) in rw none (omega arith)
+
+  module _ (m count : ℕ) (counted : count ≡ min (group_size R v (map group_of (flatten (drop m pieces)))) (2 ^ 64 - 1)) where
+    -- where no child is left, the whole is what they have and what the rank carries
+    pub all_counted : (rank : Option (G × ℕ)) (n : ℕ) (before : List K) → m ≤ 0 → length (before ++ flatten pieces) < 2 ^ 64 → group_size R (group_of k) (map group_of before) ≡ carried R (group_of k) rank → n ≡ carried R v rank → group_size R (group_of k) (map group_of (before ++ flatten pieces)) ≡ carried R (group_of k) (Some (v, min (count + n) (2 ^ 64 - 1)))
+    all_counted rank n before l fits stands e =
+        let first : m ≡ 0 = omega arith in
+        let here : count ≡ min (group_size R v (map group_of (flatten pieces))) (2 ^ 64 - 1) = rw first at counted in
+        let total = ap (group_size R (group_of k)) (map-append group_of before (flatten pieces)) ∙ size-append o (group_of k) (map group_of before) (map group_of (flatten pieces)) in
+        rw made (omega (arith, total, here, stands, e, size_alike o v (group_of k) made (map group_of (flatten pieces)), carried_alike o v (group_of k) made rank, size-le o (group_of k) (map group_of (before ++ flatten pieces)), length-map (before ++ flatten pieces) group_of, fits))
+
+    module _ (positive : 0 < m) (within : m ≤ length arguments) (argument : GroupCount G) (read : argument ≡ get_or arguments (m - 1) argument) where
+      abbrev here : List G
+      here = map group_of (piece_at pieces (m - 1))
+
+      inside : m - 1 < length pieces
+      inside = omega (arith, same_length)
+
+      one_on : suc (m - 1) ≡ m
+      one_on = omega arith
+
+      summary : IsGroupSummary R argument here
+      summary = let l : m - 1 < length arguments = omega arith in subst (λ a. IsGroupSummary R a here) (sym read) (AllZip-at (λ a keys. IsGroupSummary R a (map group_of keys)) arguments pieces (m - 1) argument [] summaries l)
+
+      sizes : group_size R v (map group_of (flatten (drop (m - 1) pieces))) ≡ group_size R v here + group_size R v (map group_of (flatten (drop m pieces)))
+      sizes =
+          let back = flatten (drop m pieces) in
+          let parts : flatten (drop (m - 1) pieces) ≡ piece_at pieces (m - 1) ++ back = rw one_on at (flatten-from pieces (m - 1) inside) in
+          ap (λ t. group_size R v (map group_of t)) parts ∙ (ap (group_size R v) (map-append group_of (piece_at pieces (m - 1)) back) ∙ size-append o v here (map group_of back))
+
+      more : (n : ℕ) → group_size R v here ≡ n → min (count + n) (2 ^ 64 - 1) ≡ min (group_size R v (map group_of (flatten (drop (m - 1) pieces)))) (2 ^ 64 - 1)
+      more n e = omega (arith, sizes, e, counted)
+
+      -- one child more, which has no keys
+      pub more_none : ((groups : List G) → IsGroupSummary R argument groups → IsGreatestGroup R groups None) → count ≡ min (group_size R v (map group_of (flatten (drop (m - 1) pieces)))) (2 ^ 64 - 1)
+      more_none found = let none : group_size R v here ≡ 0 = ap (group_size R v) (found here summary) in omega (arith, more 0 none, counted)
+
+      module _ (h : G) (n : ℕ) (found : (groups : List G) → IsGroupSummary R argument groups → IsGreatestGroup R groups (Some (h, n))) where
+        greatest : IsGreatestGroup R here (Some (h, n))
+        greatest = found here summary
+
+        -- one child more, whose greatest group is that of k
+        pub more_same : Equal ≡ R h v → min (count + n) (2 ^ 64 - 1) ≡ min (group_size R v (map group_of (flatten (drop (m - 1) pieces)))) (2 ^ 64 - 1)
+        more_same e = more n (size_greatest_same o v h n here greatest.0 greatest.1 greatest.2 (sym e))
+
+        -- a child whose greatest group is another: no key of k's group is in it or before it
+        module _ (r : Ordering) (compared : r ≡ R h v) (other : r ≡ Equal → ⊥) (before : List K) (ascending : IsStrictlySortedBy cmp (before ++ flatten pieces)) (below : AllBelow cmp k (before ++ flatten pieces)) (fits : length (before ++ flatten pieces) < 2 ^ 64) where
+          abbrev front : List K
+          front = before ++ flatten (take (m - 1) pieces)
+
+          abbrev back : List K
+          back = flatten (drop m pieces)
+
+          cut : before ++ flatten pieces ≡ front ++ (piece_at pieces (m - 1) ++ back)
+          cut = ap (λ t. before ++ t) (rw one_on at (flatten-cut pieces (m - 1) inside)) ∙ sym (append_assoc before (flatten (take (m - 1) pieces)) (piece_at pieces (m - 1) ++ back))
+
+          lower : R h v ≡ Less
+          lower =
+              let low = AllByRecursion-left (λ x. cmp x k ≡ Less) (piece_at pieces (m - 1)) back (AllByRecursion-right (λ x. cmp x k ≡ Less) front (piece_at pieces (m - 1) ++ back) (rw cut at below)) in
+              let upto = AllByRecursion-weaker (λ x. is_gt (R x (group_of k)) ≡ false) (λ x. is_gt (R x v) ≡ false) (λ x e. ap is_gt (alike_right o v (group_of k) x made) ∙ e) here (groups_upto cmp R group_of keeps o k (piece_at pieces (m - 1)) low) in
+              let w = witness o (λ x. is_gt (R x v) ≡ false) h here (omega (arith, greatest.1, greatest.2)) upto in
+              less_if (R h v) (ap is_gt (sym (o.congr w.0 h v w.2)) ∙ w.1) (λ e. other (compared ∙ e))
+
+          none_in_front : group_size R v (map group_of front) ≡ 0
+          none_in_front =
+              let sorted : IsStrictlySortedBy cmp (front ++ piece_at pieces (m - 1)) = sorted_left cmp (front ++ piece_at pieces (m - 1)) back (rw (append_assoc front (piece_at pieces (m - 1)) back) (rw cut at ascending)) in
+              size_before_greatest o v h (map group_of front) here (omega (arith, greatest.1, greatest.2)) lower (rw map-append at (groups_ascend cmp R group_of keeps (front ++ piece_at pieces (m - 1)) sorted))
+
+          pub stopped : group_size R (group_of k) (map group_of (before ++ flatten pieces)) ≡ carried R (group_of k) (Some (v, count))
+          stopped =
+              let none = size_greatest_below o v h n here greatest.0 greatest.1 greatest.2 lower in
+              let outer = ap (group_size R v) (map-append group_of front (piece_at pieces (m - 1) ++ back)) ∙ size-append o v (map group_of front) (map group_of (piece_at pieces (m - 1) ++ back)) in
+              let inner = ap (group_size R v) (map-append group_of (piece_at pieces (m - 1)) back) ∙ size-append o v here (map group_of back) in
+              let total = ap (λ t. group_size R v (map group_of t)) cut in
+              rw made (omega (arith, total, outer, inner, none, none_in_front, counted, size_alike o v (group_of k) made (map group_of (before ++ flatten pieces)), size-le o v (map group_of (before ++ flatten pieces)), length-map (before ++ flatten pieces) group_of, fits))

@@ -1,0 +1,32 @@
+-- Where a group begins, and what a rank says of a key among the keys of its group.
+use Rattle.std.specs.Prelude.{◌≡◌, ℕ, List, take, drop, false, cond, Option, Some, None}
+use Rattle.std.specs.declared.cmp.Ordering.{Ordering}
+use Rattle.std.specs.declared.cmp.Ordering.TheVariants.{Less, Equal}
+use Rattle.std.specs.Ordering.{is_eq, is_lt}
+use Rattle.std.specs.List.{AllByRecursion, filter}
+use Rattle.bptree_arguments.specs.CountLaws.{count_below}
+
+module _ {G : Type 0} (cmp : G → G → Ordering) (g : G) where
+  -- the groups before the place are below g, and those from it on are not
+  pub record IsStartOf (groups : List G) (n : ℕ) : Type 0 where
+    pub before : AllByRecursion (λ x. cmp x g ≡ Less) (take n groups)
+    pub from_there : AllByRecursion (λ x. is_lt (cmp x g) ≡ false) (drop n groups)
+
+  -- what a rank carries for g: its number where its group is equal to g, and else 0
+  abbrev pub carried : Option (G × ℕ) → ℕ
+  carried None = 0
+  carried (Some r) = cond (is_eq (cmp r.0 g)) r.1 0
+
+  -- the rank is a group equal to g, with the number n
+  abbrev pub IsInGroup : ℕ → Option (G × ℕ) → Type 0
+  IsInGroup n None = ⊥
+  IsInGroup n (Some r) = (cmp r.0 g ≡ Equal) × (r.1 ≡ n)
+
+module _ {K G : Type 0} (cmp : K → K → Ordering) (compare : G → G → Ordering) (group_of : K → G) (k : K) where
+  -- the keys that are in the group of k
+  abbrev pub keys_in_group : List K → List K
+  keys_in_group keys = filter (λ x. is_eq (compare (group_of x) (group_of k))) keys
+
+  -- a rank is the group of k, and how many keys in it are smaller than k
+  abbrev pub IsRankInGroup : List K → Option (G × ℕ) → Type 0
+  IsRankInGroup keys rank = IsInGroup compare (group_of k) (count_below cmp k (keys_in_group keys)) rank

@@ -1,0 +1,109 @@
+//! The rank of a key in its group.
+ghost use Rattle.std.specs.Prelude.{◌≡◌, ◌<◌, ◌≤◌, ◌^◌, List, [], ◌++◌, length, map, Ok, None, is_ok, IfOk, MatchResult};
+ghost use Rattle.std.specs.List.{AllZip};
+ghost use Rattle.std.specs.List.Sorted.{IsStrictlySortedBy};
+ghost use Rattle.bptree_arguments.specs.GroupAnswers.{IsInGroup, IsRankInGroup, carried};
+ghost use Rattle.bptree_arguments.specs.Groups.{IsGroupSummary, group_size};
+ghost use Rattle.bptree_arguments.specs.Ranks.{AllAbove, AllBelow, IsSlotOf};
+ghost use Rattle.bptree_keys.specs.Pieces.{AllNonEmpty, flatten};
+
+use crate::argument::RankArgument;
+use crate::group::{FromRef, GroupCount};
+use crate::group_order::keys_before_group;
+use bptree_keys::key::Key;
+use std::alloc::AllocError;
+use std::cmp::Ordering;
+
+/// The number in a rank, where that is of the group, and else 0.
+fn carried_for<G: Key>(rank: Option<(G, usize)>, group: &G) -> usize
+    ensures { result ≡ carried G.cmp group.now rank }
+{
+    match rank {
+        None => 0,
+        Some((of_rank, count)) => { if of_rank.cmp(group).is_eq() { count } else { 0 } }
+    }
+}
+
+/// The group of a key, with the number of keys in it among the smaller ones: those of the key's leaf, and where none of
+/// these is of a lesser group, those that the rank carries too.
+fn ranked_after<K: Key, G: FromRef<K> + Key>(
+    k: &K,
+    rank: Option<(G, usize)>,
+    smaller: &[K],
+) -> Result<(G, usize), AllocError>
+    ensures group { IfOk result (λ r. G.cmp r.0 (G.group_of k.now) ≡ Ordering.Equal) }
+    ensures counted { IfOk result (λ r. (before : List K) → IsStrictlySortedBy K.cmp (before ++ smaller.now) → AllBelow K.cmp k.now smaller.now → length (before ++ smaller.now) < 2 ^ 64 → group_size G.cmp (G.group_of k.now) (map G.group_of before) ≡ carried G.cmp (G.group_of k.now) rank → r.1 ≡ group_size G.cmp (G.group_of k.now) (map G.group_of (before ++ smaller.now))) }
+    ensures empty { smaller.now ≡ [] → IfOk result (λ r. r.1 ≡ carried G.cmp (G.group_of k.now) rank) }
+{
+    let group = G::from_ref(k)?;
+    let start = keys_before_group(smaller, &group)?;
+    let count = smaller.len() - start;
+    if start > 0 {
+        return Ok((group, count));
+    }
+    let before = carried_for(rank, &group);
+    Ok((group, count.saturating_add(before)))
+}
+
+/// The rank of a key is its group, with the number of smaller keys of that group. Before any key there is none.
+impl<K: Key, G: FromRef<K> + Key> RankArgument<K> for GroupCount<G> {
+    type Rank = Option<(G, usize)>;
+
+    ghost stands_for = { λ rank k before. group_size G.cmp (G.group_of k) (map G.group_of before) ≡ carried G.cmp (G.group_of k) rank };
+
+    ghost ranks = { λ k keys rank. IsRankInGroup K.cmp G.cmp G.group_of k keys rank };
+
+    fn initial_value() -> Option<(G, usize)>
+        ensures stands { (k : K) → group_size G.cmp (G.group_of k) (map G.group_of []) ≡ carried G.cmp (G.group_of k) result }
+        ensures none { result ≡ None }
+    {
+        None
+    }
+
+    /// From the last child backwards, up to the first whose greatest group is below the key's: at most one step a child.
+    /// A sum stops at the greatest `usize`, which no list of keys is longer than.
+    fn fold_inner(
+        k: &K,
+        rank: Option<(G, usize)>,
+        arguments: &[Self],
+    ) -> Result<Option<(G, usize)>, AllocError>
+        ensures carries { IfOk result (λ next. (before : List K) (pieces : List (List K)) → AllNonEmpty pieces → AllZip (λ a keys. IsGroupSummary G.cmp a (map G.group_of keys)) arguments.now pieces → IsStrictlySortedBy K.cmp (before ++ flatten pieces) → AllBelow K.cmp k.now (before ++ flatten pieces) → length (before ++ flatten pieces) < 2 ^ 64 → group_size G.cmp (G.group_of k.now) (map G.group_of before) ≡ carried G.cmp (G.group_of k.now) rank → group_size G.cmp (G.group_of k.now) (map G.group_of (before ++ flatten pieces)) ≡ carried G.cmp (G.group_of k.now) next) }
+        ensures unchanged { arguments.now ≡ [] → result ≡ Ok rank }
+    {
+        if arguments.is_empty() {
+            return Ok(rank);
+        }
+        let group = G::from_ref(k)?;
+        let mut count = 0usize;
+        for i in (0..arguments.len()).rev() {
+            match arguments[i].max_group() {
+                None => {}
+                Some((greatest, size)) => match greatest.cmp(&group) {
+                    Ordering::Equal => count = count.saturating_add(size),
+                    _ => return Ok(Some((group, count))),
+                },
+            }
+        }
+        count = count.saturating_add(carried_for(rank, &group));
+        Ok(Some((group, count)))
+    }
+
+    /// Of 64 keys it makes the groups of at most 7, and that of the key.
+    fn fold_leaf(
+        k: &K,
+        rank: Option<(G, usize)>,
+        slot: Result<usize, usize>,
+        keys: &[K],
+    ) -> Result<Result<Option<(G, usize)>, Option<(G, usize)>>, AllocError>
+        requires few { length keys.now ≤ 64 }
+        requires placed { IsSlotOf K.cmp k.now keys.now slot }
+        ensures variant { IfOk result (λ answer. is_ok answer ≡ is_ok slot) }
+        ensures ranked { IfOk result (λ answer. (before after : List K) → IsStrictlySortedBy K.cmp (before ++ (keys.now ++ after)) → AllBelow K.cmp k.now before → AllAbove K.cmp k.now after → length (before ++ (keys.now ++ after)) < 2 ^ 64 → group_size G.cmp (G.group_of k.now) (map G.group_of before) ≡ carried G.cmp (G.group_of k.now) rank → MatchResult answer (IsRankInGroup K.cmp G.cmp G.group_of k.now (before ++ (keys.now ++ after))) (IsRankInGroup K.cmp G.cmp G.group_of k.now (before ++ (keys.now ++ after)))) }
+        ensures empty { keys.now ≡ [] → IfOk result (λ answer. MatchResult answer (λ _. ⊥) (IsInGroup G.cmp (G.group_of k.now) (carried G.cmp (G.group_of k.now) rank))) }
+    {
+        match slot {
+            Ok(i) => Ok(Ok(Some(ranked_after(k, rank, &keys[..i])?))),
+            Err(i) => Ok(Err(Some(ranked_after(k, rank, &keys[..i])?))),
+        }
+    }
+}

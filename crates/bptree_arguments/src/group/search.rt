@@ -1,0 +1,58 @@
+//! A key by its place in its group.
+ghost use Rattle.std.specs.Prelude.{map};
+ghost use Rattle.bptree_arguments.specs.Groups.{SelectsInGroup};
+
+use crate::argument::SearchArgument;
+use crate::group::{FromRef, GroupCount};
+use crate::group_order::keys_before_group;
+use bptree_keys::key::Key;
+use std::alloc::AllocError;
+use std::cmp::Ordering;
+
+/// A query is a group and a place in it: it selects the key there, or none where the group has no more keys.
+impl<K: Key, G: FromRef<K> + Key> SearchArgument<K> for GroupCount<G> {
+    type Query = (G, usize);
+
+    ghost selects = { λ query keys place. SelectsInGroup G.cmp query.0 query.1 (map G.group_of keys) place };
+
+    /// Of 64 keys it makes the groups of at most 8.
+    fn locate_in_leaf(query: (G, usize), keys: &[K]) -> Result<Option<usize>, AllocError> {
+        let (group, offset) = query;
+        let start = keys_before_group(keys, &group)?;
+        if offset < keys.len() - start {
+            let place = start + offset;
+            let of_key = G::from_ref(&keys[place])?;
+            if of_key.cmp(&group).is_eq() {
+                return Ok(Some(place));
+            }
+        }
+        Ok(None)
+    }
+
+    /// The child in which the key lies, and the query's group with the place in it there. At most one step a child, up to
+    /// the first whose greatest group is above the query's.
+    fn locate_in_inner(
+        query: (G, usize),
+        _keys: &[K],
+        arguments: &[Self],
+    ) -> Result<Option<(usize, (G, usize))>, AllocError> {
+        let (group, offset) = query;
+        let mut rest = offset;
+        for (i, argument) in arguments.iter().enumerate() {
+            match argument.max_group() {
+                None => {}
+                Some((greatest, size)) => match greatest.cmp(&group) {
+                    Ordering::Less => {}
+                    Ordering::Equal => {
+                        if rest < size {
+                            return Ok(Some((i, (group, rest))));
+                        }
+                        rest -= size;
+                    }
+                    Ordering::Greater => return Ok(Some((i, (group, rest)))),
+                },
+            }
+        }
+        Ok(None)
+    }
+}

@@ -1,0 +1,136 @@
+-- The items of a group among keys.
+use Rattle.std.proofs.Common.{◌≡◌, ℕ, zero, suc, ◌+◌, ◌<◌, ◌≤◌, List, [], ◌∷◌, ◌++◌, length, map, take, Option, Some, None, Result, Ok, Err, MatchOption, MatchResult, IfOk, IfErr, IfSome, Bool, true, false, cond, ◌&&◌, refl, sym, ap, ◌∙◌, arith, append-nil}
+use Rattle.std.specs.Prelude.{is_ok, slice_get}
+use Rattle.std.specs.Option.{option_map}
+use Rattle.std.specs.declared.cmp.Ordering.{Ordering}
+use Rattle.std.specs.declared.cmp.Ordering.TheVariants.{Equal}
+use Rattle.std.specs.Ordering.{is_eq, is_lt}
+use Rattle.std.specs.List.{HoldsAt, filter}
+use Rattle.std.proofs.Math.Bool.{and-true, and-false}
+use Rattle.std.proofs.lemmas.Bool.{true≢false}
+use Rattle.std.proofs.lemmas.List.{get_or-map, length-map, take-map}
+use Rattle.std.proofs.lemmas.Option.{slice_get_past}
+use Rattle.bptree_arguments.specs.Groups.{group_size, SelectsInGroup}
+use Rattle.bptree_arguments.specs.Selection.{IsPlaceIn, LeadsTo, moved_by}
+use Rattle.bptree_arguments.specs.GroupAnswers.{IsInGroup, IsRankInGroup}
+
+-- an element that passes a test is the item, among those that pass, after as many as pass before it
+item_at : {X : Type 0} (p : X → Bool) (xs : List X) (i : ℕ) → i < length xs → HoldsAt (λ x. p x ≡ true) xs i → slice_get xs i ≡ slice_get (filter p xs) (length (filter p (take i xs)))
+item_at p [] i l h = absurd (omega arith)
+item_at p (x ∷ xs) zero l h = rw (h x) refl
+item_at p (x ∷ xs) (suc i) l h = let small : i < length xs = omega arith in by (p x) (item_at p xs i small h) where
+  by : (b : Bool) → slice_get xs i ≡ slice_get (filter p xs) (length (filter p (take i xs))) → slice_get xs i ≡ slice_get (cond b (x ∷ filter p xs) (filter p xs)) (length (cond b (x ∷ filter p (take i xs)) (filter p (take i xs))))
+  by true e = e
+  by false e = e
+
+-- a place within has an element
+present : {X : Type 0} (xs : List X) (i : ℕ) → i < length xs → slice_get xs i ≡ None → ⊥
+present [] i l e = absurd (omega arith)
+present (x ∷ xs) zero l e = cc
+present (x ∷ xs) (suc i) l e = let small : i < length xs = omega arith in present xs i small e
+
+module _ {K G : Type 0} (R : G → G → Ordering) (group_of : K → G) (g : G) where
+  -- the size of a group is the number of its keys
+  sizes : (keys : List K) → group_size R g (map group_of keys) ≡ length (filter (λ x. is_eq (R (group_of x) g)) keys)
+  sizes [] = refl
+  sizes (x ∷ xs) = by (is_eq (R (group_of x) g)) (sizes xs) where
+    by : (b : Bool) → group_size R g (map group_of xs) ≡ length (filter (λ y. is_eq (R (group_of y) g)) xs) → length (cond b (group_of x ∷ filter (λ y. is_eq (R y g)) (map group_of xs)) (filter (λ y. is_eq (R y g)) (map group_of xs))) ≡ length (cond b (x ∷ filter (λ y. is_eq (R (group_of y) g)) xs) (filter (λ y. is_eq (R (group_of y) g)) xs))
+    by true e = ap suc e
+    by false e = e
+
+  -- the key at a place that is selected
+  module _ (n : ℕ) (keys : List K) (i : ℕ) (s : SelectsInGroup R g n (map group_of keys) (Some i)) where
+    pub selected_within : i < length keys
+    selected_within = omega (arith, s.0, length-map keys group_of)
+
+    pub selected_of_group : HoldsAt (λ x. R (group_of x) g ≡ Equal) keys i
+    selected_of_group d = let l = selected_within in rw (get_or-map group_of keys i d (group_of d) l) at (s.1 (group_of d))
+
+    pub selected_after : length (filter (λ x. is_eq (R (group_of x) g)) (take i keys)) ≡ n
+    selected_after = sym (sizes (take i keys)) ∙ (ap (group_size R g) (sym (take-map group_of i keys)) ∙ s.2)
+
+    selected_item : slice_get keys i ≡ slice_get (filter (λ x. is_eq (R (group_of x) g)) keys) n
+    selected_item = rw selected_after at (item_at (λ x. is_eq (R (group_of x) g)) keys i selected_within (λ d. ap is_eq (selected_of_group d)))
+
+    selected_before_end : length (filter (λ x. is_eq (R (group_of x) g)) keys) ≤ n → ⊥
+    selected_before_end l = present keys i selected_within (selected_item ∙ slice_get_past (filter (λ x. is_eq (R (group_of x) g)) keys) n l)
+
+  -- the same of what a query answers
+  pub answer_within : (n : ℕ) (keys : List K) (place : Option ℕ) → SelectsInGroup R g n (map group_of keys) place → IfSome place (λ i. i < length keys)
+  answer_within n keys None s = tt
+  answer_within n keys (Some i) s = selected_within n keys i s
+
+  pub answer_of_group : (n : ℕ) (keys : List K) (place : Option ℕ) → SelectsInGroup R g n (map group_of keys) place → IfSome place (HoldsAt (λ x. R (group_of x) g ≡ Equal) keys)
+  answer_of_group n keys None s = tt
+  answer_of_group n keys (Some i) s = selected_of_group n keys i s
+
+  pub answer_after : (n : ℕ) (keys : List K) (place : Option ℕ) → SelectsInGroup R g n (map group_of keys) place → IfSome place (λ i. length (filter (λ x. is_eq (R (group_of x) g)) (take i keys)) ≡ n)
+  answer_after n keys None s = tt
+  answer_after n keys (Some i) s = selected_after n keys i s
+
+  pub answer_past : (n : ℕ) (keys : List K) (place : Option ℕ) → SelectsInGroup R g n (map group_of keys) place → length (filter (λ x. is_eq (R (group_of x) g)) keys) ≤ n → place ≡ None
+  answer_past n keys None s l = refl
+  answer_past n keys (Some i) s l = absurd (selected_before_end n keys i s l)
+
+  pub answer_item : (n : ℕ) (keys : List K) (place : Option ℕ) → SelectsInGroup R g n (map group_of keys) place → MatchOption place (slice_get (filter (λ x. is_eq (R (group_of x) g)) keys) n ≡ None) (λ i. slice_get keys i ≡ slice_get (filter (λ x. is_eq (R (group_of x) g)) keys) n)
+  answer_item n keys None s = slice_get_past (filter (λ x. is_eq (R (group_of x) g)) keys) n (omega (arith, s, sizes keys))
+  answer_item n keys (Some i) s = selected_item n keys i s
+
+  -- below a node of two leaves
+  module _ (n : ℕ) (left right : List K) where
+    abbrev selects : G × ℕ → List K → Option ℕ → Type 0
+    selects query keys place = SelectsInGroup R query.0 query.1 (map group_of keys) place
+
+    abbrev both : List K
+    both = left ++ right
+
+    pub none_below : LeadsTo selects (g, n) (left ∷ right ∷ []) None → slice_get (filter (λ x. is_eq (R (group_of x) g)) (left ++ right)) n ≡ None
+    none_below leads = let l : group_size R g (map group_of both) ≤ n = rw (append-nil right) at leads in answer_item n both None l
+
+    module _ (child : ℕ) (next : G × ℕ) (leads : LeadsTo selects (g, n) (left ∷ right ∷ []) (Some (child, next))) (place : Option ℕ) where
+      pub item_in_first : child ≡ 0 → IsPlaceIn left place → selects next left place → MatchOption place (slice_get (filter (λ x. is_eq (R (group_of x) g)) (left ++ right)) n ≡ None) (λ i. slice_get (left ++ right) i ≡ slice_get (filter (λ x. is_eq (R (group_of x) g)) (left ++ right)) n)
+      item_in_first e p s = by place p s where
+        whole : (found : Option ℕ) → IsPlaceIn left found → selects next left found → SelectsInGroup R g n (map group_of both) (moved_by 0 found)
+        whole found a b = rw (append-nil right) at ((rw e at leads).1 found a b)
+
+        by : (found : Option ℕ) → IsPlaceIn left found → selects next left found → MatchOption found (slice_get (filter (λ x. is_eq (R (group_of x) g)) (left ++ right)) n ≡ None) (λ i. slice_get (left ++ right) i ≡ slice_get (filter (λ x. is_eq (R (group_of x) g)) (left ++ right)) n)
+        by None a b = answer_item n both None (whole None a b)
+        by (Some i) a b = let same : 0 + i ≡ i = omega arith in answer_item n both (Some i) (rw same at (whole (Some i) a b))
+
+      pub item_in_second : (child ≡ 0 → ⊥) → IsPlaceIn right place → selects next right place → MatchOption (option_map (λ i. length left + i) place) (slice_get (filter (λ x. is_eq (R (group_of x) g)) (left ++ right)) n ≡ None) (λ i. slice_get (left ++ right) i ≡ slice_get (filter (λ x. is_eq (R (group_of x) g)) (left ++ right)) n)
+      item_in_second other p s = by place p s where
+        last : child ≡ 1
+        last = omega (arith, leads.0, other)
+
+        whole : (found : Option ℕ) → IsPlaceIn right found → selects next right found → SelectsInGroup R g n (map group_of both) (moved_by (length left) found)
+        whole found a b = rw (append-nil right, append-nil left) at ((rw last at leads).1 found a b)
+
+        by : (found : Option ℕ) → IsPlaceIn right found → selects next right found → MatchOption (option_map (λ i. length left + i) found) (slice_get (filter (λ x. is_eq (R (group_of x) g)) (left ++ right)) n ≡ None) (λ i. slice_get (left ++ right) i ≡ slice_get (filter (λ x. is_eq (R (group_of x) g)) (left ++ right)) n)
+        by None a b = answer_item n both None (whole None a b)
+        by (Some i) a b = answer_item n both (Some (length left + i)) (whole (Some i) a b)
+
+-- ---- ranks
+
+-- what passes one test and then another passes both
+filter_both : {X : Type 0} (p q : X → Bool) (xs : List X) → filter p (filter q xs) ≡ filter (λ x. p x && q x) xs
+filter_both p q [] = refl
+filter_both p q (x ∷ xs) = by (q x) (filter_both p q xs) where
+  by : (b : Bool) → filter p (filter q xs) ≡ filter (λ y. p y && q y) xs → filter p (cond b (x ∷ filter q xs) (filter q xs)) ≡ cond (p x && b) (x ∷ filter (λ y. p y && q y) xs) (filter (λ y. p y && q y) xs)
+  by true e = rw (and-true (p x), e) refl
+  by false e = rw (and-false (p x)) e
+
+module _ {K G : Type 0} (cmp : K → K → Ordering) (R : G → G → Ordering) (group_of : K → G) (k : K) (keys : List K) where
+  -- the rank in a leaf, which is the only one
+  rank_here : (rank : Option (G × ℕ)) → IsRankInGroup cmp R group_of k (keys ++ []) rank → IsInGroup R (group_of k) (length (filter (λ x. is_lt (cmp x k) && is_eq (R (group_of x) (group_of k))) keys)) rank
+  rank_here None h = h
+  rank_here (Some r) h = (h.0, (rw (append-nil keys) at h.1) ∙ ap length (filter_both (λ x. is_lt (cmp x k)) (λ x. is_eq (R (group_of x) (group_of k))) keys))
+
+  pub rank_present : (slot : Result ℕ ℕ) (answer : Result (Option (G × ℕ)) (Option (G × ℕ))) → is_ok answer ≡ is_ok slot → MatchResult answer (IsRankInGroup cmp R group_of k (keys ++ [])) (IsRankInGroup cmp R group_of k (keys ++ [])) → IfOk slot (λ _. MatchResult answer (IsInGroup R (group_of k) (length (filter (λ x. is_lt (cmp x k) && is_eq (R (group_of x) (group_of k))) keys))) (λ _. ⊥))
+  rank_present (Ok i) (Ok rank) same h = rank_here rank h
+  rank_present (Ok i) (Err rank) same h = absurd (true≢false (sym same))
+  rank_present (Err i) answer same h = tt
+
+  pub rank_absent : (slot : Result ℕ ℕ) (answer : Result (Option (G × ℕ)) (Option (G × ℕ))) → is_ok answer ≡ is_ok slot → MatchResult answer (IsRankInGroup cmp R group_of k (keys ++ [])) (IsRankInGroup cmp R group_of k (keys ++ [])) → IfErr slot (λ _. MatchResult answer (λ _. ⊥) (IsInGroup R (group_of k) (length (filter (λ x. is_lt (cmp x k) && is_eq (R (group_of x) (group_of k))) keys))))
+  rank_absent (Ok i) answer same h = tt
+  rank_absent (Err i) (Ok rank) same h = absurd (true≢false same)
+  rank_absent (Err i) (Err rank) same h = rank_here rank h

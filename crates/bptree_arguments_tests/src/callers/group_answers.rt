@@ -1,0 +1,124 @@
+//! Callers of the places and the ranks of keys in their groups.
+ghost use Rattle.std.specs.Prelude.{◌≡◌, ◌<◌, ◌≤◌, ◌∷◌, ◌++◌, [], ⊤, Ok, Some, None, length, map, slice_get, take, IfOk, IfErr, IfSome, MatchOption, MatchResult, ◌&&◌};
+ghost use Rattle.std.specs.declared.cmp.Ordering.TheVariants.{Equal};
+ghost use Rattle.std.specs.Ordering.{is_eq, is_lt};
+ghost use Rattle.std.specs.List.{AllZip, HoldsAt, filter};
+ghost use Rattle.std.specs.List.Sorted.{IsStrictlySortedBy};
+ghost use Rattle.bptree_arguments.specs.GroupAnswers.{IsInGroup};
+ghost use Rattle.bptree_arguments.specs.Groups.{IsGroupSummary};
+ghost use Rattle.bptree_arguments.specs.Ranks.{IsSlotOf};
+ghost use Rattle.bptree_keys.specs.Pieces.{ArePieces};
+
+use bptree_arguments::argument::{RankArgument, SearchArgument};
+use bptree_arguments::group::{FromRef, GroupCount};
+use bptree_keys::key::Key;
+use std::alloc::AllocError;
+
+// The key at the place is of the group, and as many keys of the group stand before it as the place in the group says.
+// Past the last key of the group there is no place.
+fn finds_a_key_of_the_group<K: Key, G: FromRef<K> + Key>(
+    group: G,
+    place: usize,
+    keys: &[K],
+) -> Result<Option<usize>, AllocError>
+    requires few { length keys.now ≤ 64 }
+    requires ascending { IsStrictlySortedBy K.cmp keys.now }
+    ensures within { IfOk result (λ found. IfSome found (λ i. i < length keys.now)) }
+    ensures of_group { IfOk result (λ found. IfSome found (HoldsAt (λ x. G.cmp (G.group_of x) group ≡ Equal) keys.now)) }
+    ensures before { IfOk result (λ found. IfSome found (λ i. length (filter (λ x. is_eq (G.cmp (G.group_of x) group)) (take i keys.now)) ≡ place)) }
+    ensures past { length (filter (λ x. is_eq (G.cmp (G.group_of x) group)) keys.now) ≤ place → IfOk result (λ found. found ≡ None) }
+{
+    let found = <GroupCount<G> as SearchArgument<K>>::locate_in_leaf((group, place), keys)?;
+    Ok(found)
+}
+
+// The place that is selected is that of the item of the group's keys.
+fn finds_the_item_of_the_group<K: Key, G: FromRef<K> + Key>(
+    group: G,
+    place: usize,
+    keys: &[K],
+) -> Result<Option<usize>, AllocError>
+    requires few { length keys.now ≤ 64 }
+    requires ascending { IsStrictlySortedBy K.cmp keys.now }
+    ensures { IfOk result (λ found. MatchOption found (slice_get (filter (λ x. is_eq (G.cmp (G.group_of x) group)) keys.now) place ≡ None) (λ i. slice_get keys.now i ≡ slice_get (filter (λ x. is_eq (G.cmp (G.group_of x) group)) keys.now) place)) }
+{
+    let found = <GroupCount<G> as SearchArgument<K>>::locate_in_leaf((group, place), keys)?;
+    Ok(found)
+}
+
+// Below a node of two leaves, the leaf to which the node leads has the item of the group's keys in both.
+fn finds_the_item_below_a_node<K: Key, G: FromRef<K> + Key>(
+    group: G,
+    place: usize,
+    left: &[K],
+    separators: &[K],
+    right: &[K],
+    arguments: &[GroupCount<G>],
+) -> Result<Option<usize>, AllocError>
+    requires few { length left.now ≤ 64 }
+    requires few_too { length right.now ≤ 64 }
+    requires pieces { ArePieces K.cmp (left.now ∷ right.now ∷ []) }
+    requires summaries { AllZip (λ a keys. IsGroupSummary G.cmp a (map G.group_of keys)) arguments.now (left.now ∷ right.now ∷ []) }
+    ensures { IfOk result (λ found. MatchOption found (slice_get (filter (λ x. is_eq (G.cmp (G.group_of x) group)) (left.now ++ right.now)) place ≡ None) (λ i. slice_get (left.now ++ right.now) i ≡ slice_get (filter (λ x. is_eq (G.cmp (G.group_of x) group)) (left.now ++ right.now)) place)) }
+{
+    let query = (group, place);
+    match <GroupCount<G> as SearchArgument<K>>::locate_in_inner(query, separators, arguments)? {
+        None => Ok(None),
+        Some((child, rest)) => {
+            if child == 0 {
+                let found = <GroupCount<G> as SearchArgument<K>>::locate_in_leaf(rest, left)?;
+                return Ok(found);
+            }
+            match <GroupCount<G> as SearchArgument<K>>::locate_in_leaf(rest, right)? {
+                None => Ok(None),
+                Some(i) => Ok(Some(left.len() + i)),
+            }
+        }
+    }
+}
+
+// Before any key there is no rank, and over no child a rank is carried as it is.
+fn ranks_nothing<K: Key, G: FromRef<K> + Key>() -> Option<(G, usize)>
+    ensures { result ≡ None }
+{
+    <GroupCount<G> as RankArgument<K>>::initial_value()
+}
+
+fn carries_the_rank_over_no_child<K: Key, G: FromRef<K> + Key>(
+    k: &K,
+    rank: Option<(G, usize)>,
+    arguments: &[GroupCount<G>],
+) -> Result<Option<(G, usize)>, AllocError>
+    requires { arguments.now ≡ [] }
+    ensures { result ≡ Ok rank }
+{
+    <GroupCount<G> as RankArgument<K>>::fold_inner(k, rank, arguments)
+}
+
+// The rank in one leaf is the key's group, and how many keys are in it and smaller: `Ok` where the key is present, and
+// `Err` where it is absent.
+fn ranks_in_a_leaf<K: Key, G: FromRef<K> + Key>(
+    k: &K,
+    slot: Result<usize, usize>,
+    keys: &[K],
+) -> Result<Result<Option<(G, usize)>, Option<(G, usize)>>, AllocError>
+    requires few { length keys.now ≤ 64 }
+    requires ascending { IsStrictlySortedBy K.cmp keys.now }
+    requires placed { IsSlotOf K.cmp k.now keys.now slot }
+    ensures present { IfOk slot (λ _. IfOk result (λ answer. MatchResult answer (IsInGroup G.cmp (G.group_of k.now) (length (filter (λ x. is_lt (K.cmp x k.now) && is_eq (G.cmp (G.group_of x) (G.group_of k.now))) keys.now))) (λ _. ⊥))) }
+    ensures absent { IfErr slot (λ _. IfOk result (λ answer. MatchResult answer (λ _. ⊥) (IsInGroup G.cmp (G.group_of k.now) (length (filter (λ x. is_lt (K.cmp x k.now) && is_eq (G.cmp (G.group_of x) (G.group_of k.now))) keys.now))))) }
+{
+    let start = <GroupCount<G> as RankArgument<K>>::initial_value();
+    let answer = <GroupCount<G> as RankArgument<K>>::fold_leaf(k, start, slot, keys)?;
+    Ok(answer)
+}
+
+// In an empty leaf it is the key's group with no key before it.
+fn ranks_in_an_empty_leaf<K: Key, G: FromRef<K> + Key>(
+    k: &K,
+) -> Result<Result<Option<(G, usize)>, Option<(G, usize)>>, AllocError>
+    ensures { IfOk result (λ answer. MatchResult answer (λ _. ⊥) (IsInGroup G.cmp (G.group_of k.now) 0)) }
+{
+    let start = <GroupCount<G> as RankArgument<K>>::initial_value();
+    <GroupCount<G> as RankArgument<K>>::fold_leaf(k, start, Err(0), &[])
+}
