@@ -1,9 +1,14 @@
 //! Callers of visits.
-ghost use Rattle.std.specs.Prelude.{◌≡◌, IfOk, IfErr};
+ghost use Rattle.std.specs.Prelude.{◌≡◌, IfOk, IfErr, Some, length};
+ghost use Rattle.std.specs.Map.{keys_of};
+ghost use Rattle.bptree_arguments.specs.Groups.{group};
 ghost use Rattle.bptree_arguments.specs.Visits.{answered, invalid_child};
 ghost use Rattle.bptree_arguments.specs.declared.visit.DescendError.TheVariants.{OutOfMemory};
 
+use bptree_arguments::group::{FromRef, GroupCount, laws_of_groups};
+use bptree_arguments::group_size::ExtractGroupSize;
 use bptree_arguments::visit::{DescendError, DescendVisit};
+use bptree_keys::key::Key;
 use bptree_stores::node_stores::NodeStore;
 use bptree_tree::BPlusTree;
 
@@ -26,4 +31,18 @@ fn visits_children<S: NodeStore, W: DescendVisit<S::K, S::V, S::Argument>>(
     ensures { IfErr result (λ error. error ≡ OutOfMemory) }
 {
     tree.descend_visit(visitor)
+}
+
+// The keys of a group are counted, 0 where there is none, and no child is missed.
+fn sizes_a_group<G: FromRef<S::K> + Key, S: NodeStore<Argument = GroupCount<G>>>(
+    tree: &BPlusTree<S>,
+    g: G,
+) -> Result<Option<usize>, DescendError>
+    ensures counted { IfOk result (λ size. size ≡ Some (length (group G.cmp G.group_of g (keys_of tree.now.contents)))) }
+    ensures refused { IfErr result (λ error. error ≡ OutOfMemory) }
+{
+    laws_of_groups::<S::K, G>();
+    // Read, so that it is known to fit.
+    let _len = tree.len();
+    tree.descend_visit(ExtractGroupSize::new(g))
 }

@@ -4,5 +4,8 @@
 #[cfg(test)]
 mod callers;
 #[cfg(test)]
+mod group_tests;
+pub mod guarded;
+#[cfg(test)]
 mod visit_tests;
 pub mod visitors;
