@@ -7,6 +7,7 @@ use std::alloc::{AllocError, Global};
 use std::process::ExitCode;
 use std::time::Instant;
 use sweep_bptree::tree::count::Count;
+use sweep_bptree::tree::group::{ExtractGroupSize, GroupCount, Tuple2};
 use sweep_bptree::tree::{Argument, BPlusTree, NodeStoreVec};
 
 type Tree<A> = BPlusTree<NodeStoreVec<u64, u64, A>>;
@@ -173,12 +174,114 @@ fn counted(rt: &HostRuntime, tree: &Tree<Count>, keys: &[u64]) {
     }
 }
 
+type Pair = (u64, u64);
+
+type Groups = BPlusTree<NodeStoreVec<Pair, u64, GroupCount<Tuple2<u64>>>>;
+
+// Keys in groups of 500.
+fn in_groups(alloc: Global, numbers: &[u64]) -> Result<Groups, ()> {
+    let Ok(mut tree) = BPlusTree::new(NodeStoreVec::new(alloc)) else {
+        return Err(());
+    };
+    for number in numbers {
+        if tree
+            .insert((*number / 500, *number % 500), *number)
+            .is_err()
+        {
+            return Err(());
+        }
+    }
+    Ok(tree)
+}
+
+fn get_in_groups(tree: &Groups, numbers: &[u64]) -> u64 {
+    let mut sum = 0u64;
+    for number in numbers {
+        if let Some(value) = tree.get(&(*number / 500, *number % 500)) {
+            sum = sum.wrapping_add(*value);
+        }
+    }
+    sum
+}
+
+fn place_in_groups(tree: &Groups, numbers: &[u64]) -> Result<u64, AllocError> {
+    let mut sum = 0u64;
+    for number in numbers {
+        let place = (*number % 500) as usize;
+        if let Some((_, value)) = tree.get_by_argument((Tuple2(*number / 500), place))? {
+            sum = sum.wrapping_add(*value);
+        }
+    }
+    Ok(sum)
+}
+
+fn rank_in_groups(tree: &Groups, numbers: &[u64]) -> Result<u64, AllocError> {
+    let mut sum = 0u64;
+    for number in numbers {
+        if let Ok(Some((_, rank))) = tree.rank_by_argument(&(*number / 500, *number % 500))? {
+            sum = sum.wrapping_add(rank as u64);
+        }
+    }
+    Ok(sum)
+}
+
+fn size_groups(tree: &Groups, numbers: &[u64]) -> u64 {
+    let mut sum = 0u64;
+    for number in numbers {
+        if let Ok(Some(size)) = tree.descend_visit(ExtractGroupSize::new(Tuple2(*number / 500))) {
+            sum = sum.wrapping_add(size as u64);
+        }
+    }
+    sum
+}
+
+// The numbers are all those below their number, in two orders.
+fn grouped(rt: &HostRuntime, numbers: &[u64], others: &[u64]) {
+    let many = numbers.len();
+    let Ok(start) = Instant::now(rt) else {
+        return;
+    };
+    let Ok(tree) = in_groups(rt.alloc(), numbers) else {
+        return;
+    };
+    tell(rt, "groups", "insert", start, many, 0);
+    if let Ok(start) = Instant::now(rt) {
+        let sum = get_in_groups(&tree, others);
+        tell(rt, "groups", "get", start, many, sum);
+    }
+    if let Ok(start) = Instant::now(rt) {
+        if let Ok(sum) = place_in_groups(&tree, others) {
+            tell(rt, "groups", "at", start, many, sum);
+        }
+    }
+    if let Ok(start) = Instant::now(rt) {
+        if let Ok(sum) = rank_in_groups(&tree, others) {
+            tell(rt, "groups", "rank", start, many, sum);
+        }
+    }
+    if let Ok(start) = Instant::now(rt) {
+        let sum = size_groups(&tree, others);
+        tell(rt, "groups", "size", start, many, sum);
+    }
+}
+
+fn numbers_below(alloc: Global, many: usize) -> Result<Vec<u64>, AllocError> {
+    let mut numbers = Vec::with_capacity(alloc, many)?;
+    for number in 0..many {
+        numbers.push(number as u64)?;
+    }
+    Ok(numbers)
+}
+
 fn rounds(rt: &HostRuntime, pairs: usize, rounds: usize) -> Result<(), AllocError> {
     let keys = odd_numbers(rt.alloc(), pairs)?;
     let others = shuffled(rt.alloc(), &keys)?;
     let mut sorted = keys.to_vec(rt.alloc())?;
     sorted.sort_unstable();
+    let numbers = shuffled(rt.alloc(), &numbers_below(rt.alloc(), pairs)?)?;
+    let again = shuffled(rt.alloc(), &numbers)?;
     for _ in 0..rounds {
+        grouped(rt, &numbers, &again);
         if let Some(mut tree) = filled::<()>(rt, "plain", &keys, &others, &sorted) {
             emptied(rt, "plain", &mut tree, &others);
         }

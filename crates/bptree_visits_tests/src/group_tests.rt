@@ -1,10 +1,7 @@
 //! Trees that keep groups of keys.
 use crate::guarded::Guarded;
-use bptree_arguments::argument::{RankArgument, SearchArgument};
-use bptree_arguments::group::{FromRef, GroupCount, Tuple2};
+use bptree_arguments::group::{GroupCount, Tuple2};
 use bptree_arguments::group_size::ExtractGroupSize;
-use bptree_arguments::visit::DescendError;
-use bptree_keys::key::Key;
 use bptree_stores::node_store_vec::NodeStoreVec;
 use bptree_stores::node_stores::NodeStore;
 use bptree_tree::BPlusTree;
@@ -19,199 +16,164 @@ fn put<S: NodeStore<K = Pair, V = u64>>(tree: &mut BPlusTree<S>, key: Pair) -> b
     matches!(tree.insert(key, value), Ok(None))
 }
 
-// A tree of some keys, one after another.
-fn tree_of<S: NodeStore<K = Pair, V = u64>>(
-    alloc: Global,
-    keys: &[Pair],
-) -> Result<BPlusTree<S>, AllocError> {
-    let mut tree = BPlusTree::new(S::empty(alloc))?;
+// Removes a key that is there.
+fn take<S: NodeStore<K = Pair, V = u64>>(tree: &mut BPlusTree<S>, key: Pair) -> bool {
+    let (_, value) = key;
+    match tree.remove(&key) {
+        Ok(Some(old)) => old == value,
+        _ => false,
+    }
+}
+
+fn new_tree<S: NodeStore<K = Pair, V = u64>>(alloc: Global) -> Result<BPlusTree<S>, AllocError> {
+    BPlusTree::new(S::empty(alloc))
+}
+
+fn put_all<S: NodeStore<K = Pair, V = u64>>(tree: &mut BPlusTree<S>, keys: &[Pair]) -> bool {
+    let mut all = true;
     for key in keys {
-        if !put(&mut tree, *key) {
-            return Err(AllocError);
-        }
+        all = put(tree, *key) && all;
     }
-    Ok(tree)
+    all
 }
 
-// Those of a number of keys whose first part is their place by 500, and whose second is what is left.
-fn five_hundreds<S: NodeStore<K = Pair, V = u64>>(
-    alloc: Global,
+// So many keys whose first part is their place by 500, and whose second is what is left.
+fn put_by_five_hundreds<S: NodeStore<K = Pair, V = u64>>(
+    tree: &mut BPlusTree<S>,
     len: u64,
-) -> Result<BPlusTree<S>, AllocError> {
-    let mut tree = BPlusTree::new(S::empty(alloc))?;
+) -> bool {
+    let mut all = true;
     for i in 0..len {
-        if !put(&mut tree, (i / 500, i % 500)) {
-            return Err(AllocError);
-        }
+        all = put(tree, (i / 500, i % 500)) && all;
     }
-    Ok(tree)
+    all
 }
 
-// The value at a place of a group.
-fn value_at<G: FromRef<Pair> + Key, S: NodeStore<K = Pair, V = u64, Argument = GroupCount<G>>>(
-    tree: &BPlusTree<S>,
-    group: G,
-    place: usize,
-) -> Result<Option<u64>, AllocError> {
-    match tree.get_by_argument((group, place))? {
-        Some((_, value)) => Ok(Some(*value)),
-        None => Ok(None),
+type Grouped = NodeStoreVec<Pair, u64, GroupCount<Tuple2<u64>>>;
+
+// Whether so many groups are there.
+fn has_groups(tree: &BPlusTree<Grouped>, wanted: usize) -> bool {
+    let summary = tree.root_argument();
+    summary.group_count() == wanted && summary.is_zero() == (wanted == 0)
+}
+
+// Whether a group has so many keys.
+fn has_size(tree: &BPlusTree<Grouped>, group: u64, wanted: usize) -> bool {
+    match tree.descend_visit(ExtractGroupSize::new(Tuple2(group))) {
+        Ok(Some(size)) => size == wanted,
+        _ => false,
     }
 }
 
-// Whether a key is there, its group, and how many smaller keys that group has.
-fn rank<S: NodeStore<K = Pair, V = u64, Argument = GroupCount<Tuple2<u64>>>>(
-    tree: &BPlusTree<S>,
-    key: Pair,
-) -> Result<Option<(bool, u64, usize)>, AllocError> {
-    Ok(match tree.rank_by_argument(&key)? {
-        Ok(Some((group, count))) => Some((true, group.0, count)),
-        Err(Some((group, count))) => Some((false, group.0, count)),
-        _ => None,
-    })
+// Whether this value stands at a place of a group.
+fn has_place(tree: &BPlusTree<Grouped>, group: u64, place: usize, wanted: u64) -> bool {
+    match tree.get_by_argument((Tuple2(group), place)) {
+        Ok(Some((_, value))) => *value == wanted,
+        _ => false,
+    }
 }
 
-fn size<S: NodeStore<K = Pair, V = u64, Argument = GroupCount<Tuple2<u64>>>>(
-    tree: &BPlusTree<S>,
-    group: u64,
-) -> Result<Option<usize>, DescendError> {
-    tree.descend_visit(ExtractGroupSize::new(Tuple2(group)))
+fn has_no_place(tree: &BPlusTree<Grouped>, group: u64, place: usize) -> bool {
+    matches!(tree.get_by_argument((Tuple2(group), place)), Ok(None))
 }
 
-fn are_ranked<S: NodeStore<K = Pair, V = u64, Argument = GroupCount<Tuple2<u64>>>>(
-    alloc: Global,
-) -> Result<bool, AllocError> {
-    let none: BPlusTree<S> = tree_of(alloc, &[])?;
-    let tree: BPlusTree<S> = tree_of(alloc, &[(1, 1), (1, 2), (1, 3), (2, 4), (3, 5)])?;
-    let mut all = rank(&none, (4, 1))? == Some((false, 4, 0));
-    for (key, wanted) in [
-        ((1, 0), (false, 1, 0)),
-        ((1, 1), (true, 1, 0)),
-        ((1, 3), (true, 1, 2)),
-        ((1, 4), (false, 1, 3)),
-        ((2, 3), (false, 2, 0)),
-        ((5, 0), (false, 5, 0)),
+// Whether a key is there, or not, and its group has so many smaller keys.
+fn has_rank(tree: &BPlusTree<Grouped>, key: Pair, present: bool, wanted: usize) -> bool {
+    let (first, _) = key;
+    match tree.rank_by_argument(&key) {
+        Ok(Ok(Some((group, count)))) => present && group.0 == first && count == wanted,
+        Ok(Err(Some((group, count)))) => !present && group.0 == first && count == wanted,
+        _ => false,
+    }
+}
+
+fn are_ranked(alloc: Global) -> Result<bool, AllocError> {
+    let mut tree = new_tree(alloc)?;
+    let mut all = has_rank(&tree, (4, 1), false, 0)
+        && put_all(&mut tree, &[(1, 1), (1, 2), (1, 3), (2, 4), (3, 5)]);
+    for (key, present, wanted) in [
+        ((1, 0), false, 0),
+        ((1, 1), true, 0),
+        ((1, 3), true, 2),
+        ((1, 4), false, 3),
+        ((2, 3), false, 0),
+        ((5, 0), false, 0),
     ] {
-        all = all && rank(&tree, key)? == Some(wanted);
+        all = all && has_rank(&tree, key, present, wanted);
     }
     Ok(all)
 }
 
 // Groups 0 and 1 have 500 keys each, and group 2 has 50.
-fn are_sized<S: NodeStore<K = Pair, V = u64, Argument = GroupCount<Tuple2<u64>>>>(
-    alloc: Global,
-) -> Result<bool, AllocError> {
-    let tree: BPlusTree<S> = five_hundreds(alloc, 1050)?;
-    let mut all = group_count(&tree) == 3;
+fn are_sized(alloc: Global) -> Result<bool, AllocError> {
+    let mut tree = new_tree(alloc)?;
+    let mut all = put_by_five_hundreds(&mut tree, 1050) && has_groups(&tree, 3);
     for (group, wanted) in [(0, 500), (1, 500), (2, 50), (7, 0)] {
-        all = all && size(&tree, group) == Ok(Some(wanted));
+        all = all && has_size(&tree, group, wanted) && has_no_place(&tree, group, wanted);
     }
-    for (group, place, wanted) in [
-        (0, 499, Some(499)),
-        (1, 0, Some(0)),
-        (2, 49, Some(49)),
-        (2, 50, None),
-        (7, 0, None),
-    ] {
-        all = all && value_at(&tree, Tuple2(group), place)? == wanted;
+    for (group, place, wanted) in [(0, 499, 499), (1, 0, 0), (2, 49, 49)] {
+        all = all && has_place(&tree, group, place, wanted);
     }
-    Ok(all && rank(&tree, (1, 250))? == Some((true, 1, 250)))
+    Ok(all && has_rank(&tree, (1, 250), true, 250))
 }
 
-fn group_count<S: NodeStore<K = Pair, V = u64, Argument = GroupCount<Tuple2<u64>>>>(
-    tree: &BPlusTree<S>,
-) -> usize {
-    tree.root_argument().group_count()
+// One pair comes and goes, and no group is left; then two pairs are one group.
+fn one_group_comes_and_goes(alloc: Global) -> Result<bool, AllocError> {
+    let mut tree = new_tree(alloc)?;
+    let mut all = has_groups(&tree, 0) && has_size(&tree, 1, 0) && put(&mut tree, (1, 100));
+    all = all && has_groups(&tree, 1) && take(&mut tree, (1, 100)) && has_groups(&tree, 0);
+    all = all && put_all(&mut tree, &[(1, 100), (1, 101)]) && has_groups(&tree, 1);
+    all = all && has_size(&tree, 1, 2) && has_place(&tree, 1, 0, 100) && has_no_place(&tree, 1, 3);
+    Ok(all && has_rank(&tree, (1, 0), false, 0))
 }
-
-// One pair comes and goes, and no group is left.
-fn one_pair_comes_and_goes<S: NodeStore<K = Pair, V = u64, Argument = GroupCount<Tuple2<u64>>>>(
-    tree: &mut BPlusTree<S>,
-) -> Result<bool, AllocError> {
-    let mut all = group_count(tree) == 0 && size(tree, 1) == Ok(Some(0)) && put(tree, (1, 1));
-    all = all && group_count(tree) == 1 && tree.remove(&(1, 1))? == Some(1);
-    Ok(all && group_count(tree) == 0)
-}
-
-fn two_pairs_are_one_group<S: NodeStore<K = Pair, V = u64, Argument = GroupCount<Tuple2<u64>>>>(
-    tree: &mut BPlusTree<S>,
-) -> Result<bool, AllocError> {
-    let all = put(tree, (1, 100)) && put(tree, (1, 101)) && group_count(tree) == 1;
-    Ok(
-        all && size(tree, 1) == Ok(Some(2))
-            && value_at(tree, Tuple2(1), 0)? == Some(100)
-            && value_at(tree, Tuple2(1), 3)?.is_none()
-            && rank(tree, (1, 0))? == Some((false, 1, 0)),
-    )
-}
-
-fn one_group_comes_and_goes<S: NodeStore<K = Pair, V = u64, Argument = GroupCount<Tuple2<u64>>>>(
-    alloc: Global,
-) -> Result<bool, AllocError> {
-    let mut tree: BPlusTree<S> = tree_of(alloc, &[])?;
-    Ok(one_pair_comes_and_goes(&mut tree)? && two_pairs_are_one_group(&mut tree)?)
-}
-
-type GroupedStore = NodeStoreVec<Pair, u64, GroupCount<Tuple2<u64>>>;
 
 #[test]
 fn keys_have_ranks_in_their_groups(rt: HostRuntime) -> Result<(), Fail> {
-    assert!(rt; are_ranked::<GroupedStore>(rt.alloc())?);
+    assert!(rt; are_ranked(rt.alloc())?);
     Ok(())
 }
 
 #[test]
 fn groups_are_counted(rt: HostRuntime) -> Result<(), Fail> {
-    assert!(rt; are_sized::<GroupedStore>(rt.alloc())?);
-    assert!(rt; one_group_comes_and_goes::<GroupedStore>(rt.alloc())?);
+    assert!(rt; are_sized(rt.alloc())?);
+    assert!(rt; one_group_comes_and_goes(rt.alloc())?);
     Ok(())
 }
 
-// Whether a tree holds as many pairs, the first and the last keys, and as many groups.
-fn holds<S: NodeStore<K = Pair, V = u64, Argument = GroupCount<Guarded>>>(
-    tree: &BPlusTree<S>,
-    len: usize,
-    last: Pair,
-    groups: usize,
-) -> bool {
+type Refused = NodeStoreVec<Pair, u64, GroupCount<Guarded>>;
+
+// Whether a tree has so many pairs, this last key, and so many groups.
+fn holds(tree: &BPlusTree<Refused>, len: usize, last: Pair, groups: usize) -> bool {
     tree.len() == len
         && tree.root_argument().group_count() == groups
         && matches!(tree.last(), Some((key, _)) if *key == last)
 }
 
-fn rank_is_refused<S: NodeStore<K = Pair, V = u64, Argument = GroupCount<Guarded>>>(
-    tree: &BPlusTree<S>,
-    key: Pair,
-) -> bool {
+fn rank_is_refused(tree: &BPlusTree<Refused>, key: Pair) -> bool {
     tree.rank_by_argument(&key).is_err()
 }
 
 // Whether no call finds the key after the first of group 1.
-fn place_is_refused<S: NodeStore<K = Pair, V = u64, Argument = GroupCount<Guarded>>>(
-    tree: &mut BPlusTree<S>,
-) -> bool {
-    value_at(tree, Guarded(1), 1).is_err()
+fn place_is_refused(tree: &mut BPlusTree<Refused>) -> bool {
+    tree.get_by_argument((Guarded(1), 1)).is_err()
         && tree.get_mut_by_argument((Guarded(1), 1)).is_err()
         && tree.remove_by_argument((Guarded(1), 1)).is_err()
 }
 
 // Of a leaf whose keys are of one group the first and the last make theirs. So a key between them that is refused its group
 // stands there, till a search comes by it.
-fn leaves_refuse<S: NodeStore<K = Pair, V = u64, Argument = GroupCount<Guarded>>>(
-    alloc: Global,
-) -> Result<bool, AllocError> {
-    let mut tree: BPlusTree<S> = tree_of(alloc, &[(1, 0), (1, 20)])?;
-    let mut all = !put(&mut tree, (2, 13)) && holds(&tree, 2, (1, 20), 1);
-    all = all && rank_is_refused(&tree, (1, 13)) && put(&mut tree, (1, 13));
-    all = all && place_is_refused(&mut tree) && rank_is_refused(&tree, (1, 15));
-    Ok(all && !put(&mut tree, (3, 1)) && holds(&tree, 3, (1, 20), 1))
+fn leaves_refuse(alloc: Global) -> Result<bool, AllocError> {
+    let mut tree = new_tree(alloc)?;
+    let mut all = put_all(&mut tree, &[(1, 0), (1, 20)]) && !put(&mut tree, (2, 13));
+    all = all && holds(&tree, 2, (1, 20), 1) && rank_is_refused(&tree, (1, 13));
+    all = all && put(&mut tree, (1, 13)) && place_is_refused(&mut tree);
+    all = all && rank_is_refused(&tree, (1, 15)) && !put(&mut tree, (3, 1));
+    Ok(all && holds(&tree, 3, (1, 20), 1))
 }
 
 // A leaf makes groups, and clones none; a node above clones the least and the greatest.
-fn inner_nodes_refuse<S: NodeStore<K = Pair, V = u64, Argument = GroupCount<Guarded>>>(
-    alloc: Global,
-) -> Result<bool, AllocError> {
-    let mut tree: BPlusTree<S> = tree_of(alloc, &[])?;
+fn inner_nodes_refuse(alloc: Global) -> Result<bool, AllocError> {
+    let mut tree = new_tree(alloc)?;
     let mut all = true;
     for i in 20..120 {
         all = put(&mut tree, (1, i)) && all;
@@ -222,7 +184,7 @@ fn inner_nodes_refuse<S: NodeStore<K = Pair, V = u64, Argument = GroupCount<Guar
 
 #[test]
 fn refused_groups_change_nothing(rt: HostRuntime) -> Result<(), Fail> {
-    assert!(rt; leaves_refuse::<NodeStoreVec<Pair, u64, GroupCount<Guarded>>>(rt.alloc())?);
-    assert!(rt; inner_nodes_refuse::<NodeStoreVec<Pair, u64, GroupCount<Guarded>>>(rt.alloc())?);
+    assert!(rt; leaves_refuse(rt.alloc())?);
+    assert!(rt; inner_nodes_refuse(rt.alloc())?);
     Ok(())
 }
