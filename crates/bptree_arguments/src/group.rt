@@ -50,7 +50,8 @@ pub fn laws_of_groups<K: Key, G: FromRef<K> + Key>()
     ensures clones { (a b : GroupCount G) → (groups : List G) → AreAlike G.cmp a b → IsGroupSummary G.cmp a groups → IsGroupSummary G.cmp b groups }
 {}
 
-/// The groups of a list of keys: none, one with its size, or the least and the greatest with their sizes.
+/// The groups of a list of keys: none, one with its size, or the least and the greatest with their sizes and the number
+/// of groups. The default has none.
 #[derive(Debug, Drop)]
 pub enum GroupCount<G> {
     Zero,
@@ -97,7 +98,7 @@ impl<G: Key> Clone for GroupCount<G> {
 }
 
 impl<G: Key> GroupCount<G> {
-    /// The greatest group, with its size.
+    /// The greatest group, with its size, in constant time.
     pub fn max_group(&self) -> Option<(&G, usize)>
         ensures { (groups : List G) → IsGroupSummary G.cmp self.now groups → IsGreatestGroup G.cmp groups (option_map (λ r. (r.0.now, r.1)) result) }
     {
@@ -108,7 +109,7 @@ impl<G: Key> GroupCount<G> {
         }
     }
 
-    /// Whether there is no group.
+    /// Whether there is no group, in constant time.
     pub fn is_zero(&self) -> bool
         ensures { (groups : List G) → IsGroupSummary G.cmp self.now groups → IsTrue result ↔ (groups ≡ []) }
     {
@@ -118,7 +119,7 @@ impl<G: Key> GroupCount<G> {
         }
     }
 
-    /// The number of different groups.
+    /// The number of different groups, in constant time.
     pub fn group_count(&self) -> usize
         ensures { (groups : List G) → IsGroupSummary G.cmp self.now groups → result ≡ different G.cmp groups }
     {

@@ -1,5 +1,5 @@
 -- What is told of groups.
-use Rattle.std.proofs.Common.{◌≡◌, ℕ, ◌+◌, ◌-◌, ◌^◌, ◌<◌, ◌≤◌, min, List, [], ◌∷◌, ◌++◌, length, map, Option, Some, Result, Ok, Err, false, refl, sym, ap, ◌∙◌, arith, length-append, append-nil}
+use Rattle.std.proofs.Common.{◌≡◌, ℕ, ◌+◌, ◌-◌, ◌^◌, ◌<◌, ◌≤◌, min, List, [], ◌∷◌, ◌++◌, length, map, Option, Some, None, inl, inr, Result, Ok, Err, false, refl, sym, ap, ◌∙◌, arith, length-append, append-nil}
 use Rattle.std.specs.declared.cmp.Ordering.{Ordering}
 use Rattle.std.specs.declared.cmp.Ordering.TheVariants.{Less, Equal, Greater}
 use Rattle.std.specs.Ordering.{is_gt, ordering_reverse}
@@ -8,12 +8,12 @@ use Rattle.std.specs.List.{AllByRecursion, zip}
 use Rattle.std.specs.List.Sorted.{IsStrictlySortedBy}
 use Rattle.std.specs.Map.{keys_of, values_of}
 use Rattle.std.specs.Result.{IfOk}
-use Rattle.std.proofs.lemmas.Bool.{true≢false}
+use Rattle.std.proofs.lemmas.Bool.{true≢false, cases_lt}
 use Rattle.std.proofs.lemmas.List.{length-map, map-append}
 use Rattle.std.proofs.lemmas.Map.Made.{keys_of-zip}
 use Rattle.bptree_arguments.specs.Groups.{IsGreatestGroup, group_size}
 use Rattle.bptree_arguments.specs.GroupSizes.{GroupSize, IsSizeAnswer}
-use Rattle.bptree_arguments.specs.Visits.{answered}
+use Rattle.bptree_arguments.specs.Visits.{answered, invalid_child}
 use Rattle.bptree_arguments.proofs.GroupLemmas.{size-le, size_alike, witness}
 
 module _ {G : Type 0} {R : G → G → Ordering} (o : IsTotalOrder R) where
@@ -61,3 +61,14 @@ module _ {K V G : Type 0} (cmp : K → K → Ordering) (R : G → G → Ordering
       let keys_are : keys_of (left ++ (right ++ [])) ≡ keys_of left ++ keys_of right = ap (λ t. keys_of (left ++ t)) (append-nil right) ∙ map-append (λ x. x.0) left right in
       let small : length (map group_of (keys_of left ++ keys_of right)) < 2 ^ 64 = omega (arith, length-map (keys_of left ++ keys_of right) group_of, length-append (keys_of left) (keys_of right), length-append (keys_of left) (keys_of right ++ []), length-append (keys_of right) [], fits) in
       whole_size o visitor group (map group_of (keys_of left ++ keys_of right)) n same zero small (rw keys_are at told)
+
+-- there is a child, and an answer
+module _ {G : Type 0} (R : G → G → Ordering) (visitor : GroupSize G) (groups : List G) where
+  pub child_there : (child : ℕ) → (2 ≤ child → IsSizeAnswer R visitor groups invalid_child) → child < 2
+  child_there child past = elim (cases_lt child 2) [
+    | inl below ↦ below
+    | inr beyond ↦ let told = past beyond in cc
+  ]
+
+  pub always_answers : IsSizeAnswer R visitor groups (answered None) → ⊥
+  always_answers told = cc

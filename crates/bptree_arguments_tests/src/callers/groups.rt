@@ -1,5 +1,5 @@
 //! Callers of groups and of what counts the keys of one.
-ghost use Rattle.std.specs.Prelude.{◌≡◌, ◌<◌, ◌≤◌, ◌+◌, ◌∷◌, ◌++◌, [], List, Some, length, map, true, false, IfOk, IfSome};
+ghost use Rattle.std.specs.Prelude.{◌≡◌, ◌<◌, ◌≤◌, ◌+◌, ◌∷◌, ◌++◌, [], List, Some, length, map, true, false, IfOk, MatchResult};
 ghost use Rattle.std.specs.declared.cmp.Ordering.TheVariants.{Equal};
 ghost use Rattle.std.specs.List.{AllByRecursion, AllZip};
 ghost use Rattle.std.specs.List.Sorted.{IsStrictlySortedBy};
@@ -113,14 +113,15 @@ fn counts_a_group_of_a_leaf<K: Key, V, G: FromRef<K> + Key>(
     )
 }
 
-// Where the count is complete above two leaves, it is that of the group in both.
+// Above two leaves the count is complete, and that of the group in both, or one of the two is named; there is always an
+// answer.
 fn counts_a_group_above_two_leaves<K: Key, V, G: FromRef<K> + Key>(
     group: G,
     separators: &[K],
     arguments: &[GroupCount<G>],
-) -> Result<Option<usize>, AllocError>
+) -> Result<Result<usize, usize>, AllocError>
     requires { length separators.now ≡ 1 }
-    ensures { IfOk result (λ size. (left right : List (K × V)) → ArePieces K.cmp (keys_of left ∷ keys_of right ∷ []) → AllZip (λ a keys. IsGroupSummary G.cmp a (map G.group_of keys)) arguments.now (keys_of left ∷ keys_of right ∷ []) → IfSome size (λ n. n ≡ group_size G.cmp group (map G.group_of (keys_of left ++ keys_of right)))) }
+    ensures { IfOk result (λ told. (left right : List (K × V)) → ArePieces K.cmp (keys_of left ∷ keys_of right ∷ []) → AllZip (λ a keys. IsGroupSummary G.cmp a (map G.group_of keys)) arguments.now (keys_of left ∷ keys_of right ∷ []) → MatchResult told (λ n. n ≡ group_size G.cmp group (map G.group_of (keys_of left ++ keys_of right))) (λ child. child < 2)) }
 {
     let mut visitor = ExtractGroupSize::<G, K>::new(group);
     let step = <ExtractGroupSize<G, K> as DescendVisit<K, V, GroupCount<G>>>::visit_inner(
@@ -129,7 +130,8 @@ fn counts_a_group_above_two_leaves<K: Key, V, G: FromRef<K> + Key>(
         arguments,
     )?;
     match step {
-        DescendVisitResult::Complete(size) => Ok(Some(size)),
-        _ => Ok(None),
+        DescendVisitResult::Complete(size) => Ok(Ok(size)),
+        DescendVisitResult::GoDown(child) => Ok(Err(child)),
+        DescendVisitResult::Cancel => Ok(Err(2)),
     }
 }
