@@ -77,21 +77,21 @@ module _ {K G : Type 0} (cmp : K → K → Ordering) (R : G → G → Ordering) 
         omega (arith, whole, stands, e, carried_alike o v (group_of k) made rank, size-le o (group_of k) (map group_of (before ++ smaller)), length-map (before ++ smaller) group_of, fits)
 
   -- how many keys of k's group are below k, where a list is split there
-  none_counted : (rest : List K) → AllByRecursion (λ x. is_lt (cmp x k) ≡ false) rest → count_below cmp k (keys_in_group cmp R group_of k rest) ≡ 0
+  none_counted : (rest : List K) → AllByRecursion (λ x. is_lt (cmp x k) ≡ false) rest → count_below cmp k (keys_in_group R group_of k rest) ≡ 0
   none_counted [] h = refl
   none_counted (x ∷ xs) h = by (is_eq (R (group_of x) (group_of k))) (none_counted xs h.1) where
-    by : (b : Bool) → count_below cmp k (keys_in_group cmp R group_of k xs) ≡ 0 → count_below cmp k (cond b (x ∷ keys_in_group cmp R group_of k xs) (keys_in_group cmp R group_of k xs)) ≡ 0
+    by : (b : Bool) → count_below cmp k (keys_in_group R group_of k xs) ≡ 0 → count_below cmp k (cond b (x ∷ keys_in_group R group_of k xs) (keys_in_group R group_of k xs)) ≡ 0
     by true e = rw h.0 e
     by false e = e
 
-  counted : (front rest : List K) → AllBelow cmp k front → AllByRecursion (λ x. is_lt (cmp x k) ≡ false) rest → count_below cmp k (keys_in_group cmp R group_of k (front ++ rest)) ≡ group_size R (group_of k) (map group_of front)
+  counted : (front rest : List K) → AllBelow cmp k front → AllByRecursion (λ x. is_lt (cmp x k) ≡ false) rest → count_below cmp k (keys_in_group R group_of k (front ++ rest)) ≡ group_size R (group_of k) (map group_of front)
   counted [] rest h n = none_counted rest n
   counted (x ∷ xs) rest h n = by (is_eq (R (group_of x) (group_of k))) (counted xs rest h.1 n) where
-    by : (b : Bool) → count_below cmp k (keys_in_group cmp R group_of k (xs ++ rest)) ≡ group_size R (group_of k) (map group_of xs) → count_below cmp k (cond b (x ∷ keys_in_group cmp R group_of k (xs ++ rest)) (keys_in_group cmp R group_of k (xs ++ rest))) ≡ length (cond b (group_of x ∷ filter (λ y. is_eq (R y (group_of k))) (map group_of xs)) (filter (λ y. is_eq (R y (group_of k))) (map group_of xs)))
+    by : (b : Bool) → count_below cmp k (keys_in_group R group_of k (xs ++ rest)) ≡ group_size R (group_of k) (map group_of xs) → count_below cmp k (cond b (x ∷ keys_in_group R group_of k (xs ++ rest)) (keys_in_group R group_of k (xs ++ rest))) ≡ length (cond b (group_of x ∷ filter (λ y. is_eq (R y (group_of k))) (map group_of xs)) (filter (λ y. is_eq (R y (group_of k))) (map group_of xs)))
     by true e = rw (ap is_lt h.0) (ap suc e)
     by false e = e
 
-  pub count_in_group : (keys front middle back : List K) → SplitsAt cmp k keys front middle back → count_below cmp k (keys_in_group cmp R group_of k keys) ≡ group_size R (group_of k) (map group_of front)
+  pub count_in_group : (keys front middle back : List K) → SplitsAt cmp k keys front middle back → count_below cmp k (keys_in_group R group_of k keys) ≡ group_size R (group_of k) (map group_of front)
   count_in_group keys front middle back s =
       let equal = AllByRecursion-weaker (λ x. cmp x k ≡ Equal) (λ x. is_lt (cmp x k) ≡ false) (λ x e. ap is_lt e) middle s.equal in
       let above = AllByRecursion-weaker (λ x. cmp x k ≡ Greater) (λ x. is_lt (cmp x k) ≡ false) (λ x e. ap is_lt e) back s.above in
@@ -99,7 +99,7 @@ module _ {K G : Type 0} (cmp : K → K → Ordering) (R : G → G → Ordering) 
 
   -- the rank at a place of a leaf, from what the smaller keys of the leaf and the rank before it come to
   module _ (keys before after : List K) (ascending : IsStrictlySortedBy cmp (before ++ (keys ++ after))) (low : AllBelow cmp k before) (high : AllAbove cmp k after) (fits : length (before ++ (keys ++ after)) < 2 ^ 64) (i : ℕ) (r : G × ℕ) (made : R r.0 (group_of k) ≡ Equal) (ranked : IsStrictlySortedBy cmp (before ++ take i keys) → AllBelow cmp k (take i keys) → length (before ++ take i keys) < 2 ^ 64 → r.1 ≡ group_size R (group_of k) (map group_of (before ++ take i keys))) where
-    rank_at : (front middle back : List K) → length front ≡ i → SplitsAt cmp k keys front middle back → IsRankInGroup cmp R group_of k (before ++ (keys ++ after)) (Some r)
+    rank_at : (front middle back : List K) → length front ≡ i → SplitsAt cmp k keys front middle back → IsRankInGroup R group_of k cmp (before ++ (keys ++ after)) (Some r)
     rank_at front middle back l s =
         let smaller : take i keys ≡ front = rw s.parts (take_at front (middle ++ back) i l) in
         let split = SplitsAt-within cmp k keys front middle back before after s low high in
@@ -107,10 +107,10 @@ module _ {K G : Type 0} (cmp : K → K → Ordering) (R : G → G → Ordering) 
         let long : length (before ++ front) < 2 ^ 64 = omega (arith, length-append (before ++ front) (middle ++ (back ++ after)), ap length split.parts, fits) in
         (made, rw smaller at ranked sorted s.below long ∙ sym (count_in_group (before ++ (keys ++ after)) (before ++ front) middle (back ++ after) split))
 
-    pub rank_present : IsSlotOf cmp k keys (Ok i) → IsRankInGroup cmp R group_of k (before ++ (keys ++ after)) (Some r)
+    pub rank_present : IsSlotOf cmp k keys (Ok i) → IsRankInGroup R group_of k cmp (before ++ (keys ++ after)) (Some r)
     rank_present (front, back, x, l, s) = rank_at front (x ∷ []) back l s
 
-    pub rank_absent : IsSlotOf cmp k keys (Err i) → IsRankInGroup cmp R group_of k (before ++ (keys ++ after)) (Some r)
+    pub rank_absent : IsSlotOf cmp k keys (Err i) → IsRankInGroup R group_of k cmp (before ++ (keys ++ after)) (Some r)
     rank_absent (front, back, l, s) = rank_at front [] back l s
 
 -- the groups before those of which the greatest is below v

@@ -1,10 +1,11 @@
 -- Where a group begins, and what a rank says of a key among the keys of its group.
-use Rattle.std.specs.Prelude.{◌≡◌, ℕ, List, take, drop, false, cond, Option, Some, None}
+use Rattle.std.specs.Prelude.{◌≡◌, ℕ, List, map, take, drop, false, cond, Option, Some, None}
 use Rattle.std.specs.declared.cmp.Ordering.{Ordering}
 use Rattle.std.specs.declared.cmp.Ordering.TheVariants.{Less, Equal}
 use Rattle.std.specs.Ordering.{is_eq, is_lt}
 use Rattle.std.specs.List.{AllByRecursion, filter}
 use Rattle.bptree_arguments.specs.CountLaws.{count_below}
+use Rattle.bptree_arguments.specs.Groups.{group_size}
 
 module _ {G : Type 0} (cmp : G → G → Ordering) (g : G) where
   -- the groups before the place are below g, and those from it on are not
@@ -22,11 +23,15 @@ module _ {G : Type 0} (cmp : G → G → Ordering) (g : G) where
   IsInGroup n None = ⊥
   IsInGroup n (Some r) = (cmp r.0 g ≡ Equal) × (r.1 ≡ n)
 
-module _ {K G : Type 0} (cmp : K → K → Ordering) (compare : G → G → Ordering) (group_of : K → G) (k : K) where
+module _ {K G : Type 0} (compare : G → G → Ordering) (group_of : K → G) (k : K) where
   -- the keys that are in the group of k
   abbrev pub keys_in_group : List K → List K
   keys_in_group keys = filter (λ x. is_eq (compare (group_of x) (group_of k))) keys
 
+  -- a rank carries how many of the keys are in the group of k
+  abbrev pub StandsInGroup : List K → Option (G × ℕ) → Type 0
+  StandsInGroup keys rank = group_size compare (group_of k) (map group_of keys) ≡ carried compare (group_of k) rank
+
   -- a rank is the group of k, and how many keys in it are smaller than k
-  abbrev pub IsRankInGroup : List K → Option (G × ℕ) → Type 0
-  IsRankInGroup keys rank = IsInGroup compare (group_of k) (count_below cmp k (keys_in_group keys)) rank
+  abbrev pub IsRankInGroup : (K → K → Ordering) → List K → Option (G × ℕ) → Type 0
+  IsRankInGroup cmp keys rank = IsInGroup compare (group_of k) (count_below cmp k (keys_in_group keys)) rank

@@ -120,17 +120,21 @@ filter_both p q (x ∷ xs) = by (q x) (filter_both p q xs) where
   by false e = rw (and-false (p x)) e
 
 module _ {K G : Type 0} (cmp : K → K → Ordering) (R : G → G → Ordering) (group_of : K → G) (k : K) (keys : List K) where
-  -- the rank in a leaf, which is the only one
-  rank_here : (rank : Option (G × ℕ)) → IsRankInGroup cmp R group_of k (keys ++ []) rank → IsInGroup R (group_of k) (length (filter (λ x. is_lt (cmp x k) && is_eq (R (group_of x) (group_of k))) keys)) rank
-  rank_here None h = h
-  rank_here (Some r) h = (h.0, (rw (append-nil keys) at h.1) ∙ ap length (filter_both (λ x. is_lt (cmp x k)) (λ x. is_eq (R (group_of x) (group_of k))) keys))
+  -- the two tests of a rank, as one
+  rank_in_words : (rank : Option (G × ℕ)) → IsRankInGroup R group_of k cmp keys rank → IsInGroup R (group_of k) (length (filter (λ x. is_lt (cmp x k) && is_eq (R (group_of x) (group_of k))) keys)) rank
+  rank_in_words None h = h
+  rank_in_words (Some r) h = (h.0, h.1 ∙ ap length (filter_both (λ x. is_lt (cmp x k)) (λ x. is_eq (R (group_of x) (group_of k))) keys))
 
-  pub rank_present : (slot : Result ℕ ℕ) (answer : Result (Option (G × ℕ)) (Option (G × ℕ))) → is_ok answer ≡ is_ok slot → MatchResult answer (IsRankInGroup cmp R group_of k (keys ++ [])) (IsRankInGroup cmp R group_of k (keys ++ [])) → IfOk slot (λ _. MatchResult answer (IsInGroup R (group_of k) (length (filter (λ x. is_lt (cmp x k) && is_eq (R (group_of x) (group_of k))) keys))) (λ _. ⊥))
-  rank_present (Ok i) (Ok rank) same h = rank_here rank h
+  pub either_in_words : (answer : Result (Option (G × ℕ)) (Option (G × ℕ))) → MatchResult answer (IsRankInGroup R group_of k cmp keys) (IsRankInGroup R group_of k cmp keys) → MatchResult answer (IsInGroup R (group_of k) (length (filter (λ x. is_lt (cmp x k) && is_eq (R (group_of x) (group_of k))) keys))) (IsInGroup R (group_of k) (length (filter (λ x. is_lt (cmp x k) && is_eq (R (group_of x) (group_of k))) keys)))
+  either_in_words (Ok rank) h = rank_in_words rank h
+  either_in_words (Err rank) h = rank_in_words rank h
+
+  pub rank_present : (slot : Result ℕ ℕ) (answer : Result (Option (G × ℕ)) (Option (G × ℕ))) → is_ok answer ≡ is_ok slot → MatchResult answer (IsRankInGroup R group_of k cmp keys) (IsRankInGroup R group_of k cmp keys) → IfOk slot (λ _. MatchResult answer (IsInGroup R (group_of k) (length (filter (λ x. is_lt (cmp x k) && is_eq (R (group_of x) (group_of k))) keys))) (λ _. ⊥))
+  rank_present (Ok i) (Ok rank) same h = rank_in_words rank h
   rank_present (Ok i) (Err rank) same h = absurd (true≢false (sym same))
   rank_present (Err i) answer same h = tt
 
-  pub rank_absent : (slot : Result ℕ ℕ) (answer : Result (Option (G × ℕ)) (Option (G × ℕ))) → is_ok answer ≡ is_ok slot → MatchResult answer (IsRankInGroup cmp R group_of k (keys ++ [])) (IsRankInGroup cmp R group_of k (keys ++ [])) → IfErr slot (λ _. MatchResult answer (λ _. ⊥) (IsInGroup R (group_of k) (length (filter (λ x. is_lt (cmp x k) && is_eq (R (group_of x) (group_of k))) keys))))
+  pub rank_absent : (slot : Result ℕ ℕ) (answer : Result (Option (G × ℕ)) (Option (G × ℕ))) → is_ok answer ≡ is_ok slot → MatchResult answer (IsRankInGroup R group_of k cmp keys) (IsRankInGroup R group_of k cmp keys) → IfErr slot (λ _. MatchResult answer (λ _. ⊥) (IsInGroup R (group_of k) (length (filter (λ x. is_lt (cmp x k) && is_eq (R (group_of x) (group_of k))) keys))))
   rank_absent (Ok i) answer same h = tt
   rank_absent (Err i) (Ok rank) same h = absurd (true≢false same)
-  rank_absent (Err i) (Err rank) same h = rank_here rank h
+  rank_absent (Err i) (Err rank) same h = rank_in_words rank h

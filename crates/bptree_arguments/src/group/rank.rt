@@ -2,7 +2,7 @@
 ghost use Rattle.std.specs.Prelude.{◌≡◌, ◌<◌, ◌≤◌, ◌^◌, List, [], ◌++◌, length, map, Ok, None, is_ok, IfOk, MatchResult};
 ghost use Rattle.std.specs.List.{AllZip};
 ghost use Rattle.std.specs.List.Sorted.{IsStrictlySortedBy};
-ghost use Rattle.bptree_arguments.specs.GroupAnswers.{IsInGroup, IsRankInGroup, carried};
+ghost use Rattle.bptree_arguments.specs.GroupAnswers.{IsInGroup, IsRankInGroup, StandsInGroup, carried};
 ghost use Rattle.bptree_arguments.specs.Groups.{IsGroupSummary, group_size};
 ghost use Rattle.bptree_arguments.specs.Ranks.{AllAbove, AllBelow, IsSlotOf};
 ghost use Rattle.bptree_keys.specs.Pieces.{AllNonEmpty, flatten};
@@ -32,7 +32,7 @@ fn ranked_after<K: Key, G: FromRef<K> + Key>(
     smaller: &[K],
 ) -> Result<(G, usize), AllocError>
     ensures group { IfOk result (λ r. G.cmp r.0 (G.group_of k.now) ≡ Ordering.Equal) }
-    ensures counted { IfOk result (λ r. (before : List K) → IsStrictlySortedBy K.cmp (before ++ smaller.now) → AllBelow K.cmp k.now smaller.now → length (before ++ smaller.now) < 2 ^ 64 → group_size G.cmp (G.group_of k.now) (map G.group_of before) ≡ carried G.cmp (G.group_of k.now) rank → r.1 ≡ group_size G.cmp (G.group_of k.now) (map G.group_of (before ++ smaller.now))) }
+    ensures counted { IfOk result (λ r. (before : List K) → IsStrictlySortedBy K.cmp (before ++ smaller.now) → AllBelow K.cmp k.now smaller.now → length (before ++ smaller.now) < 2 ^ 64 → StandsInGroup G.cmp G.group_of k.now before rank → r.1 ≡ group_size G.cmp (G.group_of k.now) (map G.group_of (before ++ smaller.now))) }
     ensures empty { smaller.now ≡ [] → IfOk result (λ r. r.1 ≡ carried G.cmp (G.group_of k.now) rank) }
 {
     let group = G::from_ref(k)?;
@@ -49,12 +49,12 @@ fn ranked_after<K: Key, G: FromRef<K> + Key>(
 impl<K: Key, G: FromRef<K> + Key> RankArgument<K> for GroupCount<G> {
     type Rank = Option<(G, usize)>;
 
-    ghost stands_for = { λ rank k before. group_size G.cmp (G.group_of k) (map G.group_of before) ≡ carried G.cmp (G.group_of k) rank };
+    ghost stands_for = { λ rank k before. StandsInGroup G.cmp G.group_of k before rank };
 
-    ghost ranks = { λ k keys rank. IsRankInGroup K.cmp G.cmp G.group_of k keys rank };
+    ghost ranks = { λ k keys rank. IsRankInGroup G.cmp G.group_of k K.cmp keys rank };
 
     fn initial_value() -> Option<(G, usize)>
-        ensures stands { (k : K) → group_size G.cmp (G.group_of k) (map G.group_of []) ≡ carried G.cmp (G.group_of k) result }
+        ensures stands { (k : K) → StandsInGroup G.cmp G.group_of k [] result }
         ensures none { result ≡ None }
     {
         None
@@ -67,7 +67,7 @@ impl<K: Key, G: FromRef<K> + Key> RankArgument<K> for GroupCount<G> {
         rank: Option<(G, usize)>,
         arguments: &[Self],
     ) -> Result<Option<(G, usize)>, AllocError>
-        ensures carries { IfOk result (λ next. (before : List K) (pieces : List (List K)) → AllNonEmpty pieces → AllZip (λ a keys. IsGroupSummary G.cmp a (map G.group_of keys)) arguments.now pieces → IsStrictlySortedBy K.cmp (before ++ flatten pieces) → AllBelow K.cmp k.now (before ++ flatten pieces) → length (before ++ flatten pieces) < 2 ^ 64 → group_size G.cmp (G.group_of k.now) (map G.group_of before) ≡ carried G.cmp (G.group_of k.now) rank → group_size G.cmp (G.group_of k.now) (map G.group_of (before ++ flatten pieces)) ≡ carried G.cmp (G.group_of k.now) next) }
+        ensures carries { IfOk result (λ next. (before : List K) (pieces : List (List K)) → AllNonEmpty pieces → AllZip (λ a keys. IsGroupSummary G.cmp a (map G.group_of keys)) arguments.now pieces → IsStrictlySortedBy K.cmp (before ++ flatten pieces) → AllBelow K.cmp k.now (before ++ flatten pieces) → length (before ++ flatten pieces) < 2 ^ 64 → StandsInGroup G.cmp G.group_of k.now before rank → StandsInGroup G.cmp G.group_of k.now (before ++ flatten pieces) next) }
         ensures unchanged { arguments.now ≡ [] → result ≡ Ok rank }
     {
         if arguments.is_empty() {
@@ -98,7 +98,7 @@ impl<K: Key, G: FromRef<K> + Key> RankArgument<K> for GroupCount<G> {
         requires few { length keys.now ≤ 64 }
         requires placed { IsSlotOf K.cmp k.now keys.now slot }
         ensures variant { IfOk result (λ answer. is_ok answer ≡ is_ok slot) }
-        ensures ranked { IfOk result (λ answer. (before after : List K) → IsStrictlySortedBy K.cmp (before ++ (keys.now ++ after)) → AllBelow K.cmp k.now before → AllAbove K.cmp k.now after → length (before ++ (keys.now ++ after)) < 2 ^ 64 → group_size G.cmp (G.group_of k.now) (map G.group_of before) ≡ carried G.cmp (G.group_of k.now) rank → MatchResult answer (IsRankInGroup K.cmp G.cmp G.group_of k.now (before ++ (keys.now ++ after))) (IsRankInGroup K.cmp G.cmp G.group_of k.now (before ++ (keys.now ++ after)))) }
+        ensures ranked { IfOk result (λ answer. (before after : List K) → IsStrictlySortedBy K.cmp (before ++ (keys.now ++ after)) → AllBelow K.cmp k.now before → AllAbove K.cmp k.now after → length (before ++ (keys.now ++ after)) < 2 ^ 64 → StandsInGroup G.cmp G.group_of k.now before rank → MatchResult answer (IsRankInGroup G.cmp G.group_of k.now K.cmp (before ++ (keys.now ++ after))) (IsRankInGroup G.cmp G.group_of k.now K.cmp (before ++ (keys.now ++ after)))) }
         ensures empty { keys.now ≡ [] → IfOk result (λ answer. MatchResult answer (λ _. ⊥) (IsInGroup G.cmp (G.group_of k.now) (carried G.cmp (G.group_of k.now) rank))) }
     {
         match slot {

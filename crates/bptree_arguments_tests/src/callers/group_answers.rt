@@ -1,12 +1,12 @@
 //! Callers of the places and the ranks of keys in their groups.
-ghost use Rattle.std.specs.Prelude.{◌≡◌, ◌<◌, ◌≤◌, ◌∷◌, ◌++◌, [], ⊤, Ok, Some, None, length, map, slice_get, take, IfOk, IfErr, IfSome, MatchOption, MatchResult, ◌&&◌};
+ghost use Rattle.std.specs.Prelude.{◌≡◌, ◌<◌, ◌≤◌, ◌^◌, ◌∷◌, ◌++◌, [], Ok, Some, None, length, map, slice_get, take, IfOk, IfErr, IfSome, MatchOption, MatchResult, ◌&&◌};
 ghost use Rattle.std.specs.declared.cmp.Ordering.TheVariants.{Equal};
 ghost use Rattle.std.specs.Ordering.{is_eq, is_lt};
 ghost use Rattle.std.specs.List.{AllZip, HoldsAt, filter};
 ghost use Rattle.std.specs.List.Sorted.{IsStrictlySortedBy};
 ghost use Rattle.bptree_arguments.specs.GroupAnswers.{IsInGroup};
 ghost use Rattle.bptree_arguments.specs.Groups.{IsGroupSummary};
-ghost use Rattle.bptree_arguments.specs.Ranks.{IsSlotOf};
+ghost use Rattle.bptree_arguments.specs.Ranks.{AllBelow, IsSlotOf};
 ghost use Rattle.bptree_keys.specs.Pieces.{ArePieces};
 
 use bptree_arguments::argument::{RankArgument, SearchArgument};
@@ -121,4 +121,27 @@ fn ranks_in_an_empty_leaf<K: Key, G: FromRef<K> + Key>(
 {
     let start = <GroupCount<G> as RankArgument<K>>::initial_value();
     <GroupCount<G> as RankArgument<K>>::fold_leaf(k, start, Err(0), &[])
+}
+
+// Behind a leaf, whose summary is carried over, the smaller keys of the group in both are counted.
+fn ranks_behind_a_leaf<K: Key, G: FromRef<K> + Key>(
+    k: &K,
+    before: &[K],
+    arguments: &[GroupCount<G>],
+    slot: Result<usize, usize>,
+    keys: &[K],
+) -> Result<Result<Option<(G, usize)>, Option<(G, usize)>>, AllocError>
+    requires few { length keys.now ≤ 64 }
+    requires placed { IsSlotOf K.cmp k.now keys.now slot }
+    requires nonempty { 0 < length before.now }
+    requires summaries { AllZip (λ a keys. IsGroupSummary G.cmp a (map G.group_of keys)) arguments.now (before.now ∷ []) }
+    requires below { AllBelow K.cmp k.now before.now }
+    requires ascending { IsStrictlySortedBy K.cmp (before.now ++ keys.now) }
+    requires fits { length (before.now ++ keys.now) < 2 ^ 64 }
+    ensures { IfOk result (λ answer. MatchResult answer (IsInGroup G.cmp (G.group_of k.now) (length (filter (λ x. is_lt (K.cmp x k.now) && is_eq (G.cmp (G.group_of x) (G.group_of k.now))) (before.now ++ keys.now)))) (IsInGroup G.cmp (G.group_of k.now) (length (filter (λ x. is_lt (K.cmp x k.now) && is_eq (G.cmp (G.group_of x) (G.group_of k.now))) (before.now ++ keys.now))))) }
+{
+    let start = <GroupCount<G> as RankArgument<K>>::initial_value();
+    let rank = <GroupCount<G> as RankArgument<K>>::fold_inner(k, start, arguments)?;
+    let answer = <GroupCount<G> as RankArgument<K>>::fold_leaf(k, rank, slot, keys)?;
+    Ok(answer)
 }
