@@ -5,10 +5,10 @@ ghost use Rattle.bptree_arguments.specs.Groups.{group};
 ghost use Rattle.bptree_arguments.specs.Visits.{answered, invalid_child};
 ghost use Rattle.bptree_arguments.specs.declared.visit.DescendError.TheVariants.{OutOfMemory};
 
-use bptree_arguments::group::{FromRef, GroupCount, laws_of_groups};
+use crate::guarded::Guarded;
+use bptree_arguments::group::{GroupCount, laws_of_groups};
 use bptree_arguments::group_size::ExtractGroupSize;
 use bptree_arguments::visit::{DescendError, DescendVisit};
-use bptree_keys::key::Key;
 use bptree_stores::node_stores::NodeStore;
 use bptree_tree::BPlusTree;
 
@@ -34,14 +34,14 @@ fn visits_children<S: NodeStore, W: DescendVisit<S::K, S::V, S::Argument>>(
 }
 
 // The keys of a group are counted, 0 where there is none, and no child is missed.
-fn sizes_a_group<G: FromRef<S::K> + Key, S: NodeStore<Argument = GroupCount<G>>>(
+fn sizes_a_group<S: NodeStore<K = (u64, u64), Argument = GroupCount<Guarded>>>(
     tree: &BPlusTree<S>,
-    g: G,
+    g: Guarded,
 ) -> Result<Option<usize>, DescendError>
-    ensures counted { IfOk result (λ size. size ≡ Some (length (group G.cmp G.group_of g (keys_of tree.now.contents)))) }
+    ensures counted { IfOk result (λ size. size ≡ Some (length (group ⟦<Guarded as Ord>⟧.cmp (λ pair. record { 0 = pair.0 }) g (keys_of tree.now.contents)))) }
     ensures refused { IfErr result (λ error. error ≡ OutOfMemory) }
 {
-    laws_of_groups::<S::K, G>();
+    laws_of_groups::<(u64, u64), Guarded>();
     // Read, so that it is known to fit.
     let _len = tree.len();
     tree.descend_visit(ExtractGroupSize::new(g))
