@@ -383,6 +383,7 @@ pub fn join_inners<K: Key, A: Argument<K>>(
     ensures right { OnErr result (right.new ≡ right.old) }
 {
     let kept = left.len();
+    // Read, so that it is known to fit.
     let _moved = right.len();
     let (separator, child, old) = node.remove_at(slot);
     left.take_over(separator, right);
