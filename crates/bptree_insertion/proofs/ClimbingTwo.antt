@@ -16,10 +16,10 @@ use Rattle.bptree_insertion.specs.Climb.{is_held, HeldAre, least_at, Climb, Clim
 use Rattle.bptree_shape.specs.Edit.{CanReach, Edits}
 use Rattle.bptree_shape.specs.Outcome.{Outcome, Done, Split}
 use Rattle.bptree_shape.specs.Path.{Way}
-use Rattle.bptree_shape.specs.Shape.{inner_keys, pairs_at, root_least, IsSummed}
+use Rattle.bptree_shape.specs.Shape.{pairs_at, root_least, IsSummed}
 use Rattle.bptree_insertion.specs.Sums.{SumsUpAt, PlaceAt, HasKeysAt, HasPlace, IsLinked, IsSplit, with_split}
 use Rattle.bptree_insertion.specs.declared.node_changes.Division.{Division}
-use Rattle.bptree_insertion.proofs.Climbing.{least_most, held_kept, not_held, edits_less, enough_for, told_up, last, can, summed_there, stays, has_place, most, few_there}
+use Rattle.bptree_insertion.proofs.Climbing.{least_most, held_kept, not_held, edits_less, enough_for, told_up, last, can, summed_there, stays, has_place, few_there}
 use Rattle.bptree_insertion.proofs.Lift.{node_links, node_splits}
 use Rattle.bptree_insertion.proofs.NodeChanges.{set_long}
 use Rattle.bptree_insertion.proofs.Rooted.{split_unlinked, split_unlinked_pairs}
@@ -49,9 +49,6 @@ module _ {K V A : Type 0} {cmp : K → K → Ordering} (total : IsTotalOrder cmp
 
   pub node_place_at : PlaceAt (now.inner number.0) i
   node_place_at = rw node_stands node_place
-
-  pub node_most : length (inner_keys (now.inner number.0)) ≤ 64
-  node_most = rw node_stands (most total is_summary now path outcome c.climb rest number i child e)
 
   summed : IsSummed c.climb.old is_summary (suc c.climb.height) (kind.Inner number)
   summed = summed_there total is_summary now path outcome c.climb rest number i child e
