@@ -1,5 +1,5 @@
 -- An edit is carried from a node to the one above it.
-use Rattle.std.proofs.Common.{◌≡◌, ℕ, zero, suc, ◌<◌, Bool, true, false, ◌≤◌, ◌^◌, inl, inr, List, [], ◌∷◌, ◌++◌, length, map, refl, sym, ap, subst, ◌∙◌, arith, Option}
+use Rattle.std.proofs.Common.{◌≡◌, ℕ, zero, suc, ◌<◌, Bool, true, false, ◌≤◌, ◌^◌, inl, inr, List, [], ◌∷◌, ◌++◌, length, map, refl, sym, ap, subst, ◌∙◌, arith, Option, Some, slice_get}
 use Rattle.std.specs.declared.cmp.Ordering.{Ordering}
 use Rattle.std.specs.Cmp.{IsTotalOrder}
 use Rattle.std.specs.List.{AllZip}
@@ -145,7 +145,17 @@ module _ {K V A : Type 0} {cmp : K → K → Ordering} (total : IsTotalOrder cmp
     pub argument_place : i < length (inner_arguments (now.inner number.0))
     argument_place = let h = has_place now path Done c.climb rest number i child e in rw (stays now path Done c.climb rest number i child e) (omega (arith, h.within, h.children, h.arguments))
 
-    module _ (keeps : Keeps now after number i a (last now path Done c.climb rest number i child e).node) where
+    module _ (old : A) (keep : (was : Inner K A) → now.inner number.0 ≡ Present was → Keeps now after number i a was × (slice_get was.arguments i ≡ Some old)) where
+      pub kept_there : Keeps now after number i a (last now path Done c.climb rest number i child e).node × (slice_get (last now path Done c.climb rest number i child e).node.arguments i ≡ Some old)
+      kept_there = keep (last now path Done c.climb rest number i child e).node (stays now path Done c.climb rest number i child e)
+
+      pub keeps : Keeps now after number i a (last now path Done c.climb rest number i child e).node
+      keeps = kept_there.0
+
+      -- what holds of each node that it may have been
+      pub when_kept : {R : Type 0} → ((was : Inner K A) → now.inner number.0 ≡ Present was → slice_get was.arguments i ≡ Some old → Keeps now after number i a was → R) → R
+      when_kept f = f (last now path Done c.climb rest number i child e).node (stays now path Done c.climb rest number i child e) kept_there.1 keeps
+
       pub held_same : HeldAre c.climb.held_inner c.climb.held_leaf after
       held_same =
           held_kept c.climb.held_inner c.climb.held_leaf now after number (last now path Done c.climb rest number i child e).node (with_summary (last now path Done c.climb rest number i child e).node i a) (stays now path Done c.climb rest number i child e)
@@ -188,8 +198,8 @@ module _ {K V A : Type 0} {cmp : K → K → Ordering} (total : IsTotalOrder cmp
                 (subst (λ l. length l < 2 ^ 64) (sym up.edits.pairs) (few_there now path Done d rest number i child e)) sums;
           }
 
-      pub risen_keeps : (above : A) (sums : SumsUpAt cmp is_summary (after.inner number.0) above) (new : Slots (Inner K A) (Leaf K V)) (top : A) → Risen (climbs_keeps above sums).climb new top → Risen c.climb new top
-      risen_keeps above sums new top r = record { edits = r.edits; free = r.free; told = r.told }
+      pub risen_keeps : (above : A) (sums : SumsUpAt cmp is_summary (after.inner number.0) above) (new : Slots (Inner K A) (Leaf K V)) (top : A) → ((up : Climbs cmp is_summary after rest above) → Risen up.climb new top) → Risen c.climb new top
+      risen_keeps above sums new top rises = let r = rises (climbs_keeps above sums) in record { edits = r.edits; free = r.free; told = r.told }
 
       pub place_after : i < length (inner_arguments (after.inner number.0))
       place_after =
