@@ -145,5 +145,5 @@ module _ {K A : Type 0} where
   joined_entry node bare now set back slot s child given a before out told entry joins got put read is =
       let undone = sum_back bare now set slot joins.both before out joins.is (place_below bare slot entry.place) joins.summary got put in
       let there : child ≡ given =
-          inserted_is bare.children (slot + 1) child given (omega (arith, entry.place.within, entry.place.children)) (ap (λ (n : Inner K A). slice_get n.children (slot + 1)) (sym entry.is) ∙ read) in
+      inserted_is bare.children (slot + 1) child given (omega (arith, entry.place.within, entry.place.children)) (ap (λ (n : Inner K A). slice_get n.children (slot + 1)) (sym entry.is) ∙ read) in
       is ∙ rw (undone.0, ← there) (sym entry.is)

@@ -17,21 +17,21 @@ resum_at-requires-clause-place g t c = argument_place g.met.S.K.Ord.total g.S.Ar
 pub ascend-requires : goal.ascend-requires
 ascend-requires g t c κs within = (
   omega (arith, ap length c.in-Some.ensures.some, length-append c.pop.new.self ((c.in-Some.id, c.in-Some.place, c.in-Some.field-0-2) ∷ [])),
-  (within.0, (within.1.0, (within.1.1.0, (within.1.1.1, climbs_keeps g.met.S.K.Ord.total g.S.Argument.Argument.is_summary (g.S.NodeStore.slots c.args.store.now) (g.S.NodeStore.slots c.resum_at.new.store) c.args.path.now c.args.summary c.requires c.pop.new.self c.in-Some.id c.in-Some.place c.in-Some.field-0-2 c.in-Some.ensures.some c.in_ok-above.old c.in_ok-above.ensures.keeps c.in_ok-above.above c.in_ok-above.ensures.sums)))),
+  (within.0, (within.1.0, (within.1.1.0, (within.1.1.1, climbs_keeps g.met.S.K.Ord.total g.S.Argument.Argument.is_summary (g.S.NodeStore.slots c.args.store.now) (g.S.NodeStore.slots c.resum_at.new.store) c.args.path.now c.args.summary c.requires c.pop.new.self c.in-Some.id c.in-Some.place c.in-Some.field-0-2 c.in-Some.ensures.some c.in_ok-above.field-0.old c.in_ok-above.ensures.keeps c.in_ok-above.field-0.above c.in_ok-above.ensures.sums)))),
 )
 
 pub restore_at-requires-clause-place : goal.restore_at-requires-clause-place
-restore_at-requires-clause-place g t c = rw c.in-Err.ensures.refused (place_after g.met.S.K.Ord.total g.S.Argument.Argument.is_summary (g.S.NodeStore.slots c.args.store.now) (g.S.NodeStore.slots c.resum_at.new.store) c.args.path.now c.args.summary c.requires c.pop.new.self c.in-Some.id c.in-Some.place c.in-Some.field-0-2 c.in-Some.ensures.some c.in_ok-above.old c.in_ok-above.ensures.keeps)
+restore_at-requires-clause-place g t c = rw c.in-Err.ensures.refused (place_after g.met.S.K.Ord.total g.S.Argument.Argument.is_summary (g.S.NodeStore.slots c.args.store.now) (g.S.NodeStore.slots c.resum_at.new.store) c.args.path.now c.args.summary c.requires c.pop.new.self c.in-Some.id c.in-Some.place c.in-Some.field-0-2 c.in-Some.ensures.some c.in_ok-above.field-0.old c.in_ok-above.ensures.keeps)
 
 pub returns-in-Ok-clause-rises : goal.returns-in-Ok-clause-rises
 returns-in-Ok-clause-rises g t c climbs =
-    risen_keeps g.met.S.K.Ord.total g.S.Argument.Argument.is_summary (g.S.NodeStore.slots c.args.store.now) (g.S.NodeStore.slots c.resum_at.new.store) c.args.path.now c.args.summary climbs c.pop.new.self c.in-Some.id c.in-Some.place c.in-Some.field-0-2 c.in-Some.ensures.some c.in_ok-above.old c.in_ok-above.ensures.keeps c.in_ok-above.above c.in_ok-above.ensures.sums
+    risen_keeps g.met.S.K.Ord.total g.S.Argument.Argument.is_summary (g.S.NodeStore.slots c.args.store.now) (g.S.NodeStore.slots c.resum_at.new.store) c.args.path.now c.args.summary climbs c.pop.new.self c.in-Some.id c.in-Some.place c.in-Some.field-0-2 c.in-Some.ensures.some c.in_ok-above.field-0.old c.in_ok-above.ensures.keeps c.in_ok-above.field-0.above c.in_ok-above.ensures.sums
     (g.S.NodeStore.slots c.ascend.new.store) c.in-Ok.top c.in-Ok.ensures.rises
 
 pub returns-in-Err-clause-refused : goal.returns-in-Err-clause-refused
-returns-in-Err-clause-refused g t c = (when_kept g.met.S.K.Ord.total g.S.Argument.Argument.is_summary (g.S.NodeStore.slots c.args.store.now) (g.S.NodeStore.slots c.resum_at.new.store) c.args.path.now c.args.summary c.requires c.pop.new.self c.in-Some.id c.in-Some.place c.in-Some.field-0-2 c.in-Some.ensures.some c.in_ok-above.old c.in_ok-above.ensures.keeps
+returns-in-Err-clause-refused g t c = (when_kept g.met.S.K.Ord.total g.S.Argument.Argument.is_summary (g.S.NodeStore.slots c.args.store.now) (g.S.NodeStore.slots c.resum_at.new.store) c.args.path.now c.args.summary c.requires c.pop.new.self c.in-Some.id c.in-Some.place c.in-Some.field-0-2 c.in-Some.ensures.some c.in_ok-above.field-0.old c.in_ok-above.ensures.keeps
     (λ was here read keeps. c.restore_at.ensures.undoes (g.S.NodeStore.slots c.args.store.now) was c.args.summary here read (rw c.in-Err.ensures.refused keeps))).0
 
 pub returns-in-Err-clause-handed_back : goal.returns-in-Err-clause-handed_back
-returns-in-Err-clause-handed_back g t c = (when_kept g.met.S.K.Ord.total g.S.Argument.Argument.is_summary (g.S.NodeStore.slots c.args.store.now) (g.S.NodeStore.slots c.resum_at.new.store) c.args.path.now c.args.summary c.requires c.pop.new.self c.in-Some.id c.in-Some.place c.in-Some.field-0-2 c.in-Some.ensures.some c.in_ok-above.old c.in_ok-above.ensures.keeps
+returns-in-Err-clause-handed_back g t c = (when_kept g.met.S.K.Ord.total g.S.Argument.Argument.is_summary (g.S.NodeStore.slots c.args.store.now) (g.S.NodeStore.slots c.resum_at.new.store) c.args.path.now c.args.summary c.requires c.pop.new.self c.in-Some.id c.in-Some.place c.in-Some.field-0-2 c.in-Some.ensures.some c.in_ok-above.field-0.old c.in_ok-above.ensures.keeps
     (λ was here read keeps. c.restore_at.ensures.undoes (g.S.NodeStore.slots c.args.store.now) was c.args.summary here read (rw c.in-Err.ensures.refused keeps))).1
