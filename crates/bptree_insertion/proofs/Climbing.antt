@@ -1,5 +1,5 @@
 -- An edit is carried from a node to the one above it.
-use Rattle.std.proofs.Common.{◌≡◌, ℕ, zero, suc, ◌<◌, Bool, false, ◌≤◌, ◌^◌, inl, inr, List, [], ◌∷◌, ◌++◌, length, map, refl, sym, ap, subst, ◌∙◌, arith, Option}
+use Rattle.std.proofs.Common.{◌≡◌, ℕ, zero, suc, ◌<◌, Bool, true, false, ◌≤◌, ◌^◌, inl, inr, List, [], ◌∷◌, ◌++◌, length, map, refl, sym, ap, subst, ◌∙◌, arith, Option, Some, slice_get}
 use Rattle.std.specs.declared.cmp.Ordering.{Ordering}
 use Rattle.std.specs.Cmp.{IsTotalOrder}
 use Rattle.std.specs.List.{AllZip}
@@ -22,7 +22,7 @@ use Rattle.bptree_shape.specs.Edit.{CanReach, Turn, Edits}
 use Rattle.bptree_shape.specs.Outcome.{Outcome, Done}
 use Rattle.bptree_shape.specs.Path.{Way}
 use Rattle.bptree_shape.specs.Shape.{inner_children, inner_arguments, pairs_at, root_least, IsSummed, IsTree}
-use Rattle.bptree_insertion.specs.Sums.{SumsUpAt, HasPlace, PlaceAt, with_summary}
+use Rattle.bptree_insertion.specs.Sums.{SumsUpAt, HasPlace, with_summary}
 use Rattle.bptree_insertion.proofs.Lift.{node_keeps}
 use Rattle.bptree_insertion.proofs.NodeChanges.{set_long}
 use Rattle.bptree_shape.proofs.NodePieces.{child_keys, node_keys_flat, node_pieces, node_summaries}
@@ -63,6 +63,11 @@ pub not_held : {N : Type 0} (slot : Slot N) → is_held slot ≡ false → slot 
 not_held Free none e = absurd (let z : Free ≡ Held = e in cc)
 not_held Held none e = absurd (true≢false none)
 not_held (Present node) none e = absurd (let z : Present node ≡ Held = e in cc)
+
+pub held_is : {N : Type 0} (s : Slot N) → is_held s ≡ true → s ≡ Held
+held_is Free q = absurd (true≢false (sym q))
+held_is Held q = refl
+held_is (Present x) q = absurd (true≢false (sym q))
 
 -- where fewer keys or pairs have to stay
 pub edits_less : {K V A : Type 0} {cmp : K → K → Ordering} (is_summary : A → List K → Type 0) (edit : List (K × V) → List (K × V)) (kept less : ℕ) (old new : Slots (Inner K A) (Leaf K V)) (h : ℕ) (id : NodeId) (k : K) (leaf : LeafNodeId) (turn : Turn) (outcome : Outcome K)
@@ -134,16 +139,23 @@ module _ {K V A : Type 0} {cmp : K → K → Ordering} (total : IsTotalOrder cmp
     pub enough_for : least_at c.top path ≤ c.kept → 16 ≤ c.kept
     enough_for enough = let h : least_at c.top (rest ++ (number, i, child) ∷ []) ≤ c.kept = subst (λ p. least_at c.top p ≤ c.kept) e enough in omega (arith, h, least_some c.top rest (number, i, child))
 
-    pub place_at : PlaceAt (now.inner number.0) i
-    place_at = rw stays has_place
-
   -- a node keeps its children, and takes a new summary
   module _ (now after : Slots (Inner K A) (Leaf K V)) (path : List (InnerNodeId × ℕ × NodeId)) (a : A) (c : Climbs cmp is_summary now path a)
       (rest : List (InnerNodeId × ℕ × NodeId)) (number : InnerNodeId) (i : ℕ) (child : NodeId) (e : path ≡ rest ++ (number, i, child) ∷ []) where
     pub argument_place : i < length (inner_arguments (now.inner number.0))
     argument_place = let h = has_place now path Done c.climb rest number i child e in rw (stays now path Done c.climb rest number i child e) (omega (arith, h.within, h.children, h.arguments))
 
-    module _ (keeps : Keeps now after number i a (last now path Done c.climb rest number i child e).node) where
+    module _ (old : A) (keep : (was : Inner K A) → now.inner number.0 ≡ Present was → Keeps now after number i a was × (slice_get was.arguments i ≡ Some old)) where
+      pub kept_there : Keeps now after number i a (last now path Done c.climb rest number i child e).node × (slice_get (last now path Done c.climb rest number i child e).node.arguments i ≡ Some old)
+      kept_there = keep (last now path Done c.climb rest number i child e).node (stays now path Done c.climb rest number i child e)
+
+      pub keeps : Keeps now after number i a (last now path Done c.climb rest number i child e).node
+      keeps = kept_there.0
+
+      -- what holds of each node that it may have been
+      pub when_kept : {R : Type 0} → ((was : Inner K A) → now.inner number.0 ≡ Present was → slice_get was.arguments i ≡ Some old → Keeps now after number i a was → R) → R
+      when_kept f = f (last now path Done c.climb rest number i child e).node (stays now path Done c.climb rest number i child e) kept_there.1 keeps
+
       pub held_same : HeldAre c.climb.held_inner c.climb.held_leaf after
       held_same =
           held_kept c.climb.held_inner c.climb.held_leaf now after number (last now path Done c.climb rest number i child e).node (with_summary (last now path Done c.climb rest number i child e).node i a) (stays now path Done c.climb rest number i child e)
@@ -186,8 +198,8 @@ module _ {K V A : Type 0} {cmp : K → K → Ordering} (total : IsTotalOrder cmp
                 (subst (λ l. length l < 2 ^ 64) (sym up.edits.pairs) (few_there now path Done d rest number i child e)) sums;
           }
 
-      pub risen_keeps : (above : A) (sums : SumsUpAt cmp is_summary (after.inner number.0) above) (new : Slots (Inner K A) (Leaf K V)) (top : A) → Risen (climbs_keeps above sums).climb new top → Risen c.climb new top
-      risen_keeps above sums new top r = record { edits = r.edits; free = r.free; told = r.told }
+      pub risen_keeps : (above : A) (sums : SumsUpAt cmp is_summary (after.inner number.0) above) (new : Slots (Inner K A) (Leaf K V)) (top : A) → ((up : Climbs cmp is_summary after rest above) → Risen up.climb new top) → Risen c.climb new top
+      risen_keeps above sums new top rises = let r = rises (climbs_keeps above sums) in record { edits = r.edits; free = r.free; told = r.told }
 
       pub place_after : i < length (inner_arguments (after.inner number.0))
       place_after =

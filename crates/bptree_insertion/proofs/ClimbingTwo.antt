@@ -16,10 +16,10 @@ use Rattle.bptree_insertion.specs.Climb.{is_held, HeldAre, least_at, Climb, Clim
 use Rattle.bptree_shape.specs.Edit.{CanReach, Edits}
 use Rattle.bptree_shape.specs.Outcome.{Outcome, Done, Split}
 use Rattle.bptree_shape.specs.Path.{Way}
-use Rattle.bptree_shape.specs.Shape.{inner_keys, pairs_at, root_least, IsSummed}
+use Rattle.bptree_shape.specs.Shape.{pairs_at, root_least, IsSummed}
 use Rattle.bptree_insertion.specs.Sums.{SumsUpAt, PlaceAt, HasKeysAt, HasPlace, IsLinked, IsSplit, with_split}
 use Rattle.bptree_insertion.specs.declared.node_changes.Division.{Division}
-use Rattle.bptree_insertion.proofs.Climbing.{least_most, held_kept, not_held, edits_less, enough_for, told_up, last, can, summed_there, stays, has_place, most, few_there}
+use Rattle.bptree_insertion.proofs.Climbing.{least_most, held_kept, not_held, edits_less, enough_for, told_up, last, can, summed_there, stays, has_place, few_there}
 use Rattle.bptree_insertion.proofs.Lift.{node_links, node_splits}
 use Rattle.bptree_insertion.proofs.NodeChanges.{set_long}
 use Rattle.bptree_insertion.proofs.Rooted.{split_unlinked, split_unlinked_pairs}
@@ -50,9 +50,6 @@ module _ {K V A : Type 0} {cmp : K → K → Ordering} (total : IsTotalOrder cmp
   pub node_place_at : PlaceAt (now.inner number.0) i
   node_place_at = rw node_stands node_place
 
-  pub node_most : length (inner_keys (now.inner number.0)) ≤ 64
-  node_most = rw node_stands (most total is_summary now path outcome c.climb rest number i child e)
-
   summed : IsSummed c.climb.old is_summary (suc c.climb.height) (kind.Inner number)
   summed = summed_there total is_summary now path outcome c.climb rest number i child e
 
@@ -63,7 +60,14 @@ module _ {K V A : Type 0} {cmp : K → K → Ordering} (total : IsTotalOrder cmp
   few = few_there total is_summary now path outcome c.climb rest number i child e
 
   -- a node with room takes the child
-  module _ (before : A) (linked : IsLinked now after number i division step.node before) where
+  module _ (before : A) (link : (was : Inner K A) → now.inner number.0 ≡ Present was → IsLinked now after number i division was before) where
+    pub linked : IsLinked now after number i division step.node before
+    linked = link step.node node_stands
+
+    -- what holds of each node that it may have been
+    pub when_linked : {R : Type 0} → ((was : Inner K A) → now.inner number.0 ≡ Present was → HasPlace was i → IsLinked now after number i division was before → R) → R
+    when_linked f = f step.node node_stands node_place linked
+
     links : Links now after number i division.left division.separator division.node division.right step.node
     links = record {
       is = with_split step.node i division.left division.separator division.node division.right;
@@ -114,8 +118,8 @@ module _ {K V A : Type 0} {cmp : K → K → Ordering} (total : IsTotalOrder cmp
     abbrev pub climbs_linked : (above : A) → SumsUpAt cmp is_summary (after.inner number.0) above → Climbs cmp is_summary after rest above
     climbs_linked above sums = record { climb = climb_linked; enough = least_most c.climb.top rest; told = told_linked above sums }
 
-    pub risen_linked : (above : A) (sums : SumsUpAt cmp is_summary (after.inner number.0) above) (new : Slots (Inner K A) (Leaf K V)) (top : A) → Risen (climbs_linked above sums).climb new top → Risen c.climb new top
-    risen_linked above sums new top r = record { edits = r.edits; free = r.free; told = r.told }
+    pub risen_linked : (above : A) (sums : SumsUpAt cmp is_summary (after.inner number.0) above) (new : Slots (Inner K A) (Leaf K V)) (top : A) → ((up : Climbs cmp is_summary after rest above) → Risen up.climb new top) → Risen c.climb new top
+    risen_linked above sums new top rises = let r = rises (climbs_linked above sums) in record { edits = r.edits; free = r.free; told = r.told }
 
     pub place_linked : PlaceAt (after.inner number.0) (i + 1)
     place_linked =
@@ -138,7 +142,13 @@ module _ {K V A : Type 0} {cmp : K → K → Ordering} (total : IsTotalOrder cmp
         })
 
   -- a full node takes it and is split
-  module _ (up : K) (fresh : InnerNodeId) (before : A) (split : IsSplit now after number i division step.node up fresh before) where
+  module _ (up : K) (fresh : InnerNodeId) (before : A) (cut : (was : Inner K A) → now.inner number.0 ≡ Present was → IsSplit now after number i division was up fresh before) where
+    pub split : IsSplit now after number i division step.node up fresh before
+    split = cut step.node node_stands
+
+    pub when_split : {R : Type 0} → ((was : Inner K A) → now.inner number.0 ≡ Present was → HasPlace was i → length was.keys ≡ 64 → IsSplit now after number i division was up fresh before → R) → R
+    when_split f = f step.node node_stands node_place split.full split
+
     parts : Splits now after number i division.left division.separator division.node division.right step.node up fresh
     parts = record {
       left = split.left;
@@ -219,9 +229,9 @@ module _ {K V A : Type 0} {cmp : K → K → Ordering} (total : IsTotalOrder cmp
     climbs_split l r left_sums right_sums = record { climb = climb_split; enough = least_most c.climb.top rest; none_held = c.none_held; left = told_left l left_sums; right = told_right r right_sums }
 
     pub reaches_split : (l r : A) (left_sums : SumsUpAt cmp is_summary (after.inner number.0) l) (right_sums : SumsUpAt cmp is_summary (after.inner fresh.0) r) (new : Slots (Inner K A) (Leaf K V)) (top : Option InnerNodeId) (a : A)
-        → Reaches (climbs_split l r left_sums right_sums).climb new top a → Reaches c.climb new top a
-    reaches_split l r left_sums right_sums new None a r' = record { edits = r'.edits; free = r'.free; told = r'.told }
-    reaches_split l r left_sums right_sums new (Some id) a r' = record { mid = r'.mid; division = r'.division; edits = r'.edits; left = r'.left; right = r'.right; roots = r'.roots; free = r'.free; told = r'.told }
+        → ((over : ClimbsTwo cmp is_summary after rest (record { left = l; separator = up; node = kind.Inner fresh; right = r })) → over.climb.root ≡ c.climb.root → Reaches over.climb new top a) → Reaches c.climb new top a
+    reaches_split l r left_sums right_sums new None a rises = let r' = rises (climbs_split l r left_sums right_sums) refl in record { edits = r'.edits; free = r'.free; told = r'.told }
+    reaches_split l r left_sums right_sums new (Some id) a rises = let r' = rises (climbs_split l r left_sums right_sums) refl in record { mid = r'.mid; division = r'.division; edits = r'.edits; left = r'.left; right = r'.right; roots = r'.roots; free = r'.free; told = r'.told }
 
     pub sizes_split : HasKeysAt 32 (after.inner number.0) × HasKeysAt 32 (after.inner fresh.0) × (number.0 ≡ fresh.0 → ⊥)
     sizes_split = (rw split.at_left split.cut.left_size, rw split.at_right split.cut.right_size, λ same. let z : Present step.node ≡ Free = sym node_stands ∙ (ap now.inner same ∙ split.free) in cc)

@@ -16,7 +16,7 @@ use Rattle.bptree_nodes.specs.Slot.{Slot, Slots, Present, IsPresent, UpdatesLeaf
 use Rattle.bptree_keys.specs.declared.node_id.LeafNodeId.{LeafNodeId}
 use Rattle.bptree_keys.specs.declared.node_id.NodeId.TheVariants as kind
 use Rattle.bptree_keys.proofs.Around.{put_around}
-use Rattle.bptree_keys.proofs.PieceLemmas.{AllByRecursion-append, AllByRecursion-left, AllByRecursion-right}
+use Rattle.bptree_keys.proofs.PieceLemmas.{AllByRecursion-append, AllByRecursion-left, AllByRecursion-right, AllByRecursion-weaker}
 use Rattle.bptree_keys.proofs.Laws.{put_ascending}
 use Rattle.bptree_keys.proofs.Updates.{length_put}
 use Rattle.bptree_keys.proofs.Ascending.{all_pairs, greater_turned}
@@ -26,7 +26,7 @@ use Rattle.bptree_shape.specs.Order.{AtLeast, AtMost, Under, Within, Between}
 use Rattle.bptree_shape.specs.Shape.{leaf_pairs, leaf_count, stands, IsTree}
 use Rattle.bptree_shape.specs.Outcome.{Done, Split}
 use Rattle.bptree_shape.proofs.Agreeing.{stands_if_absent}
-use Rattle.bptree_shape.proofs.Ordered.{all_so, not_less_back, smaller_before, ascending_after}
+use Rattle.bptree_shape.proofs.Ordered.{not_less_back, smaller_before, ascending_after}
 use Rattle.bptree_shape.proofs.Spot.{ascending_before}
 
 module _ {K V : Type 0} (P : K → Type 0) where
@@ -73,7 +73,7 @@ module _ {K V : Type 0} {cmp : K → K → Ordering} (total : IsTotalOrder cmp) 
   pub below_start : (s : K) (xs ys : List (K × V)) → IsAscending cmp (xs ++ ys) → StartsAt cmp s ys → AllByRecursion (λ p. cmp p.0 s ≡ Less) xs
   below_start s xs [] ascending start = absurd start
   below_start s xs (y ∷ ys) ascending start =
-      all_so _ _ (λ p less. alike_right total s y.0 p.0 start ∙ less) xs (smaller_before total xs y ys ascending)
+      AllByRecursion-weaker _ _ (λ p less. alike_right total s y.0 p.0 start ∙ less) xs (smaller_before total xs y ys ascending)
 
   -- and from it on they are not
   pub from_start : (s : K) (ys : List (K × V)) → IsAscending cmp ys → StartsAt cmp s ys → AllByRecursion (λ p. is_lt (cmp p.0 s) ≡ false) ys
@@ -146,9 +146,9 @@ module _ {K V A : Type 0} {cmp : K → K → Ordering} (total : IsTotalOrder cmp
         let left_in = AllByRecursion-left (λ p. Within cmp lo hi p.0) left right all in
         let right_in = AllByRecursion-right (λ p. Within cmp lo hi p.0) left right all in
         rw (splits.at_left, splits.at_right) (
-          (tt, all_both (λ p. AtLeast cmp lo p.0) (λ p. cmp p.0 s ≡ Less) left (all_so _ _ (λ p w. w.0) left left_in) (below_start total s left right up start), ascending_before cmp left right up, splits.left_least, splits.left_most),
+          (tt, all_both (λ p. AtLeast cmp lo p.0) (λ p. cmp p.0 s ≡ Less) left (AllByRecursion-weaker _ _ (λ p w. w.0) left left_in) (below_start total s left right up start), ascending_before cmp left right up, splits.left_least, splits.left_most),
           start_between total lo hi s right right_in start,
-          (tt, all_both (λ p. is_lt (cmp p.0 s) ≡ false) (λ p. Under cmp hi p.0) right (from_start total s right up_right start) (all_so _ _ (λ p w. w.1) right right_in), up_right, splits.right_least, splits.right_most),
+          (tt, all_both (λ p. is_lt (cmp p.0 s) ≡ false) (λ p. Under cmp hi p.0) right (from_start total s right up_right start) (AllByRecursion-weaker _ _ (λ p w. w.1) right right_in), up_right, splits.right_least, splits.right_most),
         )
 
     split_stands : (n : ℕ) → cond (eqb fresh.0 n) 1 0 + stands (old.leaf n) ≡ stands (new.leaf n)

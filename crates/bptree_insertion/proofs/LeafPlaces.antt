@@ -1,5 +1,5 @@
 -- Places in a leaf: where a key is, where it would go, and which key begins the right part of a cut.
-use Rattle.std.proofs.Common.{◌≡◌, ℕ, zero, suc, ◌<◌, ◌≤◌, inl, inr, true, List, [], ◌∷◌, length, drop, refl, ◌∙◌, arith, Some, Result, Ok, Err, IfOk, slice_get, MatchResult}
+use Rattle.std.proofs.Common.{◌≡◌, ℕ, zero, suc, ◌<◌, ◌≤◌, inl, inr, List, [], ◌∷◌, length, drop, refl, ◌∙◌, arith, Some, Result, Ok, Err, IfOk, slice_get, MatchResult}
 use Rattle.std.specs.declared.cmp.Ordering.{Ordering}
 use Rattle.std.specs.declared.cmp.Ordering.TheVariants.{Equal}
 use Rattle.std.specs.Cmp.{IsTotalOrder}
@@ -7,17 +7,8 @@ use Rattle.std.specs.List.{insert}
 use Rattle.std.proofs.lemmas.Cmp.{tied_back}
 use Rattle.std.proofs.lemmas.Bool.{cases_lt}
 use Rattle.std.proofs.lemmas.Bool.Decides.{nat_tests}
-use Rattle.bptree_keys.specs.Contents.{IsAscending, has}
 use Rattle.bptree_nodes.specs.Leaf.{split_place}
-use Rattle.bptree_nodes.specs.LeafResults.{HasEqualAt}
-use Rattle.bptree_keys.proofs.Found.{hit_at}
-use Rattle.bptree_keys.proofs.Parted.{has_hit}
 use Rattle.bptree_insertion.specs.Change.{StartsAt}
-
--- a key whose place was found is there
-pub has_if_found : {K V : Type 0} (cmp : K → K → Ordering) (total : IsTotalOrder cmp) (l : List (K × V)) (ascending : IsAscending cmp l) (k : K) (i : ℕ) → HasEqualAt cmp l k i → has cmp l k ≡ true
-has_if_found cmp total [] ascending k i found = absurd found
-has_if_found cmp total (p ∷ l) ascending k i found = has_hit cmp (p ∷ l) _ _ _ k (hit_at cmp total (p ∷ l) ascending k i p found).1
 
 -- what stands at a place before or behind one where something is inserted
 pub get_before : {X : Type 0} (xs : List X) (i : ℕ) (x : X) (n : ℕ) → n < i → i ≤ length xs → slice_get (insert xs i x) n ≡ slice_get xs n

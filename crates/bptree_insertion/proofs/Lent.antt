@@ -4,7 +4,6 @@ use mathlib.Core.Bool.{true≢false}
 use Rattle.std.specs.declared.cmp.Ordering.{Ordering}
 use Rattle.std.specs.declared.cmp.Ordering.TheVariants.{Less}
 use Rattle.std.specs.Cmp.{IsTotalOrder}
-use Rattle.std.specs.List.{AllByRecursion}
 use Rattle.std.specs.Map.{keys_of}
 use Rattle.std.proofs.lemmas.Bool.Decides.{eqb_tells}
 use Rattle.std.proofs.lemmas.Bool.{eq-eqb}
@@ -22,7 +21,8 @@ use Rattle.bptree_keys.proofs.Equal.{has_where_value}
 use Rattle.bptree_keys.proofs.Found.{hit_at}
 use Rattle.bptree_nodes.proofs.LeafContents.{put_at_place}
 use Rattle.bptree_keys.proofs.Parted.{has_past, has_hit}
-use Rattle.bptree_shape.specs.Leaves.{pairs_of, IsLeafFor}
+use Rattle.bptree_keys.proofs.PieceLemmas.{AllByRecursion-left, AllByRecursion-right}
+use Rattle.bptree_shape.specs.Leaves.{pairs_of, StandsIn, IsLeafFor}
 use Rattle.bptree_insertion.specs.Lending.{holder, written, store_written}
 use Rattle.bptree_shape.specs.Shape.{leaf_pairs, pairs_at, leaves_at, leaf_count, stands, IsWellShaped}
 use Rattle.bptree_insertion.proofs.Alike.{AreAlike, shape_same, keys_same, leaves_same}
@@ -45,17 +45,55 @@ pairs_apart old new number others (l ∷ ids) none =
       | inr other ↦ (let e = other.0 in let z = rw e at none in rw (others l.0 other.1, pairs_apart old new number others ids (omega (arith, z))) refl)
     ]
 
+-- a value is written at a slot of one leaf
+module _ {K V A : Type 0} (cmp : K → K → Ordering) (is_summary : A → List K → Type 0) (slots new : Slots (Inner K A) (Leaf K V)) (h : ℕ) (root : NodeId) (shape : IsWellShaped cmp is_summary slots h root)
+    (leaf : LeafNodeId) (node : Leaf K V) (e : slots.leaf leaf.0 ≡ Present node) (in' : StandsIn slots h root leaf) (i : ℕ) (w : V)
+    (updates : UpdatesLeaf slots new leaf.0 (Present (record node { pairs = set_value_at node.pairs i w }))) where
+  alike : (n : ℕ) → AreAlike (slots.leaf n) (new.leaf n)
+  alike n =
+      elim (eqb_tells n leaf.0) [
+        | inl same ↦ (rw same.1 (rw (updates.leaf.changed, e) (record { keys = keys_stay node.pairs i w; prev = refl; next = refl; stands = refl; held = λ z. cc })))
+        | inr other ↦ (rw (updates.leaf.others n other.1) (record { keys = refl; prev = refl; next = refl; stands = refl; held = λ z. z }))
+      ]
+
+  -- the shape stays
+  pub set_shape : IsWellShaped cmp is_summary new h root
+  set_shape =
+      subst (λ (f : ℕ → Slot (Inner K A)). IsWellShaped cmp is_summary (record { inner = f; leaf = new.leaf }) h root) (sym updates.inner)
+      (shape_same cmp is_summary slots.inner slots.leaf new.leaf alike h root shape)
+
+  pub set_keys : keys_of (pairs_at new h root) ≡ keys_of (pairs_at slots h root)
+  set_keys =
+      subst (λ (f : ℕ → Slot (Inner K A)). keys_of (pairs_at (record { inner = f; leaf = new.leaf }) h root) ≡ keys_of (pairs_at slots h root)) (sym updates.inner)
+      (keys_same cmp is_summary slots.inner slots.leaf new.leaf alike h root)
+
+  pub set_leaves : leaves_at new h root ≡ leaves_at slots h root
+  set_leaves =
+      subst (λ (f : ℕ → Slot (Inner K A)). leaves_at (record { inner = f; leaf = new.leaf }) h root ≡ leaves_at slots h root) (sym updates.inner)
+      (leaves_same cmp is_summary slots.inner slots.leaf new.leaf alike h root)
+
+  once : (count_of in'.before leaf.0 ≡ 0) × (count_of in'.after leaf.0 ≡ 0)
+  once =
+      let one : leaf_count slots h root leaf.0 ≡ 1 = shape.leaves leaf.0 ∙ ap stands e in
+      let all = ap (λ ids. count_of ids leaf.0) in'.leaves in
+      let parts = total-append (λ (l : LeafNodeId). cond (eqb l.0 leaf.0) 1 0) in'.before (leaf ∷ in'.after) in
+      let here : ◌≡◌ {A = ℕ} (cond (eqb leaf.0 leaf.0) 1 0) 1 = rw (eq-eqb leaf.0 leaf.0 refl) refl in
+      (omega (arith, one, count_leaves slots h root leaf.0, all, parts, here), omega (arith, one, count_leaves slots h root leaf.0, all, parts, here))
+
+  -- its pairs, between those of the leaves before it and after it
+  pub set_parts : pairs_at new h root ≡ pairs_of slots in'.before ++ (set_value_at node.pairs i w ++ pairs_of slots in'.after)
+  set_parts =
+      sym (pairs_of_leaves new h root)
+      ∙ (ap (pairs_of new) (set_leaves ∙ in'.leaves)
+      ∙ (flat-append (λ (l : LeafNodeId). leaf_pairs (new.leaf l.0)) in'.before (leaf ∷ in'.after)
+      ∙ rw (pairs_apart slots new leaf.0 updates.leaf.others in'.before once.0, pairs_apart slots new leaf.0 updates.leaf.others in'.after once.1, updates.leaf.changed) refl))
+
+  pub set_length : length (pairs_at new h root) ≡ length (pairs_at slots h root)
+  set_length = sym (length-keys_of (pairs_at new h root)) ∙ (ap length set_keys ∙ length-keys_of (pairs_at slots h root))
+
 -- no key that answers Less equals k
 none_there : {K V : Type 0} (cmp : K → K → Ordering) (k : K) (l : List (K × V)) → AllAnswer cmp k Less l → has cmp l k ≡ false
 none_there cmp k l all = rw (← append-nil l, has_past cmp k Less l [] refl all) refl
-
-all_left : {X : Type 0} (P : X → Type 0) (xs ys : List X) → AllByRecursion P (xs ++ ys) → AllByRecursion P xs
-all_left P [] ys all = tt
-all_left P (x ∷ xs) ys all = (all.0, all_left P xs ys all.1)
-
-all_right : {X : Type 0} (P : X → Type 0) (xs ys : List X) → AllByRecursion P (xs ++ ys) → AllByRecursion P ys
-all_right P [] ys all = all
-all_right P (x ∷ xs) ys all = all_right P xs ys all.1
 
 module _ {K V A : Type 0} (cmp : K → K → Ordering) (slots : Slots (Inner K A) (Leaf K V)) (k : K) where
   -- the leaf that holds a key, behind leaves of smaller keys
@@ -63,8 +101,8 @@ module _ {K V A : Type 0} (cmp : K → K → Ordering) (slots : Slots (Inner K A
   held_by [] leaf after smaller there = rw there refl
   held_by (l ∷ before) leaf after smaller there =
       let here = leaf_pairs (slots.leaf l.0) in
-      rw (none_there cmp k here (all_left (λ p. cmp p.0 k ≡ Less) here (pairs_of slots before) smaller))
-      (held_by before leaf after (all_right (λ p. cmp p.0 k ≡ Less) here (pairs_of slots before) smaller) there)
+      rw (none_there cmp k here (AllByRecursion-left (λ p. cmp p.0 k ≡ Less) here (pairs_of slots before) smaller))
+      (held_by before leaf after (AllByRecursion-right (λ p. cmp p.0 k ≡ Less) here (pairs_of slots before) smaller) there)
 
 module _ {K V A : Type 0} {cmp : K → K → Ordering} (total : IsTotalOrder cmp) (is_summary : A → List K → Type 0) (slots new : Slots (Inner K A) (Leaf K V)) (h : ℕ) (root : NodeId)
     (shape : IsWellShaped cmp is_summary slots h root) (ascending : IsAscending cmp (pairs_at slots h root)) (k : K) (leaf : LeafNodeId) (node : Leaf K V) (e : slots.leaf leaf.0 ≡ Present node)
@@ -87,49 +125,13 @@ module _ {K V A : Type 0} {cmp : K → K → Ordering} (total : IsTotalOrder cmp
   pub holder_is : holder cmp slots (leaves_at slots h root) k ≡ Some leaf
   holder_is = rw for'.stands.leaves (held_by cmp slots k for'.stands.before leaf for'.stands.after for'.smaller (rw e there))
 
-  module _ (w : V) (updates : UpdatesLeaf slots new leaf.0 (Present (record node { pairs = set_value_at node.pairs i w }))) where
-    alike : (n : ℕ) → AreAlike (slots.leaf n) (new.leaf n)
-    alike n =
-        elim (eqb_tells n leaf.0) [
-          | inl same ↦ (rw same.1 (rw (updates.leaf.changed, e) (record { keys = keys_stay node.pairs i w; prev = refl; next = refl; stands = refl; held = λ z. cc })))
-          | inr other ↦ (rw (updates.leaf.others n other.1) (record { keys = refl; prev = refl; next = refl; stands = refl; held = λ z. z }))
-        ]
-
-    -- the shape stays
-    pub lent_shape : IsWellShaped cmp is_summary new h root
-    lent_shape =
-        subst (λ (f : ℕ → Slot (Inner K A)). IsWellShaped cmp is_summary (record { inner = f; leaf = new.leaf }) h root) (sym updates.inner)
-        (shape_same cmp is_summary slots.inner slots.leaf new.leaf alike h root shape)
-
-    pub lent_keys : keys_of (pairs_at new h root) ≡ keys_of (pairs_at slots h root)
-    lent_keys =
-        subst (λ (f : ℕ → Slot (Inner K A)). keys_of (pairs_at (record { inner = f; leaf = new.leaf }) h root) ≡ keys_of (pairs_at slots h root)) (sym updates.inner)
-        (keys_same cmp is_summary slots.inner slots.leaf new.leaf alike h root)
-
-    lent_leaves : leaves_at new h root ≡ leaves_at slots h root
-    lent_leaves =
-        subst (λ (f : ℕ → Slot (Inner K A)). leaves_at (record { inner = f; leaf = new.leaf }) h root ≡ leaves_at slots h root) (sym updates.inner)
-        (leaves_same cmp is_summary slots.inner slots.leaf new.leaf alike h root)
-
-    once : (count_of for'.stands.before leaf.0 ≡ 0) × (count_of for'.stands.after leaf.0 ≡ 0)
-    once =
-        let one : leaf_count slots h root leaf.0 ≡ 1 = shape.leaves leaf.0 ∙ ap stands e in
-        let all = ap (λ ids. count_of ids leaf.0) for'.stands.leaves in
-        let parts = total-append (λ (l : LeafNodeId). cond (eqb l.0 leaf.0) 1 0) for'.stands.before (leaf ∷ for'.stands.after) in
-        let here : ◌≡◌ {A = ℕ} (cond (eqb leaf.0 leaf.0) 1 0) 1 = rw (eq-eqb leaf.0 leaf.0 refl) refl in
-        (omega (arith, one, count_leaves slots h root leaf.0, all, parts, here), omega (arith, one, count_leaves slots h root leaf.0, all, parts, here))
-
-    -- the contents have that one value written
-    pub lent_pairs : pairs_at new h root ≡ written cmp k (pairs_at slots h root) w
-    lent_pairs =
-        sym (pairs_of_leaves new h root) ∙ ap (pairs_of new) (lent_leaves ∙ for'.stands.leaves)
-        ∙ flat-append (λ (l : LeafNodeId). leaf_pairs (new.leaf l.0)) for'.stands.before (leaf ∷ for'.stands.after)
-        ∙ rw (pairs_apart slots new leaf.0 updates.leaf.others for'.stands.before once.0, pairs_apart slots new leaf.0 updates.leaf.others for'.stands.after once.1, updates.leaf.changed, written_at w)
-        (sym (ap (λ l. written cmp k l w) (parts_of_read slots h root leaf for'.stands node e)
-        ∙ set_value_around cmp k (pairs_of slots for'.stands.before) node.pairs (pairs_of slots for'.stands.after) for'.smaller for'.greater w))
-
-    pub lent_length : length (pairs_at new h root) ≡ length (pairs_at slots h root)
-    lent_length = sym (length-keys_of (pairs_at new h root)) ∙ (ap length lent_keys ∙ length-keys_of (pairs_at slots h root))
+  -- the contents have that one value written
+  pub lent_pairs : (w : V) → UpdatesLeaf slots new leaf.0 (Present (record node { pairs = set_value_at node.pairs i w })) → pairs_at new h root ≡ written cmp k (pairs_at slots h root) w
+  lent_pairs w updates =
+      set_parts cmp is_summary slots new h root shape leaf node e for'.stands i w updates
+      ∙ rw (written_at w)
+      (sym (ap (λ l. written cmp k l w) (parts_of_read slots h root leaf for'.stands node e)
+      ∙ set_value_around cmp k (pairs_of slots for'.stands.before) node.pairs (pairs_of slots for'.stands.after) for'.smaller for'.greater w))
 
 -- the same, of a store
 module _ {S K V A : Type 0} {cmp : K → K → Ordering} (total : IsTotalOrder cmp) (is_summary : A → List K → Type 0) (slots : S → Slots (Inner K A) (Leaf K V)) (with_leaf : S → ℕ → Leaf K V → S) (store : S) (h : ℕ) (root : NodeId)

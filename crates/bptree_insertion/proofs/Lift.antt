@@ -15,7 +15,7 @@ use Rattle.bptree_keys.specs.declared.node_id.InnerNodeId.{InnerNodeId}
 use Rattle.bptree_keys.specs.declared.node_id.LeafNodeId.{LeafNodeId}
 use Rattle.bptree_keys.specs.declared.node_id.NodeId.{NodeId}
 use Rattle.bptree_keys.specs.declared.node_id.NodeId.TheVariants as kind
-use Rattle.bptree_keys.proofs.PieceLemmas.{AllByRecursion-left, AllByRecursion-right, AllZip-left, AllZip-right}
+use Rattle.bptree_keys.proofs.PieceLemmas.{AllByRecursion-left, AllByRecursion-right, AllZip-left, AllZip-right, AllByRecursion-weaker}
 use Rattle.bptree_insertion.specs.Change.{Keeps, Links, Splits}
 use Rattle.bptree_shape.specs.Edit.{IsLocal, CanReach, Turn, Stays, Gains, Loses, Extends, LinksAt, Edits}
 use Rattle.bptree_shape.specs.Order.{flat, total, Within, Between, Chain, Leads}
@@ -25,7 +25,7 @@ use Rattle.bptree_shape.specs.Outcome.{Outcome, Done, Split}
 use Rattle.bptree_shape.proofs.Agreeing.{stands_le, stands_if_absent, flat_same, total_same, map_same, each_keeps, Chain-so}
 use Rattle.bptree_shape.proofs.Frame.{Same, all_same}
 use Rattle.bptree_shape.proofs.Hinted.{total-append}
-use Rattle.bptree_shape.proofs.Ordered.{all_so, AtLeast-up}
+use Rattle.bptree_shape.proofs.Ordered.{AtLeast-up}
 use Rattle.bptree_shape.proofs.Walk.{flat-append}
 use Rattle.bptree_shape.proofs.Widen.{leads_within, own_inners, node_stays, Grown, grown_done, grown_split, zipped_done, zipped_split, below_leaves, below_inners}
 
@@ -54,9 +54,6 @@ module _ {K V A : Type 0} {cmp : K → K → Ordering} (total' : IsTotalOrder cm
     (can : CanReach cmp old (suc m) (kind.Inner id) k) (is : old.inner id.0 ≡ Present node) (leads : Leads cmp k node.keys i) (read : slice_get node.children i ≡ Some child)
     (outcome : Outcome K) (at : Edits cmp is_summary edit kept old new m child k leaf turn outcome) (least : ℕ) (ks : List K) (cs : List NodeId)
     (grown : Grown total' is_summary edit kept old new m id k node i child leaf turn local can is leads read least ks cs) where
-  stays : new.inner id.0 ≡ Present node
-  stays = node_stays total' is_summary edit kept old new m id k node i child leaf turn local can is leads read outcome at
-
   own : (x : ℕ) → cond (eqb id.0 x) 1 0 + total (λ c. inner_count old m c x) node.children ≤ stands (old.inner x)
   own x = own_inners old m id k node i child can is leads x
 
@@ -65,22 +62,6 @@ module _ {K V A : Type 0} {cmp : K → K → Ordering} (total' : IsTotalOrder cm
       let h = own id.0 in
       let own_one = rw (eq-eqb id.0 id.0 refl) at h in
       omega (arith, own_one, stands_le (old.inner id.0), stands_le (new.inner id.0), grown.inners id.0)
-
-  not_node : (x : ℕ) → 1 ≤ total (λ c. inner_count new m c x) cs → x ≡ id.0 → ⊥
-  not_node x some q = let z : 1 ≤ total (λ c. inner_count new m c id.0) cs = subst (λ y. 1 ≤ total (λ c. inner_count new m c y) cs) q some in omega (arith, apart)
-
-  not_absent : (x y : ℕ) → 1 ≤ total (λ c. inner_count new m c x) cs → (IsPresent (new.inner y) → ⊥) → x ≡ y → ⊥
-  not_absent x y some absent q =
-      let z : stands (new.inner x) ≡ 0 = ap (λ n. stands (new.inner n)) q ∙ stands_if_absent (new.inner y) absent in omega (arith, own x, grown.inners x)
-
-  other_than_node : (x : ℕ) → inner_count old (suc m) (kind.Inner id) x ≡ 0 → x ≡ id.0 → ⊥
-  other_than_node x none q = let e : eqb id.0 x ≡ true = eq-eqb id.0 x (sym q) in let y = rw (is, e) at none in omega arith
-
-  kept_inners : (x : ℕ) → inner_count old (suc m) (kind.Inner id) x ≡ 0 → IsPresent (old.inner x) → new.inner x ≡ old.inner x
-  kept_inners x none some = at.other_inners x (below_inners total' is_summary edit kept old new m id k node i child leaf turn local can is leads read x none) some
-
-  kept_leaves : (x : ℕ) → leaf_count old (suc m) (kind.Inner id) x ≡ 0 → IsPresent (old.leaf x) → new.leaf x ≡ old.leaf x
-  kept_leaves x none some = at.other_leaves x (below_leaves total' is_summary edit kept old new m id k node i child leaf turn local can is leads read x none) some
 
   -- how far the children reach
   pub record Reach : Type 0 where
@@ -91,38 +72,18 @@ module _ {K V A : Type 0} {cmp : K → K → Ordering} (total' : IsTotalOrder cm
     pub kept_leaves : (x : ℕ) → leaf_count old (suc m) (kind.Inner id) x ≡ 0 → IsPresent (old.leaf x) → new.leaf x ≡ old.leaf x
 
   reach : Reach
-  reach = record { not_node = not_node; not_absent = not_absent; other_than_node = other_than_node; kept_inners = kept_inners; kept_leaves = kept_leaves }
+  reach = record {
+    not_node = λ x some q. let z : 1 ≤ total (λ c. inner_count new m c id.0) cs = subst (λ y. 1 ≤ total (λ c. inner_count new m c y) cs) q some in omega (arith, apart);
+    not_absent = λ x y some absent q. let z : stands (new.inner x) ≡ 0 = ap (λ n. stands (new.inner n)) q ∙ stands_if_absent (new.inner y) absent in omega (arith, own x, grown.inners x);
+    other_than_node = λ x none q. let e : eqb id.0 x ≡ true = eq-eqb id.0 x (sym q) in let y = rw (is, e) at none in omega arith;
+    kept_inners = λ x none some. at.other_inners x (below_inners total' is_summary edit kept old new m id k node i child leaf turn local can is leads read x none) some;
+    kept_leaves = λ x none some. at.other_leaves x (below_leaves total' is_summary edit kept old new m id k node i child leaf turn local can is leads read x none) some;
+  }
 
   -- the store is changed once more, where the grown children do not reach
   module _ (leaf_same : (x : ℕ) → after.leaf x ≡ new.leaf x) (agrees : (x : ℕ) → 1 ≤ total (λ c. inner_count new m c x) cs → after.inner x ≡ new.inner x) where
     all : AllByRecursion (Same cmp is_summary new after m) cs
     all = all_same cmp is_summary new after m cs ((λ x some. leaf_same x), agrees)
-
-    chain : (lo hi : Option K) → Chain cmp (IsTree cmp old 16 m) node.keys node.children lo hi → Within cmp lo hi k → Chain cmp (IsTree cmp after least m) ks cs lo hi
-    chain lo hi c w = Chain-so cmp (IsTree cmp new least m) (IsTree cmp after least m) ks cs lo hi (all_so _ _ (λ c s a b. s.tree least a b) cs all) (grown.chain lo hi c w)
-
-    pairs : flat (pairs_at after m) cs ≡ edit (flat (pairs_at old m) node.children)
-    pairs = flat_same (pairs_at new m) (pairs_at after m) cs (all_so _ _ (λ c s. s.pairs) cs all) ∙ grown.pairs
-
-    leaves : (x : ℕ) → total (λ c. leaf_count after m c x) cs + stands (old.leaf x) ≡ total (λ c. leaf_count old m c x) node.children + stands (after.leaf x)
-    leaves x = omega (arith, grown.leaves x, ap stands (leaf_same x), total_same (λ c. leaf_count new m c x) (λ c. leaf_count after m c x) cs (all_so _ _ (λ c s. s.leaves x) cs all))
-
-    inners : (x : ℕ) → total (λ c. inner_count after m c x) cs + stands (old.inner x) ≡ total (λ c. inner_count old m c x) node.children + stands (new.inner x)
-    inners x = omega (arith, grown.inners x, total_same (λ c. inner_count new m c x) (λ c. inner_count after m c x) cs (all_so _ _ (λ c s. s.inners x) cs all))
-
-    order : Extends (flat (leaves_at old m) node.children) leaf turn (flat (leaves_at after m) cs)
-    order = subst (Extends (flat (leaves_at old m) node.children) leaf turn) (sym (flat_same (leaves_at new m) (leaves_at after m) cs (all_so _ _ (λ c s. s.order) cs all))) grown.order
-
-    summed : IsSummed old is_summary (suc m) (kind.Inner id) → AllByRecursion (IsSummed after is_summary m) cs
-    summed h =
-        let both : AllZip is_summary node.arguments (map (λ c. keys_of (pairs_at old m c)) node.children) × AllByRecursion (IsSummed old is_summary m) node.children = rw is at h in
-        each_keeps (IsSummed new is_summary m) (IsSummed after is_summary m) cs (all_so _ _ (λ c s. s.summed) cs all) (grown.summed both.1)
-
-    zipped : (arguments : List A) → AllZip is_summary arguments (map (λ c. keys_of (pairs_at new m c)) cs) → AllZip is_summary arguments (map (λ c. keys_of (pairs_at after m c)) cs)
-    zipped arguments zip = rw (map_same (λ c. keys_of (pairs_at new m c)) (λ c. keys_of (pairs_at after m c)) cs (all_so _ _ (λ c s. ap keys_of s.pairs) cs all)) zip
-
-    links : LinksAt old after leaf turn
-    links = links_moved old new after leaf turn leaf_same at.links
 
     -- what the children are then
     pub record Moved : Type 0 where
@@ -136,7 +97,18 @@ module _ {K V A : Type 0} {cmp : K → K → Ordering} (total' : IsTotalOrder cm
       pub links : LinksAt old after leaf turn
 
     moved_there : Moved
-    moved_there = record { chain = chain; pairs = pairs; leaves = leaves; inners = inners; order = order; summed = summed; zipped = zipped; links = links }
+    moved_there = record {
+      chain = λ lo hi c w. Chain-so cmp (IsTree cmp new least m) (IsTree cmp after least m) ks cs lo hi (AllByRecursion-weaker _ _ (λ c s a b. s.tree least a b) cs all) (grown.chain lo hi c w);
+      pairs = flat_same (pairs_at new m) (pairs_at after m) cs (AllByRecursion-weaker _ _ (λ c s. s.pairs) cs all) ∙ grown.pairs;
+      leaves = λ x. omega (arith, grown.leaves x, ap stands (leaf_same x), total_same (λ c. leaf_count new m c x) (λ c. leaf_count after m c x) cs (AllByRecursion-weaker _ _ (λ c s. s.leaves x) cs all));
+      inners = λ x. omega (arith, grown.inners x, total_same (λ c. inner_count new m c x) (λ c. inner_count after m c x) cs (AllByRecursion-weaker _ _ (λ c s. s.inners x) cs all));
+      order = subst (Extends (flat (leaves_at old m) node.children) leaf turn) (sym (flat_same (leaves_at new m) (leaves_at after m) cs (AllByRecursion-weaker _ _ (λ c s. s.order) cs all))) grown.order;
+      summed = λ h.
+          let both : AllZip is_summary node.arguments (map (λ c. keys_of (pairs_at old m c)) node.children) × AllByRecursion (IsSummed old is_summary m) node.children = rw is at h in
+          each_keeps (IsSummed new is_summary m) (IsSummed after is_summary m) cs (AllByRecursion-weaker _ _ (λ c s. s.summed) cs all) (grown.summed both.1);
+      zipped = λ arguments zip. rw (map_same (λ c. keys_of (pairs_at new m c)) (λ c. keys_of (pairs_at after m c)) cs (AllByRecursion-weaker _ _ (λ c s. ap keys_of s.pairs) cs all)) zip;
+      links = links_moved old new after leaf turn leaf_same at.links;
+    }
 
 module _ {K V A : Type 0} {cmp : K → K → Ordering} (total' : IsTotalOrder cmp) (is_summary : A → List K → Type 0) (edit : List (K × V) → List (K × V)) (kept : ℕ) (old new after : Slots (Inner K A) (Leaf K V))
     (m : ℕ) (id : InnerNodeId) (k : K) (node : Inner K A) (i : ℕ) (child : NodeId) (leaf : LeafNodeId) (turn : Turn) (local : IsLocal cmp k edit)

@@ -3,7 +3,6 @@
 use Rattle.std.proofs.Common.{◌≡◌, ℕ, zero, suc, ◌+◌, ◌≤◌, inl, inr, cond, List, [], ◌∷◌, ◌++◌, refl, sym, ap, ◌∙◌, arith, Option, Some, None, eqb}
 use Rattle.std.specs.declared.cmp.Ordering.{Ordering}
 use Rattle.std.specs.List.{AllByRecursion}
-use Rattle.std.specs.Map.{keys_of}
 use Rattle.std.proofs.lemmas.Bool.{eq-eqb}
 use Rattle.std.proofs.lemmas.Bool.Decides.{eqb_tells}
 use Rattle.bptree_nodes.specs.Inner.{Inner}
@@ -15,67 +14,41 @@ use Rattle.bptree_keys.specs.declared.node_id.NodeId.TheVariants as kind
 use Rattle.bptree_insertion.specs.Change.{Mends}
 use Rattle.bptree_shape.specs.Edit.{Gains, Loses, SameLinks, LinksAt}
 use Rattle.bptree_shape.specs.Order.{total}
-use Rattle.bptree_shape.specs.Shape.{leaf_pairs, leaf_prev, leaf_next, inner_keys, inner_children, pairs_at, leaves_at, leaf_count, inner_count, stands, AreLinked, IsSummed, IsTree}
-use Rattle.bptree_shape.proofs.Agreeing.{present_if_stands, stands_if_present, flat_same, total_same, map_same, each_keeps, Chain-so}
+use Rattle.bptree_shape.specs.Shape.{leaf_pairs, leaf_prev, leaf_next, inner_children, inner_count, stands, AreLinked}
+use Rattle.bptree_shape.proofs.Agreeing.{present_if_stands, stands_if_present}
 use Rattle.bptree_shape.proofs.Hinted.{total-append, count_of, first_or}
-use Rattle.bptree_shape.proofs.Ordered.{all_so}
+use Rattle.bptree_shape.proofs.Frame.{Same, same_inner}
 
 -- the same pairs stand there, with what links there may be
 pub record KeepsPairs {K V : Type 0} (old new : Slot (Leaf K V)) : Type 0 where
   pub pairs : leaf_pairs new ≡ leaf_pairs old
   pub stands : stands new ≡ stands old
 
-module _ {K V A : Type 0} (cmp : K → K → Ordering) (is_summary : A → List K → Type 0) (old new : Slots (Inner K A) (Leaf K V)) where
-  -- what a tree reads is the same, but for links
-  pub record ReadsSame (h : ℕ) (id : NodeId) : Type 0 where
-    pub pairs : pairs_at new h id ≡ pairs_at old h id
-    pub order : leaves_at new h id ≡ leaves_at old h id
-    pub leaves : (n : ℕ) → leaf_count new h id n ≡ leaf_count old h id n
-    pub inners : (n : ℕ) → inner_count new h id n ≡ inner_count old h id n
-    pub tree : (least : ℕ) (lo hi : Option K) → IsTree cmp old least h id lo hi → IsTree cmp new least h id lo hi
-    pub summed : IsSummed old is_summary h id → IsSummed new is_summary h id
+module _ {K V A : Type 0} (cmp : K → K → Ordering) (is_summary : A → List K → Type 0) (old new : Slots (Inner K A) (Leaf K V)) (kept : (n : ℕ) → KeepsPairs (old.leaf n) (new.leaf n)) where
+  leaf_reads : (id : LeafNodeId) → Same cmp is_summary old new 0 (kind.Leaf id)
+  leaf_reads id =
+      let same = kept id.0 in
+      record {
+        pairs = same.pairs;
+        order = refl;
+        leaves = λ n. refl;
+        inners = λ n. refl;
+        tree = λ least lo hi tree. (present_if_stands (new.leaf id.0) (omega (arith, same.stands, stands_if_present (old.leaf id.0) tree.0)), rw same.pairs tree.1, rw same.pairs tree.2, rw same.pairs tree.3, rw same.pairs tree.4);
+        summed = λ sums. tt;
+      }
 
-  module _ (kept : (n : ℕ) → KeepsPairs (old.leaf n) (new.leaf n)) where
-    leaf_reads : (id : LeafNodeId) → ReadsSame 0 (kind.Leaf id)
-    leaf_reads id =
-        let same = kept id.0 in
-        record {
-          pairs = same.pairs;
-          order = refl;
-          leaves = λ n. refl;
-          inners = λ n. refl;
-          tree = λ least lo hi tree. (present_if_stands (new.leaf id.0) (omega (arith, same.stands, stands_if_present (old.leaf id.0) tree.0)), rw same.pairs tree.1, rw same.pairs tree.2, rw same.pairs tree.3, rw same.pairs tree.4);
-          summed = λ sums. tt;
-        }
+  all_read : (h : ℕ) → ((id : NodeId) → ((n : ℕ) → 1 ≤ inner_count old h id n → new.inner n ≡ old.inner n) → Same cmp is_summary old new h id)
+      → (cs : List NodeId) → ((n : ℕ) → 1 ≤ total (λ c. inner_count old h c n) cs → new.inner n ≡ old.inner n) → AllByRecursion (Same cmp is_summary old new h) cs
+  all_read h below [] stay = tt
+  all_read h below (c ∷ cs) stay = (below c (λ n some. stay n (omega (arith, some))), all_read h below cs (λ n some. stay n (omega (arith, some))))
 
-    all_read : (h : ℕ) → ((id : NodeId) → ((n : ℕ) → 1 ≤ inner_count old h id n → new.inner n ≡ old.inner n) → ReadsSame h id)
-        → (cs : List NodeId) → ((n : ℕ) → 1 ≤ total (λ c. inner_count old h c n) cs → new.inner n ≡ old.inner n) → AllByRecursion (ReadsSame h) cs
-    all_read h below [] stay = tt
-    all_read h below (c ∷ cs) stay = (below c (λ n some. stay n (omega (arith, some))), all_read h below cs (λ n some. stay n (omega (arith, some))))
-
-    -- where each inner node that it reaches stays
-    pub reads_same : (h : ℕ) (id : NodeId) → ((n : ℕ) → 1 ≤ inner_count old h id n → new.inner n ≡ old.inner n) → ReadsSame h id
-    reads_same zero (kind.Leaf id) stay = leaf_reads id
-    reads_same zero (kind.Inner id) stay = record { pairs = refl; order = refl; leaves = λ n. refl; inners = λ n. refl; tree = λ least lo hi tree. absurd tree; summed = λ sums. tt }
-    reads_same (suc h) (kind.Leaf id) stay = record { pairs = refl; order = refl; leaves = λ n. refl; inners = λ n. refl; tree = λ least lo hi tree. absurd tree; summed = λ sums. tt }
-    reads_same (suc h) (kind.Inner id) stay =
-        let e : new.inner id.0 ≡ old.inner id.0 = stay id.0 (rw (eq-eqb id.0 id.0 refl) (omega arith)) in
-        let cs = inner_children (old.inner id.0) in
-        let all : AllByRecursion (ReadsSame h) cs = all_read h (reads_same h) cs (λ n some. stay n (omega (arith, some))) in
-        let pairs_all = all_so _ _ (λ c same. same.pairs) cs all in
-        record {
-          pairs = rw e (flat_same (pairs_at old h) (pairs_at new h) cs pairs_all);
-          order = rw e (flat_same (leaves_at old h) (leaves_at new h) cs (all_so _ _ (λ c same. same.order) cs all));
-          leaves = λ n. rw e (total_same (λ c. leaf_count old h c n) (λ c. leaf_count new h c n) cs (all_so _ _ (λ c same. same.leaves n) cs all));
-          inners = λ n. rw e (ap (λ m. cond (eqb id.0 n) 1 0 + m) (total_same (λ c. inner_count old h c n) (λ c. inner_count new h c n) cs (all_so _ _ (λ c same. same.inners n) cs all)));
-          tree = λ least lo hi tree.
-              rw e (tree.0, Chain-so cmp (IsTree cmp old 16 h) (IsTree cmp new 16 h) (inner_keys (old.inner id.0)) cs lo hi (all_so _ _ (λ c same a b. same.tree 16 a b) cs all) tree.1, tree.2, tree.3);
-          summed = λ sums.
-              rw e (
-                rw (map_same (λ c. keys_of (pairs_at old h c)) (λ c. keys_of (pairs_at new h c)) cs (all_so _ _ (λ c same. ap keys_of same.pairs) cs all)) sums.0,
-                each_keeps (IsSummed old is_summary h) (IsSummed new is_summary h) cs (all_so _ _ (λ c same. same.summed) cs all) sums.1,
-              );
-        }
+  -- where each inner node that it reaches stays
+  pub reads_same : (h : ℕ) (id : NodeId) → ((n : ℕ) → 1 ≤ inner_count old h id n → new.inner n ≡ old.inner n) → Same cmp is_summary old new h id
+  reads_same zero (kind.Leaf id) stay = leaf_reads id
+  reads_same zero (kind.Inner id) stay = record { pairs = refl; order = refl; leaves = λ n. refl; inners = λ n. refl; tree = λ least lo hi tree. absurd tree; summed = λ sums. tt }
+  reads_same (suc h) (kind.Leaf id) stay = record { pairs = refl; order = refl; leaves = λ n. refl; inners = λ n. refl; tree = λ least lo hi tree. absurd tree; summed = λ sums. tt }
+  reads_same (suc h) (kind.Inner id) stay =
+      same_inner cmp is_summary old new h id (stay id.0 (rw (eq-eqb id.0 id.0 refl) (omega arith))) (all_read h (reads_same h) (inner_children (old.inner id.0)) (λ n some. stay n (omega (arith, some))))
 
 -- what a mended link leaves as it was
 module _ {K V A : Type 0} (mid final : Slots (Inner K A) (Leaf K V)) (fresh : LeafNodeId) where

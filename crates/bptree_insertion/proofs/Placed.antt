@@ -108,7 +108,16 @@ module _ {K V A : Type 0} {cmp : K → K → Ordering} (total : IsTotalOrder cmp
   pub slot_at : (v : V) → HasSlotAt (old.leaf leaf.0) slot
   slot_at v = slot_of (old.leaf leaf.0) slot leaf_there (slot_within v)
 
-  module _ (v : V) (node : Leaf K V) (here : old.leaf leaf.0 ≡ Present node) where
+  pub at : (node : Leaf K V) × (old.leaf leaf.0 ≡ Present node)
+  at = node_of (old.leaf leaf.0) leaf_there
+
+  abbrev pub node : Leaf K V
+  node = at.0
+
+  pub here : old.leaf leaf.0 ≡ Present node
+  here = at.1
+
+  module _ (v : V) where
     sorted_here : IsAscending cmp node.pairs
     sorted_here = subst (λ (s : Slot (Leaf K V)). IsAscending cmp (leaf_pairs s)) here sorted
 
@@ -126,7 +135,17 @@ module _ {K V A : Type 0} {cmp : K → K → Ordering} (total : IsTotalOrder cmp
         (due.place ∙ ap (λ (s : Slot (Leaf K V)). length (below cmp (leaf_pairs s) k)) here)).new
 
     -- in a leaf with room
-    module _ (mid : Slots (Inner K A) (Leaf K V)) (adds : Adds old mid leaf slot (k, v) node) (room : length node.pairs < 64) where
+    module _ (mid : Slots (Inner K A) (Leaf K V)) (add : (was : Leaf K V) → old.leaf leaf.0 ≡ Present was → Adds old mid leaf slot (k, v) was) (few : length (leaf_pairs (old.leaf leaf.0)) < 64) where
+      pub adds : Adds old mid leaf slot (k, v) node
+      adds = add node here
+
+      room : length node.pairs < 64
+      room = rw here at few
+
+      -- what holds of each leaf that it may have been added to
+      pub when_added : {R : Type 0} → ((was : Leaf K V) → old.leaf leaf.0 ≡ Present was → slot ≤ length was.pairs → Adds old mid leaf slot (k, v) was → R) → R
+      when_added f = f node here within_here adds
+
       pub edits_added : Edits cmp is_summary (λ l. put cmp l k v) 16 old mid 0 (kind.Leaf leaf) k leaf Stays Done
       edits_added =
           leaf_edited total is_summary old mid leaf k v node here (rw is_put at adds)
@@ -164,12 +183,15 @@ module _ {K V A : Type 0} {cmp : K → K → Ordering} (total : IsTotalOrder cmp
       abbrev pub climbs_added : (a : A) → SumsUpLeaf cmp is_summary (leaf_pairs (mid.leaf leaf.0)) a → Climbs cmp is_summary mid path a
       climbs_added a sums = record { climb = climb_added; enough = least_most due.top path; told = told_added a sums }
 
-      pub placed_added : (new : Slots (Inner K A) (Leaf K V)) (top : A) → Risen climb_added new top → IsPlaced cmp is_summary old new due.top due.root k v due.top due.root top
-      placed_added new top r = record {
-        shape = whole_done cmp is_summary (λ l. put cmp l k v) old new due.top due.root k leaf due.shape (λ n. not_held _ (r.free.leaves n)) (λ n. not_held _ (r.free.inners n)) r.edits;
-        pairs = r.edits.pairs;
-        told = r.told;
-      }
+      pub placed_added : (a : A) → SumsUpLeaf cmp is_summary (leaf_pairs (mid.leaf leaf.0)) a → (new : Slots (Inner K A) (Leaf K V)) (top : A) → ((c : Climbs cmp is_summary mid path a) → Risen c.climb new top)
+          → IsPlaced cmp is_summary old new due.top due.root k v due.top due.root top
+      placed_added a sums new top rises =
+          let r = rises (climbs_added a sums) in
+          record {
+            shape = whole_done cmp is_summary (λ l. put cmp l k v) old new due.top due.root k leaf due.shape (λ n. not_held _ (r.free.leaves n)) (λ n. not_held _ (r.free.inners n)) r.edits;
+            pairs = r.edits.pairs;
+            told = r.told;
+          }
 
       pub present_added : IsPresent (mid.leaf leaf.0)
       present_added = rw adds.leaf.changed tt
@@ -178,7 +200,14 @@ module _ {K V A : Type 0} {cmp : K → K → Ordering} (total : IsTotalOrder cmp
       slot_added = rw adds.leaf.changed (omega (arith, length-insert node.pairs slot (k, v) within_here, within_here))
 
     -- in a full leaf, which is split
-    module _ (mid : Slots (Inner K A) (Leaf K V)) (division : Division K A) (fresh : LeafNodeId) (divides : DividesLeaf cmp old mid leaf slot (k, v) node division fresh) where
+    module _ (mid : Slots (Inner K A) (Leaf K V)) (division : Division K A) (fresh : LeafNodeId) (divide : (was : Leaf K V) → old.leaf leaf.0 ≡ Present was → DividesLeaf cmp old mid leaf slot (k, v) was division fresh) where
+      pub divides : DividesLeaf cmp old mid leaf slot (k, v) node division fresh
+      divides = divide node here
+
+      -- what holds of each leaf that may have been split
+      pub when_divided : {R : Type 0} → ((was : Leaf K V) → old.leaf leaf.0 ≡ Present was → slot ≤ length was.pairs → DividesLeaf cmp old mid leaf slot (k, v) was division fresh → R) → R
+      when_divided f = f node here within_here divides
+
       splits : SplitsLeaf old mid leaf fresh node (put cmp node.pairs k v) divides.left divides.right
       splits = record {
         absent = λ p. subst (λ (s : Slot (Leaf K V)). IsPresent s) divides.free p;
@@ -239,19 +268,19 @@ module _ {K V A : Type 0} {cmp : K → K → Ordering} (total : IsTotalOrder cmp
       abbrev pub climbs_divided : SumsUpLeaf cmp is_summary (leaf_pairs (mid.leaf leaf.0)) division.left → SumsUpLeaf cmp is_summary (leaf_pairs (mid.leaf fresh.0)) division.right → ClimbsTwo cmp is_summary mid path division
       climbs_divided left right = record { climb = climb_divided; enough = least_most due.top path; none_held = λ n. (refl, refl); left = told_left left; right = told_right right }
 
-      pub next_risen : (new : Slots (Inner K A) (Leaf K V)) (top : Option InnerNodeId) (a : A) → Reaches climb_divided new top a → (next : Option LeafNodeId) → leaf_next (old.leaf leaf.0) ≡ next → IfSome next (λ l. IsPresent (new.leaf l.0))
-      next_risen new None a r next is = next_there cmp is_summary (λ l. put cmp l k v) old new new due.top due.root k leaf fresh Done due.shape r.edits refl next is
-      next_risen new (Some id) a r next is = next_there cmp is_summary (λ l. put cmp l k v) old r.mid new due.top due.root k leaf fresh (Split r.division.separator r.division.node) due.shape r.edits r.roots.leaf next is
+      next_reached : (new : Slots (Inner K A) (Leaf K V)) (top : Option InnerNodeId) (a : A) → Reaches climb_divided new top a → (next : Option LeafNodeId) → leaf_next (old.leaf leaf.0) ≡ next → IfSome next (λ l. IsPresent (new.leaf l.0))
+      next_reached new None a r next is = next_there cmp is_summary (λ l. put cmp l k v) old new new due.top due.root k leaf fresh Done due.shape r.edits refl next is
+      next_reached new (Some id) a r next is = next_there cmp is_summary (λ l. put cmp l k v) old r.mid new due.top due.root k leaf fresh (Split r.division.separator r.division.node) due.shape r.edits r.roots.leaf next is
 
-      pub placed_divided : (new final : Slots (Inner K A) (Leaf K V)) (top : Option InnerNodeId) (a : A) → Reaches climb_divided new top a → Mends new final (leaf_next (old.leaf leaf.0)) fresh → IsPlacedUpTo cmp is_summary old final due.top due.root k v top a
-      placed_divided new final None a r mends =
+      placed_reached : (new final : Slots (Inner K A) (Leaf K V)) (top : Option InnerNodeId) (a : A) → Reaches climb_divided new top a → Mends new final (leaf_next (old.leaf leaf.0)) fresh → IsPlacedUpTo cmp is_summary old final due.top due.root k v top a
+      placed_reached new final None a r mends =
           let pairs = grown_pairs cmp is_summary (λ l. put cmp l k v) old new due.top due.root k leaf fresh due.shape (λ n. not_held _ (r.free.leaves n)) (λ n. not_held _ (r.free.inners n)) final r.edits mends in
           record {
             shape = whole_grown cmp is_summary (λ l. put cmp l k v) old new due.top due.root k leaf fresh due.shape (λ n. not_held _ (r.free.leaves n)) (λ n. not_held _ (r.free.inners n)) final r.edits mends;
             pairs = pairs;
             told = subst (λ l. is_summary a (keys_of l)) (r.edits.pairs ∙ sym pairs) r.told;
           }
-      placed_divided new final (Some id) a r mends =
+      placed_reached new final (Some id) a r mends =
           let d = r.division in
           let pairs = split_pairs cmp is_summary (λ l. put cmp l k v) old r.mid due.top due.root k leaf fresh due.shape (λ n. not_held _ (r.free.leaves n)) (λ n. not_held _ (r.free.inners n)) new final d.left d.separator d.node d.right id r.edits r.roots mends in
           let same = split_unlinked_pairs cmp is_summary (λ l. put cmp l k v) old r.mid due.top due.root k leaf due.shape (λ n. not_held _ (r.free.leaves n)) (λ n. not_held _ (r.free.inners n)) new (Gains fresh) d.left d.separator d.node d.right id r.edits r.roots in
@@ -261,8 +290,20 @@ module _ {K V A : Type 0} {cmp : K → K → Ordering} (total : IsTotalOrder cmp
             told = subst (λ l. is_summary a (keys_of l)) (same ∙ sym pairs) r.told;
           }
 
-      pub halves_divided : length node.pairs ≡ 64 → AreHalves (mid.leaf leaf.0) (mid.leaf fresh.0) × (leaf.0 ≡ fresh.0 → ⊥)
+      -- once the climb has been done
+      module _ (left : SumsUpLeaf cmp is_summary (leaf_pairs (mid.leaf leaf.0)) division.left) (right : SumsUpLeaf cmp is_summary (leaf_pairs (mid.leaf fresh.0)) division.right) (new : Slots (Inner K A) (Leaf K V)) (top : Option InnerNodeId) (a : A)
+          (rises : (c : ClimbsTwo cmp is_summary mid path division) → c.climb.root ≡ due.root → Reaches c.climb new top a) (next : Option LeafNodeId) (seen : Leaf K V) (read : old.leaf leaf.0 ≡ Present seen) (is : next ≡ seen.next) where
+        next_is : leaf_next (old.leaf leaf.0) ≡ next
+        next_is = next_seen (old.leaf leaf.0) seen read ∙ sym is
+
+        pub next_risen : IfSome next (λ l. IsPresent (new.leaf l.0))
+        next_risen = next_reached new top a (rises (climbs_divided left right) refl) next next_is
+
+        pub placed_divided : (final : Slots (Inner K A) (Leaf K V)) → Mends new final next fresh → IsPlacedUpTo cmp is_summary old final due.top due.root k v top a
+        placed_divided final mends = placed_reached new final top a (rises (climbs_divided left right) refl) (rw next_is mends)
+
+      pub halves_divided : length (leaf_pairs (old.leaf leaf.0)) ≡ 64 → AreHalves (mid.leaf leaf.0) (mid.leaf fresh.0) × (leaf.0 ≡ fresh.0 → ⊥)
       halves_divided full = (
-        rw (divides.at_left, divides.at_right) (omega (arith, sym (length-append divides.left divides.right), ap length divides.parts, length-insert node.pairs slot (k, v) within_here, full)),
+        let long : length node.pairs ≡ 64 = rw here at full in rw (divides.at_left, divides.at_right) (omega (arith, sym (length-append divides.left divides.right), ap length divides.parts, length-insert node.pairs slot (k, v) within_here, long)),
         λ same. let z : Present node ≡ Free = sym here ∙ (ap old.leaf same ∙ divides.free) in cc,
       )

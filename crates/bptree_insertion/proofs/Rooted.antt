@@ -19,7 +19,8 @@ use Rattle.bptree_shape.specs.Shape.{leaf_next, inner_keys, inner_children, pair
 use Rattle.bptree_shape.specs.Outcome.{Done, Split}
 use Rattle.bptree_shape.proofs.Hinted.{count_of, count_leaves, first_or, linked_next}
 use Rattle.bptree_shape.proofs.Agreeing.{stands_le, present_if_stands, stands_if_absent}
-use Rattle.bptree_insertion.proofs.Mended.{KeepsPairs, ReadsSame, reads_same, linked_same, each_counted, linked_mended, mended_pairs, mended_inner, mended_held}
+use Rattle.bptree_shape.proofs.Frame.{Same}
+use Rattle.bptree_insertion.proofs.Mended.{KeepsPairs, reads_same, linked_same, each_counted, linked_mended, mended_pairs, mended_inner, mended_held}
 
 module _ {C K V : Type 0} (cmp : K → K → Ordering) (f : C → List (K × V)) (P : C → Option K → Option K → Type 0) (b : ℕ) (each : (c : C) (lo hi : Option K) → P c lo hi → b ≤ length (f c)) where
   chain_long : (ks : List K) (cs : List C) (lo hi : Option K) → Chain cmp P ks cs lo hi → b + b * length ks ≤ length (flat f cs)
@@ -127,10 +128,10 @@ module _ {K V A : Type 0} (cmp : K → K → Ordering) (is_summary : A → List 
     not_new : (n : ℕ) → 1 ≤ inner_count new h root n + inner_count new h right n → after.inner n ≡ new.inner n
     not_new n some = roots.sets.others n (λ q. let z : stands (new.inner n) ≡ 0 = rw q (stands_if_absent (new.inner id.0) roots.absent) in omega (arith, some, z, edits.inners n, shape.inners n))
 
-    at_left : ReadsSame cmp is_summary new after h root
+    at_left : Same cmp is_summary new after h root
     at_left = reads_same cmp is_summary new after kept h root (λ n some. not_new n (omega (arith, some)))
 
-    at_right : ReadsSame cmp is_summary new after h right
+    at_right : Same cmp is_summary new after h right
     at_right = reads_same cmp is_summary new after kept h right (λ n some. not_new n (omega (arith, some)))
 
     one_more : (n : ℕ) → stands (after.inner n) ≡ stands (new.inner n) + cond (eqb id.0 n) 1 0
@@ -170,7 +171,7 @@ module _ {K V A : Type 0} (cmp : K → K → Ordering) (is_summary : A → List 
 module _ {K V A : Type 0} (cmp : K → K → Ordering) (is_summary : A → List K → Type 0) (old mid final : Slots (Inner K A) (Leaf K V)) (h : ℕ) (root : NodeId) (leaf fresh : LeafNodeId) (before after : List LeafNodeId)
     (shape : IsWellShaped cmp is_summary old h root) (was : leaves_at old h root ≡ before ++ leaf ∷ after) (at : LinksAt old mid leaf (Gains fresh))
     (untouched : (x : LeafNodeId) → (x.0 ≡ leaf.0 → ⊥) → IsPresent (old.leaf x.0) → SameLinks old mid x) (mends : Mends mid final (leaf_next (old.leaf leaf.0)) fresh) where
-  mended_same : (height : ℕ) (top : NodeId) → ReadsSame cmp is_summary mid final height top
+  mended_same : (height : ℕ) (top : NodeId) → Same cmp is_summary mid final height top
   mended_same height top = reads_same cmp is_summary mid final (mended_pairs mid final fresh (leaf_next (old.leaf leaf.0)) mends) height top (λ n some. mended_inner mid final fresh (leaf_next (old.leaf leaf.0)) mends n)
 
   pub mended_contents : (height : ℕ) (top : NodeId) → pairs_at final height top ≡ pairs_at mid height top

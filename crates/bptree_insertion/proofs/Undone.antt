@@ -38,13 +38,6 @@ restored {K} {V} {A} was now mid new id place node from put a old out here read 
           | inr other ↦ back.inner.others n other ∙ (taken.inner.others n other ∙ keeps.sets.others n other)
         ]
 
--- a leaf is put back as it was
-pub leaf_restored : {K V A : Type 0} (old mid new : Slots (Inner K A) (Leaf K V)) (id : LeafNodeId) (from back : Leaf K V) → old.leaf id.0 ≡ Present from → UpdatesLeaf old mid id.0 Held → UpdatesLeaf mid new id.0 (Present back) → back ≡ from → new ≡ old
-leaf_restored {K} {V} {A} old mid new id from back here taken put same = λ i. record { inner = (put.inner ∙ taken.inner) i; leaf = λ n. each n i }
-  where
-    each : (n : ℕ) → new.leaf n ≡ old.leaf n
-    each n = elim (cases_eq n id.0) [ inl at ↦ (rw at (put.leaf.changed ∙ (ap Present same ∙ sym here))) | inr other ↦ put.leaf.others n other ∙ taken.leaf.others n other ]
-
 -- a pair that was put into a leaf is taken out again
 pub pair_back : {K V : Type 0} (from put back : Leaf K V) (slot : ℕ) (pair out : K × V) → put ≡ record from { pairs = insert from.pairs slot pair } → slot ≤ length from.pairs → slice_get put.pairs slot ≡ Some out → back ≡ record put { pairs = remove put.pairs slot }
     → (back ≡ from) × (out ≡ pair)

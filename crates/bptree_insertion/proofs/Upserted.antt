@@ -17,7 +17,7 @@ use Rattle.bptree_nodes.proofs.LeafContents.{value_at_place}
 use Rattle.bptree_shape.specs.Leaves.{IsLeafFor}
 use Rattle.bptree_insertion.specs.Puts.{IsReplaced, IsPlaced, IsPlacedUpTo, risen}
 use Rattle.bptree_shape.specs.Shape.{pairs_at, root_least, IsWellShaped}
-use Rattle.bptree_insertion.proofs.Lent.{lent_shape, lent_keys, lent_pairs}
+use Rattle.bptree_insertion.proofs.Lent.{set_shape, set_keys, lent_pairs}
 use Rattle.bptree_shape.proofs.Spot.{value_in_leaf, leaf_ascends}
 use Rattle.bptree_shape.proofs.Walk.{tree_ascends}
 
@@ -48,9 +48,9 @@ module _ {K V A : Type 0} {cmp : K → K → Ordering} (total : IsTotalOrder cmp
     pub replaced : IsReplaced cmp is_summary old new h root k v was
     replaced = record {
       there = there;
-      shape = lent_shape total is_summary old new h root shape whole_ascends k leaf node read for' i found v updates;
+      shape = set_shape cmp is_summary old new h root shape leaf node read for'.stands i v updates;
       pairs = rw has_there (lent_pairs total is_summary old new h root shape whole_ascends k leaf node read for' i found v updates);
-      keys = lent_keys total is_summary old new h root shape whole_ascends k leaf node read for' i found v updates;
+      keys = set_keys cmp is_summary old new h root shape leaf node read for'.stands i v updates;
     }
 
 -- the tree stands below the root that was named

@@ -12,7 +12,7 @@ ghost use Rattle.bptree_insertion.specs.Sums.{SumsUp, HasPlace, SumsUpAt, PlaceA
 ghost use Rattle.bptree_shape.specs.Shape.{inner_keys, inner_arguments};
 
 use crate::node_changes::{
-    Division, Parts, give_entry, join_parts, resum, take_and_part, take_entry,
+    Division, Parts, Resummed, give_entry, join_parts, resum, take_and_part, take_entry,
 };
 use bptree_arguments::argument::Argument;
 use bptree_keys::entry_ref::VisitStack;
@@ -20,27 +20,17 @@ use bptree_keys::node_id::{InnerNodeId, NodeId};
 use bptree_nodes::inner_node::InnerNode;
 use bptree_stores::node_stores::NodeStore;
 
-/// An inner node that was split, under its number and a new one, and the summary that was in the child's place.
-#[derive(Drop)]
-pub struct Parted<K, A> {
-    left: A,
-    up: K,
-    fresh: InnerNodeId,
-    right: A,
-    old: A,
-}
-
 // Puts a child's new summary into its node. It answers the node's summary and the child's old one.
 fn resum_at<S: NodeStore>(
     store: &mut S,
     id: InnerNodeId,
     place: usize,
     summary: S::Argument,
-) -> Result<(S::Argument, S::Argument), S::Argument>
+) -> Result<Resummed<S::Argument>, S::Argument>
     requires present { IsPresent ((S.slots store.old).inner id.0) }
     requires place { place < length (inner_arguments ((S.slots store.old).inner id.0)) }
-    ensures keeps { (was : Inner S.K S.Argument) → (S.slots store.old).inner id.0 ≡ Present was → IfOk result (λ sums. Keeps (S.slots store.old) (S.slots store.new) id place summary was × (slice_get was.arguments place ≡ Some sums.1)) }
-    ensures sums { IfOk result (λ sums. SumsUpAt S.K.cmp S.Argument.is_summary ((S.slots store.new).inner id.0) sums.0) }
+    ensures keeps { (was : Inner S.K S.Argument) → (S.slots store.old).inner id.0 ≡ Present was → IfOk result (λ sums. Keeps (S.slots store.old) (S.slots store.new) id place summary was × (slice_get was.arguments place ≡ Some sums.old)) }
+    ensures sums { IfOk result (λ sums. SumsUpAt S.K.cmp S.Argument.is_summary ((S.slots store.new).inner id.0) sums.above) }
     ensures refused { OnErr result (S.slots store.new ≡ S.slots store.old) }
     ensures handed_back { IfErr result (λ back. back ≡ summary) }
 {
@@ -81,7 +71,7 @@ pub fn ascend<S: NodeStore>(
     let Some((id, place, _)) = path.pop() else {
         return Ok(summary);
     };
-    let (above, old) = resum_at(store, id, place, summary)?;
+    let Resummed { above, old } = resum_at(store, id, place, summary)?;
     match ascend(store, path, above) {
         Ok(top) => Ok(top),
         Err(_) => Err(restore_at(store, id, place, old)),
@@ -94,11 +84,11 @@ fn link_at<S: NodeStore>(
     id: InnerNodeId,
     place: usize,
     division: Division<S::K, S::Argument>,
-) -> Result<(S::Argument, S::Argument), Division<S::K, S::Argument>>
+) -> Result<Resummed<S::Argument>, Division<S::K, S::Argument>>
     requires place { PlaceAt ((S.slots store.old).inner id.0) place }
     requires room { length (inner_keys ((S.slots store.old).inner id.0)) < 64 }
-    ensures links { (was : Inner S.K S.Argument) → (S.slots store.old).inner id.0 ≡ Present was → IfOk result (λ sums. IsLinked (S.slots store.old) (S.slots store.new) id place division was sums.1) }
-    ensures sums { IfOk result (λ sums. SumsUpAt S.K.cmp S.Argument.is_summary ((S.slots store.new).inner id.0) sums.0) }
+    ensures links { (was : Inner S.K S.Argument) → (S.slots store.old).inner id.0 ≡ Present was → IfOk result (λ sums. IsLinked (S.slots store.old) (S.slots store.new) id place division was sums.old) }
+    ensures sums { IfOk result (λ sums. SumsUpAt S.K.cmp S.Argument.is_summary ((S.slots store.new).inner id.0) sums.above) }
     ensures refused { OnErr result (S.slots store.new ≡ S.slots store.old) }
     ensures handed_back { IfErr result (λ back. back ≡ division) }
 {
@@ -131,12 +121,12 @@ fn part_at<S: NodeStore>(
     id: InnerNodeId,
     place: usize,
     division: Division<S::K, S::Argument>,
-) -> Result<Parted<S::K, S::Argument>, Division<S::K, S::Argument>>
+) -> Result<Parts<S::K, S::Argument, InnerNodeId>, Division<S::K, S::Argument>>
     requires place { PlaceAt ((S.slots store.old).inner id.0) place }
     requires full { length (inner_keys ((S.slots store.old).inner id.0)) ≡ 64 }
-    ensures splits { (was : Inner S.K S.Argument) → (S.slots store.old).inner id.0 ≡ Present was → IfOk result (λ done. IsSplit (S.slots store.old) (S.slots store.new) id place division was done.up done.fresh done.old) }
+    ensures splits { (was : Inner S.K S.Argument) → (S.slots store.old).inner id.0 ≡ Present was → IfOk result (λ done. IsSplit (S.slots store.old) (S.slots store.new) id place division was done.up done.node done.old) }
     ensures left { IfOk result (λ done. SumsUpAt S.K.cmp S.Argument.is_summary ((S.slots store.new).inner id.0) done.left) }
-    ensures right { IfOk result (λ done. SumsUpAt S.K.cmp S.Argument.is_summary ((S.slots store.new).inner done.fresh.0) done.right) }
+    ensures right { IfOk result (λ done. SumsUpAt S.K.cmp S.Argument.is_summary ((S.slots store.new).inner done.node.0) done.right) }
     ensures refused { OnErr result (S.slots store.new ≡ S.slots store.old) }
     ensures handed_back { IfErr result (λ back. back ≡ division) }
 {
@@ -159,10 +149,10 @@ fn part_at<S: NodeStore>(
                 old,
             } = parts;
             store.put_back_inner(fresh, part);
-            Ok(Parted {
+            Ok(Parts {
                 left,
                 up,
-                fresh,
+                node: fresh,
                 right,
                 old,
             })
@@ -261,16 +251,16 @@ pub fn ascend_split<S: NodeStore>(
         return Ok((Some(top), above));
     };
     if !store.get_inner(id).is_full() {
-        let (above, old) = link_at(store, id, place, division)?;
+        let Resummed { above, old } = link_at(store, id, place, division)?;
         return match ascend(store, path, above) {
             Ok(top) => Ok((None, top)),
             Err(_) => Err(unlink_at(store, id, place, old)),
         };
     }
-    let Parted {
+    let Parts {
         left,
         up,
-        fresh,
+        node: fresh,
         right,
         old,
     } = part_at(store, id, place, division)?;

@@ -2,6 +2,7 @@
 ghost use Rattle.std.specs.Prelude.{◌≡◌, ◌+◌, ◌≤◌, ◌<◌, ◌^◌, IfOk, IfErr, OnErr, IfSome, List, false, length, slice_get, Some, drop, insert};
 ghost use Rattle.std.specs.Map.{values_of};
 ghost use Rattle.bptree_keys.specs.Contents.{has};
+ghost use Rattle.bptree_keys.specs.declared.node_id.NodeId.TheVariants as kind;
 ghost use Rattle.bptree_nodes.specs.Leaf.{Leaf, split_place, set_value_at};
 ghost use Rattle.bptree_nodes.specs.Inner.{Inner};
 ghost use Rattle.bptree_nodes.specs.Slot.{Slots, Present, IsPresent, UpdatesLeaf};
@@ -133,16 +134,10 @@ fn split_at<S: NodeStore>(
     };
     let mut leaf = store.take_leaf(id);
     let part = leaf.split_new_leaf(slot, (key, value), fresh, id, room);
-    match sums_of(&leaf, &part) {
-        Ok((left, right)) => {
+    match divided(&leaf, separator, fresh, &part) {
+        Ok(division) => {
             store.assign_leaf(id, leaf);
             store.assign_leaf(fresh, part);
-            let division = Division {
-                left,
-                separator,
-                node: NodeId::Leaf(fresh),
-                right,
-            };
             Ok((division, fresh))
         }
         Err(_) => {
@@ -154,15 +149,26 @@ fn split_at<S: NodeStore>(
     }
 }
 
-// Summaries of the keys of two leaves.
-fn sums_of<K: Key, V: Drop, A: Argument<K>>(
+// What the node above has to take of two leaves: summaries of their keys, and the separator before the right one.
+fn divided<K: Key, V: Drop, A: Argument<K>>(
     left: &LeafNode<K, V>,
+    separator: K,
+    fresh: LeafNodeId,
     right: &LeafNode<K, V>,
-) -> Result<(A, A), AllocError>
-    ensures left { IfOk result (λ sums. SumsUpLeaf K.cmp A.is_summary left.now.pairs sums.0) }
-    ensures right { IfOk result (λ sums. SumsUpLeaf K.cmp A.is_summary right.now.pairs sums.1) }
+) -> Result<Division<K, A>, AllocError>
+    ensures left { IfOk result (λ division. SumsUpLeaf K.cmp A.is_summary left.now.pairs division.left) }
+    ensures right { IfOk result (λ division. SumsUpLeaf K.cmp A.is_summary right.now.pairs division.right) }
+    ensures separator { IfOk result (λ division. division.separator ≡ separator) }
+    ensures node { IfOk result (λ division. division.node ≡ kind.Leaf fresh) }
 {
-    Ok((A::from_leaf(left.keys())?, A::from_leaf(right.keys())?))
+    let left = A::from_leaf(left.keys())?;
+    let right = A::from_leaf(right.keys())?;
+    Ok(Division {
+        left,
+        separator,
+        node: NodeId::Leaf(fresh),
+        right,
+    })
 }
 
 // Undoes what `split_at` did.

@@ -17,12 +17,20 @@ pub struct Division<K, A> {
     pub right: A,
 }
 
-/// An inner node that was split, with the part that no number has yet, and the summary that was in the child's place.
+/// A node's summary after one of its children changed, and that child's old one.
 #[derive(Drop)]
-pub struct Parts<K, A> {
+pub struct Resummed<A> {
+    pub above: A,
+    pub old: A,
+}
+
+/// An inner node that was split, with the part to its right, itself or by its number, and the summary that was in the
+/// child's place.
+#[derive(Drop)]
+pub struct Parts<K, A, N> {
     pub left: A,
     pub up: K,
-    pub node: Box<InnerNode<K, A>>,
+    pub node: N,
     pub right: A,
     pub old: A,
 }
@@ -33,17 +41,17 @@ pub fn resum<K: Key, A: Argument<K>>(
     node: &mut InnerNode<K, A>,
     place: usize,
     summary: A,
-) -> Result<(A, A), A>
+) -> Result<Resummed<A>, A>
     requires place { place < length node.old.arguments }
     ensures after { IfOk result (λ sums. node.new ≡ with_summary node.old place summary) }
-    ensures old { IfOk result (λ sums. slice_get node.old.arguments place ≡ Some sums.1) }
-    ensures sums { IfOk result (λ sums. SumsUp K.cmp A.is_summary node.new sums.0) }
+    ensures old { IfOk result (λ sums. slice_get node.old.arguments place ≡ Some sums.old) }
+    ensures sums { IfOk result (λ sums. SumsUp K.cmp A.is_summary node.new sums.above) }
     ensures refused { OnErr result (node.new ≡ node.old) }
     ensures handed_back { IfErr result (λ back. back ≡ summary) }
 {
     let old = node.set_argument(place, summary);
     match A::from_inner(node.keys(), node.arguments()) {
-        Ok(above) => Ok((above, old)),
+        Ok(above) => Ok(Resummed { above, old }),
         Err(_) => Err(node.set_argument(place, old)),
     }
 }
@@ -54,12 +62,12 @@ pub fn take_entry<K: Key, A: Argument<K>>(
     node: &mut InnerNode<K, A>,
     place: usize,
     division: Division<K, A>,
-) -> Result<(A, A), Division<K, A>>
+) -> Result<Resummed<A>, Division<K, A>>
     requires place { HasPlace node.old place }
     requires room { length node.old.keys < 64 }
     ensures after { IfOk result (λ sums. node.new ≡ with_split node.old place division.left division.separator division.node division.right) }
-    ensures old { IfOk result (λ sums. slice_get node.old.arguments place ≡ Some sums.1) }
-    ensures sums { IfOk result (λ sums. SumsUp K.cmp A.is_summary node.new sums.0) }
+    ensures old { IfOk result (λ sums. slice_get node.old.arguments place ≡ Some sums.old) }
+    ensures sums { IfOk result (λ sums. SumsUp K.cmp A.is_summary node.new sums.above) }
     ensures refused { OnErr result (node.new ≡ node.old) }
     ensures handed_back { IfErr result (λ back. back ≡ division) }
 {
@@ -72,7 +80,7 @@ pub fn take_entry<K: Key, A: Argument<K>>(
     let old = node.set_argument(place, left);
     node.insert_at(place, separator, child, right);
     match A::from_inner(node.keys(), node.arguments()) {
-        Ok(above) => Ok((above, old)),
+        Ok(above) => Ok(Resummed { above, old }),
         Err(_) => Err(give_entry(node, place, old)),
     }
 }
@@ -105,7 +113,7 @@ pub fn take_and_part<K: Key, A: Argument<K>>(
     place: usize,
     division: Division<K, A>,
     room: Box<InnerNode<K, A>>,
-) -> Result<Parts<K, A>, Division<K, A>>
+) -> Result<Parts<K, A, Box<InnerNode<K, A>>>, Division<K, A>>
     requires place { HasPlace node.old place }
     requires full { length node.old.keys ≡ 64 }
     requires shell { room.value.children ≡ [] }

@@ -1,21 +1,20 @@
 -- The parts of a list at a place, and where a search ends.
-use Rattle.std.proofs.Common.{◌≡◌, ℕ, ◌<◌, ◌≤◌, ◌+◌, zero, suc, false, List, [], ◌∷◌, ◌++◌, length, get_or, set, take, drop, refl, sym, ap, subst, ◌∙◌, arith, Result, Ok, Err, slice_get, IsSomeAnd, Some, None}
+use Rattle.std.proofs.Common.{◌≡◌, ℕ, ◌<◌, ◌≤◌, ◌+◌, zero, suc, false, List, [], ◌∷◌, ◌++◌, length, get_or, set, take, drop, refl, sym, ap, subst, ◌∙◌, arith, slice_get, IsSomeAnd, Some, None}
 use Rattle.std.specs.declared.cmp.Ordering.{Ordering}
 use Rattle.std.specs.declared.cmp.Ordering.TheVariants.{Less, Equal, Greater}
 use Rattle.std.specs.Ordering.{is_lt, is_eq, ordering_index}
-use Rattle.std.specs.List.{AllByRecursion, AllWithin, insert}
-use Rattle.std.specs.List.Sorted.{IsSearchInRange, IsBinarySearchResult, IsNonDecreasingBy}
+use Rattle.std.specs.List.{insert}
+use Rattle.std.specs.List.Sorted.{IsNonDecreasingBy}
 use Rattle.std.specs.Cmp.{IsTotalOrder}
 use Rattle.std.specs.Map.{keys_of, set_value}
-use Rattle.std.proofs.lemmas.List.{get_or-drop, length-drop, take-append-drop, get_or-map, length-take-le, take_at, drop_at, length-append}
-use Rattle.std.proofs.lemmas.List.Elements.{recursion_from_All}
+use Rattle.std.proofs.lemmas.List.{take-append-drop, get_or-map, take_at, drop_at, length-append}
 use Rattle.std.proofs.lemmas.List.Sorted.{searchable_from_sorted}
 use Rattle.std.proofs.lemmas.Map.Keys.{Less-from_sorted}
 use Rattle.std.proofs.lemmas.Map.Entries.{length-keys_of}
 use Rattle.bptree_keys.specs.Contents.{IsAscending, below, has, value, put, pairs_below, pairs_above}
-use Rattle.bptree_keys.specs.Places.{AllAnswer, IsGap, IsHit, IsPlaceOf}
+use Rattle.bptree_keys.specs.Places.{AllAnswer, IsGap, IsHit}
 use Rattle.bptree_keys.proofs.Ascending.{equal_parts, greater_turned, gap_if_absent, ascending_with_value, ascending_in_gap}
-use Rattle.bptree_keys.proofs.Parted.{has_gap, pairs_below_gap, value_gap, put_gap, value_hit, put_hit, set_value_hit}
+use Rattle.bptree_keys.proofs.Parted.{value_gap, put_gap, value_hit, put_hit, set_value_hit}
 
 -- the parts before, at and after a place
 pub parts_at : {X : Type 0} (xs : List X) (i : ℕ) (d : X) → i < length xs → xs ≡ take i xs ++ get_or xs i d ∷ drop (suc i) xs
@@ -28,16 +27,6 @@ pub set_at : {X : Type 0} (xs : List X) (i : ℕ) (x : X) → i < length xs → 
 set_at [] i x within = absurd (omega arith)
 set_at (y ∷ xs) zero x within = refl
 set_at (y ∷ xs) (suc i) x within = ap (λ rest. y ∷ rest) (set_at xs i x (omega arith))
-
--- what holds below a place, and from it on
-pub all_taken : {X : Type 0} (P : X → Type 0) (xs : List X) (i : ℕ) → i ≤ length xs → AllWithin P xs 0 i → AllByRecursion P (take i xs)
-all_taken P [] zero within all = tt
-all_taken P [] (suc i) within all = absurd (omega arith)
-all_taken P (x ∷ xs) zero within all = tt
-all_taken P (x ∷ xs) (suc i) within all = (all 0 x (omega arith) (omega arith), all_taken P xs i (omega arith) (λ j d from to. all (suc j) d (omega arith) (omega arith)))
-
-pub all_dropped : {X : Type 0} (P : X → Type 0) (xs : List X) (i : ℕ) → AllWithin P xs i (length xs) → AllByRecursion P (drop i xs)
-all_dropped P xs i all = recursion_from_All P (drop i xs) (λ j d within. rw get_or-drop (all (i + j) d (omega arith) (omega (arith, length-drop i xs))))
 
 -- a gap, by the length of its first part
 gap_by_length : {K V : Type 0} (cmp : K → K → Ordering) (l before after : List (K × V)) (k : K) (i : ℕ) → IsGap cmp l before after k → i ≡ length before → (i ≤ length l) × IsGap cmp l (take i l) (drop i l) k
@@ -61,22 +50,6 @@ module _ {K V : Type 0} (cmp : K → K → Ordering) (total : IsTotalOrder cmp) 
       let after = get_or-map (λ (pair : K × V). pair.0) l (i + 1) d d.0 within in
       let less : cmp (get_or l i d).0 (get_or l (i + 1) d).0 ≡ Less = rw (← here, ← after) (Less-from_sorted cmp (keys_of l) i (i + 1) d.0 ascending (omega arith) (omega arith)) in
       ap is_lt (greater_turned cmp total _ _ less))
-
-  -- what a search that rises answers
-  pub place_from_search : (r : Result ℕ ℕ) → IsSearchInRange r (length l) → IsBinarySearchResult (λ pair. cmp pair.0 k) l r → IsPlaceOf cmp l k r
-  place_from_search (Ok i) within found = some_at l i within found
-    where
-      some_at : (xs : List (K × V)) (i : ℕ) → i < length xs → ((d : K × V) → cmp (get_or xs i d).0 k ≡ Equal) → IsSomeAnd (slice_get xs i) (λ pair. cmp pair.0 k ≡ Equal)
-      some_at [] i within found = absurd (omega arith)
-      some_at (x ∷ xs) zero within found = found x
-      some_at (x ∷ xs) (suc i) within found = some_at xs i (omega arith) found
-  place_from_search (Err i) within found =
-      let gap : IsGap cmp l (take i l) (drop i l) k = record {
-        parts = sym (take-append-drop i l);
-        smaller = all_taken (λ pair. cmp pair.0 k ≡ Less) l i within (found answers_rise).0;
-        greater = all_dropped (λ pair. cmp pair.0 k ≡ Greater) l i (found answers_rise).1;
-      } in
-      (has_gap cmp l _ _ k gap, rw (pairs_below_gap cmp l _ _ k gap, length-keys_of, length-take-le i l within) refl)
 
   -- an equal key at a place
   pub hit_at : (i : ℕ) (d : K × V) → IsSomeAnd (slice_get l i) (λ pair. cmp pair.0 k ≡ Equal) → (i < length l) × IsHit cmp l (take i l) (get_or l i d) (drop (suc i) l) k

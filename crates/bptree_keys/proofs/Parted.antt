@@ -69,6 +69,3 @@ module _ {K V : Type 0} (cmp : K → K → Ordering) (l before : List (K × V)) 
 
   pub pairs_below_hit : pairs_below cmp l k ≡ before
   pairs_below_hit = rw (hit.parts, filter-append, filter_all cmp k is_lt Less before refl hit.smaller, hit.equal, filter_none cmp k is_lt Greater after refl hit.greater) (append-nil before)
-
-  pub pairs_above_hit : pairs_above cmp l k ≡ after
-  pairs_above_hit = rw (hit.parts, filter-append, filter_none cmp k is_gt Less before refl hit.smaller, hit.equal, filter_all cmp k is_gt Greater after refl hit.greater) refl

@@ -2,7 +2,7 @@
 use Rattle.std.proofs.Common.{◌≡◌, ℕ, zero, suc, ◌+◌, ◌<◌, List, [], ◌∷◌, ◌++◌, length, map, take, drop, get_or, set, refl, sym, ap, ◌∙◌, arith, add-one, length-append, append_assoc}
 use Rattle.std.specs.declared.cmp.Ordering.{Ordering}
 use Rattle.std.specs.declared.cmp.Ordering.TheVariants.{Less}
-use Rattle.std.specs.List.{AllZip, AllByRecursion, insert, remove}
+use Rattle.std.specs.List.{AllZip, AllByRecursion}
 use Rattle.std.specs.List.Sorted.{IsStrictlySortedBy}
 use Rattle.std.proofs.lemmas.List.{append-nil}
 use Rattle.bptree_keys.specs.Pieces.{flatten, piece_at, start_of, AllNonEmpty, ArePieces, PiecesReplaced, PieceSplits, PiecesJoin, LastPartMoves, FirstPartMoves, PiecesPart}
@@ -45,29 +45,11 @@ module _ {A B : Type 0} (R : A → B → Type 0) where
   AllZip-take (suc n) (x ∷ xs) [] h = absurd h
   AllZip-take (suc n) (x ∷ xs) (y ∷ ys) h = (h.0, AllZip-take n xs ys h.1)
 
-  pub AllZip-drop : (n : ℕ) (xs : List A) (ys : List B) → AllZip R xs ys → AllZip R (drop n xs) (drop n ys)
-  AllZip-drop zero xs ys h = h
-  AllZip-drop (suc n) [] [] h = tt
-  AllZip-drop (suc n) [] (y ∷ ys) h = absurd h
-  AllZip-drop (suc n) (x ∷ xs) [] h = absurd h
-  AllZip-drop (suc n) (x ∷ xs) (y ∷ ys) h = AllZip-drop n xs ys h.1
-
   pub AllZip-append : (xs : List A) (ys : List B) (us : List A) (vs : List B) → AllZip R xs ys → AllZip R us vs → AllZip R (xs ++ us) (ys ++ vs)
   AllZip-append [] [] us vs h k = k
   AllZip-append [] (y ∷ ys) us vs h k = absurd h
   AllZip-append (x ∷ xs) [] us vs h k = absurd h
   AllZip-append (x ∷ xs) (y ∷ ys) us vs h k = (h.0, AllZip-append xs ys us vs h.1 k)
-
-  -- some of them give way to others
-  pub AllZip-replaced : (i j : ℕ) (xs : List A) (ys : List B) (us : List A) (vs : List B) → AllZip R xs ys → AllZip R us vs → AllZip R (take i xs ++ (us ++ drop j xs)) (take i ys ++ (vs ++ drop j ys))
-  AllZip-replaced i j xs ys us vs h k =
-      AllZip-append (take i xs) (take i ys) (us ++ drop j xs) (vs ++ drop j ys) (AllZip-take i xs ys h) (AllZip-append us vs (drop j xs) (drop j ys) k (AllZip-drop j xs ys h))
-
-  pub AllZip-insert : (i : ℕ) (xs : List A) (ys : List B) (x : A) (y : B) → AllZip R xs ys → R x y → AllZip R (insert xs i x) (insert ys i y)
-  AllZip-insert i xs ys x y h r = AllZip-replaced i i xs ys (x ∷ []) (y ∷ []) h (r, tt)
-
-  pub AllZip-remove : (i : ℕ) (xs : List A) (ys : List B) → AllZip R xs ys → AllZip R (remove xs i) (remove ys i)
-  AllZip-remove i xs ys h = AllZip-replaced i (suc i) xs ys [] [] h tt
 
   pub AllZip-set : (i : ℕ) (xs : List A) (ys : List B) (x : A) (y : B) → AllZip R xs ys → R x y → AllZip R (set xs i x) (set ys i y)
   AllZip-set i [] [] x y h r = tt

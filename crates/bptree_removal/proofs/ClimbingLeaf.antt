@@ -6,7 +6,6 @@ use Rattle.std.specs.Map.{keys_of}
 use Rattle.std.proofs.lemmas.Bool.{cases_eq, eq-eqb}
 use Rattle.std.proofs.lemmas.Bool.Decides.{eqb_tells}
 use Rattle.std.proofs.lemmas.List.Edits.{length-insert}
-use mathlib.Core.Bool.{true≢false}
 use Rattle.bptree_nodes.specs.Inner.{Inner}
 use Rattle.bptree_nodes.specs.Leaf.{Leaf}
 use Rattle.bptree_nodes.specs.Slot.{Slot, Slots, Free, Held, Present, IsPresent, UpdatesLeaf}
@@ -31,12 +30,12 @@ use Rattle.bptree_removal.specs.Trim.{ClimbsShort, Sunk, ShortLeaf, Trims}
 use Rattle.bptree_removal.specs.declared.sharing.Joint.{Joint}
 use Rattle.bptree_removal.specs.declared.sharing.Lender.{Lender}
 use Rattle.bptree_shape.proofs.Agreeing.{stands_le}
-use Rattle.bptree_insertion.proofs.Climbing.{told_up, least_most, not_held}
+use Rattle.bptree_insertion.proofs.Climbing.{told_up, least_most, not_held, held_is}
 use Rattle.bptree_shape.proofs.Frame.{Same, same}
 use Rattle.bptree_removal.proofs.Helping.{inserted_is, before_is, most_so}
 use Rattle.bptree_shape.proofs.Hinted.{count_of, count_leaves, first_or, linked_next}
 use Rattle.bptree_removal.proofs.LeafSpot as spot
-use Rattle.bptree_insertion.proofs.Mended.{ReadsSame, reads_same, mended_pairs, mended_inner, mended_held, one_at, other_leaf, linked_closed}
+use Rattle.bptree_insertion.proofs.Mended.{reads_same, mended_pairs, mended_inner, mended_held, one_at, other_leaf, linked_closed}
 use Rattle.bptree_removal.proofs.MendLeaf as mend
 use Rattle.bptree_removal.proofs.Pair as pair
 use Rattle.bptree_insertion.proofs.Rooted.{whole_done, present_leaf}
@@ -45,11 +44,6 @@ use Rattle.bptree_removal.proofs.Taken.{loose_of}
 use Rattle.bptree_insertion.proofs.Undone.{same_node}
 use Rattle.bptree_shape.proofs.Ways.{LastStep}
 use Rattle.bptree_shape.proofs.Widen.{tree_less}
-
-held_is : {N : Type 0} (s : Slot N) → is_held s ≡ true → s ≡ Held
-held_is Free q = absurd (true≢false (sym q))
-held_is Held q = refl
-held_is (Present x) q = absurd (true≢false (sym q))
 
 module _ {K V A : Type 0} {cmp : K → K → Ordering} (total' : IsTotalOrder cmp) (is_summary : A → List K → Type 0) (now after : Slots (Inner K A) (Leaf K V)) (path : List (InnerNodeId × ℕ × NodeId)) (number : InnerNodeId) (i : ℕ)
     (c : ShortLeaf cmp is_summary now path number i) (slot : ℕ) (left right : LeafNodeId) (beside : (i ≡ slot) ⊎ (i ≡ suc slot)) where
@@ -277,7 +271,7 @@ module _ {K V A : Type 0} {cmp : K → K → Ordering} (total' : IsTotalOrder cm
               (λ n some. mid_inner n),
             )
 
-            mended : ReadsSame cmp is_summary mid final c.climb.top c.climb.root
+            mended : Same cmp is_summary mid final c.climb.top c.climb.root
             mended = reads_same cmp is_summary mid final (mended_pairs mid final left next mends) c.climb.top c.climb.root (λ n some. mended_inner mid final left next mends n)
 
             free_leaf : (n : ℕ) → final.leaf n ≡ Held → ⊥

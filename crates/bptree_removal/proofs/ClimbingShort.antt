@@ -25,21 +25,14 @@ use Rattle.bptree_insertion.proofs.Climbing.{told_up, last, can, summed_there, s
 use Rattle.bptree_insertion.proofs.Lift.{links_moved}
 use Rattle.bptree_removal.proofs.Pair as pair
 use Rattle.bptree_removal.proofs.Seated.{Seat, seat_of, seat_size, inner_high}
+use Rattle.bptree_removal.proofs.Helping.{inserted_is}
 use Rattle.bptree_shape.proofs.Ways.{LastStep}
 use Rattle.bptree_shape.proofs.Widen.{tree_less}
-
-read_inserted : {X : Type 0} (xs : List X) (i : ℕ) (y : X) → i ≤ length xs → slice_get (insert xs i y) i ≡ Some y
-read_inserted xs zero y below = refl
-read_inserted [] (suc i) y below = absurd (omega arith)
-read_inserted (x ∷ xs) (suc i) y below = read_inserted xs i y (omega arith)
 
 read_before : {X : Type 0} (xs : List X) (i : ℕ) (y : X) → i < length xs → slice_get (insert xs (suc i) y) i ≡ slice_get xs i
 read_before [] i y below = absurd (omega arith)
 read_before (x ∷ xs) zero y below = refl
 read_before (x ∷ xs) (suc i) y below = read_before xs i y (omega arith)
-
-some_same : {X : Type 0} (a b : X) → Some a ≡ Some b → a ≡ b
-some_same a b e = cc
 
 module _ {K V A : Type 0} {cmp : K → K → Ordering} (total : IsTotalOrder cmp) (is_summary : A → List K → Type 0) (now after : Slots (Inner K A) (Leaf K V)) (path : List (InnerNodeId × ℕ × NodeId)) (nid : InnerNodeId) (a : A)
     (c : ClimbsShort cmp is_summary now path nid a) (rest : List (InnerNodeId × ℕ × NodeId)) (number : InnerNodeId) (i : ℕ) (child : NodeId) (e : path ≡ rest ++ (number, i, child) ∷ []) where
@@ -76,7 +69,7 @@ module _ {K V A : Type 0} {cmp : K → K → Ordering} (total : IsTotalOrder cmp
 
     pub given_is : given ≡ kind.Inner right
     given_is =
-        some_same given (kind.Inner right) (sym (read_inserted bare.children (slot + 1) given (omega (arith, below))) ∙ (ap (λ (n : Inner K A). slice_get n.children (slot + 1)) (sym entry'.is) ∙ read_right))
+        inserted_is bare.children (slot + 1) given (kind.Inner right) (omega (arith, below)) (ap (λ (n : Inner K A). slice_get n.children (slot + 1)) (sym entry'.is) ∙ read_right)
 
     entry : HasEntry step.node bare slot s (kind.Inner right) old_r
     entry = subst (λ x. HasEntry step.node bare slot s x old_r) given_is entry'

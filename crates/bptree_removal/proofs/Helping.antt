@@ -34,10 +34,6 @@ chain_all cmp P Q so [] (c ∷ d ∷ cs) lo hi h = absurd h
 chain_all cmp P Q so (k ∷ ks) (c ∷ cs) lo hi h = (so c lo (Some k) h.0, chain_all cmp P Q so ks cs (Some k) hi h.2)
 
 module _ {X : Type 0} where
-  pub all_map : (P Q : X → Type 0) → ((x : X) → P x → Q x) → (xs : List X) → AllByRecursion P xs → AllByRecursion Q xs
-  all_map P Q so [] all = tt
-  all_map P Q so (x ∷ xs) all = (so x all.0, all_map P Q so xs all.1)
-
   -- two neighbours count at most what all do
   pub two_in_total : (f : X → ℕ) (xs : List X) (i : ℕ) (x y : X) → slice_get xs i ≡ Some x → slice_get xs (suc i) ≡ Some y → f x + f y ≤ total f xs
   two_in_total f [] i x y one other = cc

@@ -13,6 +13,7 @@ use Rattle.bptree_keys.specs.declared.node_id.InnerNodeId.{InnerNodeId}
 use Rattle.bptree_keys.specs.declared.node_id.LeafNodeId.{LeafNodeId}
 use Rattle.bptree_keys.specs.declared.node_id.NodeId.{NodeId}
 use Rattle.bptree_keys.specs.declared.node_id.NodeId.TheVariants as kind
+use Rattle.bptree_keys.proofs.PieceLemmas.{AllByRecursion-weaker}
 use Rattle.bptree_insertion.specs.Climb.{least_at}
 use Rattle.bptree_shape.specs.Edit.{CanReach, Spares, SameLinks, LinksAt, Extends}
 use Rattle.bptree_removal.specs.Help.{Helps, node_size, child_size, IsLeafAt, AllLeaves}
@@ -117,7 +118,7 @@ module _ {K V A : Type 0} {cmp : K → K → Ordering} (total' : IsTotalOrder cm
       (grown.chain at.low at.high (subst (λ (x : Slot (Inner K A)). Chain cmp (IsTree cmp c.climb.old 16 c.climb.height) (inner_keys x) (inner_children x) at.low at.high) step.is at.tree.1) at.fits)
 
   pub all_leaves : AllLeaves now node.children
-  all_leaves = help.all_map (IsFullLeaf now) (IsLeafAt now) (leaf_of now) node.children all_full
+  all_leaves = AllByRecursion-weaker (IsFullLeaf now) (IsLeafAt now) (leaf_of now) node.children all_full
 
   pub full_at : (j : ℕ) (x : LeafNodeId) → slice_get node.children j ≡ Some (kind.Leaf x) → IsFullLeaf now (kind.Leaf x)
   full_at j x read = all_read (IsFullLeaf now) node.children j (kind.Leaf x) all_full read

@@ -13,7 +13,7 @@ use Rattle.bptree_nodes.specs.Slot.{Slot, Slots, Held, Present}
 use Rattle.bptree_keys.specs.declared.node_id.InnerNodeId.{InnerNodeId}
 use Rattle.bptree_keys.specs.declared.node_id.NodeId.{NodeId}
 use Rattle.bptree_keys.specs.declared.node_id.NodeId.TheVariants as kind
-use Rattle.bptree_keys.proofs.PieceLemmas.{AllByRecursion-append, AllByRecursion-left, AllByRecursion-right, AllZip-append, AllZip-left, AllZip-right}
+use Rattle.bptree_keys.proofs.PieceLemmas.{AllByRecursion-append, AllByRecursion-left, AllByRecursion-right, AllZip-append, AllZip-left, AllZip-right, AllByRecursion-weaker}
 use Rattle.bptree_removal.specs.Mend.{MendsPair}
 use Rattle.bptree_shape.specs.Order.{flat, total, Between, Chain}
 use Rattle.bptree_shape.specs.Outcome.{Done, Split}
@@ -24,7 +24,7 @@ use Rattle.bptree_shape.proofs.Agreeing.{stands_le, flat_same, total_same, map_s
 use Rattle.bptree_shape.proofs.Frame.{Same, all_same}
 use Rattle.bptree_shape.proofs.Hinted.{total-append}
 use Rattle.bptree_insertion.proofs.Lift.{chain_cut}
-use Rattle.bptree_shape.proofs.Ordered.{all_so, AtMost-up}
+use Rattle.bptree_shape.proofs.Ordered.{AtMost-up}
 use Rattle.bptree_shape.proofs.Walk.{flat-append}
 
 -- two chains with a separator between them are one
@@ -60,16 +60,16 @@ module _ {K V A : Type 0} {cmp : K → K → Ordering} (total' : IsTotalOrder cm
   none_above = let o = own_parts id.0 in let q = rw (eq-eqb id.0 id.0 refl) at o in omega arith
 
   all_pairs : flat (pairs_at after h) all ≡ flat (pairs_at now h) one.children ++ flat (pairs_at now h) other.children
-  all_pairs = flat_same (pairs_at now h) (pairs_at after h) all (all_so _ _ (λ c x. x.pairs) all same_all) ∙ flat-append (pairs_at now h) one.children other.children
+  all_pairs = flat_same (pairs_at now h) (pairs_at after h) all (AllByRecursion-weaker _ _ (λ c x. x.pairs) all same_all) ∙ flat-append (pairs_at now h) one.children other.children
 
   all_leaves : (x : ℕ) → total (λ c. leaf_count after h c x) all ≡ total (λ c. leaf_count now h c x) one.children + total (λ c. leaf_count now h c x) other.children
-  all_leaves x = omega (arith, total_same (λ c. leaf_count now h c x) (λ c. leaf_count after h c x) all (all_so _ _ (λ c y. y.leaves x) all same_all), total-append (λ c. leaf_count now h c x) one.children other.children)
+  all_leaves x = omega (arith, total_same (λ c. leaf_count now h c x) (λ c. leaf_count after h c x) all (AllByRecursion-weaker _ _ (λ c y. y.leaves x) all same_all), total-append (λ c. leaf_count now h c x) one.children other.children)
 
   all_inners : (x : ℕ) → total (λ c. inner_count after h c x) all ≡ total (λ c. inner_count now h c x) one.children + total (λ c. inner_count now h c x) other.children
-  all_inners x = omega (arith, total_same (λ c. inner_count now h c x) (λ c. inner_count after h c x) all (all_so _ _ (λ c y. y.inners x) all same_all), total-append (λ c. inner_count now h c x) one.children other.children)
+  all_inners x = omega (arith, total_same (λ c. inner_count now h c x) (λ c. inner_count after h c x) all (AllByRecursion-weaker _ _ (λ c y. y.inners x) all same_all), total-append (λ c. inner_count now h c x) one.children other.children)
 
   all_order : flat (leaves_at after h) all ≡ flat (leaves_at now h) one.children ++ flat (leaves_at now h) other.children
-  all_order = flat_same (leaves_at now h) (leaves_at after h) all (all_so _ _ (λ c x. x.order) all same_all) ∙ flat-append (leaves_at now h) one.children other.children
+  all_order = flat_same (leaves_at now h) (leaves_at after h) all (AllByRecursion-weaker _ _ (λ c x. x.order) all same_all) ∙ flat-append (leaves_at now h) one.children other.children
 
   leaf_stands : (x : ℕ) → stands (after.leaf x) ≡ stands (now.leaf x)
   leaf_stands x = ap (λ (f : ℕ → Slot (Leaf K V)). stands (f x)) leaf
@@ -88,20 +88,17 @@ module _ {K V A : Type 0} {cmp : K → K → Ordering} (total' : IsTotalOrder cm
 
   whole_chain : (lo hi : Option K) → IsTree cmp now 15 (suc h) (kind.Inner left) lo (Some s) → Between cmp lo hi s → IsTree cmp now 15 (suc h) (kind.Inner right) (Some s) hi → Chain cmp (IsTree cmp after 16 h) (one.keys ++ s ∷ other.keys) all lo hi
   whole_chain lo hi l b r =
-      Chain-so cmp (IsTree cmp now 16 h) (IsTree cmp after 16 h) (one.keys ++ s ∷ other.keys) all lo hi (all_so _ _ (λ c x a b. x.tree 16 a b) all same_all)
+      Chain-so cmp (IsTree cmp now 16 h) (IsTree cmp after 16 h) (one.keys ++ s ∷ other.keys) all lo hi (AllByRecursion-weaker _ _ (λ c x a b. x.tree 16 a b) all same_all)
       (chain_join total' (IsTree cmp now 16 h) one.keys s other.keys one.children other.children lo hi (one_chain lo (Some s) l).0 b (other_chain (Some s) hi r).0)
-
-  keys_below : NodeId → List K
-  keys_below c = keys_of (pairs_at after h c)
 
   whole_zip : IsSummed now is_summary (suc h) (kind.Inner left) → IsSummed now is_summary (suc h) (kind.Inner right)
       → AllZip is_summary (one.arguments ++ other.arguments) (map (λ c. keys_of (pairs_at after h c)) all) × AllByRecursion (IsSummed after is_summary h) all
   whole_zip l r =
       let first : AllZip is_summary one.arguments (map (λ c. keys_of (pairs_at now h c)) one.children) × AllByRecursion (IsSummed now is_summary h) one.children = rw at_left at l in
       let second : AllZip is_summary other.arguments (map (λ c. keys_of (pairs_at now h c)) other.children) × AllByRecursion (IsSummed now is_summary h) other.children = rw at_right at r in (
-        subst (AllZip is_summary (one.arguments ++ other.arguments)) (sym (map_same (λ c. keys_of (pairs_at now h c)) (λ c. keys_of (pairs_at after h c)) all (all_so _ _ (λ c x. ap keys_of x.pairs) all same_all) ∙ map-append (λ c. keys_of (pairs_at now h c)) one.children other.children))
+        subst (AllZip is_summary (one.arguments ++ other.arguments)) (sym (map_same (λ c. keys_of (pairs_at now h c)) (λ c. keys_of (pairs_at after h c)) all (AllByRecursion-weaker _ _ (λ c x. ap keys_of x.pairs) all same_all) ∙ map-append (λ c. keys_of (pairs_at now h c)) one.children other.children))
             (AllZip-append is_summary one.arguments (map (λ c. keys_of (pairs_at now h c)) one.children) other.arguments (map (λ c. keys_of (pairs_at now h c)) other.children) first.0 second.0),
-        each_keeps (IsSummed now is_summary h) (IsSummed after is_summary h) all (all_so _ _ (λ c x. x.summed) all same_all) (AllByRecursion-append (IsSummed now is_summary h) one.children other.children first.1 second.1),
+        each_keeps (IsSummed now is_summary h) (IsSummed after is_summary h) all (AllByRecursion-weaker _ _ (λ c x. x.summed) all same_all) (AllByRecursion-append (IsSummed now is_summary h) one.children other.children first.1 second.1),
       )
 
   far_left : (n : ℕ) → inner_count now (suc h) (kind.Inner left) n ≡ 0 → n ≡ left.0 → ⊥

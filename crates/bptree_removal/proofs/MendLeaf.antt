@@ -8,7 +8,7 @@ use Rattle.std.specs.List.{AllByRecursion}
 use Rattle.std.proofs.lemmas.Bool.{cases_eq, eq-eqb}
 use Rattle.std.proofs.lemmas.Bool.Decides.{eqb_tells}
 use Rattle.bptree_keys.specs.Contents.{IsAscending}
-use Rattle.bptree_keys.proofs.PieceLemmas.{AllByRecursion-append, AllByRecursion-left, AllByRecursion-right}
+use Rattle.bptree_keys.proofs.PieceLemmas.{AllByRecursion-append, AllByRecursion-left, AllByRecursion-right, AllByRecursion-weaker}
 use Rattle.bptree_nodes.specs.Inner.{Inner}
 use Rattle.bptree_nodes.specs.Leaf.{Leaf}
 use Rattle.bptree_nodes.specs.Slot.{Slot, Slots, Held, Present, IsPresent}
@@ -22,7 +22,7 @@ use Rattle.bptree_shape.specs.Shape.{leaf_pairs, leaf_count, stands, IsTree}
 use Rattle.bptree_removal.specs.Share.{MovesPair, JoinsLeaf}
 use Rattle.bptree_removal.specs.declared.sharing.Lender.{Lender}
 use Rattle.bptree_insertion.proofs.LeafEdit.{all_both, below_start, from_start, start_between}
-use Rattle.bptree_shape.proofs.Ordered.{all_so, AtLeast-up, Under-less, ascending_joined, ascending_after}
+use Rattle.bptree_shape.proofs.Ordered.{AtLeast-up, Under-less, ascending_joined, ascending_after}
 use Rattle.bptree_shape.proofs.Spot.{ascending_before}
 
 module _ {K V A : Type 0} {cmp : K → K → Ordering} (total' : IsTotalOrder cmp) (is_summary : A → List K → Type 0) (now after : Slots (Inner K A) (Leaf K V)) (number : ℕ) (left right : LeafNodeId) (one other one' : Leaf K V) (s : K)
@@ -41,8 +41,8 @@ module _ {K V A : Type 0} {cmp : K → K → Ordering} (total' : IsTotalOrder cm
       let z : AllByRecursion (λ p. Within cmp (Some s) hi p.0) other.pairs × IsAscending cmp other.pairs × (15 ≤ length other.pairs) × (length other.pairs ≤ 64) = subst (λ (y : Slot (Leaf K V)). AllByRecursion (λ p. Within cmp (Some s) hi p.0) (leaf_pairs y) × IsAscending cmp (leaf_pairs y) × (15 ≤ length (leaf_pairs y)) × (length (leaf_pairs y) ≤ 64)) at_right (r.1, r.2, r.3, r.4) in
       record {
         within = AllByRecursion-append (λ p. Within cmp lo hi p.0) one.pairs other.pairs
-            (all_so _ _ (λ p w. (w.0, Under-less total' hi p.0 s b.1 w.1)) one.pairs x.0) (all_so _ _ (λ p w. (AtLeast-up total' lo s p.0 b.0 w.0, w.1)) other.pairs z.0);
-        ascending = ascending_joined total' one.pairs other.pairs s x.1 z.1 (all_so _ _ (λ p w. w.1) one.pairs x.0) (all_so _ _ (λ p w. w.0) other.pairs z.0);
+            (AllByRecursion-weaker _ _ (λ p w. (w.0, Under-less total' hi p.0 s b.1 w.1)) one.pairs x.0) (AllByRecursion-weaker _ _ (λ p w. (AtLeast-up total' lo s p.0 b.0 w.0, w.1)) other.pairs z.0);
+        ascending = ascending_joined total' one.pairs other.pairs s x.1 z.1 (AllByRecursion-weaker _ _ (λ p w. w.1) one.pairs x.0) (AllByRecursion-weaker _ _ (λ p w. w.0) other.pairs z.0);
         one_size = (x.2, x.3);
         other_size = (z.2, z.3);
       }
@@ -109,9 +109,9 @@ module _ {K V A : Type 0} {cmp : K → K → Ordering} (total' : IsTotalOrder cm
           let left_in = AllByRecursion-left (λ p. Within cmp lo hi p.0) one'.pairs other'.pairs all in
           let right_in = AllByRecursion-right (λ p. Within cmp lo hi p.0) one'.pairs other'.pairs all in
           rw (is_left, is_right) (
-            (tt, all_both (λ p. AtLeast cmp lo p.0) (λ p. cmp p.0 u ≡ Less) one'.pairs (all_so _ _ (λ p w. w.0) one'.pairs left_in) (below_start total' u one'.pairs other'.pairs up starts), ascending_before cmp one'.pairs other'.pairs up, least.0, most.0),
+            (tt, all_both (λ p. AtLeast cmp lo p.0) (λ p. cmp p.0 u ≡ Less) one'.pairs (AllByRecursion-weaker _ _ (λ p w. w.0) one'.pairs left_in) (below_start total' u one'.pairs other'.pairs up starts), ascending_before cmp one'.pairs other'.pairs up, least.0, most.0),
             start_between total' lo hi u other'.pairs right_in starts,
-            (tt, all_both (λ p. is_lt (cmp p.0 u) ≡ false) (λ p. Under cmp hi p.0) other'.pairs (from_start total' u other'.pairs up_right starts) (all_so _ _ (λ p w. w.1) other'.pairs right_in), up_right, least.1, most.1),
+            (tt, all_both (λ p. is_lt (cmp p.0 u) ≡ false) (λ p. Under cmp hi p.0) other'.pairs (from_start total' u other'.pairs up_right starts) (AllByRecursion-weaker _ _ (λ p w. w.1) other'.pairs right_in), up_right, least.1, most.1),
           );
       pairs = rw (is_left, is_right, at_left, at_right) moves.pairs;
       leaves = λ n. omega (arith, stands_lent n);

@@ -27,7 +27,7 @@ use Rattle.bptree_insertion.specs.Sums.{with_summary, with_split}
 use Rattle.bptree_shape.proofs.Agreeing.{stands_le, present_if_stands, Chain-so}
 use Rattle.bptree_shape.proofs.Frame.{EachBut, in_total, but_so, Same, all_same, same}
 use Rattle.bptree_shape.proofs.Ordered.{AtMost-up, AtLeast-up, less_then_up}
-use Rattle.bptree_shape.proofs.Widen.{tree_less, flat_around, flat_around_two, total_around, total_around_two, each_around, each_around_two, zip_around, zip_around_two, own_leaves, own_inners, child_place, rest, at_there, grown_done, node_stays}
+use Rattle.bptree_shape.proofs.Widen.{tree_less, flat_around, flat_around_two, total_around, total_around_two, each_around, each_around_two, zip_around, zip_around_two, own_leaves, own_inners, child_place, rest, at_there, grown_done}
 
 module _ {X : Type 0} where
   pub every : (P : X → Type 0) (ys : List X) (n : ℕ) (d : X) → AllByRecursion P ys → n < length ys → P (get_or ys n d)
@@ -41,18 +41,6 @@ module _ {X : Type 0} where
   but_at P (x ∷ xs) zero (suc j) d all below other = every P xs j d all (omega arith)
   but_at P (x ∷ xs) (suc i) zero d all below other = all.0
   but_at P (x ∷ xs) (suc i) (suc j) d all below other = but_at P xs i j d all.1 (omega arith) (λ e. other (ap suc e))
-
-  pub but_same : (f : X → ℕ) (xs : List X) (i : ℕ) → EachBut (λ x. f x ≡ f x) xs i
-  but_same f xs i = fill xs i
-    where
-      none : (ys : List X) → AllByRecursion (λ x. f x ≡ f x) ys
-      none [] = tt
-      none (y ∷ ys) = (refl, none ys)
-
-      fill : (ys : List X) (j : ℕ) → EachBut (λ x. f x ≡ f x) ys j
-      fill [] j = tt
-      fill (y ∷ ys) zero = none ys
-      fill (y ∷ ys) (suc j) = (refl, fill ys j)
 
   pub total_insert : (f : X → ℕ) (xs : List X) (i : ℕ) (y : X) → i ≤ length xs → total f (insert xs i y) ≡ total f xs + f y
   total_insert f xs zero y below = omega arith
@@ -339,9 +327,6 @@ module _ {K V A : Type 0} {cmp : K → K → Ordering} (total' : IsTotalOrder cm
     old_each h =
         let both : AllZip is_summary node.arguments (map (λ c. keys_of (pairs_at old m c)) node.children) × AllByRecursion (IsSummed old is_summary m) node.children = rw is at h in
         all_without (IsSummed old is_summary m) bare.children (suc slot) right (omega (arith, below)) (subst (AllByRecursion (IsSummed old is_summary m)) children_are both.1)
-
-    node_now : now.inner id.0 ≡ Present node
-    node_now = node_stays total' is_summary edit kept old now m id k node i child leaf turn local can is leads read Done at
 
     leads_here : Leads cmp k (insert bare.keys slot s) i
     leads_here = subst (λ ks. Leads cmp k ks i) keys_are leads

@@ -84,7 +84,3 @@ module _ {K V A : Type 0} {cmp : K → K → Ordering} {is_summary : A → List 
   settled_at (suc m) loose =
       let down : m ≡ suc m - 1 = omega arith in
       (subst (λ n. IsWellShaped cmp is_summary new n child) down (settled_shape m loose), subst (λ n. pairs_at new n child ≡ pairs_at old (suc m) (kind.Inner id)) down (settled_pairs m loose))
-
--- a tree whose root has a key, or is a leaf, is right
-pub right_shape : {K V A : Type 0} {cmp : K → K → Ordering} {is_summary : A → List K → Type 0} (slots : Slots (Inner K A) (Leaf K V)) (h : ℕ) (root : NodeId) → IsLoose cmp is_summary slots h root → IsTree cmp slots (root_least h) h root None None → IsWellShaped cmp is_summary slots h root
-right_shape slots h root loose tree = record { tree = tree; leaves = loose.leaves; inners = loose.inners; no_leaf_held = loose.no_leaf_held; no_inner_held = loose.no_inner_held; summed = loose.summed; linked = loose.linked }

@@ -12,6 +12,7 @@ use Rattle.bptree_insertion.specs.Sums.{HasPlace}
 use Rattle.bptree_insertion.specs.declared.node_changes.Division.{Division}
 use Rattle.bptree_removal.specs.declared.sharing.Lender.{Lender}
 use Rattle.bptree_removal.specs.declared.sharing.Lender.TheVariants.{Left, Right}
+use Rattle.bptree_removal.proofs.Helping.{inserted_is}
 use Rattle.bptree_shape.proofs.ListReads.{read_below}
 use Rattle.bptree_insertion.proofs.NodeChanges.{entry_back, sum_back, place_below}
 
@@ -42,9 +43,6 @@ back_sizes Right a b c d e f there back = (omega arith, omega arith)
 pub can_give_back : (lender : Lender) (a b c d : ℕ) → CanLend lender a b → Moves lender a b c d → CanLend (other_of lender) c d
 can_give_back Left a b c d can moves = (omega arith, omega arith, omega arith)
 can_give_back Right a b c d can moves = (omega arith, omega arith, omega arith)
-
-some_is : {X : Type 0} (a b : X) → Some a ≡ Some b → a ≡ b
-some_is a b e = cc
 
 pub leaf_same : {K V : Type 0} (x y : Leaf K V) → x.pairs ≡ y.pairs → x.prev ≡ y.prev → x.next ≡ y.next → x ≡ y
 leaf_same x y pairs prev next = λ i. record { pairs = pairs i; prev = prev i; next = next i }
@@ -147,10 +145,5 @@ module _ {K A : Type 0} where
   joined_entry node bare now set back slot s child given a before out told entry joins got put read is =
       let undone = sum_back bare now set slot joins.both before out joins.is (place_below bare slot entry.place) joins.summary got put in
       let there : child ≡ given =
-      some_is child given (sym (at_place bare.children (slot + 1) child (omega (arith, entry.place.within, entry.place.children))) ∙ (ap (λ (n : Inner K A). slice_get n.children (slot + 1)) (sym entry.is) ∙ read)) in
+      inserted_is bare.children (slot + 1) child given (omega (arith, entry.place.within, entry.place.children)) (ap (λ (n : Inner K A). slice_get n.children (slot + 1)) (sym entry.is) ∙ read) in
       is ∙ rw (undone.0, ← there) (sym entry.is)
-    where
-      at_place : {X : Type 0} (xs : List X) (i : ℕ) (x : X) → i ≤ length xs → slice_get (insert xs i x) i ≡ Some x
-      at_place xs zero x below = refl
-      at_place [] (suc i) x below = absurd (omega arith)
-      at_place (y ∷ xs) (suc i) x below = at_place xs i x (omega arith)

@@ -11,6 +11,7 @@ use Rattle.bptree_nodes.specs.Slot.{Slot, Slots, Present, IsPresent}
 use Rattle.bptree_keys.specs.declared.node_id.InnerNodeId.{InnerNodeId}
 use Rattle.bptree_keys.specs.declared.node_id.NodeId.{NodeId}
 use Rattle.bptree_keys.specs.declared.node_id.NodeId.TheVariants as kind
+use Rattle.bptree_keys.proofs.PieceLemmas.{AllByRecursion-weaker}
 use Rattle.bptree_insertion.specs.Climb.{least_at, Climbs, Risen}
 use Rattle.bptree_shape.specs.Edit.{Edits}
 use Rattle.bptree_shape.specs.Outcome.{Done}
@@ -26,7 +27,7 @@ use Rattle.bptree_shape.proofs.Agreeing.{stands_le}
 use Rattle.bptree_insertion.proofs.Climbing.{has_place, most, least_most, edits_less}
 use Rattle.bptree_removal.proofs.ClimbingShort as short
 use Rattle.bptree_removal.proofs.Helping as help
-use Rattle.bptree_removal.proofs.Helping.{size_read, chain_all, all_map, key_of, lends_so, enough_so, fits_so}
+use Rattle.bptree_removal.proofs.Helping.{size_read, chain_all, key_of, lends_so, enough_so, fits_so}
 use Rattle.bptree_removal.proofs.Seated.{Seat, seat_of, seat_size, inner_high}
 use Rattle.bptree_removal.proofs.Shares.{entry_out}
 use Rattle.bptree_shape.proofs.Walk.{chain_length}
@@ -153,7 +154,7 @@ module _ {K V A : Type 0} {cmp : K → K → Ordering} (total : IsTotalOrder cmp
         chain_all cmp (IsTree cmp now 15 d.height) (IsFull now) (λ x lo hi t. full_of cmp now high.0 x lo hi (subst (λ n. IsTree cmp now 15 n x lo hi) high.1 t)) s.node.keys s.node.children at.low at.high chain
 
     pub all_inner : AllByRecursion (IsInnerAt now) node.children
-    all_inner = all_map (IsFull now) (IsInnerAt now) (inner_of now) node.children all_full
+    all_inner = AllByRecursion-weaker (IsFull now) (IsInnerAt now) (inner_of now) node.children all_full
 
     pub full_at : (j : ℕ) (x : InnerNodeId) → slice_get node.children j ≡ Some (kind.Inner x) → IsFull now (kind.Inner x)
     full_at j x read = all_read (IsFull now) node.children j (kind.Inner x) all_full read

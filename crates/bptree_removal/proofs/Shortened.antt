@@ -5,7 +5,6 @@ use Rattle.std.specs.Cmp.{IsTotalOrder}
 use Rattle.std.specs.Map.{keys_of}
 use Rattle.std.proofs.lemmas.Bool.{cases_eq, eq-eqb}
 use Rattle.std.proofs.lemmas.Bool.Decides.{eqb_tells}
-use mathlib.Core.Bool.{true≢false}
 use Rattle.bptree_nodes.specs.Inner.{Inner}
 use Rattle.bptree_nodes.specs.Leaf.{Leaf}
 use Rattle.bptree_nodes.specs.Slot.{Slot, Slots, Free, Held, Present, IsPresent, UpdatesInner}
@@ -25,7 +24,7 @@ use Rattle.bptree_insertion.specs.Sums.{SumsUpAt, with_split}
 use Rattle.bptree_removal.specs.Trim.{ClimbsShort, Sunk}
 use Rattle.bptree_removal.specs.declared.sharing.Lender.{Lender}
 use Rattle.bptree_removal.specs.declared.sharing.Sides.{Sides}
-use Rattle.bptree_insertion.proofs.Climbing.{edits_less}
+use Rattle.bptree_insertion.proofs.Climbing.{edits_less, held_is}
 use Rattle.bptree_removal.proofs.ClimbingShort as short
 use Rattle.bptree_shape.proofs.Frame.{Same, same}
 use Rattle.bptree_insertion.proofs.Lift.{links_moved}
@@ -123,11 +122,6 @@ module _ {K V A : Type 0} {cmp : K → K → Ordering} (total : IsTotalOrder cmp
       module _ (above : A) (sums : SumsUpAt cmp is_summary (after.inner number.0) above) (new : Slots (Inner K A) (Leaf K V)) (top : A) (sunk : Sunk (joined_climbs above sums).climb new top) where
         pub still_held : new.inner right.0 ≡ Held
         still_held = held_is (new.inner right.0) (sunk.free.inners right.0 ∙ rw (eq-eqb right.0 right.0 refl) refl)
-          where
-            held_is : {N : Type 0} (s : Slot N) → is_held s ≡ true → s ≡ Held
-            held_is Free q = absurd (true≢false (sym q))
-            held_is Held q = refl
-            held_is (Present x) q = absurd (true≢false (sym q))
 
         pub sunk_joined : (final : Slots (Inner K A) (Leaf K V)) → c.climb.held_inner right.0 ≡ false → UpdatesInner new final right.0 Free → Sunk c.climb final top
         sunk_joined final was_not frees =

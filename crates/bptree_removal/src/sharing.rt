@@ -10,7 +10,7 @@ ghost use Rattle.bptree_insertion.specs.Sums.{HasPlace, SumsUp};
 ghost use Rattle.bptree_insertion.specs.LeafChange.{SumsUpLeaf};
 
 use bptree_arguments::argument::Argument;
-use bptree_insertion::node_changes::{Division, resum, take_entry};
+use bptree_insertion::node_changes::{Division, Resummed, resum, take_entry};
 use bptree_keys::key::Key;
 use bptree_keys::node_id::{LeafNodeId, NodeId};
 use bptree_nodes::inner_node::InnerNode;
@@ -91,12 +91,12 @@ fn ask_leaves<K: Key, V: Drop, A: Argument<K>>(
     child: NodeId,
     left: &LeafNode<K, V>,
     right: &LeafNode<K, V>,
-) -> Result<(A, A), AllocError>
+) -> Result<Resummed<A>, AllocError>
     requires place { HasPlace node.old slot }
     requires room { length node.old.keys < 64 }
     requires some { 0 < length right.now.pairs }
-    ensures lends { IfOk result (λ sums. Lends K.cmp node.old slot child (SumsUpLeaf K.cmp A.is_summary left.now.pairs) (λ s. StartsAt K.cmp s right.now.pairs) (SumsUpLeaf K.cmp A.is_summary right.now.pairs) node.new sums.1) }
-    ensures sums { IfOk result (λ sums. SumsUp K.cmp A.is_summary node.new sums.0) }
+    ensures lends { IfOk result (λ sums. Lends K.cmp node.old slot child (SumsUpLeaf K.cmp A.is_summary left.now.pairs) (λ s. StartsAt K.cmp s right.now.pairs) (SumsUpLeaf K.cmp A.is_summary right.now.pairs) node.new sums.old) }
+    ensures sums { IfOk result (λ sums. SumsUp K.cmp A.is_summary node.new sums.above) }
     ensures refused { OnErr result (node.new ≡ node.old) }
 {
     let separator = right.data_at(0).0.clone()?;
@@ -122,11 +122,11 @@ fn ask_inners<K: Key, A: Argument<K>>(
     left: &InnerNode<K, A>,
     separator: K,
     right: &InnerNode<K, A>,
-) -> Result<(A, A), K>
+) -> Result<Resummed<A>, K>
     requires place { HasPlace node.old slot }
     requires room { length node.old.keys < 64 }
-    ensures lends { IfOk result (λ sums. Lends K.cmp node.old slot child (SumsUp K.cmp A.is_summary left.now) (λ s. s ≡ separator) (SumsUp K.cmp A.is_summary right.now) node.new sums.1) }
-    ensures sums { IfOk result (λ sums. SumsUp K.cmp A.is_summary node.new sums.0) }
+    ensures lends { IfOk result (λ sums. Lends K.cmp node.old slot child (SumsUp K.cmp A.is_summary left.now) (λ s. s ≡ separator) (SumsUp K.cmp A.is_summary right.now) node.new sums.old) }
+    ensures sums { IfOk result (λ sums. SumsUp K.cmp A.is_summary node.new sums.above) }
     ensures refused { OnErr result (node.new ≡ node.old) }
     ensures handed_back { IfErr result (λ back. back ≡ separator) }
 {
@@ -153,10 +153,10 @@ fn ask_leaf<K: Key, V: Drop, A: Argument<K>>(
     node: &mut InnerNode<K, A>,
     slot: usize,
     leaf: &LeafNode<K, V>,
-) -> Result<(A, A), AllocError>
+) -> Result<Resummed<A>, AllocError>
     requires place { slot < length node.old.arguments }
-    ensures joins { IfOk result (λ sums. Joins node.old slot (SumsUpLeaf K.cmp A.is_summary leaf.now.pairs) node.new sums.1) }
-    ensures sums { IfOk result (λ sums. SumsUp K.cmp A.is_summary node.new sums.0) }
+    ensures joins { IfOk result (λ sums. Joins node.old slot (SumsUpLeaf K.cmp A.is_summary leaf.now.pairs) node.new sums.old) }
+    ensures sums { IfOk result (λ sums. SumsUp K.cmp A.is_summary node.new sums.above) }
     ensures refused { OnErr result (node.new ≡ node.old) }
 {
     let both = A::from_leaf(leaf.keys())?;
@@ -171,10 +171,10 @@ fn ask_inner<K: Key, A: Argument<K>>(
     node: &mut InnerNode<K, A>,
     slot: usize,
     child: &InnerNode<K, A>,
-) -> Result<(A, A), AllocError>
+) -> Result<Resummed<A>, AllocError>
     requires place { slot < length node.old.arguments }
-    ensures joins { IfOk result (λ sums. Joins node.old slot (SumsUp K.cmp A.is_summary child.now) node.new sums.1) }
-    ensures sums { IfOk result (λ sums. SumsUp K.cmp A.is_summary node.new sums.0) }
+    ensures joins { IfOk result (λ sums. Joins node.old slot (SumsUp K.cmp A.is_summary child.now) node.new sums.old) }
+    ensures sums { IfOk result (λ sums. SumsUp K.cmp A.is_summary node.new sums.above) }
     ensures refused { OnErr result (node.new ≡ node.old) }
 {
     let both = A::from_inner(child.keys(), child.arguments())?;
@@ -206,7 +206,7 @@ pub fn lend_leaves<K: Key, V: Drop, A: Argument<K>>(
     move_pair(lender, left, right);
     let (separator, child, old) = node.remove_at(slot);
     match ask_leaves(node, slot, child, left, right) {
-        Ok((above, before)) => {
+        Ok(Resummed { above, old: before }) => {
             let joint = Joint {
                 left: before,
                 separator,
@@ -264,7 +264,7 @@ pub fn join_leaves<K: Key, V: Drop, A: Argument<K>>(
     left.take_over(right);
     let (separator, child, old) = node.remove_at(slot);
     match ask_leaf(node, slot, left) {
-        Ok((above, before)) => {
+        Ok(Resummed { above, old: before }) => {
             let joint = Joint {
                 left: before,
                 separator,
@@ -327,7 +327,7 @@ pub fn lend_inners<K: Key, A: Argument<K>>(
     let (separator, child, old) = node.remove_at(slot);
     let up = move_child(lender, left, separator, right);
     match ask_inners(node, slot, child, left, up, right) {
-        Ok((above, before)) => {
+        Ok(Resummed { above, old: before }) => {
             let sides = Sides {
                 left: before,
                 right: old,
@@ -383,11 +383,12 @@ pub fn join_inners<K: Key, A: Argument<K>>(
     ensures right { OnErr result (right.new ≡ right.old) }
 {
     let kept = left.len();
+    // Read, so that it is known to fit.
     let _moved = right.len();
     let (separator, child, old) = node.remove_at(slot);
     left.take_over(separator, right);
     match ask_inner(node, slot, left) {
-        Ok((above, before)) => {
+        Ok(Resummed { above, old: before }) => {
             let sides = Sides {
                 left: before,
                 right: old,

@@ -69,10 +69,6 @@ module _ {K V A : Type 0} {cmp : K → K → Ordering} (total : IsTotalOrder cmp
   inner_present zero id s = absurd s.tree
   inner_present (suc h) id s = (s.tree.0, omega arith)
 
-  pub leaf_present : (h : ℕ) (id : LeafNodeId) → Stands cmp slots h (kind.Leaf id) → IsPresent (slots.leaf id.0) × (h ≡ 0)
-  leaf_present zero id s = (s.tree.0, refl)
-  leaf_present (suc h) id s = absurd s.tree
-
   module _ (h : ℕ) (id : InnerNodeId) (node : Inner K A) (s : Stands cmp slots h (kind.Inner id)) (e : slots.inner id.0 ≡ Present node) where
     pub node_children : length node.children ≡ length node.keys + 1
     node_children = let at = inner_at h id node s e in chain_length cmp (IsTree cmp slots 16 at.below) node.keys node.children at.low at.high at.chain

@@ -88,10 +88,6 @@ module _ {K V A : Type 0} (cmp : K → K → Ordering) (slots : Slots (Inner K A
       let some = at_middle (λ (l : LeafNodeId). 0 < length (leaf_pairs (slots.leaf l.0))) in'.before leaf in'.after (subst (AllByRecursion (λ (l : LeafNodeId). 0 < length (leaf_pairs (slots.leaf l.0)))) in'.leaves all) in
       absurd (omega (arith, some))
 
-get_left : {X : Type 0} (xs ys : List X) → 0 < length xs → slice_get (xs ++ ys) 0 ≡ slice_get xs 0
-get_left [] ys some = absurd (omega arith)
-get_left (x ∷ xs) ys some = refl
-
 get_right : {X : Type 0} (xs ys : List X) → 0 < length ys → slice_get (xs ++ ys) (length (xs ++ ys) - 1) ≡ slice_get ys (length ys - 1)
 get_right [] ys some = refl
 get_right (x ∷ xs) ys some =

@@ -12,10 +12,10 @@ use Rattle.bptree_keys.specs.declared.node_id.InnerNodeId.{InnerNodeId}
 use Rattle.bptree_keys.specs.declared.node_id.LeafNodeId.{LeafNodeId}
 use Rattle.bptree_keys.specs.declared.node_id.NodeId.{NodeId}
 use Rattle.bptree_keys.specs.declared.node_id.NodeId.TheVariants as kind
+use Rattle.bptree_keys.proofs.PieceLemmas.{AllByRecursion-weaker}
 use Rattle.bptree_shape.specs.Order.{total, Within}
 use Rattle.bptree_shape.specs.Shape.{leaf_pairs, inner_keys, inner_children, pairs_at, leaves_at, leaf_count, inner_count, stands, IsTree, IsSummed}
 use Rattle.bptree_shape.proofs.Agreeing.{stands_le, present_if_stands, flat_same, total_same, map_same, each_keeps, Chain-so}
-use Rattle.bptree_shape.proofs.Ordered.{all_so}
 
 -- P holds of each member but the one at place i
 abbrev pub EachBut : {X : Type 0} → (X → Type 0) → List X → ℕ → Type 0
@@ -30,7 +30,7 @@ in_total f (x ∷ xs) (suc i) d h = omega (arith, in_total f xs i d (omega arith
 
 pub but_so : {X : Type 0} (P Q : X → Type 0) → ((x : X) → P x → Q x) → (xs : List X) (i : ℕ) → EachBut P xs i → EachBut Q xs i
 but_so P Q so [] i a = tt
-but_so P Q so (x ∷ xs) zero a = all_so P Q so xs a
+but_so P Q so (x ∷ xs) zero a = AllByRecursion-weaker P Q so xs a
 but_so P Q so (x ∷ xs) (suc i) a = (so x a.0, but_so P Q so xs i a.1)
 
 module _ {K V A : Type 0} (cmp : K → K → Ordering) (is_summary : A → List K → Type 0) (old new : Slots (Inner K A) (Leaf K V)) where
@@ -73,25 +73,26 @@ module _ {K V A : Type 0} (cmp : K → K → Ordering) (is_summary : A → List 
         summed = λ s. s;
       }
 
-  same_inner : (h : ℕ) (id : InnerNodeId) → new.inner id.0 ≡ old.inner id.0 → AllByRecursion (Same h) (inner_children (old.inner id.0)) → Same (suc h) (kind.Inner id)
+  -- a node stays where each child does
+  pub same_inner : (h : ℕ) (id : InnerNodeId) → new.inner id.0 ≡ old.inner id.0 → AllByRecursion (Same h) (inner_children (old.inner id.0)) → Same (suc h) (kind.Inner id)
   same_inner h id e all =
       let cs = inner_children (old.inner id.0) in
       record {
-        pairs = rw e (flat_same (pairs_at old h) (pairs_at new h) cs (all_so _ _ (λ c s. s.pairs) cs all));
-        order = rw e (flat_same (leaves_at old h) (leaves_at new h) cs (all_so _ _ (λ c s. s.order) cs all));
+        pairs = rw e (flat_same (pairs_at old h) (pairs_at new h) cs (AllByRecursion-weaker _ _ (λ c s. s.pairs) cs all));
+        order = rw e (flat_same (leaves_at old h) (leaves_at new h) cs (AllByRecursion-weaker _ _ (λ c s. s.order) cs all));
         tree = λ least lo hi t.
             rw e (
               t.0,
-              Chain-so cmp (IsTree cmp old 16 h) (IsTree cmp new 16 h) (inner_keys (old.inner id.0)) cs lo hi (all_so _ _ (λ c s a b. s.tree 16 a b) cs all) t.1,
+              Chain-so cmp (IsTree cmp old 16 h) (IsTree cmp new 16 h) (inner_keys (old.inner id.0)) cs lo hi (AllByRecursion-weaker _ _ (λ c s a b. s.tree 16 a b) cs all) t.1,
               t.2,
               t.3,
             );
-        leaves = λ n. rw e (total_same (λ c. leaf_count old h c n) (λ c. leaf_count new h c n) cs (all_so _ _ (λ c s. s.leaves n) cs all));
-        inners = λ n. rw e (ap (λ x. cond (eqb id.0 n) 1 0 + x) (total_same (λ c. inner_count old h c n) (λ c. inner_count new h c n) cs (all_so _ _ (λ c s. s.inners n) cs all)));
+        leaves = λ n. rw e (total_same (λ c. leaf_count old h c n) (λ c. leaf_count new h c n) cs (AllByRecursion-weaker _ _ (λ c s. s.leaves n) cs all));
+        inners = λ n. rw e (ap (λ x. cond (eqb id.0 n) 1 0 + x) (total_same (λ c. inner_count old h c n) (λ c. inner_count new h c n) cs (AllByRecursion-weaker _ _ (λ c s. s.inners n) cs all)));
         summed = λ s.
             rw e (
-              rw (map_same (λ c. keys_of (pairs_at old h c)) (λ c. keys_of (pairs_at new h c)) cs (all_so _ _ (λ c s. ap keys_of s.pairs) cs all)) s.0,
-              each_keeps (IsSummed old is_summary h) (IsSummed new is_summary h) cs (all_so _ _ (λ c s. s.summed) cs all) s.1,
+              rw (map_same (λ c. keys_of (pairs_at old h c)) (λ c. keys_of (pairs_at new h c)) cs (AllByRecursion-weaker _ _ (λ c s. ap keys_of s.pairs) cs all)) s.0,
+              each_keeps (IsSummed old is_summary h) (IsSummed new is_summary h) cs (AllByRecursion-weaker _ _ (λ c s. s.summed) cs all) s.1,
             );
       }
 

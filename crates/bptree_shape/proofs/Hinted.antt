@@ -18,11 +18,12 @@ use Rattle.bptree_keys.specs.declared.node_id.LeafNodeId.{LeafNodeId}
 use Rattle.bptree_keys.specs.declared.node_id.NodeId.{NodeId}
 use Rattle.bptree_keys.specs.declared.node_id.NodeId.TheVariants as kind
 use Rattle.bptree_keys.proofs.Ascending.{all_pairs, greater_turned}
+use Rattle.bptree_keys.proofs.PieceLemmas.{AllByRecursion-weaker}
 use Rattle.bptree_stores.specs.Hint.{HoldsKey}
 use Rattle.bptree_shape.specs.Leaves.{pairs_of, StandsIn, IsLeafFor}
 use Rattle.bptree_shape.specs.Order.{flat, total}
 use Rattle.bptree_shape.specs.Shape.{leaf_prev, leaf_next, inner_children, pairs_at, leaves_at, leaf_count, stands, AreLinked, IsWellShaped, root_least}
-use Rattle.bptree_shape.proofs.Ordered.{by_cases, all_so, less_then_up, smaller_before, ascending_after}
+use Rattle.bptree_shape.proofs.Ordered.{by_cases, less_then_up, smaller_before, ascending_after}
 use Rattle.bptree_shape.proofs.Spot.{parts_of_read}
 use Rattle.bptree_shape.proofs.Walk.{tree_ascends}
 
@@ -114,7 +115,7 @@ module _ {K V : Type 0} {cmp : K → K → Ordering} (total' : IsTotalOrder cmp)
   reaches_back : (before ps after : List (K × V)) → IsAscending cmp (before ++ (ps ++ after)) → reaches_first cmp (keys_of ps) k ≡ true → AllAnswer cmp k Less before
   reaches_back before [] after ascending h = absurd (true≢false (sym h))
   reaches_back before (p ∷ ps) after ascending h =
-      all_so _ _ (λ (x : K × V) less. less_then_up total' x.0 p.0 k less (not_true (is_lt (cmp k p.0)) h)) before (smaller_before total' before p (ps ++ after) ascending)
+      AllByRecursion-weaker _ _ (λ (x : K × V) less. less_then_up total' x.0 p.0 k less (not_true (is_lt (cmp k p.0)) h)) before (smaller_before total' before p (ps ++ after) ascending)
 
   at_last : (p : K × V) (ps after : List (K × V)) (d : K) → IsAscending cmp ((p ∷ ps) ++ after) → is_gt (cmp k (slice_index_or (p.0 ∷ keys_of ps) (length (keys_of ps)) d)) ≡ false → AllAnswer cmp k Greater after
   at_last p [] after d ascending h =

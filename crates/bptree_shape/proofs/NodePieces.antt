@@ -1,11 +1,10 @@
 -- The keys below the children of an inner node are pieces of the node's keys, with the node's arguments as their summaries.
-use Rattle.std.proofs.Common.{◌≡◌, ℕ, zero, suc, ◌<◌, ◌^◌, List, [], ◌∷◌, ◌++◌, length, map, take, drop, get_or, refl, ap, subst, ◌∙◌, arith, Option, Some, slice_get}
+use Rattle.std.proofs.Common.{◌≡◌, ℕ, zero, suc, ◌<◌, ◌^◌, List, [], ◌∷◌, ◌++◌, length, map, take, drop, get_or, refl, ap, ◌∙◌, arith, Option, Some}
 use Rattle.std.specs.declared.cmp.Ordering.{Ordering}
 use Rattle.std.specs.Cmp.{IsTotalOrder}
 use Rattle.std.specs.List.{AllByRecursion, AllZip}
 use Rattle.std.specs.Map.{keys_of}
 use Rattle.std.proofs.lemmas.Map.Entries.{length-keys_of}
-use Rattle.std.proofs.lemmas.Option.{get_or_from_slice_get}
 use Rattle.bptree_nodes.specs.Inner.{Inner}
 use Rattle.bptree_nodes.specs.Leaf.{Leaf}
 use Rattle.bptree_keys.specs.Pieces.{flatten, piece_at, start_of, AllNonEmpty, ArePieces}
@@ -15,7 +14,7 @@ use Rattle.bptree_keys.specs.declared.node_id.NodeId.{NodeId}
 use Rattle.bptree_keys.specs.declared.node_id.NodeId.TheVariants as kind
 use Rattle.bptree_shape.specs.Order.{flat, Chain}
 use Rattle.bptree_shape.specs.Shape.{inner_keys, inner_children, inner_arguments, pairs_at, IsTree, IsSummed}
-use Rattle.bptree_shape.proofs.Walk.{tree_inside, tree_ascends, tree_some, chain_ascends, chain_at}
+use Rattle.bptree_shape.proofs.Walk.{tree_inside, tree_ascends, tree_some, chain_ascends}
 
 pub keys-append : {K V : Type 0} (xs ys : List (K × V)) → keys_of (xs ++ ys) ≡ keys_of xs ++ keys_of ys
 keys-append [] ys = refl
@@ -82,15 +81,7 @@ module _ {K V A : Type 0} {cmp : K → K → Ordering} (total : IsTotalOrder cmp
     pub node_pieces : length (pairs_at slots (suc h) (kind.Inner id)) < 2 ^ 64 → ArePieces cmp (child_keys slots h (inner_children (slots.inner id.0)))
     node_pieces fits = chain_pieces h (inner_keys (slots.inner id.0)) (inner_children (slots.inner id.0)) lo hi tree.1 fits
 
-    -- each child is a tree with 16 keys or pairs at least
-    pub node_child : (i : ℕ) (child : NodeId) → slice_get (inner_children (slots.inner id.0)) i ≡ Some child → i < length (inner_children (slots.inner id.0)) → (a : Option K) × (b : Option K) × IsTree cmp slots 16 h child a b
-    node_child i child read within =
-        let cs = inner_children (slots.inner id.0) in
-        let there = chain_at cmp (IsTree cmp slots 16 h) (inner_keys (slots.inner id.0)) cs lo hi i child within tree.1 in
-        let same : get_or cs i child ≡ child = get_or_from_slice_get cs i child child read in
-        (there.0, there.1, subst (λ c. IsTree cmp slots 16 h c there.0 there.1) same there.2)
-
-    -- and has a pair
+    -- each child has a pair
     pub node_children_some : AllByRecursion (λ c. 0 < length (pairs_at slots h c)) (inner_children (slots.inner id.0))
     node_children_some = children_some h (inner_keys (slots.inner id.0)) (inner_children (slots.inner id.0)) lo hi tree.1
 

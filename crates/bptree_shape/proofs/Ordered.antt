@@ -18,10 +18,6 @@ by_cases Less a b c = a refl
 by_cases Equal a b c = b refl
 by_cases Greater a b c = c refl
 
-pub all_so : {X : Type 0} (P Q : X → Type 0) → ((x : X) → P x → Q x) → (xs : List X) → AllByRecursion P xs → AllByRecursion Q xs
-all_so P Q so [] all = tt
-all_so P Q so (x ∷ xs) all = (so x all.0, all_so P Q so xs all.1)
-
 module _ {K : Type 0} {cmp : K → K → Ordering} (total : IsTotalOrder cmp) where
   -- x ≤ y and y < z
   pub up_then_less : (x y z : K) → is_lt (cmp y x) ≡ false → cmp y z ≡ Less → cmp x z ≡ Less

@@ -11,7 +11,8 @@ use Rattle.bptree_arguments.specs.Ranks.{AllAbove, IsSlotOf}
 use Rattle.bptree_keys.specs.Contents.{IsAscending, has}
 use Rattle.bptree_keys.specs.Locate.{locate, one_later}
 use Rattle.bptree_keys.proofs.Ascending.{greater_turned, less_turned}
-use Rattle.bptree_shape.proofs.Ordered.{by_cases, all_so}
+use Rattle.bptree_keys.proofs.PieceLemmas.{AllByRecursion-weaker}
+use Rattle.bptree_shape.proofs.Ordered.{by_cases}
 
 module _ {K : Type 0} {cmp : K → K → Ordering} (total : IsTotalOrder cmp) (k : K) where
   one_more : (x : K) (xs : List K) (place : Result ℕ ℕ) → cmp x k ≡ Less → IsSlotOf cmp k xs place → IsSlotOf cmp k (x ∷ xs) (one_later place)
@@ -22,11 +23,11 @@ module _ {K : Type 0} {cmp : K → K → Ordering} (total : IsTotalOrder cmp) (k
 
   above_equal : (x : K) (xs : List K) → cmp x k ≡ Equal → IsStrictlySortedBy cmp (x ∷ xs) → AllAbove cmp k xs
   above_equal x xs equal sorted =
-      all_so (λ y. cmp x y ≡ Less) (λ y. cmp y k ≡ Greater) (λ y less. greater_turned cmp total k y (sym (total.congr x k y equal) ∙ less)) xs (sorted_head cmp x xs sorted)
+      AllByRecursion-weaker (λ y. cmp x y ≡ Less) (λ y. cmp y k ≡ Greater) (λ y less. greater_turned cmp total k y (sym (total.congr x k y equal) ∙ less)) xs (sorted_head cmp x xs sorted)
 
   above_greater : (x : K) (xs : List K) → cmp x k ≡ Greater → IsStrictlySortedBy cmp (x ∷ xs) → AllAbove cmp k xs
   above_greater x xs greater sorted =
-      all_so (λ y. cmp x y ≡ Less) (λ y. cmp y k ≡ Greater) (λ y less. greater_turned cmp total k y (total.trans k x y (less_turned cmp total x k greater) less)) xs (sorted_head cmp x xs sorted)
+      AllByRecursion-weaker (λ y. cmp x y ≡ Less) (λ y. cmp y k ≡ Greater) (λ y less. greater_turned cmp total k y (total.trans k x y (less_turned cmp total x k greater) less)) xs (sorted_head cmp x xs sorted)
 
   pub slot_of : (keys : List K) → IsStrictlySortedBy cmp keys → IsSlotOf cmp k keys (locate cmp keys k)
   slot_of [] sorted = ([], [], refl, record { parts = refl; below = tt; equal = tt; above = tt })

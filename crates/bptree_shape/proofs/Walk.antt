@@ -13,10 +13,10 @@ use Rattle.bptree_nodes.specs.Slot.{Slots}
 use Rattle.bptree_keys.specs.declared.node_id.NodeId.{NodeId}
 use Rattle.bptree_keys.specs.declared.node_id.NodeId.TheVariants as kind
 use Rattle.bptree_keys.proofs.Ascending.{greater_turned}
-use Rattle.bptree_keys.proofs.PieceLemmas.{AllByRecursion-append}
+use Rattle.bptree_keys.proofs.PieceLemmas.{AllByRecursion-append, AllByRecursion-weaker}
 use Rattle.bptree_shape.specs.Order.{flat, Within, Chain, Leads}
 use Rattle.bptree_shape.specs.Shape.{inner_keys, inner_children, pairs_at, IsTree}
-use Rattle.bptree_shape.proofs.Ordered.{all_so, up_then_less, less_then_up, AtLeast-up, Under-less, up_if_not_above, ascending_joined}
+use Rattle.bptree_shape.proofs.Ordered.{up_then_less, less_then_up, AtLeast-up, Under-less, up_if_not_above, ascending_joined}
 
 -- what stands in a list before a member, at it and after it
 pub flat_parts : {X Y : Type 0} (f : X → List Y) (xs : List X) (i : ℕ) (d : X) → i < length xs → flat f xs ≡ flat f (take i xs) ++ (f (get_or xs i d) ++ flat f (drop (suc i) xs))
@@ -36,8 +36,8 @@ module _ {C K V : Type 0} {cmp : K → K → Ordering} (total : IsTotalOrder cmp
   chain_inside [] (c ∷ d ∷ cs) lo hi h = absurd h
   chain_inside (k ∷ ks) (c ∷ cs) lo hi h =
       AllByRecursion-append _ (f c) (flat f cs)
-      (all_so _ _ (λ p w. (w.0, Under-less total hi p.0 k h.1.1 w.1)) (f c) (inside c lo (Some k) h.0))
-      (all_so _ _ (λ p w. (AtLeast-up total lo k p.0 h.1.0 w.0, w.1)) (flat f cs) (chain_inside ks cs (Some k) hi h.2))
+      (AllByRecursion-weaker _ _ (λ p w. (w.0, Under-less total hi p.0 k h.1.1 w.1)) (f c) (inside c lo (Some k) h.0))
+      (AllByRecursion-weaker _ _ (λ p w. (AtLeast-up total lo k p.0 h.1.0 w.0, w.1)) (flat f cs) (chain_inside ks cs (Some k) hi h.2))
 
   pub chain_ascends : ((c : C) (lo hi : Option K) → P c lo hi → IsAscending cmp (f c)) → (ks : List K) (cs : List C) (lo hi : Option K) → Chain cmp P ks cs lo hi → IsAscending cmp (flat f cs)
   chain_ascends each ks [] lo hi h = absurd h
@@ -45,8 +45,8 @@ module _ {C K V : Type 0} {cmp : K → K → Ordering} (total : IsTotalOrder cmp
   chain_ascends each [] (c ∷ d ∷ cs) lo hi h = absurd h
   chain_ascends each (k ∷ ks) (c ∷ cs) lo hi h =
       ascending_joined total (f c) (flat f cs) k (each c lo (Some k) h.0) (chain_ascends each ks cs (Some k) hi h.2)
-      (all_so _ _ (λ p w. w.1) (f c) (inside c lo (Some k) h.0))
-      (all_so _ _ (λ p w. w.0) (flat f cs) (chain_inside ks cs (Some k) hi h.2))
+      (AllByRecursion-weaker _ _ (λ p w. w.1) (f c) (inside c lo (Some k) h.0))
+      (AllByRecursion-weaker _ _ (λ p w. w.0) (flat f cs) (chain_inside ks cs (Some k) hi h.2))
 
   -- the children before the one that a key leads to hold smaller keys, and those after it greater
   pub chain_smaller : (k : K) (ks : List K) (cs : List C) (lo hi : Option K) (i : ℕ) → Chain cmp P ks cs lo hi → Leads cmp k ks i → AllAnswer cmp k Less (flat f (take i cs))
@@ -56,7 +56,7 @@ module _ {C K V : Type 0} {cmp : K → K → Ordering} (total : IsTotalOrder cmp
   chain_smaller k (s ∷ ss) (c ∷ cs) lo hi zero h leads = tt
   chain_smaller k (s ∷ ss) (c ∷ cs) lo hi (suc i) h leads =
       AllByRecursion-append _ (f c) (flat f (take i cs))
-      (all_so _ _ (λ p w. less_then_up total p.0 s k w.1 leads.0) (f c) (inside c lo (Some s) h.0))
+      (AllByRecursion-weaker _ _ (λ p w. less_then_up total p.0 s k w.1 leads.0) (f c) (inside c lo (Some s) h.0))
       (chain_smaller k ss cs (Some s) hi i h.2 leads.1)
 
   pub chain_greater : (k : K) (ks : List K) (cs : List C) (lo hi : Option K) (i : ℕ) → Chain cmp P ks cs lo hi → Leads cmp k ks i → AllAnswer cmp k Greater (flat f (drop (suc i) cs))
@@ -64,7 +64,7 @@ module _ {C K V : Type 0} {cmp : K → K → Ordering} (total : IsTotalOrder cmp
   chain_greater k [] (c ∷ []) lo hi i h leads = rw leads tt
   chain_greater k [] (c ∷ d ∷ cs) lo hi i h leads = absurd h
   chain_greater k (s ∷ ss) (c ∷ cs) lo hi zero h leads =
-      all_so _ _ (λ p w. greater_turned cmp total k p.0 (less_then_up total k s p.0 leads w.0)) (flat f cs) (chain_inside ss cs (Some s) hi h.2)
+      AllByRecursion-weaker _ _ (λ p w. greater_turned cmp total k p.0 (less_then_up total k s p.0 leads w.0)) (flat f cs) (chain_inside ss cs (Some s) hi h.2)
   chain_greater k (s ∷ ss) (c ∷ cs) lo hi (suc i) h leads = chain_greater k ss cs (Some s) hi i h.2 leads.1
 
 module _ {C K : Type 0} (cmp : K → K → Ordering) (P : C → Option K → Option K → Type 0) where
@@ -97,7 +97,7 @@ module _ {C K : Type 0} {cmp : K → K → Ordering} (total : IsTotalOrder cmp) 
   keys_above a [] (c ∷ cs) hi h = tt
   keys_above a (k ∷ ks) (c ∷ cs) hi h =
       let less = gap c a k h.0 in
-      (less, all_so _ _ (λ s above. total.trans a k s less above) ks (keys_above k ks cs hi h.2))
+      (less, AllByRecursion-weaker _ _ (λ s above. total.trans a k s less above) ks (keys_above k ks cs hi h.2))
 
   pub chain_keys : (ks : List K) (cs : List C) (lo hi : Option K) → Chain cmp P ks cs lo hi → IsStrictlySortedBy cmp ks
   unfolding IsStrictlySortedBy

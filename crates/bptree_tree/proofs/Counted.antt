@@ -1,5 +1,5 @@
 -- How many pairs a tree has after a put, and whether a value that was read says that the key is there.
-use Rattle.std.proofs.Common.{◌≡◌, ◌+◌, Bool, true, false, List, length, refl, sym, ap, ◌∙◌, Option, Some, None, is_some, Bor}
+use Rattle.std.proofs.Common.{◌≡◌, ◌+◌, Bool, false, List, length, refl, sym, ap, ◌∙◌, Option, Some, None, is_some, Bor}
 use Rattle.std.specs.declared.cmp.Ordering.{Ordering}
 use Rattle.std.specs.Cmp.{IsTotalOrder}
 use Rattle.std.specs.Option.{option_copied}
@@ -22,6 +22,3 @@ module _ {K V : Type 0} (cmp : K → K → Ordering) (l : List (K × V)) (k : K)
   module _ (total : IsTotalOrder cmp) (sorted : IsAscending cmp l) (v : V) (was : Option V) (e : was ≡ value cmp l k) where
     pub one_more : is_some was ≡ false → length (put cmp l k v) ≡ length l + 1
     one_more s = length_put cmp total l sorted k v ∙ rw (has_was was false e s) refl
-
-    pub as_many : is_some was ≡ true → length (put cmp l k v) ≡ length l
-    as_many s = length_put cmp total l sorted k v ∙ rw (has_was was true e s) refl

@@ -6,7 +6,7 @@ use Rattle.std.proofs.lemmas.List.{drop-append-le, append-nil, length-take-le}
 use Rattle.std.proofs.Math.ListN.{drop_of_length-le}
 use Rattle.bptree_keys.specs.declared.node_id.LeafNodeId.{LeafNodeId}
 use Rattle.bptree_nodes.specs.Leaf.{Leaf}
-use Rattle.bptree_tree.specs.Span.{IsSpan, pairs_from, pairs_left, IsBetween, CanGoOn, IsFrontPlace, CanGoBack, IsBackPlace}
+use Rattle.bptree_tree.specs.Span.{IsSpan, pairs_from, pairs_left, IsBetween, IsFrontPlace, CanGoBack, IsBackPlace}
 
 -- the element at a place of a list, the list from there on, and the list up to it
 pub record At {A : Type 0} (xs : List A) (i : ℕ) : Type 0 where
@@ -236,17 +236,6 @@ module _ {K V : Type 0} (leaves : LeafNodeId → Option (Leaf K V)) where
       let same : leaf' ≡ leaf = cc (l, is) in rw (← same) (omega arith)
   from_le front from (id ∷ ids) back to xs leaf (leaf', after, l, n, la, p, fl, pos, ys, e, rest) is =
       let same : leaf' ≡ leaf = cc (l, is) in rw (← same) fl
-
-  -- an iterator with a pair left may go on from its front
-  pub CanGoOn-from : (front : LeafNodeId) (from : ℕ) (back : LeafNodeId) (to len : ℕ) → IsBetween leaves front from back to len → 0 < len → CanGoOn leaves front from
-  CanGoOn-from front from back to len h some =
-      let s = IsSome-front front from h.ids back to (pairs_left leaves front from len) h.span in
-      let leaf = some_value (leaves front) s in
-      record {
-        leaf = leaf.0;
-        found = leaf.1;
-        next = λ e. (let over = front_over leaf.0 front from h.ids back to (pairs_left leaves front from len) h.span leaf.1 e (omega (arith, h.counted)) in (over.id, over.next, rw over.found refl));
-      }
 
   -- one step of the front: the pair at its place, and what is left behind that
   pub record FrontStep (front : LeafNodeId) (from : ℕ) (back : LeafNodeId) (to len : ℕ) (front' : LeafNodeId) (from' : ℕ) : Type 0 where

@@ -13,7 +13,7 @@ use Rattle.sweep_bptree.proofs.SentLemmas.{Sends-then, Sends-cut}
 use Rattle.sweep_bptree.specs.Answers.{answer, answers, pairs_after, pairs_after_all}
 use Rattle.sweep_bptree.specs.declared.script.lines.TheConstants.{KEPT}
 use Rattle.sweep_bptree.specs.Clipped.{clipped_after, clipped_rest}
-use Rattle.sweep_bptree.specs.Sent.{Sends, Breaks, StopsAt, AppendsBeginning}
+use Rattle.sweep_bptree.specs.Sent.{Sent, Sends, CutsOff, Breaks, StopsAt}
 use Rattle.sweep_bptree.specs.declared.script.error.ServeError.{ServeError}
 use Rattle.sweep_bptree.specs.declared.script.error.ServeError.TheVariants.{Io, OutOfMemory}
 
@@ -82,33 +82,33 @@ pairs_end pairs kept done piece few none =
     ap (pairs_after_all pairs) (line_ends kept done piece few none)
     ∙ pairs_after_all-append pairs (clipped_after kept done) (take KEPT (clipped_rest kept done ++ piece) ∷ [])
 
-pub sent_end : (a b c : Option (List ℕ)) (h i j : List ℕ) (pairs : List (ℕ × ℕ)) (kept done piece : List ℕ) → length (clipped_rest kept done) ≤ KEPT → NoFeed piece
-    → Sends a b h i (answers pairs (clipped_after kept done)) → Sends b c i j (answer (pairs_after_all pairs (clipped_after kept done)) (take KEPT (clipped_rest kept done ++ piece)))
-    → Sends a c h j (answers pairs (clipped_after kept (done ++ (piece ++ 10 ∷ []))))
-sent_end a b c h i j pairs kept done piece few none first second =
-    let P : List ℕ → Type 0 = λ t. Sends a c h j t in
-    subst P (sym (answers_end pairs kept done piece few none)) (Sends-then a b c h i j _ _ first second)
+pub sent_end : (a b c : Sent) (pairs : List (ℕ × ℕ)) (kept done piece : List ℕ) → length (clipped_rest kept done) ≤ KEPT → NoFeed piece
+    → Sends a b (answers pairs (clipped_after kept done)) → Sends b c (answer (pairs_after_all pairs (clipped_after kept done)) (take KEPT (clipped_rest kept done ++ piece)))
+    → Sends a c (answers pairs (clipped_after kept (done ++ (piece ++ 10 ∷ []))))
+sent_end a b c pairs kept done piece few none first second =
+    let P : List ℕ → Type 0 = λ t. Sends a c t in
+    subst P (sym (answers_end pairs kept done piece few none)) (Sends-then a b c _ _ first second)
 
 first_of : (xs ys bytes : List ℕ) → bytes ≡ xs ++ ys → take (length xs) bytes ≡ xs
 first_of xs ys bytes e = ap (take (length xs)) e ∙ take-append_seam xs ys
 
-pub stops_in_line : (e : ServeError) (a b c : Option (List ℕ)) (h i j : List ℕ) (pairs : List (ℕ × ℕ)) (kept bytes done piece after : List ℕ)
+pub stops_in_line : (e : ServeError) (a b c : Sent) (pairs : List (ℕ × ℕ)) (kept bytes done piece after : List ℕ)
     → bytes ≡ done ++ ((piece ++ 10 ∷ []) ++ after) → length (clipped_rest kept done) ≤ KEPT → NoFeed piece
-    → Sends a b h i (answers pairs (clipped_after kept done))
-    → Breaks e b c i j (answer (pairs_after_all pairs (clipped_after kept done)) (take KEPT (clipped_rest kept done ++ piece)))
-    → (m : ℕ) × StopsAt e a c h j (answers pairs (clipped_after kept (take m bytes)))
-stops_in_line Io a b c h i j pairs kept bytes done piece after whole few none sent broke =
+    → Sends a b (answers pairs (clipped_after kept done))
+    → Breaks e b c (answer (pairs_after_all pairs (clipped_after kept done)) (take KEPT (clipped_rest kept done ++ piece)))
+    → (m : ℕ) × StopsAt e a c (answers pairs (clipped_after kept (take m bytes)))
+stops_in_line Io a b c pairs kept bytes done piece after whole few none sent broke =
     let front = done ++ (piece ++ 10 ∷ []) in
-    let P : List ℕ → Type 0 = λ t. AppendsBeginning a c (h ++ t) in (
+    let P : List ℕ → Type 0 = λ t. CutsOff a c t in (
       length front,
       subst P (sym (ap (λ t. answers pairs (clipped_after kept t)) (first_of front after bytes (whole ∙ sym (append_assoc done (piece ++ 10 ∷ []) after))) ∙ answers_end pairs kept done piece few none))
-          (Sends-cut a b c h i _ _ sent broke),
+          (Sends-cut a b c _ _ sent broke),
     )
-stops_in_line OutOfMemory a b c h i j pairs kept bytes done piece after whole few none sent broke =
-    let P : List ℕ → Type 0 = λ t. Sends a c h j t in (
+stops_in_line OutOfMemory a b c pairs kept bytes done piece after whole few none sent broke =
+    let P : List ℕ → Type 0 = λ t. Sends a c t in (
       length done,
       subst P (append-nil _ ∙ sym (ap (λ t. answers pairs (clipped_after kept t)) (first_of done ((piece ++ 10 ∷ []) ++ after) bytes whole)))
-          (Sends-then a b c h i j (answers pairs (clipped_after kept done)) [] sent broke),
+          (Sends-then a b c (answers pairs (clipped_after kept done)) [] sent broke),
     )
 
 -- the last bytes end no line

@@ -1,10 +1,10 @@
 -- What goes to a writer in parts.
-use Rattle.std.proofs.Common.{◌≡◌, ℕ, ◌-◌, ◌≤◌, List, [], ◌++◌, length, take, drop, Option, sym, ap, ◌∙◌, append_assoc, append-nil, arith, length-drop, take-append-drop}
+use Rattle.std.proofs.Common.{◌≡◌, ℕ, ◌-◌, ◌≤◌, List, [], ◌++◌, length, refl, take, drop, Option, sym, ap, ◌∙◌, append_assoc, append-nil, arith, length-drop, take-append-drop}
 use Rattle.std.proofs.lemmas.List.{take_all}
 use Rattle.std.proofs.KnownBytes.{Appends-nil, Appends-trans}
 use Rattle.std.specs.Io.KnownBytes.{Appends}
 use Rattle.std.specs.Prelude.{Result, Ok, Err}
-use Rattle.sweep_bptree.specs.Sent.{AppendsBeginning, Sends, SendsOrFails, Breaks, Replies}
+use Rattle.sweep_bptree.specs.Sent.{AppendsBeginning, Sent, Sends, CutsOff, SendsOrFails, Breaks, Replies}
 use Rattle.sweep_bptree.specs.declared.script.error.ServeError.{ServeError}
 use Rattle.sweep_bptree.specs.declared.script.error.ServeError.TheVariants.{Io, OutOfMemory}
 
@@ -24,47 +24,56 @@ pub AppendsBeginning-longer : (a b : Option (List ℕ)) (text more : List ℕ) �
 AppendsBeginning-longer a b text more h = (h.0, h.1 ++ more, ap (λ t. t ++ more) h.2 ∙ append_assoc h.0 h.1 more, h.3)
 
 -- one text after another
-pub Sends-then : (a b c : Option (List ℕ)) (h i j t u : List ℕ) → Sends a b h i t → Sends b c i j u → Sends a c h j (t ++ u)
-Sends-then a b c h i j t u x y = (x.0 ++ y.0, sym (append_assoc h t u) ∙ ap (λ s. s ++ u) x.1 ∙ append_assoc x.0 i u ∙ ap (λ s. x.0 ++ s) y.1 ∙ sym (append_assoc x.0 y.0 j), Appends-trans a b c x.0 y.0 x.2 y.2)
+pub Sends-then : (a b c : Sent) (t u : List ℕ) → Sends a b t → Sends b c u → Sends a c (t ++ u)
+Sends-then a b c t u x y = (
+  y.0 ∙ x.0,
+  x.1 ++ y.1,
+  sym (append_assoc a.held t u) ∙ ap (λ s. s ++ u) x.2 ∙ append_assoc x.1 b.held u ∙ ap (λ s. x.1 ++ s) y.2 ∙ sym (append_assoc x.1 y.1 c.held),
+  Appends-trans a.written b.written c.written x.1 y.1 x.3 y.3,
+)
 
 -- the second text is cut off
-pub Sends-cut : (a b c : Option (List ℕ)) (h i t u : List ℕ) → Sends a b h i t → AppendsBeginning b c (i ++ u) → AppendsBeginning a c (h ++ (t ++ u))
-Sends-cut a b c h i t u x y = (x.0 ++ y.0, y.1, sym (append_assoc h t u) ∙ ap (λ s. s ++ u) x.1 ∙ append_assoc x.0 i u ∙ ap (λ s. x.0 ++ s) y.2 ∙ sym (append_assoc x.0 y.0 y.1), Appends-trans a b c x.0 y.0 x.2 y.3)
+pub Sends-cut : (a b c : Sent) (t u : List ℕ) → Sends a b t → CutsOff b c u → CutsOff a c (t ++ u)
+Sends-cut a b c t u x y = (
+  y.0 ∙ x.0,
+  (
+    x.1 ++ y.1.0,
+    y.1.1,
+    sym (append_assoc a.held t u) ∙ ap (λ s. s ++ u) x.2 ∙ append_assoc x.1 b.held u ∙ ap (λ s. x.1 ++ s) y.1.2 ∙ sym (append_assoc x.1 y.1.0 y.1.1),
+    Appends-trans a.written b.written c.written x.1 y.1.0 x.3 y.1.3,
+  ),
+)
 
 -- the first of two texts is cut off
-pub Sends-cut_first : (a b : Option (List ℕ)) (h t u : List ℕ) → AppendsBeginning a b (h ++ t) → AppendsBeginning a b (h ++ (t ++ u))
-Sends-cut_first a b h t u x = (x.0, x.1 ++ u, sym (append_assoc h t u) ∙ ap (λ s. s ++ u) x.2 ∙ append_assoc x.0 x.1 u, x.3)
+pub CutsOff-longer : (a b : Sent) (t u : List ℕ) → CutsOff a b t → CutsOff a b (t ++ u)
+CutsOff-longer a b t u x = (x.0, (x.1.0, x.1.1 ++ u, sym (append_assoc a.held t u) ∙ ap (λ s. s ++ u) x.1.2 ∙ append_assoc x.1.0 x.1.1 u, x.1.3))
 
 -- nothing was sent
-pub Sends-nothing : (a : Option (List ℕ)) (h : List ℕ) → Sends a a h h []
-Sends-nothing a h = ([], append-nil h, Appends-nil a)
+pub Sends-nothing : (a : Sent) → Sends a a []
+Sends-nothing a = (refl, [], append-nil a.held, Appends-nil a.written)
 
 -- a text was sent, and then another or not
-pub SendsOrFails-then : {T : Type 0} → (a b c : Option (List ℕ)) (h i j t u : List ℕ) (r : Result T ServeError)
-    → Sends a b h i t → SendsOrFails b c i j u r → SendsOrFails a c h j (t ++ u) r
-SendsOrFails-then a b c h i j t u (Ok x) p q = Sends-then a b c h i j t u p q
-SendsOrFails-then a b c h i j t u (Err e) p q = (q.0, Sends-cut a b c h i t u p q.1)
+pub SendsOrFails-then : {T : Type 0} → (a b c : Sent) (t u : List ℕ) (r : Result T ServeError) → Sends a b t → SendsOrFails b c u r → SendsOrFails a c (t ++ u) r
+SendsOrFails-then a b c t u (Ok x) p q = Sends-then a b c t u p q
+SendsOrFails-then a b c t u (Err e) p q = (q.0, Sends-cut a b c t u p q.1)
 
 -- the first of two texts failed
-pub SendsOrFails-cut : {T : Type 0} → (a b : Option (List ℕ)) (h j t u : List ℕ) (e f : ServeError) (r : Result T ServeError)
-    → r ≡ Err f → f ≡ e → (e ≡ Io) × AppendsBeginning a b (h ++ t) → SendsOrFails a b h j (t ++ u) r
-SendsOrFails-cut a b h j t u e f r is same q = rw (is, same) (q.0, Sends-cut_first a b h t u q.1)
+pub SendsOrFails-cut : {T : Type 0} → (a b : Sent) (t u : List ℕ) (e f : ServeError) (r : Result T ServeError) → r ≡ Err f → f ≡ e → (e ≡ Io) × CutsOff a b t → SendsOrFails a b (t ++ u) r
+SendsOrFails-cut a b t u e f r is same q = rw (is, same) (q.0, CutsOff-longer a b t u q.1)
 
 -- a send is a reply
-pub Replies-from_sends : {T : Type 0} → (a b : Option (List ℕ)) (h i t : List ℕ) (r : Result T ServeError) → SendsOrFails a b h i t r → Replies a b h i t r
-Replies-from_sends a b h i t (Ok x) q = q
-Replies-from_sends a b h i t (Err e) q = rw q.0 q.1
+pub Replies-from_sends : {T : Type 0} → (a b : Sent) (t : List ℕ) (r : Result T ServeError) → SendsOrFails a b t r → Replies a b t r
+Replies-from_sends a b t (Ok x) q = q
+Replies-from_sends a b t (Err e) q = rw q.0 q.1
 
 -- a reply and then a send
-pub Replies-then : {T : Type 0} → (a b c : Option (List ℕ)) (h i j t u : List ℕ) (r : Result T ServeError)
-    → Sends a b h i t → SendsOrFails b c i j u r → Replies a c h j (t ++ u) r
-Replies-then a b c h i j t u r p q = Replies-from_sends a c h j (t ++ u) r (SendsOrFails-then a b c h i j t u r p q)
+pub Replies-then : {T : Type 0} → (a b c : Sent) (t u : List ℕ) (r : Result T ServeError) → Sends a b t → SendsOrFails b c u r → Replies a c (t ++ u) r
+Replies-then a b c t u r p q = Replies-from_sends a c (t ++ u) r (SendsOrFails-then a b c t u r p q)
 
-Breaks-longer : (e : ServeError) (a b : Option (List ℕ)) (h i t u : List ℕ) → Breaks e a b h i t → Breaks e a b h i (t ++ u)
-Breaks-longer Io a b h i t u q = Sends-cut_first a b h t u q
-Breaks-longer OutOfMemory a b h i t u q = q
+Breaks-longer : (e : ServeError) (a b : Sent) (t u : List ℕ) → Breaks e a b t → Breaks e a b (t ++ u)
+Breaks-longer Io a b t u q = CutsOff-longer a b t u q
+Breaks-longer OutOfMemory a b t u q = q
 
 -- the reply broke off
-pub Replies-cut : {T : Type 0} → (a b : Option (List ℕ)) (h j t u : List ℕ) (e f : ServeError) (r : Result T ServeError)
-    → r ≡ Err f → f ≡ e → Breaks e a b h j t → Replies a b h j (t ++ u) r
-Replies-cut a b h j t u e f r is same q = rw (is, same) (Breaks-longer e a b h j t u q)
+pub Replies-cut : {T : Type 0} → (a b : Sent) (t u : List ℕ) (e f : ServeError) (r : Result T ServeError) → r ≡ Err f → f ≡ e → Breaks e a b t → Replies a b (t ++ u) r
+Replies-cut a b t u e f r is same q = rw (is, same) (Breaks-longer e a b t u q)

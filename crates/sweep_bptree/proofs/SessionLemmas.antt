@@ -11,34 +11,46 @@ use Rattle.sweep_bptree.specs.Answers.{answer, answers, pairs_after_all, text}
 use Rattle.sweep_bptree.specs.declared.script.lines.TheConstants.{KEPT}
 use Rattle.sweep_bptree.specs.Clipped.{clipped_after, clipped_rest}
 use Rattle.sweep_bptree.specs.Lines.{ended_after, rest_after, ended_lines, last_line, lines_of}
-use Rattle.sweep_bptree.specs.Sent.{Sends, Breaks, AppendsBeginning}
+use Rattle.sweep_bptree.specs.Sent.{Sent, Sends, CutsOff, Breaks, Drains, Flushes, AppendsBeginning}
 use Rattle.sweep_bptree.specs.Served.{Answered, StoppedBy, stop_of, EndsAt, AnswersPiece, BreaksLast, AnswersLast}
 use Rattle.sweep_bptree.specs.declared.script.error.ServeError.{ServeError}
 use Rattle.sweep_bptree.specs.declared.script.error.ServeError.TheVariants.{Io, OutOfMemory}
 use Rattle.sweep_bptree.specs.declared.script.session.Stop.TheVariants as stop
 
+-- where nothing was held, the text is what was written and is held now
+all_sent : (a b : Sent) (t front : List ℕ) → a.held ≡ [] → a.held ++ t ≡ front ++ b.held → t ≡ front ++ b.held
+all_sent a b t front empty e = sym (ap (λ h. h ++ t) empty) ∙ e
+
 -- what is held is written
-drained : (a b c : Option (List ℕ)) (i t : List ℕ) → Sends a b [] i t → Appends b c i → Appends a c t
-drained a b c i t sent rest = let P : List ℕ → Type 0 = λ l. Appends a c l in subst P (sym sent.1) (Appends-trans a b c sent.0 i sent.2 rest)
+drained : (a b c : Sent) (t : List ℕ) → a.held ≡ [] → Sends a b t → Appends b.written c.written b.held → Appends a.written c.written t
+drained a b c t empty sent rest = rw (all_sent a b t sent.1 empty sent.2) (Appends-trans a.written b.written c.written sent.1 b.held sent.3 rest)
 
 -- or a beginning of it
-drained_cut : (a b c : Option (List ℕ)) (i t : List ℕ) → Sends a b [] i t → AppendsBeginning b c i → AppendsBeginning a c t
-drained_cut a b c i t sent rest =
-    (sent.0 ++ rest.0, rest.1, sent.1 ∙ ap (λ l. sent.0 ++ l) rest.2 ∙ sym (append_assoc sent.0 rest.0 rest.1), Appends-trans a b c sent.0 rest.0 sent.2 rest.3)
+drained_cut : (a b c : Sent) (t : List ℕ) → a.held ≡ [] → Sends a b t → AppendsBeginning b.written c.written b.held → AppendsBeginning a.written c.written t
+drained_cut a b c t empty sent rest =
+    (sent.1 ++ rest.0, rest.1, all_sent a b t sent.1 empty sent.2 ∙ ap (λ l. sent.1 ++ l) rest.2 ∙ sym (append_assoc sent.1 rest.0 rest.1), Appends-trans a.written b.written c.written sent.1 rest.0 sent.3 rest.3)
 
 -- a piece was answered, and what is held was written or not
-pub piece_done : {T : Type 0} → (a b c : Option (List ℕ)) (i : List ℕ) (pairs : List (ℕ × ℕ)) (kept bytes : List ℕ) (r : Result T ServeError)
-    → Sends a b [] i (answers pairs (clipped_after kept bytes)) → OnOk r (Appends b c i) → IfErr r (λ e. (e ≡ Io) × AppendsBeginning b c i)
-    → AnswersPiece a c pairs kept bytes r
-piece_done a b c i pairs kept bytes (Ok x) sent ok err = drained a b c i _ sent ok
-piece_done a b c i pairs kept bytes (Err e) sent ok err =
-    (length bytes, rw (err.0, take_all (length bytes) bytes (omega arith)) (drained_cut a b c i _ sent err.1))
+pub piece_done : {T : Type 0} → (a b c : Sent) (pairs : List (ℕ × ℕ)) (kept bytes : List ℕ) (r : Result T ServeError)
+    → a.held ≡ [] → Sends a b (answers pairs (clipped_after kept bytes)) → Drains b c r → AnswersPiece a c pairs kept bytes r
+piece_done a b c pairs kept bytes (Ok x) empty sent drains = (drains.0 ∙ sent.0, drained a b c _ empty sent drains.1.1)
+piece_done a b c pairs kept bytes (Err e) empty sent drains =
+    (drains.0 ∙ sent.0, (length bytes, rw (drains.1.0, take_all (length bytes) bytes (omega arith)) (drained_cut a b c _ empty sent drains.1.1)))
 
--- memory was refused on the way, and what is held could not be written
-pub piece_cut : {T : Type 0} → (a b c : Option (List ℕ)) (i : List ℕ) (pairs : List (ℕ × ℕ)) (kept bytes : List ℕ) (n : ℕ) (e f : ServeError) (r : Result T ServeError)
-    → r ≡ Err f → f ≡ e → Sends a b [] i (answers pairs (clipped_after kept (take n bytes))) → (e ≡ Io) × AppendsBeginning b c i
+-- a piece broke off, and what is held was written where memory was refused
+pub piece_refused : (a b c : Sent) (pairs : List (ℕ × ℕ)) (kept bytes : List ℕ) (n : ℕ) → a.held ≡ [] → Sends a b (answers pairs (clipped_after kept (take n bytes))) → c.writer ≡ b.writer → Appends b.written c.written b.held
+    → (c.writer ≡ a.writer) × ((m : ℕ) × EndsAt OutOfMemory a.written c.written (answers pairs (clipped_after kept (take m bytes))))
+piece_refused a b c pairs kept bytes n empty sent same rest = (same ∙ sent.0, (n, drained a b c _ empty sent rest))
+
+-- or could not be written
+pub piece_cut : {T : Type 0} → (a b c : Sent) (pairs : List (ℕ × ℕ)) (kept bytes : List ℕ) (n : ℕ) (e f : ServeError) (r : Result T ServeError)
+    → r ≡ Err f → f ≡ e → a.held ≡ [] → Sends a b (answers pairs (clipped_after kept (take n bytes))) → (c.writer ≡ b.writer) × ((e ≡ Io) × AppendsBeginning b.written c.written b.held)
     → AnswersPiece a c pairs kept bytes r
-piece_cut a b c i pairs kept bytes n e f r is same sent cut = rw (is, same, cut.0) (n, drained_cut a b c i _ sent cut.1)
+piece_cut a b c pairs kept bytes n e f r is same empty sent cut = rw (is, same, cut.1.0) (cut.0 ∙ sent.0, (n, drained_cut a b c _ empty sent cut.1.1))
+
+pub piece_failed : (a b : Sent) (pairs : List (ℕ × ℕ)) (kept bytes : List ℕ) (n : ℕ) → a.held ≡ [] → CutsOff a b (answers pairs (clipped_after kept (take n bytes)))
+    → (b.writer ≡ a.writer) × ((m : ℕ) × EndsAt Io a.written b.written (answers pairs (clipped_after kept (take m bytes))))
+piece_failed a b pairs kept bytes n empty cut = (cut.0, (n, rw empty at cut.1))
 
 last_line-some : (line : List ℕ) → (length line ≡ 0 → ⊥) → last_line line ≡ line ∷ []
 last_line-some [] some = absurd (some refl)
@@ -52,31 +64,33 @@ nothing_left [] held e = refl
 nothing_left (b ∷ front) held e = cc e
 
 -- the last line's answer broke off
-last_broken_by : (e : ServeError) (a b : Option (List ℕ)) (i t : List ℕ) → Breaks e a b [] i t → BreaksLast e a b t
-last_broken_by Io a b i t broke = broke
-last_broken_by OutOfMemory a b i t broke = let P : List ℕ → Type 0 = λ l. Appends a b l in subst P (nothing_left broke.0 i broke.1) broke.2
+last_broken_by : (e : ServeError) (a b : Sent) (t : List ℕ) → a.held ≡ [] → Breaks e a b t → (b.writer ≡ a.writer) × BreaksLast e a.written b.written t
+last_broken_by Io a b t empty broke = (broke.0, rw empty at broke.1)
+last_broken_by OutOfMemory a b t empty broke =
+    let P : List ℕ → Type 0 = λ l. Appends a.written b.written l in (broke.0, subst P (nothing_left broke.1 b.held (all_sent a b [] broke.1 empty broke.2)) broke.3)
 
-pub last_broken : {T : Type 0} → (a b : Option (List ℕ)) (i : List ℕ) (pairs : List (ℕ × ℕ)) (line : List ℕ) (e f : ServeError) (r : Result T ServeError)
-    → (length line ≡ 0 → ⊥) → r ≡ Err f → f ≡ e → Breaks e a b [] i (answer pairs line) → AnswersLast a b pairs line r
-last_broken a b i pairs line e f r some is same broke = rw (is, same, last_answer pairs line some) (last_broken_by e a b i _ broke)
+pub last_broken : {T : Type 0} → (a b : Sent) (pairs : List (ℕ × ℕ)) (line : List ℕ) (e f : ServeError) (r : Result T ServeError)
+    → (length line ≡ 0 → ⊥) → r ≡ Err f → f ≡ e → a.held ≡ [] → Breaks e a b (answer pairs line) → AnswersLast a b pairs line r
+last_broken a b pairs line e f r some is same empty broke = rw (is, same, last_answer pairs line some) (last_broken_by e a b _ empty broke)
 
 -- the last line was answered, but what is held could not be written
-pub last_cut : {T : Type 0} → (a b c : Option (List ℕ)) (i : List ℕ) (pairs : List (ℕ × ℕ)) (line : List ℕ) (e f : ServeError) (r : Result T ServeError)
-    → (length line ≡ 0 → ⊥) → r ≡ Err f → f ≡ e → Sends a b [] i (answer pairs line) → (e ≡ Io) × AppendsBeginning b c i → AnswersLast a c pairs line r
-last_cut a b c i pairs line e f r some is same sent cut = rw (is, same, cut.0, last_answer pairs line some) (drained_cut a b c i _ sent cut.1)
+pub last_cut : {T : Type 0} → (a b c : Sent) (pairs : List (ℕ × ℕ)) (line : List ℕ) (e f : ServeError) (r : Result T ServeError)
+    → (length line ≡ 0 → ⊥) → r ≡ Err f → f ≡ e → a.held ≡ [] → Sends a b (answer pairs line) → (c.writer ≡ b.writer) × ((e ≡ Io) × AppendsBeginning b.written c.written b.held) → AnswersLast a c pairs line r
+last_cut a b c pairs line e f r some is same empty sent cut = rw (is, same, cut.1.0, last_answer pairs line some) (cut.0 ∙ sent.0, drained_cut a b c _ empty sent cut.1.1)
 
--- the last line was answered, and the writer flushed or not
-pub last_done : {T : Type 0} → (a b c d : Option (List ℕ)) (i : List ℕ) (pairs : List (ℕ × ℕ)) (line : List ℕ) (r : Result T ServeError)
-    → (length line ≡ 0 → ⊥) → Sends a b [] i (answer pairs line) → Appends b c i → OnOk r (Keeps c d) → IfErr r (λ e. (e ≡ Io) × Keeps c d) → AnswersLast a d pairs line r
-last_done a b c d i pairs line (Ok x) some sent wrote ok err = rw (last_answer pairs line some) (Appends-kept a c d _ (drained a b c i _ sent wrote) ok)
-last_done a b c d i pairs line (Err e) some sent wrote ok err =
-    rw (err.0, last_answer pairs line some) (answer pairs line, [], sym (append-nil (answer pairs line)), Appends-kept a c d _ (drained a b c i _ sent wrote) err.1)
+-- it was answered, and the writer flushed or not
+pub last_done : {T : Type 0} → (a b c d : Sent) (pairs : List (ℕ × ℕ)) (line : List ℕ) (r : Result T ServeError)
+    → (length line ≡ 0 → ⊥) → a.held ≡ [] → Sends a b (answer pairs line) → c.writer ≡ b.writer → Appends b.written c.written b.held → Flushes c d r → AnswersLast a d pairs line r
+last_done a b c d pairs line (Ok x) some empty sent same wrote flushed =
+    rw (last_answer pairs line some) (flushed.0 ∙ (same ∙ sent.0), Appends-kept a.written c.written d.written _ (drained a b c _ empty sent wrote) flushed.1)
+last_done a b c d pairs line (Err e) some empty sent same wrote flushed =
+    rw (flushed.1.0, last_answer pairs line some)
+    (flushed.0 ∙ (same ∙ sent.0), (answer pairs line, [], sym (append-nil (answer pairs line)), Appends-kept a.written c.written d.written _ (drained a b c _ empty sent wrote) flushed.1.1))
 
 -- there was no last line
-pub last_none : {T : Type 0} → (a b : Option (List ℕ)) (pairs : List (ℕ × ℕ)) (line : List ℕ) (r : Result T ServeError)
-    → line ≡ [] → OnOk r (Keeps a b) → IfErr r (λ e. (e ≡ Io) × Keeps a b) → AnswersLast a b pairs line r
-last_none a b pairs line (Ok x) none ok err = rw none (Appends-kept a a b [] (Appends-nil a) ok)
-last_none a b pairs line (Err e) none ok err = rw (err.0, none) ([], [], refl, Appends-kept a a b [] (Appends-nil a) err.1)
+pub last_none : {T : Type 0} → (a b : Sent) (pairs : List (ℕ × ℕ)) (line : List ℕ) (r : Result T ServeError) → line ≡ [] → Flushes a b r → AnswersLast a b pairs line r
+last_none a b pairs line (Ok x) none flushed = rw none (flushed.0, Appends-kept a.written a.written b.written [] (Appends-nil a.written) flushed.1)
+last_none a b pairs line (Err e) none flushed = rw (flushed.1.0, none) (flushed.0, ([], [], refl, Appends-kept a.written a.written b.written [] (Appends-nil a.written) flushed.1.1))
 
 -- ---- the whole input
 

@@ -8,7 +8,7 @@ use Rattle.sweep_bptree.specs.declared.script.session.Stop.TheVariants.{Reader, 
 use Rattle.sweep_bptree.specs.Answers.{answers, text}
 use Rattle.sweep_bptree.specs.Clipped.{clipped_after}
 use Rattle.sweep_bptree.specs.Lines.{ended_lines, last_line, lines_of}
-use Rattle.sweep_bptree.specs.Sent.{AppendsBeginning}
+use Rattle.sweep_bptree.specs.Sent.{AppendsBeginning, Sent}
 
 -- the lines that were read: those that a line feed ended, and last bytes without one only where no input is left
 abbrev pub AreLinesRead : List (List ℕ) → List ℕ → Option (List ℕ) → Type 0
@@ -60,19 +60,18 @@ EndsAt error.Io old new bytes = AppendsBeginning old new bytes
 EndsAt error.OutOfMemory old new bytes = Appends old new bytes
 
 -- a piece of the input was answered, or a beginning of it
-abbrev pub AnswersPiece : {T : Type 0} → Option (List ℕ) → Option (List ℕ) → List (ℕ × ℕ) → List ℕ → List ℕ
-    → Result T ServeError → Type 0
+abbrev pub AnswersPiece : {T : Type 0} → Sent → Sent → List (ℕ × ℕ) → List ℕ → List ℕ → Result T ServeError → Type 0
 AnswersPiece old new pairs kept bytes r =
-    MatchResult r (λ _. Appends old new (answers pairs (clipped_after kept bytes)))
-    (λ e. (n : ℕ) × EndsAt e old new (answers pairs (clipped_after kept (take n bytes))))
+    (new.writer ≡ old.writer)
+    × MatchResult r (λ _. Appends old.written new.written (answers pairs (clipped_after kept bytes)))
+    (λ e. (n : ℕ) × EndsAt e old.written new.written (answers pairs (clipped_after kept (take n bytes))))
 
 -- after the end of the input what was kept of a line was answered, or not
 abbrev pub BreaksLast : ServeError → Option (List ℕ) → Option (List ℕ) → List ℕ → Type 0
 BreaksLast error.Io old new bytes = AppendsBeginning old new bytes
 BreaksLast error.OutOfMemory old new bytes = Appends old new []
 
-abbrev pub AnswersLast : {T : Type 0} → Option (List ℕ) → Option (List ℕ) → List (ℕ × ℕ) → List ℕ
-    → Result T ServeError → Type 0
+abbrev pub AnswersLast : {T : Type 0} → Sent → Sent → List (ℕ × ℕ) → List ℕ → Result T ServeError → Type 0
 AnswersLast old new pairs kept r =
     let last = answers pairs (last_line kept) in
-    MatchResult r (λ _. Appends old new last) (λ e. BreaksLast e old new last)
+    (new.writer ≡ old.writer) × MatchResult r (λ _. Appends old.written new.written last) (λ e. BreaksLast e old.written new.written last)

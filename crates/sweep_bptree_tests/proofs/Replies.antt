@@ -74,26 +74,6 @@ copy_is (Some p) None same = absurd same
 copy_is (Some p) (Some q) same = ap Some (same_pair p q (exact_unsigned p.0 q.0 same.0) same.1)
 
 module _ {V R : Type 0} (ranks : ℕ → List ℕ → R → Type 0) (old new : List (ℕ × V)) where
-  pub told_first : (reply : Reply ℕ V R) → Step nat_cmp SelectsPlace ranks old First reply new
-      → ((reply ≡ Pair (slice_get old 0)) ⊎ (reply ≡ OutOfMemory)) × (new ≡ old)
-  told_first (Value v) step = absurd step
-  told_first (Pair p) step = (inl (ap Pair (copy_is _ p step.0)), step.1)
-  told_first (Number n) step = absurd step
-  told_first (Done b) step = absurd step
-  told_first (Rank r) step = absurd step
-  told_first OutOfMemory step = (inr refl, step)
-  told_first Full step = absurd step
-
-  pub told_last : (reply : Reply ℕ V R) → Step nat_cmp SelectsPlace ranks old Last reply new
-      → ((reply ≡ Pair (slice_get old (length old - 1))) ⊎ (reply ≡ OutOfMemory)) × (new ≡ old)
-  told_last (Value v) step = absurd step
-  told_last (Pair p) step = (inl (ap Pair (copy_is _ p step.0)), step.1)
-  told_last (Number n) step = absurd step
-  told_last (Done b) step = absurd step
-  told_last (Rank r) step = absurd step
-  told_last OutOfMemory step = (inr refl, step)
-  told_last Full step = absurd step
-
   pub told_at : (i : ℕ) (reply : Reply ℕ V R) → Step nat_cmp SelectsPlace ranks old (At i) reply new
       → ((reply ≡ Pair (slice_get old i)) ⊎ (reply ≡ OutOfMemory)) × (new ≡ old)
   told_at i (Value v) step = absurd step

@@ -48,11 +48,3 @@ module _ {K V Q R : Type 0} (cmp : K → K → Ordering) (selects : Q → List K
   one_ran None command commands replies rest reply only is run refused =
       let P : List (Command K V Q) → Type 0 = λ cs. Run cmp selects ranks old cs replies new in step_of command replies rest reply is (subst P only (run refl))
   one_ran (Some e) command commands replies rest reply only is run refused = absurd (omega (arith, ap length is, ap length (refused refl).0, length-append rest (reply ∷ [])))
-
-  -- no reply is that of a refusal
-  pub none_ran : {E : Type 0} {P : Type 0} (error : Option E) (command : Command K V Q) (commands : List (Command K V Q)) (replies : List (Reply K V R))
-      → commands ≡ command ∷ [] → replies ≡ []
-      → (IsNone error → Run cmp selects ranks old commands replies new) → (IsSome error → (replies ≡ []) × P) → P
-  none_ran None command commands replies only is run refused =
-      let P : List (Command K V Q) → List (Reply K V R) → Type 0 = λ cs rs. Run cmp selects ranks old cs rs new in absurd (rw (only, is) at (run refl))
-  none_ran (Some e) command commands replies only is run refused = (refused refl).1

@@ -316,6 +316,7 @@ fn hands_over_what_it_took<K: Drop, A: Drop>(
     ensures arguments { right.new.arguments ≡ right.old.arguments }
 {
     let kept = node.len();
+    // Read, so that it is known to fit.
     let _moved = right.len();
     node.take_over(key, right);
     node.hand_over(kept + 1, right)

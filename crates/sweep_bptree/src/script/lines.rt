@@ -7,7 +7,7 @@ ghost use Rattle.sweep_bptree.specs.Clipped.{clipped_after, clipped_rest};
 ghost use Rattle.sweep_bptree.specs.Sent.{Replies, RepliesTo};
 
 use crate::script::error::ServeError;
-use crate::script::output::Held;
+use crate::script::output::Output;
 use crate::script::reply::{NumberTree, answer_line};
 use arrayvec::ArrayVec;
 use bptree_requests::LONGEST_LINE;
@@ -39,21 +39,18 @@ fn answer_kept<W: Write>(
     tree: &mut NumberTree,
     line: &mut Kept,
     piece: &[u8],
-    writer: &mut W,
-    held: &mut Held,
+    out: &mut Output<W>,
 ) -> Result<(), ServeError>
-    ensures replies { Replies (W.contents writer.old) (W.contents writer.new)
-        held.old.items held.new.items
-        (answer tree.old.contents (take KEPT (line.old.items ++ piece.now))) result }
+    ensures replies { Replies out.old out.new (answer tree.old.contents (take KEPT (line.old.items ++ piece.now))) result }
     ensures pairs { OnOk result (tree.new.contents
         ≡ pairs_after tree.old.contents (take KEPT (line.old.items ++ piece.now))) }
     ensures line { OnOk result (line.new.items ≡ []) }
 {
     if line.is_empty() {
-        return answer_line(tree, piece, writer, held);
+        return answer_line(tree, piece, out);
     }
     keep_bytes(line, piece);
-    answer_line(tree, line.as_slice(), writer, held)?;
+    answer_line(tree, line.as_slice(), out)?;
     line.clear();
     Ok(())
 }
@@ -63,19 +60,17 @@ pub fn take_lines<W: Write>(
     tree: &mut NumberTree,
     line: &mut Kept,
     bytes: &[u8],
-    writer: &mut W,
-    held: &mut Held,
+    out: &mut Output<W>,
 ) -> Result<(), ServeError>
     requires { array_vec_len line.old ≤ KEPT }
-    ensures replies { RepliesTo (W.contents writer.old) (W.contents writer.new)
-        held.old.items held.new.items tree.old.contents line.old.items bytes.now result }
+    ensures replies { RepliesTo out.old out.new tree.old.contents line.old.items bytes.now result }
     ensures pairs { OnOk result (tree.new.contents
         ≡ pairs_after_all tree.old.contents (clipped_after line.old.items bytes.now)) }
     ensures line { OnOk result (line.new.items ≡ clipped_rest line.old.items bytes.now) }
 {
     let mut rest = bytes;
     while let Some(at) = line_end(rest) {
-        answer_kept(tree, line, &rest[..at], writer, held)?;
+        answer_kept(tree, line, &rest[..at], out)?;
         rest = &rest[at + 1..];
     }
     keep_bytes(line, rest);

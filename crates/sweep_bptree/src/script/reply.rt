@@ -9,7 +9,7 @@ ghost use Rattle.sweep_bptree.specs.Answers.{pair_text, found_text, item_text, p
 ghost use Rattle.sweep_bptree.specs.Sent.{SendsOrFails, Replies};
 
 use crate::script::error::ServeError;
-use crate::script::output::{Held, send};
+use crate::script::output::Output;
 use crate::tree::{BPlusTree, InsertError, NodeStoreVec};
 use arrayvec::ArrayString;
 use bptree_arguments::count::Count;
@@ -26,127 +26,95 @@ const DIGITS: usize = 20;
 /// How many bytes a label before a number has at most.
 const LABEL: usize = 5;
 
-fn send_number<W: Write>(writer: &mut W, held: &mut Held, n: u64) -> Result<(), ServeError>
-    ensures { SendsOrFails (W.contents writer.old) (W.contents writer.new)
-        held.old.items held.new.items (decimal n) result }
+fn send_number<W: Write>(out: &mut Output<W>, n: u64) -> Result<(), ServeError>
+    ensures { SendsOrFails out.old out.new (decimal n) result }
 {
     let mut digits = ArrayString::<{ DIGITS }>::new();
     match write!(digits, "{n}") {
-        Ok(()) => send(writer, held, digits.as_str().as_bytes()),
+        Ok(()) => out.send(digits.as_str().as_bytes()),
         // Never met: each number has room.
         Err(_) => Err(ServeError::Io),
     }
 }
 
 // A label, and then a number.
-fn send_labelled<W: Write>(
-    writer: &mut W,
-    held: &mut Held,
-    label: &[u8],
-    n: u64,
-) -> Result<(), ServeError>
+fn send_labelled<W: Write>(out: &mut Output<W>, label: &[u8], n: u64) -> Result<(), ServeError>
     requires { length label.now ≤ LABEL }
-    ensures { SendsOrFails (W.contents writer.old) (W.contents writer.new)
-        held.old.items held.new.items (label.now ++ decimal n) result }
+    ensures { SendsOrFails out.old out.new (label.now ++ decimal n) result }
 {
-    send(writer, held, label)?;
-    send_number(writer, held, n)
+    out.send(label)?;
+    send_number(out, n)
 }
 
-fn send_old<W: Write>(writer: &mut W, held: &mut Held, old: Option<u64>) -> Result<(), ServeError>
-    ensures { SendsOrFails (W.contents writer.old) (W.contents writer.new)
-        held.old.items held.new.items (old_text old) result }
+fn send_old<W: Write>(out: &mut Output<W>, old: Option<u64>) -> Result<(), ServeError>
+    ensures { SendsOrFails out.old out.new (old_text old) result }
 {
     match old {
-        None => send(writer, held, b"new"),
-        Some(old) => send_labelled(writer, held, b"old ", old),
+        None => out.send(b"new"),
+        Some(old) => send_labelled(out, b"old ", old),
     }
 }
 
-fn send_gone<W: Write>(writer: &mut W, held: &mut Held, gone: Option<u64>) -> Result<(), ServeError>
-    ensures { SendsOrFails (W.contents writer.old) (W.contents writer.new)
-        held.old.items held.new.items (gone_text gone) result }
+fn send_gone<W: Write>(out: &mut Output<W>, gone: Option<u64>) -> Result<(), ServeError>
+    ensures { SendsOrFails out.old out.new (gone_text gone) result }
 {
     match gone {
-        None => send(writer, held, b"none"),
-        Some(gone) => send_labelled(writer, held, b"gone ", gone),
+        None => out.send(b"none"),
+        Some(gone) => send_labelled(out, b"gone ", gone),
     }
 }
 
-fn send_value<W: Write>(
-    writer: &mut W,
-    held: &mut Held,
-    value: Option<u64>,
-) -> Result<(), ServeError>
-    ensures { SendsOrFails (W.contents writer.old) (W.contents writer.new)
-        held.old.items held.new.items (value_text value) result }
+fn send_value<W: Write>(out: &mut Output<W>, value: Option<u64>) -> Result<(), ServeError>
+    ensures { SendsOrFails out.old out.new (value_text value) result }
 {
     match value {
-        None => send(writer, held, b"none"),
-        Some(value) => send_number(writer, held, value),
+        None => out.send(b"none"),
+        Some(value) => send_number(out, value),
     }
 }
 
-fn send_pair<W: Write>(
-    writer: &mut W,
-    held: &mut Held,
-    key: u64,
-    value: u64,
-) -> Result<(), ServeError>
-    ensures { SendsOrFails (W.contents writer.old) (W.contents writer.new)
-        held.old.items held.new.items (pair_text (key, value)) result }
+fn send_pair<W: Write>(out: &mut Output<W>, key: u64, value: u64) -> Result<(), ServeError>
+    ensures { SendsOrFails out.old out.new (pair_text (key, value)) result }
 {
-    send_number(writer, held, key)?;
-    send(writer, held, b" ")?;
-    send_number(writer, held, value)
+    send_number(out, key)?;
+    out.send(b" ")?;
+    send_number(out, value)
 }
 
-fn send_found<W: Write>(
-    writer: &mut W,
-    held: &mut Held,
-    pair: Option<(&u64, &u64)>,
-) -> Result<(), ServeError>
-    ensures { SendsOrFails (W.contents writer.old) (W.contents writer.new) held.old.items held.new.items
-        (found_text (option_map (λ pair. (pair.0.now, pair.1.now)) pair.entry)) result }
+fn send_found<W: Write>(out: &mut Output<W>, pair: Option<(&u64, &u64)>) -> Result<(), ServeError>
+    ensures { SendsOrFails out.old out.new (found_text (option_map (λ pair. (pair.0.now, pair.1.now)) pair.entry)) result }
 {
     match pair {
-        None => send(writer, held, b"none"),
-        Some((key, value)) => send_pair(writer, held, *key, *value),
+        None => out.send(b"none"),
+        Some((key, value)) => send_pair(out, *key, *value),
     }
 }
 
 // A pair, after a comma where it is not the first.
 fn send_item<W: Write>(
-    writer: &mut W,
-    held: &mut Held,
+    out: &mut Output<W>,
     is_first: bool,
     key: u64,
     value: u64,
 ) -> Result<(), ServeError>
-    ensures { SendsOrFails (W.contents writer.old) (W.contents writer.new)
-        held.old.items held.new.items (item_text is_first (key, value)) result }
+    ensures { SendsOrFails out.old out.new (item_text is_first (key, value)) result }
 {
     if is_first {
-        return send_pair(writer, held, key, value);
+        return send_pair(out, key, value);
     }
-    send(writer, held, b",")?;
-    send_pair(writer, held, key, value)
+    out.send(b",")?;
+    send_pair(out, key, value)
 }
 
-fn send_pairs<W: Write>(
-    writer: &mut W,
-    held: &mut Held,
-    tree: &NumberTree,
-) -> Result<(), ServeError>
-    ensures { SendsOrFails (W.contents writer.old) (W.contents writer.new)
-        held.old.items held.new.items (pairs_text tree.now.contents) result }
+fn send_pairs<W: Write>(out: &mut Output<W>, tree: &NumberTree) -> Result<(), ServeError>
+    ensures { SendsOrFails out.old out.new (pairs_text tree.now.contents) result }
 {
     if tree.is_empty() {
-        return send(writer, held, b"empty");
+        return out.send(b"empty");
     }
     let mut is_first = true;
     for (key, value) in tree.iter() {
-        send_item(writer, held, is_first, *key, *value)?;
+        send_item(out, is_first, *key, *value)?;
         is_first = false;
     }
     Ok(())
@@ -154,33 +122,25 @@ fn send_pairs<W: Write>(
 
 // The pair at a place, if there is one.
 fn send_place<W: Write>(
-    writer: &mut W,
-    held: &mut Held,
+    out: &mut Output<W>,
     tree: &NumberTree,
     place: u64,
 ) -> Result<(), ServeError>
-    ensures { Replies (W.contents writer.old) (W.contents writer.new)
-        held.old.items held.new.items (found_text (slice_get tree.now.contents place)) result }
+    ensures { Replies out.old out.new (found_text (slice_get tree.now.contents place)) result }
 {
     match tree.get_by_argument(place as usize) {
-        Ok(pair) => send_found(writer, held, pair),
+        Ok(pair) => send_found(out, pair),
         Err(_) => Err(ServeError::OutOfMemory),
     }
 }
 
 // Whether a key is there, and how many keys are smaller.
-fn send_rank<W: Write>(
-    writer: &mut W,
-    held: &mut Held,
-    tree: &NumberTree,
-    key: u64,
-) -> Result<(), ServeError>
-    ensures { Replies (W.contents writer.old) (W.contents writer.new) held.old.items held.new.items
-        (rank_text (has nat_cmp tree.now.contents key) (count_below nat_cmp key (keys_of tree.now.contents))) result }
+fn send_rank<W: Write>(out: &mut Output<W>, tree: &NumberTree, key: u64) -> Result<(), ServeError>
+    ensures { Replies out.old out.new (rank_text (has nat_cmp tree.now.contents key) (count_below nat_cmp key (keys_of tree.now.contents))) result }
 {
     match tree.rank_by_argument(&key) {
-        Ok(Ok(smaller)) => send_labelled(writer, held, b"in ", smaller as u64),
-        Ok(Err(smaller)) => send_labelled(writer, held, b"out ", smaller as u64),
+        Ok(Ok(smaller)) => send_labelled(out, b"in ", smaller as u64),
+        Ok(Err(smaller)) => send_labelled(out, b"out ", smaller as u64),
         Err(_) => Err(ServeError::OutOfMemory),
     }
 }
@@ -189,16 +149,14 @@ fn put_pair<W: Write>(
     tree: &mut NumberTree,
     key: u64,
     value: u64,
-    writer: &mut W,
-    held: &mut Held,
+    out: &mut Output<W>,
 ) -> Result<(), ServeError>
-    ensures replies { Replies (W.contents writer.old) (W.contents writer.new)
-        held.old.items held.new.items (put_text tree.old.contents key) result }
+    ensures replies { Replies out.old out.new (put_text tree.old.contents key) result }
     ensures pairs { OnOk result (tree.new.contents ≡ pairs_with_put tree.old.contents key value) }
 {
     match tree.insert(key, value) {
-        Ok(old) => send_old(writer, held, old),
-        Err(InsertError::Full(_, _)) => send(writer, held, b"full"),
+        Ok(old) => send_old(out, old),
+        Err(InsertError::Full(_, _)) => out.send(b"full"),
         Err(InsertError::OutOfMemory(_, _)) => Err(ServeError::OutOfMemory),
     }
 }
@@ -206,30 +164,23 @@ fn put_pair<W: Write>(
 fn delete_pair<W: Write>(
     tree: &mut NumberTree,
     key: u64,
-    writer: &mut W,
-    held: &mut Held,
+    out: &mut Output<W>,
 ) -> Result<(), ServeError>
-    ensures replies { Replies (W.contents writer.old) (W.contents writer.new)
-        held.old.items held.new.items (gone_text (value nat_cmp tree.old.contents key)) result }
+    ensures replies { Replies out.old out.new (gone_text (value nat_cmp tree.old.contents key)) result }
     ensures pairs { OnOk result (tree.new.contents ≡ del nat_cmp tree.old.contents key) }
 {
     match tree.remove(&key) {
-        Ok(gone) => send_gone(writer, held, gone),
+        Ok(gone) => send_gone(out, gone),
         Err(_) => Err(ServeError::OutOfMemory),
     }
 }
 
-fn delete_all<W: Write>(
-    tree: &mut NumberTree,
-    writer: &mut W,
-    held: &mut Held,
-) -> Result<(), ServeError>
-    ensures replies { Replies (W.contents writer.old) (W.contents writer.new)
-        held.old.items held.new.items (codes "cleared") result }
+fn delete_all<W: Write>(tree: &mut NumberTree, out: &mut Output<W>) -> Result<(), ServeError>
+    ensures replies { Replies out.old out.new (codes "cleared") result }
     ensures pairs { OnOk result (tree.new.contents ≡ []) }
 {
     match tree.clear() {
-        Ok(()) => send(writer, held, b"cleared"),
+        Ok(()) => out.send(b"cleared"),
         Err(_) => Err(ServeError::OutOfMemory),
     }
 }
@@ -237,42 +188,38 @@ fn delete_all<W: Write>(
 fn carry_out<W: Write>(
     tree: &mut NumberTree,
     request: Request,
-    writer: &mut W,
-    held: &mut Held,
+    out: &mut Output<W>,
 ) -> Result<(), ServeError>
-    ensures replies { Replies (W.contents writer.old) (W.contents writer.new)
-        held.old.items held.new.items (reply_to tree.old.contents (Some request)) result }
+    ensures replies { Replies out.old out.new (reply_to tree.old.contents (Some request)) result }
     ensures pairs { OnOk result
         (tree.new.contents ≡ pairs_with tree.old.contents (Some request)) }
 {
     match request {
-        Request::Put(key, value) => put_pair(tree, key, value, writer, held),
-        Request::Del(key) => delete_pair(tree, key, writer, held),
-        Request::Get(key) => send_value(writer, held, tree.get(&key).copied()),
-        Request::Len => send_number(writer, held, tree.len() as u64),
-        Request::All => send_pairs(writer, held, tree),
-        Request::First => send_found(writer, held, tree.first()),
-        Request::Last => send_found(writer, held, tree.last()),
-        Request::At(place) => send_place(writer, held, tree, place),
-        Request::Rank(key) => send_rank(writer, held, tree, key),
-        Request::Clear => delete_all(tree, writer, held),
+        Request::Put(key, value) => put_pair(tree, key, value, out),
+        Request::Del(key) => delete_pair(tree, key, out),
+        Request::Get(key) => send_value(out, tree.get(&key).copied()),
+        Request::Len => send_number(out, tree.len() as u64),
+        Request::All => send_pairs(out, tree),
+        Request::First => send_found(out, tree.first()),
+        Request::Last => send_found(out, tree.last()),
+        Request::At(place) => send_place(out, tree, place),
+        Request::Rank(key) => send_rank(out, tree, key),
+        Request::Clear => delete_all(tree, out),
     }
 }
 
 fn reply_line<W: Write>(
     tree: &mut NumberTree,
     line: &[u8],
-    writer: &mut W,
-    held: &mut Held,
+    out: &mut Output<W>,
 ) -> Result<(), ServeError>
-    ensures replies { Replies (W.contents writer.old) (W.contents writer.new)
-        held.old.items held.new.items (reply_to tree.old.contents (request_of line.now)) result }
+    ensures replies { Replies out.old out.new (reply_to tree.old.contents (request_of line.now)) result }
     ensures pairs { OnOk result
         (tree.new.contents ≡ pairs_with tree.old.contents (request_of line.now)) }
 {
     match read_request(line) {
-        None => send(writer, held, b"bad"),
-        Some(request) => carry_out(tree, request, writer, held),
+        None => out.send(b"bad"),
+        Some(request) => carry_out(tree, request, out),
     }
 }
 
@@ -281,13 +228,11 @@ fn reply_line<W: Write>(
 pub fn answer_line<W: Write>(
     tree: &mut NumberTree,
     line: &[u8],
-    writer: &mut W,
-    held: &mut Held,
+    out: &mut Output<W>,
 ) -> Result<(), ServeError>
-    ensures replies { Replies (W.contents writer.old) (W.contents writer.new)
-        held.old.items held.new.items (answer tree.old.contents line.now) result }
+    ensures replies { Replies out.old out.new (answer tree.old.contents line.now) result }
     ensures pairs { OnOk result (tree.new.contents ≡ pairs_after tree.old.contents line.now) }
 {
-    reply_line(tree, line, writer, held)?;
-    send(writer, held, b"\n")
+    reply_line(tree, line, out)?;
+    out.send(b"\n")
 }

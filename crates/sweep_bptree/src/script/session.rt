@@ -1,6 +1,6 @@
 // An input in, its answers out.
-ghost use Rattle.std.specs.Prelude.{◌≡◌, ◌≤◌, [], OnOk, IfErr, IfSome, IsErrOf};
-ghost use Rattle.std.specs.Io.KnownBytes.{Keeps, Appends};
+ghost use Rattle.std.specs.Prelude.{◌≡◌, ◌≤◌, [], OnOk, IfSome, IsErrOf};
+ghost use Rattle.std.specs.Io.KnownBytes.{Appends};
 ghost use Rattle.arrayvec.specs.ArrayVec.{array_vec_len};
 ghost use Rattle.sweep_bptree.specs.Answers.{pairs_after_all, text};
 ghost use Rattle.sweep_bptree.specs.Clipped.{clipped_after, clipped_rest};
@@ -9,7 +9,7 @@ ghost use Rattle.sweep_bptree.specs.Served.{Serves, Answered, EndedBy, AnswersPi
 
 use crate::script::error::ServeError;
 use crate::script::lines::{KEPT, Kept, take_lines};
-use crate::script::output::{Held, drain};
+use crate::script::output::Output;
 use crate::script::reply::{NumberTree, answer_line};
 use crate::tree::{BPlusTree, NodeStoreVec};
 use arrayvec::ArrayVec;
@@ -61,36 +61,23 @@ fn answer_piece<W: Write>(
     tree: &mut NumberTree,
     line: &mut Kept,
     bytes: &[u8],
-    writer: &mut W,
-    held: &mut Held,
+    out: &mut Output<W>,
 ) -> Result<(), ServeError>
-    requires empty { held.old.items ≡ [] }
+    requires empty { out.old.held ≡ [] }
     requires kept { array_vec_len line.old ≤ KEPT }
-    ensures answers { AnswersPiece (W.contents writer.old) (W.contents writer.new)
-        tree.old.contents line.old.items bytes.now result }
-    ensures empty { OnOk result (held.new.items ≡ []) }
+    ensures answers { AnswersPiece out.old out.new tree.old.contents line.old.items bytes.now result }
+    ensures empty { OnOk result (out.new.held ≡ []) }
     ensures pairs { OnOk result (tree.new.contents
         ≡ pairs_after_all tree.old.contents (clipped_after line.old.items bytes.now)) }
     ensures line { OnOk result (line.new.items ≡ clipped_rest line.old.items bytes.now) }
 {
-    match take_lines(tree, line, bytes, writer, held) {
-        Ok(()) => drain(writer, held),
+    match take_lines(tree, line, bytes, out) {
+        Ok(()) => out.drain(),
         Err(ServeError::OutOfMemory) => {
-            drain(writer, held)?;
+            out.drain()?;
             Err(ServeError::OutOfMemory)
         }
         Err(ServeError::Io) => Err(ServeError::Io),
-    }
-}
-
-fn flush_all<W: Write>(writer: &mut W) -> Result<(), ServeError>
-    ensures ok { OnOk result (Keeps (W.contents writer.old) (W.contents writer.new)) }
-    ensures err { IfErr result (λ e. (e ≡ ServeError.Io)
-        × Keeps (W.contents writer.old) (W.contents writer.new)) }
-{
-    match writer.flush() {
-        Ok(()) => Ok(()),
-        Err(_) => Err(ServeError::Io),
     }
 }
 
@@ -98,44 +85,43 @@ fn flush_all<W: Write>(writer: &mut W) -> Result<(), ServeError>
 fn answer_last<W: Write>(
     tree: &mut NumberTree,
     line: &[u8],
-    writer: &mut W,
-    held: &mut Held,
+    out: &mut Output<W>,
 ) -> Result<(), ServeError>
-    requires { held.old.items ≡ [] }
-    ensures { AnswersLast (W.contents writer.old) (W.contents writer.new)
-        tree.old.contents line.now result }
+    requires { out.old.held ≡ [] }
+    ensures { AnswersLast out.old out.new tree.old.contents line.now result }
 {
     if line.is_empty() {
-        return flush_all(writer);
+        return out.flush();
     }
-    answer_line(tree, line, writer, held)?;
-    drain(writer, held)?;
-    flush_all(writer)
+    answer_line(tree, line, out)?;
+    out.drain()?;
+    out.flush()
 }
 
 fn serve_pieces<R: Read, W: Write>(
     alloc: Global,
     reader: &mut R,
-    writer: &mut W,
+    out: &mut Output<W>,
 ) -> Result<(), Stop>
-    ensures { Serves (R.remaining reader.old) (R.remaining reader.new)
-        (W.contents writer.old) (W.contents writer.new) result }
+    requires { out.old.held ≡ [] }
+    ensures serves { Serves (R.remaining reader.old) (R.remaining reader.new)
+        out.old.written out.new.written result }
+    ensures writer { out.new.writer ≡ out.old.writer }
 {
     let Ok(mut tree) = BPlusTree::new(NodeStoreVec::new(alloc)) else {
         return Err(Stop::OutOfMemory);
     };
     let mut line = ArrayVec::new();
-    let mut held = ArrayVec::new();
     let mut input = [0u8; CHUNK];
     'turns: for _turn in 0..u64::MAX {
         let Ok(n) = reader.read(&mut input) else {
             return Err(Stop::Reader);
         };
         if n == 0 {
-            answer_last(&mut tree, line.as_slice(), writer, &mut held)?;
+            answer_last(&mut tree, line.as_slice(), out)?;
             return Ok(());
         }
-        answer_piece(&mut tree, &mut line, &input[..n], writer, &mut held)?;
+        answer_piece(&mut tree, &mut line, &input[..n], out)?;
     }
     Err(Stop::NoEnd)
 }
@@ -159,7 +145,10 @@ pub fn serve<R: Read, W: Write>(
     ensures out_of_memory { IsErrOf result ServeError.OutOfMemory → EndedBy ServeError.OutOfMemory
         (R.remaining reader.old) (R.remaining reader.new) (W.contents writer.old) (W.contents writer.new) }
 {
-    Ok(serve_pieces(alloc, reader, writer)?)
+    let mut out = Output::new(writer);
+    let served = serve_pieces(alloc, reader, &mut out);
+    let _ = out.into_writer();
+    Ok(served?)
 }
 
 /// The lines of an input are the parts between its line feeds: those that a line feed ends, and what follows the last.

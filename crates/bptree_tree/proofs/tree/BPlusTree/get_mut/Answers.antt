@@ -7,7 +7,7 @@ use Rattle.bptree_nodes.specs.LeafResults.{HasEqualAt}
 use Rattle.bptree_nodes.specs.Slot.{Slot, Present}
 use Rattle.bptree_nodes.proofs.LeafContents.{value_at_place}
 use Rattle.bptree_shape.specs.Shape.{root_least, pairs_at}
-use Rattle.bptree_insertion.proofs.Lent.{lent_shape, lent_pairs, lent_keys, lent_length, lent_store, none_if_absent}
+use Rattle.bptree_insertion.proofs.Lent.{set_shape, set_keys, set_length, lent_pairs, lent_store, none_if_absent}
 use Rattle.bptree_shape.proofs.Spot.{value_in_leaf, leaf_ascends}
 use Rattle.bptree_shape.proofs.Walk.{tree_ascends}
 use Rattle.bptree_tree.proofs.tree.BPlusTree.get_mut.Goals as goal
@@ -23,7 +23,6 @@ found_in cmp k i seen node slot a b found = let e : Present seen ≡ Present nod
 -- whatever value is written, the tree is well shaped
 pub invariant_of-self-lent : goal.invariant_of-self-lent
 invariant_of-self-lent g c = λ w.
-    let total = g.met.S.K.Ord.total in
     let cmp = g.S.K.Ord.cmp in
     let slots = g.S.NodeStore.slots c.self.inside.store in
     let tree = c.self.inside in
@@ -31,14 +30,11 @@ invariant_of-self-lent g c = λ w.
     let leaf = c.leaf_for-leaf.result in
     let node = c.get_mut_leaf.result.now in
     let read = c.get_mut_leaf.ensures.value in
-    let k = c.args.k.now in
-    let ascending : IsAscending cmp (pairs_at slots tree.height tree.root) = tree_ascends total slots (root_least tree.height) tree.height tree.root None None c.self.invariant.0.tree in
     let updates = g.met.S.NodeStore.with_leaf_updates tree.store leaf.0 (record node { pairs = set_value_at node.pairs c.in-Ok.slot w }) c.leaf_for-leaf.ensures.stands.present in
     let new = g.S.NodeStore.slots (g.S.NodeStore.with_leaf tree.store leaf.0 (record node { pairs = set_value_at node.pairs c.in-Ok.slot w })) in
-    let found = found_in cmp k c.in-Ok.slot c.get_leaf.result.now node (slots.leaf leaf.0) c.get_leaf.ensures read c.in-Ok.ensures.found in
-    let keys = lent_keys total sum slots new tree.height tree.root c.self.invariant.0 ascending k leaf node read c.leaf_for-leaf.ensures c.in-Ok.slot found w updates in (
-      lent_shape total sum slots new tree.height tree.root c.self.invariant.0 ascending k leaf node read c.leaf_for-leaf.ensures c.in-Ok.slot found w updates,
-      c.self.invariant.1 ∙ sym (lent_length total sum slots new tree.height tree.root c.self.invariant.0 ascending k leaf node read c.leaf_for-leaf.ensures c.in-Ok.slot found w updates),
+    let keys = set_keys cmp sum slots new tree.height tree.root c.self.invariant.0 leaf node read c.leaf_for-leaf.ensures.stands c.in-Ok.slot w updates in (
+      set_shape cmp sum slots new tree.height tree.root c.self.invariant.0 leaf node read c.leaf_for-leaf.ensures.stands c.in-Ok.slot w updates,
+      c.self.invariant.1 ∙ sym (set_length cmp sum slots new tree.height tree.root c.self.invariant.0 leaf node read c.leaf_for-leaf.ensures.stands c.in-Ok.slot w updates),
       rw keys c.self.invariant.2,
     )
 

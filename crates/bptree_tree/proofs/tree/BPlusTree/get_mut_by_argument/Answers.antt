@@ -2,7 +2,8 @@ use Rattle.std.proofs.Common.{◌∙◌, sym, ◌+◌, length, refl, Some}
 use Rattle.bptree_nodes.specs.Leaf.{set_value_at}
 use Rattle.bptree_shape.specs.ByArgument.{IsSelectedAt}
 use Rattle.bptree_shape.specs.Leaves.{pairs_of}
-use Rattle.bptree_tree.proofs.LentAt.{set_shape, set_keys, set_pairs, set_length, value_of_slot, slot_within}
+use Rattle.bptree_insertion.proofs.Lent.{set_shape, set_keys, set_length}
+use Rattle.bptree_tree.proofs.LentAt.{set_pairs, value_of_slot, slot_within}
 use Rattle.bptree_tree.proofs.tree.BPlusTree.get_mut_by_argument.Goals as goal
 
 -- whatever value is written, the tree is well shaped
@@ -16,14 +17,13 @@ invariant_of-self-lent g c = λ w.
     let node = c.get_mut_leaf.result.now in
     let read = c.get_mut_leaf.ensures.value in
     let found : IsSelectedAt g.S.Argument.SearchArgument.selects c.args.query slots tree.height tree.root (Some (leaf, slot)) = rw c.in-Ok-Some.field-0-is at c.in-Ok-Some.ensures in
-    let within = slot_within slots leaf node slot read found.1 in
     let written = record node { pairs = set_value_at node.pairs slot w } in
     let updates = g.met.S.NodeStore.with_leaf_updates tree.store leaf.0 written found.0.present in
     let new = store (g.S.NodeStore.with_leaf tree.store leaf.0 written) in
     let sum = g.S.Argument.Argument.is_summary in (
-      set_shape g.S.K.Ord.cmp sum slots new tree.height tree.root c.self.invariant.0 leaf node read found.0 slot within w updates,
-      c.self.invariant.1 ∙ sym (set_length g.S.K.Ord.cmp sum slots new tree.height tree.root c.self.invariant.0 leaf node read found.0 slot within w updates),
-      rw (set_keys g.S.K.Ord.cmp sum slots new tree.height tree.root c.self.invariant.0 leaf node read found.0 slot within w updates) c.self.invariant.2,
+      set_shape g.S.K.Ord.cmp sum slots new tree.height tree.root c.self.invariant.0 leaf node read found.0 slot w updates,
+      c.self.invariant.1 ∙ sym (set_length g.S.K.Ord.cmp sum slots new tree.height tree.root c.self.invariant.0 leaf node read found.0 slot w updates),
+      rw (set_keys g.S.K.Ord.cmp sum slots new tree.height tree.root c.self.invariant.0 leaf node read found.0 slot w updates) c.self.invariant.2,
     )
 
 -- the value that is lent stands at an allowed place, and the tree ends with what is written there

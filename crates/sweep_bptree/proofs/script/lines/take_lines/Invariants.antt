@@ -8,7 +8,7 @@ use Rattle.sweep_bptree.proofs.script.lines.take_lines.Given as goal
 abbrev pub invariant-loop-at : goal.invariant-loop-at
 invariant-loop-at g l =
     (done : List ℕ) × (l.bytes ≡ done ++ l.rest)
-    × Sends (g.W.Write.contents l.initial.writer) (g.W.Write.contents l.writer) l.initial.held.items l.held.items (answers l.initial.tree.contents (clipped_after l.initial.line.items done))
+    × Sends l.initial.out l.out (answers l.initial.tree.contents (clipped_after l.initial.line.items done))
     × (l.tree.contents ≡ pairs_after_all l.initial.tree.contents (clipped_after l.initial.line.items done))
     × (l.line.items ≡ clipped_rest l.initial.line.items done)
 

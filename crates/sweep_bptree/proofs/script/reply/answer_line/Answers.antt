@@ -9,9 +9,9 @@ pub returns-in_err-reply_line-clause-replies : goal.returns-in_err-reply_line-cl
 unfolding answer
 returns-in_err-reply_line-clause-replies g c =
     let p = err_from_is_err_and c.from_residual.result c.from_residual.ensures.1 in
-    Replies-cut _ _ c.args.held.now.items c.reply_line.new.held.items (reply_to c.args.tree.now.contents (request_of c.args.line.now)) (10 ∷ []) _ _ _ p.1 p.2 c.in_err-reply_line.ensures.replies
+    Replies-cut _ _ (reply_to c.args.tree.now.contents (request_of c.args.line.now)) (10 ∷ []) _ _ _ p.1 p.2 c.in_err-reply_line.ensures.replies
 
 pub returns-clause-replies : goal.returns-clause-replies
 unfolding answer
 returns-clause-replies g c =
-    Replies-then _ _ _ c.args.held.now.items c.reply_line.new.held.items c.send.new.held.items (reply_to c.args.tree.now.contents (request_of c.args.line.now)) (10 ∷ []) _ c.in_ok-reply_line.ensures.replies c.send.ensures
+    Replies-then _ c.reply_line.new.out _ (reply_to c.args.tree.now.contents (request_of c.args.line.now)) (10 ∷ []) _ c.in_ok-reply_line.ensures.replies c.send.ensures

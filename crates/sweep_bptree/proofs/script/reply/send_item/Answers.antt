@@ -7,8 +7,8 @@ use Rattle.sweep_bptree.proofs.script.reply.send_item.Goals as goal
 pub returns-in_err-send : goal.returns-in_err-send
 returns-in_err-send g c =
     let p = err_from_is_err_and c.from_residual.result c.from_residual.ensures.1 in
-    rw c.if-is_first.false (SendsOrFails-cut _ _ c.args.held.now.items _ (44 ∷ []) (pair_text (c.args.key, c.args.value)) _ _ _ p.1 p.2 c.in_err-send.ensures)
+    rw c.if-is_first.false (SendsOrFails-cut _ _ (44 ∷ []) (pair_text (c.args.key, c.args.value)) _ _ _ p.1 p.2 c.in_err-send.ensures)
 
 pub returns : goal.returns
 returns g c =
-    rw c.if-is_first.false (SendsOrFails-then _ _ _ c.args.held.now.items c.send.new.held.items c.send_pair-2.new.held.items (44 ∷ []) (pair_text (c.args.key, c.args.value)) _ c.in_ok-send.ensures c.send_pair-2.ensures)
+    rw c.if-is_first.false (SendsOrFails-then _ c.send.new.self _ (44 ∷ []) (pair_text (c.args.key, c.args.value)) _ c.in_ok-send.ensures c.send_pair-2.ensures)

@@ -9,7 +9,7 @@ use Rattle.sweep_bptree.proofs.script.reply.send_pairs.Goals as goal
 pub loop-key-init : goal.loop-key-init
 loop-key-init g c =
     let all : c.into_iter-key-iterator.result ≡ c.args.tree.now.contents = cc in
-    (tt, tt, ([], Sends-nothing _ _, ap (items_text true) all))
+    (tt, tt, ([], Sends-nothing _, ap (items_text true) all))
 
 pub returns-in_err-send_item : goal.returns-in_err-send_item
 returns-in_err-send_item g c =
@@ -19,8 +19,8 @@ returns-in_err-send_item g c =
     let e : inv.0 ++ (item_text c.loop-key.is_first pair ++ items_text false c.next.new.self) ≡ pairs_text c.args.tree.now.contents =
     ap (λ it. inv.0 ++ items_text c.loop-key.is_first it) (sym c.in-Some.ensures.steps) ∙ inv.2
     ∙ items_text-is c.args.tree.now.contents (λ none. let empty = c.is_empty.ensures.1 none in cc) in
-    rw (← e) (SendsOrFails-then _ _ _ c.args.held.now.items c.loop-key.held.items c.send_item.new.held.items inv.0 (item_text c.loop-key.is_first pair ++ items_text false c.next.new.self) _ inv.1
-    (SendsOrFails-cut _ _ c.loop-key.held.items _ (item_text c.loop-key.is_first pair) (items_text false c.next.new.self) _ _ _ p.1 p.2 c.in_err-send_item.ensures))
+    rw (← e) (SendsOrFails-then _ c.loop-key.out _ inv.0 (item_text c.loop-key.is_first pair ++ items_text false c.next.new.self) _ inv.1
+    (SendsOrFails-cut _ _ (item_text c.loop-key.is_first pair) (items_text false c.next.new.self) _ _ _ p.1 p.2 c.in_err-send_item.ensures))
 
 pub loop-key-preserved : goal.loop-key-preserved
 loop-key-preserved g c =
@@ -32,7 +32,7 @@ loop-key-preserved g c =
       tt,
       (
         inv.0 ++ item_text c.loop-key.is_first pair,
-        Sends-then _ _ _ c.args.held.now.items c.loop-key.held.items c.send_item.new.held.items inv.0 (item_text c.loop-key.is_first pair) inv.1 c.in_ok-send_item.ensures,
+        Sends-then _ c.loop-key.out _ inv.0 (item_text c.loop-key.is_first pair) inv.1 c.in_ok-send_item.ensures,
         append_assoc inv.0 (item_text c.loop-key.is_first pair) (items_text false c.next.new.self) ∙ e,
       ),
     )

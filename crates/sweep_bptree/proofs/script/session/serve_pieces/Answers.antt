@@ -7,47 +7,48 @@ use Rattle.sweep_bptree.proofs.FeedLemmas.{length-clipped_rest}
 use Rattle.sweep_bptree.proofs.SessionLemmas.{stopped_at_start, stopped_by_reader, stopped_with_no_end, stopped_by_piece, stopped_by_last, answered_last, answered_more, pairs_then, rest_then}
 use Rattle.sweep_bptree.proofs.script.session.serve_pieces.Goals as goal
 
-pub returns-in_default : goal.returns-in_default
-returns-in_default g c = stopped_at_start _ _
+pub returns-in_default-clause-serves : goal.returns-in_default-clause-serves
+returns-in_default-clause-serves g c = stopped_at_start _ _
 
-pub returns : goal.returns
-returns g c =
-    let inv = c.turns.invariant.1 in
+pub returns-clause-serves : goal.returns-clause-serves
+returns-clause-serves g c =
+    let inv = c.turns.invariant.2 in
     stopped_with_no_end _ _ _ _ inv.0 inv.1 (omega (arith, inv.5)) inv.2
 
-pub returns-in_default-read : goal.returns-in_default-read
-returns-in_default-read g c =
-    let inv = c.turns.invariant.1 in
+pub returns-in_default-read-clause-serves : goal.returns-in_default-read-clause-serves
+returns-in_default-read-clause-serves g c =
+    let inv = c.turns.invariant.2 in
     stopped_by_reader _ _ _ _ _ inv.0 inv.1 c.in_default-read.ensures.bytes inv.2
 
-pub returns-then-n-eq0 : goal.returns-then-n-eq0
-returns-then-n-eq0 g c =
-    let inv = c.turns.invariant.1 in
+pub returns-then-n-eq0-clause-serves : goal.returns-then-n-eq0-clause-serves
+returns-then-n-eq0-clause-serves g c =
+    let inv = c.turns.invariant.2 in
     let got = rw c.if-n-eq0.true at c.in-Ok-read.ensures.bytes in
-    let last = rw (c.as_slice.ensures.value, inv.4, inv.3) at c.in_ok-answer_last.ensures in
+    let last = rw (c.as_slice.ensures.value, inv.4, inv.3) at c.in_ok-answer_last.ensures.1 in
     answered_last _ _ _ _ _ _ inv.0 inv.1 got.0 (got.1 refl (search rules)) inv.2 last
 
-pub returns-in_err-answer_last : goal.returns-in_err-answer_last
-returns-in_err-answer_last g c =
-    let inv = c.turns.invariant.1 in
+pub returns-in_err-answer_last-clause-serves : goal.returns-in_err-answer_last-clause-serves
+returns-in_err-answer_last-clause-serves g c =
+    let inv = c.turns.invariant.2 in
     let got = rw c.if-n-eq0.true at c.in-Ok-read.ensures.bytes in
     let p = err_from_is_err_and c.from_residual.result c.from_residual.ensures.1 in
-    let last = rw (c.as_slice.ensures.value, inv.4, inv.3) at c.in_err-answer_last.ensures in
+    let last = rw (c.as_slice.ensures.value, inv.4, inv.3) at c.in_err-answer_last.ensures.1 in
     rw (p.1, p.2) (stopped_by_last _ _ _ _ _ _ _ inv.0 inv.1 got.0 (got.1 refl (search rules)) inv.2 last)
 
-pub returns-in_err-answer_piece : goal.returns-in_err-answer_piece
-returns-in_err-answer_piece g c =
-    let inv = c.turns.invariant.1 in
+pub returns-in_err-answer_piece-clause-serves : goal.returns-in_err-answer_piece-clause-serves
+returns-in_err-answer_piece-clause-serves g c =
+    let inv = c.turns.invariant.2 in
     let p = err_from_is_err_and c.from_residual-in_err-answer_piece.result c.from_residual-in_err-answer_piece.ensures.1 in
-    let piece = rw (inv.4, inv.3) at c.in_err-answer_piece.ensures.answers in
+    let piece = rw (inv.4, inv.3) at c.in_err-answer_piece.ensures.answers.1 in
     rw (p.1, p.2) (stopped_by_piece _ _ _ _ _ _ _ inv.0 _ inv.1 c.in-Ok-read.ensures.bytes.0 inv.2 piece)
 
 pub turns-preserved : goal.turns-preserved
 turns-preserved g c =
-    let inv = c.turns.invariant.1 in
+    let inv = c.turns.invariant.2 in
     let chunk = take c.in-Ok-read.n c.read.new.buf in
-    let piece = rw (inv.4, inv.3) at c.in_ok-answer_piece.ensures.answers in (
+    let piece = rw (inv.4, inv.3) at c.in_ok-answer_piece.ensures.answers.1 in (
       c.in_ok-answer_piece.ensures.empty,
+      c.in_ok-answer_piece.ensures.answers.0 ∙ c.turns.invariant.1,
       (
         inv.0 ++ chunk,
         Consumes-trans _ _ _ inv.0 chunk inv.1 c.in-Ok-read.ensures.bytes.0,
@@ -60,5 +61,5 @@ turns-preserved g c =
 
 pub answer_piece-requires-clause-kept : goal.answer_piece-requires-clause-kept
 answer_piece-requires-clause-kept g c =
-    let inv = c.turns.invariant.1 in
+    let inv = c.turns.invariant.2 in
     rw inv.4 (length-clipped_rest [] inv.0 (omega arith))

@@ -7,9 +7,9 @@ use Rattle.sweep_bptree.proofs.script.session.serve_pieces.Given as goal
 -- what was read so far was answered, and each read gave a byte at least
 abbrev pub invariant-turns : goal.invariant-turns
 invariant-turns g l =
-    (l.held.items ≡ [])
+    (l.out.held ≡ []) × (l.out.writer ≡ l.initial.out.writer)
     × ((read : List ℕ) × Consumes (g.R.Read.remaining l.initial.reader) (g.R.Read.remaining l.reader) read
-    × Appends (g.W.Write.contents l.initial.writer) (g.W.Write.contents l.writer) (answers [] (clipped_after [] read))
+    × Appends l.initial.out.written l.out.written (answers [] (clipped_after [] read))
     × (l.tree.contents ≡ pairs_after_all [] (clipped_after [] read))
     × (l.line.items ≡ clipped_rest [] read)
     × (l._turn ≤ length read))
