@@ -137,7 +137,14 @@ impl<S: NodeStore> BPlusTree<S> {
         if self.len == usize::MAX && self.get(&k).is_none() {
             return Err(InsertError::Full(k, v));
         }
-        match upsert(&mut self.store, &mut self.path, self.root, self.height, k, v) {
+        match upsert(
+            &mut self.store,
+            &mut self.path,
+            self.root,
+            self.height,
+            k,
+            v,
+        ) {
             Ok(Put::Replaced(was)) => Ok(Some(was)),
             Ok(Put::Added(root, height, summary)) => {
                 self.root = root;

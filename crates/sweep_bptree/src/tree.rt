@@ -1,10 +1,9 @@
 //! The tree, its nodes, its stores and its iterators.
 
-pub use bptree_arguments::argument::{Argument, RankArgument, SearchArgument};
-pub use bptree_arguments::count;
 pub use crate::argument::group;
-pub use bptree_arguments::visit;
+pub use bptree_arguments::argument::{Argument, RankArgument, SearchArgument};
 pub use bptree_arguments::visit::{DescendError, DescendVisit, DescendVisitResult};
+pub use bptree_arguments::{count, visit};
 pub use bptree_keys::entry_ref::{EntryRef, EntryRefDetached, VisitStack};
 pub use bptree_keys::key::{Key, Tuple2};
 pub use bptree_keys::node_id::{InnerNodeId, LeafNodeId, NodeId};

@@ -10,8 +10,7 @@ use crate::SelectError;
 use crate::tree::BPlusTree;
 use bptree_arguments::argument::{RankArgument, SearchArgument};
 use bptree_arguments::visit::{DescendError, DescendVisit};
-use bptree_shape::by_argument;
-use bptree_shape::visiting;
+use bptree_shape::{by_argument, visiting};
 use bptree_stores::node_stores::NodeStore;
 use std::alloc::AllocError;
 
