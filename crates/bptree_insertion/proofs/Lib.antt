@@ -1,4 +1,5 @@
 pub mod Alike
+pub mod AnySummary
 pub mod Climbing
 pub mod ClimbingTwo
 pub mod LeafEdit

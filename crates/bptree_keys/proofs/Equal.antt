@@ -8,10 +8,6 @@ use Rattle.std.proofs.lemmas.Cmp.{alike_right}
 use Rattle.bptree_keys.specs.Contents.{has, value}
 
 module _ {K V : Type 0} (cmp : K → K → Ordering) where
-  pub has_at_equal : IsTotalOrder cmp → (l : List (K × V)) (j k : K) → cmp j k ≡ Equal → has cmp l j ≡ has cmp l k
-  has_at_equal total [] j k same = refl
-  has_at_equal total (p ∷ l) j k same = rw (alike_right total j k p.0 same, has_at_equal total l j k same) refl
-
   pub value_at_equal : IsTotalOrder cmp → (l : List (K × V)) (j k : K) → cmp j k ≡ Equal → value cmp l j ≡ value cmp l k
   value_at_equal total [] j k same = refl
   value_at_equal total (p ∷ l) j k same = rw (alike_right total j k p.0 same, value_at_equal total l j k same) refl

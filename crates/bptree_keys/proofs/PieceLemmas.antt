@@ -1,5 +1,5 @@
 -- What is known of the pieces of a list, and of the values that stand beside them.
-use Rattle.std.proofs.Common.{◌≡◌, ℕ, zero, suc, ◌+◌, ◌<◌, List, [], ◌∷◌, ◌++◌, length, map, take, drop, get_or, set, refl, sym, ap, ◌∙◌, arith, add-one, length-append, append_assoc}
+use Rattle.std.proofs.Common.{◌≡◌, ℕ, zero, suc, ◌+◌, ◌<◌, List, [], ◌∷◌, ◌++◌, length, take, drop, get_or, refl, sym, ap, ◌∙◌, arith, add-one, length-append, append_assoc}
 use Rattle.std.specs.declared.cmp.Ordering.{Ordering}
 use Rattle.std.specs.declared.cmp.Ordering.TheVariants.{Less}
 use Rattle.std.specs.List.{AllZip, AllByRecursion}
@@ -31,10 +31,6 @@ module _ {X : Type 0} where
   AllByRecursion-at P (x ∷ xs) zero d l h = h.0
   AllByRecursion-at P (x ∷ xs) (suc i) d l h = let small : i < length xs = omega arith in AllByRecursion-at P xs i d small h.1
 
-pub AllByRecursion-map : {X Y : Type 0} (P : Y → Type 0) (f : X → Y) (xs : List X) → AllByRecursion (λ x. P (f x)) xs → AllByRecursion P (map f xs)
-AllByRecursion-map P f [] h = tt
-AllByRecursion-map P f (x ∷ xs) h = (h.0, AllByRecursion-map P f xs h.1)
-
 -- ---- what holds of two lists, place by place, as of the arguments of a node and the keys below its children
 
 module _ {A B : Type 0} (R : A → B → Type 0) where
@@ -50,13 +46,6 @@ module _ {A B : Type 0} (R : A → B → Type 0) where
   AllZip-append [] (y ∷ ys) us vs h k = absurd h
   AllZip-append (x ∷ xs) [] us vs h k = absurd h
   AllZip-append (x ∷ xs) (y ∷ ys) us vs h k = (h.0, AllZip-append xs ys us vs h.1 k)
-
-  pub AllZip-set : (i : ℕ) (xs : List A) (ys : List B) (x : A) (y : B) → AllZip R xs ys → R x y → AllZip R (set xs i x) (set ys i y)
-  AllZip-set i [] [] x y h r = tt
-  AllZip-set i [] (v ∷ ys) x y h r = absurd h
-  AllZip-set i (u ∷ xs) [] x y h r = absurd h
-  AllZip-set zero (u ∷ xs) (v ∷ ys) x y h r = (r, h.1)
-  AllZip-set (suc i) (u ∷ xs) (v ∷ ys) x y h r = (h.0, AllZip-set i xs ys x y h.1 r)
 
   pub AllZip-length : (xs : List A) (ys : List B) → AllZip R xs ys → length xs ≡ length ys
   AllZip-length [] [] h = refl
@@ -83,18 +72,6 @@ module _ {A B : Type 0} (R : A → B → Type 0) where
   AllZip-right [] (y ∷ ys) us vs e h = absurd (omega arith)
   AllZip-right (x ∷ xs) [] us vs e h = absurd (omega arith)
   AllZip-right (x ∷ xs) (y ∷ ys) us vs e h = let t : length xs ≡ length ys = omega arith in AllZip-right xs ys us vs t h.1
-
-pub AllZip-weaker : {A B : Type 0} (R S : A → B → Type 0) → ((x : A) (y : B) → R x y → S x y) → (xs : List A) (ys : List B) → AllZip R xs ys → AllZip S xs ys
-AllZip-weaker R S f [] [] h = tt
-AllZip-weaker R S f [] (y ∷ ys) h = absurd h
-AllZip-weaker R S f (x ∷ xs) [] h = absurd h
-AllZip-weaker R S f (x ∷ xs) (y ∷ ys) h = (f x y h.0, AllZip-weaker R S f xs ys h.1)
-
-pub AllZip-map_right : {A B C : Type 0} (R : A → B → Type 0) (f : C → B) (xs : List A) (ys : List C) → AllZip (λ x y. R x (f y)) xs ys → AllZip R xs (map f ys)
-AllZip-map_right R f [] [] h = tt
-AllZip-map_right R f [] (y ∷ ys) h = absurd h
-AllZip-map_right R f (x ∷ xs) [] h = absurd h
-AllZip-map_right R f (x ∷ xs) (y ∷ ys) h = (h.0, AllZip-map_right R f xs ys h.1)
 
 -- ---- the lists, one after another
 

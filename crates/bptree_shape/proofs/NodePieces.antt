@@ -81,10 +81,6 @@ module _ {K V A : Type 0} {cmp : K → K → Ordering} (total : IsTotalOrder cmp
     pub node_pieces : length (pairs_at slots (suc h) (kind.Inner id)) < 2 ^ 64 → ArePieces cmp (child_keys slots h (inner_children (slots.inner id.0)))
     node_pieces fits = chain_pieces h (inner_keys (slots.inner id.0)) (inner_children (slots.inner id.0)) lo hi tree.1 fits
 
-    -- each child has a pair
-    pub node_children_some : AllByRecursion (λ c. 0 < length (pairs_at slots h c)) (inner_children (slots.inner id.0))
-    node_children_some = children_some h (inner_keys (slots.inner id.0)) (inner_children (slots.inner id.0)) lo hi tree.1
-
     -- the arguments of a node are summaries of its pieces
     pub node_summaries : (is_summary : A → List K → Type 0) → IsSummed slots is_summary (suc h) (kind.Inner id) → AllZip is_summary (inner_arguments (slots.inner id.0)) (child_keys slots h (inner_children (slots.inner id.0)))
     node_summaries is_summary summed = summed.0

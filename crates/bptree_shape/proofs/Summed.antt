@@ -256,9 +256,6 @@ module _ {K V A : Type 0} {cmp : K → K → Ordering} (total : IsTotalOrder cmp
         sym (ap (λ l. slice_get l (length before + slot)) cut ∙ (get_past before (node.pairs ++ after) slot ∙ (get_early node.pairs after slot long ∙ read))),
       )
 
-  pub none_selected : {Q : Type 0} (selects : Q → List K → Option ℕ → Type 0) (query : Q) (h : ℕ) (id : NodeId) → IsSelectedAt selects query slots h id None → IsSelected selects query (pairs_at slots h id) None
-  none_selected selects query h id selected = (None, tt, selected, refl)
-
   -- a whole tree whose length fits
   pub whole_subtree : (h : ℕ) (root : NodeId) (len : ℕ) → IsWellShaped cmp is_summary slots h root → len ≡ length (pairs_at slots h root) → len < 2 ^ 64 → IsSubtree cmp is_summary slots h root
   whole_subtree h root len shape is fits = record {

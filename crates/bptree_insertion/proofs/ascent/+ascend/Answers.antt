@@ -1,8 +1,13 @@
 use Rattle.std.proofs.Common.{◌∷◌, [], length, length-append, arith, ap, sym}
 use mathlib.Core.Bool.{true≢false}
 use Rattle.bptree_shape.specs.Outcome.{Done}
+use Rattle.bptree_insertion.proofs.AnySummary.{risen_untouched}
 use Rattle.bptree_insertion.proofs.Climbing.{empty_path, present, argument_place, climbs_keeps, risen_keeps, place_after, when_kept, risen_here}
 use Rattle.bptree_insertion.proofs.ascent.+ascend.Goals as goal
+
+pub returns-then-is_zst-clause-rises : goal.returns-then-is_zst-clause-rises
+returns-then-is_zst-clause-rises g t c climbs =
+    risen_untouched g.met.S.K.Ord.total g.S.Argument.Argument.is_summary (c.is_zst.ensures.any c.if-is_zst.true) (g.S.NodeStore.slots c.args.store.now) c.args.path.now c.args.summary climbs
 
 pub returns-in_default-clause-rises : goal.returns-in_default-clause-rises
 returns-in_default-clause-rises g t c climbs =
