@@ -21,13 +21,18 @@ list_any_none : {X : Type 0} (p : X → Bool) (xs : List X) → AllByRecursion (
 list_any_none p [] h = refl
 list_any_none p (x ∷ xs) h = rw h.0 (list_any_none p xs h.1)
 
-module _ {G : Type 0} {R : G → G → Ordering} (o : IsTotalOrder R) where
-  -- an order that is not above is below where it is not equal
-  pub less_by : (r : Ordering) → is_gt r ≡ false → (r ≡ Equal → ⊥) → r ≡ Less
-  less_by Less h k = refl
-  less_by Equal h k = absurd (k refl)
-  less_by Greater h k = absurd (true≢false h)
+-- an order that is not above is below where it is not equal
+pub less_by : (r : Ordering) → is_gt r ≡ false → (r ≡ Equal → ⊥) → r ≡ Less
+less_by Less h k = refl
+less_by Equal h k = absurd (k refl)
+less_by Greater h k = absurd (true≢false h)
 
+pub equal_from : (r : Ordering) → is_eq r ≡ true → r ≡ Equal
+equal_from Less e = absurd (true≢false (sym e))
+equal_from Equal e = refl
+equal_from Greater e = absurd (true≢false (sym e))
+
+module _ {G : Type 0} {R : G → G → Ordering} (o : IsTotalOrder R) where
   pub less_le : (x y z : G) → R x y ≡ Less → is_gt (R y z) ≡ false → R x z ≡ Less
   less_le x y z p q = by (R y z) refl q where
     by : (r : Ordering) → R y z ≡ r → is_gt r ≡ false → R x z ≡ Less
@@ -104,11 +109,6 @@ module _ {G : Type 0} {R : G → G → Ordering} (o : IsTotalOrder R) where
   joined_step false false true d p q h k = omega arith
   joined_step false false false d p q h k = omega arith
 
-  equal_from : (r : Ordering) → is_eq r ≡ true → r ≡ Equal
-  equal_from Less e = absurd (true≢false (sym e))
-  equal_from Equal e = refl
-  equal_from Greater e = absurd (true≢false (sym e))
-
   turned : (x m : G) → is_eq (R m x) ≡ is_eq (R x m)
   turned x m = ap is_eq (o.antisymm m x) ∙ same (R x m) where
     same : (r : Ordering) → is_eq (ordering_reverse r) ≡ is_eq r
@@ -140,6 +140,12 @@ module _ {G : Type 0} {R : G → G → Ordering} (o : IsTotalOrder R) where
     by Equal f k = rw (alike_right o y g x f, e) refl
     by Greater f k = none (ap is_eq f) k
 
+  -- the least is not above the greatest
+  pub ends_ordered : (xs : List G) (l g : G × ℕ) (d : ℕ) → AreExtremes R xs l g d → is_gt (R l.0 g.0) ≡ false
+  ends_ordered xs l g d a =
+      let w = witness (λ x. is_gt (R l.0 x) ≡ false) g.0 xs (omega (arith, a.greatest_there, a.greatest_size)) a.least_bound in
+      upto o l.0 w.0 g.0 w.1 (ap is_gt w.2)
+
   -- two lists, one after the other, each with its extremes
   module _ (xs ys : List G) (l1 g1 l2 g2 : G × ℕ) (d1 d2 : ℕ) (a : AreExtremes R xs l1 g1 d1) (b : AreExtremes R ys l2 g2 d2) (h : IsNonDescending R (xs ++ ys)) where
     pub boundary : is_gt (R g1.0 l2.0) ≡ false
@@ -149,21 +155,11 @@ module _ {G : Type 0} {R : G → G → Ordering} (o : IsTotalOrder R) where
         upto o g1.0 w.0 l2.0 (ap is_gt (tied_back o w.0 g1.0 w.2)) (upto o w.0 v.0 l2.0 v.1 (ap is_gt v.2))
 
     -- the least of the first part is not above any of either
-    least_le_greatest : is_gt (R l1.0 g1.0) ≡ false
-    least_le_greatest =
-        let w = witness (λ x. is_gt (R l1.0 x) ≡ false) g1.0 xs (omega (arith, a.greatest_there, a.greatest_size)) a.least_bound in
-        upto o l1.0 w.0 g1.0 w.1 (ap is_gt w.2)
-
-    least_le_greatest' : is_gt (R l2.0 g2.0) ≡ false
-    least_le_greatest' =
-        let w = witness (λ x. is_gt (R l2.0 x) ≡ false) g2.0 ys (omega (arith, b.greatest_there, b.greatest_size)) b.least_bound in
-        upto o l2.0 w.0 g2.0 w.1 (ap is_gt w.2)
-
     least_all : AllByRecursion (λ x. is_gt (R l1.0 x) ≡ false) (xs ++ ys)
-    least_all = AllByRecursion-append (λ x. is_gt (R l1.0 x) ≡ false) xs ys a.least_bound (AllByRecursion-weaker (λ y. is_gt (R l2.0 y) ≡ false) (λ y. is_gt (R l1.0 y) ≡ false) (λ y e. upto o l1.0 l2.0 y (upto o l1.0 g1.0 l2.0 least_le_greatest boundary) e) ys b.least_bound)
+    least_all = AllByRecursion-append (λ x. is_gt (R l1.0 x) ≡ false) xs ys a.least_bound (AllByRecursion-weaker (λ y. is_gt (R l2.0 y) ≡ false) (λ y. is_gt (R l1.0 y) ≡ false) (λ y e. upto o l1.0 l2.0 y (upto o l1.0 g1.0 l2.0 (ends_ordered xs l1 g1 d1 a) boundary) e) ys b.least_bound)
 
     greatest_all : AllByRecursion (λ x. is_gt (R x g2.0) ≡ false) (xs ++ ys)
-    greatest_all = AllByRecursion-append (λ x. is_gt (R x g2.0) ≡ false) xs ys (AllByRecursion-weaker (λ x. is_gt (R x g1.0) ≡ false) (λ x. is_gt (R x g2.0) ≡ false) (λ x e. upto o x g1.0 g2.0 e (upto o g1.0 l2.0 g2.0 boundary least_le_greatest')) xs a.greatest_bound) b.greatest_bound
+    greatest_all = AllByRecursion-append (λ x. is_gt (R x g2.0) ≡ false) xs ys (AllByRecursion-weaker (λ x. is_gt (R x g1.0) ≡ false) (λ x. is_gt (R x g2.0) ≡ false) (λ x e. upto o x g1.0 g2.0 e (upto o g1.0 l2.0 g2.0 boundary (ends_ordered ys l2 g2 d2 b))) xs a.greatest_bound) b.greatest_bound
 
     -- how many keys of the other part are in the least or the greatest group
     pub least_shared : R l1.0 l2.0 ≡ Equal → group_size R l1.0 ys ≡ l2.1

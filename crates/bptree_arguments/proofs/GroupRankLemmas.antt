@@ -7,17 +7,16 @@ use Rattle.std.specs.Cmp.{IsTotalOrder}
 use Rattle.std.specs.List.{AllByRecursion, AllZip, filter}
 use Rattle.std.specs.List.Sorted.{IsStrictlySortedBy}
 use Rattle.std.proofs.Math.Seq.{drop-length}
-use Rattle.std.proofs.lemmas.Bool.{true≢false}
 use Rattle.std.proofs.lemmas.Cmp.{alike_right}
 use Rattle.std.proofs.lemmas.List.{append-nil, length-map, map-append, nil_from_length, take-append-drop, take_at}
 use Rattle.bptree_arguments.specs.declared.group.GroupCount.{GroupCount}
 use Rattle.bptree_keys.specs.Pieces.{flatten, piece_at}
 use Rattle.bptree_arguments.specs.CountLaws.{count_below}
-use Rattle.bptree_arguments.specs.GroupAnswers.{IsStartOf, carried, keys_in_group, IsRankInGroup}
-use Rattle.bptree_arguments.specs.Groups.{group_size, IsGreatestGroup, IsGroupSummary, IsNonDescending}
+use Rattle.bptree_arguments.specs.GroupAnswers.{IsStartOf, carried, IsRankInGroup}
+use Rattle.bptree_arguments.specs.Groups.{group, group_size, IsGreatestGroup, IsGroupSummary, IsNonDescending}
 use Rattle.bptree_arguments.specs.Ranks.{AllAbove, AllBelow, IsSlotOf, SplitsAt}
 use Rattle.bptree_keys.proofs.PieceLemmas.{AllByRecursion-append, AllByRecursion-left, AllByRecursion-right, AllByRecursion-weaker, AllZip-at, AllZip-length, flatten-cut, sorted_left, sorted_right}
-use Rattle.bptree_arguments.proofs.GroupLemmas.{crossing, groups_ascend, le_less, size-append, size-le, size_alike, size_below, size_greatest_below, size_greatest_same, witness}
+use Rattle.bptree_arguments.proofs.GroupLemmas.{crossing, groups_ascend, less_by, le_less, size-append, size-le, size_alike, size_below, size_greatest_below, size_greatest_same, witness}
 use Rattle.bptree_arguments.proofs.GroupOrderLemmas.{between}
 use Rattle.bptree_arguments.proofs.RankLemmas.{SplitsAt-within}
 
@@ -77,21 +76,21 @@ module _ {K G : Type 0} (cmp : K → K → Ordering) (R : G → G → Ordering) 
         omega (arith, whole, stands, e, carried_alike o v (group_of k) made rank, size-le o (group_of k) (map group_of (before ++ smaller)), length-map (before ++ smaller) group_of, fits)
 
   -- how many keys of k's group are below k, where a list is split there
-  none_counted : (rest : List K) → AllByRecursion (λ x. is_lt (cmp x k) ≡ false) rest → count_below cmp k (keys_in_group R group_of k rest) ≡ 0
+  none_counted : (rest : List K) → AllByRecursion (λ x. is_lt (cmp x k) ≡ false) rest → count_below cmp k (group R group_of (group_of k) rest) ≡ 0
   none_counted [] h = refl
   none_counted (x ∷ xs) h = by (is_eq (R (group_of x) (group_of k))) (none_counted xs h.1) where
-    by : (b : Bool) → count_below cmp k (keys_in_group R group_of k xs) ≡ 0 → count_below cmp k (cond b (x ∷ keys_in_group R group_of k xs) (keys_in_group R group_of k xs)) ≡ 0
+    by : (b : Bool) → count_below cmp k (group R group_of (group_of k) xs) ≡ 0 → count_below cmp k (cond b (x ∷ group R group_of (group_of k) xs) (group R group_of (group_of k) xs)) ≡ 0
     by true e = rw h.0 e
     by false e = e
 
-  counted : (front rest : List K) → AllBelow cmp k front → AllByRecursion (λ x. is_lt (cmp x k) ≡ false) rest → count_below cmp k (keys_in_group R group_of k (front ++ rest)) ≡ group_size R (group_of k) (map group_of front)
+  counted : (front rest : List K) → AllBelow cmp k front → AllByRecursion (λ x. is_lt (cmp x k) ≡ false) rest → count_below cmp k (group R group_of (group_of k) (front ++ rest)) ≡ group_size R (group_of k) (map group_of front)
   counted [] rest h n = none_counted rest n
   counted (x ∷ xs) rest h n = by (is_eq (R (group_of x) (group_of k))) (counted xs rest h.1 n) where
-    by : (b : Bool) → count_below cmp k (keys_in_group R group_of k (xs ++ rest)) ≡ group_size R (group_of k) (map group_of xs) → count_below cmp k (cond b (x ∷ keys_in_group R group_of k (xs ++ rest)) (keys_in_group R group_of k (xs ++ rest))) ≡ length (cond b (group_of x ∷ filter (λ y. is_eq (R y (group_of k))) (map group_of xs)) (filter (λ y. is_eq (R y (group_of k))) (map group_of xs)))
+    by : (b : Bool) → count_below cmp k (group R group_of (group_of k) (xs ++ rest)) ≡ group_size R (group_of k) (map group_of xs) → count_below cmp k (cond b (x ∷ group R group_of (group_of k) (xs ++ rest)) (group R group_of (group_of k) (xs ++ rest))) ≡ length (cond b (group_of x ∷ filter (λ y. is_eq (R y (group_of k))) (map group_of xs)) (filter (λ y. is_eq (R y (group_of k))) (map group_of xs)))
     by true e = rw (ap is_lt h.0) (ap suc e)
     by false e = e
 
-  pub count_in_group : (keys front middle back : List K) → SplitsAt cmp k keys front middle back → count_below cmp k (keys_in_group R group_of k keys) ≡ group_size R (group_of k) (map group_of front)
+  pub count_in_group : (keys front middle back : List K) → SplitsAt cmp k keys front middle back → count_below cmp k (group R group_of (group_of k) keys) ≡ group_size R (group_of k) (map group_of front)
   count_in_group keys front middle back s =
       let equal = AllByRecursion-weaker (λ x. cmp x k ≡ Equal) (λ x. is_lt (cmp x k) ≡ false) (λ x e. ap is_lt e) middle s.equal in
       let above = AllByRecursion-weaker (λ x. cmp x k ≡ Greater) (λ x. is_lt (cmp x k) ≡ false) (λ x e. ap is_lt e) back s.above in
@@ -118,11 +117,6 @@ size_before_greatest : {G : Type 0} {R : G → G → Ordering} (o : IsTotalOrder
 size_before_greatest {G} {R} o v m fs gs there e h = size_below o v fs (AllByRecursion-weaker (λ y. AllByRecursion (λ z. is_gt (R y z) ≡ false) gs) (λ y. R y v ≡ Less) each fs (crossing o fs gs h)) where
   each : (y : G) → AllByRecursion (λ z. is_gt (R y z) ≡ false) gs → R y v ≡ Less
   each y f = let w = witness o (λ z. is_gt (R y z) ≡ false) m gs there f in le_less o y w.0 v w.1 (o.congr w.0 m v w.2 ∙ e)
-
-less_if : (r : Ordering) → is_gt r ≡ false → (r ≡ Equal → ⊥) → r ≡ Less
-less_if Less h n = refl
-less_if Equal h n = absurd (n refl)
-less_if Greater h n = absurd (true≢false h)
 
 -- the pieces from one on are that one and those behind it
 flatten-from : {X : Type 0} (pieces : List (List X)) (i : ℕ) → i < length pieces → flatten (drop i pieces) ≡ piece_at pieces i ++ flatten (drop (suc i) pieces)
@@ -202,7 +196,7 @@ module _ {K G : Type 0} (cmp : K → K → Ordering) (R : G → G → Ordering) 
               let low = AllByRecursion-left (λ x. cmp x k ≡ Less) (piece_at pieces (m - 1)) back (AllByRecursion-right (λ x. cmp x k ≡ Less) front (piece_at pieces (m - 1) ++ back) (rw cut at below)) in
               let upto = AllByRecursion-weaker (λ x. is_gt (R x (group_of k)) ≡ false) (λ x. is_gt (R x v) ≡ false) (λ x e. ap is_gt (alike_right o v (group_of k) x made) ∙ e) here (groups_upto cmp R group_of keeps o k (piece_at pieces (m - 1)) low) in
               let w = witness o (λ x. is_gt (R x v) ≡ false) h here (omega (arith, greatest.1, greatest.2)) upto in
-              less_if (R h v) (ap is_gt (sym (o.congr w.0 h v w.2)) ∙ w.1) (λ e. other (compared ∙ e))
+              less_by (R h v) (ap is_gt (sym (o.congr w.0 h v w.2)) ∙ w.1) (λ e. other (compared ∙ e))
 
           none_in_front : group_size R v (map group_of front) ≡ 0
           none_in_front =

@@ -16,7 +16,7 @@ use Rattle.bptree_arguments.specs.Selection.{moved_by, IsPlaceIn, LeadsTo}
 use Rattle.bptree_arguments.specs.Groups.{group_size, IsGroupSummary, IsGreatestGroup, IsNonDescending, SelectsInGroup}
 use Rattle.bptree_arguments.specs.GroupAnswers.{IsStartOf}
 use Rattle.bptree_keys.proofs.PieceLemmas.{AllByRecursion-at, AllByRecursion-weaker, AllZip-length, flatten-cut}
-use Rattle.bptree_arguments.proofs.GroupLemmas.{less_le, size-append, size-le, size_above, size_below, size_greatest_below, size_greatest_same, size_after_greatest, groups_ascend, piece_ascends, size_parts, size_more}
+use Rattle.bptree_arguments.proofs.GroupLemmas.{equal_from, less_le, size-append, size-le, size_above, size_below, size_greatest_below, size_greatest_same, size_after_greatest, groups_ascend, piece_ascends, size_parts, size_more}
 use Rattle.bptree_arguments.proofs.GroupOrderLemmas.{between, nondescending_drop}
 use Rattle.bptree_arguments.proofs.GroupSizeLemmas.{summary_here}
 
@@ -79,11 +79,6 @@ module _ {K G : Type 0} (cmp : K → K → Ordering) (R : G → G → Ordering) 
 
       pub leads_above : Greater ≡ R m g → LeadsTo selects (g, offset) pieces (Some (i, (g, rest)))
       leads_above e = leads (λ _. size_after_greatest o g m n here greatest.0 greatest.1 greatest.2 (map group_of (flatten (drop (suc i) pieces))) (piece_ascends cmp R group_of keeps o pieces i inside are.ascending) (o.antisymm g m ∙ ap ordering_reverse (sym e)))
-
-equal_from : (r : Ordering) → is_eq r ≡ true → r ≡ Equal
-equal_from Less e = absurd (true≢false (sym e))
-equal_from Equal e = refl
-equal_from Greater e = absurd (true≢false (sym e))
 
 -- the place of an item of a leaf, from where its group begins
 module _ {G : Type 0} {R : G → G → Ordering} (o : IsTotalOrder R) (g : G) where

@@ -3,9 +3,9 @@ use Rattle.std.specs.Prelude.{◌≡◌, ℕ, List, map, take, drop, false, cond
 use Rattle.std.specs.declared.cmp.Ordering.{Ordering}
 use Rattle.std.specs.declared.cmp.Ordering.TheVariants.{Less, Equal}
 use Rattle.std.specs.Ordering.{is_eq, is_lt}
-use Rattle.std.specs.List.{AllByRecursion, filter}
+use Rattle.std.specs.List.{AllByRecursion}
 use Rattle.bptree_arguments.specs.CountLaws.{count_below}
-use Rattle.bptree_arguments.specs.Groups.{group_size}
+use Rattle.bptree_arguments.specs.Groups.{group, group_size}
 
 module _ {G : Type 0} (cmp : G → G → Ordering) (g : G) where
   -- the groups before the place are below g, and those from it on are not
@@ -24,14 +24,10 @@ module _ {G : Type 0} (cmp : G → G → Ordering) (g : G) where
   IsInGroup n (Some r) = (cmp r.0 g ≡ Equal) × (r.1 ≡ n)
 
 module _ {K G : Type 0} (compare : G → G → Ordering) (group_of : K → G) (k : K) where
-  -- the keys that are in the group of k
-  abbrev pub keys_in_group : List K → List K
-  keys_in_group keys = filter (λ x. is_eq (compare (group_of x) (group_of k))) keys
-
   -- a rank carries how many of the keys are in the group of k
   abbrev pub StandsInGroup : List K → Option (G × ℕ) → Type 0
   StandsInGroup keys rank = group_size compare (group_of k) (map group_of keys) ≡ carried compare (group_of k) rank
 
   -- a rank is the group of k, and how many keys in it are smaller than k
   abbrev pub IsRankInGroup : (K → K → Ordering) → List K → Option (G × ℕ) → Type 0
-  IsRankInGroup cmp keys rank = IsInGroup compare (group_of k) (count_below cmp k (keys_in_group keys)) rank
+  IsRankInGroup cmp keys rank = IsInGroup compare (group_of k) (count_below cmp k (group compare group_of (group_of k) keys)) rank
