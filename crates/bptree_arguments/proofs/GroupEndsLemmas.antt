@@ -14,7 +14,7 @@ use Rattle.bptree_arguments.specs.declared.group.GroupCount.{GroupCount}
 use Rattle.bptree_arguments.specs.declared.group.Ends.{Ends}
 use Rattle.bptree_arguments.specs.Groups.{group_size, different, IsNonDescending, AreExtremes, AreEnds, IsGroupSummary}
 use Rattle.bptree_keys.specs.Pieces.{flatten, piece_at, ArePieces}
-use Rattle.bptree_keys.proofs.PieceLemmas.{AllByRecursion-append, AllByRecursion-weaker, AllZip-at, AllZip-length}
+use Rattle.bptree_keys.proofs.PieceLemmas.{AllByRecursion-append, AllByRecursion-weaker}
 use Rattle.bptree_arguments.proofs.GroupLemmas.{less_by, ends_ordered, less_le, witness, crossing, size_alike, least_alike, greatest_alike, sizes_fit, capped, merged, least_shared, greatest_shared, below, many_left, many_right, shared_count, apart_count, least_apart, greatest_apart, le_less, single, one_one_shared, one_one_apart, many_one_shared, many_one_apart, groups_ascend, piece_whole, piece_order, piece_fits}
 
 module _ {G : Type 0} {R : G → G → Ordering} (o : IsTotalOrder R) where
@@ -173,12 +173,6 @@ module _ {K G : Type 0} (cmp : K → K → Ordering) (R : G → G → Ordering) 
   ends_more ends next joined f a b = subst (λ t. AreEnds R t joined) (sym after_is) (f before here a b (piece_order cmp R group_of keeps o pieces i l are) (piece_fits cmp R group_of keeps o pieces i l are))
 
 module _ {K G : Type 0} (cmp : K → K → Ordering) (R : G → G → Ordering) (group_of : K → G) where
-  pub summary_at : (pieces : List (List K)) (arguments : List (GroupCount G)) (summaries : AllZip (λ a keys. IsGroupSummary R a (map group_of keys)) arguments pieces) (i : ℕ) → i < length arguments → (argument : GroupCount G) → argument ≡ get_or arguments i argument → (i < length pieces) × IsGroupSummary R argument (map group_of (piece_at pieces i))
-  summary_at pieces arguments summaries i l argument read = (
-    omega (arith, l, AllZip-length (λ a keys. IsGroupSummary R a (map group_of keys)) arguments pieces summaries),
-    subst (λ a. IsGroupSummary R a (map group_of (piece_at pieces i))) (sym read) (AllZip-at (λ a keys. IsGroupSummary R a (map group_of keys)) arguments pieces i argument [] summaries l),
-  )
-
   -- the ends of all pieces are kept
   pub ends_kept : {E : Type 0} (r : Result (GroupCount G) E) (arguments : List (GroupCount G)) (ends : Ends G) → IfOk r (λ summary. (groups : List G) → AreEnds R groups ends → IsGroupSummary R summary groups) → ((pieces : List (List K)) → ArePieces cmp pieces → AllZip (λ a keys. IsGroupSummary R a (map group_of keys)) arguments pieces → AreEnds R (map group_of (flatten pieces)) ends) → IfOk r (λ summary. (pieces : List (List K)) → ArePieces cmp pieces → AllZip (λ a keys. IsGroupSummary R a (map group_of keys)) arguments pieces → IsGroupSummary R summary (map group_of (flatten pieces)))
   ends_kept (Ok summary) arguments ends f known = λ pieces are summaries. f _ (known pieces are summaries)

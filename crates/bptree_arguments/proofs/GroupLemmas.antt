@@ -3,7 +3,7 @@ use Rattle.std.specs.declared.cmp.Ordering.{Ordering}
 use Rattle.std.specs.declared.cmp.Ordering.TheVariants.{Less, Equal, Greater}
 use Rattle.std.specs.Ordering.{is_eq, is_gt, ordering_reverse}
 use Rattle.std.specs.Cmp.{IsTotalOrder}
-use Rattle.std.specs.List.{AllByRecursion, filter, list_any}
+use Rattle.std.specs.List.{AllByRecursion, AllZip, filter, list_any}
 use Rattle.std.specs.List.Sorted.{IsStrictlySortedBy}
 use Rattle.std.proofs.lemmas.List.{append_assoc, map-append, length-map, length-take, take_more, take-append-drop}
 use Rattle.std.proofs.lemmas.Cmp.{upto, tied_itself, tied_back, alike_right}
@@ -14,7 +14,7 @@ use Rattle.bptree_arguments.specs.declared.group.GroupCount.{GroupCount}
 use Rattle.bptree_arguments.specs.declared.group.GroupCount.TheVariants.{Zero, One, Multiple}
 use Rattle.bptree_arguments.specs.Groups.{group, group_size, different, IsNonDescending, AreExtremes, IsGroupSummary, AreAlike}
 use Rattle.bptree_keys.specs.Pieces.{flatten, piece_at, ArePieces}
-use Rattle.bptree_keys.proofs.PieceLemmas.{AllByRecursion-append, AllByRecursion-right, AllByRecursion-weaker, flatten-cut, sorted_left, sorted_right, flatten-take_more}
+use Rattle.bptree_keys.proofs.PieceLemmas.{AllByRecursion-append, AllByRecursion-right, AllByRecursion-weaker, AllZip-at, AllZip-length, flatten-cut, sorted_left, sorted_right, flatten-take_more}
 use Rattle.bptree_arguments.proofs.RankLemmas.{filter_none}
 
 list_any_none : {X : Type 0} (p : X → Bool) (xs : List X) → AllByRecursion (λ x. p x ≡ false) xs → list_any p xs ≡ false
@@ -416,3 +416,11 @@ size_of_keys R group_of g (k ∷ ks) = by (is_eq (R (group_of k) g)) (size_of_ke
   by : (b : Bool) → group_size R g (map group_of ks) ≡ length (group R group_of g ks) → length (cond b (group_of k ∷ filter (λ x. is_eq (R x g)) (map group_of ks)) (filter (λ x. is_eq (R x g)) (map group_of ks))) ≡ length (cond b (k ∷ filter (λ x. is_eq (R (group_of x) g)) ks) (filter (λ x. is_eq (R (group_of x) g)) ks))
   by true e = ap suc e
   by false e = e
+
+-- a child's summary is of the keys below it
+module _ {K G : Type 0} (R : G → G → Ordering) (group_of : K → G) (pieces : List (List K)) (arguments : List (GroupCount G)) (summaries : AllZip (λ a keys. IsGroupSummary R a (map group_of keys)) arguments pieces) (i : ℕ) (l : i < length arguments) where
+  pub child_within : i < length pieces
+  child_within = omega (arith, l, AllZip-length (λ a keys. IsGroupSummary R a (map group_of keys)) arguments pieces summaries)
+
+  pub summary_here : (argument : GroupCount G) → argument ≡ get_or arguments i argument → IsGroupSummary R argument (map group_of (piece_at pieces i))
+  summary_here argument read = subst (λ a. IsGroupSummary R a (map group_of (piece_at pieces i))) (sym read) (AllZip-at (λ a keys. IsGroupSummary R a (map group_of keys)) arguments pieces i argument [] summaries l)

@@ -1,5 +1,5 @@
 -- The rank of a key in its group: how many keys of the group are smaller.
-use Rattle.std.proofs.Common.{◌≡◌, ℕ, zero, suc, ◌+◌, ◌-◌, ◌^◌, ◌<◌, ◌≤◌, min, List, [], ◌∷◌, ◌++◌, length, map, take, drop, get_or, Option, Some, None, Ok, Err, Bool, true, false, cond, refl, sym, ap, ◌∙◌, subst, arith, append_assoc, length-append, length-drop}
+use Rattle.std.proofs.Common.{◌≡◌, ℕ, zero, suc, ◌+◌, ◌-◌, ◌^◌, ◌<◌, ◌≤◌, min, List, [], ◌∷◌, ◌++◌, length, map, take, drop, get_or, Option, Some, None, Ok, Err, Bool, true, false, cond, refl, sym, ap, ◌∙◌, arith, append_assoc, length-append, length-drop}
 use Rattle.std.specs.declared.cmp.Ordering.{Ordering}
 use Rattle.std.specs.declared.cmp.Ordering.TheVariants.{Less, Equal, Greater}
 use Rattle.std.specs.Ordering.{is_eq, is_gt, is_lt}
@@ -15,8 +15,8 @@ use Rattle.bptree_arguments.specs.CountLaws.{count_below}
 use Rattle.bptree_arguments.specs.GroupAnswers.{IsStartOf, carried, IsRankInGroup}
 use Rattle.bptree_arguments.specs.Groups.{group, group_size, IsGreatestGroup, IsGroupSummary, IsNonDescending}
 use Rattle.bptree_arguments.specs.Ranks.{AllAbove, AllBelow, IsSlotOf, SplitsAt}
-use Rattle.bptree_keys.proofs.PieceLemmas.{AllByRecursion-append, AllByRecursion-left, AllByRecursion-right, AllByRecursion-weaker, AllZip-at, AllZip-length, flatten-cut, sorted_left, sorted_right}
-use Rattle.bptree_arguments.proofs.GroupLemmas.{crossing, groups_ascend, less_by, le_less, size-append, size-le, size_alike, size_below, size_greatest_below, size_greatest_same, witness}
+use Rattle.bptree_keys.proofs.PieceLemmas.{AllByRecursion-append, AllByRecursion-left, AllByRecursion-right, AllByRecursion-weaker, AllZip-length, flatten-cut, sorted_left, sorted_right}
+use Rattle.bptree_arguments.proofs.GroupLemmas.{crossing, groups_ascend, less_by, le_less, size-append, size-le, size_alike, size_below, size_greatest_below, size_greatest_same, summary_here, witness}
 use Rattle.bptree_arguments.proofs.GroupOrderLemmas.{between}
 use Rattle.bptree_arguments.proofs.RankLemmas.{SplitsAt-within}
 
@@ -157,7 +157,7 @@ module _ {K G : Type 0} (cmp : K → K → Ordering) (R : G → G → Ordering) 
       one_on = omega arith
 
       summary : IsGroupSummary R argument here
-      summary = let l : m - 1 < length arguments = omega arith in subst (λ a. IsGroupSummary R a here) (sym read) (AllZip-at (λ a keys. IsGroupSummary R a (map group_of keys)) arguments pieces (m - 1) argument [] summaries l)
+      summary = summary_here R group_of pieces arguments summaries (m - 1) (omega arith) argument read
 
       sizes : group_size R v (map group_of (flatten (drop (m - 1) pieces))) ≡ group_size R v here + group_size R v (map group_of (flatten (drop m pieces)))
       sizes =

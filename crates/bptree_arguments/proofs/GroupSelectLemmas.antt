@@ -15,10 +15,9 @@ use Rattle.bptree_keys.specs.Pieces.{flatten, piece_at, start_of, ArePieces}
 use Rattle.bptree_arguments.specs.Selection.{moved_by, IsPlaceIn, LeadsTo}
 use Rattle.bptree_arguments.specs.Groups.{group_size, IsGroupSummary, IsGreatestGroup, IsNonDescending, SelectsInGroup}
 use Rattle.bptree_arguments.specs.GroupAnswers.{IsStartOf}
-use Rattle.bptree_keys.proofs.PieceLemmas.{AllByRecursion-at, AllByRecursion-weaker, AllZip-length, flatten-cut}
-use Rattle.bptree_arguments.proofs.GroupLemmas.{equal_from, less_le, size-append, size-le, size_above, size_below, size_greatest_below, size_greatest_same, size_after_greatest, groups_ascend, piece_ascends, size_parts, size_more}
+use Rattle.bptree_keys.proofs.PieceLemmas.{AllByRecursion-at, AllByRecursion-weaker, flatten-cut}
+use Rattle.bptree_arguments.proofs.GroupLemmas.{child_within, equal_from, less_le, summary_here, size-append, size-le, size_above, size_below, size_greatest_below, size_greatest_same, size_after_greatest, groups_ascend, piece_ascends, size_parts, size_more}
 use Rattle.bptree_arguments.proofs.GroupOrderLemmas.{between, nondescending_drop}
-use Rattle.bptree_arguments.proofs.GroupSizeLemmas.{summary_here}
 
 -- an item of the middle part, as an item of the whole
 module _ {G : Type 0} {R : G → G → Ordering} (o : IsTotalOrder R) (g : G) (front here back : List G) (j n : ℕ) (l : j < length here) where
@@ -32,7 +31,7 @@ module _ {G : Type 0} {R : G → G → Ordering} (o : IsTotalOrder R) (g : G) (f
 
 module _ {K G : Type 0} (cmp : K → K → Ordering) (R : G → G → Ordering) (group_of : K → G) (keeps : (x y : K) → is_gt (cmp x y) ≡ false → is_gt (R (group_of x) (group_of y)) ≡ false) (o : IsTotalOrder R) (g : G) (pieces : List (List K)) (are : ArePieces cmp pieces) (arguments : List (GroupCount G)) (summaries : AllZip (λ a keys. IsGroupSummary R a (map group_of keys)) arguments pieces) (i : ℕ) (l : i < length arguments) (rest offset : ℕ) (passed : rest + group_size R g (map group_of (flatten (take i pieces))) ≡ offset) where
   inside : i < length pieces
-  inside = omega (arith, l, AllZip-length (λ a keys. IsGroupSummary R a (map group_of keys)) arguments pieces summaries)
+  inside = child_within R group_of pieces arguments summaries i l
 
   abbrev here : List G
   here = map group_of (piece_at pieces i)
@@ -57,7 +56,7 @@ module _ {K G : Type 0} (cmp : K → K → Ordering) (R : G → G → Ordering) 
 
   module _ (argument : GroupCount G) (read : argument ≡ get_or arguments i argument) where
     summary : IsGroupSummary R argument here
-    summary = summary_here cmp R group_of keeps o g pieces are arguments summaries i l argument read
+    summary = summary_here R group_of pieces arguments summaries i l argument read
 
     -- past a child: what is left of the place, and the keys of the group so far
     pub next_none : ((groups : List G) → IsGroupSummary R argument groups → IsGreatestGroup R groups None) → rest + group_size R g (map group_of (flatten (take (i + 1) pieces))) ≡ offset

@@ -1,4 +1,4 @@
-use Rattle.std.proofs.Common.{◌≡◌, ℕ, suc, ◌+◌, ◌-◌, ◌^◌, ◌<◌, min, List, [], length, map, take, drop, get_or, Some, None, false, sym, ap, ◌∙◌, subst, arith}
+use Rattle.std.proofs.Common.{◌≡◌, ℕ, suc, ◌+◌, ◌-◌, ◌^◌, ◌<◌, min, List, length, map, take, drop, Some, None, false, sym, ap, ◌∙◌, arith}
 use Rattle.std.specs.declared.cmp.Ordering.{Ordering}
 use Rattle.std.specs.declared.cmp.Ordering.TheVariants.{Less, Equal, Greater}
 use Rattle.std.specs.Ordering.{is_gt, ordering_reverse}
@@ -7,19 +7,15 @@ use Rattle.std.specs.List.{AllZip}
 use Rattle.bptree_arguments.specs.declared.group.GroupCount.{GroupCount}
 use Rattle.bptree_keys.specs.Pieces.{flatten, piece_at, ArePieces}
 use Rattle.bptree_arguments.specs.Groups.{group_size, AreExtremes, IsGroupSummary, IsGreatestGroup}
-use Rattle.bptree_keys.proofs.PieceLemmas.{AllByRecursion-weaker, AllZip-at, AllZip-length}
-use Rattle.bptree_arguments.proofs.GroupLemmas.{less_le, size_above, size_alike, size_greatest_below, size_greatest_same, size_after_greatest, piece_ascends, size_parts, size_more}
+use Rattle.bptree_keys.proofs.PieceLemmas.{AllByRecursion-weaker}
+use Rattle.bptree_arguments.proofs.GroupLemmas.{child_within, less_le, size_above, size_alike, size_greatest_below, size_greatest_same, size_after_greatest, piece_ascends, size_parts, size_more}
 
 module _ {K G : Type 0} (cmp : K → K → Ordering) (R : G → G → Ordering) (group_of : K → G) (keeps : (x y : K) → is_gt (cmp x y) ≡ false → is_gt (R (group_of x) (group_of y)) ≡ false) (o : IsTotalOrder R) (g : G) (pieces : List (List K)) (are : ArePieces cmp pieces) (arguments : List (GroupCount G)) (summaries : AllZip (λ a keys. IsGroupSummary R a (map group_of keys)) arguments pieces) (i : ℕ) (l : i < length arguments) where
   inside : i < length pieces
-  inside = omega (arith, l, AllZip-length (λ a keys. IsGroupSummary R a (map group_of keys)) arguments pieces summaries)
+  inside = child_within R group_of pieces arguments summaries i l
 
   abbrev here : List G
   here = map group_of (piece_at pieces i)
-
-  module _ (argument : GroupCount G) (read : argument ≡ get_or arguments i argument) where
-    pub summary_here : IsGroupSummary R argument here
-    summary_here = subst (λ a. IsGroupSummary R a here) (sym read) (AllZip-at (λ a keys. IsGroupSummary R a (map group_of keys)) arguments pieces i argument [] summaries l)
 
   module _ (start count : ℕ) (counted : count ≡ min (start + group_size R g (map group_of (flatten (take i pieces)))) (2 ^ 64 - 1)) where
     more : (n : ℕ) → group_size R g here ≡ n → min (count + n) (2 ^ 64 - 1) ≡ min (start + group_size R g (map group_of (flatten (take (i + 1) pieces)))) (2 ^ 64 - 1)
