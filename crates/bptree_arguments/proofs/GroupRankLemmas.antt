@@ -12,12 +12,12 @@ use Rattle.std.proofs.lemmas.List.{append-nil, length-map, map-append, nil_from_
 use Rattle.bptree_arguments.specs.declared.group.GroupCount.{GroupCount}
 use Rattle.bptree_keys.specs.Pieces.{flatten, piece_at}
 use Rattle.bptree_arguments.specs.CountLaws.{count_below}
-use Rattle.bptree_arguments.specs.GroupAnswers.{IsStartOf, carried, IsRankInGroup}
+use Rattle.bptree_arguments.specs.GroupAnswers.{IsBorderOf, carried, IsRankInGroup}
 use Rattle.bptree_arguments.specs.Groups.{group, group_size, IsGreatestGroup, IsGroupSummary, IsNonDescending}
 use Rattle.bptree_arguments.specs.Ranks.{AllAbove, AllBelow, IsSlotOf, SplitsAt}
 use Rattle.bptree_keys.proofs.PieceLemmas.{AllByRecursion-append, AllByRecursion-left, AllByRecursion-right, AllByRecursion-weaker, AllZip-length, flatten-cut, sorted_left, sorted_right}
 use Rattle.bptree_arguments.proofs.GroupLemmas.{crossing, groups_ascend, less_by, le_less, size-append, size-le, size_alike, size_below, size_greatest_below, size_greatest_same, summary_here, witness}
-use Rattle.bptree_arguments.proofs.GroupOrderLemmas.{between}
+use Rattle.bptree_arguments.proofs.GroupOrderLemmas.{between, less_from, size_from}
 use Rattle.bptree_arguments.proofs.RankLemmas.{SplitsAt-within}
 
 module _ {G : Type 0} {R : G → G → Ordering} (o : IsTotalOrder R) (v : G) where
@@ -27,18 +27,17 @@ module _ {G : Type 0} {R : G → G → Ordering} (o : IsTotalOrder R) (v : G) wh
   size_all (x ∷ xs) h k = rw (between (R x v) h.0 k.0) (ap suc (size_all xs h.1 k.1))
 
   -- of groups that are not above v, those from where it begins are equal to it
-  size_from : (gs : List G) (start : ℕ) → IsStartOf R v gs start → AllByRecursion (λ x. is_gt (R x v) ≡ false) gs → group_size R v gs ≡ length gs - start
-  size_from gs start s h =
-      let sum = rw take-append-drop at (size-append o v (take start gs) (drop start gs)) in
+  size_to_last : (gs : List G) (start : ℕ) → IsBorderOf R v false gs start → AllByRecursion (λ x. is_gt (R x v) ≡ false) gs → group_size R v gs ≡ length gs - start
+  size_to_last gs start s h =
       let back = AllByRecursion-right (λ x. is_gt (R x v) ≡ false) (take start gs) (drop start gs) (rw take-append-drop h) in
-      omega (arith, sum, size_below o v (take start gs) s.before, size_all (drop start gs) s.from_there back, length-drop start gs)
+      omega (arith, size_from o v gs start s, size_all (drop start gs) s.from_there back, length-drop start gs)
 
   -- in front of groups of which the first is below v, none is equal to it
-  size_in_front : (fs gs : List G) (start : ℕ) → 0 < start → start ≤ length gs → AllByRecursion (λ x. R x v ≡ Less) (take start gs) → IsNonDescending R (fs ++ gs) → group_size R v fs ≡ 0
-  size_in_front fs [] start p l b h = absurd (omega arith)
-  size_in_front fs (x ∷ xs) zero p l b h = absurd (omega arith)
-  size_in_front fs (x ∷ xs) (suc n) p l b h =
-      size_below o v fs (AllByRecursion-weaker (λ y. AllByRecursion (λ z. is_gt (R y z) ≡ false) (x ∷ xs)) (λ y. R y v ≡ Less) (λ y f. le_less o y x v f.0 b.0) fs (crossing o fs (x ∷ xs) h))
+  size_ahead : (fs gs : List G) (start : ℕ) → 0 < start → start ≤ length gs → AllByRecursion (λ x. is_lt (R x v) ≡ true) (take start gs) → IsNonDescending R (fs ++ gs) → group_size R v fs ≡ 0
+  size_ahead fs [] start p l b h = absurd (omega arith)
+  size_ahead fs (x ∷ xs) zero p l b h = absurd (omega arith)
+  size_ahead fs (x ∷ xs) (suc n) p l b h =
+      size_below o v fs (AllByRecursion-weaker (λ y. AllByRecursion (λ z. is_gt (R y z) ≡ false) (x ∷ xs)) (λ y. R y v ≡ Less) (λ y f. le_less o y x v f.0 (less_from (R x v) b.0)) fs (crossing o fs (x ∷ xs) h))
 
   -- an equal group is carried as well
   pub carried_alike : (g : G) → R v g ≡ Equal → (rank : Option (G × ℕ)) → carried R v rank ≡ carried R g rank
@@ -51,14 +50,14 @@ module _ {K G : Type 0} (cmp : K → K → Ordering) (R : G → G → Ordering) 
   groups_upto [] h = tt
   groups_upto (x ∷ xs) h = (keeps x k (ap is_gt h.0), groups_upto xs h.1)
 
-  module _ (v : G) (made : R v (group_of k) ≡ Equal) (smaller : List K) (start : ℕ) (within : start ≤ length smaller) (begins : IsStrictlySortedBy cmp smaller → IsStartOf R v (map group_of smaller) start) (before : List K) (ascending : IsStrictlySortedBy cmp (before ++ smaller)) (below : AllBelow cmp k smaller) where
-    starts : IsStartOf R v (map group_of smaller) start
+  module _ (v : G) (made : R v (group_of k) ≡ Equal) (smaller : List K) (start : ℕ) (within : start ≤ length smaller) (begins : IsStrictlySortedBy cmp smaller → IsBorderOf R v false (map group_of smaller) start) (before : List K) (ascending : IsStrictlySortedBy cmp (before ++ smaller)) (below : AllBelow cmp k smaller) where
+    starts : IsBorderOf R v false (map group_of smaller) start
     starts = begins (sorted_right cmp before smaller ascending)
 
     in_leaf : group_size R (group_of k) (map group_of smaller) ≡ length smaller - start
     in_leaf =
         let upto = AllByRecursion-weaker (λ x. is_gt (R x (group_of k)) ≡ false) (λ x. is_gt (R x v) ≡ false) (λ x e. ap is_gt (alike_right o v (group_of k) x made) ∙ e) (map group_of smaller) (groups_upto smaller below) in
-        omega (arith, size_alike o v (group_of k) made (map group_of smaller), size_from o v (map group_of smaller) start starts upto, length-map smaller group_of)
+        omega (arith, size_alike o v (group_of k) made (map group_of smaller), size_to_last o v (map group_of smaller) start starts upto, length-map smaller group_of)
 
     whole : group_size R (group_of k) (map group_of (before ++ smaller)) ≡ group_size R (group_of k) (map group_of before) + (length smaller - start)
     whole = omega (arith, ap (group_size R (group_of k)) (map-append group_of before smaller), size-append o (group_of k) (map group_of before) (map group_of smaller), in_leaf)
@@ -67,7 +66,7 @@ module _ {K G : Type 0} (cmp : K → K → Ordering) (R : G → G → Ordering) 
     pub ranked_in_leaf : 0 < start → length smaller - start ≡ group_size R (group_of k) (map group_of (before ++ smaller))
     ranked_in_leaf p =
         let ascend = rw map-append at (groups_ascend cmp R group_of keeps (before ++ smaller) ascending) in
-        let none = size_in_front o v (map group_of before) (map group_of smaller) start p (omega (arith, within, length-map smaller group_of)) starts.before ascend in
+        let none = size_ahead o v (map group_of before) (map group_of smaller) start p (omega (arith, within, length-map smaller group_of)) starts.before ascend in
         omega (arith, whole, none, size_alike o v (group_of k) made (map group_of before))
 
     -- none is

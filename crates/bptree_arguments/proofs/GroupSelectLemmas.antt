@@ -9,15 +9,15 @@ use Rattle.std.specs.List.Sorted.{IsStrictlySortedBy}
 use Rattle.std.proofs.Math.Seq.{take-add, take-append-add}
 use Rattle.std.proofs.lemmas.Bool.{true≢false}
 use Rattle.std.proofs.lemmas.Cmp.{upto}
-use Rattle.std.proofs.lemmas.List.{length-map, map-append, take-append-drop, take-append-le, get_or_append_left, get_or-append-add, get_or-drop, get_or-map}
+use Rattle.std.proofs.lemmas.List.{length-map, map-append, take-append-le, get_or_append_left, get_or-append-add, get_or-drop, get_or-map}
 use Rattle.bptree_arguments.specs.declared.group.GroupCount.{GroupCount}
 use Rattle.bptree_keys.specs.Pieces.{flatten, piece_at, start_of, ArePieces}
 use Rattle.bptree_arguments.specs.Selection.{moved_by, IsPlaceIn, LeadsTo}
 use Rattle.bptree_arguments.specs.Groups.{group_size, IsGroupSummary, IsGreatestGroup, IsNonDescending, SelectsInGroup}
-use Rattle.bptree_arguments.specs.GroupAnswers.{IsStartOf}
+use Rattle.bptree_arguments.specs.GroupAnswers.{IsBorderOf}
 use Rattle.bptree_keys.proofs.PieceLemmas.{AllByRecursion-at, AllByRecursion-weaker, flatten-cut}
-use Rattle.bptree_arguments.proofs.GroupLemmas.{child_within, equal_from, less_le, summary_here, size-append, size-le, size_above, size_below, size_greatest_below, size_greatest_same, size_after_greatest, groups_ascend, piece_ascends, size_parts, size_more}
-use Rattle.bptree_arguments.proofs.GroupOrderLemmas.{between, nondescending_drop}
+use Rattle.bptree_arguments.proofs.GroupLemmas.{child_within, equal_from, less_le, summary_here, size-append, size-le, size_above, size_greatest_below, size_greatest_same, size_after_greatest, groups_ascend, piece_ascends, size_parts, size_more}
+use Rattle.bptree_arguments.proofs.GroupOrderLemmas.{between, nondescending_drop, size_from, size_in_front}
 
 -- an item of the middle part, as an item of the whole
 module _ {G : Type 0} {R : G → G → Ordering} (o : IsTotalOrder R) (g : G) (front here back : List G) (j n : ℕ) (l : j < length here) where
@@ -109,18 +109,12 @@ module _ {G : Type 0} {R : G → G → Ordering} (o : IsTotalOrder R) (g : G) wh
       by true m = omega arith
       by false m = omega arith
 
-  module _ (gs : List G) (h : IsNonDescending R gs) (start : ℕ) (s : IsStartOf R g gs start) (n : ℕ) where
-    front_none : group_size R g (take start gs) ≡ 0
-    front_none = size_below o g (take start gs) s.before
-
-    whole : group_size R g gs ≡ group_size R g (drop start gs)
-    whole = let sum = rw take-append-drop at (size-append o g (take start gs) (drop start gs)) in omega (arith, sum, front_none)
-
+  module _ (gs : List G) (h : IsNonDescending R gs) (start : ℕ) (s : IsBorderOf R g false gs start) (n : ℕ) where
     ascends : IsNonDescending R (drop start gs)
     ascends = nondescending_drop o gs start h
 
     past : length gs ≤ start + n → group_size R g gs ≤ n
-    past l = omega (arith, whole, size-le o g (drop start gs), length-drop start gs, l)
+    past l = omega (arith, size_from o g gs start s, size-le o g (drop start gs), length-drop start gs, l)
 
     module _ (d : G) (l : start + n < length gs) where
       there : get_or (drop start gs) n d ≡ get_or gs (start + n) d
@@ -130,15 +124,15 @@ module _ {G : Type 0} {R : G → G → Ordering} (o : IsTotalOrder R) (g : G) wh
       small = omega (arith, l, length-drop start gs)
 
       other : is_eq (R (get_or gs (start + n) d) g) ≡ false → group_size R g gs ≤ n
-      other e = omega (arith, whole, size_to (drop start gs) n d small ascends s.from_there (rw there e))
+      other e = omega (arith, size_from o g gs start s, size_to (drop start gs) n d small ascends s.from_there (rw there e))
 
       place : R (get_or gs (start + n) d) g ≡ Equal → group_size R g (take (start + n) gs) ≡ n
       place e =
           let parts : take (start + n) gs ≡ take start gs ++ take n (drop start gs) = take-add start n gs in
           let sum = size-append o g (take start gs) (take n (drop start gs)) in
-          ap (group_size R g) parts ∙ omega (arith, sum, front_none, size_before (drop start gs) n d small ascends s.from_there (rw there e))
+          ap (group_size R g) parts ∙ omega (arith, sum, size_in_front o g gs start s, size_before (drop start gs) n d small ascends s.from_there (rw there e))
 
-module _ {K G : Type 0} (cmp : K → K → Ordering) (R : G → G → Ordering) (group_of : K → G) (keeps : (x y : K) → is_gt (cmp x y) ≡ false → is_gt (R (group_of x) (group_of y)) ≡ false) (o : IsTotalOrder R) (g : G) (keys : List K) (ascending : IsStrictlySortedBy cmp keys) (start : ℕ) (s : IsStartOf R g (map group_of keys) start) (n : ℕ) where
+module _ {K G : Type 0} (cmp : K → K → Ordering) (R : G → G → Ordering) (group_of : K → G) (keeps : (x y : K) → is_gt (cmp x y) ≡ false → is_gt (R (group_of x) (group_of y)) ≡ false) (o : IsTotalOrder R) (g : G) (keys : List K) (ascending : IsStrictlySortedBy cmp keys) (start : ℕ) (s : IsBorderOf R g false (map group_of keys) start) (n : ℕ) where
   ascend : IsNonDescending R (map group_of keys)
   ascend = groups_ascend cmp R group_of keeps keys ascending
 

@@ -1,17 +1,22 @@
--- Where a group begins, and what a rank says of a key among the keys of its group.
-use Rattle.std.specs.Prelude.{◌≡◌, ℕ, List, map, take, drop, false, cond, Option, Some, None}
+-- Where a group begins and ends, and what a rank says of a key among the keys of its group.
+use Rattle.std.specs.Prelude.{◌≡◌, ℕ, List, map, take, drop, Bool, true, false, not, cond, Option, Some, None}
 use Rattle.std.specs.declared.cmp.Ordering.{Ordering}
-use Rattle.std.specs.declared.cmp.Ordering.TheVariants.{Less, Equal}
-use Rattle.std.specs.Ordering.{is_eq, is_lt}
+use Rattle.std.specs.declared.cmp.Ordering.TheVariants.{Equal}
+use Rattle.std.specs.Ordering.{is_eq, is_gt, is_lt}
 use Rattle.std.specs.List.{AllByRecursion}
 use Rattle.bptree_arguments.specs.CountLaws.{count_below}
 use Rattle.bptree_arguments.specs.Groups.{group, group_size}
 
+-- whether what compares so to a group is before the group's end, or else before its beginning
+abbrev pub is_before : Bool → Ordering → Bool
+is_before true r = not (is_gt r)
+is_before false r = is_lt r
+
 module _ {G : Type 0} (cmp : G → G → Ordering) (g : G) where
-  -- the groups before the place are below g, and those from it on are not
-  pub record IsStartOf (groups : List G) (n : ℕ) : Type 0 where
-    pub before : AllByRecursion (λ x. cmp x g ≡ Less) (take n groups)
-    pub from_there : AllByRecursion (λ x. is_lt (cmp x g) ≡ false) (drop n groups)
+  -- the groups up to the place are before the end of g, or else before its beginning, and those from it on are not
+  pub record IsBorderOf (end : Bool) (groups : List G) (n : ℕ) : Type 0 where
+    pub before : AllByRecursion (λ x. is_before end (cmp x g) ≡ true) (take n groups)
+    pub from_there : AllByRecursion (λ x. is_before end (cmp x g) ≡ false) (drop n groups)
 
   -- what a rank carries for g: its number where its group is equal to g, and else 0
   abbrev pub carried : Option (G × ℕ) → ℕ
