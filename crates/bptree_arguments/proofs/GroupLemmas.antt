@@ -259,9 +259,6 @@ module _ {G : Type 0} {R : G → G → Ordering} (o : IsTotalOrder R) where
     pub below : (R g1.0 l2.0 ≡ Equal → ⊥) → R g1.0 l2.0 ≡ Less
     below k = less_by (R g1.0 l2.0) (boundary xs ys l1 g1 l2 g2 d1 d2 a b h) k
 
-    both : (n m d : ℕ) → n ≡ l1.1 + group_size R l1.0 ys → m ≡ group_size R g2.0 xs + g2.1 → d ≡ different R (xs ++ ys) → AreExtremes R (xs ++ ys) (l1.0, n) (g2.0, m) d
-    both = merged xs ys l1 g1 l2 g2 d1 d2 a b h
-
     pub many_left : R l1.0 g1.0 ≡ Less → l1.1 ≡ l1.1 + group_size R l1.0 ys
     many_left e = omega (arith, least_apart xs ys l1 g1 l2 g2 d1 d2 a b h (less_le l1.0 g1.0 l2.0 e (boundary xs ys l1 g1 l2 g2 d1 d2 a b h)))
 

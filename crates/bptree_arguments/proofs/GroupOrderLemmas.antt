@@ -38,7 +38,7 @@ module _ {G : Type 0} {R : G → G → Ordering} (o : IsTotalOrder R) where
   before_below g false x y h e = ap is_lt (le_less o x y g h (less_from (R y g) e))
 
   -- an item of groups that do not descend, beside those up to it and those from it on
-  pub items_upto : (gs : List G) (m : ℕ) (d : G) → m < length gs → IsNonDescending R gs → AllByRecursion (λ x. is_gt (R x (get_or gs m d)) ≡ false) (take (suc m) gs)
+  items_upto : (gs : List G) (m : ℕ) (d : G) → m < length gs → IsNonDescending R gs → AllByRecursion (λ x. is_gt (R x (get_or gs m d)) ≡ false) (take (suc m) gs)
   items_upto [] m d l h = absurd (omega arith)
   items_upto (x ∷ xs) zero d l h = (ap is_gt (tied_itself o x), tt)
   items_upto (x ∷ xs) (suc m) d l h = let small : m < length xs = omega arith in (AllByRecursion-at (λ y. is_gt (R x y) ≡ false) xs m d small h.0, items_upto xs m d small h.1)

@@ -1,15 +1,15 @@
 -- Items of groups: where they stand in a leaf and below the children of a node.
-use Rattle.std.proofs.Common.{◌≡◌, ℕ, zero, suc, ◌+◌, ◌-◌, ◌<◌, ◌≤◌, List, [], ◌∷◌, ◌++◌, length, map, take, drop, get_or, Option, Some, None, Bool, true, false, cond, refl, sym, ap, ◌∙◌, arith, length-append, length-drop}
+use Rattle.std.proofs.Common.{◌≡◌, ℕ, zero, suc, ◌+◌, ◌-◌, ◌<◌, ◌≤◌, List, [], ◌∷◌, ◌++◌, length, map, take, drop, get_or, Option, Some, None, Bool, true, false, refl, sym, ap, ◌∙◌, arith, length-append, length-drop}
 use Rattle.std.specs.declared.cmp.Ordering.{Ordering}
 use Rattle.std.specs.declared.cmp.Ordering.TheVariants.{Less, Equal, Greater}
 use Rattle.std.specs.Ordering.{is_eq, is_gt, is_lt, ordering_reverse}
 use Rattle.std.specs.Cmp.{IsTotalOrder}
-use Rattle.std.specs.List.{AllByRecursion, AllZip, filter}
+use Rattle.std.specs.List.{AllByRecursion, AllZip}
 use Rattle.std.specs.List.Sorted.{IsStrictlySortedBy}
 use Rattle.std.proofs.Math.Seq.{take-add, take-append-add}
 use Rattle.std.proofs.lemmas.Bool.{true≢false}
 use Rattle.std.proofs.lemmas.Cmp.{upto}
-use Rattle.std.proofs.lemmas.List.{length-map, map-append, take-append-le, get_or_append_left, get_or-append-add, get_or-drop, get_or-map}
+use Rattle.std.proofs.lemmas.List.{length-map, length-take, take-append-drop, map-append, take-append-le, get_or_append_left, get_or-append-add, get_or-drop, get_or-map}
 use Rattle.bptree_arguments.specs.declared.group.GroupCount.{GroupCount}
 use Rattle.bptree_keys.specs.Pieces.{flatten, piece_at, start_of, ArePieces}
 use Rattle.bptree_arguments.specs.Selection.{moved_by, IsPlaceIn, LeadsTo}
@@ -17,7 +17,7 @@ use Rattle.bptree_arguments.specs.Groups.{group_size, IsGroupSummary, IsGreatest
 use Rattle.bptree_arguments.specs.GroupAnswers.{IsBorderOf}
 use Rattle.bptree_keys.proofs.PieceLemmas.{AllByRecursion-at, AllByRecursion-weaker, flatten-cut}
 use Rattle.bptree_arguments.proofs.GroupLemmas.{child_within, equal_from, less_le, summary_here, size-append, size-le, size_above, size_greatest_below, size_greatest_same, size_after_greatest, groups_ascend, piece_ascends, size_parts, size_more}
-use Rattle.bptree_arguments.proofs.GroupOrderLemmas.{between, nondescending_drop, size_from, size_in_front}
+use Rattle.bptree_arguments.proofs.GroupOrderLemmas.{between, items_from, nondescending_drop, size_from, size_in_front}
 
 -- an item of the middle part, as an item of the whole
 module _ {G : Type 0} {R : G → G → Ordering} (o : IsTotalOrder R) (g : G) (front here back : List G) (j n : ℕ) (l : j < length here) where
@@ -92,22 +92,17 @@ module _ {G : Type 0} {R : G → G → Ordering} (o : IsTotalOrder R) (g : G) wh
 
   -- and from one that is not equal on, none is
   size_to : (gs : List G) (n : ℕ) (d : G) → n < length gs → IsNonDescending R gs → AllByRecursion (λ x. is_lt (R x g) ≡ false) gs → is_eq (R (get_or gs n d) g) ≡ false → group_size R g gs ≤ n
-  size_to [] n d l h k e = absurd (omega arith)
-  size_to (x ∷ xs) zero d l h k e =
-      let above : R g x ≡ Less = o.antisymm g x ∙ turned (R x g) k.0 e in
-      rw e (omega (arith, size_above o g xs (AllByRecursion-weaker (λ y. is_gt (R x y) ≡ false) (λ y. R g y ≡ Less) (λ y f. less_le o g x y above f) xs h.0)))
+  size_to gs n d l h k e =
+      let x = get_or gs n d in
+      let above : R g x ≡ Less = o.antisymm g x ∙ turned (R x g) (AllByRecursion-at (λ y. is_lt (R y g) ≡ false) gs n d l k) e in
+      let none = size_above o g (drop n gs) (AllByRecursion-weaker (λ y. is_gt (R x y) ≡ false) (λ y. R g y ≡ Less) (λ y f. less_le o g x y above f) (drop n gs) (items_from o gs n d l h)) in
+      let sum = rw take-append-drop at (size-append o g (take n gs) (drop n gs)) in
+      omega (arith, sum, none, size-le o g (take n gs), length-take n gs)
     where
       turned : (r : Ordering) → is_lt r ≡ false → is_eq r ≡ false → ordering_reverse r ≡ Less
       turned Less a b = absurd (true≢false a)
       turned Equal a b = absurd (true≢false b)
       turned Greater a b = refl
-  size_to (x ∷ xs) (suc n) d l h k e =
-      let small : n < length xs = omega arith in
-      by (is_eq (R x g)) (size_to xs n d small h.1 k.1 e)
-    where
-      by : (b : Bool) → group_size R g xs ≤ n → length (cond b (x ∷ filter (λ y. is_eq (R y g)) xs) (filter (λ y. is_eq (R y g)) xs)) ≤ suc n
-      by true m = omega arith
-      by false m = omega arith
 
   module _ (gs : List G) (h : IsNonDescending R gs) (start : ℕ) (s : IsBorderOf R g false gs start) (n : ℕ) where
     ascends : IsNonDescending R (drop start gs)
