@@ -28,29 +28,29 @@ module _ {K G : Type 0} (cmp : K → K → Ordering) (R : G → G → Ordering) 
     count_none e = let none : group_size R g here ≡ 0 = ap (group_size R g) e in omega (arith, more 0 none, small)
 
     module _ (m : G) (n : ℕ) (greatest : IsGreatestGroup R here (Some (m, n))) where
-      pub count_below : R m g ≡ Less → count ≡ min (start + group_size R g (map group_of (flatten (take (i + 1) pieces)))) (2 ^ 64 - 1)
-      count_below e = omega (arith, more 0 (size_greatest_below o g m n here greatest.0 greatest.1 greatest.2 e), small)
+      pub count_below : Less ≡ R m g → count ≡ min (start + group_size R g (map group_of (flatten (take (i + 1) pieces)))) (2 ^ 64 - 1)
+      count_below e = omega (arith, more 0 (size_greatest_below o g m n here greatest.0 greatest.1 greatest.2 (sym e)), small)
 
-      pub count_same : R m g ≡ Equal → min (count + n) (2 ^ 64 - 1) ≡ min (start + group_size R g (map group_of (flatten (take (i + 1) pieces)))) (2 ^ 64 - 1)
-      count_same e = more n (size_greatest_same o g m n here greatest.0 greatest.1 greatest.2 e)
+      pub count_same : Equal ≡ R m g → min (count + n) (2 ^ 64 - 1) ≡ min (start + group_size R g (map group_of (flatten (take (i + 1) pieces)))) (2 ^ 64 - 1)
+      count_same e = more n (size_greatest_same o g m n here greatest.0 greatest.1 greatest.2 (sym e))
 
-      pub count_down : R m g ≡ Greater → min (count + group_size R g here) (2 ^ 64 - 1) ≡ min (start + group_size R g (map group_of (flatten pieces))) (2 ^ 64 - 1)
+      pub count_down : Greater ≡ R m g → min (count + group_size R g here) (2 ^ 64 - 1) ≡ min (start + group_size R g (map group_of (flatten pieces))) (2 ^ 64 - 1)
       count_down e =
           let parts = size_parts cmp R group_of keeps o g pieces i inside in
-          let back = size_after_greatest o g m n here greatest.0 greatest.1 greatest.2 (map group_of (flatten (drop (suc i) pieces))) (piece_ascends cmp R group_of keeps o pieces i inside are.ascending) (o.antisymm g m ∙ ap ordering_reverse e) in
+          let back = size_after_greatest o g m n here greatest.0 greatest.1 greatest.2 (map group_of (flatten (drop (suc i) pieces))) (piece_ascends cmp R group_of keeps o pieces i inside are.ascending) (o.antisymm g m ∙ ap ordering_reverse (sym e)) in
           omega (arith, parts, back, counted)
 
-    module _ (l1 g1 : G × ℕ) (d : ℕ) (ends : AreExtremes R here l1 g1 d) (above : R g1.0 g ≡ Greater) where
+    module _ (l1 g1 : G × ℕ) (d : ℕ) (ends : AreExtremes R here l1 g1 d) (above : Greater ≡ R g1.0 g) where
       -- the wanted group is the first of the piece
-      pub count_begun : R l1.0 g ≡ Equal → min (count + l1.1) (2 ^ 64 - 1) ≡ min (start + group_size R g (map group_of (flatten pieces))) (2 ^ 64 - 1)
+      pub count_begun : Equal ≡ R l1.0 g → min (count + l1.1) (2 ^ 64 - 1) ≡ min (start + group_size R g (map group_of (flatten pieces))) (2 ^ 64 - 1)
       count_begun e =
-          let size : group_size R g here ≡ l1.1 = sym (size_alike o l1.0 g e here) ∙ sym ends.least_size in
+          let size : group_size R g here ≡ l1.1 = sym (size_alike o l1.0 g (sym e) here) ∙ sym ends.least_size in
           rw size at (count_down g1.0 g1.1 (ends.greatest_bound, ends.greatest_size, ends.greatest_there) above)
 
       -- every group of the piece is above the wanted one
-      pub count_over : R l1.0 g ≡ Greater → count ≡ min (start + group_size R g (map group_of (flatten pieces))) (2 ^ 64 - 1)
+      pub count_over : Greater ≡ R l1.0 g → count ≡ min (start + group_size R g (map group_of (flatten pieces))) (2 ^ 64 - 1)
       count_over e =
-          let low : R g l1.0 ≡ Less = o.antisymm g l1.0 ∙ ap ordering_reverse e in
+          let low : R g l1.0 ≡ Less = o.antisymm g l1.0 ∙ ap ordering_reverse (sym e) in
           let none = size_above o g here (AllByRecursion-weaker (λ x. is_gt (R l1.0 x) ≡ false) (λ x. R g x ≡ Less) (λ x f. less_le o g l1.0 x low f) here ends.least_bound) in
           let whole = count_down g1.0 g1.1 (ends.greatest_bound, ends.greatest_size, ends.greatest_there) above in
           omega (arith, whole, none, small)

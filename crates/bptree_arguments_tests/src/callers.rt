@@ -2,6 +2,6 @@
 
 mod arguments;
 mod counts;
-mod groups;
 mod group_answers;
+mod groups;
 mod requests;

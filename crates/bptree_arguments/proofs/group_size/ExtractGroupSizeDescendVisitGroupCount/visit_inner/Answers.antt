@@ -1,4 +1,4 @@
-use Rattle.std.proofs.Common.{◌≡◌, Some, arith, sym, ap, ◌∙◌}
+use Rattle.std.proofs.Common.{◌≡◌, Some, arith, ap, ◌∙◌}
 use Rattle.std.specs.declared.cmp.Ordering.TheVariants.{Less, Equal, Greater}
 use Rattle.std.proofs.lemmas.List.{length-map, take_all}
 use Rattle.std.specs.Map.{keys_of}
@@ -23,7 +23,7 @@ returns-in-Less-cmp g c = record {
       let args = c.args.arguments.now in
       let i = c.loop-i.i in
       let parts = key_pieces pieces in
-      let above : compare c.in-Some.ends.greatest.now c.args.self.now.group ≡ Greater = rw c.loop-i.invariant.same at (sym c.in-Greater.ensures) in
+      let above : Greater ≡ compare c.in-Some.ends.greatest.now c.args.self.now.group = rw c.loop-i.invariant.same at c.in-Greater.ensures in
       let summary = summary_here g.G.Ord.cmp g.G.FromRef.group_of parts args summaries i c.loop-i-test.true c.index-arguments-i.result c.index-arguments-i.is in
       let ends = c.in-Some.ensures _ summary in
       let down = count_down g.K.Ord.cmp g.G.Ord.cmp g.G.FromRef.group_of g.met.G.FromRef.keeps_order g.met.G.Ord.total c.args.self.now.group parts are args summaries i c.loop-i-test.true c.args.self.now.counted c.loop-i.counted (c.loop-i.invariant.sum parts are summaries) c.in-Some.ends.greatest.now c.in-Some.ends.greatest_size (ends.greatest_bound, ends.greatest_size, ends.greatest_there) above in (
@@ -39,8 +39,8 @@ returns-in-Equal-cmp g c = record {
       let args = c.args.arguments.now in
       let i = c.loop-i.i in
       let parts = key_pieces pieces in
-      let above : compare c.in-Some.ends.greatest.now c.args.self.now.group ≡ Greater = rw c.loop-i.invariant.same at (sym c.in-Greater.ensures) in
-      let first : compare c.in-Some.ends.least.now c.args.self.now.group ≡ Equal = rw c.loop-i.invariant.same at (sym c.in-Equal-cmp.ensures) in
+      let above : Greater ≡ compare c.in-Some.ends.greatest.now c.args.self.now.group = rw c.loop-i.invariant.same at c.in-Greater.ensures in
+      let first : Equal ≡ compare c.in-Some.ends.least.now c.args.self.now.group = rw c.loop-i.invariant.same at c.in-Equal-cmp.ensures in
       let summary = summary_here g.G.Ord.cmp g.G.FromRef.group_of parts args summaries i c.loop-i-test.true c.index-arguments-i.result c.index-arguments-i.is in
       let whole = count_begun g.K.Ord.cmp g.G.Ord.cmp g.G.FromRef.group_of g.met.G.FromRef.keeps_order g.met.G.Ord.total c.args.self.now.group parts are args summaries i c.loop-i-test.true c.args.self.now.counted c.loop-i.counted (c.loop-i.invariant.sum parts are summaries) (c.in-Some.ends.least.now, c.in-Some.ends.least_size) (c.in-Some.ends.greatest.now, c.in-Some.ends.greatest_size) c.in-Some.ends.group_count (c.in-Some.ensures _ summary) above first in
       rw keys_of-flatten (ap (λ n. answered (Some n)) (c.saturating_add.ensures ∙ whole));
@@ -53,8 +53,8 @@ returns-in-Greater-cmp g c = record {
       let args = c.args.arguments.now in
       let i = c.loop-i.i in
       let parts = key_pieces pieces in
-      let above : compare c.in-Some.ends.greatest.now c.args.self.now.group ≡ Greater = rw c.loop-i.invariant.same at (sym c.in-Greater.ensures) in
-      let over : compare c.in-Some.ends.least.now c.args.self.now.group ≡ Greater = rw c.loop-i.invariant.same at (sym c.in-Greater-cmp.ensures) in
+      let above : Greater ≡ compare c.in-Some.ends.greatest.now c.args.self.now.group = rw c.loop-i.invariant.same at c.in-Greater.ensures in
+      let over : Greater ≡ compare c.in-Some.ends.least.now c.args.self.now.group = rw c.loop-i.invariant.same at c.in-Greater-cmp.ensures in
       let summary = summary_here g.G.Ord.cmp g.G.FromRef.group_of parts args summaries i c.loop-i-test.true c.index-arguments-i.result c.index-arguments-i.is in
       let whole = count_over g.K.Ord.cmp g.G.Ord.cmp g.G.FromRef.group_of g.met.G.FromRef.keeps_order g.met.G.Ord.total c.args.self.now.group parts are args summaries i c.loop-i-test.true c.args.self.now.counted c.loop-i.counted (c.loop-i.invariant.sum parts are summaries) (c.in-Some.ends.least.now, c.in-Some.ends.least_size) (c.in-Some.ends.greatest.now, c.in-Some.ends.greatest_size) c.in-Some.ends.group_count (c.in-Some.ensures _ summary) above over in
       rw keys_of-flatten (ap (λ n. answered (Some n)) whole);
@@ -75,11 +75,11 @@ loop-i-preserved g c = record {
         | in-None w ↦ rw w.counted-is (count_none g.K.Ord.cmp g.G.Ord.cmp g.G.FromRef.group_of g.met.G.FromRef.keeps_order g.met.G.Ord.total c.args.self.now.group pieces are args summaries i c.loop-i-test.true start c.loop-i.counted now (w.in-None.ensures _ summary))
         | in-Some+in-Less w ↦
             let ends = w.in-Some.ensures _ summary in
-            let low : compare w.in-Some.ends.greatest.now group ≡ Less = rw c.loop-i.invariant.same at (sym w.in-Less.ensures) in
+            let low : Less ≡ compare w.in-Some.ends.greatest.now group = rw c.loop-i.invariant.same at w.in-Less.ensures in
             rw w.counted-is (count_below g.K.Ord.cmp g.G.Ord.cmp g.G.FromRef.group_of g.met.G.FromRef.keeps_order g.met.G.Ord.total c.args.self.now.group pieces are args summaries i c.loop-i-test.true start c.loop-i.counted now w.in-Some.ends.greatest.now w.in-Some.ends.greatest_size (ends.greatest_bound, ends.greatest_size, ends.greatest_there) low)
         | in-Some+in-Equal w ↦
             let ends = w.in-Some.ensures _ summary in
-            let same : compare w.in-Some.ends.greatest.now group ≡ Equal = rw c.loop-i.invariant.same at (sym w.in-Equal.ensures) in
+            let same : Equal ≡ compare w.in-Some.ends.greatest.now group = rw c.loop-i.invariant.same at w.in-Equal.ensures in
             rw (w.counted-is, w.saturating_add-counted.ensures) (count_same g.K.Ord.cmp g.G.Ord.cmp g.G.FromRef.group_of g.met.G.FromRef.keeps_order g.met.G.Ord.total c.args.self.now.group pieces are args summaries i c.loop-i-test.true start c.loop-i.counted now w.in-Some.ends.greatest.now w.in-Some.ends.greatest_size (ends.greatest_bound, ends.greatest_size, ends.greatest_there) same)
       ];
 }
