@@ -14,8 +14,8 @@ use Rattle.bptree_arguments.specs.declared.group.GroupCount.{GroupCount}
 use Rattle.bptree_arguments.specs.declared.group.Ends.{Ends}
 use Rattle.bptree_arguments.specs.Groups.{group_size, different, IsNonDescending, AreExtremes, AreEnds, IsGroupSummary}
 use Rattle.bptree_keys.specs.Pieces.{flatten, piece_at, ArePieces}
-use Rattle.bptree_keys.proofs.PieceLemmas.{AllByRecursion-append, AllByRecursion-weaker, AllZip-at, AllZip-length}
-use Rattle.bptree_arguments.proofs.GroupLemmas.{less_by, less_le, witness, crossing, size_alike, least_alike, greatest_alike, sizes_fit, capped, merged, least_shared, greatest_shared, below, many_left, many_right, shared_count, apart_count, least_apart, greatest_apart, le_less, single, one_one_shared, one_one_apart, many_one_shared, many_one_apart, groups_ascend, piece_whole, piece_order, piece_fits}
+use Rattle.bptree_keys.proofs.PieceLemmas.{AllByRecursion-append, AllByRecursion-weaker}
+use Rattle.bptree_arguments.proofs.GroupLemmas.{less_by, ends_ordered, less_le, witness, crossing, size_alike, least_alike, greatest_alike, sizes_fit, capped, merged, least_shared, greatest_shared, below, many_left, many_right, shared_count, apart_count, least_apart, greatest_apart, le_less, single, one_one_shared, one_one_apart, many_one_shared, many_one_apart, groups_ascend, piece_whole, piece_order, piece_fits}
 
 module _ {G : Type 0} {R : G → G → Ordering} (o : IsTotalOrder R) where
   any_of_alike : (x y : G) (zs : List G) → AllByRecursion (λ z. R y z ≡ Equal) zs → list_any (λ z. is_eq (R x z)) zs ≡ true → R x y ≡ Equal
@@ -56,17 +56,12 @@ module _ {G : Type 0} {R : G → G → Ordering} (o : IsTotalOrder R) where
     by Greater f t = absurd (true≢false t)
 
   module _ (xs : List G) (l g : G × ℕ) (d : ℕ) (a : AreExtremes R xs l g d) where
-    ends_ordered : is_gt (R l.0 g.0) ≡ false
-    ends_ordered =
-        let w = witness o (λ x. is_gt (R l.0 x) ≡ false) g.0 xs (omega (arith, a.greatest_there, a.greatest_size)) a.least_bound in
-        upto o l.0 w.0 g.0 w.1 (ap is_gt w.2)
-
     nonempty : (ys : List G) → 0 < group_size R l.0 ys → 0 < length ys
     nonempty [] h = absurd (omega arith)
     nonempty (y ∷ ys) h = omega arith
 
     pub several_groups : d ≢ 1 → R l.0 g.0 ≡ Less
-    several_groups k = less_by o (R l.0 g.0) ends_ordered (λ e. k (a.count_is ∙ one_different l.0 xs (nonempty xs (omega (arith, a.least_there, a.least_size))) (between l.0 g.0 e xs a.least_bound a.greatest_bound)))
+    several_groups k = less_by (R l.0 g.0) (ends_ordered o xs l g d a) (λ e. k (a.count_is ∙ one_different l.0 xs (nonempty xs (omega (arith, a.least_there, a.least_size))) (between l.0 g.0 e xs a.least_bound a.greatest_bound)))
 
   pub one_group : (xs : List G) (l g : G × ℕ) → AreExtremes R xs l g 1 → R l.0 g.0 ≡ Equal
   one_group [] l g a = absurd (omega (arith, a.greatest_there, a.greatest_size))
@@ -132,8 +127,8 @@ module _ {G : Type 0} {R : G → G → Ordering} (o : IsTotalOrder R) where
     pub joined_apart : (R g1.0 l2.0 ≡ Equal → ⊥) → AreExtremes R (xs ++ ys) l1 g2 (min (d1 + d2) (2 ^ 64 - 1))
     joined_apart k =
         let low : R g1.0 l2.0 ≡ Less = below o xs ys l1 g1 l2 g2 d1 d2 a b h fits k in
-        let left = least_apart o xs ys l1 g1 l2 g2 d1 d2 a b h (le_less o l1.0 g1.0 l2.0 (ends_ordered xs l1 g1 d1 a) low) in
-        let right = greatest_apart o xs ys l1 g1 l2 g2 d1 d2 a b h (less_le o g1.0 l2.0 g2.0 low (ends_ordered ys l2 g2 d2 b)) in
+        let left = least_apart o xs ys l1 g1 l2 g2 d1 d2 a b h (le_less o l1.0 g1.0 l2.0 (ends_ordered o xs l1 g1 d1 a) low) in
+        let right = greatest_apart o xs ys l1 g1 l2 g2 d1 d2 a b h (less_le o g1.0 l2.0 g2.0 low (ends_ordered o ys l2 g2 d2 b)) in
         merged o xs ys l1 g1 l2 g2 d1 d2 a b h l1.1 g2.1 _ (omega (arith, left)) (omega (arith, right)) (apart_count o xs ys l1 g1 l2 g2 d1 d2 a b h fits low)
 
 -- one group after others
@@ -178,12 +173,6 @@ module _ {K G : Type 0} (cmp : K → K → Ordering) (R : G → G → Ordering) 
   ends_more ends next joined f a b = subst (λ t. AreEnds R t joined) (sym after_is) (f before here a b (piece_order cmp R group_of keeps o pieces i l are) (piece_fits cmp R group_of keeps o pieces i l are))
 
 module _ {K G : Type 0} (cmp : K → K → Ordering) (R : G → G → Ordering) (group_of : K → G) where
-  pub summary_at : (pieces : List (List K)) (arguments : List (GroupCount G)) (summaries : AllZip (λ a keys. IsGroupSummary R a (map group_of keys)) arguments pieces) (i : ℕ) → i < length arguments → (argument : GroupCount G) → argument ≡ get_or arguments i argument → (i < length pieces) × IsGroupSummary R argument (map group_of (piece_at pieces i))
-  summary_at pieces arguments summaries i l argument read = (
-    omega (arith, l, AllZip-length (λ a keys. IsGroupSummary R a (map group_of keys)) arguments pieces summaries),
-    subst (λ a. IsGroupSummary R a (map group_of (piece_at pieces i))) (sym read) (AllZip-at (λ a keys. IsGroupSummary R a (map group_of keys)) arguments pieces i argument [] summaries l),
-  )
-
   -- the ends of all pieces are kept
   pub ends_kept : {E : Type 0} (r : Result (GroupCount G) E) (arguments : List (GroupCount G)) (ends : Ends G) → IfOk r (λ summary. (groups : List G) → AreEnds R groups ends → IsGroupSummary R summary groups) → ((pieces : List (List K)) → ArePieces cmp pieces → AllZip (λ a keys. IsGroupSummary R a (map group_of keys)) arguments pieces → AreEnds R (map group_of (flatten pieces)) ends) → IfOk r (λ summary. (pieces : List (List K)) → ArePieces cmp pieces → AllZip (λ a keys. IsGroupSummary R a (map group_of keys)) arguments pieces → IsGroupSummary R summary (map group_of (flatten pieces)))
   ends_kept (Ok summary) arguments ends f known = λ pieces are summaries. f _ (known pieces are summaries)

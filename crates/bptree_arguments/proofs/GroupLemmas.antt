@@ -3,7 +3,7 @@ use Rattle.std.specs.declared.cmp.Ordering.{Ordering}
 use Rattle.std.specs.declared.cmp.Ordering.TheVariants.{Less, Equal, Greater}
 use Rattle.std.specs.Ordering.{is_eq, is_gt, ordering_reverse}
 use Rattle.std.specs.Cmp.{IsTotalOrder}
-use Rattle.std.specs.List.{AllByRecursion, filter, list_any}
+use Rattle.std.specs.List.{AllByRecursion, AllZip, filter, list_any}
 use Rattle.std.specs.List.Sorted.{IsStrictlySortedBy}
 use Rattle.std.proofs.lemmas.List.{append_assoc, map-append, length-map, length-take, take_more, take-append-drop}
 use Rattle.std.proofs.lemmas.Cmp.{upto, tied_itself, tied_back, alike_right}
@@ -14,20 +14,25 @@ use Rattle.bptree_arguments.specs.declared.group.GroupCount.{GroupCount}
 use Rattle.bptree_arguments.specs.declared.group.GroupCount.TheVariants.{Zero, One, Multiple}
 use Rattle.bptree_arguments.specs.Groups.{group, group_size, different, IsNonDescending, AreExtremes, IsGroupSummary, AreAlike}
 use Rattle.bptree_keys.specs.Pieces.{flatten, piece_at, ArePieces}
-use Rattle.bptree_keys.proofs.PieceLemmas.{AllByRecursion-append, AllByRecursion-right, AllByRecursion-weaker, flatten-cut, sorted_left, sorted_right, flatten-take_more}
+use Rattle.bptree_keys.proofs.PieceLemmas.{AllByRecursion-append, AllByRecursion-right, AllByRecursion-weaker, AllZip-at, AllZip-length, flatten-cut, sorted_left, sorted_right, flatten-take_more}
 use Rattle.bptree_arguments.proofs.RankLemmas.{filter_none}
 
 list_any_none : {X : Type 0} (p : X → Bool) (xs : List X) → AllByRecursion (λ x. p x ≡ false) xs → list_any p xs ≡ false
 list_any_none p [] h = refl
 list_any_none p (x ∷ xs) h = rw h.0 (list_any_none p xs h.1)
 
-module _ {G : Type 0} {R : G → G → Ordering} (o : IsTotalOrder R) where
-  -- an order that is not above is below where it is not equal
-  pub less_by : (r : Ordering) → is_gt r ≡ false → (r ≡ Equal → ⊥) → r ≡ Less
-  less_by Less h k = refl
-  less_by Equal h k = absurd (k refl)
-  less_by Greater h k = absurd (true≢false h)
+-- an order that is not above is below where it is not equal
+pub less_by : (r : Ordering) → is_gt r ≡ false → (r ≡ Equal → ⊥) → r ≡ Less
+less_by Less h k = refl
+less_by Equal h k = absurd (k refl)
+less_by Greater h k = absurd (true≢false h)
 
+pub equal_from : (r : Ordering) → is_eq r ≡ true → r ≡ Equal
+equal_from Less e = absurd (true≢false (sym e))
+equal_from Equal e = refl
+equal_from Greater e = absurd (true≢false (sym e))
+
+module _ {G : Type 0} {R : G → G → Ordering} (o : IsTotalOrder R) where
   pub less_le : (x y z : G) → R x y ≡ Less → is_gt (R y z) ≡ false → R x z ≡ Less
   less_le x y z p q = by (R y z) refl q where
     by : (r : Ordering) → R y z ≡ r → is_gt r ≡ false → R x z ≡ Less
@@ -104,11 +109,6 @@ module _ {G : Type 0} {R : G → G → Ordering} (o : IsTotalOrder R) where
   joined_step false false true d p q h k = omega arith
   joined_step false false false d p q h k = omega arith
 
-  equal_from : (r : Ordering) → is_eq r ≡ true → r ≡ Equal
-  equal_from Less e = absurd (true≢false (sym e))
-  equal_from Equal e = refl
-  equal_from Greater e = absurd (true≢false (sym e))
-
   turned : (x m : G) → is_eq (R m x) ≡ is_eq (R x m)
   turned x m = ap is_eq (o.antisymm m x) ∙ same (R x m) where
     same : (r : Ordering) → is_eq (ordering_reverse r) ≡ is_eq r
@@ -140,6 +140,12 @@ module _ {G : Type 0} {R : G → G → Ordering} (o : IsTotalOrder R) where
     by Equal f k = rw (alike_right o y g x f, e) refl
     by Greater f k = none (ap is_eq f) k
 
+  -- the least is not above the greatest
+  pub ends_ordered : (xs : List G) (l g : G × ℕ) (d : ℕ) → AreExtremes R xs l g d → is_gt (R l.0 g.0) ≡ false
+  ends_ordered xs l g d a =
+      let w = witness (λ x. is_gt (R l.0 x) ≡ false) g.0 xs (omega (arith, a.greatest_there, a.greatest_size)) a.least_bound in
+      upto o l.0 w.0 g.0 w.1 (ap is_gt w.2)
+
   -- two lists, one after the other, each with its extremes
   module _ (xs ys : List G) (l1 g1 l2 g2 : G × ℕ) (d1 d2 : ℕ) (a : AreExtremes R xs l1 g1 d1) (b : AreExtremes R ys l2 g2 d2) (h : IsNonDescending R (xs ++ ys)) where
     pub boundary : is_gt (R g1.0 l2.0) ≡ false
@@ -149,21 +155,11 @@ module _ {G : Type 0} {R : G → G → Ordering} (o : IsTotalOrder R) where
         upto o g1.0 w.0 l2.0 (ap is_gt (tied_back o w.0 g1.0 w.2)) (upto o w.0 v.0 l2.0 v.1 (ap is_gt v.2))
 
     -- the least of the first part is not above any of either
-    least_le_greatest : is_gt (R l1.0 g1.0) ≡ false
-    least_le_greatest =
-        let w = witness (λ x. is_gt (R l1.0 x) ≡ false) g1.0 xs (omega (arith, a.greatest_there, a.greatest_size)) a.least_bound in
-        upto o l1.0 w.0 g1.0 w.1 (ap is_gt w.2)
-
-    least_le_greatest' : is_gt (R l2.0 g2.0) ≡ false
-    least_le_greatest' =
-        let w = witness (λ x. is_gt (R l2.0 x) ≡ false) g2.0 ys (omega (arith, b.greatest_there, b.greatest_size)) b.least_bound in
-        upto o l2.0 w.0 g2.0 w.1 (ap is_gt w.2)
-
     least_all : AllByRecursion (λ x. is_gt (R l1.0 x) ≡ false) (xs ++ ys)
-    least_all = AllByRecursion-append (λ x. is_gt (R l1.0 x) ≡ false) xs ys a.least_bound (AllByRecursion-weaker (λ y. is_gt (R l2.0 y) ≡ false) (λ y. is_gt (R l1.0 y) ≡ false) (λ y e. upto o l1.0 l2.0 y (upto o l1.0 g1.0 l2.0 least_le_greatest boundary) e) ys b.least_bound)
+    least_all = AllByRecursion-append (λ x. is_gt (R l1.0 x) ≡ false) xs ys a.least_bound (AllByRecursion-weaker (λ y. is_gt (R l2.0 y) ≡ false) (λ y. is_gt (R l1.0 y) ≡ false) (λ y e. upto o l1.0 l2.0 y (upto o l1.0 g1.0 l2.0 (ends_ordered xs l1 g1 d1 a) boundary) e) ys b.least_bound)
 
     greatest_all : AllByRecursion (λ x. is_gt (R x g2.0) ≡ false) (xs ++ ys)
-    greatest_all = AllByRecursion-append (λ x. is_gt (R x g2.0) ≡ false) xs ys (AllByRecursion-weaker (λ x. is_gt (R x g1.0) ≡ false) (λ x. is_gt (R x g2.0) ≡ false) (λ x e. upto o x g1.0 g2.0 e (upto o g1.0 l2.0 g2.0 boundary least_le_greatest')) xs a.greatest_bound) b.greatest_bound
+    greatest_all = AllByRecursion-append (λ x. is_gt (R x g2.0) ≡ false) xs ys (AllByRecursion-weaker (λ x. is_gt (R x g1.0) ≡ false) (λ x. is_gt (R x g2.0) ≡ false) (λ x e. upto o x g1.0 g2.0 e (upto o g1.0 l2.0 g2.0 boundary (ends_ordered ys l2 g2 d2 b))) xs a.greatest_bound) b.greatest_bound
 
     -- how many keys of the other part are in the least or the greatest group
     pub least_shared : R l1.0 l2.0 ≡ Equal → group_size R l1.0 ys ≡ l2.1
@@ -262,9 +258,6 @@ module _ {G : Type 0} {R : G → G → Ordering} (o : IsTotalOrder R) where
   module _ (xs ys : List G) (l1 g1 l2 g2 : G × ℕ) (d1 d2 : ℕ) (a : AreExtremes R xs l1 g1 d1) (b : AreExtremes R ys l2 g2 d2) (h : IsNonDescending R (xs ++ ys)) (fits : length (xs ++ ys) < 2 ^ 64) where
     pub below : (R g1.0 l2.0 ≡ Equal → ⊥) → R g1.0 l2.0 ≡ Less
     below k = less_by (R g1.0 l2.0) (boundary xs ys l1 g1 l2 g2 d1 d2 a b h) k
-
-    both : (n m d : ℕ) → n ≡ l1.1 + group_size R l1.0 ys → m ≡ group_size R g2.0 xs + g2.1 → d ≡ different R (xs ++ ys) → AreExtremes R (xs ++ ys) (l1.0, n) (g2.0, m) d
-    both = merged xs ys l1 g1 l2 g2 d1 d2 a b h
 
     pub many_left : R l1.0 g1.0 ≡ Less → l1.1 ≡ l1.1 + group_size R l1.0 ys
     many_left e = omega (arith, least_apart xs ys l1 g1 l2 g2 d1 d2 a b h (less_le l1.0 g1.0 l2.0 e (boundary xs ys l1 g1 l2 g2 d1 d2 a b h)))
@@ -420,3 +413,11 @@ size_of_keys R group_of g (k ∷ ks) = by (is_eq (R (group_of k) g)) (size_of_ke
   by : (b : Bool) → group_size R g (map group_of ks) ≡ length (group R group_of g ks) → length (cond b (group_of k ∷ filter (λ x. is_eq (R x g)) (map group_of ks)) (filter (λ x. is_eq (R x g)) (map group_of ks))) ≡ length (cond b (k ∷ filter (λ x. is_eq (R (group_of x) g)) ks) (filter (λ x. is_eq (R (group_of x) g)) ks))
   by true e = ap suc e
   by false e = e
+
+-- a child's summary is of the keys below it
+module _ {K G : Type 0} (R : G → G → Ordering) (group_of : K → G) (pieces : List (List K)) (arguments : List (GroupCount G)) (summaries : AllZip (λ a keys. IsGroupSummary R a (map group_of keys)) arguments pieces) (i : ℕ) (l : i < length arguments) where
+  pub child_within : i < length pieces
+  child_within = omega (arith, l, AllZip-length (λ a keys. IsGroupSummary R a (map group_of keys)) arguments pieces summaries)
+
+  pub summary_here : (argument : GroupCount G) → argument ≡ get_or arguments i argument → IsGroupSummary R argument (map group_of (piece_at pieces i))
+  summary_here argument read = subst (λ a. IsGroupSummary R a (map group_of (piece_at pieces i))) (sym read) (AllZip-at (λ a keys. IsGroupSummary R a (map group_of keys)) arguments pieces i argument [] summaries l)

@@ -1,22 +1,29 @@
--- Groups that do not descend, and where one of them begins.
-use Rattle.std.proofs.Common.{◌≡◌, ℕ, zero, suc, ◌+◌, ◌<◌, List, [], ◌∷◌, length, map, take, drop, get_or, false, refl, sym, ap, ◌∙◌, arith, add-one}
+-- Groups that do not descend, and where one of them begins and ends.
+use Rattle.std.proofs.Common.{◌≡◌, ℕ, zero, suc, ◌+◌, ◌<◌, ◌≤◌, List, [], ◌∷◌, length, map, take, drop, get_or, Bool, true, false, not, refl, sym, ap, ◌∙◌, arith, add-one}
 use Rattle.std.specs.declared.cmp.Ordering.{Ordering}
 use Rattle.std.specs.declared.cmp.Ordering.TheVariants.{Less, Equal, Greater}
-use Rattle.std.specs.Ordering.{is_gt, is_lt, ordering_reverse}
+use Rattle.std.specs.Ordering.{is_eq, is_gt, is_lt}
 use Rattle.std.specs.Cmp.{IsTotalOrder}
 use Rattle.std.specs.List.{AllByRecursion}
 use Rattle.std.specs.List.Sorted.{IsStrictlySortedBy}
-use Rattle.std.proofs.lemmas.List.{length-map, get_or-map}
-use Rattle.std.proofs.lemmas.Bool.{true≢false}
+use Rattle.std.proofs.lemmas.List.{length-map, get_or-map, drop-map, take-append-drop}
+use Rattle.std.proofs.lemmas.Bool.{true≢false, not-true, not-false, not_from_false, false_from_ne_true}
 use Rattle.std.proofs.lemmas.Cmp.{upto, tied_itself}
-use Rattle.bptree_arguments.specs.Groups.{IsNonDescending}
-use Rattle.bptree_keys.proofs.PieceLemmas.{AllByRecursion-at, AllByRecursion-weaker}
-use Rattle.bptree_arguments.proofs.GroupLemmas.{le_less, groups_ascend}
+use Rattle.bptree_arguments.specs.Groups.{group_size, IsNonDescending}
+use Rattle.bptree_arguments.specs.GroupAnswers.{IsBorderOf, is_before}
+use Rattle.bptree_keys.proofs.PieceLemmas.{AllByRecursion-at, AllByRecursion-weaker, sorted_right}
+use Rattle.bptree_arguments.proofs.GroupLemmas.{le_less, size-append, size_below, groups_ascend}
+use Rattle.bptree_arguments.proofs.RankLemmas.{filter_none}
 
-not_less : (r : Ordering) → (r ≡ Less → ⊥) → is_lt r ≡ false
-not_less Less h = absurd (h refl)
-not_less Equal h = refl
-not_less Greater h = refl
+pub less_from : (r : Ordering) → is_lt r ≡ true → r ≡ Less
+less_from Less e = refl
+less_from Equal e = absurd (true≢false (sym e))
+less_from Greater e = absurd (true≢false (sym e))
+
+other_above : (r : Ordering) → is_gt r ≡ true → is_eq r ≡ false
+other_above Less e = refl
+other_above Equal e = absurd (true≢false (sym e))
+other_above Greater e = refl
 
 -- which is neither below nor above is equal
 pub between : (r : Ordering) → is_lt r ≡ false → is_gt r ≡ false → r ≡ Equal
@@ -25,23 +32,13 @@ between Equal h k = refl
 between Greater h k = absurd (true≢false k)
 
 module _ {G : Type 0} {R : G → G → Ordering} (o : IsTotalOrder R) where
-  -- which is not below another is one that the other is not above, and the other way round
-  pub not_above : (x y : G) → is_lt (R x y) ≡ false → is_gt (R y x) ≡ false
-  not_above x y h = ap is_gt (o.antisymm y x) ∙ by (R x y) h where
-    by : (r : Ordering) → is_lt r ≡ false → is_gt (ordering_reverse r) ≡ false
-    by Less e = e
-    by Equal e = refl
-    by Greater e = refl
-
-  pub not_below : (x y : G) → is_gt (R y x) ≡ false → is_lt (R x y) ≡ false
-  not_below x y h = ap is_lt (o.antisymm x y) ∙ by (R y x) h where
-    by : (r : Ordering) → is_gt r ≡ false → is_lt (ordering_reverse r) ≡ false
-    by Less e = refl
-    by Equal e = refl
-    by Greater e = e
+  -- what is not above another is before the border where that one is
+  before_below : (g : G) (end : Bool) (x y : G) → is_gt (R x y) ≡ false → is_before end (R y g) ≡ true → is_before end (R x g) ≡ true
+  before_below g true x y h e = not_from_false (is_gt (R x g)) (upto o x y g h (not-true (is_gt (R y g)) e))
+  before_below g false x y h e = ap is_lt (le_less o x y g h (less_from (R y g) e))
 
   -- an item of groups that do not descend, beside those up to it and those from it on
-  pub items_upto : (gs : List G) (m : ℕ) (d : G) → m < length gs → IsNonDescending R gs → AllByRecursion (λ x. is_gt (R x (get_or gs m d)) ≡ false) (take (suc m) gs)
+  items_upto : (gs : List G) (m : ℕ) (d : G) → m < length gs → IsNonDescending R gs → AllByRecursion (λ x. is_gt (R x (get_or gs m d)) ≡ false) (take (suc m) gs)
   items_upto [] m d l h = absurd (omega arith)
   items_upto (x ∷ xs) zero d l h = (ap is_gt (tied_itself o x), tt)
   items_upto (x ∷ xs) (suc m) d l h = let small : m < length xs = omega arith in (AllByRecursion-at (λ y. is_gt (R x y) ≡ false) xs m d small h.0, items_upto xs m d small h.1)
@@ -56,27 +53,48 @@ module _ {G : Type 0} {R : G → G → Ordering} (o : IsTotalOrder R) where
   nondescending_drop [] (suc n) h = h
   nondescending_drop (x ∷ xs) (suc n) h = nondescending_drop xs n h.1
 
-  module _ (g : G) (gs : List G) (h : IsNonDescending R gs) (m : ℕ) (d : G) (l : m < length gs) where
-    -- where an item is below g, so are those up to it, and where it is not, neither are those from it on
-    pub all_below : R (get_or gs m d) g ≡ Less → AllByRecursion (λ x. R x g ≡ Less) (take (m + 1) gs)
-    all_below e = rw add-one (AllByRecursion-weaker (λ x. is_gt (R x (get_or gs m d)) ≡ false) (λ x. R x g ≡ Less) (λ x f. le_less o x (get_or gs m d) g f e) (take (suc m) gs) (items_upto gs m d l h))
+  module _ (g : G) (end : Bool) (gs : List G) (h : IsNonDescending R gs) (m : ℕ) (d : G) (l : m < length gs) where
+    -- where an item is before the border, so are those up to it, and where it is not, neither are those from it on
+    all_before : is_before end (R (get_or gs m d) g) ≡ true → AllByRecursion (λ x. is_before end (R x g) ≡ true) (take (m + 1) gs)
+    all_before e = rw add-one (AllByRecursion-weaker (λ x. is_gt (R x (get_or gs m d)) ≡ false) (λ x. is_before end (R x g) ≡ true) (λ x f. before_below g end x (get_or gs m d) f e) (take (suc m) gs) (items_upto gs m d l h))
 
-    pub none_below : is_lt (R (get_or gs m d) g) ≡ false → AllByRecursion (λ x. is_lt (R x g) ≡ false) (drop m gs)
-    none_below e = AllByRecursion-weaker (λ x. is_gt (R (get_or gs m d) x) ≡ false) (λ x. is_lt (R x g) ≡ false) (λ x f. not_below x g (upto o g (get_or gs m d) x (not_above (get_or gs m d) g e) f)) (drop m gs) (items_from gs m d l h)
+    none_before : is_before end (R (get_or gs m d) g) ≡ false → AllByRecursion (λ x. is_before end (R x g) ≡ false) (drop m gs)
+    none_before e = AllByRecursion-weaker (λ x. is_gt (R (get_or gs m d) x) ≡ false) (λ x. is_before end (R x g) ≡ false) (λ x f. false_from_ne_true (is_before end (R x g)) (λ t. true≢false (sym (before_below g end (get_or gs m d) x f t) ∙ e))) (drop m gs) (items_from gs m d l h)
 
-module _ {K G : Type 0} (cmp : K → K → Ordering) (R : G → G → Ordering) (group_of : K → G) (keeps : (x y : K) → is_gt (cmp x y) ≡ false → is_gt (R (group_of x) (group_of y)) ≡ false) (o : IsTotalOrder R) (g : G) (keys : List K) (ascending : IsStrictlySortedBy cmp keys) (m : ℕ) (k : K) (l : m < length keys) (read : k ≡ get_or keys m k) (v : G) (made : R v (group_of k) ≡ Equal) where
-  here : get_or (map group_of keys) m v ≡ group_of k
-  here = get_or-map group_of keys m k v l ∙ ap group_of (sym read)
+  module _ (g : G) where
+    -- none of the groups before the beginning of g is equal to it
+    pub size_in_front : (gs : List G) (n : ℕ) → IsBorderOf R g false gs n → group_size R g (take n gs) ≡ 0
+    size_in_front gs n s = size_below o g (take n gs) (AllByRecursion-weaker (λ x. is_lt (R x g) ≡ true) (λ x. R x g ≡ Less) (λ x. less_from (R x g)) (take n gs) s.before)
 
-  inside : m < length (map group_of keys)
-  inside = omega (arith, l, length-map keys group_of)
+    pub size_from : (gs : List G) (n : ℕ) → IsBorderOf R g false gs n → group_size R g gs ≡ group_size R g (drop n gs)
+    size_from gs n s = let sum = rw take-append-drop at (size-append o g (take n gs) (drop n gs)) in omega (arith, sum, size_in_front gs n s)
 
-  answer : R (get_or (map group_of keys) m v) g ≡ R v g
-  answer = rw here (sym (o.congr v (group_of k) g made))
+    -- where none is below g, those up to the end of g are equal to it
+    size_upto : (gs : List G) (n : ℕ) → n ≤ length gs → AllByRecursion (λ x. is_lt (R x g) ≡ false) gs → AllByRecursion (λ x. not (is_gt (R x g)) ≡ true) (take n gs) → AllByRecursion (λ x. not (is_gt (R x g)) ≡ false) (drop n gs) → group_size R g gs ≡ n
+    size_upto [] n l low up past = omega (arith, l)
+    size_upto (x ∷ xs) zero l low up past = ap length (filter_none (λ y. is_eq (R y g)) (x ∷ xs) (AllByRecursion-weaker (λ y. not (is_gt (R y g)) ≡ false) (λ y. is_eq (R y g) ≡ false) (λ y e. other_above (R y g) (not-false (is_gt (R y g)) e)) (x ∷ xs) past))
+    size_upto (x ∷ xs) (suc n) l low up past = let small : n ≤ length xs = omega arith in rw (between (R x g) low.0 (not-true (is_gt (R x g)) up.0)) (ap suc (size_upto xs n small low.1 up.1 past))
 
-  -- the same of ascending keys, by the group that was made of one
-  pub keys_below : Less ≡ R v g → AllByRecursion (λ x. R x g ≡ Less) (take (m + 1) (map group_of keys))
-  keys_below e = all_below o g (map group_of keys) (groups_ascend cmp R group_of keeps keys ascending) m v inside (answer ∙ sym e)
+module _ {K G : Type 0} (cmp : K → K → Ordering) (R : G → G → Ordering) (group_of : K → G) (o : IsTotalOrder R) (g : G) (keys : List K) (ascending : IsStrictlySortedBy cmp keys) where
+  -- from its beginning to its end, a group has its size
+  pub size_between : (start n : ℕ) (rest : List K) → rest ≡ drop start keys → IsBorderOf R g false (map group_of keys) start → n ≤ length rest → (IsStrictlySortedBy cmp rest → IsBorderOf R g true (map group_of rest) n) → n ≡ group_size R g (map group_of keys)
+  size_between start n rest is begins within ends =
+      let border = ends (rw is (sorted_right cmp (take start keys) (drop start keys) (rw take-append-drop ascending))) in
+      let same : drop start (map group_of keys) ≡ map group_of rest = drop-map group_of start keys ∙ ap (map group_of) (sym is) in
+      sym (size_from o g (map group_of keys) start begins ∙ (ap (group_size R g) same ∙ size_upto o g (map group_of rest) n (omega (arith, within, length-map rest group_of)) (rw same at begins.from_there) border.before border.from_there))
 
-  pub keys_not_below : (r : Ordering) → r ≡ R v g → (r ≡ Less → ⊥) → AllByRecursion (λ x. is_lt (R x g) ≡ false) (drop m (map group_of keys))
-  keys_not_below r f e = none_below o g (map group_of keys) (groups_ascend cmp R group_of keeps keys ascending) m v inside (ap is_lt (answer ∙ sym f) ∙ not_less r e)
+  module _ (keeps : (x y : K) → is_gt (cmp x y) ≡ false → is_gt (R (group_of x) (group_of y)) ≡ false) (end : Bool) (m : ℕ) (k : K) (l : m < length keys) (read : k ≡ get_or keys m k) (v : G) (made : R v (group_of k) ≡ Equal) (r : Ordering) (compared : r ≡ R v g) where
+    inside : m < length (map group_of keys)
+    inside = omega (arith, l, length-map keys group_of)
+
+    answer : is_before end (R (get_or (map group_of keys) m v) g) ≡ is_before end r
+    answer =
+        let here : get_or (map group_of keys) m v ≡ group_of k = get_or-map group_of keys m k v l ∙ ap group_of (sym read) in
+        ap (is_before end) (rw here (sym (compared ∙ o.congr v (group_of k) g made)))
+
+    -- the same of ascending keys, by the group that was made of one
+    pub up_to_key : true ≡ is_before end r → AllByRecursion (λ x. is_before end (R x g) ≡ true) (take (m + 1) (map group_of keys))
+    up_to_key e = all_before o g end (map group_of keys) (groups_ascend cmp R group_of keeps keys ascending) m v inside (answer ∙ sym e)
+
+    pub from_key : false ≡ is_before end r → AllByRecursion (λ x. is_before end (R x g) ≡ false) (drop m (map group_of keys))
+    from_key e = none_before o g end (map group_of keys) (groups_ascend cmp R group_of keeps keys ascending) m v inside (answer ∙ sym e)

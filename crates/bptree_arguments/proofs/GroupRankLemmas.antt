@@ -1,5 +1,5 @@
 -- The rank of a key in its group: how many keys of the group are smaller.
-use Rattle.std.proofs.Common.{◌≡◌, ℕ, zero, suc, ◌+◌, ◌-◌, ◌^◌, ◌<◌, ◌≤◌, min, List, [], ◌∷◌, ◌++◌, length, map, take, drop, get_or, Option, Some, None, Ok, Err, Bool, true, false, cond, refl, sym, ap, ◌∙◌, subst, arith, append_assoc, length-append, length-drop}
+use Rattle.std.proofs.Common.{◌≡◌, ℕ, zero, suc, ◌+◌, ◌-◌, ◌^◌, ◌<◌, ◌≤◌, min, List, [], ◌∷◌, ◌++◌, length, map, take, drop, get_or, Option, Some, None, Ok, Err, Bool, true, false, cond, refl, sym, ap, ◌∙◌, arith, append_assoc, length-append, length-drop}
 use Rattle.std.specs.declared.cmp.Ordering.{Ordering}
 use Rattle.std.specs.declared.cmp.Ordering.TheVariants.{Less, Equal, Greater}
 use Rattle.std.specs.Ordering.{is_eq, is_gt, is_lt}
@@ -7,18 +7,17 @@ use Rattle.std.specs.Cmp.{IsTotalOrder}
 use Rattle.std.specs.List.{AllByRecursion, AllZip, filter}
 use Rattle.std.specs.List.Sorted.{IsStrictlySortedBy}
 use Rattle.std.proofs.Math.Seq.{drop-length}
-use Rattle.std.proofs.lemmas.Bool.{true≢false}
 use Rattle.std.proofs.lemmas.Cmp.{alike_right}
 use Rattle.std.proofs.lemmas.List.{append-nil, length-map, map-append, nil_from_length, take-append-drop, take_at}
 use Rattle.bptree_arguments.specs.declared.group.GroupCount.{GroupCount}
 use Rattle.bptree_keys.specs.Pieces.{flatten, piece_at}
 use Rattle.bptree_arguments.specs.CountLaws.{count_below}
-use Rattle.bptree_arguments.specs.GroupAnswers.{IsStartOf, carried, keys_in_group, IsRankInGroup}
-use Rattle.bptree_arguments.specs.Groups.{group_size, IsGreatestGroup, IsGroupSummary, IsNonDescending}
+use Rattle.bptree_arguments.specs.GroupAnswers.{IsBorderOf, carried, IsRankInGroup}
+use Rattle.bptree_arguments.specs.Groups.{group, group_size, IsGreatestGroup, IsGroupSummary, IsNonDescending}
 use Rattle.bptree_arguments.specs.Ranks.{AllAbove, AllBelow, IsSlotOf, SplitsAt}
-use Rattle.bptree_keys.proofs.PieceLemmas.{AllByRecursion-append, AllByRecursion-left, AllByRecursion-right, AllByRecursion-weaker, AllZip-at, AllZip-length, flatten-cut, sorted_left, sorted_right}
-use Rattle.bptree_arguments.proofs.GroupLemmas.{crossing, groups_ascend, le_less, size-append, size-le, size_alike, size_below, size_greatest_below, size_greatest_same, witness}
-use Rattle.bptree_arguments.proofs.GroupOrderLemmas.{between}
+use Rattle.bptree_keys.proofs.PieceLemmas.{AllByRecursion-append, AllByRecursion-left, AllByRecursion-right, AllByRecursion-weaker, AllZip-length, flatten-cut, sorted_left, sorted_right}
+use Rattle.bptree_arguments.proofs.GroupLemmas.{crossing, groups_ascend, less_by, le_less, size-append, size-le, size_alike, size_below, size_greatest_below, size_greatest_same, summary_here, witness}
+use Rattle.bptree_arguments.proofs.GroupOrderLemmas.{between, less_from, size_from}
 use Rattle.bptree_arguments.proofs.RankLemmas.{SplitsAt-within}
 
 module _ {G : Type 0} {R : G → G → Ordering} (o : IsTotalOrder R) (v : G) where
@@ -28,18 +27,17 @@ module _ {G : Type 0} {R : G → G → Ordering} (o : IsTotalOrder R) (v : G) wh
   size_all (x ∷ xs) h k = rw (between (R x v) h.0 k.0) (ap suc (size_all xs h.1 k.1))
 
   -- of groups that are not above v, those from where it begins are equal to it
-  size_from : (gs : List G) (start : ℕ) → IsStartOf R v gs start → AllByRecursion (λ x. is_gt (R x v) ≡ false) gs → group_size R v gs ≡ length gs - start
-  size_from gs start s h =
-      let sum = rw take-append-drop at (size-append o v (take start gs) (drop start gs)) in
+  size_to_last : (gs : List G) (start : ℕ) → IsBorderOf R v false gs start → AllByRecursion (λ x. is_gt (R x v) ≡ false) gs → group_size R v gs ≡ length gs - start
+  size_to_last gs start s h =
       let back = AllByRecursion-right (λ x. is_gt (R x v) ≡ false) (take start gs) (drop start gs) (rw take-append-drop h) in
-      omega (arith, sum, size_below o v (take start gs) s.before, size_all (drop start gs) s.from_there back, length-drop start gs)
+      omega (arith, size_from o v gs start s, size_all (drop start gs) s.from_there back, length-drop start gs)
 
   -- in front of groups of which the first is below v, none is equal to it
-  size_in_front : (fs gs : List G) (start : ℕ) → 0 < start → start ≤ length gs → AllByRecursion (λ x. R x v ≡ Less) (take start gs) → IsNonDescending R (fs ++ gs) → group_size R v fs ≡ 0
-  size_in_front fs [] start p l b h = absurd (omega arith)
-  size_in_front fs (x ∷ xs) zero p l b h = absurd (omega arith)
-  size_in_front fs (x ∷ xs) (suc n) p l b h =
-      size_below o v fs (AllByRecursion-weaker (λ y. AllByRecursion (λ z. is_gt (R y z) ≡ false) (x ∷ xs)) (λ y. R y v ≡ Less) (λ y f. le_less o y x v f.0 b.0) fs (crossing o fs (x ∷ xs) h))
+  size_ahead : (fs gs : List G) (start : ℕ) → 0 < start → start ≤ length gs → AllByRecursion (λ x. is_lt (R x v) ≡ true) (take start gs) → IsNonDescending R (fs ++ gs) → group_size R v fs ≡ 0
+  size_ahead fs [] start p l b h = absurd (omega arith)
+  size_ahead fs (x ∷ xs) zero p l b h = absurd (omega arith)
+  size_ahead fs (x ∷ xs) (suc n) p l b h =
+      size_below o v fs (AllByRecursion-weaker (λ y. AllByRecursion (λ z. is_gt (R y z) ≡ false) (x ∷ xs)) (λ y. R y v ≡ Less) (λ y f. le_less o y x v f.0 (less_from (R x v) b.0)) fs (crossing o fs (x ∷ xs) h))
 
   -- an equal group is carried as well
   pub carried_alike : (g : G) → R v g ≡ Equal → (rank : Option (G × ℕ)) → carried R v rank ≡ carried R g rank
@@ -52,14 +50,14 @@ module _ {K G : Type 0} (cmp : K → K → Ordering) (R : G → G → Ordering) 
   groups_upto [] h = tt
   groups_upto (x ∷ xs) h = (keeps x k (ap is_gt h.0), groups_upto xs h.1)
 
-  module _ (v : G) (made : R v (group_of k) ≡ Equal) (smaller : List K) (start : ℕ) (within : start ≤ length smaller) (begins : IsStrictlySortedBy cmp smaller → IsStartOf R v (map group_of smaller) start) (before : List K) (ascending : IsStrictlySortedBy cmp (before ++ smaller)) (below : AllBelow cmp k smaller) where
-    starts : IsStartOf R v (map group_of smaller) start
+  module _ (v : G) (made : R v (group_of k) ≡ Equal) (smaller : List K) (start : ℕ) (within : start ≤ length smaller) (begins : IsStrictlySortedBy cmp smaller → IsBorderOf R v false (map group_of smaller) start) (before : List K) (ascending : IsStrictlySortedBy cmp (before ++ smaller)) (below : AllBelow cmp k smaller) where
+    starts : IsBorderOf R v false (map group_of smaller) start
     starts = begins (sorted_right cmp before smaller ascending)
 
     in_leaf : group_size R (group_of k) (map group_of smaller) ≡ length smaller - start
     in_leaf =
         let upto = AllByRecursion-weaker (λ x. is_gt (R x (group_of k)) ≡ false) (λ x. is_gt (R x v) ≡ false) (λ x e. ap is_gt (alike_right o v (group_of k) x made) ∙ e) (map group_of smaller) (groups_upto smaller below) in
-        omega (arith, size_alike o v (group_of k) made (map group_of smaller), size_from o v (map group_of smaller) start starts upto, length-map smaller group_of)
+        omega (arith, size_alike o v (group_of k) made (map group_of smaller), size_to_last o v (map group_of smaller) start starts upto, length-map smaller group_of)
 
     whole : group_size R (group_of k) (map group_of (before ++ smaller)) ≡ group_size R (group_of k) (map group_of before) + (length smaller - start)
     whole = omega (arith, ap (group_size R (group_of k)) (map-append group_of before smaller), size-append o (group_of k) (map group_of before) (map group_of smaller), in_leaf)
@@ -68,7 +66,7 @@ module _ {K G : Type 0} (cmp : K → K → Ordering) (R : G → G → Ordering) 
     pub ranked_in_leaf : 0 < start → length smaller - start ≡ group_size R (group_of k) (map group_of (before ++ smaller))
     ranked_in_leaf p =
         let ascend = rw map-append at (groups_ascend cmp R group_of keeps (before ++ smaller) ascending) in
-        let none = size_in_front o v (map group_of before) (map group_of smaller) start p (omega (arith, within, length-map smaller group_of)) starts.before ascend in
+        let none = size_ahead o v (map group_of before) (map group_of smaller) start p (omega (arith, within, length-map smaller group_of)) starts.before ascend in
         omega (arith, whole, none, size_alike o v (group_of k) made (map group_of before))
 
     -- none is
@@ -77,21 +75,21 @@ module _ {K G : Type 0} (cmp : K → K → Ordering) (R : G → G → Ordering) 
         omega (arith, whole, stands, e, carried_alike o v (group_of k) made rank, size-le o (group_of k) (map group_of (before ++ smaller)), length-map (before ++ smaller) group_of, fits)
 
   -- how many keys of k's group are below k, where a list is split there
-  none_counted : (rest : List K) → AllByRecursion (λ x. is_lt (cmp x k) ≡ false) rest → count_below cmp k (keys_in_group R group_of k rest) ≡ 0
+  none_counted : (rest : List K) → AllByRecursion (λ x. is_lt (cmp x k) ≡ false) rest → count_below cmp k (group R group_of (group_of k) rest) ≡ 0
   none_counted [] h = refl
   none_counted (x ∷ xs) h = by (is_eq (R (group_of x) (group_of k))) (none_counted xs h.1) where
-    by : (b : Bool) → count_below cmp k (keys_in_group R group_of k xs) ≡ 0 → count_below cmp k (cond b (x ∷ keys_in_group R group_of k xs) (keys_in_group R group_of k xs)) ≡ 0
+    by : (b : Bool) → count_below cmp k (group R group_of (group_of k) xs) ≡ 0 → count_below cmp k (cond b (x ∷ group R group_of (group_of k) xs) (group R group_of (group_of k) xs)) ≡ 0
     by true e = rw h.0 e
     by false e = e
 
-  counted : (front rest : List K) → AllBelow cmp k front → AllByRecursion (λ x. is_lt (cmp x k) ≡ false) rest → count_below cmp k (keys_in_group R group_of k (front ++ rest)) ≡ group_size R (group_of k) (map group_of front)
+  counted : (front rest : List K) → AllBelow cmp k front → AllByRecursion (λ x. is_lt (cmp x k) ≡ false) rest → count_below cmp k (group R group_of (group_of k) (front ++ rest)) ≡ group_size R (group_of k) (map group_of front)
   counted [] rest h n = none_counted rest n
   counted (x ∷ xs) rest h n = by (is_eq (R (group_of x) (group_of k))) (counted xs rest h.1 n) where
-    by : (b : Bool) → count_below cmp k (keys_in_group R group_of k (xs ++ rest)) ≡ group_size R (group_of k) (map group_of xs) → count_below cmp k (cond b (x ∷ keys_in_group R group_of k (xs ++ rest)) (keys_in_group R group_of k (xs ++ rest))) ≡ length (cond b (group_of x ∷ filter (λ y. is_eq (R y (group_of k))) (map group_of xs)) (filter (λ y. is_eq (R y (group_of k))) (map group_of xs)))
+    by : (b : Bool) → count_below cmp k (group R group_of (group_of k) (xs ++ rest)) ≡ group_size R (group_of k) (map group_of xs) → count_below cmp k (cond b (x ∷ group R group_of (group_of k) (xs ++ rest)) (group R group_of (group_of k) (xs ++ rest))) ≡ length (cond b (group_of x ∷ filter (λ y. is_eq (R y (group_of k))) (map group_of xs)) (filter (λ y. is_eq (R y (group_of k))) (map group_of xs)))
     by true e = rw (ap is_lt h.0) (ap suc e)
     by false e = e
 
-  pub count_in_group : (keys front middle back : List K) → SplitsAt cmp k keys front middle back → count_below cmp k (keys_in_group R group_of k keys) ≡ group_size R (group_of k) (map group_of front)
+  pub count_in_group : (keys front middle back : List K) → SplitsAt cmp k keys front middle back → count_below cmp k (group R group_of (group_of k) keys) ≡ group_size R (group_of k) (map group_of front)
   count_in_group keys front middle back s =
       let equal = AllByRecursion-weaker (λ x. cmp x k ≡ Equal) (λ x. is_lt (cmp x k) ≡ false) (λ x e. ap is_lt e) middle s.equal in
       let above = AllByRecursion-weaker (λ x. cmp x k ≡ Greater) (λ x. is_lt (cmp x k) ≡ false) (λ x e. ap is_lt e) back s.above in
@@ -118,11 +116,6 @@ size_before_greatest : {G : Type 0} {R : G → G → Ordering} (o : IsTotalOrder
 size_before_greatest {G} {R} o v m fs gs there e h = size_below o v fs (AllByRecursion-weaker (λ y. AllByRecursion (λ z. is_gt (R y z) ≡ false) gs) (λ y. R y v ≡ Less) each fs (crossing o fs gs h)) where
   each : (y : G) → AllByRecursion (λ z. is_gt (R y z) ≡ false) gs → R y v ≡ Less
   each y f = let w = witness o (λ z. is_gt (R y z) ≡ false) m gs there f in le_less o y w.0 v w.1 (o.congr w.0 m v w.2 ∙ e)
-
-less_if : (r : Ordering) → is_gt r ≡ false → (r ≡ Equal → ⊥) → r ≡ Less
-less_if Less h n = refl
-less_if Equal h n = absurd (n refl)
-less_if Greater h n = absurd (true≢false h)
 
 -- the pieces from one on are that one and those behind it
 flatten-from : {X : Type 0} (pieces : List (List X)) (i : ℕ) → i < length pieces → flatten (drop i pieces) ≡ piece_at pieces i ++ flatten (drop (suc i) pieces)
@@ -163,7 +156,7 @@ module _ {K G : Type 0} (cmp : K → K → Ordering) (R : G → G → Ordering) 
       one_on = omega arith
 
       summary : IsGroupSummary R argument here
-      summary = let l : m - 1 < length arguments = omega arith in subst (λ a. IsGroupSummary R a here) (sym read) (AllZip-at (λ a keys. IsGroupSummary R a (map group_of keys)) arguments pieces (m - 1) argument [] summaries l)
+      summary = summary_here R group_of pieces arguments summaries (m - 1) (omega arith) argument read
 
       sizes : group_size R v (map group_of (flatten (drop (m - 1) pieces))) ≡ group_size R v here + group_size R v (map group_of (flatten (drop m pieces)))
       sizes =
@@ -202,7 +195,7 @@ module _ {K G : Type 0} (cmp : K → K → Ordering) (R : G → G → Ordering) 
               let low = AllByRecursion-left (λ x. cmp x k ≡ Less) (piece_at pieces (m - 1)) back (AllByRecursion-right (λ x. cmp x k ≡ Less) front (piece_at pieces (m - 1) ++ back) (rw cut at below)) in
               let upto = AllByRecursion-weaker (λ x. is_gt (R x (group_of k)) ≡ false) (λ x. is_gt (R x v) ≡ false) (λ x e. ap is_gt (alike_right o v (group_of k) x made) ∙ e) here (groups_upto cmp R group_of keeps o k (piece_at pieces (m - 1)) low) in
               let w = witness o (λ x. is_gt (R x v) ≡ false) h here (omega (arith, greatest.1, greatest.2)) upto in
-              less_if (R h v) (ap is_gt (sym (o.congr w.0 h v w.2)) ∙ w.1) (λ e. other (compared ∙ e))
+              less_by (R h v) (ap is_gt (sym (o.congr w.0 h v w.2)) ∙ w.1) (λ e. other (compared ∙ e))
 
           none_in_front : group_size R v (map group_of front) ≡ 0
           none_in_front =

@@ -1,24 +1,23 @@
 -- Items of groups: where they stand in a leaf and below the children of a node.
-use Rattle.std.proofs.Common.{◌≡◌, ℕ, zero, suc, ◌+◌, ◌-◌, ◌<◌, ◌≤◌, List, [], ◌∷◌, ◌++◌, length, map, take, drop, get_or, Option, Some, None, Bool, true, false, cond, refl, sym, ap, ◌∙◌, arith, length-append, length-drop}
+use Rattle.std.proofs.Common.{◌≡◌, ℕ, zero, suc, ◌+◌, ◌-◌, ◌<◌, ◌≤◌, List, [], ◌∷◌, ◌++◌, length, map, take, drop, get_or, Option, Some, None, Bool, true, false, refl, sym, ap, ◌∙◌, arith, length-append, length-drop}
 use Rattle.std.specs.declared.cmp.Ordering.{Ordering}
 use Rattle.std.specs.declared.cmp.Ordering.TheVariants.{Less, Equal, Greater}
 use Rattle.std.specs.Ordering.{is_eq, is_gt, is_lt, ordering_reverse}
 use Rattle.std.specs.Cmp.{IsTotalOrder}
-use Rattle.std.specs.List.{AllByRecursion, AllZip, filter}
+use Rattle.std.specs.List.{AllByRecursion, AllZip}
 use Rattle.std.specs.List.Sorted.{IsStrictlySortedBy}
 use Rattle.std.proofs.Math.Seq.{take-add, take-append-add}
 use Rattle.std.proofs.lemmas.Bool.{true≢false}
 use Rattle.std.proofs.lemmas.Cmp.{upto}
-use Rattle.std.proofs.lemmas.List.{length-map, map-append, take-append-drop, take-append-le, get_or_append_left, get_or-append-add, get_or-drop, get_or-map}
+use Rattle.std.proofs.lemmas.List.{length-map, length-take, take-append-drop, map-append, take-append-le, get_or_append_left, get_or-append-add, get_or-drop, get_or-map}
 use Rattle.bptree_arguments.specs.declared.group.GroupCount.{GroupCount}
 use Rattle.bptree_keys.specs.Pieces.{flatten, piece_at, start_of, ArePieces}
 use Rattle.bptree_arguments.specs.Selection.{moved_by, IsPlaceIn, LeadsTo}
 use Rattle.bptree_arguments.specs.Groups.{group_size, IsGroupSummary, IsGreatestGroup, IsNonDescending, SelectsInGroup}
-use Rattle.bptree_arguments.specs.GroupAnswers.{IsStartOf}
-use Rattle.bptree_keys.proofs.PieceLemmas.{AllByRecursion-at, AllByRecursion-weaker, AllZip-length, flatten-cut}
-use Rattle.bptree_arguments.proofs.GroupLemmas.{less_le, size-append, size-le, size_above, size_below, size_greatest_below, size_greatest_same, size_after_greatest, groups_ascend, piece_ascends, size_parts, size_more}
-use Rattle.bptree_arguments.proofs.GroupOrderLemmas.{between, nondescending_drop}
-use Rattle.bptree_arguments.proofs.GroupSizeLemmas.{summary_here}
+use Rattle.bptree_arguments.specs.GroupAnswers.{IsBorderOf}
+use Rattle.bptree_keys.proofs.PieceLemmas.{AllByRecursion-at, AllByRecursion-weaker, flatten-cut}
+use Rattle.bptree_arguments.proofs.GroupLemmas.{child_within, equal_from, less_le, summary_here, size-append, size-le, size_above, size_greatest_below, size_greatest_same, size_after_greatest, groups_ascend, piece_ascends, size_parts, size_more}
+use Rattle.bptree_arguments.proofs.GroupOrderLemmas.{between, items_from, nondescending_drop, size_from, size_in_front}
 
 -- an item of the middle part, as an item of the whole
 module _ {G : Type 0} {R : G → G → Ordering} (o : IsTotalOrder R) (g : G) (front here back : List G) (j n : ℕ) (l : j < length here) where
@@ -32,7 +31,7 @@ module _ {G : Type 0} {R : G → G → Ordering} (o : IsTotalOrder R) (g : G) (f
 
 module _ {K G : Type 0} (cmp : K → K → Ordering) (R : G → G → Ordering) (group_of : K → G) (keeps : (x y : K) → is_gt (cmp x y) ≡ false → is_gt (R (group_of x) (group_of y)) ≡ false) (o : IsTotalOrder R) (g : G) (pieces : List (List K)) (are : ArePieces cmp pieces) (arguments : List (GroupCount G)) (summaries : AllZip (λ a keys. IsGroupSummary R a (map group_of keys)) arguments pieces) (i : ℕ) (l : i < length arguments) (rest offset : ℕ) (passed : rest + group_size R g (map group_of (flatten (take i pieces))) ≡ offset) where
   inside : i < length pieces
-  inside = omega (arith, l, AllZip-length (λ a keys. IsGroupSummary R a (map group_of keys)) arguments pieces summaries)
+  inside = child_within R group_of pieces arguments summaries i l
 
   abbrev here : List G
   here = map group_of (piece_at pieces i)
@@ -57,7 +56,7 @@ module _ {K G : Type 0} (cmp : K → K → Ordering) (R : G → G → Ordering) 
 
   module _ (argument : GroupCount G) (read : argument ≡ get_or arguments i argument) where
     summary : IsGroupSummary R argument here
-    summary = summary_here cmp R group_of keeps o g pieces are arguments summaries i l argument read
+    summary = summary_here R group_of pieces arguments summaries i l argument read
 
     -- past a child: what is left of the place, and the keys of the group so far
     pub next_none : ((groups : List G) → IsGroupSummary R argument groups → IsGreatestGroup R groups None) → rest + group_size R g (map group_of (flatten (take (i + 1) pieces))) ≡ offset
@@ -80,11 +79,6 @@ module _ {K G : Type 0} (cmp : K → K → Ordering) (R : G → G → Ordering) 
       pub leads_above : Greater ≡ R m g → LeadsTo selects (g, offset) pieces (Some (i, (g, rest)))
       leads_above e = leads (λ _. size_after_greatest o g m n here greatest.0 greatest.1 greatest.2 (map group_of (flatten (drop (suc i) pieces))) (piece_ascends cmp R group_of keeps o pieces i inside are.ascending) (o.antisymm g m ∙ ap ordering_reverse (sym e)))
 
-equal_from : (r : Ordering) → is_eq r ≡ true → r ≡ Equal
-equal_from Less e = absurd (true≢false (sym e))
-equal_from Equal e = refl
-equal_from Greater e = absurd (true≢false (sym e))
-
 -- the place of an item of a leaf, from where its group begins
 module _ {G : Type 0} {R : G → G → Ordering} (o : IsTotalOrder R) (g : G) where
   -- of groups that are not below g, those before one that is equal are equal too
@@ -98,35 +92,24 @@ module _ {G : Type 0} {R : G → G → Ordering} (o : IsTotalOrder R) (g : G) wh
 
   -- and from one that is not equal on, none is
   size_to : (gs : List G) (n : ℕ) (d : G) → n < length gs → IsNonDescending R gs → AllByRecursion (λ x. is_lt (R x g) ≡ false) gs → is_eq (R (get_or gs n d) g) ≡ false → group_size R g gs ≤ n
-  size_to [] n d l h k e = absurd (omega arith)
-  size_to (x ∷ xs) zero d l h k e =
-      let above : R g x ≡ Less = o.antisymm g x ∙ turned (R x g) k.0 e in
-      rw e (omega (arith, size_above o g xs (AllByRecursion-weaker (λ y. is_gt (R x y) ≡ false) (λ y. R g y ≡ Less) (λ y f. less_le o g x y above f) xs h.0)))
+  size_to gs n d l h k e =
+      let x = get_or gs n d in
+      let above : R g x ≡ Less = o.antisymm g x ∙ turned (R x g) (AllByRecursion-at (λ y. is_lt (R y g) ≡ false) gs n d l k) e in
+      let none = size_above o g (drop n gs) (AllByRecursion-weaker (λ y. is_gt (R x y) ≡ false) (λ y. R g y ≡ Less) (λ y f. less_le o g x y above f) (drop n gs) (items_from o gs n d l h)) in
+      let sum = rw take-append-drop at (size-append o g (take n gs) (drop n gs)) in
+      omega (arith, sum, none, size-le o g (take n gs), length-take n gs)
     where
       turned : (r : Ordering) → is_lt r ≡ false → is_eq r ≡ false → ordering_reverse r ≡ Less
       turned Less a b = absurd (true≢false a)
       turned Equal a b = absurd (true≢false b)
       turned Greater a b = refl
-  size_to (x ∷ xs) (suc n) d l h k e =
-      let small : n < length xs = omega arith in
-      by (is_eq (R x g)) (size_to xs n d small h.1 k.1 e)
-    where
-      by : (b : Bool) → group_size R g xs ≤ n → length (cond b (x ∷ filter (λ y. is_eq (R y g)) xs) (filter (λ y. is_eq (R y g)) xs)) ≤ suc n
-      by true m = omega arith
-      by false m = omega arith
 
-  module _ (gs : List G) (h : IsNonDescending R gs) (start : ℕ) (s : IsStartOf R g gs start) (n : ℕ) where
-    front_none : group_size R g (take start gs) ≡ 0
-    front_none = size_below o g (take start gs) s.before
-
-    whole : group_size R g gs ≡ group_size R g (drop start gs)
-    whole = let sum = rw take-append-drop at (size-append o g (take start gs) (drop start gs)) in omega (arith, sum, front_none)
-
+  module _ (gs : List G) (h : IsNonDescending R gs) (start : ℕ) (s : IsBorderOf R g false gs start) (n : ℕ) where
     ascends : IsNonDescending R (drop start gs)
     ascends = nondescending_drop o gs start h
 
     past : length gs ≤ start + n → group_size R g gs ≤ n
-    past l = omega (arith, whole, size-le o g (drop start gs), length-drop start gs, l)
+    past l = omega (arith, size_from o g gs start s, size-le o g (drop start gs), length-drop start gs, l)
 
     module _ (d : G) (l : start + n < length gs) where
       there : get_or (drop start gs) n d ≡ get_or gs (start + n) d
@@ -136,15 +119,15 @@ module _ {G : Type 0} {R : G → G → Ordering} (o : IsTotalOrder R) (g : G) wh
       small = omega (arith, l, length-drop start gs)
 
       other : is_eq (R (get_or gs (start + n) d) g) ≡ false → group_size R g gs ≤ n
-      other e = omega (arith, whole, size_to (drop start gs) n d small ascends s.from_there (rw there e))
+      other e = omega (arith, size_from o g gs start s, size_to (drop start gs) n d small ascends s.from_there (rw there e))
 
       place : R (get_or gs (start + n) d) g ≡ Equal → group_size R g (take (start + n) gs) ≡ n
       place e =
           let parts : take (start + n) gs ≡ take start gs ++ take n (drop start gs) = take-add start n gs in
           let sum = size-append o g (take start gs) (take n (drop start gs)) in
-          ap (group_size R g) parts ∙ omega (arith, sum, front_none, size_before (drop start gs) n d small ascends s.from_there (rw there e))
+          ap (group_size R g) parts ∙ omega (arith, sum, size_in_front o g gs start s, size_before (drop start gs) n d small ascends s.from_there (rw there e))
 
-module _ {K G : Type 0} (cmp : K → K → Ordering) (R : G → G → Ordering) (group_of : K → G) (keeps : (x y : K) → is_gt (cmp x y) ≡ false → is_gt (R (group_of x) (group_of y)) ≡ false) (o : IsTotalOrder R) (g : G) (keys : List K) (ascending : IsStrictlySortedBy cmp keys) (start : ℕ) (s : IsStartOf R g (map group_of keys) start) (n : ℕ) where
+module _ {K G : Type 0} (cmp : K → K → Ordering) (R : G → G → Ordering) (group_of : K → G) (keeps : (x y : K) → is_gt (cmp x y) ≡ false → is_gt (R (group_of x) (group_of y)) ≡ false) (o : IsTotalOrder R) (g : G) (keys : List K) (ascending : IsStrictlySortedBy cmp keys) (start : ℕ) (s : IsBorderOf R g false (map group_of keys) start) (n : ℕ) where
   ascend : IsNonDescending R (map group_of keys)
   ascend = groups_ascend cmp R group_of keeps keys ascending
 

@@ -2,7 +2,6 @@ pub mod CountLemmas
 pub mod GroupEndsLemmas
 pub mod GroupLemmas
 pub mod GroupOrderLemmas
-pub mod GroupPlaceLemmas
 pub mod GroupRankLemmas
 pub mod GroupSelectLemmas
 pub mod GroupSizeLemmas

@@ -1,10 +1,10 @@
 //! The visitor that counts the keys of one group.
-ghost use Rattle.std.specs.Prelude.{◌≡◌, ℕ, ◌≤◌, List, length, map, IfOk};
-ghost use Rattle.std.specs.List.Sorted.{IsStrictlySortedBy};
+ghost use Rattle.std.specs.Prelude.{◌≡◌, map};
 ghost use Rattle.std.specs.Map.{keys_of};
-ghost use Rattle.bptree_arguments.specs.GroupSizes.{IsSizeAnswer, is_before, count_before};
+ghost use Rattle.bptree_arguments.specs.GroupSizes.{IsSizeAnswer};
 
 use crate::group::{FromRef, GroupCount};
+use crate::group_order::keys_before;
 use crate::visit::{DescendVisit, DescendVisitResult};
 use bptree_keys::key::Key;
 use std::alloc::AllocError;
@@ -39,41 +39,6 @@ impl<G, K> ExtractGroupSize<G, K> {
             of: PhantomData,
         }
     }
-}
-
-// Whether what compares so to a group is before the group's end, or else before its beginning.
-fn is_before(order: Ordering, end: bool) -> bool
-    ensures { result ≡ is_before end order }
-{
-    match order {
-        Ordering::Less => true,
-        Ordering::Equal => end,
-        Ordering::Greater => false,
-    }
-}
-
-// How many of ascending keys are before the end of a group, or else before its beginning, where at least `low` are: a
-// binary search.
-fn count_before<K: Key, G: FromRef<K> + Key>(
-    keys: &[K],
-    group: &G,
-    end: bool,
-    mut low: usize,
-) -> Result<usize, AllocError>
-    ensures least { IfOk result (λ count. low ≤ count) }
-    ensures count { IfOk result (λ count. IsStrictlySortedBy K.cmp keys.now → low ≤ count_before G.cmp group.now end (map G.group_of keys.now) → count ≡ count_before G.cmp group.now end (map G.group_of keys.now)) }
-{
-    let mut high = keys.len();
-    while low < high {
-        let middle = low + (high - low) / 2;
-        let of_key = G::from_ref(&keys[middle])?;
-        if is_before(of_key.cmp(group), end) {
-            low = middle + 1;
-        } else {
-            high = middle;
-        }
-    }
-    Ok(low)
 }
 
 impl<K: Key, V, G: FromRef<K> + Key> DescendVisit<K, V, GroupCount<G>> for ExtractGroupSize<G, K> {
@@ -115,9 +80,9 @@ impl<K: Key, V, G: FromRef<K> + Key> DescendVisit<K, V, GroupCount<G>> for Extra
 
     /// Two binary searches, for where the group begins and where it ends.
     fn visit_leaf(&mut self, keys: &[K], _values: &[V]) -> Result<Option<usize>, AllocError> {
-        let start = count_before(keys, &self.group, false, 0)?;
-        let end = count_before(keys, &self.group, true, start)?;
-        let counted = self.counted.saturating_add(end - start);
+        let start = keys_before(keys, &self.group, false)?;
+        let size = keys_before(&keys[start..], &self.group, true)?;
+        let counted = self.counted.saturating_add(size);
         Ok(Some(counted))
     }
 }

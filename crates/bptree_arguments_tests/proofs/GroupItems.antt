@@ -13,6 +13,7 @@ use Rattle.std.proofs.lemmas.Option.{slice_get_past}
 use Rattle.bptree_arguments.specs.Groups.{group_size, SelectsInGroup}
 use Rattle.bptree_arguments.specs.Selection.{IsPlaceIn, LeadsTo, moved_by}
 use Rattle.bptree_arguments.specs.GroupAnswers.{IsInGroup, IsRankInGroup}
+use Rattle.bptree_arguments.proofs.GroupLemmas.{size_of_keys}
 
 -- an element that passes a test is the item, among those that pass, after as many as pass before it
 item_at : {X : Type 0} (p : X → Bool) (xs : List X) (i : ℕ) → i < length xs → HoldsAt (λ x. p x ≡ true) xs i → slice_get xs i ≡ slice_get (filter p xs) (length (filter p (take i xs)))
@@ -30,14 +31,6 @@ present (x ∷ xs) zero l e = cc
 present (x ∷ xs) (suc i) l e = let small : i < length xs = omega arith in present xs i small e
 
 module _ {K G : Type 0} (R : G → G → Ordering) (group_of : K → G) (g : G) where
-  -- the size of a group is the number of its keys
-  sizes : (keys : List K) → group_size R g (map group_of keys) ≡ length (filter (λ x. is_eq (R (group_of x) g)) keys)
-  sizes [] = refl
-  sizes (x ∷ xs) = by (is_eq (R (group_of x) g)) (sizes xs) where
-    by : (b : Bool) → group_size R g (map group_of xs) ≡ length (filter (λ y. is_eq (R (group_of y) g)) xs) → length (cond b (group_of x ∷ filter (λ y. is_eq (R y g)) (map group_of xs)) (filter (λ y. is_eq (R y g)) (map group_of xs))) ≡ length (cond b (x ∷ filter (λ y. is_eq (R (group_of y) g)) xs) (filter (λ y. is_eq (R (group_of y) g)) xs))
-    by true e = ap suc e
-    by false e = e
-
   -- the key at a place that is selected
   module _ (n : ℕ) (keys : List K) (i : ℕ) (s : SelectsInGroup R g n (map group_of keys) (Some i)) where
     pub selected_within : i < length keys
@@ -47,7 +40,7 @@ module _ {K G : Type 0} (R : G → G → Ordering) (group_of : K → G) (g : G) 
     selected_of_group d = let l = selected_within in rw (get_or-map group_of keys i d (group_of d) l) at (s.1 (group_of d))
 
     pub selected_after : length (filter (λ x. is_eq (R (group_of x) g)) (take i keys)) ≡ n
-    selected_after = sym (sizes (take i keys)) ∙ (ap (group_size R g) (sym (take-map group_of i keys)) ∙ s.2)
+    selected_after = sym (size_of_keys R group_of g (take i keys)) ∙ (ap (group_size R g) (sym (take-map group_of i keys)) ∙ s.2)
 
     selected_item : slice_get keys i ≡ slice_get (filter (λ x. is_eq (R (group_of x) g)) keys) n
     selected_item = rw selected_after at (item_at (λ x. is_eq (R (group_of x) g)) keys i selected_within (λ d. ap is_eq (selected_of_group d)))
@@ -73,7 +66,7 @@ module _ {K G : Type 0} (R : G → G → Ordering) (group_of : K → G) (g : G) 
   answer_past n keys (Some i) s l = absurd (selected_before_end n keys i s l)
 
   pub answer_item : (n : ℕ) (keys : List K) (place : Option ℕ) → SelectsInGroup R g n (map group_of keys) place → MatchOption place (slice_get (filter (λ x. is_eq (R (group_of x) g)) keys) n ≡ None) (λ i. slice_get keys i ≡ slice_get (filter (λ x. is_eq (R (group_of x) g)) keys) n)
-  answer_item n keys None s = slice_get_past (filter (λ x. is_eq (R (group_of x) g)) keys) n (omega (arith, s, sizes keys))
+  answer_item n keys None s = slice_get_past (filter (λ x. is_eq (R (group_of x) g)) keys) n (omega (arith, s, size_of_keys R group_of g keys))
   answer_item n keys (Some i) s = selected_item n keys i s
 
   -- below a node of two leaves

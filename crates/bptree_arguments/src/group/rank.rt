@@ -9,7 +9,7 @@ ghost use Rattle.bptree_keys.specs.Pieces.{AllNonEmpty, flatten};
 
 use crate::argument::RankArgument;
 use crate::group::{FromRef, GroupCount};
-use crate::group_order::keys_before_group;
+use crate::group_order::keys_before;
 use bptree_keys::key::Key;
 use std::alloc::AllocError;
 use std::cmp::Ordering;
@@ -36,7 +36,7 @@ fn ranked_after<K: Key, G: FromRef<K> + Key>(
     ensures empty { smaller.now ≡ [] → IfOk result (λ r. r.1 ≡ carried G.cmp (G.group_of k.now) rank) }
 {
     let group = G::from_ref(k)?;
-    let start = keys_before_group(smaller, &group)?;
+    let start = keys_before(smaller, &group, false)?;
     let count = smaller.len() - start;
     if start > 0 {
         return Ok((group, count));

@@ -4,7 +4,7 @@ ghost use Rattle.bptree_arguments.specs.Groups.{SelectsInGroup};
 
 use crate::argument::SearchArgument;
 use crate::group::{FromRef, GroupCount};
-use crate::group_order::keys_before_group;
+use crate::group_order::keys_before;
 use bptree_keys::key::Key;
 use std::alloc::AllocError;
 use std::cmp::Ordering;
@@ -18,7 +18,7 @@ impl<K: Key, G: FromRef<K> + Key> SearchArgument<K> for GroupCount<G> {
     /// Of 64 keys it makes the groups of at most 8.
     fn locate_in_leaf(query: (G, usize), keys: &[K]) -> Result<Option<usize>, AllocError> {
         let (group, offset) = query;
-        let start = keys_before_group(keys, &group)?;
+        let start = keys_before(keys, &group, false)?;
         if offset < keys.len() - start {
             let place = start + offset;
             let of_key = G::from_ref(&keys[place])?;

@@ -1,7 +1,8 @@
 use Rattle.std.proofs.Common.{◌≡◌, length, None, ap, arith}
 use Rattle.std.proofs.lemmas.List.{take_all}
 use Rattle.bptree_keys.proofs.PieceLemmas.{AllZip-length}
-use Rattle.bptree_arguments.proofs.GroupEndsLemmas.{summary_at, ends_kept, ends_skip, ends_first, ends_more}
+use Rattle.bptree_arguments.proofs.GroupLemmas.{child_within, summary_here}
+use Rattle.bptree_arguments.proofs.GroupEndsLemmas.{ends_kept, ends_skip, ends_first, ends_more}
 use Rattle.bptree_arguments.proofs.group.GroupCountArgument.from_inner.Goals as goal
 use Rattle.bptree_arguments.proofs.group.GroupCountArgument.from_inner.Goals.{in-None, in-Some, in-None-whole, in-Some-whole}
 
@@ -15,13 +16,14 @@ loop-argument-preserved g c = record {
       let keeps = g.met.G.FromRef.keeps_order in
       let total = g.met.G.Ord.total in
       let i = c.loop-argument.argument-index in
-      let here = summary_at cmp compare group_of pieces c.args.arguments.now summaries i c.loop-argument-test.true c.argument-item.result c.argument-item.is in
+      let inside = child_within compare group_of pieces c.args.arguments.now summaries i c.loop-argument-test.true in
+      let here = summary_here compare group_of pieces c.args.arguments.now summaries i c.loop-argument-test.true c.argument-item.result c.argument-item.is in
       let known = c.loop-argument.invariant.known pieces are summaries in
       elim c.match-ends.branch [
-        | in-None w ↦ rw w.whole-is (ends_skip cmp compare group_of keeps total pieces i here.0 are c.loop-argument.whole known (w.in-None.ensures _ here.1))
+        | in-None w ↦ rw w.whole-is (ends_skip cmp compare group_of keeps total pieces i inside are c.loop-argument.whole known (w.in-None.ensures _ here))
         | in-Some w ↦ elim w.match-whole.branch [
-          | in-None-whole v ↦ rw (w.whole-is, v.whole-is) (ends_first cmp compare group_of keeps total pieces i here.0 are w.in-Some.next (rw v.in-None-whole.is at known) (w.in-Some.ensures _ here.1))
-          | in-Some-whole v ↦ rw (w.whole-is, v.whole-is) (ends_more cmp compare group_of keeps total pieces i here.0 are v.in-Some-whole.ends w.in-Some.next v.followed_by.result v.followed_by.ensures (rw v.in-Some-whole.is at known) (w.in-Some.ensures _ here.1))
+          | in-None-whole v ↦ rw (w.whole-is, v.whole-is) (ends_first cmp compare group_of keeps total pieces i inside are w.in-Some.next (rw v.in-None-whole.is at known) (w.in-Some.ensures _ here))
+          | in-Some-whole v ↦ rw (w.whole-is, v.whole-is) (ends_more cmp compare group_of keeps total pieces i inside are v.in-Some-whole.ends w.in-Some.next v.followed_by.result v.followed_by.ensures (rw v.in-Some-whole.is at known) (w.in-Some.ensures _ here))
         ]
       ];
 }
