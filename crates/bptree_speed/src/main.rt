@@ -7,8 +7,10 @@ use std::alloc::{AllocError, Global};
 use std::process::ExitCode;
 use std::time::Instant;
 use sweep_bptree::tree::count::Count;
-use sweep_bptree::tree::group::{ExtractGroupSize, GroupCount, Tuple2};
-use sweep_bptree::tree::{Argument, BPlusTree, NodeStoreVec};
+use sweep_bptree::tree::group::{GroupCount, Tuple2};
+use sweep_bptree::tree::{
+    Argument, BPlusTree, NodeStore, NodeStoreVec, RankArgument, SearchArgument,
+};
 
 type Tree<A> = BPlusTree<NodeStoreVec<u64, u64, A>>;
 
@@ -176,13 +178,11 @@ fn counted(rt: &HostRuntime, tree: &Tree<Count>, keys: &[u64]) {
 
 type Pair = (u64, u64);
 
-type Groups = BPlusTree<NodeStoreVec<Pair, u64, GroupCount<Tuple2<u64>>>>;
-
 // Keys in groups of 500.
-fn in_groups(alloc: Global, numbers: &[u64]) -> Result<Groups, ()> {
-    let Ok(mut tree) = BPlusTree::new(NodeStoreVec::new(alloc)) else {
-        return Err(());
-    };
+fn insert_in_groups<S: NodeStore<K = Pair, V = u64>>(
+    tree: &mut BPlusTree<S>,
+    numbers: &[u64],
+) -> Result<(), ()> {
     for number in numbers {
         if tree
             .insert((*number / 500, *number % 500), *number)
@@ -191,10 +191,10 @@ fn in_groups(alloc: Global, numbers: &[u64]) -> Result<Groups, ()> {
             return Err(());
         }
     }
-    Ok(tree)
+    Ok(())
 }
 
-fn get_in_groups(tree: &Groups, numbers: &[u64]) -> u64 {
+fn get_in_groups<S: NodeStore<K = Pair, V = u64>>(tree: &BPlusTree<S>, numbers: &[u64]) -> u64 {
     let mut sum = 0u64;
     for number in numbers {
         if let Some(value) = tree.get(&(*number / 500, *number % 500)) {
@@ -204,7 +204,13 @@ fn get_in_groups(tree: &Groups, numbers: &[u64]) -> u64 {
     sum
 }
 
-fn place_in_groups(tree: &Groups, numbers: &[u64]) -> Result<u64, AllocError> {
+fn place_in_groups<S: NodeStore<K = Pair, V = u64>>(
+    tree: &BPlusTree<S>,
+    numbers: &[u64],
+) -> Result<u64, AllocError>
+where
+    S::Argument: SearchArgument<Pair, Query = (Tuple2<u64>, usize)>,
+{
     let mut sum = 0u64;
     for number in numbers {
         let place = (*number % 500) as usize;
@@ -215,7 +221,13 @@ fn place_in_groups(tree: &Groups, numbers: &[u64]) -> Result<u64, AllocError> {
     Ok(sum)
 }
 
-fn rank_in_groups(tree: &Groups, numbers: &[u64]) -> Result<u64, AllocError> {
+fn rank_in_groups<S: NodeStore<K = Pair, V = u64>>(
+    tree: &BPlusTree<S>,
+    numbers: &[u64],
+) -> Result<u64, AllocError>
+where
+    S::Argument: RankArgument<Pair, Rank = Option<(Tuple2<u64>, usize)>>,
+{
     let mut sum = 0u64;
     for number in numbers {
         if let Ok(Some((_, rank))) = tree.rank_by_argument(&(*number / 500, *number % 500))? {
@@ -225,43 +237,31 @@ fn rank_in_groups(tree: &Groups, numbers: &[u64]) -> Result<u64, AllocError> {
     Ok(sum)
 }
 
-fn size_groups(tree: &Groups, numbers: &[u64]) -> u64 {
-    let mut sum = 0u64;
-    for number in numbers {
-        if let Ok(Some(size)) = tree.descend_visit(ExtractGroupSize::new(Tuple2(*number / 500))) {
-            sum = sum.wrapping_add(size as u64);
-        }
-    }
-    sum
-}
-
 // The numbers are all those below their number, in two orders.
-fn grouped(rt: &HostRuntime, numbers: &[u64], others: &[u64]) {
-    let many = numbers.len();
-    let Ok(start) = Instant::now(rt) else {
+fn grouped<S: NodeStore<K = Pair, V = u64>>(rt: &HostRuntime, numbers: &[u64], others: &[u64])
+where
+    S::Argument: SearchArgument<Pair, Query = (Tuple2<u64>, usize)>,
+    S::Argument: RankArgument<Pair, Rank = Option<(Tuple2<u64>, usize)>>,
+{
+    let Ok(mut tree) = BPlusTree::new(S::empty(rt.alloc())) else {
         return;
     };
-    let Ok(tree) = in_groups(rt.alloc(), numbers) else {
+    if insert_in_groups(&mut tree, numbers).is_err() {
         return;
-    };
-    tell(rt, "groups", "insert", start, many, 0);
+    }
     if let Ok(start) = Instant::now(rt) {
         let sum = get_in_groups(&tree, others);
-        tell(rt, "groups", "get", start, many, sum);
+        tell(rt, "groups", "get", start, others.len(), sum);
     }
     if let Ok(start) = Instant::now(rt) {
         if let Ok(sum) = place_in_groups(&tree, others) {
-            tell(rt, "groups", "at", start, many, sum);
+            tell(rt, "groups", "at", start, others.len(), sum);
         }
     }
     if let Ok(start) = Instant::now(rt) {
         if let Ok(sum) = rank_in_groups(&tree, others) {
-            tell(rt, "groups", "rank", start, many, sum);
+            tell(rt, "groups", "rank", start, others.len(), sum);
         }
-    }
-    if let Ok(start) = Instant::now(rt) {
-        let sum = size_groups(&tree, others);
-        tell(rt, "groups", "size", start, many, sum);
     }
 }
 
@@ -281,7 +281,7 @@ fn rounds(rt: &HostRuntime, pairs: usize, rounds: usize) -> Result<(), AllocErro
     let numbers = shuffled(rt.alloc(), &numbers_below(rt.alloc(), pairs)?)?;
     let again = shuffled(rt.alloc(), &numbers)?;
     for _ in 0..rounds {
-        grouped(rt, &numbers, &again);
+        grouped::<NodeStoreVec<Pair, u64, GroupCount<Tuple2<u64>>>>(rt, &numbers, &again);
         if let Some(mut tree) = filled::<()>(rt, "plain", &keys, &others, &sorted) {
             emptied(rt, "plain", &mut tree, &others);
         }
