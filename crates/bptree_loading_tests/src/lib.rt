@@ -1,0 +1,2 @@
+//! Tests of loading.
+#![tactic(auto)]
