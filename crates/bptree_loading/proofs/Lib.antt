@@ -1,2 +1,3 @@
+pub mod DedupLemmas
 pub mod OrderLemmas
 pub mod RunLemmas

@@ -1,1 +1,2 @@
+pub mod Dedup
 pub mod Loading
