@@ -14,6 +14,7 @@ use Rattle.bptree_keys.proofs.Ascending.{greater_turned}
 use Rattle.bptree_keys.proofs.Laws.{gather_ascending}
 use Rattle.bptree_keys.proofs.Parted.{has_gap, put_gap}
 use Rattle.bptree_keys.proofs.Updates.{value_put}
+use Rattle.bptree_loading.specs.Dedup.{last_of_each_run}
 use Rattle.bptree_loading.specs.Loading.{IsInLoadOrder, last_value}
 
 -- a key below another is below what the other is not above
@@ -21,6 +22,15 @@ below_on : {K : Type 0} (cmp : K → K → Ordering) (total : IsTotalOrder cmp) 
 below_on cmp total k x y Less is less up = total.trans k x y less is
 below_on cmp total k x y Equal is less up = sym (alike_right total x y k is) ∙ less
 below_on cmp total k x y Greater is less up = absurd (up is)
+
+-- keys are equal whichever comes first
+alike_turned : {K : Type 0} (cmp : K → K → Ordering) (total : IsTotalOrder cmp) (x y : K) → is_eq (cmp y x) ≡ is_eq (cmp x y)
+alike_turned cmp total x y = ap is_eq (total.antisymm y x) ∙ turned (cmp x y)
+  where
+    turned : (o : Ordering) → is_eq (ordering_reverse o) ≡ is_eq o
+    turned Less = refl
+    turned Equal = refl
+    turned Greater = refl
 
 module _ {K V : Type 0} (cmp : K → K → Ordering) (total : IsTotalOrder cmp) where
   -- a key below the first key in load order is below all
@@ -73,6 +83,22 @@ module _ {K V : Type 0} (cmp : K → K → Ordering) (total : IsTotalOrder cmp) 
   load_same (p ∷ q ∷ l) ascending =
       let turned : cmp q.0 p.0 ≡ Greater = greater_turned cmp total p.0 q.0 (sorted_head cmp p.0 (keys_of (q ∷ l)) ascending).0 in
       ap (λ b. cond b (load cmp (q ∷ l)) (p ∷ load cmp (q ∷ l))) (ap is_eq turned) ∙ ap (λ more. p ∷ more) (load_same (q ∷ l) (sorted_tail cmp p.0 (keys_of (q ∷ l)) ascending))
+
+  -- and they are in load order
+  pub ordered_if_ascending : (l : List (K × V)) → IsAscending cmp l → IsInLoadOrder cmp l
+  ordered_if_ascending [] ascending = tt
+  ordered_if_ascending (p ∷ []) ascending = (tt, tt)
+  ordered_if_ascending (p ∷ q ∷ l) ascending =
+      let less : cmp p.0 q.0 ≡ Less = (sorted_head cmp p.0 (keys_of (q ∷ l)) ascending).0 in
+      (λ greater. absurd cc, ordered_if_ascending (q ∷ l) (sorted_tail cmp p.0 (keys_of (q ∷ l)) ascending))
+
+  -- the pairs after which no equal key comes are the last of their runs
+  pub load_runs : (l : List (K × V)) → load cmp l ≡ last_of_each_run (λ pair after. is_eq (cmp pair.0 after.0)) l
+  load_runs [] = refl
+  load_runs (p ∷ []) = refl
+  load_runs (p ∷ q ∷ l) =
+      ap (λ b. cond b (load cmp (q ∷ l)) (p ∷ load cmp (q ∷ l))) (alike_turned cmp total p.0 q.0)
+      ∙ ap (λ kept. cond (is_eq (cmp p.0 q.0)) kept (p ∷ kept)) (load_runs (q ∷ l))
 
 -- a second choice of none, and one after a choice that is there
 or_none : {V : Type 0} (found : Option V) → option_or found None ≡ found

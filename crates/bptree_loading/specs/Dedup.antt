@@ -26,6 +26,12 @@ module _ {A : Type 0} where
   IfNotEnded (Held x) P = P
   IfNotEnded Ended P = ⊤
 
+  -- what comes yet, where the source goes on to give xs
+  abbrev pub gives_yet : (A → A → Bool) → Ahead A → List A → List A
+  gives_yet same Unasked xs = last_of_each_run same xs
+  gives_yet same (Held x) xs = last_of_each_run same (x ∷ xs)
+  gives_yet same Ended xs = []
+
   -- how many items are left, where the source has c left
   abbrev pub ahead_left : Ahead A → Count → Count
   ahead_left Unasked c = c

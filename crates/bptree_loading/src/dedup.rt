@@ -69,6 +69,7 @@ pub trait DedupByExt: Iterator {
         ensures source { dedup_source result ≡ self }
         ensures ahead { dedup_ahead result ≡ Unasked }
         ensures same { dedup_same result ≡ same }
+        ensures items { (test : Self.Item → Self.Item → Bool) (xs : List Self.Item) → ActsAsAtTwo F.FnMut same test → AlwaysYields Self.next_gives (λ x. x) self xs → AlwaysYields (dedup_steps Self.next_gives F.FnMut) (λ x. x) result (last_of_each_run test xs) }
     {
         DeDupKeepLast {
             source: self,

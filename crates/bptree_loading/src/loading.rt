@@ -1,6 +1,8 @@
 //! Pairs whose keys do not descend, and of each run of pairs with equal keys the last.
 ghost use Rattle.std.specs.Prelude.{◌≡◌, ◌+◌, ◌<◌, ◌≤◌, ◌++◌, [], List, ◌↔◌, IsTrue, if◌then◌else◌, length, take, drop};
 ghost use Rattle.bptree_keys.specs.Contents.{IsAscending, load, gather, value};
+ghost use Rattle.std.specs.Ordering.{is_eq};
+ghost use Rattle.bptree_loading.specs.Dedup.{last_of_each_run};
 ghost use Rattle.bptree_loading.specs.Loading.{IsInLoadOrder, last_value};
 
 use bptree_keys::key::Key;
@@ -66,10 +68,12 @@ pub fn keep_last_of_each_run<K: Key, V: Drop>(pairs: &mut Vec<(K, V)>)
 }
 
 /// Pairs in load order, of which the last of each run is kept: they ascend, they are what is gathered of all, and at each
-/// key is the value of the last pair with an equal key. Of pairs that ascend all are kept.
+/// key is the value of the last pair with an equal key. Pairs that ascend are in load order, and all are kept.
 pub fn laws_of_load<K: Key, V>()
     ensures order { (l : List (K × V)) → IsInLoadOrder K.cmp l → IsAscending K.cmp (load K.cmp l) }
     ensures gather { (l : List (K × V)) → IsInLoadOrder K.cmp l → load K.cmp l ≡ gather K.cmp l }
     ensures value { (l : List (K × V)) → (k : K) → IsInLoadOrder K.cmp l → value K.cmp (load K.cmp l) k ≡ last_value K.cmp l k }
+    ensures ascending { (l : List (K × V)) → IsAscending K.cmp l → IsInLoadOrder K.cmp l }
     ensures same { (l : List (K × V)) → IsAscending K.cmp l → load K.cmp l ≡ l }
+    ensures runs { (l : List (K × V)) → load K.cmp l ≡ last_of_each_run (λ pair after. is_eq (K.cmp pair.0 after.0)) l }
 {}
