@@ -8,7 +8,8 @@ use Rattle.std.specs.Iterator.Order.{ActsAsAtTwo, OrderTurn}
 use Rattle.bptree_loading.specs.declared.dedup.Ahead.{Ahead}
 use Rattle.bptree_loading.specs.declared.dedup.Ahead.TheVariants.{Unasked, Held, Ended}
 use Rattle.bptree_loading.specs.declared.dedup.DeDupKeepLast.{DeDupKeepLast}
-use Rattle.bptree_loading.specs.Dedup.{last_of_each_run, gives_yet, IfNotEnded, GivesFirst, TakesRun, GivesLastOfRun, dedup_steps}
+use Rattle.std.proofs.lemmas.Iterator.{YieldsList}
+use Rattle.bptree_loading.specs.Dedup.{GivesAll, last_of_each_run, gives_yet, IfNotEnded, GivesFirst, TakesRun, GivesLastOfRun, dedup_steps}
 
 module _ {S F A : Type 0} (steps : S → Option A → S → Type 0) (g : Mut F (Bor A × (Bor A × Unit {0})) Bool) (test : A → A → Bool) where
   -- the source goes on to give xs, unless it has ended, and calls of f compute the test
@@ -98,3 +99,11 @@ module _ {S F A : Type 0} (steps : S → Option A → S → Type 0) (g : Mut F (
         let e : y ∷ gives_yet test t.ahead given.rest ≡ z ∷ zs = sym given.items ∙ is in
         (cc, all_given zs t given.rest given.at cc),
   )
+
+-- the same word as std's of a chain
+module _ {S A : Type 0} {steps : S → Option A → S → Type 0} {s : S} {ys : List A} where
+  pub GivesAll-from_chain : YieldsList steps (λ x. x) s ys → GivesAll steps s ys
+  GivesAll-from_chain chain = record { always = chain.runs }
+
+  pub chain_from_GivesAll : GivesAll steps s ys → YieldsList steps (λ x. x) s ys
+  chain_from_GivesAll given = record { runs = given.always }

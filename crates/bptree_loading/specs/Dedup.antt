@@ -3,11 +3,15 @@ use Rattle.std.specs.Prelude.{◌≡◌, ◌+◌, Bool, false, Option, Some, Non
 use Rattle.std.specs.Fn.{Mut, CalledAtTwo}
 use denote.Ref.{Bor}
 use Rattle.std.specs.List.{FoldsTo}
-use Rattle.std.specs.Iterator.{Yields, Count, at_most, count_map}
+use Rattle.std.specs.Iterator.{Yields, AlwaysYields, Count, at_most, count_map}
 use Rattle.std.specs.Iterator.Order.{OrderTurn}
 use Rattle.bptree_loading.specs.declared.dedup.Ahead.{Ahead}
 use Rattle.bptree_loading.specs.declared.dedup.Ahead.TheVariants.{Unasked, Held, Ended}
 use Rattle.bptree_loading.specs.declared.dedup.DeDupKeepLast.{DeDupKeepLast}
+
+-- all calls from s together give ys, and then nothing
+pub record GivesAll {S A : Type 0} (steps : S → Option A → S → Type 0) (s : S) (ys : List A) : Type 0 where
+  pub always : AlwaysYields steps (λ x. x) s ys
 
 module _ {A : Type 0} where
   -- the first of the items, if there is one, is the same as x

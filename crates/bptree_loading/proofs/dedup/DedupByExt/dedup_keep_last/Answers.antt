@@ -4,4 +4,4 @@ use Rattle.bptree_loading.proofs.GivenLemmas.{all_given}
 use Rattle.bptree_loading.proofs.dedup.DedupByExt.dedup_keep_last.Goals as goal
 
 pub returns-clause-items : goal.returns-clause-items
-returns-clause-items g c = λ test xs acts yields. all_given g.Self.Iterator.next_gives g.F.FnMut test (last_of_each_run test xs) _ xs (record { source = yields; calls = acts }) refl
+returns-clause-items g c = λ test xs acts given. record { always = all_given g.Self.Iterator.next_gives g.F.FnMut test (last_of_each_run test xs) _ xs (record { source = given.always; calls = acts }) refl }
