@@ -5,6 +5,7 @@ ghost use Rattle.std.specs.Iterator.Order.{ActsAsAtTwo};
 ghost use Rattle.bptree_loading.specs.declared.dedup.Ahead.TheVariants.{Unasked};
 ghost use Rattle.bptree_loading.specs.Dedup.{GivesAll, dedup_source, dedup_ahead, dedup_same, dedup_steps, dedup_left, IfNotEnded, last_of_each_run};
 
+use std::iter::FusedIterator;
 use std::mem;
 
 // What is known of the source: it was not asked yet, it has given the first item of the next run, or it has ended.
@@ -55,10 +56,16 @@ where
     }
 }
 
+impl<I: Iterator, F: Drop> FusedIterator for DeDupKeepLast<I, F>
+where
+    I::Item: Drop,
+    DeDupKeepLast<I, F>: Iterator,
+{}
+
 /// Iterators of which the last item of each run can be kept.
 pub trait DedupByExt: Iterator {
-    /// Gives each item after which `same` answers false for it and the next one, and the last item of all. It asks the
-    /// iterator for one item more than it has given, and never again once that has ended.
+    /// Gives each item after which `same` answers false for it and the next one, and the last item of all. A call reads
+    /// on to the first item of the next run, and holds that back. Once the iterator has ended it is not asked again.
     final fn dedup_keep_last<F: FnMut(&Self::Item, &Self::Item) -> bool>(
         self,
         same: F,

@@ -7,6 +7,6 @@ use Rattle.bptree_loading_tests.proofs.callers.dedup.collects_the_last_pairs.Goa
 
 pub returns : goal.returns
 returns g c =
-    let source = YieldsList-from_vec c.args.pairs.items c.into_iter.ensures.rest (omega (arith, c.into_iter.ensures.len)) in
-    let given = c.dedup_keep_last.ensures.items (λ pair after. is_eq (g.K.Ord.cmp pair.0 after.0)) c.args.pairs.items (λ x y r f called. search rules) (GivesAll-from_chain source) in
+    let source = GivesAll-from_chain (YieldsList-from_vec c.args.pairs.items c.into_iter.ensures.rest (omega (arith, c.into_iter.ensures.len))) in
+    let given = c.dedup_keep_last.ensures.items (λ pair after. is_eq (g.K.Ord.cmp pair.0 after.0)) c.args.pairs.items (λ x y r f called. search rules) source in
     rw (c.laws_of_load.ensures.runs c.args.pairs.items) (items_from_collect c.collect.result c.collect.ensures.ran (chain_from_GivesAll given))
