@@ -1,0 +1,4 @@
+pub mod GivenLemmas
+pub mod DedupLemmas
+pub mod OrderLemmas
+pub mod RunLemmas

@@ -1,0 +1,2 @@
+pub mod Dedup
+pub mod Loading

@@ -1,0 +1,89 @@
+//! An iterator that leaves out each item that is the same as the one after it.
+ghost use Rattle.std.specs.Prelude.{◌≡◌, Bool, List};
+ghost use Rattle.std.specs.Iterator.{IsFinite};
+ghost use Rattle.std.specs.Iterator.Order.{ActsAsAtTwo};
+ghost use Rattle.bptree_loading.specs.declared.dedup.Ahead.TheVariants.{Unasked};
+ghost use Rattle.bptree_loading.specs.Dedup.{GivesAll, dedup_source, dedup_ahead, dedup_same, dedup_steps, dedup_left, IfNotEnded, last_of_each_run};
+
+use std::iter::FusedIterator;
+use std::mem;
+
+// What is known of the source: it was not asked yet, it has given the first item of the next run, or it has ended.
+#[derive(Drop)]
+enum Ahead<T> {
+    Unasked,
+    Held(T),
+    Ended,
+}
+
+/// The last item of each run of items that are the same as the one before.
+#[derive(Drop)]
+pub struct DeDupKeepLast<I: Iterator, F>
+where
+    I::Item: Drop,
+{
+    source: I,
+    ahead: Ahead<I::Item>,
+    same: F,
+}
+
+impl<I: Iterator, F: FnMut(&I::Item, &I::Item) -> bool> Iterator for DeDupKeepLast<I, F>
+where
+    I::Item: Drop,
+{
+    type Item = I::Item;
+
+    ghost can_next = { λ s. IfNotEnded (dedup_ahead s) (I.can_next (dedup_source s) × IsFinite (I.remaining (dedup_source s))) × F.IsAlwaysCallable (dedup_same s) };
+
+    ghost next_gives = { dedup_steps I.next_gives F.FnMut };
+
+    ghost remaining = { dedup_left I.remaining };
+
+    fn next(&mut self) -> Option<I::Item> {
+        let mut last = match mem::replace(&mut self.ahead, Ahead::Ended) {
+            Ahead::Unasked => self.source.next()?,
+            Ahead::Held(item) => item,
+            Ahead::Ended => return None,
+        };
+        while let Some(item) = self.source.next() {
+            if !(self.same)(&last, &item) {
+                self.ahead = Ahead::Held(item);
+                return Some(last);
+            }
+            last = item;
+        }
+        Some(last)
+    }
+}
+
+impl<I: Iterator, F: Drop> FusedIterator for DeDupKeepLast<I, F>
+where
+    I::Item: Drop,
+    DeDupKeepLast<I, F>: Iterator,
+{}
+
+/// Iterators of which the last item of each run can be kept.
+pub trait DedupByExt: Iterator {
+    /// Gives each item after which `same` answers false for it and the next one, and the last item of all. A call reads
+    /// on to the first item of the next run, and holds that back. Once the iterator has ended it is not asked again.
+    final fn dedup_keep_last<F: FnMut(&Self::Item, &Self::Item) -> bool>(
+        self,
+        same: F,
+    ) -> DeDupKeepLast<Self, F>
+    where
+        Self: Sized,
+        Self::Item: Drop,
+        ensures source { dedup_source result ≡ self }
+        ensures ahead { dedup_ahead result ≡ Unasked }
+        ensures same { dedup_same result ≡ same }
+        ensures items { (test : Self.Item → Self.Item → Bool) (xs : List Self.Item) → ActsAsAtTwo F.FnMut same test → GivesAll Self.next_gives self xs → GivesAll (dedup_steps Self.next_gives F.FnMut) result (last_of_each_run test xs) }
+    {
+        DeDupKeepLast {
+            source: self,
+            ahead: Ahead::Unasked,
+            same,
+        }
+    }
+}
+
+impl<I: Iterator> DedupByExt for I {}

@@ -1,0 +1,79 @@
+//! Pairs whose keys do not descend, and of each run of pairs with equal keys the last.
+ghost use Rattle.std.specs.Prelude.{◌≡◌, ◌+◌, ◌<◌, ◌≤◌, ◌++◌, [], List, ◌↔◌, IsTrue, if◌then◌else◌, length, take, drop};
+ghost use Rattle.bptree_keys.specs.Contents.{IsAscending, load, gather, value};
+ghost use Rattle.std.specs.Ordering.{is_eq};
+ghost use Rattle.bptree_loading.specs.Dedup.{last_of_each_run};
+ghost use Rattle.bptree_loading.specs.Loading.{IsInLoadOrder, last_value};
+
+use bptree_keys::key::Key;
+
+/// Whether no key is above the next one. Each key is compared with the next, up to the first that is above it.
+pub fn in_load_order<K: Key, V>(pairs: &[(K, V)]) -> bool
+    ensures { IsTrue result ↔ IsInLoadOrder K.cmp pairs.now }
+{
+    let Some((first, mut rest)) = pairs.split_first() else {
+        return true;
+    };
+    let mut last = first;
+    while let Some((pair, tail)) = rest.split_first() {
+        if last.0.cmp(&pair.0).is_gt() {
+            return false;
+        }
+        last = pair;
+        rest = tail;
+    }
+    true
+}
+
+// Whether no pair with an equal key comes right after the pair at `at`.
+fn is_last_of_run<K: Key, V>(pairs: &[(K, V)], at: usize) -> bool
+    requires { at < length pairs.now }
+    ensures { load K.cmp (drop at pairs.now) ≡ (if result then take 1 (drop at pairs.now) else []) ++ load K.cmp (drop (at + 1) pairs.now) }
+{
+    if at + 1 == pairs.len() {
+        return true;
+    }
+    !pairs[at + 1].0.cmp(&pairs[at].0).is_eq()
+}
+
+// Moves the item at `at` down to the place `kept`, if it doesn't stand there.
+fn move_down<T>(items: &mut Vec<T>, kept: usize, at: usize)
+    requires { (kept ≤ at) × (at < length items.old.items) }
+    ensures kept { take (kept + 1) items.new.items ≡ take kept items.old.items ++ take 1 (drop at items.old.items) }
+    ensures rest { drop (at + 1) items.new.items ≡ drop (at + 1) items.old.items }
+    ensures len { length items.new.items ≡ length items.old.items }
+{
+    if kept < at {
+        items.swap(kept, at);
+    }
+}
+
+/// Of each run of pairs with equal keys the last pair stays, and the others are dropped. Each key is compared with the
+/// next, and the vector keeps its room.
+pub fn keep_last_of_each_run<K: Key, V: Drop>(pairs: &mut Vec<(K, V)>)
+    requires { IsInLoadOrder K.cmp pairs.old.items }
+    ensures items { pairs.new.items ≡ load K.cmp pairs.old.items }
+    ensures order { IsAscending K.cmp pairs.new.items }
+{
+    let mut kept = 0;
+    let mut at = 0;
+    while at < pairs.len() {
+        if is_last_of_run(pairs.as_slice(), at) {
+            move_down(pairs, kept, at);
+            kept += 1;
+        }
+        at += 1;
+    }
+    pairs.truncate(kept);
+}
+
+/// Pairs in load order, of which the last of each run is kept: they ascend, they are what is gathered of all, and at each
+/// key is the value of the last pair with an equal key. Pairs that ascend are in load order, and all are kept.
+pub fn laws_of_load<K: Key, V>()
+    ensures order { (l : List (K × V)) → IsInLoadOrder K.cmp l → IsAscending K.cmp (load K.cmp l) }
+    ensures gather { (l : List (K × V)) → IsInLoadOrder K.cmp l → load K.cmp l ≡ gather K.cmp l }
+    ensures value { (l : List (K × V)) → (k : K) → IsInLoadOrder K.cmp l → value K.cmp (load K.cmp l) k ≡ last_value K.cmp l k }
+    ensures ascending { (l : List (K × V)) → IsAscending K.cmp l → IsInLoadOrder K.cmp l }
+    ensures same { (l : List (K × V)) → IsAscending K.cmp l → load K.cmp l ≡ l }
+    ensures runs { (l : List (K × V)) → load K.cmp l ≡ last_of_each_run (λ pair after. is_eq (K.cmp pair.0 after.0)) l }
+{}

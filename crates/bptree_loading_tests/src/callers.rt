@@ -1,0 +1,4 @@
+//! Callers that are proved: what each ensures follows from the contracts of the functions that it calls.
+
+mod dedup;
+mod loading;

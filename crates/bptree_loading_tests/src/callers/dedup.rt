@@ -1,0 +1,67 @@
+//! Callers of the iterator that keeps the last item of each run.
+ghost use Rattle.std.specs.Prelude.{◌≡◌, ◌==◌, Bool, List, IfOk, IsTrue};
+ghost use Rattle.std.specs.Iterator.{IsFinite};
+ghost use Rattle.std.specs.Iterator.Order.{ActsAsAtTwo};
+ghost use Rattle.std.specs.Ordering.{is_eq};
+ghost use Rattle.bptree_keys.specs.Contents.{load};
+ghost use Rattle.bptree_loading.specs.Dedup.{GivesAll, last_of_each_run};
+
+use bptree_keys::key::Key;
+use bptree_loading::dedup::{DeDupKeepLast, DedupByExt};
+use bptree_loading::loading::laws_of_load;
+use std::alloc::{AllocError, Global};
+
+// The last number of each run of equal numbers.
+fn collects_the_last_numbers(alloc: Global, numbers: Vec<u64>) -> Result<Vec<u64>, AllocError>
+    ensures { IfOk result (λ v. v.items ≡ last_of_each_run (λ x y. x == y) numbers.items) }
+{
+    numbers
+        .into_iter()
+        .dedup_keep_last(|number, after| *number == *after)
+        .collect(alloc)
+}
+
+// The last pair of each run of pairs with equal keys: what `load` says.
+fn collects_the_last_pairs<K: Key, V: Drop>(
+    alloc: Global,
+    pairs: Vec<(K, V)>,
+) -> Result<Vec<(K, V)>, AllocError>
+    ensures { IfOk result (λ v. v.items ≡ load K.cmp pairs.items) }
+{
+    laws_of_load::<K, V>();
+    pairs
+        .into_iter()
+        .dedup_keep_last(|pair, after| pair.0.cmp(&after.0).is_eq())
+        .collect(alloc)
+}
+
+// Of whatever iterator ends and whatever the test computes, the last item of each run.
+fn collects_the_last_items<I: Iterator, F: FnMut(&I::Item, &I::Item) -> bool>(
+    alloc: Global,
+    items: I,
+    same: F,
+) -> Result<Vec<I::Item>, AllocError>
+where
+    I::Item: Drop,
+    requires can { I.can_next items }
+    requires ends { IsFinite (I.remaining items) }
+    requires callable { F.IsAlwaysCallable same }
+    ensures { (test : I.Item → I.Item → Bool) (xs : List I.Item) → ActsAsAtTwo F.FnMut same test → GivesAll I.next_gives items xs → IfOk result (λ v. v.items ≡ last_of_each_run test xs) }
+{
+    items.dedup_keep_last(same).collect(alloc)
+}
+
+// Once there was no item there never is one.
+fn ends_for_good<I: Iterator, F: FnMut(&I::Item, &I::Item) -> bool>(
+    items: &mut DeDupKeepLast<I, F>,
+) -> bool
+where
+    I::Item: Drop,
+    requires { ⟦<DeDupKeepLast<I, F> as Iterator>⟧.can_next items.old }
+    ensures { IsTrue result }
+{
+    match items.next() {
+        Some(_) => true,
+        None => items.next().is_none(),
+    }
+}

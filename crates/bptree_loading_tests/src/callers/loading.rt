@@ -1,0 +1,56 @@
+//! Callers of the order of pairs, and of the last of each run.
+ghost use Rattle.std.specs.Prelude.{◌≡◌, ◌≢◌, ◌∷◌, ◌↔◌, [], Some, List, IsTrue};
+ghost use Rattle.std.specs.declared.cmp.Ordering.TheVariants.{Equal, Greater};
+ghost use Rattle.bptree_keys.specs.Contents.{IsAscending, load, gather, value};
+ghost use Rattle.bptree_loading.specs.Loading.{IsInLoadOrder, last_value};
+
+use bptree_keys::key::Key;
+use bptree_loading::loading::{in_load_order, keep_last_of_each_run, laws_of_load};
+
+// No pairs are in order, one pair is, and two are where the first key is not above the second.
+fn tells_the_order_of_few<K: Key, V>(pairs: &[(K, V)]) -> bool
+    ensures none { pairs.now ≡ [] → IsTrue result }
+    ensures one { (a : K × V) → pairs.now ≡ a ∷ [] → IsTrue result }
+    ensures two { (a b : K × V) → pairs.now ≡ a ∷ b ∷ [] → IsTrue result ↔ (K.cmp a.0 b.0 ≢ Greater) }
+{
+    in_load_order(pairs)
+}
+
+// Pairs that ascend are in order.
+fn finds_ascending_pairs_in_order<K: Key, V>(pairs: &[(K, V)]) -> bool
+    requires { IsAscending K.cmp pairs.now }
+    ensures { IsTrue result }
+{
+    laws_of_load::<K, V>();
+    in_load_order(pairs)
+}
+
+// And of them all stay.
+fn keeps_ascending_pairs<K: Key, V: Drop>(pairs: &mut Vec<(K, V)>)
+    requires { IsAscending K.cmp pairs.old.items }
+    ensures { pairs.new.items ≡ pairs.old.items }
+{
+    laws_of_load::<K, V>();
+    keep_last_of_each_run(pairs);
+}
+
+// Of two pairs with equal keys the second stays, and at the key is its value.
+fn keeps_the_second_of_two<K: Key, V: Drop>(pairs: &mut Vec<(K, V)>)
+    requires { IsInLoadOrder K.cmp pairs.old.items }
+    ensures pair { (a b : K × V) → pairs.old.items ≡ a ∷ b ∷ [] → K.cmp b.0 a.0 ≡ Equal → pairs.new.items ≡ b ∷ [] }
+    ensures value { (k : K) → value K.cmp pairs.new.items k ≡ last_value K.cmp pairs.old.items k }
+    ensures gather { pairs.new.items ≡ gather K.cmp pairs.old.items }
+{
+    laws_of_load::<K, V>();
+    keep_last_of_each_run(pairs);
+}
+
+// A second pass changes nothing.
+fn keeps_all_of_what_was_kept<K: Key, V: Drop>(pairs: &mut Vec<(K, V)>)
+    requires { IsInLoadOrder K.cmp pairs.old.items }
+    ensures { pairs.new.items ≡ load K.cmp pairs.old.items }
+{
+    laws_of_load::<K, V>();
+    keep_last_of_each_run(pairs);
+    keep_last_of_each_run(pairs);
+}
