@@ -1,5 +1,10 @@
 //! The tree, its nodes, its stores and its iterators.
 
+/// Of each run of items that are the same, the last.
+pub mod bulk_load {
+    pub use bptree_loading::dedup::{DeDupKeepLast, DedupByExt};
+}
+
 pub use crate::argument::group;
 pub use bptree_arguments::argument::{Argument, RankArgument, SearchArgument};
 pub use bptree_arguments::visit::{DescendError, DescendVisit, DescendVisitResult};
@@ -8,6 +13,7 @@ pub use bptree_keys::entry_ref::{EntryRef, EntryRefDetached, VisitStack};
 pub use bptree_keys::key::{Key, Tuple2};
 pub use bptree_keys::node_id::{InnerNodeId, LeafNodeId, NodeId};
 pub use bptree_keys::{entry_ref, node_id};
+pub use bptree_loading::loading::in_load_order;
 pub use bptree_nodes::inner_node::{InnerMergeResult, InnerNode};
 pub use bptree_nodes::leaf_node::{LeafDeleteResult, LeafNode, LeafUpsertResult};
 pub use bptree_nodes::{inner_node, leaf_node};

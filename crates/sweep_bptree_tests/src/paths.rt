@@ -8,7 +8,8 @@ pub mod root {
 
 pub mod of_argument {
     pub use sweep_bptree::argument::count::Count;
-    pub use sweep_bptree::argument::{Argument, RankArgument, SearchArgument, count};
+    pub use sweep_bptree::argument::group::{ExtractGroupSize, FromRef, GroupCount, Tuple2};
+    pub use sweep_bptree::argument::{Argument, RankArgument, SearchArgument, count, group};
 }
 
 pub mod of_script {
@@ -19,14 +20,15 @@ pub mod of_script {
 
 pub mod of_tree {
     pub use sweep_bptree::tree::{
-        Argument, BPlusTree, CloneStore, EntryRef, EntryRefDetached, InnerMergeResult, InnerNode,
+        Argument, BPlusTree, CloneStore, DescendError, DescendVisit, DescendVisitResult, EntryRef, EntryRefDetached, InnerMergeResult, InnerNode,
         InnerNodeId, InsertError, Iter, Key, LeafDeleteResult, LeafNode, LeafNodeId,
         LeafUpsertResult, NodeId, NodeStore, NodeStoreVec, RankArgument, SearchArgument,
-        SelectError, Tuple2, VisitStack, count,
+        SelectError, Tuple2, VisitStack, count, group, in_load_order, visit,
     };
 }
 
 pub mod of_modules {
+    pub use sweep_bptree::tree::bulk_load::{DeDupKeepLast, DedupByExt};
     pub use sweep_bptree::tree::entry_ref::{EntryRef, EntryRefDetached, VisitStack};
     pub use sweep_bptree::tree::inner_node::{InnerMergeResult, InnerNode};
     pub use sweep_bptree::tree::iterator::Iter;
