@@ -20,10 +20,11 @@ pub mod of_script {
 
 pub mod of_tree {
     pub use sweep_bptree::tree::{
-        Argument, BPlusTree, CloneStore, DescendError, DescendVisit, DescendVisitResult, EntryRef, EntryRefDetached, InnerMergeResult, InnerNode,
-        InnerNodeId, InsertError, Iter, Key, LeafDeleteResult, LeafNode, LeafNodeId,
-        LeafUpsertResult, NodeId, NodeStore, NodeStoreVec, RankArgument, SearchArgument,
-        SelectError, Tuple2, VisitStack, count, group, in_load_order, visit,
+        Argument, BPlusTree, CloneStore, DescendError, DescendVisit, DescendVisitResult, EntryRef,
+        EntryRefDetached, InnerMergeResult, InnerNode, InnerNodeId, InsertError, Iter, Key,
+        LeafDeleteResult, LeafNode, LeafNodeId, LeafUpsertResult, NodeId, NodeStore, NodeStoreVec,
+        RankArgument, SearchArgument, SelectError, Tuple2, VisitStack, count, group, in_load_order,
+        visit,
     };
 }
 
