@@ -16,15 +16,23 @@ type Grouped = NodeStoreVec<Pair, u64, GroupCount<Tuple2<u64>>>;
 
 type Refused = NodeStoreVec<Pair, u64, GroupCount<Guarded>>;
 
-// Puts a key, with its second part as its value. It is refused, or was there before, where the answer is false.
-fn put<S: NodeStore<K = Pair, V = u64>>(tree: &mut BPlusTree<S>, key: Pair) -> bool {
-    let (_, value) = key;
+// Puts a key with a value. It is refused, or was there before, where the answer is false.
+fn put_with<S: NodeStore<K = Pair, V = u64>>(
+    tree: &mut BPlusTree<S>,
+    key: Pair,
+    value: u64,
+) -> bool {
     matches!(tree.insert(key, value), Ok(None))
 }
 
-// Removes a key that is there.
-fn take<S: NodeStore<K = Pair, V = u64>>(tree: &mut BPlusTree<S>, key: Pair) -> bool {
+// The same, with the key's second part as its value.
+fn put<S: NodeStore<K = Pair, V = u64>>(tree: &mut BPlusTree<S>, key: Pair) -> bool {
     let (_, value) = key;
+    put_with(tree, key, value)
+}
+
+// Removes a key that is there.
+fn take<S: NodeStore<K = Pair, V = u64>>(tree: &mut BPlusTree<S>, key: Pair, value: u64) -> bool {
     match tree.remove(&key) {
         Ok(Some(old)) => old == value,
         _ => false,
@@ -186,10 +194,12 @@ where
     S::Argument: Grouping,
 {
     let mut tree: BPlusTree<S> = new_tree(alloc)?;
-    let mut all = has_groups(&tree, 0) && has_size(&tree, before, 0) && put(&mut tree, (1, 100));
-    all = all && has_groups(&tree, 1) && take(&mut tree, (1, 100)) && has_groups(&tree, 0);
-    all = all && put_all(&mut tree, &[(1, 100), (1, 101)]) && has_groups(&tree, 1);
-    all = all && has_size(&tree, after, 2) && has_place(&tree, 1, 0, 100);
+    let mut all = has_groups(&tree, 0) && has_size(&tree, before, 0);
+    all = all && put_with(&mut tree, (1, 1), 100) && has_groups(&tree, 1);
+    all = all && take(&mut tree, (1, 1), 100) && has_groups(&tree, 0);
+    all = all && put_with(&mut tree, (1, 1), 100) && put_with(&mut tree, (1, 2), 101);
+    all = all && has_groups(&tree, 1) && has_size(&tree, after, 2);
+    all = all && has_place(&tree, 1, 0, 100) && has_place(&tree, 1, 1, 101);
     Ok(all && has_no_place(&tree, 1, 3) && has_rank(&tree, (1, 0), false, 0))
 }
 
