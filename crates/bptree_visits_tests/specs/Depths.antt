@@ -1,5 +1,5 @@
 -- What a visitor that counts levels may answer.
-use Rattle.std.specs.Prelude.{ℕ, ◌<◌, Some, None, Option}
+use Rattle.std.specs.Prelude.{ℕ, ◌<◌, Some, None}
 use Rattle.bptree_arguments.specs.Visits.{VisitAnswer, answered, invalid_child}
 
 -- some number from 1 on

@@ -1,7 +1,6 @@
 //! Groups that are refused.
 ghost use Rattle.std.specs.Prelude.{◌≡◌};
 ghost use Rattle.std.proofs.Common.{rules};
-ghost use Rattle.bptree_arguments.specs.Groups.{first_not_above};
 
 use bptree_arguments::group::FromRef;
 use bptree_keys::key::Key;

@@ -1,6 +1,5 @@
 //! Visitors.
-ghost use Rattle.std.specs.Prelude.{◌≡◌, ◌≤◌, ℕ, Some, ⊤};
-ghost use Rattle.bptree_arguments.specs.Visits.{answered};
+ghost use Rattle.std.specs.Prelude.{⊤};
 ghost use Rattle.bptree_visits_tests.specs.Depths.{IsDepth};
 
 use bptree_arguments::argument::Argument;
