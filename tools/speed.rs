@@ -87,6 +87,25 @@ fn main() {
                 }
             }
             tell("remove", start, keys.len(), sum);
+            let mut map = BTreeMap::new();
+            let start = Instant::now();
+            let mut sum = 0u64;
+            for key in &sorted {
+                if map.insert(*key, *key).is_some() {
+                    sum += 1;
+                }
+            }
+            tell("upward", start, keys.len(), sum);
+            let pairs: Vec<(u64, u64)> = sorted.iter().map(|key| (*key, *key)).collect();
+            let start = Instant::now();
+            let map: BTreeMap<u64, u64> = pairs.into_iter().collect();
+            tell("load", start, keys.len(), map.len() as u64);
+            let start = Instant::now();
+            let mut sum = 0u64;
+            for (key, _) in map {
+                sum = sum.wrapping_add(key);
+            }
+            tell("drain", start, keys.len(), sum);
         }
     }
 }

@@ -15,7 +15,8 @@ use Rattle.bptree_arguments.specs.declared.group.Ends.{Ends}
 use Rattle.bptree_arguments.specs.Groups.{group_size, different, IsNonDescending, AreExtremes, AreEnds, IsGroupSummary}
 use Rattle.bptree_keys.specs.Pieces.{flatten, piece_at, ArePieces}
 use Rattle.bptree_keys.proofs.PieceLemmas.{AllByRecursion-append, AllByRecursion-weaker}
-use Rattle.bptree_arguments.proofs.GroupLemmas.{less_by, ends_ordered, less_le, witness, crossing, size_alike, least_alike, greatest_alike, sizes_fit, capped, merged, least_shared, greatest_shared, below, many_left, many_right, shared_count, apart_count, least_apart, greatest_apart, le_less, single, one_one_shared, one_one_apart, many_one_shared, many_one_apart, groups_ascend, piece_whole, piece_order, piece_fits}
+use Rattle.bptree_arguments.proofs.GroupLemmas.{less_by, ends_ordered, witness, crossing, sizes_fit, capped, merged, least_shared, greatest_shared, below, many_left, many_right, shared_count, apart_count, least_apart, greatest_apart, single, one_one_shared, one_one_apart, many_one_shared, many_one_apart, groups_ascend, piece_whole, piece_order, piece_fits}
+use Rattle.bptree_arguments.specs.GroupClones.{less_le, size_alike, least_alike, greatest_alike, le_less}
 
 module _ {G : Type 0} {R : G → G → Ordering} (o : IsTotalOrder R) where
   any_of_alike : (x y : G) (zs : List G) → AllByRecursion (λ z. R y z ≡ Equal) zs → list_any (λ z. is_eq (R x z)) zs ≡ true → R x y ≡ Equal

@@ -9,10 +9,10 @@ use Rattle.std.proofs.lemmas.List.{append_assoc, map-append, length-map, length-
 use Rattle.std.proofs.lemmas.Cmp.{upto, tied_itself, tied_back, alike_right}
 use Rattle.std.proofs.lemmas.Bool.{true≢false}
 use Rattle.std.proofs.lemmas.List.Folds.{list_any-append}
-use Rattle.std.proofs.lemmas.List.Elements.{filter-append, filter_agree}
+use Rattle.std.proofs.lemmas.List.Elements.{filter-append}
 use Rattle.bptree_arguments.specs.declared.group.GroupCount.{GroupCount}
-use Rattle.bptree_arguments.specs.declared.group.GroupCount.TheVariants.{Zero, One, Multiple}
-use Rattle.bptree_arguments.specs.Groups.{group, group_size, different, IsNonDescending, AreExtremes, IsGroupSummary, AreAlike}
+use Rattle.bptree_arguments.specs.GroupClones.{less_le, le_less, size_alike, greatest_alike}
+use Rattle.bptree_arguments.specs.Groups.{group, group_size, different, IsNonDescending, AreExtremes, IsGroupSummary}
 use Rattle.bptree_keys.specs.Pieces.{flatten, piece_at, ArePieces}
 use Rattle.bptree_keys.proofs.PieceLemmas.{AllByRecursion-append, AllByRecursion-right, AllByRecursion-weaker, AllZip-at, AllZip-length, flatten-cut, sorted_left, sorted_right, flatten-take_more}
 use Rattle.bptree_arguments.proofs.RankLemmas.{filter_none}
@@ -33,29 +33,12 @@ equal_from Equal e = refl
 equal_from Greater e = absurd (true≢false (sym e))
 
 module _ {G : Type 0} {R : G → G → Ordering} (o : IsTotalOrder R) where
-  pub less_le : (x y z : G) → R x y ≡ Less → is_gt (R y z) ≡ false → R x z ≡ Less
-  less_le x y z p q = by (R y z) refl q where
-    by : (r : Ordering) → R y z ≡ r → is_gt r ≡ false → R x z ≡ Less
-    by Less e h = o.trans x y z p e
-    by Equal e h = sym (alike_right o y z x e) ∙ p
-    by Greater e h = absurd (true≢false h)
-
-  pub le_less : (x y z : G) → is_gt (R x y) ≡ false → R y z ≡ Less → R x z ≡ Less
-  le_less x y z p q = by (R x y) refl p where
-    by : (r : Ordering) → R x y ≡ r → is_gt r ≡ false → R x z ≡ Less
-    by Less e h = o.trans x y z e q
-    by Equal e h = o.congr x y z e ∙ q
-    by Greater e h = absurd (true≢false h)
-
   not_equal_above : (x g : G) → R g x ≡ Less → is_eq (R x g) ≡ false
   not_equal_above x g e = ap is_eq (o.antisymm x g ∙ ap ordering_reverse e)
 
   -- the size of a group
   pub size-append : (g : G) (xs ys : List G) → group_size R g (xs ++ ys) ≡ group_size R g xs + group_size R g ys
   size-append g xs ys = ap length (filter-append (λ x. is_eq (R x g)) xs ys) ∙ length-append (filter (λ x. is_eq (R x g)) xs) _
-
-  pub size_alike : (g h : G) → R g h ≡ Equal → (xs : List G) → group_size R g xs ≡ group_size R h xs
-  size_alike g h e xs = ap length (filter_agree (λ x. is_eq (R x g)) (λ x. is_eq (R x h)) (λ x. ap is_eq (alike_right o g h x e)) xs)
 
   pub size_below : (g : G) (xs : List G) → AllByRecursion (λ x. R x g ≡ Less) xs → group_size R g xs ≡ 0
   size_below g xs h = ap length (filter_none (λ x. is_eq (R x g)) xs (AllByRecursion-weaker (λ x. R x g ≡ Less) (λ x. is_eq (R x g) ≡ false) (λ x e. ap is_eq e) xs h))
@@ -163,29 +146,29 @@ module _ {G : Type 0} {R : G → G → Ordering} (o : IsTotalOrder R) where
 
     -- how many keys of the other part are in the least or the greatest group
     pub least_shared : R l1.0 l2.0 ≡ Equal → group_size R l1.0 ys ≡ l2.1
-    least_shared e = size_alike l1.0 l2.0 e ys ∙ sym b.least_size
+    least_shared e = size_alike o l1.0 l2.0 e ys ∙ sym b.least_size
 
     pub least_apart : R l1.0 l2.0 ≡ Less → group_size R l1.0 ys ≡ 0
-    least_apart e = size_above l1.0 ys (AllByRecursion-weaker (λ y. is_gt (R l2.0 y) ≡ false) (λ y. R l1.0 y ≡ Less) (λ y f. less_le l1.0 l2.0 y e f) ys b.least_bound)
+    least_apart e = size_above l1.0 ys (AllByRecursion-weaker (λ y. is_gt (R l2.0 y) ≡ false) (λ y. R l1.0 y ≡ Less) (λ y f. less_le o l1.0 l2.0 y e f) ys b.least_bound)
 
     pub greatest_shared : R g1.0 g2.0 ≡ Equal → group_size R g2.0 xs ≡ g1.1
-    greatest_shared e = sym (size_alike g1.0 g2.0 e xs) ∙ sym a.greatest_size
+    greatest_shared e = sym (size_alike o g1.0 g2.0 e xs) ∙ sym a.greatest_size
 
     pub greatest_apart : R g1.0 g2.0 ≡ Less → group_size R g2.0 xs ≡ 0
-    greatest_apart e = size_below g2.0 xs (AllByRecursion-weaker (λ x. is_gt (R x g1.0) ≡ false) (λ x. R x g2.0 ≡ Less) (λ x f. le_less x g1.0 g2.0 f e) xs a.greatest_bound)
+    greatest_apart e = size_below g2.0 xs (AllByRecursion-weaker (λ x. is_gt (R x g1.0) ≡ false) (λ x. R x g2.0 ≡ Less) (λ x f. le_less o x g1.0 g2.0 f e) xs a.greatest_bound)
 
     -- the number of different groups of both
     count_apart : R g1.0 l2.0 ≡ Less → different R (xs ++ ys) ≡ d1 + d2
     count_apart e =
         let none : AllByRecursion (λ x. list_any (λ y. is_eq (R x y)) ys ≡ false) xs =
         AllByRecursion-weaker (λ x. is_gt (R x g1.0) ≡ false) (λ x. list_any (λ y. is_eq (R x y)) ys ≡ false)
-        (λ x f. list_any_none (λ y. is_eq (R x y)) ys (AllByRecursion-weaker (λ y. is_gt (R l2.0 y) ≡ false) (λ y. is_eq (R x y) ≡ false) (λ y k. ap is_eq (less_le x l2.0 y (le_less x g1.0 l2.0 f e) k)) ys b.least_bound)) xs a.greatest_bound in
+        (λ x f. list_any_none (λ y. is_eq (R x y)) ys (AllByRecursion-weaker (λ y. is_gt (R l2.0 y) ≡ false) (λ y. is_eq (R x y) ≡ false) (λ y k. ap is_eq (less_le o x l2.0 y (le_less o x g1.0 l2.0 f e) k)) ys b.least_bound)) xs a.greatest_bound in
         omega (arith, different_apart xs ys none, a.count_is, b.count_is)
 
     in_both : R g1.0 l2.0 ≡ Equal → (x : G) → is_gt (R x g1.0) ≡ false → list_any (λ y. is_eq (R x y)) ys ≡ is_eq (R x g1.0)
     in_both e x f = by (R x g1.0) refl f where
       by : (r : Ordering) → R x g1.0 ≡ r → is_gt r ≡ false → list_any (λ y. is_eq (R x y)) ys ≡ is_eq r
-      by Less k u = list_any_none (λ y. is_eq (R x y)) ys (AllByRecursion-weaker (λ y. is_gt (R l2.0 y) ≡ false) (λ y. is_eq (R x y) ≡ false) (λ y v. ap is_eq (less_le x l2.0 y (sym (alike_right o g1.0 l2.0 x e) ∙ k) v)) ys b.least_bound)
+      by Less k u = list_any_none (λ y. is_eq (R x y)) ys (AllByRecursion-weaker (λ y. is_gt (R l2.0 y) ≡ false) (λ y. is_eq (R x y) ≡ false) (λ y v. ap is_eq (less_le o x l2.0 y (sym (alike_right o g1.0 l2.0 x e) ∙ k) v)) ys b.least_bound)
       by Equal k u = any_true x l2.0 ys (omega (arith, b.least_there, b.least_size)) (sym (alike_right o g1.0 l2.0 x e) ∙ k)
       by Greater k u = absurd (true≢false u)
 
@@ -208,29 +191,6 @@ module _ {G : Type 0} {R : G → G → Ordering} (o : IsTotalOrder R) where
       count_is = k;
     }
 
-  -- a group equal to an extreme stands for it
-  pub least_alike : (xs : List G) (l g : G × ℕ) (d : ℕ) (m : G) → R l.0 m ≡ Equal → AreExtremes R xs l g d → AreExtremes R xs (m, l.1) g d
-  least_alike xs l g d m e a = record {
-    least_bound = AllByRecursion-weaker (λ x. is_gt (R l.0 x) ≡ false) (λ x. is_gt (R m x) ≡ false) (λ x f. upto o m l.0 x (ap is_gt (tied_back o l.0 m e)) f) xs a.least_bound;
-    least_size = a.least_size ∙ size_alike l.0 m e xs;
-    least_there = a.least_there;
-    greatest_bound = a.greatest_bound;
-    greatest_size = a.greatest_size;
-    greatest_there = a.greatest_there;
-    count_is = a.count_is;
-  }
-
-  pub greatest_alike : (xs : List G) (l g : G × ℕ) (d : ℕ) (m : G) → R g.0 m ≡ Equal → AreExtremes R xs l g d → AreExtremes R xs l (m, g.1) d
-  greatest_alike xs l g d m e a = record {
-    least_bound = a.least_bound;
-    least_size = a.least_size;
-    least_there = a.least_there;
-    greatest_bound = AllByRecursion-weaker (λ x. is_gt (R x g.0) ≡ false) (λ x. is_gt (R x m) ≡ false) (λ x f. upto o x g.0 m f (ap is_gt e)) xs a.greatest_bound;
-    greatest_size = a.greatest_size ∙ size_alike g.0 m e xs;
-    greatest_there = a.greatest_there;
-    count_is = a.count_is;
-  }
-
   -- the sizes and the count are within the length
   pub sizes_fit : (xs : List G) (l g : G × ℕ) (d : ℕ) → AreExtremes R xs l g d → (l.1 ≤ length xs) × (g.1 ≤ length xs) × (d ≤ length xs)
   sizes_fit xs l g d a = (omega (arith, a.least_size, size-le l.0 xs), omega (arith, a.greatest_size, size-le g.0 xs), omega (arith, a.count_is, different-le xs))
@@ -238,32 +198,16 @@ module _ {G : Type 0} {R : G → G → Ordering} (o : IsTotalOrder R) where
   pub capped : (n m : ℕ) (xs ys : List G) → n ≤ length xs → m ≤ length ys → length (xs ++ ys) < 2 ^ 64 → min (n + m) (2 ^ 64 - 1) ≡ n + m
   capped n m xs ys h k l = omega (arith, length-append xs ys)
 
-  less_alike : (a b c d : G) → R a b ≡ Less → R a c ≡ Equal → R b d ≡ Equal → R c d ≡ Less
-  less_alike a b c d e f h = le_less c a d (ap is_gt (tied_back o a c f)) (less_le a b d e (ap is_gt h))
-
-  pub summary_alike : (x y : GroupCount G) (gs : List G) → AreAlike R x y → IsGroupSummary R x gs → IsGroupSummary R y gs
-  summary_alike Zero Zero gs e s = s
-  summary_alike Zero (One h m) gs e s = absurd e
-  summary_alike Zero (Multiple l g m) gs e s = absurd e
-  summary_alike (One g n) Zero gs e s = absurd e
-  summary_alike (One g n) (One h m) gs e s = subst (λ k. AreExtremes R gs (h, k) (h, k) 1) e.1 (greatest_alike gs (h, n) (g, n) 1 h e.0 (least_alike gs (g, n) (g, n) 1 h e.0 s))
-  summary_alike (One g n) (Multiple l h m) gs e s = absurd e
-  summary_alike (Multiple l g n) Zero gs e s = absurd e
-  summary_alike (Multiple l g n) (One h m) gs e s = absurd e
-  summary_alike (Multiple l g n) (Multiple l' g' m) gs e s =
-      let moved = greatest_alike gs (l'.0, l.1) g n g'.0 e.2 (least_alike gs l g n l'.0 e.0 s.0) in
-      (subst (λ k. AreExtremes R gs l' (g'.0, k) m) e.3 (subst (λ k. AreExtremes R gs (l'.0, k) (g'.0, g.1) m) e.1 (subst (λ k. AreExtremes R gs (l'.0, l.1) (g'.0, g.1) k) e.4 moved)), less_alike l.0 g.0 l'.0 g'.0 s.1 e.0 e.2)
-
   -- the arms of a merge
   module _ (xs ys : List G) (l1 g1 l2 g2 : G × ℕ) (d1 d2 : ℕ) (a : AreExtremes R xs l1 g1 d1) (b : AreExtremes R ys l2 g2 d2) (h : IsNonDescending R (xs ++ ys)) (fits : length (xs ++ ys) < 2 ^ 64) where
     pub below : (R g1.0 l2.0 ≡ Equal → ⊥) → R g1.0 l2.0 ≡ Less
     below k = less_by (R g1.0 l2.0) (boundary xs ys l1 g1 l2 g2 d1 d2 a b h) k
 
     pub many_left : R l1.0 g1.0 ≡ Less → l1.1 ≡ l1.1 + group_size R l1.0 ys
-    many_left e = omega (arith, least_apart xs ys l1 g1 l2 g2 d1 d2 a b h (less_le l1.0 g1.0 l2.0 e (boundary xs ys l1 g1 l2 g2 d1 d2 a b h)))
+    many_left e = omega (arith, least_apart xs ys l1 g1 l2 g2 d1 d2 a b h (less_le o l1.0 g1.0 l2.0 e (boundary xs ys l1 g1 l2 g2 d1 d2 a b h)))
 
     pub many_right : R l2.0 g2.0 ≡ Less → g2.1 ≡ group_size R g2.0 xs + g2.1
-    many_right e = omega (arith, greatest_apart xs ys l1 g1 l2 g2 d1 d2 a b h (le_less g1.0 l2.0 g2.0 (boundary xs ys l1 g1 l2 g2 d1 d2 a b h) e))
+    many_right e = omega (arith, greatest_apart xs ys l1 g1 l2 g2 d1 d2 a b h (le_less o g1.0 l2.0 g2.0 (boundary xs ys l1 g1 l2 g2 d1 d2 a b h) e))
 
     pub shared_count : R g1.0 l2.0 ≡ Equal → min (d1 + d2) (2 ^ 64 - 1) - 1 ≡ different R (xs ++ ys)
     shared_count e = omega (arith, count_shared xs ys l1 g1 l2 g2 d1 d2 a b h e, capped d1 d2 xs ys (sizes_fit xs l1 g1 d1 a).2 (sizes_fit ys l2 g2 d2 b).2 fits)
@@ -279,7 +223,7 @@ module _ {G : Type 0} {R : G → G → Ordering} (o : IsTotalOrder R) where
         let left = least_shared xs ys (x, n) (x, n) (y, m) (y, m) 1 1 a b h q in
         let right = greatest_shared xs ys (x, n) (x, n) (y, m) (y, m) 1 1 a b h q in
         let count = count_shared xs ys (x, n) (x, n) (y, m) (y, m) 1 1 a b h q in
-        greatest_alike (xs ++ ys) (x, min (n + m) (2 ^ 64 - 1)) (y, min (n + m) (2 ^ 64 - 1)) 1 x (tied_back o x y q)
+        greatest_alike o (xs ++ ys) (x, min (n + m) (2 ^ 64 - 1)) (y, min (n + m) (2 ^ 64 - 1)) 1 x (tied_back o x y q)
         (merged xs ys (x, n) (x, n) (y, m) (y, m) 1 1 a b h _ _ 1 (omega (arith, sum, left)) (omega (arith, sum, right)) (omega (arith, count)))
 
     pub one_one_apart : (x y c : G) (n m : ℕ) → AreExtremes R xs (x, n) (x, n) 1 → AreExtremes R ys (y, m) (y, m) 1 → R y c ≡ Equal → (R x y ≡ Equal → ⊥) → AreExtremes R (xs ++ ys) (x, n) (c, m) 2 × (R x c ≡ Less)
@@ -288,8 +232,8 @@ module _ {G : Type 0} {R : G → G → Ordering} (o : IsTotalOrder R) where
         let left = least_apart xs ys (x, n) (x, n) (y, m) (y, m) 1 1 a b h low in
         let right = greatest_apart xs ys (x, n) (x, n) (y, m) (y, m) 1 1 a b h low in
         let count = count_apart xs ys (x, n) (x, n) (y, m) (y, m) 1 1 a b h low in (
-          greatest_alike (xs ++ ys) (x, n) (y, m) 2 c k (merged xs ys (x, n) (x, n) (y, m) (y, m) 1 1 a b h n m 2 (omega (arith, left)) (omega (arith, right)) (omega (arith, count))),
-          less_le x y c low (ap is_gt k),
+          greatest_alike o (xs ++ ys) (x, n) (y, m) 2 c k (merged xs ys (x, n) (x, n) (y, m) (y, m) 1 1 a b h n m 2 (omega (arith, left)) (omega (arith, right)) (omega (arith, count))),
+          less_le o x y c low (ap is_gt k),
         )
 
     -- several groups, and then one
@@ -299,7 +243,7 @@ module _ {G : Type 0} {R : G → G → Ordering} (o : IsTotalOrder R) where
         let left = many_left xs ys l g (y, m) (y, m) d 1 a b h fits f in
         let right = greatest_shared xs ys l g (y, m) (y, m) d 1 a b h q in
         let count = count_shared xs ys l g (y, m) (y, m) d 1 a b h q in (
-          greatest_alike (xs ++ ys) l (y, min (g.1 + m) (2 ^ 64 - 1)) d g.0 (tied_back o g.0 y q) (merged xs ys l g (y, m) (y, m) d 1 a b h l.1 _ d left (omega (arith, sum, right)) (omega (arith, count))),
+          greatest_alike o (xs ++ ys) l (y, min (g.1 + m) (2 ^ 64 - 1)) d g.0 (tied_back o g.0 y q) (merged xs ys l g (y, m) (y, m) d 1 a b h l.1 _ d left (omega (arith, sum, right)) (omega (arith, count))),
           f,
         )
 
@@ -309,8 +253,8 @@ module _ {G : Type 0} {R : G → G → Ordering} (o : IsTotalOrder R) where
         let left = many_left xs ys l g (y, m) (y, m) d 1 a b h fits f in
         let right = greatest_apart xs ys l g (y, m) (y, m) d 1 a b h low in
         let count = apart_count xs ys l g (y, m) (y, m) d 1 a b h fits low in (
-          greatest_alike (xs ++ ys) l (y, m) _ c k (merged xs ys l g (y, m) (y, m) d 1 a b h l.1 m _ left (omega (arith, right)) count),
-          less_le l.0 y c (o.trans l.0 g.0 y f low) (ap is_gt k),
+          greatest_alike o (xs ++ ys) l (y, m) _ c k (merged xs ys l g (y, m) (y, m) d 1 a b h l.1 m _ left (omega (arith, right)) count),
+          less_le o l.0 y c (o.trans l.0 g.0 y f low) (ap is_gt k),
         )
 
   -- the summary after one more group

@@ -12,7 +12,8 @@ use Rattle.std.proofs.lemmas.Cmp.{upto, tied_itself}
 use Rattle.bptree_arguments.specs.Groups.{group_size, IsNonDescending}
 use Rattle.bptree_arguments.specs.GroupAnswers.{IsBorderOf, is_before}
 use Rattle.bptree_keys.proofs.PieceLemmas.{AllByRecursion-at, AllByRecursion-weaker, sorted_right}
-use Rattle.bptree_arguments.proofs.GroupLemmas.{le_less, size-append, size_below, groups_ascend}
+use Rattle.bptree_arguments.proofs.GroupLemmas.{size-append, size_below, groups_ascend}
+use Rattle.bptree_arguments.specs.GroupClones.{le_less}
 use Rattle.bptree_arguments.proofs.RankLemmas.{filter_none}
 
 pub less_from : (r : Ordering) → is_lt r ≡ true → r ≡ Less

@@ -16,7 +16,8 @@ use Rattle.bptree_arguments.specs.GroupAnswers.{IsBorderOf, carried, IsRankInGro
 use Rattle.bptree_arguments.specs.Groups.{group, group_size, IsGreatestGroup, IsGroupSummary, IsNonDescending}
 use Rattle.bptree_arguments.specs.Ranks.{AllAbove, AllBelow, IsSlotOf, SplitsAt}
 use Rattle.bptree_keys.proofs.PieceLemmas.{AllByRecursion-append, AllByRecursion-left, AllByRecursion-right, AllByRecursion-weaker, AllZip-length, flatten-cut, sorted_left, sorted_right}
-use Rattle.bptree_arguments.proofs.GroupLemmas.{crossing, groups_ascend, less_by, le_less, size-append, size-le, size_alike, size_below, size_greatest_below, size_greatest_same, summary_here, witness}
+use Rattle.bptree_arguments.proofs.GroupLemmas.{crossing, groups_ascend, less_by, size-append, size-le, size_below, size_greatest_below, size_greatest_same, summary_here, witness}
+use Rattle.bptree_arguments.specs.GroupClones.{le_less, size_alike}
 use Rattle.bptree_arguments.proofs.GroupOrderLemmas.{between, less_from, size_from}
 use Rattle.bptree_arguments.proofs.RankLemmas.{SplitsAt-within}
 

@@ -16,7 +16,8 @@ use Rattle.bptree_arguments.specs.Selection.{moved_by, IsPlaceIn, LeadsTo}
 use Rattle.bptree_arguments.specs.Groups.{group_size, IsGroupSummary, IsGreatestGroup, IsNonDescending, SelectsInGroup}
 use Rattle.bptree_arguments.specs.GroupAnswers.{IsBorderOf}
 use Rattle.bptree_keys.proofs.PieceLemmas.{AllByRecursion-at, AllByRecursion-weaker, flatten-cut}
-use Rattle.bptree_arguments.proofs.GroupLemmas.{child_within, equal_from, less_le, summary_here, size-append, size-le, size_above, size_greatest_below, size_greatest_same, size_after_greatest, groups_ascend, piece_ascends, size_parts, size_more}
+use Rattle.bptree_arguments.proofs.GroupLemmas.{child_within, equal_from, summary_here, size-append, size-le, size_above, size_greatest_below, size_greatest_same, size_after_greatest, groups_ascend, piece_ascends, size_parts, size_more}
+use Rattle.bptree_arguments.specs.GroupClones.{less_le}
 use Rattle.bptree_arguments.proofs.GroupOrderLemmas.{between, items_from, nondescending_drop, size_from, size_in_front}
 
 -- an item of the middle part, as an item of the whole

@@ -8,7 +8,8 @@ use Rattle.bptree_arguments.specs.declared.group.GroupCount.{GroupCount}
 use Rattle.bptree_keys.specs.Pieces.{flatten, piece_at, ArePieces}
 use Rattle.bptree_arguments.specs.Groups.{group_size, AreExtremes, IsGroupSummary, IsGreatestGroup}
 use Rattle.bptree_keys.proofs.PieceLemmas.{AllByRecursion-weaker}
-use Rattle.bptree_arguments.proofs.GroupLemmas.{child_within, less_le, size_above, size_alike, size_greatest_below, size_greatest_same, size_after_greatest, piece_ascends, size_parts, size_more}
+use Rattle.bptree_arguments.proofs.GroupLemmas.{child_within, size_above, size_greatest_below, size_greatest_same, size_after_greatest, piece_ascends, size_parts, size_more}
+use Rattle.bptree_arguments.specs.GroupClones.{less_le, size_alike}
 
 module _ {K G : Type 0} (cmp : K → K → Ordering) (R : G → G → Ordering) (group_of : K → G) (keeps : (x y : K) → is_gt (cmp x y) ≡ false → is_gt (R (group_of x) (group_of y)) ≡ false) (o : IsTotalOrder R) (g : G) (pieces : List (List K)) (are : ArePieces cmp pieces) (arguments : List (GroupCount G)) (summaries : AllZip (λ a keys. IsGroupSummary R a (map group_of keys)) arguments pieces) (i : ℕ) (l : i < length arguments) where
   inside : i < length pieces

@@ -1,5 +1,6 @@
 pub mod CountLaws
 pub mod GroupAnswers
+pub mod GroupClones
 pub mod GroupSizes
 pub mod Groups
 pub mod Ranks

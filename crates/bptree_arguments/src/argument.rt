@@ -1,5 +1,6 @@
 //! Summaries of keys.
 ghost use Rattle.std.specs.Prelude.{◌≡◌, ◌<◌, ◌≤◌, ◌^◌, ℕ, List, [], ◌++◌, length, true, is_ok, Option, IfOk, IsTrue, MatchResult, ⊤};
+ghost use Rattle.std.specs.declared.cmp.Ordering.TheVariants.{Equal};
 ghost use Rattle.std.specs.List.{AllZip};
 ghost use Rattle.std.specs.List.Sorted.{IsStrictlySortedBy};
 ghost use Rattle.bptree_arguments.specs.Ranks.{AllAbove, AllBelow, IsSlotOf};
@@ -90,6 +91,12 @@ pub trait RankArgument<K: Key>: Argument<K> {
         ensures ranked { IfOk result (λ answer. (before after : List K) → IsStrictlySortedBy K.cmp (before ++ (keys.now ++ after)) → AllBelow K.cmp k.now before → AllAbove K.cmp k.now after → length (before ++ (keys.now ++ after)) < 2 ^ 64 → stands_for rank k.now before → MatchResult answer (ranks k.now (before ++ (keys.now ++ after))) (ranks k.now (before ++ (keys.now ++ after)))) };
 }
 
+/// An argument whose summaries see keys up to equality: a clone of a summary is a summary of each list of keys that are equal
+/// to the original's, one by one. So a tree and its clone, with clones of the keys and of the summaries, are both summed up.
+pub trait CloneArgument<K: Key>: Argument<K> {
+    ghost clone_is_summary: { (a b : Self) (keys copies : List K) → Self.is_clone a b → AllZip (λ k c. K.cmp k c ≡ Equal) keys copies → Self.is_summary a keys → Self.is_summary b copies };
+}
+
 /// No summary at all: it says nothing of the keys, and takes no room.
 impl<K: Key> Argument<K> for () {
     ghost is_summary = { λ _ _. ⊤ };
@@ -109,4 +116,8 @@ impl<K: Key> Argument<K> for () {
     }
 
     ghost default_is_summary = { λ _ _. tt };
+}
+
+impl<K: Key> CloneArgument<K> for () {
+    ghost clone_is_summary = { λ _ _ _ _ _ _ _. tt };
 }

@@ -7,7 +7,7 @@ ghost use Rattle.bptree_arguments.specs.CountLaws.{SelectsPlace, count_below};
 ghost use Rattle.bptree_arguments.specs.Ranks.{AllAbove, AllBelow, IsSlotOf};
 ghost use Rattle.bptree_keys.specs.Pieces.{AllNonEmpty, ArePieces, flatten};
 
-use crate::argument::{Argument, RankArgument, SearchArgument};
+use crate::argument::{Argument, CloneArgument, RankArgument, SearchArgument};
 use bptree_keys::key::Key;
 use std::alloc::AllocError;
 
@@ -60,6 +60,13 @@ impl<K: Key> Argument<K> for Count {
     }
 
     ghost default_is_summary = { λ _ h. Prim.search rules };
+}
+
+impl<K: Key> CloneArgument<K> for Count {
+    ghost use Rattle.std.proofs.lemmas.List.Elements.{length_all_zip};
+    ghost use Rattle.std.proofs.Common.{◌∙◌, ap};
+
+    ghost clone_is_summary = { λ a b keys copies same equal counted. ap (λ c. c.0) same ∙ (counted ∙ length_all_zip _ keys copies equal) };
 }
 
 /// A query is a place: it selects the key there, or none past the end.

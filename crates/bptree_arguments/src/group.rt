@@ -11,7 +11,7 @@ ghost use Rattle.bptree_keys.specs.Pieces.{ArePieces, flatten};
 mod rank;
 mod search;
 
-use crate::argument::Argument;
+use crate::argument::{Argument, CloneArgument};
 use bptree_keys::key::Key;
 pub use bptree_keys::key::Tuple2;
 use std::alloc::AllocError;
@@ -308,4 +308,10 @@ impl<K: Key, G: FromRef<K> + Key> Argument<K> for GroupCount<G> {
     ghost use Rattle.std.proofs.Common.{rules};
 
     ghost default_is_summary = { λ a h. Prim.search rules };
+}
+
+impl<K: Key, G: FromRef<K> + Key> CloneArgument<K> for GroupCount<G> {
+    ghost use Rattle.bptree_arguments.specs.GroupClones.{clone_summarizes};
+
+    ghost clone_is_summary = { clone_summarizes K.total G.total G.group_of G.keeps_order };
 }

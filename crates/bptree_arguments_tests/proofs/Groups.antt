@@ -14,7 +14,8 @@ use Rattle.std.proofs.lemmas.Map.Made.{keys_of-zip}
 use Rattle.bptree_arguments.specs.Groups.{IsGreatestGroup, group_size}
 use Rattle.bptree_arguments.specs.GroupSizes.{GroupSize, IsSizeAnswer}
 use Rattle.bptree_arguments.specs.Visits.{answered, invalid_child}
-use Rattle.bptree_arguments.proofs.GroupLemmas.{size-le, size_alike, witness}
+use Rattle.bptree_arguments.proofs.GroupLemmas.{size-le, witness}
+use Rattle.bptree_arguments.specs.GroupClones.{size_alike}
 
 module _ {G : Type 0} {R : G → G → Ordering} (o : IsTotalOrder R) where
   neither_above : (m g : G) → is_gt (R m g) ≡ false → is_gt (R g m) ≡ false → R m g ≡ Equal

@@ -26,7 +26,7 @@ pub record AreAlike {K V : Type 0} (old new : Slot (Leaf K V)) : Type 0 where
   pub held : new ≡ Held → old ≡ Held
 
 -- what holds of all holds of each of some
-every : {X : Type 0} (P : X → Type 0) → ((x : X) → P x) → (xs : List X) → AllByRecursion P xs
+pub every : {X : Type 0} (P : X → Type 0) → ((x : X) → P x) → (xs : List X) → AllByRecursion P xs
 every P all [] = tt
 every P all (x ∷ xs) = (all x, every P all xs)
 

@@ -3,7 +3,8 @@
 //! Each function does nothing: its contract is the law.
 ghost use Rattle.std.specs.Prelude.{◌≡◌, ◌+◌, List, Some, None, length, not, ◌||◌, ◌&&◌, if◌then◌else◌};
 ghost use Rattle.std.specs.Ordering.{is_eq};
-ghost use Rattle.bptree_keys.specs.Contents.{IsAscending, gather, has, value, put, del};
+ghost use Rattle.bptree_keys.specs.Contents.{IsAscending, gather, has, value, put, del, next, previous};
+ghost use Rattle.bptree_keys.specs.Neighbours.{IsAfter, IsBefore};
 
 use crate::key::Key;
 
@@ -26,4 +27,11 @@ pub fn laws_of_del<K: Key, V>()
 /// What is gathered from any list of pairs is ascending.
 pub fn law_of_gather<K: Key, V>()
     ensures { (pairs : List (K × V)) → IsAscending K.cmp (gather K.cmp pairs) }
+{}
+
+/// On an ascending list the next pair is the one with the least greater key, and the previous the one with the greatest
+/// smaller key.
+pub fn laws_of_neighbours<K: Key, V>()
+    ensures next { (l : List (K × V)) → (k : K) → IsAscending K.cmp l → IsAfter K.cmp l k (next K.cmp l k) }
+    ensures previous { (l : List (K × V)) → (k : K) → IsAscending K.cmp l → IsBefore K.cmp l k (previous K.cmp l k) }
 {}

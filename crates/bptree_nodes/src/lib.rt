@@ -3,4 +3,5 @@
 
 pub mod inner_node;
 pub mod leaf_node;
+pub mod leaf_pairs;
 mod moves;

@@ -4,5 +4,6 @@ mod contents;
 mod inner;
 mod leaf;
 mod numbers;
+mod pairs;
 mod paths;
 mod searches;

@@ -14,7 +14,7 @@ use Rattle.bptree_requests.specs.Number.{number_of}
 use Rattle.bptree_requests.specs.Request.{words, bare_request_from, key_request_from, request_from, request_of, line_of, FitsRequest}
 use Rattle.bptree_requests.specs.declared.Request.{Request}
 use Rattle.bptree_requests.specs.declared.TheConstants.{LONGEST_LINE}
-use Rattle.bptree_requests.specs.declared.Request.TheVariants.{Put, Del, Get, Len, All as AllPairs, First, Last, At, Rank, Clear}
+use Rattle.bptree_requests.specs.declared.Request.TheVariants.{Put, Del, Get, Len, All as AllPairs, First, Last, At, Rank, Next, Prev, Back, Clear}
 
 -- a word that writes a number is its decimal text
 pub number_of-some : (word : List ℕ) (n : ℕ) → number_of word ≡ Some n → (word ≡ decimal n) × (n < 2 ^ 64)
@@ -88,6 +88,15 @@ request_of-line (Rank k) fits =
     let dk = digits_decimal digits_model k fits in
     let e : words (line_of (Rank k)) ≡ codes "rank" ∷ decimal k ∷ [] = ap (λ ws. codes "rank" ∷ ws) (words_digits_end (decimal k) dk) in
     ap request_from e ∙ rw (number_of-decimal k fits) refl
+request_of-line (Next k) fits =
+    let dk = digits_decimal digits_model k fits in
+    let e : words (line_of (Next k)) ≡ codes "next" ∷ decimal k ∷ [] = ap (λ ws. codes "next" ∷ ws) (words_digits_end (decimal k) dk) in
+    ap request_from e ∙ rw (number_of-decimal k fits) refl
+request_of-line (Prev k) fits =
+    let dk = digits_decimal digits_model k fits in
+    let e : words (line_of (Prev k)) ≡ codes "prev" ∷ decimal k ∷ [] = ap (λ ws. codes "prev" ∷ ws) (words_digits_end (decimal k) dk) in
+    ap request_from e ∙ rw (number_of-decimal k fits) refl
+request_of-line Back fits = refl
 request_of-line Clear fits = refl
 
 put-some : (o p : Option ℕ) (r : Request) → option_and_then (λ k. option_map (λ v. Put k v) p) o ≡ Some r
@@ -136,7 +145,10 @@ bare_request_from-some name r h = elim (cases_Bool (bytes_eq name (codes "len"))
         | inl i ↦ word-line name (codes "last") Last r i refl tt (rw (e, f, g, i) at h)
         | inr i ↦ elim (cases_Bool (bytes_eq name (codes "clear"))) [
           | inl j ↦ word-line name (codes "clear") Clear r j refl tt (rw (e, f, g, i, j) at h)
-          | inr j ↦ absurd (cc (rw (e, f, g, i, j) at h))
+          | inr j ↦ elim (cases_Bool (bytes_eq name (codes "back"))) [
+            | inl k ↦ word-line name (codes "back") Back r k refl tt (rw (e, f, g, i, j, k) at h)
+            | inr k ↦ absurd (cc (rw (e, f, g, i, j, k) at h))
+          ]
         ]
       ]
     ]
@@ -152,7 +164,13 @@ key_request_from-some name k r h = elim (cases_Bool (bytes_eq name (codes "get")
       | inl g ↦ key-line name (codes "rank") k (λ n. Rank n) r g (rw (e, f, g) at h) (λ n. refl) (λ n small. small)
       | inr g ↦ elim (cases_Bool (bytes_eq name (codes "del"))) [
         | inl i ↦ key-line name (codes "del") k (λ n. Del n) r i (rw (e, f, g, i) at h) (λ n. refl) (λ n small. small)
-        | inr i ↦ absurd (cc (rw (e, f, g, i) at h))
+        | inr i ↦ elim (cases_Bool (bytes_eq name (codes "next"))) [
+          | inl j ↦ key-line name (codes "next") k (λ n. Next n) r j (rw (e, f, g, i, j) at h) (λ n. refl) (λ n small. small)
+          | inr j ↦ elim (cases_Bool (bytes_eq name (codes "prev"))) [
+            | inl l ↦ key-line name (codes "prev") k (λ n. Prev n) r l (rw (e, f, g, i, j, l) at h) (λ n. refl) (λ n small. small)
+            | inr l ↦ absurd (cc (rw (e, f, g, i, j, l) at h))
+          ]
+        ]
       ]
     ]
   ]
@@ -192,6 +210,9 @@ length-line_of First fits = omega arith
 length-line_of Last fits = omega arith
 length-line_of (At i) fits = let a = length-decimal-le 20 i (omega arith) (omega arith) fits in omega arith
 length-line_of (Rank k) fits = let a = length-decimal-le 20 k (omega arith) (omega arith) fits in omega arith
+length-line_of (Next k) fits = let a = length-decimal-le 20 k (omega arith) (omega arith) fits in omega arith
+length-line_of (Prev k) fits = let a = length-decimal-le 20 k (omega arith) (omega arith) fits in omega arith
+length-line_of Back fits = omega arith
 length-line_of Clear fits = omega arith
 
 option_none : (o : Option Request) → ((r : Request) → o ≡ Some r → ⊥) → o ≡ None

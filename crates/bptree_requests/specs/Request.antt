@@ -3,7 +3,7 @@ use Rattle.std.specs.Prelude.{ℕ, ◌<◌, ◌^◌, List, [], ◌∷◌, ◌++�
 use Rattle.std.specs.List.{slice_split}
 use Rattle.bptree_requests.specs.Number.{number_of}
 use Rattle.bptree_requests.specs.declared.Request.{Request}
-use Rattle.bptree_requests.specs.declared.Request.TheVariants.{Put, Del, Get, Len, All, First, Last, At, Rank, Clear}
+use Rattle.bptree_requests.specs.declared.Request.TheVariants.{Put, Del, Get, Len, All, First, Last, At, Rank, Next, Prev, Back, Clear}
 
 -- the line that writes a request
 abbrev pub line_of : Request → List ℕ
@@ -16,6 +16,9 @@ line_of First = codes "first"
 line_of Last = codes "last"
 line_of (At i) = codes "at " ++ decimal i
 line_of (Rank k) = codes "rank " ++ decimal k
+line_of (Next k) = codes "next " ++ decimal k
+line_of (Prev k) = codes "prev " ++ decimal k
+line_of Back = codes "back"
 line_of Clear = codes "clear"
 
 -- its numbers fit 64 bits
@@ -29,6 +32,9 @@ FitsRequest First = Unit {0}
 FitsRequest Last = Unit {0}
 FitsRequest (At i) = i < 2 ^ 64
 FitsRequest (Rank k) = k < 2 ^ 64
+FitsRequest (Next k) = k < 2 ^ 64
+FitsRequest (Prev k) = k < 2 ^ 64
+FitsRequest Back = Unit {0}
 FitsRequest Clear = Unit {0}
 
 -- the words of a line, with one space between two
@@ -38,12 +44,12 @@ words line = slice_split (λ b. b == 32) line
 -- the request that a command's name alone makes
 abbrev pub bare_request_from : List ℕ → Option Request
 bare_request_from name =
-    if bytes_eq name (codes "len") then Some Len else (if bytes_eq name (codes "all") then Some All else (if bytes_eq name (codes "first") then Some First else (if bytes_eq name (codes "last") then Some Last else (if bytes_eq name (codes "clear") then Some Clear else None))))
+    if bytes_eq name (codes "len") then Some Len else (if bytes_eq name (codes "all") then Some All else (if bytes_eq name (codes "first") then Some First else (if bytes_eq name (codes "last") then Some Last else (if bytes_eq name (codes "clear") then Some Clear else (if bytes_eq name (codes "back") then Some Back else None)))))
 
 -- the request that a command's name and one number make
 abbrev pub key_request_from : List ℕ → Option ℕ → Option Request
 key_request_from name key =
-    if bytes_eq name (codes "get") then option_map (λ k. Get k) key else (if bytes_eq name (codes "at") then option_map (λ i. At i) key else (if bytes_eq name (codes "rank") then option_map (λ k. Rank k) key else (if bytes_eq name (codes "del") then option_map (λ k. Del k) key else None)))
+    if bytes_eq name (codes "get") then option_map (λ k. Get k) key else (if bytes_eq name (codes "at") then option_map (λ i. At i) key else (if bytes_eq name (codes "rank") then option_map (λ k. Rank k) key else (if bytes_eq name (codes "del") then option_map (λ k. Del k) key else (if bytes_eq name (codes "next") then option_map (λ k. Next k) key else (if bytes_eq name (codes "prev") then option_map (λ k. Prev k) key else None)))))
 
 -- the request that a command's name and its words make
 abbrev pub request_from : List (List ℕ) → Option Request

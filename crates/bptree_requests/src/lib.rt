@@ -31,6 +31,12 @@ pub enum Request {
     At(u64),
     /// `rank k`: the number of smaller keys, and whether k is present.
     Rank(u64),
+    /// `next k`: the pair with the least key above k.
+    Next(u64),
+    /// `prev k`: the pair with the greatest key below k.
+    Prev(u64),
+    /// `back`: all pairs, the last one first.
+    Back,
     /// `clear`: all pairs go.
     Clear,
 }
@@ -109,6 +115,8 @@ fn bare_request(name: &[u8]) -> Option<Request>
         Some(Request::Last)
     } else if name == b"clear".as_slice() {
         Some(Request::Clear)
+    } else if name == b"back".as_slice() {
+        Some(Request::Back)
     } else {
         None
     }
@@ -125,6 +133,10 @@ fn key_request(name: &[u8], key: &[u8]) -> Option<Request>
         Some(Request::Rank(number(key)?))
     } else if name == b"del".as_slice() {
         Some(Request::Del(number(key)?))
+    } else if name == b"next".as_slice() {
+        Some(Request::Next(number(key)?))
+    } else if name == b"prev".as_slice() {
+        Some(Request::Prev(number(key)?))
     } else {
         None
     }

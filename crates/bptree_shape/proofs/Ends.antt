@@ -29,7 +29,7 @@ at_middle : {X : Type 0} (P : X → Type 0) (before : List X) (x : X) (after : L
 at_middle P [] x after all = all.0
 at_middle P (y ∷ before) x after all = at_middle P before x after all.1
 
-alone : {X : Type 0} (y : X) (before : List X) (x : X) (after : List X) → y ∷ [] ≡ before ++ x ∷ after → (before ≡ []) × (after ≡ [])
+pub alone : {X : Type 0} (y : X) (before : List X) (x : X) (after : List X) → y ∷ [] ≡ before ++ x ∷ after → (before ≡ []) × (after ≡ [])
 alone y [] x [] e = (refl, refl)
 alone y [] x (z ∷ after) e = absurd (omega (arith, ap length e))
 alone y (z ∷ before) x after e = absurd (omega (arith, ap length e, length-append before (x ∷ after)))
@@ -88,7 +88,7 @@ module _ {K V A : Type 0} (cmp : K → K → Ordering) (slots : Slots (Inner K A
       let some = at_middle (λ (l : LeafNodeId). 0 < length (leaf_pairs (slots.leaf l.0))) in'.before leaf in'.after (subst (AllByRecursion (λ (l : LeafNodeId). 0 < length (leaf_pairs (slots.leaf l.0)))) in'.leaves all) in
       absurd (omega (arith, some))
 
-get_right : {X : Type 0} (xs ys : List X) → 0 < length ys → slice_get (xs ++ ys) (length (xs ++ ys) - 1) ≡ slice_get ys (length ys - 1)
+pub get_right : {X : Type 0} (xs ys : List X) → 0 < length ys → slice_get (xs ++ ys) (length (xs ++ ys) - 1) ≡ slice_get ys (length ys - 1)
 get_right [] ys some = refl
 get_right (x ∷ xs) ys some =
     let far : length (x ∷ (xs ++ ys)) - 1 ≡ suc (length (xs ++ ys) - 1) = omega (arith, length-append xs ys) in

@@ -1,4 +1,5 @@
 pub mod Agreeing
+pub mod Beside
 pub mod Down
 pub mod Ends
 pub mod Frame

@@ -3,5 +3,6 @@
 
 pub mod by_argument;
 pub mod descent;
+pub mod neighbours;
 pub mod reading;
 pub mod visiting;

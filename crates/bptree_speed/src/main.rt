@@ -9,7 +9,7 @@ use std::time::Instant;
 use sweep_bptree::tree::count::Count;
 use sweep_bptree::tree::group::{GroupCount, Tuple2};
 use sweep_bptree::tree::{
-    Argument, BPlusTree, NodeStore, NodeStoreVec, RankArgument, SearchArgument,
+    Argument, BPlusTree, NodeStore, NodeStoreVec, RankArgument, SearchArgument, in_load_order,
 };
 
 type Tree<A> = BPlusTree<NodeStoreVec<u64, u64, A>>;
@@ -96,6 +96,72 @@ fn remove_all<A: Argument<u64>>(tree: &mut Tree<A>, keys: &[u64]) -> Result<u64,
         }
     }
     Ok(sum)
+}
+
+// A cursor goes from the first key to the last.
+fn walk_through<A: Argument<u64>>(tree: &Tree<A>) -> Result<u64, AllocError> {
+    let mut sum = 0u64;
+    let mut at = tree.cursor_first()?;
+    for _ in 0..tree.len() {
+        let Some(cursor) = at else {
+            break;
+        };
+        sum = sum.wrapping_add(*cursor.key());
+        at = cursor.next(tree)?;
+    }
+    Ok(sum)
+}
+
+fn drain<A: Argument<u64>>(tree: Tree<A>) -> u64 {
+    let mut sum = 0u64;
+    for (key, _) in tree.into_iter() {
+        sum = sum.wrapping_add(key);
+    }
+    sum
+}
+
+fn pairs_of(alloc: Global, keys: &[u64]) -> Result<Vec<Pair>, AllocError> {
+    let mut pairs = Vec::with_capacity(alloc, keys.len())?;
+    for key in keys {
+        pairs.push((*key, *key))?;
+    }
+    Ok(pairs)
+}
+
+// One tree of ascending keys, filled by insertions, and another that is loaded at once and walked.
+fn loaded<A: Argument<u64>>(
+    rt: &HostRuntime,
+    kind: &str,
+    sorted: &[u64],
+) -> Result<(), AllocError> {
+    let mut tree: Tree<A> = BPlusTree::new(NodeStoreVec::new(rt.alloc()))?;
+    if let Ok(start) = Instant::now(rt) {
+        if let Ok(found) = insert_all(&mut tree, sorted) {
+            tell(rt, kind, "upward", start, sorted.len(), found);
+        }
+    }
+    let pairs = pairs_of(rt.alloc(), sorted)?;
+    if !in_load_order(&pairs) {
+        return Ok(());
+    }
+    let Ok(start) = Instant::now(rt) else {
+        return Ok(());
+    };
+    let tree: Tree<A> = BPlusTree::bulk_load(rt.alloc(), pairs)?;
+    tell(rt, kind, "load", start, sorted.len(), tree.len() as u64);
+    if let Ok(start) = Instant::now(rt) {
+        let sum = walk_through(&tree)?;
+        tell(rt, kind, "cursor", start, sorted.len(), sum);
+    }
+    if let Ok(start) = Instant::now(rt) {
+        let sum = step_through(&tree);
+        tell(rt, kind, "full", start, sorted.len(), sum);
+    }
+    if let Ok(start) = Instant::now(rt) {
+        let sum = drain(tree);
+        tell(rt, kind, "drain", start, sorted.len(), sum);
+    }
+    Ok(())
 }
 
 // The keys name places, and are ranked.
@@ -289,6 +355,8 @@ fn rounds(rt: &HostRuntime, pairs: usize, rounds: usize) -> Result<(), AllocErro
             counted(rt, &tree, &others);
             emptied(rt, "count", &mut tree, &others);
         }
+        loaded::<()>(rt, "plain", &sorted)?;
+        loaded::<Count>(rt, "count", &sorted)?;
     }
     Ok(())
 }

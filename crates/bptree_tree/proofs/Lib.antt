@@ -1,3 +1,5 @@
+pub mod ChainLemmas
+pub mod Cloned
 pub mod Counted
 pub mod LentAt
 pub mod SpanLemmas

@@ -35,7 +35,7 @@ some_of (Present leaf) h = (leaf, refl, h)
 
 module _ {K V A : Type 0} (slots : Slots (Inner K A) (Leaf K V)) where
   -- linked leaves, each with a pair
-  span_of : (x : LeafNodeId) (ids : List LeafNodeId) (p q : Option LeafNodeId) → AreLinked slots p (x ∷ ids) q → AllByRecursion (λ (l : LeafNodeId). 0 < length (leaf_pairs (slots.leaf l.0))) (x ∷ ids)
+  pub span_of : (x : LeafNodeId) (ids : List LeafNodeId) (p q : Option LeafNodeId) → AreLinked slots p (x ∷ ids) q → AllByRecursion (λ (l : LeafNodeId). 0 < length (leaf_pairs (slots.leaf l.0))) (x ∷ ids)
       → IsSpan (leaves_of slots) x 0 ids (last_in x ids) (length (leaf_pairs (slots.leaf (last_in x ids).0))) (pairs_of slots (x ∷ ids))
   span_of x [] p q linked all =
       let at = some_of (slots.leaf x.0) all.0 in

@@ -1,10 +1,13 @@
 //! An ordered map in memory that is one strictly ascending list of pairs, kept in a B+ tree over a store of nodes.
 #![tactic(auto)]
 
+mod chain;
+pub mod cursor;
 pub mod iterator;
 pub mod tree;
 
 pub use bptree_removal::statistics::Statistic;
+pub use cursor::Cursor;
 pub use tree::BPlusTree;
 
 /// Why a pair was not stored. It hands key and value back.

@@ -9,6 +9,10 @@ ghost use Rattle.bptree_tree.specs.Refusal.{pair_of};
 ghost use Rattle.bptree_shape.specs.Shape.{IsWellShaped};
 ghost use Rattle.bptree_tree.specs.Whole.{IsWhole};
 
+mod cloning;
+mod cursors;
+mod loading;
+mod owning;
 mod queries;
 mod removals;
 
@@ -22,6 +26,7 @@ use bptree_removal::statistics::Statistic;
 use bptree_shape::descent::{first_leaf, last_leaf};
 use bptree_shape::reading;
 use bptree_stores::node_stores::NodeStore;
+pub use owning::IntoIter;
 use std::alloc::AllocError;
 use std::marker::Model;
 

@@ -2,6 +2,9 @@
 //! calls.
 
 mod changes;
+mod cloning;
+mod cursors;
 mod iteration;
+mod owning;
 mod queries;
 mod reads;

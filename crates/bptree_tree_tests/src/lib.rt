@@ -4,7 +4,13 @@
 #[cfg(test)]
 mod callers;
 #[cfg(test)]
+mod cloning_tests;
+#[cfg(test)]
+mod cursor_tests;
+#[cfg(test)]
 mod insertion_tests;
+#[cfg(test)]
+mod owning_tests;
 #[cfg(test)]
 mod probe;
 #[cfg(test)]

@@ -1,7 +1,6 @@
-//! Reads of an empty tree, and of one inner node over three leaves, against pairs that are known beforehand.
+//! Reads of an empty tree, and the pairs of three leaves from both ends.
 use crate::trees::{
-    CountedStore, Keys, front, has_leaves, is_well_shaped, measures, new_tree, read, tree_of,
-    value_of,
+    CountedStore, Keys, front, is_well_shaped, measures, new_tree, read, tree_of, value_of,
 };
 use bptree_stores::node_stores::NodeStore;
 use bptree_tree::BPlusTree;
@@ -62,65 +61,6 @@ fn three_leaves<S: NodeStore<K = u64, V = u64>>(
     tree_of(alloc, Keys::multiples(2, 97))
 }
 
-// Whether each even key has its value, those of the written keys 7, and no other key has any.
-fn are_read<S: NodeStore<K = u64, V = u64>>(tree: &BPlusTree<S>, written: &[u64]) -> bool {
-    let mut all = true;
-    // Neighbours in one leaf are found by the remembered leaf, and the next one by a search from the root.
-    for half in 1..98_u64 {
-        let key = half.saturating_mul(2);
-        let value = if written.contains(&key) {
-            7
-        } else {
-            value_of(key)
-        };
-        all = all && read(tree, key) == Some(value) && read(tree, key.saturating_add(1)).is_none();
-    }
-    for key in [0, 1, u64::MAX] {
-        all = all && read(tree, key).is_none();
-    }
-    all
-}
-
-// Whether keys are found each of which is in another leaf than the one before.
-fn are_found_apart<S: NodeStore<K = u64, V = u64>>(tree: &BPlusTree<S>) -> bool {
-    let mut all = true;
-    for key in [192, 2, 66, 64, 130, 128] {
-        all = all
-            && read(tree, key) == Some(value_of(key))
-            && read(tree, key) == Some(value_of(key));
-    }
-    all
-}
-
-fn three_leaves_are_read<S: NodeStore<K = u64, V = u64>>(
-    alloc: Global,
-) -> Result<bool, AllocError> {
-    let (tree, filled): (BPlusTree<S>, bool) = three_leaves(alloc)?;
-    Ok(
-        filled
-            && measures(&tree, 97, 1)
-            && has_leaves(&tree, &[(2, 64, 32), (66, 128, 32), (130, 194, 33)])?
-            && !tree.is_empty()
-            && ends(&tree) == (Some(2), Some(194))
-            && are_read(&tree, &[])
-            && are_found_apart(&tree),
-    )
-}
-
-fn one_value_is_written<S: NodeStore<K = u64, V = u64>>(alloc: Global) -> Result<bool, AllocError> {
-    let (mut tree, filled): (BPlusTree<S>, bool) = three_leaves(alloc)?;
-    let mut written = filled && !write(&mut tree, 65, 7);
-    for key in [2, 66, 192] {
-        written = write(&mut tree, key, 7) && written;
-    }
-    Ok(
-        written
-            && are_read(&tree, &[2, 66, 192])
-            && measures(&tree, 97, 1)
-            && is_well_shaped(&tree)?,
-    )
-}
-
 // Whether so many pairs come from either end in turn.
 fn come_in_turn<S: NodeStore<K = u64, V = u64>>(pairs: &mut Iter<'_, S>, count: u64) -> bool {
     let mut all = true;
@@ -155,26 +95,6 @@ fn pairs_come_from_each_end<S: NodeStore<K = u64, V = u64>>(
     )
 }
 
-fn clone_of_an_iterator_goes_on_alone<S: NodeStore<K = u64, V = u64>>(
-    alloc: Global,
-) -> Result<bool, AllocError> {
-    let (tree, filled): (BPlusTree<S>, bool) = three_leaves(alloc)?;
-    let mut pairs = tree.iter();
-    let turned = come_in_turn(&mut pairs, 20);
-    let mut copy = pairs.clone()?;
-    Ok(
-        filled
-            && turned
-            && copy.len() == 57
-            && copy.size_hint() == (57, Some(57))
-            && front(&mut copy) == pair_of(42)
-            && back(&mut copy) == pair_of(154)
-            && copy.len() == 55
-            && pairs.len() == 57
-            && front(&mut pairs) == pair_of(42),
-    )
-}
-
 #[test]
 fn an_empty_tree_has_nothing_to_read(rt: HostRuntime) -> Result<(), Fail> {
     assert!(rt; empty_tree_is_read::<CountedStore>(rt.alloc())?);
@@ -182,25 +102,7 @@ fn an_empty_tree_has_nothing_to_read(rt: HostRuntime) -> Result<(), Fail> {
 }
 
 #[test]
-fn finds_each_key_and_no_gap(rt: HostRuntime) -> Result<(), Fail> {
-    assert!(rt; three_leaves_are_read::<CountedStore>(rt.alloc())?);
-    Ok(())
-}
-
-#[test]
-fn writes_one_value_alone(rt: HostRuntime) -> Result<(), Fail> {
-    assert!(rt; one_value_is_written::<CountedStore>(rt.alloc())?);
-    Ok(())
-}
-
-#[test]
 fn gives_the_pairs_from_both_ends(rt: HostRuntime) -> Result<(), Fail> {
     assert!(rt; pairs_come_from_each_end::<CountedStore>(rt.alloc())?);
-    Ok(())
-}
-
-#[test]
-fn a_clone_of_an_iterator_goes_on_alone(rt: HostRuntime) -> Result<(), Fail> {
-    assert!(rt; clone_of_an_iterator_goes_on_alone::<CountedStore>(rt.alloc())?);
     Ok(())
 }

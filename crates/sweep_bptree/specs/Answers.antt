@@ -1,13 +1,13 @@
 -- What is answered to lines.
-use Rattle.std.specs.Prelude.{ℕ, ◌-◌, ◌^◌, ◌==◌, ◌&&◌, not, List, [], ◌∷◌, ◌++◌, length, map, Bool, true, false, if◌then◌else◌, Option, Some, None, codes, decimal, slice_get}
+use Rattle.std.specs.Prelude.{ℕ, ◌-◌, ◌^◌, ◌==◌, ◌&&◌, not, List, [], ◌∷◌, ◌++◌, length, map, Bool, true, false, if◌then◌else◌, Option, Some, None, codes, decimal, reverse, slice_get}
 use Rattle.std.specs.List.{join_with_byte}
 use Rattle.std.specs.Map.{keys_of}
 use Rattle.std.specs.Ordering.{nat_cmp}
 use Rattle.bptree_arguments.specs.CountLaws.{count_below}
-use Rattle.bptree_keys.specs.Contents.{has, value, put, del}
+use Rattle.bptree_keys.specs.Contents.{has, value, put, del, next, previous}
 use Rattle.bptree_requests.specs.Request.{request_of}
 use Rattle.bptree_requests.specs.declared.Request.{Request}
-use Rattle.bptree_requests.specs.declared.Request.TheVariants.{Put, Del, Get, Len, All, First, Last, At, Rank, Clear}
+use Rattle.bptree_requests.specs.declared.Request.TheVariants.{Put, Del, Get, Len, All, First, Last, At, Rank, Next, Prev, Back, Clear}
 use Rattle.sweep_bptree.specs.Lines.{lines_of}
 
 abbrev pub value_text : Option ℕ → List ℕ
@@ -67,6 +67,9 @@ reply_to pairs (Some First) = found_text (slice_get pairs 0)
 reply_to pairs (Some Last) = found_text (slice_get pairs (length pairs - 1))
 reply_to pairs (Some (At i)) = found_text (slice_get pairs i)
 reply_to pairs (Some (Rank key)) = rank_text (has nat_cmp pairs key) (count_below nat_cmp key (keys_of pairs))
+reply_to pairs (Some (Next key)) = found_text (next nat_cmp pairs key)
+reply_to pairs (Some (Prev key)) = found_text (previous nat_cmp pairs key)
+reply_to pairs (Some Back) = pairs_text (reverse pairs)
 reply_to pairs (Some Clear) = codes "cleared"
 
 -- the pairs after it
@@ -81,6 +84,9 @@ pairs_with pairs (Some First) = pairs
 pairs_with pairs (Some Last) = pairs
 pairs_with pairs (Some (At i)) = pairs
 pairs_with pairs (Some (Rank key)) = pairs
+pairs_with pairs (Some (Next key)) = pairs
+pairs_with pairs (Some (Prev key)) = pairs
+pairs_with pairs (Some Back) = pairs
 pairs_with pairs (Some Clear) = []
 
 -- the answer to a line, and the pairs after it

@@ -1,4 +1,4 @@
--- What two inputs are answered.
+-- What some inputs are answered.
 use Rattle.std.proofs.Common.{◌≡◌, refl}
 use Rattle.std.specs.Prelude.{codes}
 use Rattle.std.specs.Fmt.{digits}
@@ -14,3 +14,7 @@ pub places_and_ranks_text : text (codes "first\nlast\nat 0\nrank 7\nall\nput 7 7
     ≡ codes "none\nnone\nnone\nout 0\nempty\nnew\nnew\n7 70\n9 90\n7 70\n9 90\nnone\nin 0\nout 1\nin 1\n"
 unfolding answer pairs_after request_of words number_of digits
 places_and_ranks_text = refl
+
+pub neighbours_and_back_text : text (codes "back\nnext 0\nput 7 70\nput 9 90\nnext 7\nnext 8\nnext 9\nprev 9\nprev 8\nprev 7\nback\n") ≡ codes "empty\nnone\nnew\nnew\n9 90\n9 90\nnone\n7 70\n7 70\nnone\n9 90,7 70\n"
+unfolding answer pairs_after request_of words number_of digits
+neighbours_and_back_text = refl

@@ -12,10 +12,10 @@ use Rattle.bptree_keys.specs.Contents.{has, value, put}
 use Rattle.bptree_nodes.specs.Leaf.{set_value_at}
 use Rattle.bptree_insertion.specs.Lending.{written}
 use Rattle.sweep_bptree.proofs.PlaceLemmas.{selected_is}
-use Rattle.sweep_bptree.specs.Steps.{Step, IsCopyOf}
+use Rattle.sweep_bptree.specs.Steps.{TreeStep, IsCopyOf}
 use Rattle.sweep_bptree.specs.declared.script.commands.Command.TheVariants.{Insert, Get, Set, SetAt, First, Last, Len, At, Rank as RankOf}
 use Rattle.sweep_bptree.specs.declared.script.commands.Reply.{Reply}
-use Rattle.sweep_bptree.specs.declared.script.commands.Reply.TheVariants.{Value, Pair, Number, Done, Rank, OutOfMemory, Full}
+use Rattle.sweep_bptree.specs.declared.script.commands.Reply.TheVariants.{Value, Pair, Number, Done, Rank, Held, Walked, NoCursor, OutOfMemory, Full}
 
 -- a fact of a reply, where there is one
 pub at_reply : {T E : Type 0} (P Q : T → Type 0) (N : E → Type 0) (r : Result T E) → MatchResult r P N → ((reply : T) → P reply → Q reply) → IfOk r Q
@@ -23,25 +23,31 @@ at_reply P Q N (Ok reply) fact then = then reply fact
 at_reply P Q N (Err e) fact then = tt
 
 module _ {K V Q R : Type 0} (cmp : K → K → Ordering) (selects : Q → List K → Option ℕ → Type 0) (ranks : K → List K → R → Type 0) (old new : List (K × V)) where
-  pub got : (k : K) (reply : Reply K V R) → Step cmp selects ranks old (Get k) reply new → (reply ≡ Value (value cmp old k)) × (new ≡ old)
+  pub got : (k : K) (reply : Reply K V R) → TreeStep cmp selects ranks old (Get k) reply new → (reply ≡ Value (value cmp old k)) × (new ≡ old)
   got k (Value found) step = (ap Value step.0, step.1)
   got k (Pair p) step = absurd step
   got k (Number n) step = absurd step
   got k (Done b) step = absurd step
   got k (Rank r) step = absurd step
+  got k (Held m w) step = absurd step
+  got k (Walked w) step = absurd step
+  got k NoCursor step = absurd step
   got k OutOfMemory step = absurd step
   got k Full step = absurd step
 
-  pub counted : (reply : Reply K V R) → Step cmp selects ranks old Len reply new → (reply ≡ Number (length old)) × (new ≡ old)
+  pub counted : (reply : Reply K V R) → TreeStep cmp selects ranks old Len reply new → (reply ≡ Number (length old)) × (new ≡ old)
   counted (Value v) step = absurd step
   counted (Pair p) step = absurd step
   counted (Number n) step = (ap Number step.0, step.1)
   counted (Done b) step = absurd step
   counted (Rank r) step = absurd step
+  counted (Held m w) step = absurd step
+  counted (Walked w) step = absurd step
+  counted NoCursor step = absurd step
   counted OutOfMemory step = absurd step
   counted Full step = absurd step
 
-  pub inserted : (k : K) (v : V) (reply : Reply K V R) → Step cmp selects ranks old (Insert k v) reply new
+  pub inserted : (k : K) (v : V) (reply : Reply K V R) → TreeStep cmp selects ranks old (Insert k v) reply new
       → ((reply ≡ Value (value cmp old k)) × (new ≡ put cmp old k v))
       ⊎ (((reply ≡ OutOfMemory) ⊎ ((reply ≡ Full) × (length old ≡ 2 ^ 64 - 1))) × (has cmp old k ≡ false) × (new ≡ old))
   inserted k v (Value before) step = inl (ap Value step.1, step.2)
@@ -49,10 +55,13 @@ module _ {K V Q R : Type 0} (cmp : K → K → Ordering) (selects : Q → List K
   inserted k v (Number n) step = absurd step
   inserted k v (Done b) step = absurd step
   inserted k v (Rank r) step = absurd step
+  inserted k v (Held m w) step = absurd step
+  inserted k v (Walked w) step = absurd step
+  inserted k v NoCursor step = absurd step
   inserted k v OutOfMemory step = inr (inl refl, step.1, step.2)
   inserted k v Full step = inr (inr (refl, step.0.0), step.0.1, step.1)
 
-  pub set_there : (k : K) (v : V) (reply : Reply K V R) → Step cmp selects ranks old (Set k v) reply new
+  pub set_there : (k : K) (v : V) (reply : Reply K V R) → TreeStep cmp selects ranks old (Set k v) reply new
       → (reply ≡ Done (has cmp old k)) × (new ≡ cond (has cmp old k) (written cmp k old v) old)
   set_there k v (Value before) step = absurd step
   set_there k v (Pair p) step = absurd step
@@ -60,6 +69,9 @@ module _ {K V Q R : Type 0} (cmp : K → K → Ordering) (selects : Q → List K
   set_there k v (Done true) step = rw step.0 (refl, step.1)
   set_there k v (Done false) step = rw step.0 (refl, step.1)
   set_there k v (Rank r) step = absurd step
+  set_there k v (Held m w) step = absurd step
+  set_there k v (Walked w) step = absurd step
+  set_there k v NoCursor step = absurd step
   set_there k v OutOfMemory step = absurd step
   set_there k v Full step = absurd step
 
@@ -74,17 +86,20 @@ copy_is (Some p) None same = absurd same
 copy_is (Some p) (Some q) same = ap Some (same_pair p q (exact_unsigned p.0 q.0 same.0) same.1)
 
 module _ {V R : Type 0} (ranks : ℕ → List ℕ → R → Type 0) (old new : List (ℕ × V)) where
-  pub told_at : (i : ℕ) (reply : Reply ℕ V R) → Step nat_cmp SelectsPlace ranks old (At i) reply new
+  pub told_at : (i : ℕ) (reply : Reply ℕ V R) → TreeStep nat_cmp SelectsPlace ranks old (At i) reply new
       → ((reply ≡ Pair (slice_get old i)) ⊎ (reply ≡ OutOfMemory)) × (new ≡ old)
   told_at i (Value v) step = absurd step
   told_at i (Pair p) step = (inl (ap Pair (copy_is _ p step.0.2 ∙ selected_is i old step.0.0 step.0.1)), step.1)
   told_at i (Number n) step = absurd step
   told_at i (Done b) step = absurd step
   told_at i (Rank r) step = absurd step
+  told_at i (Held m w) step = absurd step
+  told_at i (Walked w) step = absurd step
+  told_at i NoCursor step = absurd step
   told_at i OutOfMemory step = (inr refl, step)
   told_at i Full step = absurd step
 
-  pub set_at_place : (i : ℕ) (v : V) (reply : Reply ℕ V R) → Step nat_cmp SelectsPlace ranks old (SetAt i v) reply new
+  pub set_at_place : (i : ℕ) (v : V) (reply : Reply ℕ V R) → TreeStep nat_cmp SelectsPlace ranks old (SetAt i v) reply new
       → ((reply ≡ Done true) × (i < length old) × (new ≡ set_value_at old i v))
       ⊎ ((reply ≡ Done false) × (length old ≤ i) × (new ≡ old))
       ⊎ ((reply ≡ OutOfMemory) × (new ≡ old))
@@ -94,12 +109,15 @@ module _ {V R : Type 0} (ranks : ℕ → List ℕ → R → Type 0) (old new : L
   set_at_place i v (Done true) step = inl (refl, rw (← step.2.0) step.1, rw (← step.2.0) step.3)
   set_at_place i v (Done false) step = inr (inl (refl, rw (length-keys_of old) at step.0, step.1))
   set_at_place i v (Rank r) step = absurd step
+  set_at_place i v (Held m w) step = absurd step
+  set_at_place i v (Walked w) step = absurd step
+  set_at_place i v NoCursor step = absurd step
   set_at_place i v OutOfMemory step = inr (inr (refl, step))
   set_at_place i v Full step = absurd step
 
 -- the rank of a key is the number of smaller keys
 pub ranked : {V : Type 0} (selects : ℕ → List ℕ → Option ℕ → Type 0) (old new : List (ℕ × V)) (k : ℕ) (reply : Reply ℕ V ℕ)
-    → Step nat_cmp selects (λ key keys n. n ≡ count_below nat_cmp key keys) old (RankOf k) reply new
+    → TreeStep nat_cmp selects (λ key keys n. n ≡ count_below nat_cmp key keys) old (RankOf k) reply new
     → ((reply ≡ Rank (cond (has nat_cmp old k) (Ok (count_below nat_cmp k (keys_of old))) (Err (count_below nat_cmp k (keys_of old))))) ⊎ (reply ≡ OutOfMemory)) × (new ≡ old)
 ranked selects old new k (Value v) step = absurd step
 ranked selects old new k (Pair p) step = absurd step
@@ -107,5 +125,8 @@ ranked selects old new k (Number n) step = absurd step
 ranked selects old new k (Done b) step = absurd step
 ranked selects old new k (Rank (Ok n)) step = rw (← step.1) (inl (ap (λ m. Rank (Ok m)) step.0), step.2)
 ranked selects old new k (Rank (Err n)) step = rw (← step.1) (inl (ap (λ m. Rank (Err m)) step.0), step.2)
+ranked selects old new k (Held m w) step = absurd step
+ranked selects old new k (Walked w) step = absurd step
+ranked selects old new k NoCursor step = absurd step
 ranked selects old new k OutOfMemory step = (inr refl, step)
 ranked selects old new k Full step = absurd step

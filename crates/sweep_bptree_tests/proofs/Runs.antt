@@ -22,29 +22,30 @@ first_is : {T : Type 0} (a b : T) → a ∷ [] ≡ b ∷ [] → a ≡ b
 first_is a b is = cc
 
 module _ {K V Q R : Type 0} (cmp : K → K → Ordering) (selects : Q → List K → Option ℕ → Type 0) (ranks : K → List K → R → Type 0) (old new : List (K × V)) where
-  no_run : (commands : List (Command K V Q)) (replies : List (Reply K V R)) → length replies ≡ 0 → Run cmp selects ranks old commands replies new → new ≡ old
-  no_run [] [] none run = run
-  no_run [] (reply ∷ replies) none run = absurd run
-  no_run (command ∷ commands) [] none run = absurd run
-  no_run (command ∷ commands) (reply ∷ replies) none run = absurd (omega (arith, none))
+  no_run : (held held_after : List K) (commands : List (Command K V Q)) (replies : List (Reply K V R)) → length replies ≡ 0 → Run cmp selects ranks old held commands replies new held_after → new ≡ old
+  no_run held held_after [] [] none run = run.0
+  no_run held held_after [] (reply ∷ replies) none run = absurd run
+  no_run held held_after (command ∷ commands) [] none run = absurd run
+  no_run held held_after (command ∷ commands) (reply ∷ replies) none run = absurd (omega (arith, none))
 
   -- where there is no reply nothing has changed
   pub nothing_ran : {E : Type 0} (error : Option E) (commands : List (Command K V Q)) (replies : List (Reply K V R)) → length replies ≡ 0
-      → (IsNone error → Run cmp selects ranks old commands replies new) → (IsSome error → (replies ≡ []) × (new ≡ old)) → new ≡ old
-  nothing_ran None commands replies none run refused = no_run commands replies none (run refl)
+      → (IsNone error → (held : List K) × Run cmp selects ranks old [] commands replies new held) → (IsSome error → (replies ≡ []) × (new ≡ old)) → new ≡ old
+  nothing_ran None commands replies none run refused = let r = run refl in no_run [] r.0 commands replies none r.1
   nothing_ran (Some e) commands replies none run refused = (refused refl).1
 
   -- a run of one command has one reply
-  step_of : (command : Command K V Q) (replies rest : List (Reply K V R)) (reply : Reply K V R) → replies ≡ rest ++ reply ∷ []
-      → Run cmp selects ranks old (command ∷ []) replies new → Step cmp selects ranks old command reply new
-  step_of command [] rest reply is run = absurd run
-  step_of command (first ∷ []) [] reply is run = let P : Reply K V R → List (K × V) → Type 0 = λ r l. Step cmp selects ranks old command r l in rw (← first_is first reply is, run.2) run.1
-  step_of command (first ∷ []) (r ∷ rest) reply is run = absurd (omega (arith, ap length is, length-append rest (reply ∷ [])))
-  step_of command (first ∷ second ∷ replies) rest reply is run = absurd run.2
+  step_of : (held held_after : List K) (command : Command K V Q) (replies rest : List (Reply K V R)) (reply : Reply K V R) → replies ≡ rest ++ reply ∷ []
+      → Run cmp selects ranks old held (command ∷ []) replies new held_after → Step cmp selects ranks old held command reply new held_after
+  step_of held held_after command [] rest reply is run = absurd run
+  step_of held held_after command (first ∷ []) [] reply is run = rw (← first_is first reply is, run.3.0, run.3.1) run.2
+  step_of held held_after command (first ∷ []) (r ∷ rest) reply is run = absurd (omega (arith, ap length is, length-append rest (reply ∷ [])))
+  step_of held held_after command (first ∷ second ∷ replies) rest reply is run = absurd run.3
 
   pub one_ran : {E : Type 0} (error : Option E) (command : Command K V Q) (commands : List (Command K V Q)) (replies rest : List (Reply K V R)) (reply : Reply K V R)
       → commands ≡ command ∷ [] → replies ≡ rest ++ reply ∷ []
-      → (IsNone error → Run cmp selects ranks old commands replies new) → (IsSome error → (replies ≡ []) × (new ≡ old)) → Step cmp selects ranks old command reply new
+      → (IsNone error → (held : List K) × Run cmp selects ranks old [] commands replies new held) → (IsSome error → (replies ≡ []) × (new ≡ old)) → (held : List K) × Step cmp selects ranks old [] command reply new held
   one_ran None command commands replies rest reply only is run refused =
-      let P : List (Command K V Q) → Type 0 = λ cs. Run cmp selects ranks old cs replies new in step_of command replies rest reply is (subst P only (run refl))
+      let r = run refl in
+      let P : List (Command K V Q) → Type 0 = λ cs. Run cmp selects ranks old [] cs replies new r.0 in (r.0, step_of [] r.0 command replies rest reply is (subst P only r.1))
   one_ran (Some e) command commands replies rest reply only is run refused = absurd (omega (arith, ap length is, ap length (refused refl).0, length-append rest (reply ∷ [])))

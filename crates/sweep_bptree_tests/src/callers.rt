@@ -96,6 +96,19 @@ pub fn places_and_ranks<R: Read, W: Write>(
     serve(alloc, reader, writer)
 }
 
+// The pairs beside a key, whether it is there or not, and all pairs from the last one.
+pub fn neighbours_and_back<R: Read, W: Write>(
+    alloc: Global,
+    reader: &mut R,
+    writer: &mut W,
+) -> Result<(), ServeError>
+    requires { R.remaining reader.old ≡ Some (codes "back\nnext 0\nput 7 70\nput 9 90\nnext 7\nnext 8\nnext 9\nprev 9\nprev 8\nprev 7\nback\n") }
+    ensures { OnOk result (Appends (W.contents writer.old) (W.contents writer.new)
+        (codes "empty\nnone\nnew\nnew\n9 90\n9 90\nnone\n7 70\n7 70\nnone\n9 90,7 70\n")) }
+{
+    serve(alloc, reader, writer)
+}
+
 // An input alone says what is answered, whoever reads and writes.
 pub fn answers_alike<R: Read, S: Read, W: Write, X: Write>(
     alloc: Global,
@@ -152,7 +165,7 @@ where
     S::V: Copy,
     S::Argument: SearchArgument<S::K> + RankArgument<S::K>,
     ensures { MatchResult result
-        (λ reply. Step S.K.cmp S.Argument.selects S.Argument.ranks tree.old.contents command reply tree.new.contents)
+        (λ reply. (held : List S.K) × Step S.K.cmp S.Argument.selects S.Argument.ranks tree.old.contents [] command reply tree.new.contents held)
         (λ _. tree.new ≡ tree.old) }
 {
     let mut commands = Vec::new(alloc);

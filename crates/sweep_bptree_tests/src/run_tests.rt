@@ -8,7 +8,7 @@ use bptree_tree::BPlusTree;
 use std::alloc::{AllocError, Global};
 use std::iter::ExactSizeIterator;
 use std::test::Fail;
-use sweep_bptree::script::{Command, Reply, run};
+use sweep_bptree::script::{Command, End, Reply, run};
 
 // A key whose letter takes no part in the order.
 #[derive(Debug, Drop)]
@@ -199,6 +199,69 @@ fn a_run_answers_each_command(rt: HostRuntime) -> Result<(), Fail> {
         "Number(0)",
         "Done(true)",
         "Pair(None)",
+    ];
+    let replies = replies_to(rt.alloc(), commands)?;
+    assert!(rt; print_as(rt.alloc(), &replies, &wanted)?);
+    Ok(())
+}
+
+#[test]
+fn a_run_holds_cursors(rt: HostRuntime) -> Result<(), Fail> {
+    let commands = vec![in rt.alloc();
+        Command::CursorFirst,
+        Command::CursorLast,
+        Command::Next(0),
+        Command::Insert(key_of(1, 'a'), 10),
+        Command::Insert(key_of(2, 'b'), 20),
+        Command::Cursor(key_of(1, 'c')),
+        Command::Remove(key_of(1, 'd')),
+        Command::Value(0),
+        Command::Exists(0),
+        Command::Next(0),
+        Command::Next(0),
+        Command::Value(0),
+        Command::Exists(0),
+        Command::Value(1),
+        Command::Walk(vec![in rt.alloc(); End::Back, End::Front]?),
+        Command::Insert(key_of(1, 'e'), 11),
+        Command::Insert(key_of(3, 'f'), 30),
+        Command::CursorFirst,
+        Command::CursorLast,
+        Command::Prev(2),
+        Command::Prev(2),
+        Command::Prev(2),
+        Command::Exists(3),
+        Command::Prev(3),
+        Command::Walk(vec![in rt.alloc(); End::Back, End::Front, End::Back, End::Front]?),
+        Command::Walk(Vec::new(rt.alloc())),
+    ]?;
+    let wanted = [
+        "Pair(None)",
+        "Pair(None)",
+        "NoCursor",
+        "Value(None)",
+        "Value(None)",
+        "Held(0, Some(10))",
+        "Value(Some(10))",
+        "Value(None)",
+        "Done(false)",
+        "Pair(Some((Numbered { number: 2, letter: 'b' }, 20)))",
+        "Pair(None)",
+        "Value(Some(20))",
+        "Done(true)",
+        "NoCursor",
+        "Walked([Some((Numbered { number: 2, letter: 'b' }, 20)), None])",
+        "Value(None)",
+        "Value(None)",
+        "Held(1, Some(11))",
+        "Held(2, Some(30))",
+        "Pair(Some((Numbered { number: 2, letter: 'b' }, 20)))",
+        "Pair(Some((Numbered { number: 1, letter: 'e' }, 11)))",
+        "Pair(None)",
+        "NoCursor",
+        "NoCursor",
+        "Walked([Some((Numbered { number: 3, letter: 'f' }, 30)), Some((Numbered { number: 1, letter: 'e' }, 11)), Some((Numbered { number: 2, letter: 'b' }, 20)), None])",
+        "Walked([])",
     ];
     let replies = replies_to(rt.alloc(), commands)?;
     assert!(rt; print_as(rt.alloc(), &replies, &wanted)?);

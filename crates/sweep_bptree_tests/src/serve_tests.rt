@@ -134,12 +134,16 @@ fn inputs(rt: HostRuntime) {
             "new\nbad\n1\n",
         ),
         (
-            "put 2 20\nput 1 10\nput 2 21\nrank 2\nrank 3\nat 0\ndel 1\nall\nget 01x",
-            "new\nnew\nold 20\nin 1\nout 2\n1 10\ngone 10\n2 21\nbad\n",
+            "put 2 20\nput 1 10\nput 2 21\nrank 2\nrank 3\nat 0\nnext 1\ndel 1\nall\nget 01x",
+            "new\nnew\nold 20\nin 1\nout 2\n1 10\n2 21\ngone 10\n2 21\nbad\n",
         ),
         (
-            "put 0 18446744073709551615\nput 18446744073709551615 0\nall\nat 2\nclear\nall\nlen",
-            "new\nnew\n0 18446744073709551615,18446744073709551615 0\nnone\ncleared\nempty\n0\n",
+            "put 0 18446744073709551615\nput 18446744073709551615 0\nall\nback\nat 2\nprev 0\nclear\nall\nlen",
+            "new\nnew\n0 18446744073709551615,18446744073709551615 0\n18446744073709551615 0,0 18446744073709551615\nnone\nnone\ncleared\nempty\n0\n",
+        ),
+        (
+            "back\nnext 0\nprev 5\nput 5 50\nback\nnext 5\nprev 5\nnext 0\nprev 18446744073709551615\nput 7 70\nput 6 60\nnext 5\nprev 7\nnext 6\nback\n",
+            "empty\nnone\nnone\nnew\n5 50\nnone\nnone\n5 50\n5 50\nnew\nnew\n6 60\n6 60\n7 70\n7 70,6 60,5 50\n",
         ),
         (
             "del 5\nput 5 50\ndel 5\ndel 5\nlen\nclear\nput 5 51\ndel 5\n",
@@ -191,6 +195,9 @@ fn bad_lines(rt: HostRuntime) -> Result<(), Fail> {
         b"rank",
         b"rank 1 2",
         b"rank 01",
+        b"next",
+        b"prev 1 2",
+        b"back 1",
         b"ranks 1",
         b"del",
         b"del 01",

@@ -1,19 +1,23 @@
 // The answers to lines.
-ghost use Rattle.std.specs.Prelude.{◌≡◌, ◌≤◌, [], ◌∷◌, ◌++◌, codes, decimal, length, OnOk, option_map, slice_get};
+ghost use Rattle.std.specs.Prelude.{◌≡◌, ◌≤◌, [], ◌∷◌, ◌++◌, codes, decimal, length, MatchResult, OnOk, option_map, slice_get};
 ghost use Rattle.std.specs.Map.{keys_of};
 ghost use Rattle.std.specs.Ordering.{nat_cmp};
 ghost use Rattle.bptree_arguments.specs.CountLaws.{count_below};
-ghost use Rattle.bptree_keys.specs.Contents.{has, value, del};
+ghost use Rattle.bptree_keys.specs.Contents.{has, value, del, next, previous};
 ghost use Rattle.bptree_requests.specs.Request.{request_of};
+ghost use Rattle.bptree_tree.specs.Cursor.{cursor_key};
 ghost use Rattle.sweep_bptree.specs.Answers.{pair_text, found_text, item_text, pairs_text, rank_text, old_text, gone_text, value_text, put_text, pairs_with_put, reply_to, pairs_with, answer, pairs_after};
+ghost use Rattle.sweep_bptree.specs.Ends.{seen_from};
 ghost use Rattle.sweep_bptree.specs.Sent.{SendsOrFails, Replies};
 
 use crate::script::error::ServeError;
 use crate::script::output::Output;
+use crate::script::walk::{End, take_pair};
 use crate::tree::{BPlusTree, InsertError, NodeStoreVec};
 use arrayvec::ArrayString;
 use bptree_arguments::count::Count;
 use bptree_requests::{Request, read_request};
+use bptree_tree::cursor::Cursor;
 use std::fmt::Write as _;
 use std::io::Write;
 
@@ -106,14 +110,16 @@ fn send_item<W: Write>(
     send_pair(out, key, value)
 }
 
-fn send_pairs<W: Write>(out: &mut Output<W>, tree: &NumberTree) -> Result<(), ServeError>
-    ensures { SendsOrFails out.old out.new (pairs_text tree.now.contents) result }
+// All pairs, from one end to the other.
+fn send_pairs<W: Write>(out: &mut Output<W>, tree: &NumberTree, end: End) -> Result<(), ServeError>
+    ensures { SendsOrFails out.old out.new (pairs_text (seen_from end tree.now.contents)) result }
 {
     if tree.is_empty() {
         return out.send(b"empty");
     }
+    let mut pairs = tree.iter();
     let mut is_first = true;
-    for (key, value) in tree.iter() {
+    while let Some((key, value)) = take_pair(&mut pairs, end) {
         send_item(out, is_first, *key, *value)?;
         is_first = false;
     }
@@ -130,6 +136,51 @@ fn send_place<W: Write>(
 {
     match tree.get_by_argument(place as usize) {
         Ok(pair) => send_found(out, pair),
+        Err(_) => Err(ServeError::OutOfMemory),
+    }
+}
+
+// The key that a cursor stands on, with the value there, if there is one.
+fn send_beside<W: Write>(
+    out: &mut Output<W>,
+    found: Option<(Cursor<u64>, &u64)>,
+) -> Result<(), ServeError>
+    ensures { SendsOrFails out.old out.new (found_text (option_map (λ found. (cursor_key found.0, found.1.now)) found.entry)) result }
+{
+    match found {
+        None => out.send(b"none"),
+        Some((cursor, value)) => send_pair(out, *cursor.key(), *value),
+    }
+}
+
+// A cursor on the key, which need not be there.
+fn cursor_on(tree: &NumberTree, key: u64) -> Result<Cursor<u64>, ServeError>
+    ensures { MatchResult result (λ cursor. cursor_key cursor ≡ key) (λ error. error ≡ ServeError.OutOfMemory) }
+{
+    match tree.get_cursor(&key) {
+        Ok(Some((cursor, _))) => Ok(cursor),
+        _ => Err(ServeError::OutOfMemory),
+    }
+}
+
+// The pair with the least greater key, if there is one.
+fn send_next<W: Write>(out: &mut Output<W>, tree: &NumberTree, key: u64) -> Result<(), ServeError>
+    ensures { Replies out.old out.new (found_text (next nat_cmp tree.now.contents key)) result }
+{
+    let cursor = cursor_on(tree, key)?;
+    match cursor.next_with_value(tree) {
+        Ok(found) => send_beside(out, found),
+        Err(_) => Err(ServeError::OutOfMemory),
+    }
+}
+
+// The pair with the greatest smaller key, if there is one.
+fn send_prev<W: Write>(out: &mut Output<W>, tree: &NumberTree, key: u64) -> Result<(), ServeError>
+    ensures { Replies out.old out.new (found_text (previous nat_cmp tree.now.contents key)) result }
+{
+    let cursor = cursor_on(tree, key)?;
+    match cursor.prev_with_value(tree) {
+        Ok(found) => send_beside(out, found),
         Err(_) => Err(ServeError::OutOfMemory),
     }
 }
@@ -199,11 +250,14 @@ fn carry_out<W: Write>(
         Request::Del(key) => delete_pair(tree, key, out),
         Request::Get(key) => send_value(out, tree.get(&key).copied()),
         Request::Len => send_number(out, tree.len() as u64),
-        Request::All => send_pairs(out, tree),
+        Request::All => send_pairs(out, tree, End::Front),
+        Request::Back => send_pairs(out, tree, End::Back),
         Request::First => send_found(out, tree.first()),
         Request::Last => send_found(out, tree.last()),
         Request::At(place) => send_place(out, tree, place),
         Request::Rank(key) => send_rank(out, tree, key),
+        Request::Next(key) => send_next(out, tree, key),
+        Request::Prev(key) => send_prev(out, tree, key),
         Request::Clear => delete_all(tree, out),
     }
 }

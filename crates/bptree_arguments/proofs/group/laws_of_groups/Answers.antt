@@ -1,4 +1,5 @@
-use Rattle.bptree_arguments.proofs.GroupLemmas.{size_of_keys, summary_alike}
+use Rattle.bptree_arguments.proofs.GroupLemmas.{size_of_keys}
+use Rattle.bptree_arguments.specs.GroupClones.{summary_alike}
 use Rattle.bptree_arguments.proofs.group.laws_of_groups.Goals as goal
 
 pub returns-clause-size : goal.returns-clause-size

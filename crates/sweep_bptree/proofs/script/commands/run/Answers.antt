@@ -1,19 +1,6 @@
-use Rattle.std.proofs.Common.{◌∙◌, ◌++◌, ◌∷◌, [], ap, sym, append_assoc, length-append, arith}
-use Rattle.std.specs.Vec.Iter.{into_iter_items}
-use Rattle.sweep_bptree.proofs.RunLemmas.{Run-more}
+use Rattle.std.proofs.Common.{arith, map}
+use Rattle.bptree_tree.specs.Cursor.{cursor_key}
 use Rattle.sweep_bptree.proofs.script.commands.run.Goals as goal
-
-pub loop-command-preserved : goal.loop-command-preserved
-loop-command-preserved g c =
-    let inv = c.loop-command.invariant in
-    let done = c.loop-command.yielded in (
-      tt,
-      tt,
-      inv.2 ∙ ap (λ rest. done ++ rest) c.in-Some.ensures.steps.0 ∙ sym (append_assoc done (c.in-Some.command ∷ []) (into_iter_items c.next.new.self)),
-      omega (arith, length-append done (c.in-Some.command ∷ []), c.push_reserved.ensures.len, inv.3),
-      omega (arith, c.push_reserved.ensures.capacity, inv.4),
-      rw c.push_reserved.ensures.items (Run-more g.S.K.Ord.cmp g.S.Argument.SearchArgument.selects g.S.Argument.RankArgument.ranks done c.loop-command.replies.items _ _ _ _ _ inv.5 c.carry_out.ensures),
-    )
 
 -- the error is answered, and there was no room for as many replies as commands
 pub returns-in-Err-clause-run : goal.returns-in-Err-clause-run
@@ -21,3 +8,6 @@ returns-in-Err-clause-run g c = λ is. cc is
 
 pub returns-in-Err-clause-all : goal.returns-in-Err-clause-all
 returns-in-Err-clause-all g c = (λ is. cc is, λ is. absurd (omega (arith, is, c.in-Err.ensures.full, c.in-Err.ensures.len, c.new-replies.ensures.len)))
+
+pub returns-clause-run : goal.returns-clause-run
+returns-clause-run g c = λ _. (map cursor_key c.carry_out_each.new.cursors.items, rw c.new-cursors.ensures.items at c.carry_out_each.ensures.run)

@@ -1,0 +1,19 @@
+use Rattle.std.proofs.Common.{◌≡◌, ◌+◌, ◌≤◌, ◌<◌, ◌^◌, List, length}
+use Rattle.std.specs.Vec.Iter.{into_iter_items, into_iter_len}
+use Rattle.bptree_keys.specs.Contents.{IsAscending}
+use Rattle.bptree_building.specs.Layer.{IsLayer, IsRising}
+use Rattle.bptree_building.proofs.inner_layer.raise_layer.Given as goal
+
+abbrev pub invariant-nodes : goal.invariant-nodes
+invariant-nodes g l = record {
+  left_is : l.left ≡ length (into_iter_items l.trees);
+  counted : into_iter_len l.trees ≡ length (into_iter_items l.trees);
+  several : 1 < l.left;
+  enough : 0 < length l.above.items → 17 ≤ l.left;
+  fewer : length l.above.items + l.left ≤ length l.fn.layer.items;
+  rising : (pairs : List (g.row.S-K.Denot × g.row.S-V.Denot)) → IsAscending g.S.K.Ord.cmp pairs → length pairs < 2 ^ 64 → IsLayer g.S.K.Ord.cmp g.S.Argument.Argument.is_summary (g.S.NodeStore.slots l.fn.store) l.fn.height l.fn.layer.items pairs
+      → IsRising g.S.K.Ord.cmp g.S.Argument.Argument.is_summary (g.S.NodeStore.slots l.store) 16 l.fn.height l.above.items (into_iter_items l.trees) pairs;
+}
+
+abbrev pub decreases-nodes : goal.decreases-nodes
+decreases-nodes g l = l.left

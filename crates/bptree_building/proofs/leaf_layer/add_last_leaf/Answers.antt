@@ -1,0 +1,12 @@
+use Rattle.std.specs.Vec.Iter.{into_iter_items}
+use Rattle.bptree_building.proofs.Lists.{not_empty}
+use Rattle.bptree_building.proofs.Spread.{leaf_ends}
+use Rattle.bptree_building.proofs.leaf_layer.add_last_leaf.Goals as goal
+
+pub returns : goal.returns
+returns g c pairs enough ascending spreading =
+    rw c.in_ok-append.ensures (
+      not_empty c.args.layer.now.items _,
+      leaf_ends g.met.S.K.Ord.total g.S.Argument.Argument.is_summary (g.S.NodeStore.slots c.args.store.now) c.args.count c.args.layer.now.items c.args.id c.args.prev (into_iter_items c.args.items.now) (into_iter_items c.fill.new.items) pairs c.in_ok-leaf.field-0.first c.in_ok-leaf.field-0.summary c.in_ok-leaf.field-0.leaf.value c.in_ok-leaf.ensures.1
+          (g.S.NodeStore.slots c.assign_leaf.new.self) c.assign_leaf.ensures c.requires.all c.requires.count.1 enough ascending spreading,
+    )

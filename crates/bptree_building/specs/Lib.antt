@@ -1,0 +1,3 @@
+pub mod Cuts
+pub mod Layer
+pub mod Steps

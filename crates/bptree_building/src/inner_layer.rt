@@ -1,0 +1,92 @@
+//! The inner nodes of a tree that is built, a layer above another.
+ghost use Rattle.std.specs.Prelude.{◌≡◌, ◌+◌, ◌<◌, ◌≤◌, List, [], length, IfOk, ◌^◌};
+ghost use Rattle.std.specs.Vec.Iter.{into_iter_items, into_iter_len};
+ghost use Rattle.bptree_keys.specs.Contents.{IsAscending};
+ghost use Rattle.bptree_building.specs.Layer.{IsLayer};
+ghost use Rattle.bptree_building.specs.Steps.{IsAbove, IsRaised};
+
+use crate::cuts::first_of_layer;
+use crate::subtree::{Subtree, append};
+use bptree_arguments::argument::Argument;
+use bptree_keys::key::Key;
+use bptree_keys::node_id::NodeId;
+use bptree_nodes::inner_node::{CHILDREN_CAPACITY, INNER_MINIMUM, InnerNode};
+use bptree_stores::node_stores::NodeStore;
+use std::alloc::AllocError;
+use std::vec::IntoIter;
+
+// Puts the first `count` of the trees below an empty node, and answers the key that the first of them starts at.
+fn take_trees<K: Key, A: Argument<K>>(
+    node: &mut InnerNode<K, A>,
+    trees: &mut IntoIter<Subtree<K, A>>,
+    count: usize,
+) -> K
+    requires empty { node.old.children ≡ [] }
+    requires count { (0 < count) × (count ≤ 65) }
+    requires some { count ≤ length (into_iter_items trees.old) }
+    requires counted { into_iter_len trees.old ≡ length (into_iter_items trees.old) }
+    ensures above { IsAbove (into_iter_items trees.old) count node.new result (into_iter_items trees.new) }
+    ensures counted { into_iter_len trees.new ≡ length (into_iter_items trees.new) }
+{
+    let Subtree {
+        root,
+        first,
+        summary,
+    } = trees.next().unwrap();
+    node.adopt(root, summary);
+    'children: while node.len() + 1 < count {
+        let Subtree {
+            root: child,
+            first: separator,
+            summary: argument,
+        } = trees.next().unwrap();
+        node.push(separator, child, argument);
+    }
+    first
+}
+
+// Puts a new inner node above the first `count` of the trees.
+fn raise<S: NodeStore>(
+    store: &mut S,
+    trees: &mut IntoIter<Subtree<S::K, S::Argument>>,
+    count: usize,
+) -> Result<Subtree<S::K, S::Argument>, AllocError>
+    requires count { (0 < count) × (count ≤ 65) }
+    requires some { count ≤ length (into_iter_items trees.old) }
+    requires counted { into_iter_len trees.old ≡ length (into_iter_items trees.old) }
+    ensures { IfOk result (λ tree. (into_iter_len trees.new ≡ length (into_iter_items trees.new)) × IsRaised S.K.cmp S.Argument.is_summary (S.slots store.old) (S.slots store.new) (into_iter_items trees.old) count tree (into_iter_items trees.new)) }
+{
+    let mut node = InnerNode::empty(store.allocator())?;
+    let first = take_trees(node.as_mut(), trees, count);
+    let summary = S::Argument::from_inner(node.keys(), node.arguments())?;
+    let id = store.reserve_inner()?;
+    store.put_back_inner(id, node);
+    Ok(Subtree {
+        root: NodeId::Inner(id),
+        first,
+        summary,
+    })
+}
+
+/// The layer above one of at least two trees. It has less than half as many, rounded up.
+pub fn raise_layer<S: NodeStore>(
+    store: &mut S,
+    layer: Vec<Subtree<S::K, S::Argument>>,
+    height: usize,
+) -> Result<Vec<Subtree<S::K, S::Argument>>, AllocError>
+    requires { 1 < length layer.items }
+    ensures { IfOk result (λ above. (0 < length above.items) × (length above.items < length layer.items) × ((pairs : List (S.K × S.V)) → IsAscending S.K.cmp pairs → length pairs < 2 ^ 64 → IsLayer S.K.cmp S.Argument.is_summary (S.slots store.old) height layer.items pairs → IsLayer S.K.cmp S.Argument.is_summary (S.slots store.new) (height + 1) above.items pairs)) }
+{
+    let mut above = Vec::new(store.allocator());
+    let mut left = layer.len();
+    let mut trees = layer.into_iter();
+    'nodes: while left > CHILDREN_CAPACITY {
+        let count = first_of_layer(left, CHILDREN_CAPACITY, INNER_MINIMUM + 1);
+        let tree = raise(store, &mut trees, count)?;
+        append(&mut above, tree)?;
+        left -= count;
+    }
+    let tree = raise(store, &mut trees, left)?;
+    append(&mut above, tree)?;
+    Ok(above)
+}

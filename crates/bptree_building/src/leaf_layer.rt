@@ -1,0 +1,169 @@
+//! The leaves of a tree that is built, each with a number of its own and the numbers of the leaves beside it.
+ghost use Rattle.std.specs.Prelude.{◌≡◌, ◌+◌, ◌<◌, ◌≤◌, ◌++◌, List, [], length, IfOk, Some};
+ghost use Rattle.std.specs.Vec.Iter.{into_iter_items, into_iter_len};
+ghost use Rattle.bptree_keys.specs.Contents.{IsAscending};
+ghost use Rattle.bptree_nodes.specs.Slot.{Held, IsEmpty};
+ghost use Rattle.bptree_insertion.specs.Change.{StartsAt};
+ghost use Rattle.bptree_building.specs.Layer.{IsLayer, IsSpreading};
+ghost use Rattle.bptree_building.specs.Steps.{IsFilled};
+
+use crate::cuts::first_of_layer;
+use crate::subtree::{Subtree, append};
+use bptree_arguments::argument::Argument;
+use bptree_keys::key::Key;
+use bptree_keys::node_id::{LeafNodeId, NodeId};
+use bptree_nodes::leaf_node::{LEAF_CAPACITY, LEAF_MINIMUM, LeafNode};
+use bptree_stores::node_stores::NodeStore;
+use std::alloc::{AllocError, Global};
+use std::vec::IntoIter;
+
+// A leaf that stands in no store yet, with a clone of its first key and a summary of its keys.
+#[derive(Drop)]
+struct Filled<K, V, A> {
+    leaf: Box<LeafNode<K, V>>,
+    first: K,
+    summary: A,
+}
+
+// Moves the first `count` of the items into an empty leaf.
+fn take_pairs<K: Drop, V: Drop>(
+    leaf: &mut LeafNode<K, V>,
+    items: &mut IntoIter<(K, V)>,
+    count: usize,
+)
+    requires empty { leaf.old.pairs ≡ [] }
+    requires room { count ≤ 64 }
+    requires some { count ≤ length (into_iter_items items.old) }
+    requires counted { into_iter_len items.old ≡ length (into_iter_items items.old) }
+    ensures len { length leaf.new.pairs ≡ count }
+    ensures taken { into_iter_items items.old ≡ leaf.new.pairs ++ into_iter_items items.new }
+    ensures links { leaf.new ≡ record leaf.old { pairs = leaf.new.pairs } }
+    ensures counted { into_iter_len items.new ≡ length (into_iter_items items.new) }
+{
+    'fill: while leaf.len() < count {
+        let (key, value) = items.next().unwrap();
+        let end = leaf.len();
+        leaf.insert_at(end, key, value);
+    }
+}
+
+// A clone of a leaf's first key.
+fn first_key<K: Key, V: Drop>(leaf: &LeafNode<K, V>) -> Result<K, AllocError>
+    requires { 0 < length leaf.now.pairs }
+    ensures { IfOk result (λ first. StartsAt K.cmp first leaf.now.pairs) }
+{
+    leaf.data_at(0).0.clone()
+}
+
+// A leaf of the first `count` of the items, behind the leaf `prev`.
+fn fill<K: Key, V: Drop, A: Argument<K>>(
+    alloc: Global,
+    items: &mut IntoIter<(K, V)>,
+    count: usize,
+    prev: Option<LeafNodeId>,
+) -> Result<Filled<K, V, A>, AllocError>
+    requires count { (0 < count) × (count ≤ 64) }
+    requires some { count ≤ length (into_iter_items items.old) }
+    requires counted { into_iter_len items.old ≡ length (into_iter_items items.old) }
+    ensures { IfOk result (λ filled. (into_iter_len items.new ≡ length (into_iter_items items.new)) × IsFilled K.cmp A.is_summary (into_iter_items items.old) count prev filled.leaf.value filled.first filled.summary (into_iter_items items.new)) }
+{
+    let mut leaf = LeafNode::new(alloc)?;
+    take_pairs(leaf.as_mut(), items, count);
+    leaf.set_prev(prev);
+    let summary = A::from_leaf(leaf.keys())?;
+    let first = first_key(leaf.as_ref())?;
+    Ok(Filled {
+        leaf,
+        first,
+        summary,
+    })
+}
+
+// Puts a leaf of the first `count` of the items under the held number `id`, and holds a number for the leaf behind it.
+fn add_leaf<S: NodeStore>(
+    store: &mut S,
+    layer: &mut Vec<Subtree<S::K, S::Argument>>,
+    items: &mut IntoIter<(S::K, S::V)>,
+    count: usize,
+    id: LeafNodeId,
+    prev: Option<LeafNodeId>,
+) -> Result<LeafNodeId, AllocError>
+    requires count { (16 ≤ count) × (count ≤ 64) }
+    requires some { count ≤ length (into_iter_items items.old) }
+    requires counted { into_iter_len items.old ≡ length (into_iter_items items.old) }
+    requires held { (S.slots store.old).leaf id.0 ≡ Held }
+    ensures { IfOk result (λ next. (length (into_iter_items items.new) + count ≡ length (into_iter_items items.old)) × (into_iter_len items.new ≡ length (into_iter_items items.new)) × ((S.slots store.new).leaf next.0 ≡ Held) × ((pairs : List (S.K × S.V)) → IsAscending S.K.cmp pairs → IsSpreading S.K.cmp S.Argument.is_summary (S.slots store.old) 16 layer.old.items id prev (into_iter_items items.old) pairs → IsSpreading S.K.cmp S.Argument.is_summary (S.slots store.new) 16 layer.new.items next (Some id) (into_iter_items items.new) pairs)) }
+{
+    let Filled {
+        mut leaf,
+        first,
+        summary,
+    } = fill(store.allocator(), items, count, prev)?;
+    let next = store.reserve_leaf()?;
+    leaf.set_next(Some(next));
+    store.assign_leaf(id, leaf);
+    let tree = Subtree {
+        root: NodeId::Leaf(id),
+        first,
+        summary,
+    };
+    append(layer, tree)?;
+    Ok(next)
+}
+
+// Puts a leaf of all `count` of the items under the held number `id`, behind all other leaves.
+fn add_last_leaf<S: NodeStore>(
+    store: &mut S,
+    layer: &mut Vec<Subtree<S::K, S::Argument>>,
+    items: &mut IntoIter<(S::K, S::V)>,
+    count: usize,
+    id: LeafNodeId,
+    prev: Option<LeafNodeId>,
+) -> Result<(), AllocError>
+    requires count { (0 < count) × (count ≤ 64) }
+    requires all { length (into_iter_items items.old) ≡ count }
+    requires counted { into_iter_len items.old ≡ length (into_iter_items items.old) }
+    requires held { (S.slots store.old).leaf id.0 ≡ Held }
+    ensures { IfOk result (λ _. (pairs : List (S.K × S.V)) → (0 < length layer.old.items → 16 ≤ count) → IsAscending S.K.cmp pairs → IsSpreading S.K.cmp S.Argument.is_summary (S.slots store.old) 16 layer.old.items id prev (into_iter_items items.old) pairs → (0 < length layer.new.items) × IsLayer S.K.cmp S.Argument.is_summary (S.slots store.new) 0 layer.new.items pairs) }
+{
+    let Filled {
+        leaf,
+        first,
+        summary,
+    } = fill(store.allocator(), items, count, prev)?;
+    store.assign_leaf(id, leaf);
+    let tree = Subtree {
+        root: NodeId::Leaf(id),
+        first,
+        summary,
+    };
+    append(layer, tree)?;
+    Ok(())
+}
+
+/// The leaves of ascending pairs, in an empty store, with the links between them. Each pair is moved once, and each leaf is
+/// put into the store once.
+pub fn build_leaves<S: NodeStore>(
+    store: &mut S,
+    pairs: Vec<(S::K, S::V)>,
+) -> Result<Vec<Subtree<S::K, S::Argument>>, AllocError>
+    requires empty { IsEmpty (S.slots store.old) }
+    requires ascending { IsAscending S.K.cmp pairs.items }
+    requires some { 0 < length pairs.items }
+    ensures { IfOk result (λ layer. (0 < length layer.items) × IsLayer S.K.cmp S.Argument.is_summary (S.slots store.new) 0 layer.items pairs.items) }
+{
+    let mut layer = Vec::new(store.allocator());
+    let mut left = pairs.len();
+    let mut items = pairs.into_iter();
+    let mut prev = None;
+    let mut id = store.reserve_leaf()?;
+    'leaves: while left > LEAF_CAPACITY {
+        let count = first_of_layer(left, LEAF_CAPACITY, LEAF_MINIMUM);
+        let next = add_leaf(store, &mut layer, &mut items, count, id, prev)?;
+        prev = Some(id);
+        id = next;
+        left -= count;
+    }
+    add_last_leaf(store, &mut layer, &mut items, left, id, prev)?;
+    Ok(layer)
+}

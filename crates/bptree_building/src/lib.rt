@@ -1,0 +1,8 @@
+//! A tree that is built of ascending pairs, layer by layer, in one pass.
+#![tactic(auto)]
+
+pub mod building;
+pub mod cuts;
+mod inner_layer;
+mod leaf_layer;
+pub mod subtree;

@@ -1,0 +1,9 @@
+//! Tests of trees that are built of many pairs at once.
+#![tactic(auto)]
+
+#[cfg(test)]
+mod callers;
+#[cfg(test)]
+mod group_tests;
+#[cfg(test)]
+mod loading_tests;

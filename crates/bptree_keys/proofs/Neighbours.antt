@@ -1,0 +1,127 @@
+-- What the pairs beside a key are in an ascending list.
+use Rattle.std.proofs.Common.{◌≡◌, ℕ, zero, suc, ◌-◌, ◌<◌, Bool, true, false, List, [], ◌∷◌, length, filter, Option, Some, None, refl, sym, ap, ◌∙◌, arith, slice_get}
+use mathlib.Core.Bool.{true≢false}
+use Rattle.std.specs.declared.cmp.Ordering.{Ordering}
+use Rattle.std.specs.declared.cmp.Ordering.TheVariants.{Less, Equal, Greater}
+use Rattle.std.specs.Ordering.{is_lt, is_gt}
+use Rattle.std.specs.Cmp.{IsTotalOrder}
+use Rattle.std.specs.List.{AllByRecursion}
+use Rattle.std.specs.Map.{keys_of}
+use Rattle.std.proofs.lemmas.Cmp.{tied_itself}
+use Rattle.std.proofs.lemmas.Map.Keys.{sorted_head, sorted_tail}
+use Rattle.bptree_keys.specs.Contents.{IsAscending, pairs_below, next, previous}
+use Rattle.bptree_keys.specs.Neighbours.{IsLeastAbove, IsGreatestBelow, IsAfter, IsBefore}
+use Rattle.bptree_keys.proofs.Ascending.{greater_turned}
+
+-- what holds of each key holds of a pair that is read
+read_of_all : {K V : Type 0} (P : K → Type 0) (l : List (K × V)) (i : ℕ) (pair : K × V) → AllByRecursion P (keys_of l) → slice_get l i ≡ Some pair → P pair.0
+read_of_all P [] i pair all read = cc
+read_of_all P (x ∷ l) zero pair all read = let e : x ≡ pair = cc in rw (← e) all.0
+read_of_all P (x ∷ l) (suc i) pair all read = read_of_all P l i pair all.1 read
+
+-- no pair that passes the test is read where none is kept
+none_by : {X : Type 0} (test : X → Bool) (y : X) (l : List X) → (filter test l ≡ [] → (i : ℕ) (x : X) → slice_get l i ≡ Some x → test x ≡ false) → (b : Bool) → test y ≡ b → filter test (y ∷ l) ≡ [] → (i : ℕ) (x : X) → slice_get (y ∷ l) i ≡ Some x → test x ≡ false
+none_by test y l later true is none i x read = let kept : y ∷ filter test l ≡ [] = rw is at none in cc
+none_by test y l later false is none zero x read = let e : y ≡ x = cc in rw (← e) is
+none_by test y l later false is none (suc i) x read = later (rw is at none) i x read
+
+none_kept : {X : Type 0} (test : X → Bool) (l : List X) → filter test l ≡ [] → (i : ℕ) (x : X) → slice_get l i ≡ Some x → test x ≡ false
+none_kept test [] none i x read = cc
+none_kept test (y ∷ l) none i x read = none_by test y l (none_kept test l) (test y) refl none i x read
+
+last_later : {X : Type 0} (x : X) (xs : List X) → 0 < length xs → slice_get (x ∷ xs) (length (x ∷ xs) - 1) ≡ slice_get xs (length xs - 1)
+last_later x [] some = absurd (omega arith)
+last_later x (y ∷ xs) some = let far : length (x ∷ y ∷ xs) - 1 ≡ suc (length (y ∷ xs) - 1) = omega arith in rw far refl
+
+module _ {K V : Type 0} (cmp : K → K → Ordering) (total : IsTotalOrder cmp) (k : K) (x : K × V) (l : List (K × V)) (ascending : IsAscending cmp (x ∷ l)) where
+  -- the keys behind the first are greater
+  not_below_first : (i : ℕ) (other : K × V) → slice_get (x ∷ l) i ≡ Some other → is_lt (cmp other.0 x.0) ≡ false
+  not_below_first zero other read = let e : x ≡ other = cc in rw (← e) (ap is_lt (tied_itself total x.0))
+  not_below_first (suc i) other read = ap is_lt (greater_turned cmp total x.0 other.0 (read_of_all (λ key. cmp x.0 key ≡ Less) l i other (sorted_head cmp x.0 (keys_of l) ascending) read))
+
+  -- a first pair that is above is the one
+  first_above : cmp x.0 k ≡ Greater → IsLeastAbove cmp (x ∷ l) k x
+  first_above above = record { place = 0; here = refl; above = above; least = λ i other read up. not_below_first i other read }
+
+  -- one that is not is passed over
+  later_above : is_gt (cmp x.0 k) ≡ false → (o : Option (K × V)) → IsAfter cmp l k o → IsAfter cmp (x ∷ l) k o
+  later_above not_above None none = all
+    where
+      all : (i : ℕ) (other : K × V) → slice_get (x ∷ l) i ≡ Some other → is_gt (cmp other.0 k) ≡ false
+      all zero other read = let e : x ≡ other = cc in rw (← e) not_above
+      all (suc i) other read = none i other read
+  later_above not_above (Some pair) at = record { place = suc at.place; here = at.here; above = at.above; least = least }
+    where
+      least : (i : ℕ) (other : K × V) → slice_get (x ∷ l) i ≡ Some other → cmp other.0 k ≡ Greater → is_lt (cmp other.0 pair.0) ≡ false
+      least zero other read up =
+          let e : x ≡ other = cc in
+          let here : cmp x.0 k ≡ Greater = ap (λ (p : K × V). cmp p.0 k) e ∙ up in
+          let there : is_gt (cmp x.0 k) ≡ true = ap is_gt here in
+          absurd (true≢false (sym there ∙ not_above))
+      least (suc i) other read up = at.least i other read up
+
+  above_by : (o : Ordering) → cmp x.0 k ≡ o → IsAfter cmp l k (next cmp l k) → IsAfter cmp (x ∷ l) k (next cmp (x ∷ l) k)
+  above_by Less is later = rw is (later_above (ap is_gt is) (next cmp l k) later)
+  above_by Equal is later = rw is (later_above (ap is_gt is) (next cmp l k) later)
+  above_by Greater is later = rw is (first_above is)
+
+  -- a first pair that is not below is passed over
+  later_below : is_lt (cmp x.0 k) ≡ false → (o : Option (K × V)) → IsBefore cmp l k o → IsBefore cmp (x ∷ l) k o
+  later_below not_below None none = all
+    where
+      all : (i : ℕ) (other : K × V) → slice_get (x ∷ l) i ≡ Some other → is_lt (cmp other.0 k) ≡ false
+      all zero other read = let e : x ≡ other = cc in rw (← e) not_below
+      all (suc i) other read = none i other read
+  later_below not_below (Some pair) at = record { place = suc at.place; here = at.here; below = at.below; greatest = greatest }
+    where
+      greatest : (i : ℕ) (other : K × V) → slice_get (x ∷ l) i ≡ Some other → cmp other.0 k ≡ Less → is_gt (cmp other.0 pair.0) ≡ false
+      greatest zero other read down =
+          let e : x ≡ other = cc in
+          let here : cmp x.0 k ≡ Less = ap (λ (p : K × V). cmp p.0 k) e ∙ down in
+          let there : is_lt (cmp x.0 k) ≡ true = ap is_lt here in
+          absurd (true≢false (sym there ∙ not_below))
+      greatest (suc i) other read down = at.greatest i other read down
+
+  -- it is the one where no other is below
+  first_below : cmp x.0 k ≡ Less → pairs_below cmp l k ≡ [] → IsGreatestBelow cmp (x ∷ l) k x
+  first_below below none = record { place = 0; here = refl; below = below; greatest = greatest }
+    where
+      greatest : (i : ℕ) (other : K × V) → slice_get (x ∷ l) i ≡ Some other → cmp other.0 k ≡ Less → is_gt (cmp other.0 x.0) ≡ false
+      greatest zero other read down = let e : x ≡ other = cc in rw (← e) (ap is_gt (tied_itself total x.0))
+      greatest (suc i) other read down =
+          let there : is_lt (cmp other.0 k) ≡ true = ap is_lt down in
+          absurd (true≢false (sym there ∙ none_kept (λ (p : K × V). is_lt (cmp p.0 k)) l none i other read))
+
+  -- and a later one is greater than it
+  first_passed : (o : Option (K × V)) → IsBefore cmp l k o → (none : o ≡ None → ⊥) → IsBefore cmp (x ∷ l) k o
+  first_passed None before some = absurd (some refl)
+  first_passed (Some pair) at some = record { place = suc at.place; here = at.here; below = at.below; greatest = greatest }
+    where
+      greatest : (i : ℕ) (other : K × V) → slice_get (x ∷ l) i ≡ Some other → cmp other.0 k ≡ Less → is_gt (cmp other.0 pair.0) ≡ false
+      greatest zero other read down =
+          let e : x ≡ other = cc in
+          let less : cmp x.0 pair.0 ≡ Less = read_of_all (λ key. cmp x.0 key ≡ Less) l at.place pair (sorted_head cmp x.0 (keys_of l) ascending) at.here in
+          rw (← e) (ap is_gt less)
+      greatest (suc i) other read down = at.greatest i other read down
+
+  some_last : (p : K × V) (ps : List (K × V)) → slice_get (p ∷ ps) (length (p ∷ ps) - 1) ≡ None → ⊥
+  some_last p [] none = cc
+  some_last p (q ∷ ps) none = some_last q ps (sym (last_later p (q ∷ ps) (omega arith)) ∙ none)
+
+  below_last : cmp x.0 k ≡ Less → (smaller : List (K × V)) → pairs_below cmp l k ≡ smaller → IsBefore cmp l k (slice_get smaller (length smaller - 1)) → IsBefore cmp (x ∷ l) k (slice_get (x ∷ smaller) (length (x ∷ smaller) - 1))
+  below_last below [] none later = first_below below none
+  below_last below (p ∷ ps) is later = rw (last_later x (p ∷ ps) (omega arith)) (first_passed (slice_get (p ∷ ps) (length (p ∷ ps) - 1)) later (some_last p ps))
+
+  below_by : (o : Ordering) → cmp x.0 k ≡ o → IsBefore cmp l k (previous cmp l k) → IsBefore cmp (x ∷ l) k (previous cmp (x ∷ l) k)
+  below_by Less is later = rw is (below_last is (pairs_below cmp l k) refl later)
+  below_by Equal is later = rw is (later_below (ap is_lt is) (previous cmp l k) later)
+  below_by Greater is later = rw is (later_below (ap is_lt is) (previous cmp l k) later)
+
+module _ {K V : Type 0} (cmp : K → K → Ordering) (total : IsTotalOrder cmp) (k : K) where
+  pub next_is_least : (l : List (K × V)) → IsAscending cmp l → IsAfter cmp l k (next cmp l k)
+  next_is_least [] ascending = λ i other read. cc
+  next_is_least (x ∷ l) ascending = above_by cmp total k x l ascending (cmp x.0 k) refl (next_is_least l (sorted_tail cmp x.0 (keys_of l) ascending))
+
+  pub previous_is_greatest : (l : List (K × V)) → IsAscending cmp l → IsBefore cmp l k (previous cmp l k)
+  previous_is_greatest [] ascending = λ i other read. cc
+  previous_is_greatest (x ∷ l) ascending = below_by cmp total k x l ascending (cmp x.0 k) refl (previous_is_greatest l (sorted_tail cmp x.0 (keys_of l) ascending))

@@ -1,0 +1,2 @@
+pub mod MergeLemmas
+pub mod MergedLemmas

@@ -1,0 +1,217 @@
+//! Two ascending sources, merged step by step, and the law of the merge.
+ghost use Rattle.std.specs.Prelude.{◌≡◌, ◌+◌, ◌-◌, ◌^◌, ◌<◌, List, [], ◌∷◌, ◌||◌, ◌⊎◌, Option, drop, length, min, slice_get};
+ghost use Rattle.std.specs.declared.cmp.Ordering.{Ordering};
+ghost use Rattle.std.specs.Cmp.{IsTotalOrder};
+ghost use Rattle.std.specs.Iterator.{YieldsFirstBy, item_count};
+ghost use Rattle.std.specs.List.{AllByRecursion, list_any};
+ghost use Rattle.std.specs.List.Sorted.{IsStrictlySortedBy};
+ghost use Rattle.std.specs.Map.Iter.{TakesFirst, deref};
+ghost use Rattle.std.specs.Option.{option_map};
+ghost use Rattle.std.specs.Ordering.{is_eq};
+ghost use Rattle.bptree_merging.specs.Merge.{Orders, merge_step, merged, firsts, seconds, keys_given, IsPairOfEqual, IsCountOfBoth};
+ghost use Rattle.bptree_merging.specs.Sides.{first_side, second_side};
+
+use std::alloc::AllocError;
+use std::cmp::Ordering;
+use std::iter::FusedIterator;
+use std::marker::Model;
+use std::slice;
+
+/// An iterator whose items show the elements of a list, one after another, and that can always be asked for the next one.
+pub trait Listed: FusedIterator {
+    type Element;
+
+    ghost shows: { Self.Item → Self.Element };
+
+    ghost left: { Self → List Self.Element };
+
+    ghost can: { (s : Self) → Self.can_next s };
+
+    ghost gives_first: { (s : Self) (r : Option Self.Item) (t : Self) → Self.next_gives s r t → YieldsFirstBy shows left s r t };
+
+    ghost counted: { (s : Self) → Self.remaining s ≡ item_count left s };
+}
+
+impl<'a, T> Listed for slice::Iter<'a, T> {
+    type Element = T;
+
+    ghost use Rattle.std.specs.Slice.Iter.{iter_rest};
+    ghost use Rattle.std.specs.Prelude.{refl};
+    ghost use Rattle.bptree_merging.specs.Sources.{slice_gives_first};
+
+    ghost shows = { deref };
+
+    ghost left = { iter_rest };
+
+    ghost can = { λ _. tt };
+
+    ghost gives_first = { slice_gives_first };
+
+    ghost counted = { λ _. refl };
+}
+
+// An item that was asked for and not yet given, and the side that it came from.
+#[derive(Drop)]
+enum Peeked<T> {
+    A(T),
+    B(T),
+}
+
+/// The merge of two sources, seen as what is left of each. It holds at most one item that it hasn't given.
+#[derive(Drop)]
+pub struct MergeIterInner<I: Listed>
+where
+    I::Item: Drop,
+{
+    a: I,
+    b: I,
+    peeked: Option<Peeked<I::Item>>,
+}
+
+impl<I: Listed> Model for MergeIterInner<I>
+where
+    I::Item: Drop,
+{
+    ghost use Rattle.std.specs.Prelude.{List};
+
+    ghost Value = { List I.Element × List I.Element };
+
+    ghost use Rattle.bptree_merging.specs.Sides.{first_side, second_side};
+
+    ghost view = { λ merge. (first_side I.shows merge.peeked (I.left merge.a), second_side I.shows merge.peeked (I.left merge.b)) };
+}
+
+impl<I: Listed> MergeIterInner<I>
+where
+    I::Item: Drop,
+{
+    /// Neither source is asked for an item yet.
+    pub fn new(a: I, b: I) -> Self
+        ensures { result ≡ (I.left a, I.left b) }
+    {
+        MergeIterInner { a, b, peeked: None }
+    }
+
+    /// One step of the merge by the order that `cmp` answers: the smaller head alone, or both where they are equal. Where
+    /// one side has ended the other's items come alone, whatever `cmp` answers, and at the end of both there is none,
+    /// however often it is asked. One item is asked of each side that has none waiting, and `cmp` is called at most once.
+    pub fn nexts<Cmp: Fn(&I::Item, &I::Item) -> Ordering>(
+        &mut self,
+        cmp: Cmp,
+    ) -> (Option<I::Item>, Option<I::Item>)
+        requires { Cmp.IsAlwaysCallable cmp }
+        ensures order { (order : I.Element → I.Element → Ordering) → Orders Cmp.Fn cmp I.shows order
+            → let step = merge_step order self.old.0 self.old.1 in
+            (option_map I.shows result.0 ≡ step.first) × (option_map I.shows result.1 ≡ step.second) × (self.new ≡ step.left) }
+        ensures alone { (self.old.0 ≡ []) ⊎ (self.old.1 ≡ [])
+            → (option_map I.shows result.0 ≡ slice_get self.old.0 0) × (option_map I.shows result.1 ≡ slice_get self.old.1 0) × (self.new ≡ (drop 1 self.old.0, drop 1 self.old.1)) }
+    {
+        let peeked = self.peeked.take();
+        let (a_next, b_next) = heads(&mut self.a, &mut self.b, peeked);
+        match (a_next, b_next) {
+            (Some(a), Some(b)) => match cmp(&a, &b) {
+                Ordering::Less => {
+                    self.peeked = Some(Peeked::B(b));
+                    (Some(a), None)
+                }
+                Ordering::Greater => {
+                    self.peeked = Some(Peeked::A(a));
+                    (None, Some(b))
+                }
+                Ordering::Equal => (Some(a), Some(b)),
+            },
+            (a_next, b_next) => (a_next, b_next),
+        }
+    }
+}
+
+impl<T: Clone> Clone for Peeked<T> {
+    ghost use Rattle.bptree_merging.specs.Sides.{IsPeekedClone};
+
+    ghost is_clone = { IsPeekedClone T.is_clone };
+
+    ghost is_infallible = { λ _. (x : T) → T.is_infallible x };
+
+    fn clone(&self) -> Result<Self, AllocError> {
+        match self {
+            Peeked::A(item) => Ok(Peeked::A(item.clone()?)),
+            Peeked::B(item) => Ok(Peeked::B(item.clone()?)),
+        }
+    }
+}
+
+// The clone has the same left of each side, where a clone of a source has the same elements left and a clone of an item
+// shows the same one. It fails only where a clone of a source or of an item does.
+impl<I: Listed + Clone> Clone for MergeIterInner<I>
+where
+    I::Item: Clone + Drop,
+{
+    ghost is_clone = { λ merge copy. ((s t : I) → I.Clone.is_clone s t → I.left t ≡ I.left s)
+        → ((x y : I.Item) → I.Item.is_clone x y → I.shows y ≡ I.shows x)
+        → copy ≡ merge };
+
+    ghost is_infallible = { λ _. ((s : I) → I.Clone.is_infallible s) × ((x : I.Item) → I.Item.is_infallible x) };
+
+    fn clone(&self) -> Result<Self, AllocError> {
+        let peeked = match &self.peeked {
+            None => None,
+            Some(item) => Some(item.clone()?),
+        };
+        Ok(MergeIterInner {
+            a: self.a.clone()?,
+            b: self.b.clone()?,
+            peeked,
+        })
+    }
+}
+
+impl<I: Listed + ExactSizeIterator> MergeIterInner<I>
+where
+    I::Item: Drop,
+{
+    /// How many items are left of each side, with the one that waits. Each count stops at the greatest `usize`.
+    pub fn lens(&self) -> (usize, usize)
+        ensures first { result.0 ≡ min (length self.now.0) (2 ^ 64 - 1) }
+        ensures second { result.1 ≡ min (length self.now.1) (2 ^ 64 - 1) }
+    {
+        let (a_len, b_len) = (self.a.len(), self.b.len());
+        match &self.peeked {
+            Some(Peeked::A(_)) => (a_len.saturating_add(1), b_len),
+            Some(Peeked::B(_)) => (a_len, b_len.saturating_add(1)),
+            None => (a_len, b_len),
+        }
+    }
+}
+
+// The next item of each side: the one that waits, and else what the source gives.
+fn heads<I: Listed>(
+    a: &mut I,
+    b: &mut I,
+    peeked: Option<Peeked<I::Item>>,
+) -> (Option<I::Item>, Option<I::Item>)
+where
+    I::Item: Drop,
+    ensures first { TakesFirst I.shows (first_side I.shows peeked (I.left a.old)) result.0 (I.left a.new) }
+    ensures second { TakesFirst I.shows (second_side I.shows peeked (I.left b.old)) result.1 (I.left b.new) }
+{
+    match peeked {
+        Some(Peeked::A(next)) => (Some(next), b.next()),
+        Some(Peeked::B(next)) => (a.next(), Some(next)),
+        None => (a.next(), b.next()),
+    }
+}
+
+/// What all the steps of a merge give: each list whole and in its order, two keys at once only where they are equal, and
+/// the keys of both lists in their order, where an equal key of the second list is left out. It does nothing.
+pub fn laws_of_merge<K>()
+    ensures steps { (order : K → K → Ordering) → (us vs : List K) → 0 < length us + length vs
+        → let step = merge_step order us vs in
+        merged order us vs ≡ (step.first, step.second) ∷ merged order step.left.0 step.left.1 }
+    ensures end { (order : K → K → Ordering) → merged order [] [] ≡ [] }
+    ensures firsts { (order : K → K → Ordering) → (us vs : List K) → firsts (merged order us vs) ≡ us }
+    ensures seconds { (order : K → K → Ordering) → (us vs : List K) → seconds (merged order us vs) ≡ vs }
+    ensures equal { (order : K → K → Ordering) → (us vs : List K) → AllByRecursion (IsPairOfEqual order) (merged order us vs) }
+    ensures order { (order : K → K → Ordering) → (us vs : List K) → IsTotalOrder order → IsStrictlySortedBy order us → IsStrictlySortedBy order vs → IsStrictlySortedBy order (keys_given (merged order us vs)) }
+    ensures present { (order : K → K → Ordering) → (us vs : List K) → (k : K) → IsTotalOrder order → list_any (λ x. is_eq (order x k)) (keys_given (merged order us vs)) ≡ (list_any (λ x. is_eq (order x k)) us || list_any (λ x. is_eq (order x k)) vs) }
+    ensures len { (order : K → K → Ordering) → (us vs : List K) → IsCountOfBoth (length us) (length vs) (length (keys_given (merged order us vs))) }
+{}

@@ -1,0 +1,7 @@
+//! Tests of merging.
+#![tactic(auto)]
+
+#[cfg(test)]
+mod callers;
+#[cfg(test)]
+mod merge_tests;

@@ -1,0 +1,28 @@
+use Rattle.std.proofs.Common.{refl, sym, ◌∙◌}
+use Rattle.bptree_tree.proofs.Cloned.{long_alike, pairs_alike, shape_alike, told_alike}
+use Rattle.bptree_tree.proofs.tree.BPlusTree.clone.Goals as goal
+
+-- the nodes of the clone are clones, under the same numbers
+pub invariant_of-result : goal.invariant_of-result
+invariant_of-result g c =
+    let tree = c.self.inside in
+    let old = g.S.NodeStore.slots tree.store in
+    let new = g.S.NodeStore.slots c.in_ok-store.store in
+    let same = g.met.S.CloneStore.clone_has_same_numbers tree.store c.in_ok-store.store c.in_ok-store.ensures.cases in
+    let equal = g.met.S.K.Key.clone_is_equal in
+    let summary = g.met.S.Argument.CloneArgument.clone_is_summary in
+    let is_summary = g.S.Argument.Argument.is_summary in (
+      shape_alike g.met.S.K.Ord.total is_summary g.S.K.Clone.is_clone g.S.V.Clone.is_clone g.S.Argument.Clone.is_clone equal summary old new same tree.height tree.root c.self.invariant.0,
+      c.self.invariant.1 ∙ sym (long_alike g.met.S.K.Ord.total is_summary g.S.K.Clone.is_clone g.S.V.Clone.is_clone g.S.Argument.Clone.is_clone equal summary old new same tree.height tree.root),
+      told_alike g.met.S.K.Ord.total is_summary g.S.K.Clone.is_clone g.S.V.Clone.is_clone g.S.Argument.Clone.is_clone equal summary old new same tree.height tree.root tree.root_argument c.in_ok-root_argument.root_argument c.in_ok-root_argument.ensures.cases c.self.invariant.2,
+    )
+
+pub returns-clause-contents : goal.returns-clause-contents
+returns-clause-contents g c =
+    let tree = c.self.inside in
+    rw (← c.self.view_is)
+    (pairs_alike g.met.S.K.Ord.total g.S.Argument.Argument.is_summary g.S.K.Clone.is_clone g.S.V.Clone.is_clone g.S.Argument.Clone.is_clone g.met.S.K.Key.clone_is_equal g.met.S.Argument.CloneArgument.clone_is_summary (g.S.NodeStore.slots tree.store) (g.S.NodeStore.slots c.in_ok-store.store)
+    (g.met.S.CloneStore.clone_has_same_numbers tree.store c.in_ok-store.store c.in_ok-store.ensures.cases) tree.height tree.root)
+
+pub returns-clause-whole : goal.returns-clause-whole
+returns-clause-whole g c = let whole = invariant_of-result g c in record { shape = whole.0; contents = refl; summary = whole.2 }

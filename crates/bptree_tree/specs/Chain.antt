@@ -1,0 +1,35 @@
+-- Leaves of a store that follow one another by their links, of which none stands twice and each has a pair.
+use Rattle.std.specs.Prelude.{◌≡◌, ◌==◌, ℕ, ◌<◌, ◌≤◌, cond, List, [], ◌∷◌, ◌++◌, length, Option}
+use Rattle.std.specs.List.{AllByRecursion}
+use Rattle.bptree_keys.specs.declared.node_id.LeafNodeId.{LeafNodeId}
+use Rattle.bptree_nodes.specs.Inner.{Inner}
+use Rattle.bptree_nodes.specs.Leaf.{Leaf}
+use Rattle.bptree_nodes.specs.Slot.{Slots}
+use Rattle.bptree_shape.specs.Leaves.{pairs_of}
+use Rattle.bptree_shape.specs.Order.{total}
+use Rattle.bptree_shape.specs.Shape.{leaf_pairs, AreLinked}
+use Rattle.bptree_tree.specs.Span.{leaves_of, pairs_left}
+
+module _ {K V A : Type 0} (slots : Slots (Inner K A) (Leaf K V)) where
+  -- from the leaf `first` to the leaf `last` stand the pairs xs
+  pub record IsChain (first last : LeafNodeId) (xs : List (K × V)) : Type 0 where
+    pub ids : List LeafNodeId
+    pub rest : List LeafNodeId
+    pub starts : ids ≡ first ∷ rest
+    pub ahead : List LeafNodeId
+    pub ends : ids ≡ ahead ++ last ∷ []
+    pub before : Option LeafNodeId
+    pub after : Option LeafNodeId
+    pub linked : AreLinked slots before ids after
+    pub full : AllByRecursion (λ (id : LeafNodeId). 0 < length (leaf_pairs (slots.leaf id.0))) ids
+    pub once : (n : ℕ) → total (λ (id : LeafNodeId). cond (id.0 == n) 1 0) ids ≤ 1
+    pub pairs : xs ≡ pairs_of slots ids
+
+  -- the first `len` pairs along the links from the start of a leaf on
+  abbrev pub chain_pairs : LeafNodeId → ℕ → List (K × V)
+  chain_pairs first len = pairs_left (leaves_of slots) first 0 len
+
+  -- `len` pairs are left: none, or those of the leaves of a chain
+  pub record IsLeft (first last : LeafNodeId) (len : ℕ) : Type 0 where
+    pub counted : len ≡ length (chain_pairs first len)
+    pub chain : 0 < len → IsChain first last (chain_pairs first len)

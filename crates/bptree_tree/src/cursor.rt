@@ -1,0 +1,131 @@
+//! A place among the pairs of a tree, by its key.
+ghost use Rattle.std.specs.Prelude.{◌≡◌, ◌-◌, [], length, slice_get, IfOk, Ok, None};
+ghost use Rattle.std.specs.declared.cmp.Ordering.TheVariants.{Equal};
+ghost use Rattle.std.specs.Option.{option_copied, option_map};
+ghost use Rattle.bptree_keys.specs.Contents.{has, next, previous, value};
+ghost use Rattle.bptree_tree.specs.Cursor.{cursor_key, StandsAt};
+
+use crate::tree::BPlusTree;
+use bptree_keys::key::Key;
+use bptree_keys::node_id::LeafNodeId;
+use bptree_stores::node_stores::NodeStore;
+use std::alloc::AllocError;
+
+/// A key, which need not be in any tree: each call names the tree that it asks, and answers by the key alone.
+///
+/// A cursor remembers where its key stood. Each use tests that place, so that it may be wrong, and the tree may have changed
+/// since, or be another one. Where it is right a step takes no search; where only the leaf is, it takes a search of that leaf;
+/// else it takes a search from the root.
+#[derive(Clone, Copy, Debug, Drop)]
+pub struct Cursor<K> {
+    key: K,
+    leaf: LeafNodeId,
+    offset: usize,
+}
+
+impl<K: Key> Cursor<K> {
+    // A cursor on a clone of a key, which remembers a place.
+    pub(crate) fn at(place: (LeafNodeId, usize), key: &K) -> Result<Self, AllocError>
+        ensures { IfOk result (λ cursor. K.cmp (cursor_key cursor) key.now ≡ Equal) }
+    {
+        let (leaf, offset) = place;
+        Ok(Cursor {
+            key: key.clone()?,
+            leaf,
+            offset,
+        })
+    }
+
+    /// The key that the cursor stands on.
+    pub fn key(&self) -> &K
+        ensures { result.now ≡ cursor_key self.now }
+    {
+        &self.key
+    }
+
+    /// A cursor on the least key of a tree, and the value there. It takes what a clone of the key takes, and of an
+    /// empty tree nothing.
+    pub fn first<'t, S: NodeStore<K = K>>(
+        tree: &'t BPlusTree<S>,
+    ) -> Result<Option<(Self, &'t S::V)>, AllocError>
+        ensures cursor { IfOk result (λ answer. StandsAt K.cmp (slice_get tree.now.contents 0) (option_map (λ found. found.0) answer)) }
+        ensures value { IfOk result (λ answer. option_map (λ found. found.1.now) answer ≡ option_map (λ pair. pair.1) (slice_get tree.now.contents 0)) }
+        ensures empty { tree.now.contents ≡ [] → result ≡ Ok None }
+    {
+        tree.cursor_at_first()
+    }
+
+    /// A cursor on the greatest key of a tree, and the value there. It takes what a clone of the key takes, and of an
+    /// empty tree nothing.
+    pub fn last<'t, S: NodeStore<K = K>>(
+        tree: &'t BPlusTree<S>,
+    ) -> Result<Option<(Self, &'t S::V)>, AllocError>
+        ensures cursor { IfOk result (λ answer. StandsAt K.cmp (slice_get tree.now.contents (length tree.now.contents - 1)) (option_map (λ found. found.0) answer)) }
+        ensures value { IfOk result (λ answer. option_map (λ found. found.1.now) answer ≡ option_map (λ pair. pair.1) (slice_get tree.now.contents (length tree.now.contents - 1))) }
+        ensures empty { tree.now.contents ≡ [] → result ≡ Ok None }
+    {
+        tree.cursor_at_last()
+    }
+
+    /// A cursor on the least greater key, where there is one. It takes what a clone of that key takes, and where there is none
+    /// it takes nothing.
+    pub fn next<S: NodeStore<K = K>>(&self, tree: &BPlusTree<S>) -> Result<Option<Self>, AllocError>
+        ensures cursor { IfOk result (StandsAt K.cmp (next K.cmp tree.now.contents (cursor_key self.now))) }
+        ensures end { next K.cmp tree.now.contents (cursor_key self.now) ≡ None → result ≡ Ok None }
+    {
+        match self.next_with_value(tree)? {
+            Some((cursor, _)) => Ok(Some(cursor)),
+            None => Ok(None),
+        }
+    }
+
+    /// A cursor on the greatest smaller key, where there is one. It takes what a clone of that key takes, and where there is
+    /// none it takes nothing.
+    pub fn prev<S: NodeStore<K = K>>(&self, tree: &BPlusTree<S>) -> Result<Option<Self>, AllocError>
+        ensures cursor { IfOk result (StandsAt K.cmp (previous K.cmp tree.now.contents (cursor_key self.now))) }
+        ensures end { previous K.cmp tree.now.contents (cursor_key self.now) ≡ None → result ≡ Ok None }
+    {
+        match self.prev_with_value(tree)? {
+            Some((cursor, _)) => Ok(Some(cursor)),
+            None => Ok(None),
+        }
+    }
+
+    /// As `next`, with the value there.
+    pub fn next_with_value<'t, S: NodeStore<K = K>>(
+        &self,
+        tree: &'t BPlusTree<S>,
+    ) -> Result<Option<(Self, &'t S::V)>, AllocError>
+        ensures cursor { IfOk result (λ answer. StandsAt K.cmp (next K.cmp tree.now.contents (cursor_key self.now)) (option_map (λ found. found.0) answer)) }
+        ensures value { IfOk result (λ answer. option_map (λ found. found.1.now) answer ≡ option_map (λ pair. pair.1) (next K.cmp tree.now.contents (cursor_key self.now))) }
+        ensures end { next K.cmp tree.now.contents (cursor_key self.now) ≡ None → result ≡ Ok None }
+    {
+        tree.cursor_after(self.leaf, self.offset, &self.key)
+    }
+
+    /// As `prev`, with the value there.
+    pub fn prev_with_value<'t, S: NodeStore<K = K>>(
+        &self,
+        tree: &'t BPlusTree<S>,
+    ) -> Result<Option<(Self, &'t S::V)>, AllocError>
+        ensures cursor { IfOk result (λ answer. StandsAt K.cmp (previous K.cmp tree.now.contents (cursor_key self.now)) (option_map (λ found. found.0) answer)) }
+        ensures value { IfOk result (λ answer. option_map (λ found. found.1.now) answer ≡ option_map (λ pair. pair.1) (previous K.cmp tree.now.contents (cursor_key self.now))) }
+        ensures end { previous K.cmp tree.now.contents (cursor_key self.now) ≡ None → result ≡ Ok None }
+    {
+        tree.cursor_before(self.leaf, self.offset, &self.key)
+    }
+
+    /// Whether a key of the tree equals the cursor's. It takes no memory.
+    pub fn exists<S: NodeStore<K = K>>(&self, tree: &BPlusTree<S>) -> bool
+        ensures { result ≡ has K.cmp tree.now.contents (cursor_key self.now) }
+    {
+        self.value(tree).is_some()
+    }
+
+    /// The value at the key of the tree that equals the cursor's, where one does. It takes no memory.
+    pub fn value<'t, S: NodeStore<K = K>>(&self, tree: &'t BPlusTree<S>) -> Option<&'t S::V>
+        ensures { option_copied result ≡ value K.cmp tree.now.contents (cursor_key self.now) }
+    {
+        tree.value_near(self.leaf, self.offset, &self.key)
+    }
+}

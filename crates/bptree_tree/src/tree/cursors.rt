@@ -1,0 +1,138 @@
+//! Where the pairs of a tree stand, for cursors.
+ghost use Rattle.std.specs.Prelude.{◌≡◌, ◌-◌, [], length, slice_get, IfOk, IsSomeAnd, Ok, None};
+ghost use Rattle.std.specs.declared.cmp.Ordering.TheVariants.{Equal};
+ghost use Rattle.std.specs.Option.{option_copied, option_map};
+ghost use Rattle.bptree_keys.specs.Contents.{next, previous, value};
+ghost use Rattle.bptree_tree.specs.Cursor.{cursor_key, StandsAt};
+
+use crate::cursor::Cursor;
+use crate::tree::BPlusTree;
+use bptree_keys::node_id::LeafNodeId;
+use bptree_shape::{neighbours, reading};
+use bptree_stores::node_stores::NodeStore;
+use std::alloc::AllocError;
+
+impl<S: NodeStore> BPlusTree<S> {
+    /// A cursor on the least key. It takes what a clone of the key takes, and of an empty tree nothing.
+    pub fn cursor_first(&self) -> Result<Option<Cursor<S::K>>, AllocError>
+        ensures cursor { IfOk result (StandsAt S.K.cmp (slice_get self.now.contents 0)) }
+        ensures empty { self.now.contents ≡ [] → result ≡ Ok None }
+    {
+        match Cursor::first(self)? {
+            Some((cursor, _)) => Ok(Some(cursor)),
+            None => Ok(None),
+        }
+    }
+
+    /// A cursor on `k`, which need not be there, and its value where it is. It takes what a clone of `k` takes.
+    pub fn get_cursor(&self, k: &S::K) -> Result<Option<(Cursor<S::K>, Option<&S::V>)>, AllocError>
+        ensures { IfOk result (λ answer. IsSomeAnd answer (λ found. (S.K.cmp (cursor_key found.0) k.now ≡ Equal) × (option_copied found.1 ≡ value S.K.cmp self.now.contents k.now))) }
+    {
+        let leaf = reading::leaf_for(&self.store, self.root, self.height, k);
+        let (offset, value) = self.store.get_leaf(leaf).locate_slot_with_value(k);
+        Ok(Some((Cursor::at((leaf, offset), k)?, value)))
+    }
+
+    // Cursors at the ends and beside a key, with the values there.
+
+    pub(crate) fn cursor_at_first(&self) -> Result<Option<(Cursor<S::K>, &S::V)>, AllocError>
+        ensures cursor { IfOk result (λ answer. StandsAt S.K.cmp (slice_get self.now.contents 0) (option_map (λ found. found.0) answer)) }
+        ensures value { IfOk result (λ answer. option_map (λ found. found.1.now) answer ≡ option_map (λ pair. pair.1) (slice_get self.now.contents 0)) }
+        ensures end { slice_get self.now.contents 0 ≡ None → result ≡ Ok None }
+    {
+        let Some((place, (key, value))) = self.first_place() else {
+            return Ok(None);
+        };
+        let cursor = Cursor::at(place, key)?;
+        Ok(Some((cursor, value)))
+    }
+
+    pub(crate) fn cursor_at_last(&self) -> Result<Option<(Cursor<S::K>, &S::V)>, AllocError>
+        ensures cursor { IfOk result (λ answer. StandsAt S.K.cmp (slice_get self.now.contents (length self.now.contents - 1)) (option_map (λ found. found.0) answer)) }
+        ensures value { IfOk result (λ answer. option_map (λ found. found.1.now) answer ≡ option_map (λ pair. pair.1) (slice_get self.now.contents (length self.now.contents - 1))) }
+        ensures end { slice_get self.now.contents (length self.now.contents - 1) ≡ None → result ≡ Ok None }
+    {
+        let Some((place, (key, value))) = self.last_place() else {
+            return Ok(None);
+        };
+        let cursor = Cursor::at(place, key)?;
+        Ok(Some((cursor, value)))
+    }
+
+    pub(crate) fn cursor_after(
+        &self,
+        leaf: LeafNodeId,
+        offset: usize,
+        key: &S::K,
+    ) -> Result<Option<(Cursor<S::K>, &S::V)>, AllocError>
+        ensures cursor { IfOk result (λ answer. StandsAt S.K.cmp (next S.K.cmp self.now.contents key.now) (option_map (λ found. found.0) answer)) }
+        ensures value { IfOk result (λ answer. option_map (λ found. found.1.now) answer ≡ option_map (λ pair. pair.1) (next S.K.cmp self.now.contents key.now)) }
+        ensures end { next S.K.cmp self.now.contents key.now ≡ None → result ≡ Ok None }
+    {
+        let Some((place, (key, value))) = self.place_after(leaf, offset, key) else {
+            return Ok(None);
+        };
+        let cursor = Cursor::at(place, key)?;
+        Ok(Some((cursor, value)))
+    }
+
+    pub(crate) fn cursor_before(
+        &self,
+        leaf: LeafNodeId,
+        offset: usize,
+        key: &S::K,
+    ) -> Result<Option<(Cursor<S::K>, &S::V)>, AllocError>
+        ensures cursor { IfOk result (λ answer. StandsAt S.K.cmp (previous S.K.cmp self.now.contents key.now) (option_map (λ found. found.0) answer)) }
+        ensures value { IfOk result (λ answer. option_map (λ found. found.1.now) answer ≡ option_map (λ pair. pair.1) (previous S.K.cmp self.now.contents key.now)) }
+        ensures end { previous S.K.cmp self.now.contents key.now ≡ None → result ≡ Ok None }
+    {
+        let Some((place, (key, value))) = self.place_before(leaf, offset, key) else {
+            return Ok(None);
+        };
+        let cursor = Cursor::at(place, key)?;
+        Ok(Some((cursor, value)))
+    }
+
+    // The pairs there, with the leaves and places where they stand.
+
+    fn first_place(&self) -> Option<((LeafNodeId, usize), (&S::K, &S::V))>
+        ensures { option_map (λ found. (found.1.0.now, found.1.1.now)) result ≡ slice_get self.now.contents 0 }
+    {
+        neighbours::first_pair(&self.store, self.root, self.height)
+    }
+
+    fn last_place(&self) -> Option<((LeafNodeId, usize), (&S::K, &S::V))>
+        ensures { option_map (λ found. (found.1.0.now, found.1.1.now)) result ≡ slice_get self.now.contents (length self.now.contents - 1) }
+    {
+        neighbours::last_pair(&self.store, self.root, self.height)
+    }
+
+    fn place_after(
+        &self,
+        leaf: LeafNodeId,
+        offset: usize,
+        key: &S::K,
+    ) -> Option<((LeafNodeId, usize), (&S::K, &S::V))>
+        ensures { option_map (λ found. (found.1.0.now, found.1.1.now)) result ≡ next S.K.cmp self.now.contents key.now }
+    {
+        neighbours::pair_after(&self.store, self.root, self.height, leaf, offset, key)
+    }
+
+    fn place_before(
+        &self,
+        leaf: LeafNodeId,
+        offset: usize,
+        key: &S::K,
+    ) -> Option<((LeafNodeId, usize), (&S::K, &S::V))>
+        ensures { option_map (λ found. (found.1.0.now, found.1.1.now)) result ≡ previous S.K.cmp self.now.contents key.now }
+    {
+        neighbours::pair_before(&self.store, self.root, self.height, leaf, offset, key)
+    }
+
+    // The value at a key, which is tried at a place first.
+    pub(crate) fn value_near(&self, leaf: LeafNodeId, offset: usize, key: &S::K) -> Option<&S::V>
+        ensures { option_copied result ≡ value S.K.cmp self.now.contents key.now }
+    {
+        neighbours::value_at(&self.store, self.root, self.height, leaf, offset, key)
+    }
+}

@@ -1,0 +1,177 @@
+//! The pairs of an owned tree, one by one from both ends.
+ghost use Rattle.std.specs.Prelude.{◌≡◌, ◌++◌, Some, length, IfSome};
+ghost use Rattle.std.specs.Iterator.{at_most, item_count, UpTo};
+ghost use Rattle.std.specs.Iterator.SizeHint.{IsWithinCount};
+ghost use Rattle.std.specs.Map.Iter.{TakesFirst, TakesLast, GivesInOrder, GivesInReverse};
+ghost use Rattle.bptree_keys.specs.Contents.{IsAscending};
+
+use crate::chain::Chain;
+use crate::tree::BPlusTree;
+use bptree_nodes::leaf_node::LeafNode;
+use bptree_nodes::leaf_pairs::LeafPairs;
+use bptree_shape::descent::{first_leaf, last_leaf};
+use bptree_stores::node_stores::NodeStore;
+use std::iter::{ExactSizeIterator, FusedIterator};
+use std::marker::Model;
+
+/// The pairs of an owned tree that are left, in the order of their keys. No step takes memory, and none is refused; what is
+/// left is dropped with it.
+///
+/// A step takes constant time: within a leaf it moves one pair alone. The first step into a leaf takes it out of its store.
+#[derive(Drop)]
+pub struct IntoIter<S: NodeStore> {
+    leaves: Chain<S>,
+    // The leaves that are open at both ends.
+    front: LeafPairs<S::K, S::V>,
+    back: LeafPairs<S::K, S::V>,
+    len: usize,
+}
+
+impl<S: NodeStore> Model for IntoIter<S> {
+    ghost use Rattle.std.specs.Prelude.{◌≡◌, ◌++◌, List, length};
+
+    ghost Value = { List (S.K × S.V) };
+
+    ghost view = { λ it. it.front ++ (it.leaves ++ it.back) };
+
+    ghost invariant = { λ it. it.len ≡ length (it.front ++ (it.leaves ++ it.back)) };
+}
+
+impl<S: NodeStore> IntoIter<S> {
+    /// All pairs of the tree. It takes no memory.
+    pub fn new(tree: BPlusTree<S>) -> Self
+        ensures rest { result ≡ tree.contents }
+        ensures ascending { IsAscending S.K.cmp tree.contents }
+        ensures runs { GivesInOrder (S.K × S.V) }
+        ensures runs_back { GivesInReverse (S.K × S.V) }
+    {
+        let BPlusTree {
+            store,
+            root,
+            height,
+            len,
+            root_argument: _,
+            statistic: _,
+            path: _,
+        } = tree;
+        let first = first_leaf(&store, root, height);
+        let last = last_leaf(&store, root, height);
+        let alloc = store.allocator();
+        IntoIter {
+            leaves: Chain::new(store, first, last, len),
+            front: LeafPairs::new(alloc),
+            back: LeafPairs::new(alloc),
+            len,
+        }
+    }
+}
+
+impl<S: NodeStore> BPlusTree<S> {
+    /// The pairs in the order of their keys, each with its value. It takes no memory, and neither do its steps.
+    pub fn into_iter(self) -> IntoIter<S>
+        ensures rest { result ≡ self.contents }
+        ensures ascending { IsAscending S.K.cmp self.contents }
+        ensures runs { GivesInOrder (S.K × S.V) }
+        ensures runs_back { GivesInReverse (S.K × S.V) }
+    {
+        IntoIter::new(self)
+    }
+}
+
+impl<S: NodeStore> IntoIterator for BPlusTree<S> {
+    type Item = (S::K, S::V);
+
+    type IntoIter = IntoIter<S>;
+
+    ghost into_iter_gives = { λ tree pairs. (pairs ≡ tree.contents) × IsAscending S.K.cmp tree.contents × GivesInOrder (S.K × S.V) × GivesInReverse (S.K × S.V) };
+
+    fn into_iter(self) -> IntoIter<S> {
+        IntoIter::new(self)
+    }
+}
+
+// The first pair that is left.
+fn next_of<S: NodeStore>(
+    leaves: &mut Chain<S>,
+    front: &mut LeafPairs<S::K, S::V>,
+    back: &mut LeafPairs<S::K, S::V>,
+) -> Option<(S::K, S::V)>
+    ensures { TakesFirst (λ pair. pair) (front.old ++ (leaves.old ++ back.old)) result (front.new ++ (leaves.new ++ back.new)) }
+{
+    match front.next() {
+        Some(pair) => return Some(pair),
+        None => {}
+    }
+    match leaves.take_first() {
+        Some(leaf) => {
+            *front = LeafNode::into_pairs(leaf);
+            front.next()
+        }
+        None => back.next(),
+    }
+}
+
+// The last pair that is left.
+fn last_of<S: NodeStore>(
+    leaves: &mut Chain<S>,
+    front: &mut LeafPairs<S::K, S::V>,
+    back: &mut LeafPairs<S::K, S::V>,
+) -> Option<(S::K, S::V)>
+    ensures { TakesLast (λ pair. pair) (front.old ++ (leaves.old ++ back.old)) result (front.new ++ (leaves.new ++ back.new)) }
+{
+    match back.next_back() {
+        Some(pair) => return Some(pair),
+        None => {}
+    }
+    match leaves.take_last() {
+        Some(leaf) => {
+            *back = LeafNode::into_pairs(leaf);
+            back.next_back()
+        }
+        None => front.next_back(),
+    }
+}
+
+impl<S: NodeStore> Iterator for IntoIter<S> {
+    type Item = (S::K, S::V);
+
+    ghost next_gives = { TakesFirst (λ pair. pair) };
+
+    ghost remaining = { item_count (λ left. left) };
+
+    fn next(&mut self) -> Option<(S::K, S::V)> {
+        if self.len == 0 {
+            return None;
+        }
+        self.len -= 1;
+        next_of(&mut self.leaves, &mut self.front, &mut self.back)
+    }
+
+    fn size_hint(&self) -> (usize, Option<usize>)
+        ensures lower { IsWithinCount result.0 (at_most (length self.now)) }
+        ensures upper { IfSome result.1 (UpTo (at_most (length self.now))) }
+        ensures exact { result ≡ (length self.now, Some (length self.now)) }
+    {
+        (self.len, Some(self.len))
+    }
+}
+
+impl<S: NodeStore> DoubleEndedIterator for IntoIter<S> {
+    ghost next_back_gives = { TakesLast (λ pair. pair) };
+
+    fn next_back(&mut self) -> Option<(S::K, S::V)> {
+        if self.len == 0 {
+            return None;
+        }
+        self.len -= 1;
+        last_of(&mut self.leaves, &mut self.front, &mut self.back)
+    }
+}
+
+impl<S: NodeStore> ExactSizeIterator for IntoIter<S> {
+    fn len(&self) -> usize {
+        self.len
+    }
+}
+
+impl<S: NodeStore> FusedIterator for IntoIter<S> {}

@@ -1,0 +1,43 @@
+//! Callers of a clone.
+ghost use Rattle.std.specs.Prelude.{◌≡◌, length, true, IfOk};
+ghost use Rattle.bptree_keys.specs.Contents.{has};
+ghost use Rattle.bptree_shape.specs.Shape.{IsWellShaped};
+
+use bptree_arguments::argument::CloneArgument;
+use bptree_keys::node_id::NodeId;
+use bptree_stores::node_stores::CloneStore;
+use bptree_tree::BPlusTree;
+use std::alloc::AllocError;
+
+// A clone has a key exactly where the original does.
+fn has_the_same_keys<S: CloneStore>(tree: &BPlusTree<S>) -> Result<BPlusTree<S>, AllocError>
+where
+    S::V: Clone,
+    S::Argument: CloneArgument<S::K>,
+    ensures { IfOk result (λ copy. (k : S.K) → has S.K.cmp copy.contents k ≡ has S.K.cmp tree.now.contents k) }
+{
+    let copy = tree.clone()?;
+    Ok(copy)
+}
+
+// It has as many pairs.
+fn counts_the_same<S: CloneStore>(tree: &BPlusTree<S>) -> Result<usize, AllocError>
+where
+    S::V: Clone,
+    S::Argument: CloneArgument<S::K>,
+    ensures { IfOk result (λ len. len ≡ length tree.now.contents) }
+{
+    Ok(tree.clone()?.len())
+}
+
+// Its nodes are a whole tree, of the original's root and height.
+fn stands_as_the_original<S: CloneStore>(
+    tree: &BPlusTree<S>,
+) -> Result<(BPlusTree<S>, NodeId, usize), AllocError>
+where
+    S::V: Clone,
+    S::Argument: CloneArgument<S::K>,
+    ensures { IfOk result (λ it. IsWellShaped S.K.cmp S.Argument.is_summary (S.slots it.0.store) it.2 it.1) }
+{
+    Ok((tree.clone()?, tree.root_id(), tree.height()))
+}

@@ -1,0 +1,221 @@
+//! Callers of cursors.
+ghost use Rattle.std.specs.Prelude.{◌≡◌, ◌<◌, ◌-◌, ◌∷◌, [], length, true, false, slice_get, IfOk, Ok, Some, None};
+ghost use Rattle.std.specs.Ordering.{nat_cmp};
+ghost use Rattle.std.specs.Option.{option_copied, option_map};
+ghost use Rattle.bptree_keys.specs.Contents.{has, next, previous, value as value_of};
+ghost use Rattle.bptree_keys.specs.Neighbours.{IsAfter, IsBefore};
+ghost use Rattle.bptree_tree.specs.Cursor.{cursor_key};
+
+use bptree_keys::contents::laws_of_neighbours;
+use bptree_keys::key::Key;
+use bptree_stores::node_stores::NodeStore;
+use bptree_tree::{BPlusTree, Cursor};
+use std::alloc::AllocError;
+
+// A cursor for a key stands on it, whether or not it is there, and has its value.
+fn stands_on_its_key<S: NodeStore<K = u64>>(
+    tree: &BPlusTree<S>,
+    k: u64,
+) -> Result<(u64, Option<&S::V>), AllocError>
+    ensures { IfOk result (λ found. (found.0 ≡ k) × (option_copied found.1 ≡ value_of nat_cmp tree.now.contents k)) }
+{
+    match tree.get_cursor(&k)? {
+        Some((cursor, value)) => Ok((*cursor.key(), value)),
+        None => unreachable!(),
+    }
+}
+
+// Over no pairs nothing is first and nothing last, and nothing is refused.
+fn has_no_first<S: NodeStore>(tree: &BPlusTree<S>) -> bool
+    requires { tree.now.contents ≡ [] }
+    ensures { result ≡ true }
+{
+    match Cursor::first(tree) {
+        Ok(found) => found.is_none(),
+        Err(_) => false,
+    }
+}
+
+fn has_no_last<S: NodeStore>(tree: &BPlusTree<S>) -> bool
+    requires { tree.now.contents ≡ [] }
+    ensures { result ≡ true }
+{
+    match Cursor::last(tree) {
+        Ok(found) => found.is_none(),
+        Err(_) => false,
+    }
+}
+
+fn begins_nowhere<S: NodeStore>(tree: &BPlusTree<S>) -> bool
+    requires { tree.now.contents ≡ [] }
+    ensures { result ≡ true }
+{
+    match tree.cursor_first() {
+        Ok(found) => found.is_none(),
+        Err(_) => false,
+    }
+}
+
+// Where a cursor stands, if anywhere.
+fn key_of(cursor: Option<Cursor<u64>>) -> Option<u64>
+    ensures { result ≡ option_map (λ there. cursor_key there) cursor }
+{
+    match cursor {
+        Some(there) => Some(*there.key()),
+        None => None,
+    }
+}
+
+// The first pair and the last one, and the key that a cursor starts on.
+fn stands_on_the_first<S: NodeStore<K = u64, V = u64>>(
+    tree: &BPlusTree<S>,
+) -> Result<Option<(u64, u64)>, AllocError>
+    ensures { IfOk result (λ found. found ≡ slice_get tree.now.contents 0) }
+{
+    match Cursor::first(tree)? {
+        Some((cursor, value)) => Ok(Some((*cursor.key(), *value))),
+        None => Ok(None),
+    }
+}
+
+fn stands_on_the_last<S: NodeStore<K = u64, V = u64>>(
+    tree: &BPlusTree<S>,
+) -> Result<Option<(u64, u64)>, AllocError>
+    ensures { IfOk result (λ found. found ≡ slice_get tree.now.contents (length tree.now.contents - 1)) }
+{
+    match Cursor::last(tree)? {
+        Some((cursor, value)) => Ok(Some((*cursor.key(), *value))),
+        None => Ok(None),
+    }
+}
+
+fn begins_on_the_first<S: NodeStore<K = u64>>(
+    tree: &BPlusTree<S>,
+) -> Result<Option<u64>, AllocError>
+    ensures { IfOk result (λ key. key ≡ option_map (λ pair. pair.0) (slice_get tree.now.contents 0)) }
+{
+    Ok(key_of(tree.cursor_first()?))
+}
+
+// The key after a cursor and the one before it, with their values and without.
+fn goes_on<S: NodeStore<K = u64>>(
+    cursor: &Cursor<u64>,
+    tree: &BPlusTree<S>,
+) -> Result<Option<u64>, AllocError>
+    ensures { IfOk result (λ key. key ≡ option_map (λ pair. pair.0) (next nat_cmp tree.now.contents (cursor_key cursor.now))) }
+{
+    Ok(key_of(cursor.next(tree)?))
+}
+
+fn goes_back<S: NodeStore<K = u64>>(
+    cursor: &Cursor<u64>,
+    tree: &BPlusTree<S>,
+) -> Result<Option<u64>, AllocError>
+    ensures { IfOk result (λ key. key ≡ option_map (λ pair. pair.0) (previous nat_cmp tree.now.contents (cursor_key cursor.now))) }
+{
+    Ok(key_of(cursor.prev(tree)?))
+}
+
+fn goes_on_with_the_value<S: NodeStore<K = u64, V = u64>>(
+    cursor: &Cursor<u64>,
+    tree: &BPlusTree<S>,
+) -> Result<Option<(u64, u64)>, AllocError>
+    ensures { IfOk result (λ found. found ≡ next nat_cmp tree.now.contents (cursor_key cursor.now)) }
+{
+    match cursor.next_with_value(tree)? {
+        Some((there, value)) => Ok(Some((*there.key(), *value))),
+        None => Ok(None),
+    }
+}
+
+fn goes_back_with_the_value<S: NodeStore<K = u64, V = u64>>(
+    cursor: &Cursor<u64>,
+    tree: &BPlusTree<S>,
+) -> Result<Option<(u64, u64)>, AllocError>
+    ensures { IfOk result (λ found. found ≡ previous nat_cmp tree.now.contents (cursor_key cursor.now)) }
+{
+    match cursor.prev_with_value(tree)? {
+        Some((there, value)) => Ok(Some((*there.key(), *value))),
+        None => Ok(None),
+    }
+}
+
+// From the first of three keys a cursor goes to the second, and from there to the last.
+fn goes_along_three<S: NodeStore<K = u64, V = u64>>(
+    tree: &BPlusTree<S>,
+) -> Result<(Option<u64>, Option<(u64, u64)>), AllocError>
+    requires { tree.now.contents ≡ (1, 10) ∷ (2, 20) ∷ (3, 30) ∷ [] }
+    ensures { IfOk result (λ found. found ≡ (Some 2, Some (2, 20))) }
+{
+    match tree.get_cursor(&1)? {
+        Some((first, _)) => Ok((
+            goes_on(&first, tree)?,
+            goes_on_with_the_value(&first, tree)?,
+        )),
+        None => unreachable!(),
+    }
+}
+
+// Before the first of three keys, and after the last, there is nothing, and nothing is refused.
+fn stops_at_the_ends<S: NodeStore<K = u64>>(cursor: &Cursor<u64>, tree: &BPlusTree<S>) -> bool
+    requires { next nat_cmp tree.now.contents (cursor_key cursor.now) ≡ None }
+    ensures { result ≡ true }
+{
+    match cursor.next(tree) {
+        Ok(found) => found.is_none(),
+        Err(_) => false,
+    }
+}
+
+// A cursor whose key has left has no value, and the same neighbours.
+fn keeps_its_neighbours<S: NodeStore<K = u64, V = u64>>(
+    tree: &mut BPlusTree<S>,
+) -> Result<(bool, Option<u64>, Option<u64>), AllocError>
+    requires { tree.old.contents ≡ (1, 10) ∷ (2, 20) ∷ (3, 30) ∷ [] }
+    ensures { IfOk result (λ found. found ≡ (false, Some 1, Some 3)) }
+{
+    match tree.get_cursor(&2)? {
+        Some((cursor, _)) => {
+            tree.remove(&2)?;
+            Ok((
+                cursor.exists(tree),
+                goes_back(&cursor, tree)?,
+                goes_on(&cursor, tree)?,
+            ))
+        }
+        None => unreachable!(),
+    }
+}
+
+// A cursor reads what a look-up of its key reads.
+fn reads_as_a_look_up<S: NodeStore<V = u64>>(cursor: &Cursor<S::K>, tree: &BPlusTree<S>) -> bool
+    ensures { result ≡ true }
+{
+    cursor.value(tree).copied() == tree.get(cursor.key()).copied()
+}
+
+// A cursor for a key is there where the key is.
+fn is_there<S: NodeStore<K = u64>>(tree: &BPlusTree<S>, k: u64) -> Result<bool, AllocError>
+    ensures { IfOk result (λ there. there ≡ has nat_cmp tree.now.contents k) }
+{
+    match tree.get_cursor(&k)? {
+        Some((cursor, _)) => Ok(cursor.exists(tree)),
+        None => unreachable!(),
+    }
+}
+
+// The next key of ascending pairs is the least greater one, and the previous one the greatest smaller one.
+fn steps_to_the_nearest<S: NodeStore>(tree: &BPlusTree<S>, k: &S::K) -> usize
+    ensures after { IsAfter S.K.cmp tree.now.contents k.now (next S.K.cmp tree.now.contents k.now) }
+    ensures before { IsBefore S.K.cmp tree.now.contents k.now (previous S.K.cmp tree.now.contents k.now) }
+{
+    laws_of_neighbours::<S::K, S::V>();
+    tree.len()
+}
+
+// Copies and clones of a cursor stand where it does.
+fn is_copied<K: Key + Copy>(cursor: &Cursor<K>) -> Cursor<K>
+    ensures { cursor_key result ≡ cursor_key cursor.now }
+{
+    *cursor
+}

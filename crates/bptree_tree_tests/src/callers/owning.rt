@@ -1,0 +1,59 @@
+//! Callers of an iterator that owns its tree.
+ghost use Rattle.std.specs.Prelude.{◌≡◌, ◌∷◌, [], length, true, slice_get, Some};
+
+use bptree_stores::node_stores::NodeStore;
+use bptree_tree::BPlusTree;
+use bptree_tree::tree::IntoIter;
+
+// The pairs of a tree come in order, and it tells how many.
+fn starts_with_all<S: NodeStore>(tree: BPlusTree<S>) -> (IntoIter<S>, usize)
+    ensures pairs { result.0 ≡ tree.contents }
+    ensures len { result.1 ≡ length tree.contents }
+{
+    let pairs = tree.into_iter();
+    let len = pairs.len();
+    (pairs, len)
+}
+
+// The first pair from the front.
+fn gives_the_first<S: NodeStore>(tree: BPlusTree<S>) -> Option<(S::K, S::V)>
+    ensures { result ≡ slice_get tree.contents 0 }
+{
+    tree.into_iter().next()
+}
+
+// Of three pairs each comes once: the first, the last, the one between, and then none from either end.
+fn gives_three_from_both_ends<S: NodeStore>(
+    pairs: &mut IntoIter<S>,
+) -> ((S::K, S::V), (S::K, S::V), (S::K, S::V))
+    requires { length pairs.old ≡ 3 }
+    ensures pairs { pairs.old ≡ result.0 ∷ result.1 ∷ result.2 ∷ [] }
+    ensures over { pairs.new ≡ [] }
+{
+    match (pairs.next(), pairs.next_back(), pairs.next()) {
+        (Some(first), Some(last), Some(middle)) => (first, middle, last),
+        _ => unreachable!(),
+    }
+}
+
+// With no pairs left nothing comes, however often it is asked.
+fn gives_nothing_at_the_end<S: NodeStore>(pairs: &mut IntoIter<S>) -> (bool, bool, bool)
+    requires { pairs.old ≡ [] }
+    ensures { result ≡ (true, true, true) }
+{
+    (
+        pairs.next().is_none(),
+        pairs.next_back().is_none(),
+        pairs.next().is_none(),
+    )
+}
+
+// One step makes one fewer, and the hint is exact.
+fn counts_what_is_left<S: NodeStore>(pairs: &mut IntoIter<S>) -> (usize, (usize, Option<usize>))
+    requires { length pairs.old ≡ 2 }
+    ensures { result ≡ (2, (1, Some 1)) }
+{
+    let before = (*pairs).len();
+    pairs.next_back();
+    (before, (*pairs).size_hint())
+}

@@ -1,0 +1,14 @@
+use Rattle.std.proofs.Common.{◌+◌, ◌≤◌, length, vec_len, vec_capacity}
+use Rattle.sweep_bptree.specs.Ends.{walked}
+use Rattle.sweep_bptree.specs.Steps.{IsCopyOf}
+use Rattle.sweep_bptree.proofs.EndLemmas.{IsWalking}
+use Rattle.sweep_bptree.proofs.script.walk.taken.Given as goal
+
+-- the ends so far have their answers, and the others have room
+abbrev pub invariant-loop-end : goal.invariant-loop-end
+invariant-loop-end g l =
+    IsWalking (IsCopyOf g.S.K.Ord.cmp) (walked l.fn.word l.fn.tree.contents) l.left l.pairs l.answers.items
+    × (vec_len l.answers + length l.left ≤ vec_capacity l.answers)
+
+abbrev pub decreases-loop-end : goal.decreases-loop-end
+decreases-loop-end g l = length l.left

@@ -1,0 +1,69 @@
+//! Pairs taken from both ends.
+ghost use Rattle.std.specs.Prelude.{IfOk};
+ghost use Rattle.std.specs.List.{AllZip};
+ghost use Rattle.std.specs.Map.Iter.{deref_pair};
+ghost use Rattle.sweep_bptree.specs.Ends.{TakesFrom, walked};
+ghost use Rattle.sweep_bptree.specs.Steps.{IsCopyOf, TreeStep};
+
+use crate::script::commands::{Command, Reply, ReplyOf, copy_of};
+use bptree_arguments::argument::{RankArgument, SearchArgument};
+use bptree_stores::node_stores::NodeStore;
+use bptree_tree::BPlusTree;
+use bptree_tree::iterator::Iter;
+use std::alloc::{AllocError, Global};
+
+/// An end of what is left of a list.
+#[derive(Clone, Copy, Debug, PartialEq, Eq)]
+pub enum End {
+    /// The first that is left is taken.
+    Front,
+    /// The last that is left is taken.
+    Back,
+}
+
+/// Takes the pair at an end, if one is left.
+pub(crate) fn take_pair<'a, S: NodeStore>(
+    pairs: &mut Iter<'a, S>,
+    end: End,
+) -> Option<(&'a S::K, &'a S::V)>
+    ensures { TakesFrom (deref_pair {K = S.K} {X = S.V}) end pairs.old result pairs.new }
+{
+    match end {
+        End::Front => pairs.next(),
+        End::Back => pairs.next_back(),
+    }
+}
+
+// Copies of what each end of a word takes of the pairs of a tree. Room for all is found by one request.
+fn taken<S: NodeStore>(
+    alloc: Global,
+    tree: &BPlusTree<S>,
+    word: &[End],
+) -> Result<Vec<Option<(S::K, S::V)>>, AllocError>
+where
+    S::V: Copy,
+    ensures { IfOk result (λ answers. AllZip (IsCopyOf S.K.cmp) (walked word.now tree.now.contents) answers.items) }
+{
+    let mut answers = Vec::with_capacity(alloc, word.len())?;
+    let mut pairs = tree.iter();
+    let mut left = word;
+    while let Some((end, rest)) = left.split_first() {
+        let pair = take_pair(&mut pairs, *end);
+        answers.push_reserved(copy_of(pair)?);
+        left = rest;
+    }
+    Ok(answers)
+}
+
+/// Takes pairs from the ends of an iterator that is made for it.
+pub(crate) fn walk<S: NodeStore>(alloc: Global, tree: &BPlusTree<S>, word: Vec<End>) -> ReplyOf<S>
+where
+    S::V: Copy,
+    S::Argument: SearchArgument<S::K> + RankArgument<S::K>,
+    ensures { TreeStep S.K.cmp S.Argument.selects S.Argument.ranks tree.now.contents (Command.Walk word) result tree.now.contents }
+{
+    match taken(alloc, tree, word.as_slice()) {
+        Ok(answers) => Reply::Walked(answers),
+        Err(_) => Reply::OutOfMemory,
+    }
+}
