@@ -58,45 +58,45 @@ fn children() -> (usize, usize, usize, usize, usize)
 // No pairs are loaded as no pairs.
 fn loads_none<S: NodeStore>(
     alloc: Global,
-    data: Vec<(S::K, S::V)>,
+    pairs: Vec<(S::K, S::V)>,
 ) -> Result<BPlusTree<S>, AllocError>
-    requires { data.items ≡ [] }
+    requires { pairs.items ≡ [] }
     ensures { IfOk result (λ tree. tree.contents ≡ []) }
 {
-    BPlusTree::bulk_load(alloc, data)
+    BPlusTree::bulk_load(alloc, pairs)
 }
 
 // Pairs that ascend are loaded as they come.
 fn loads_all<S: NodeStore>(
     alloc: Global,
-    data: Vec<(S::K, S::V)>,
+    pairs: Vec<(S::K, S::V)>,
 ) -> Result<BPlusTree<S>, AllocError>
-    requires { IsAscending S.K.cmp data.items }
-    ensures { IfOk result (λ tree. tree.contents ≡ data.items) }
+    requires { IsAscending S.K.cmp pairs.items }
+    ensures { IfOk result (λ tree. tree.contents ≡ pairs.items) }
 {
     laws_of_load::<S::K, S::V>();
-    BPlusTree::bulk_load(alloc, data)
+    BPlusTree::bulk_load(alloc, pairs)
 }
 
 // At each key stands the value of the last pair with an equal key.
 fn loads_the_last<S: NodeStore>(
     alloc: Global,
-    data: Vec<(S::K, S::V)>,
+    pairs: Vec<(S::K, S::V)>,
 ) -> Result<BPlusTree<S>, AllocError>
-    requires { IsInLoadOrder S.K.cmp data.items }
-    ensures { IfOk result (λ tree. (k : S.K) → value S.K.cmp tree.contents k ≡ last_value S.K.cmp data.items k) }
+    requires { IsInLoadOrder S.K.cmp pairs.items }
+    ensures { IfOk result (λ tree. (k : S.K) → value S.K.cmp tree.contents k ≡ last_value S.K.cmp pairs.items k) }
 {
     laws_of_load::<S::K, S::V>();
-    BPlusTree::bulk_load(alloc, data)
+    BPlusTree::bulk_load(alloc, pairs)
 }
 
 // The root's argument is a summary of what was loaded.
 fn loads_with_a_summary<S: NodeStore>(
     alloc: Global,
-    data: Vec<(S::K, S::V)>,
+    pairs: Vec<(S::K, S::V)>,
 ) -> Result<BPlusTree<S>, AllocError>
-    requires { IsInLoadOrder S.K.cmp data.items }
-    ensures { IfOk result (λ tree. S.Argument.is_summary tree.root_argument (keys_of (load S.K.cmp data.items))) }
+    requires { IsInLoadOrder S.K.cmp pairs.items }
+    ensures { IfOk result (λ tree. S.Argument.is_summary tree.root_argument (keys_of (load S.K.cmp pairs.items))) }
 {
-    BPlusTree::bulk_load(alloc, data)
+    BPlusTree::bulk_load(alloc, pairs)
 }

@@ -4,6 +4,8 @@
 #[cfg(test)]
 mod callers;
 #[cfg(test)]
+mod dropping_tests;
+#[cfg(test)]
 mod group_tests;
 #[cfg(test)]
 mod loading_tests;

@@ -106,20 +106,22 @@ fn two_go_on_alone<S: NodeStore<K = u64, V = u64>>(alloc: Global) -> Result<bool
     let Some(first) = tree.cursor_first()? else {
         return Ok(false);
     };
-    let other = first;
-    let (Some(one), Some(two)) = (first.next(&tree)?, other.next(&tree)?) else {
-        return Ok(false);
-    };
-    let second = *one.key() == 1 && *two.key() == 1;
-    let left = take(&mut tree, 2) && take(&mut tree, 0);
-    Ok(
-        filled
-            && ends
-            && second
-            && left
-            && stands_between(&one, &tree, None, true, Some(3))?
-            && *two.key() == 1,
-    )
+    let second = first;
+    let gone = take(&mut tree, 0) && stands_between(&first, &tree, None, false, Some(1))?;
+    let put = tree.insert(0, 100).is_ok();
+    let back = second.value(&tree).copied() == Some(100) && first.exists(&tree);
+    Ok(filled && ends && gone && put && back && key_after(&tree, 0)? == Some(1))
+}
+
+/// The key after a key, as a cursor finds it.
+pub fn key_after<S: NodeStore<K = u64, V = u64>>(
+    tree: &BPlusTree<S>,
+    key: u64,
+) -> Result<Option<u64>, AllocError> {
+    match cursor_for(tree, key)? {
+        Some((cursor, _)) => Ok(key_of(cursor.next(tree)?)),
+        None => Ok(None),
+    }
 }
 
 // Whether a cursor goes along all pairs in their order, and back.

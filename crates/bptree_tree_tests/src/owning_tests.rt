@@ -37,10 +37,11 @@ impl Drop for Counted {
     }
 }
 
-// How many values were dropped once a pair was taken from each end, and once what is left was dropped too.
+// How many values were dropped once so many pairs were taken from each end, and once what is left was dropped too.
 fn drops<S: NodeStore<K = u64, V = Counted>>(
     alloc: Global,
     len: u64,
+    from_each_end: u64,
 ) -> Result<(u64, u64), AllocError> {
     let count = Rc::new(alloc, Cell::new(0))?;
     let mut tree: BPlusTree<S> = new_tree(alloc)?;
@@ -50,8 +51,10 @@ fn drops<S: NodeStore<K = u64, V = Counted>>(
         }
     }
     let mut pairs = tree.into_iter();
-    pairs.next();
-    pairs.next_back();
+    for _ in 0..from_each_end {
+        pairs.next();
+        pairs.next_back();
+    }
     let taken = count.get();
     drop(pairs);
     Ok((taken, count.get()))
@@ -70,7 +73,9 @@ fn owned_pairs_come_from_both_ends(rt: HostRuntime) -> Result<(), Fail> {
 
 #[test]
 fn pairs_that_are_left_are_dropped_once(rt: HostRuntime) -> Result<(), Fail> {
-    let dropped = drops::<NodeStoreVec<u64, Counted>>(rt.alloc(), 300)?;
-    assert_eq!(rt; dropped, (2, 300));
+    for (len, from_each_end) in [(10, 0), (300, 1), (300, 150)] {
+        let dropped = drops::<NodeStoreVec<u64, Counted>>(rt.alloc(), len, from_each_end)?;
+        assert_eq!(rt; dropped, (2 * from_each_end, len));
+    }
     Ok(())
 }

@@ -1,4 +1,5 @@
 //! Trees that shrink by removal, and removals that are refused.
+use crate::cursor_tests::key_after;
 use crate::probe::{Probe, ProbedStore};
 use crate::trees::{
     CountedStore, Keys, are_same, front, has_leaves, is_well_shaped, measures, new_tree,
@@ -60,7 +61,7 @@ fn two_leaves_lend_and_join<S: NodeStore<K = u64, V = u64, Argument = Count>>(
         && has_leaves(&tree, &[(17, 32, 16), (33, 64, 32)])?
         && measures(&tree, 48, 1)
         && key_behind(&tree, 14) == Some(31)
-        && key_behind(&tree, 15) == Some(32)
+        && key_after(&tree, 31)? == Some(32)
         && rank(&tree, 32)? == Ok(15)
         && shrinks_well(&mut tree, keys_from(17, 32), 1)?
         && has_leaves(&tree, &[(33, 48, 16), (49, 64, 16)])?;
