@@ -2,4 +2,4 @@ pub mod Clones
 pub mod Hint
 pub mod Place
 pub mod PlaceClones
-pub mod StoreVec
+pub mod StoreSlabs

@@ -1,4 +1,4 @@
-//! Where a B+ tree keeps its nodes: a store, and one over vectors.
+//! Where a B+ tree keeps its nodes: a store, and one over slabs.
 #![tactic(auto)]
 
 pub mod node_store_vec;

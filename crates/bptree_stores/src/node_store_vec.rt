@@ -1,4 +1,4 @@
-//! A store over two vectors.
+//! A store over two slabs.
 ghost use Rattle.std.specs.Prelude.{◌≡◌, ◌↔◌, ℕ, IsTrue, IfOk};
 ghost use Rattle.bptree_nodes.specs.Slot.{Free, IsEmpty};
 ghost use Rattle.bptree_stores.specs.Place.{slot_at};
@@ -10,32 +10,29 @@ use bptree_keys::key::Key;
 use bptree_keys::node_id::{InnerNodeId, LeafNodeId};
 use bptree_nodes::inner_node::InnerNode;
 use bptree_nodes::leaf_node::LeafNode;
+use slab::Slab;
 use std::alloc::{AllocError, Global};
 use std::cell::Cell;
 use std::mem;
 
 // Whether no number is present or held.
-fn are_vacant<N>(places: &[Place<N>]) -> bool
+fn is_vacant<N>(places: &Slab<Place<N>>) -> bool
     ensures { IsTrue result ↔ ((id : ℕ) → slot_at places.now id ≡ Free) }
 {
-    for place in places {
-        match place {
-            Place::Vacant => {}
-            _ => return false,
-        }
-    }
-    true
+    places.is_empty()
 }
 
-/// Nodes in two vectors of boxes, under their places. A released number is not given out again.
+/// Nodes in boxes, whose places stand in two slabs. A released number is given out again, the last released first; where
+/// none is left of these, the next number is the least one that was never given out. So each number is less than the most that
+/// were taken at a time, and a remembered number can stand for another leaf than it did.
 ///
-/// A new number takes amortised constant time, and moves no node. `is_empty` looks at every number that was given out,
-/// and a clone copies every node; `try_cache` compares the key with at most two others. Each other call takes constant
-/// time. A store that is dropped drops each node that is present.
+/// A new number takes amortised constant time, moves no node, and takes no memory where a released one is left. A clone copies
+/// every node; `try_cache` compares the key with at most two others. Each other call takes constant time. A store that is
+/// dropped drops each node that is present.
 #[derive(Drop)]
 pub struct NodeStoreVec<K: Key, V, A: Argument<K> = ()> {
-    inner_nodes: Vec<Place<InnerNode<K, A>>>,
-    leaf_nodes: Vec<Place<LeafNode<K, V>>>,
+    inner_nodes: Slab<Place<InnerNode<K, A>>>,
+    leaf_nodes: Slab<Place<LeafNode<K, V>>>,
     alloc: Global,
     cached_leaf: Cell<usize>,
     // The number that was given last to be remembered. It is remembered once it is given twice in turn.
@@ -43,7 +40,7 @@ pub struct NodeStoreVec<K: Key, V, A: Argument<K> = ()> {
 }
 
 impl<K: Key, V: Drop, A: Argument<K>> NodeStoreVec<K, V, A> {
-    ghost use Rattle.bptree_stores.specs.StoreVec.{slots};
+    ghost use Rattle.bptree_stores.specs.StoreSlabs.{slots};
 
     /// A store with no node and no number held. It takes no memory now.
     pub fn new(alloc: Global) -> Self
@@ -52,13 +49,13 @@ impl<K: Key, V: Drop, A: Argument<K>> NodeStoreVec<K, V, A> {
         NodeStoreVec::empty(alloc)
     }
 
-    /// The same, with room for so many numbers of each kind before a vector grows.
+    /// The same, with room for so many numbers of each kind before more memory is taken.
     pub fn with_capacity(alloc: Global, capacity: usize) -> Result<Self, AllocError>
         ensures { IfOk result (λ store. IsEmpty (slots store)) }
     {
         Ok(NodeStoreVec {
-            inner_nodes: Vec::with_capacity(alloc, capacity)?,
-            leaf_nodes: Vec::with_capacity(alloc, capacity)?,
+            inner_nodes: Slab::with_capacity(alloc, capacity)?,
+            leaf_nodes: Slab::with_capacity(alloc, capacity)?,
             alloc,
             cached_leaf: Cell::new(usize::MAX),
             last_leaf: Cell::new(usize::MAX),
@@ -69,7 +66,7 @@ impl<K: Key, V: Drop, A: Argument<K>> NodeStoreVec<K, V, A> {
 impl<K: Key, V: Drop, A: Argument<K>> NodeStore for NodeStoreVec<K, V, A> {
     ghost use Rattle.std.specs.Prelude.{◌≡◌, ℕ, IfOk, IfErr, OnErr};
     ghost use Rattle.bptree_nodes.specs.Slot.{Free, Held, Present, UpdatesInner, UpdatesLeaf};
-    ghost use Rattle.bptree_stores.specs.StoreVec.{slots, vec_with_leaf, vec_with_leaf_updates, vec_with_inner, vec_with_inner_updates};
+    ghost use Rattle.bptree_stores.specs.StoreSlabs.{slots, store_with_leaf, store_with_leaf_updates, store_with_inner, store_with_inner_updates};
 
     type K = K;
 
@@ -79,14 +76,14 @@ impl<K: Key, V: Drop, A: Argument<K>> NodeStore for NodeStoreVec<K, V, A> {
 
     ghost slots = { slots };
 
-    ghost with_inner = { vec_with_inner };
+    ghost with_inner = { store_with_inner };
 
-    ghost with_leaf = { vec_with_leaf };
+    ghost with_leaf = { store_with_leaf };
 
     fn empty(alloc: Global) -> Self {
         NodeStoreVec {
-            inner_nodes: Vec::new(alloc),
-            leaf_nodes: Vec::new(alloc),
+            inner_nodes: Slab::new(alloc),
+            leaf_nodes: Slab::new(alloc),
             alloc,
             cached_leaf: Cell::new(usize::MAX),
             last_leaf: Cell::new(usize::MAX),
@@ -98,7 +95,7 @@ impl<K: Key, V: Drop, A: Argument<K>> NodeStore for NodeStoreVec<K, V, A> {
     }
 
     fn is_empty(&self) -> bool {
-        are_vacant(self.inner_nodes.as_slice()) && are_vacant(self.leaf_nodes.as_slice())
+        is_vacant(&self.inner_nodes) && is_vacant(&self.leaf_nodes)
     }
 
     fn add_inner(&mut self, node: Box<InnerNode<K, A>>) -> Result<InnerNodeId, Box<InnerNode<K, A>>>
@@ -110,21 +107,15 @@ impl<K: Key, V: Drop, A: Argument<K>> NodeStore for NodeStoreVec<K, V, A> {
         if self.inner_nodes.reserve(1).is_err() {
             return Err(node);
         }
-        let id = InnerNodeId::from_usize(self.inner_nodes.len());
-        self.inner_nodes.push_reserved(Place::Occupied(node));
-        Ok(id)
+        Ok(InnerNodeId::from_usize(self.inner_nodes.insert_reserved(Place::Occupied(node))))
     }
 
     fn reserve_inner(&mut self) -> Result<InnerNodeId, AllocError> {
-        let id = InnerNodeId::from_usize(self.inner_nodes.len());
-        self.inner_nodes.push(Place::Reserved)?;
-        Ok(id)
+        Ok(InnerNodeId::from_usize(self.inner_nodes.insert(Place::Reserved)?))
     }
 
     fn reserve_leaf(&mut self) -> Result<LeafNodeId, AllocError> {
-        let id = LeafNodeId::from_usize(self.leaf_nodes.len());
-        self.leaf_nodes.push(Place::Reserved)?;
-        Ok(id)
+        Ok(LeafNodeId::from_usize(self.leaf_nodes.insert(Place::Reserved)?))
     }
 
     fn get_inner(&self, id: InnerNodeId) -> &InnerNode<K, A> {
@@ -160,14 +151,14 @@ impl<K: Key, V: Drop, A: Argument<K>> NodeStore for NodeStoreVec<K, V, A> {
     fn take_inner(&mut self, id: InnerNodeId) -> Box<InnerNode<K, A>> {
         match mem::replace(&mut self.inner_nodes[id.as_usize()], Place::Reserved) {
             Place::Occupied(node) => node,
-            _ => unreachable!(),
+            Place::Reserved => unreachable!(),
         }
     }
 
     fn take_leaf(&mut self, id: LeafNodeId) -> Box<LeafNode<K, V>> {
         match mem::replace(&mut self.leaf_nodes[id.as_usize()], Place::Reserved) {
             Place::Occupied(leaf) => leaf,
-            _ => unreachable!(),
+            Place::Reserved => unreachable!(),
         }
     }
 
@@ -186,11 +177,11 @@ impl<K: Key, V: Drop, A: Argument<K>> NodeStore for NodeStoreVec<K, V, A> {
     }
 
     fn release_inner(&mut self, id: InnerNodeId) {
-        self.inner_nodes[id.as_usize()] = Place::Vacant;
+        self.inner_nodes.remove(id.as_usize());
     }
 
     fn release_leaf(&mut self, id: LeafNodeId) {
-        self.leaf_nodes[id.as_usize()] = Place::Vacant;
+        self.leaf_nodes.remove(id.as_usize());
     }
 
     fn cache_leaf(&self, id: LeafNodeId) {
@@ -212,9 +203,9 @@ impl<K: Key, V: Drop, A: Argument<K>> NodeStore for NodeStoreVec<K, V, A> {
         }
     }
 
-    ghost with_inner_updates = { vec_with_inner_updates };
+    ghost with_inner_updates = { store_with_inner_updates };
 
-    ghost with_leaf_updates = { vec_with_leaf_updates };
+    ghost with_leaf_updates = { store_with_leaf_updates };
 }
 
 impl<K: Key, V: Clone, A: Argument<K>> Clone for NodeStoreVec<K, V, A> {
@@ -222,7 +213,8 @@ impl<K: Key, V: Clone, A: Argument<K>> Clone for NodeStoreVec<K, V, A> {
 
     ghost is_clone = { IsStoreClone K.is_clone V.is_clone A.is_clone };
 
-    /// A store of clones, which remembers the same hint. A refusal drops the clones made so far.
+    /// A store of clones, which remembers the same hint and gives out the released numbers in the same order. A refusal drops
+    /// the clones made so far.
     fn clone(&self) -> Result<Self, AllocError> {
         Ok(NodeStoreVec {
             inner_nodes: self.inner_nodes.clone()?,

@@ -1,4 +1,4 @@
-//! What stands under a number of a vector.
+//! What stands under a number of a slab.
 ghost use Rattle.std.specs.Prelude.{◌≡◌};
 ghost use Rattle.std.specs.Borrow.{Lends, sem};
 ghost use Rattle.bptree_nodes.specs.Slot.{Slot, Present, IsPresent};
@@ -7,12 +7,10 @@ ghost use Rattle.bptree_stores.specs.contracts.place.Place.{the_row};
 
 use std::alloc::AllocError;
 
-/// What stands under a number.
+/// What stands under a number that is taken.
 #[derive(Drop)]
 pub enum Place<N> {
-    /// Nothing.
-    Vacant,
-    /// Nothing yet, or nothing for a while: the number is taken.
+    /// Nothing yet, or nothing for a while.
     Reserved,
     /// A node.
     Occupied(Box<N>),
@@ -26,7 +24,7 @@ impl<N> Place<N> {
     {
         match self {
             Place::Occupied(node) => node,
-            _ => unreachable!(),
+            Place::Reserved => unreachable!(),
         }
     }
 
@@ -38,7 +36,7 @@ impl<N> Place<N> {
     {
         match self {
             Place::Occupied(node) => node.as_mut(),
-            _ => unreachable!(),
+            Place::Reserved => unreachable!(),
         }
     }
 }
@@ -50,7 +48,6 @@ impl<N: Clone> Clone for Place<N> {
 
     fn clone(&self) -> Result<Self, AllocError> {
         match self {
-            Place::Vacant => Ok(Place::Vacant),
             Place::Reserved => Ok(Place::Reserved),
             Place::Occupied(node) => Ok(Place::Occupied(node.clone()?)),
         }

@@ -26,7 +26,7 @@ fn starts_empty<S: NodeStore>(alloc: Global) -> (S, bool)
     (store, says)
 }
 
-// So has one over vectors, with or without room.
+// So has one over slabs, with or without room.
 fn says_that_it_is_empty<K: Key, V: Drop, A: Argument<K>>(
     alloc: Global,
     capacity: usize,
@@ -73,7 +73,7 @@ fn adds_beside_a_held_number<S: NodeStore>(
 }
 
 // Two numbers that are held are two.
-fn holds_two_inner_nodes<S: NodeStore>(
+pub fn holds_two_inner_nodes<S: NodeStore>(
     store: &mut S,
 ) -> Result<(InnerNodeId, InnerNodeId), AllocError>
     ensures apart { IfOk result (λ ids. ids.0.0 ≢ ids.1.0) }
@@ -84,7 +84,7 @@ fn holds_two_inner_nodes<S: NodeStore>(
     Ok((first, second))
 }
 
-fn holds_two_leaves<S: NodeStore>(store: &mut S) -> Result<(LeafNodeId, LeafNodeId), AllocError>
+pub fn holds_two_leaves<S: NodeStore>(store: &mut S) -> Result<(LeafNodeId, LeafNodeId), AllocError>
     ensures apart { IfOk result (λ ids. ids.0.0 ≢ ids.1.0) }
     ensures held { IfOk result (λ ids. ((S.slots store.new).leaf ids.0.0 ≡ Held) × ((S.slots store.new).leaf ids.1.0 ≡ Held)) }
 {

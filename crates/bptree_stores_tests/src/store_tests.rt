@@ -4,7 +4,8 @@ ghost use Rattle.std.proofs.Common.{rules};
 ghost use Rattle.bptree_nodes.specs.Slot.{IsPresent};
 
 use crate::callers::{
-    assigns_in_a_clone, starts_a_leaf, walks_a_leaf_number, walks_an_inner_number, writes_a_leaf,
+    assigns_in_a_clone, holds_two_inner_nodes, holds_two_leaves, starts_a_leaf,
+    walks_a_leaf_number, walks_an_inner_number, writes_a_leaf,
 };
 use bptree_keys::key::Key;
 use bptree_keys::node_id::{LeafNodeId, NodeId};
@@ -38,7 +39,7 @@ fn rewrite(node: &mut InnerNode<u64, ()>) -> Option<u64> {
     Some(node.set_key(0, 20))
 }
 
-// Takes a number of each kind through all its states, and then writes an added node where it stands.
+// Takes a number of each kind through all its states, which is given out again, and then writes an added node where it stands.
 fn walk<S: NodeStore<K = u64, V = u64, Argument = ()>>(store: &mut S) -> Result<bool, AllocError> {
     let node = node_over_two(store.allocator(), 10)?;
     let leaf = even_leaf(store.allocator())?;
@@ -55,8 +56,8 @@ fn walk<S: NodeStore<K = u64, V = u64, Argument = ()>>(store: &mut S) -> Result<
             && store.get_inner(added).keys() == [20].as_slice()
             && store.get_leaf(kept).values() == [10].as_slice()
             && leaf.len() == 64
-            && first != added
-            && second != kept,
+            && first == added
+            && second == kept,
     )
 }
 
@@ -64,6 +65,42 @@ fn walk<S: NodeStore<K = u64, V = u64, Argument = ()>>(store: &mut S) -> Result<
 fn walks_through_the_states_of_a_number(rt: HostRuntime) -> Result<(), Fail> {
     let mut store = NodeStoreVec::<u64, u64>::with_capacity(rt.alloc(), 8)?;
     assert!(rt; walk(&mut store)?);
+    Ok(())
+}
+
+// Of two numbers of leaves that are held the first is released and is given out again. Then both are released, the second one
+// last, and come back in the other order, and before any other; in a clone too.
+fn leaf_numbers_come_back<S: CloneStore>(store: &mut S) -> Result<bool, AllocError>
+where
+    S::V: Clone,
+{
+    let (first, second) = holds_two_leaves(store)?;
+    store.release_leaf(first);
+    let again = store.reserve_leaf()?;
+    store.release_leaf(again);
+    store.release_leaf(second);
+    let mut copy = store.clone()?;
+    Ok(
+        again == first
+            && holds_two_leaves(store)? == (second, first)
+            && holds_two_leaves(&mut copy)? == (second, first),
+    )
+}
+
+fn inner_numbers_come_back<S: NodeStore>(store: &mut S) -> Result<bool, AllocError> {
+    let (first, second) = holds_two_inner_nodes(store)?;
+    store.release_inner(first);
+    let again = store.reserve_inner()?;
+    store.release_inner(again);
+    store.release_inner(second);
+    Ok(again == first && holds_two_inner_nodes(store)? == (second, first))
+}
+
+#[test]
+fn released_numbers_come_back_the_last_first(rt: HostRuntime) -> Result<(), Fail> {
+    let mut store = NodeStoreVec::<u64, u64>::new(rt.alloc());
+    assert!(rt; leaf_numbers_come_back(&mut store)?);
+    assert!(rt; inner_numbers_come_back(&mut store)?);
     Ok(())
 }
 

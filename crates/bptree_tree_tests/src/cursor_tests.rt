@@ -26,8 +26,8 @@ fn with_value(key: Option<u64>) -> Option<(u64, u64)> {
     }
 }
 
-// Whether a cursor has these keys beside it, and its own key is there or not.
-fn stands_between<S: NodeStore<K = u64, V = u64>>(
+/// Whether a cursor has these keys beside it, and its own key is there or not.
+pub fn stands_between<S: NodeStore<K = u64, V = u64>>(
     cursor: &Cursor<u64>,
     tree: &BPlusTree<S>,
     before: Option<u64>,
@@ -50,8 +50,8 @@ fn stands_between<S: NodeStore<K = u64, V = u64>>(
     )
 }
 
-// A cursor for a key, and the value that came with it.
-fn cursor_for<S: NodeStore<K = u64, V = u64>>(
+/// A cursor for a key, and the value that came with it.
+pub fn cursor_for<S: NodeStore<K = u64, V = u64>>(
     tree: &BPlusTree<S>,
     key: u64,
 ) -> Result<Option<(Cursor<u64>, Option<u64>)>, AllocError> {

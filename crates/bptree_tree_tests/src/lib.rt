@@ -10,6 +10,8 @@ mod cursor_tests;
 #[cfg(test)]
 mod insertion_tests;
 #[cfg(test)]
+mod number_tests;
+#[cfg(test)]
 mod owning_tests;
 #[cfg(test)]
 mod probe;
