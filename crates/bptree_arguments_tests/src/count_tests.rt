@@ -1,8 +1,7 @@
-//! Counts at concrete keys, and an argument that counts some of the keys only.
+//! Counts at concrete keys.
 ghost use Rattle.std.specs.Prelude.{◌≤◌, length};
 ghost use Rattle.bptree_arguments.specs.Ranks.{IsSlotOf};
 
-use crate::even_count::EvenCount;
 use bptree_arguments::argument::{Argument, RankArgument, SearchArgument};
 use bptree_arguments::count::Count;
 use bptree_keys::key::Key;
@@ -101,21 +100,5 @@ fn ranks() -> Result<bool, AllocError> {
 #[test]
 fn ranks_a_present_and_an_absent_key(rt: HostRuntime) -> Result<(), Fail> {
     assert!(rt; ranks()?);
-    Ok(())
-}
-
-fn counts_even() -> Result<bool, AllocError> {
-    let two = EvenCount::from_leaf(&[2, 3, 4])?;
-    let none = EvenCount::from_leaf(&[5])?;
-    Ok(
-        EvenCount::from_inner(&[5, 6], &[two, none, two])?.0 == 4
-            && two.0 == 2
-            && EvenCount::default().0 == 0,
-    )
-}
-
-#[test]
-fn counts_the_even_keys(rt: HostRuntime) -> Result<(), Fail> {
-    assert!(rt; counts_even()?);
     Ok(())
 }

@@ -1,4 +1,4 @@
-//! Tests of arguments, and an argument of their own.
+//! Tests of arguments and of requests.
 #![tactic(auto)]
 
 #[cfg(test)]
@@ -7,7 +7,6 @@ mod argument_tests;
 mod callers;
 #[cfg(test)]
 mod count_tests;
-pub mod even_count;
 #[cfg(test)]
 mod group_answer_tests;
 #[cfg(test)]

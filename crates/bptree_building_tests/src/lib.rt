@@ -6,6 +6,4 @@ mod callers;
 #[cfg(test)]
 mod dropping_tests;
 #[cfg(test)]
-mod group_tests;
-#[cfg(test)]
 mod loading_tests;

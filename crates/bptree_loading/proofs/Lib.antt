@@ -2,3 +2,4 @@ pub mod GivenLemmas
 pub mod DedupLemmas
 pub mod OrderLemmas
 pub mod RunLemmas
+pub mod SortLemmas

@@ -101,7 +101,7 @@ module _ {K V : Type 0} (cmp : K → K → Ordering) (total : IsTotalOrder cmp) 
       ∙ ap (λ kept. cond (is_eq (cmp p.0 q.0)) kept (p ∷ kept)) (load_runs (q ∷ l))
 
 -- a second choice of none, and one after a choice that is there
-or_none : {V : Type 0} (found : Option V) → option_or found None ≡ found
+pub or_none : {V : Type 0} (found : Option V) → option_or found None ≡ found
 or_none None = refl
 or_none (Some v) = refl
 
@@ -132,7 +132,7 @@ module _ {K V : Type 0} (cmp : K → K → Ordering) where
 
 module _ {K V : Type 0} (cmp : K → K → Ordering) (total : IsTotalOrder cmp) where
   -- equal keys are there alike
-  has_alike : (x y : K) → cmp x y ≡ Equal → (l : List (K × V)) → has cmp l x ≡ has cmp l y
+  pub has_alike : (x y : K) → cmp x y ≡ Equal → (l : List (K × V)) → has cmp l x ≡ has cmp l y
   has_alike x y alike [] = refl
   has_alike x y alike (p ∷ l) = rw (alike_right total x y p.0 alike, has_alike x y alike l) refl
 

@@ -1,11 +1,13 @@
 //! Pairs whose keys do not descend, and of each run of pairs with equal keys the last.
-ghost use Rattle.std.specs.Prelude.{◌≡◌, ◌+◌, ◌<◌, ◌≤◌, ◌++◌, [], List, ◌↔◌, IsTrue, if◌then◌else◌, length, take, drop};
+ghost use Rattle.std.specs.Prelude.{◌≡◌, ◌+◌, ◌<◌, ◌≤◌, ◌++◌, [], List, ◌↔◌, IsTrue, if◌then◌else◌, length, take, drop, OnOk, OnErr};
 ghost use Rattle.bptree_keys.specs.Contents.{IsAscending, load, gather, value};
 ghost use Rattle.std.specs.Ordering.{is_eq};
 ghost use Rattle.bptree_loading.specs.Dedup.{last_of_each_run};
 ghost use Rattle.bptree_loading.specs.Loading.{IsInLoadOrder, last_value};
 
 use bptree_keys::key::Key;
+use std::alloc::AllocError;
+use std::cmp::Ordering;
 
 /// Whether no key is above the next one. Each key is compared with the next, up to the first that is above it.
 pub fn in_load_order<K: Key, V>(pairs: &[(K, V)]) -> bool
@@ -65,6 +67,25 @@ pub fn keep_last_of_each_run<K: Key, V: Drop>(pairs: &mut Vec<(K, V)>)
         at += 1;
     }
     pairs.truncate(kept);
+}
+
+// The order of two pairs by their keys.
+fn by_key<K: Key, V>(pair: &(K, V), other: &(K, V)) -> Ordering
+    ensures { result ≡ K.cmp pair.now.0 other.now.0 }
+{
+    pair.0.cmp(&other.0)
+}
+
+/// Sorts pairs by their keys, so that they are in load order, with the standard library's sort. Pairs with equal keys keep
+/// the order that they came in: so the last of them is the last of its run.
+///
+/// More than 20 pairs take memory while they are sorted. A refusal leaves them in their places.
+pub fn sort_for_load<K: Key, V: Drop>(pairs: &mut Vec<(K, V)>) -> Result<(), AllocError>
+    ensures order { OnOk result (IsInLoadOrder K.cmp pairs.new.items) }
+    ensures gather { OnOk result (load K.cmp pairs.new.items ≡ gather K.cmp pairs.old.items) }
+    ensures err { OnErr result (pairs.new.items ≡ pairs.old.items) }
+{
+    pairs.sort_by(by_key)
 }
 
 /// Pairs in load order, of which the last of each run is kept: they ascend, they are what is gathered of all, and at each

@@ -24,7 +24,7 @@ module _ {A : Type 0} where
   seconds_alone [] = refl
   seconds_alone (y ∷ ys) = ap (λ zs. y ∷ zs) (seconds_alone ys)
 
-  keys_alone : (ys : List A) → keys_given (map (λ y. (None, Some y)) ys) ≡ ys
+  pub keys_alone : (ys : List A) → keys_given (map (λ y. (None, Some y)) ys) ≡ ys
   keys_alone [] = refl
   keys_alone (y ∷ ys) = ap (λ zs. y ∷ zs) (keys_alone ys)
 

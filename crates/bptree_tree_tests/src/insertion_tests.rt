@@ -1,7 +1,6 @@
 //! Trees that grow by insertion, with shapes that follow from how many pairs a leaf takes, and insertions that are refused.
 ghost use Rattle.std.proofs.Common.{rules};
 
-use crate::probe::{Probe, ProbedStore};
 use crate::trees::{
     CountedStore, Keys, are_same, has_leaves, holds_all_below, is_well_shaped, measures, new_tree,
     put, put_all, read, tree_of, value_of,
@@ -10,6 +9,7 @@ use bptree_keys::key::Key;
 use bptree_stores::node_store_vec::NodeStoreVec;
 use bptree_stores::node_stores::NodeStore;
 use bptree_tree::{BPlusTree, InsertError};
+use bptree_visits_tests::probe::{Probe, ProbedStore};
 use std::alloc::{AllocError, Global};
 use std::test::Fail;
 

@@ -14,8 +14,6 @@ mod number_tests;
 #[cfg(test)]
 mod owning_tests;
 #[cfg(test)]
-mod probe;
-#[cfg(test)]
 mod reading_tests;
 #[cfg(test)]
 mod removal_tests;

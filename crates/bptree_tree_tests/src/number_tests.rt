@@ -31,12 +31,12 @@ fn cursor_survives_another_leaf<S: NodeStore<K = u64, V = u64>>(
     let released = take_all(&mut tree, Keys::below(34)) && has_key(&tree, 1, 40).is_none();
     let joined = stands_between(&cursor, &tree, Some(39), true, Some(41))?;
     let greater = Keys {
-        least: 100,
+        least: 65,
         ..Keys::below(34)
     };
     let another = put_all(&mut tree, greater)
         && has_key(&tree, 1, 40) == Some(false)
-        && has_key(&tree, 1, 133) == Some(true);
+        && has_key(&tree, 1, 98) == Some(true);
     let split = stands_between(&cursor, &tree, Some(39), true, Some(41))?;
     let gone = take(&mut tree, 40) && stands_between(&cursor, &tree, Some(39), false, Some(41))?;
     Ok(filled && there && released && joined && another && split && gone)

@@ -1,15 +1,13 @@
 //! Trees whose summaries are kept up, and reads, writes and removals by them.
-use crate::probe::{Probe, ProbedStore};
 use crate::trees::{
     CountedStore, Keys, are_same, is_well_shaped, measures, new_tree, put, put_all, rank, read,
     take_all, tree_of, value_of,
 };
 use bptree_arguments::argument::SearchArgument;
 use bptree_arguments::count::Count;
-use bptree_arguments_tests::even_count::EvenCount;
-use bptree_stores::node_store_vec::NodeStoreVec;
 use bptree_stores::node_stores::NodeStore;
 use bptree_tree::{BPlusTree, SelectError};
+use bptree_visits_tests::probe::{Probe, ProbedStore};
 use std::alloc::{AllocError, Global};
 use std::test::Fail;
 
@@ -54,53 +52,6 @@ where
     S::Argument: SearchArgument<u64, Query = usize>,
 {
     tree.remove_by_argument(place)
-}
-
-fn put_three<S: NodeStore<K = u64, V = u64>>(tree: &mut BPlusTree<S>) -> bool {
-    let mut all = true;
-    for (key, value) in [(1, 2), (2, 3), (3, 4)] {
-        all = all && matches!(tree.insert(key, value), Ok(None));
-    }
-    all
-}
-
-// Whether the keys 1, 2 and 3 stand at the first places, and have their ranks among others.
-fn are_counted<S: NodeStore<K = u64, V = u64, Argument = Count>>(
-    tree: &BPlusTree<S>,
-) -> Result<bool, AllocError> {
-    let mut all = tree.root_argument().count() == 3;
-    for (key, wanted) in [(0, Err(0)), (1, Ok(0)), (2, Ok(1)), (3, Ok(2)), (4, Err(3))] {
-        all = all && rank(tree, key)? == wanted;
-    }
-    for (place, wanted) in [
-        (0, Some((1, 2))),
-        (1, Some((2, 3))),
-        (2, Some((3, 4))),
-        (3, None),
-    ] {
-        all = all && pair_at(tree, place)? == wanted;
-    }
-    Ok(all)
-}
-
-fn three_pairs_are_counted<S: NodeStore<K = u64, V = u64, Argument = Count>>(
-    alloc: Global,
-) -> Result<bool, AllocError> {
-    let mut tree: BPlusTree<S> = new_tree(alloc)?;
-    let mut all = tree.root_argument().count() == 0
-        && rank(&tree, 1)? == Err(0)
-        && pair_at(&tree, 0)?.is_none()
-        && take_at(&mut tree, 0)?.is_none()
-        && put_three(&mut tree)
-        && are_counted(&tree)?
-        && write(&mut tree, 3, 20) == Some(SelectError::NotFound)
-        && write(&mut tree, 0, 20).is_none()
-        && pair_at(&tree, 0)? == Some((1, 20))
-        && take_at(&mut tree, 3)?.is_none();
-    for wanted in [Some((1, 20)), Some((2, 3)), Some((3, 4)), None] {
-        all = all && take_at(&mut tree, 0)? == wanted;
-    }
-    Ok(all && tree.is_empty() && tree.root_argument().count() == 0)
 }
 
 // Whether a tree holds the keys that were put, and each has its place and its rank.
@@ -161,12 +112,6 @@ fn splits_keep_the_counts<S: NodeStore<K = u64, V = u64, Argument = Count>>(
 }
 
 #[test]
-fn three_pairs_are_counted_and_taken(rt: HostRuntime) -> Result<(), Fail> {
-    assert!(rt; three_pairs_are_counted::<CountedStore>(rt.alloc())?);
-    Ok(())
-}
-
-#[test]
 fn places_and_ranks_in_each_order(rt: HostRuntime) -> Result<(), Fail> {
     // Upward, downward, and across.
     for (start, step) in [(0, 1), (497, 497), (0, 7919)] {
@@ -213,34 +158,6 @@ fn places_move_up<S: NodeStore<K = u64, V = u64, Argument = Count>>(
 #[test]
 fn places_behind_one_that_was_taken_move_up(rt: HostRuntime) -> Result<(), Fail> {
     assert!(rt; places_move_up::<CountedStore>(rt.alloc())?);
-    Ok(())
-}
-
-// The even keys among so many are half of them; then some even keys leave, and as many odd ones.
-fn even_keys_are_counted<S: NodeStore<K = u64, V = u64, Argument = EvenCount>>(
-    alloc: Global,
-) -> Result<bool, AllocError> {
-    let (mut tree, filled): (BPlusTree<S>, bool) = tree_of(alloc, Keys::below(100_000))?;
-    let even = Keys {
-        gap: 2,
-        ..Keys::below(100)
-    };
-    let odd = Keys { least: 1, ..even };
-    Ok(
-        filled
-            && tree.len() == 100_000
-            && tree.root_argument().0 == 50_000
-            && take_all(&mut tree, even)
-            && tree.root_argument().0 == 49_900
-            && take_all(&mut tree, odd)
-            && tree.root_argument().0 == 49_900
-            && tree.len() == 99_800,
-    )
-}
-
-#[test]
-fn even_keys_of_many_are_counted(rt: HostRuntime) -> Result<(), Fail> {
-    assert!(rt; even_keys_are_counted::<NodeStoreVec<u64, u64, EvenCount>>(rt.alloc())?);
     Ok(())
 }
 

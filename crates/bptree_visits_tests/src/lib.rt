@@ -6,6 +6,7 @@ mod callers;
 #[cfg(test)]
 mod group_tests;
 pub mod guarded;
+pub mod probe;
 #[cfg(test)]
 mod visit_tests;
 pub mod visitors;

@@ -1,11 +1,11 @@
 //! Callers of the order of pairs, and of the last of each run.
-ghost use Rattle.std.specs.Prelude.{◌≡◌, ◌≢◌, ◌∷◌, ◌↔◌, [], Some, List, IsTrue};
+ghost use Rattle.std.specs.Prelude.{◌≡◌, ◌≢◌, ◌∷◌, ◌↔◌, [], Some, List, IsTrue, false};
 ghost use Rattle.std.specs.declared.cmp.Ordering.TheVariants.{Equal, Greater};
 ghost use Rattle.bptree_keys.specs.Contents.{IsAscending, load, gather, value};
 ghost use Rattle.bptree_loading.specs.Loading.{IsInLoadOrder, last_value};
 
 use bptree_keys::key::Key;
-use bptree_loading::loading::{in_load_order, keep_last_of_each_run, laws_of_load};
+use bptree_loading::loading::{in_load_order, keep_last_of_each_run, laws_of_load, sort_for_load};
 
 // No pairs are in order, one pair is, and two are where the first key is not above the second.
 fn tells_the_order_of_few<K: Key, V>(pairs: &[(K, V)]) -> bool
@@ -53,4 +53,16 @@ fn keeps_all_of_what_was_kept<K: Key, V: Drop>(pairs: &mut Vec<(K, V)>)
     laws_of_load::<K, V>();
     keep_last_of_each_run(pairs);
     keep_last_of_each_run(pairs);
+}
+
+// Of pairs that were sorted, and of which the last of each run was kept, what is left is what is gathered of them as they came.
+fn gathers_by_sorting<K: Key, V: Drop>(pairs: &mut Vec<(K, V)>) -> bool
+    ensures gathered { IsTrue result → pairs.new.items ≡ gather K.cmp pairs.old.items }
+    ensures refused { result ≡ false → pairs.new.items ≡ pairs.old.items }
+{
+    if sort_for_load(pairs).is_err() {
+        return false;
+    }
+    keep_last_of_each_run(pairs);
+    true
 }

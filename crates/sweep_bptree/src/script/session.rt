@@ -11,8 +11,9 @@ use crate::script::error::ServeError;
 use crate::script::lines::{KEPT, Kept, take_lines};
 use crate::script::output::Output;
 use crate::script::reply::{NumberTree, answer_line};
-use crate::tree::{BPlusTree, NodeStoreVec};
 use arrayvec::ArrayVec;
+use bptree_arguments::count::Count;
+use bptree_maps::map::BPlusTreeMap;
 use std::alloc::Global;
 use std::io::{Read, Write};
 
@@ -108,7 +109,7 @@ fn serve_pieces<R: Read, W: Write>(
         out.old.written out.new.written result }
     ensures writer { out.new.writer ≡ out.old.writer }
 {
-    let Ok(mut tree) = BPlusTree::new(NodeStoreVec::new(alloc)) else {
+    let Ok(mut map) = BPlusTreeMap::<u64, u64, Count>::new(alloc) else {
         return Err(Stop::OutOfMemory);
     };
     let mut line = ArrayVec::new();
@@ -117,19 +118,20 @@ fn serve_pieces<R: Read, W: Write>(
         let Ok(n) = reader.read(&mut input) else {
             return Err(Stop::Reader);
         };
+        let tree = map.tree_mut();
         if n == 0 {
-            answer_last(&mut tree, line.as_slice(), out)?;
+            answer_last(tree, line.as_slice(), out)?;
             return Ok(());
         }
-        answer_piece(&mut tree, &mut line, &input[..n], out)?;
+        answer_piece(tree, &mut line, &input[..n], out)?;
     }
     Err(Stop::NoEnd)
 }
 
-/// Reads lines to the end of the input, carries out each on a tree that begins empty, and writes the answer to each.
+/// Reads lines to the end of the input, carries out each on the tree of a map that begins empty, and writes the answer to each.
 ///
 /// The answers to all lines that were read are written before more is read, and the writer is flushed at the end. Of a
-/// line no more than 46 bytes are kept, and no memory is taken beside the tree's. A write that takes no byte is a fault,
+/// line no more than 46 bytes are kept, and no memory is taken beside the map's. A write that takes no byte is a fault,
 /// and so is an input without an end after `u64::MAX` reads.
 pub fn serve<R: Read, W: Write>(
     alloc: Global,

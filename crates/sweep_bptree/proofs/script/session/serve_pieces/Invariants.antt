@@ -10,6 +10,6 @@ invariant-turns g l =
     (l.out.held ≡ []) × (l.out.writer ≡ l.initial.out.writer)
     × ((read : List ℕ) × Consumes (g.R.Read.remaining l.initial.reader) (g.R.Read.remaining l.reader) read
     × Appends l.initial.out.written l.out.written (answers [] (clipped_after [] read))
-    × (l.tree.contents ≡ pairs_after_all [] (clipped_after [] read))
+    × (l.map ≡ pairs_after_all [] (clipped_after [] read))
     × (l.line.items ≡ clipped_rest [] read)
     × (l._turn ≤ length read))

@@ -1,0 +1,6 @@
+pub mod DateOrder
+pub mod DateSums
+pub mod DateVisits
+pub mod EntryChanges
+pub mod GroupItems
+pub mod YearTold

@@ -1,0 +1,4 @@
+pub mod Calendar
+pub mod Dates
+pub mod Depths
+pub mod Items

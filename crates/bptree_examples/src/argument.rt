@@ -1,0 +1,81 @@
+//! A summary that counts the even keys.
+ghost use Rattle.std.specs.Prelude.{◌≡◌, ◌%◌, length, nat_eq};
+ghost use Rattle.std.specs.List.{filter};
+ghost use Rattle.std.specs.Map.{keys_of};
+ghost use Rattle.std.proofs.Common.{rules};
+
+use std::alloc::{AllocError, Global};
+use sweep_bptree::BPlusTreeMap;
+use sweep_bptree::tree::Argument;
+
+/// The number of even keys below a node.
+#[derive(Clone, Copy, Default)]
+pub struct EvenCount(pub usize);
+
+// How many keys are even.
+fn evens_in(keys: &[u64]) -> usize
+    ensures { result ≡ length (filter (λ key. nat_eq (key % 2) 0) keys.now) }
+{
+    keys.iter().filter(|key| **key % 2 == 0).count()
+}
+
+/// No memory is asked for, so nothing fails. The sum stops at the greatest `usize`, which no list of keys is longer than.
+impl Argument<u64> for EvenCount {
+    ghost is_summary = { λ count keys. count.0 ≡ length (filter (λ key. nat_eq (key % 2) 0) keys) };
+
+    fn from_leaf(keys: &[u64]) -> Result<EvenCount, AllocError> {
+        Ok(EvenCount(evens_in(keys)))
+    }
+
+    fn from_inner(_keys: &[u64], arguments: &[EvenCount]) -> Result<EvenCount, AllocError> {
+        let mut total = 0usize;
+        for argument in arguments {
+            total = total.saturating_add(argument.0);
+        }
+        Ok(EvenCount(total))
+    }
+
+    ghost default_is_summary = { λ _ h. Prim.search rules };
+}
+
+/// Numbers, each with itself as its value.
+pub type Numbers = BPlusTreeMap<u64, u64, EvenCount>;
+
+/// The numbers below one, put in upward.
+pub fn numbers_below(alloc: Global, end: u64) -> Result<Numbers, AllocError> {
+    let mut numbers = BPlusTreeMap::new(alloc)?;
+    for number in 0..end {
+        if numbers.insert(number, number).is_err() {
+            return Err(AllocError);
+        }
+    }
+    Ok(numbers)
+}
+
+/// Removes every second number below one, from a first one on.
+pub fn remove_each_second(numbers: &mut Numbers, from: u64, end: u64) -> Result<(), AllocError> {
+    for number in from..end {
+        if number % 2 == from % 2 {
+            numbers.remove(&number)?;
+        }
+    }
+    Ok(())
+}
+
+/// How many even numbers are there, in constant time.
+pub fn even_count(numbers: &Numbers) -> usize
+    ensures { result ≡ length (filter (λ key. nat_eq (key % 2) 0) (keys_of numbers.now)) }
+{
+    numbers.root_argument().0
+}
+
+/// How many of the numbers below 100,000 are even: of all, with the first hundred even ones removed, and with the first hundred odd
+/// ones removed too.
+pub fn run(alloc: Global) -> Result<(usize, usize, usize), AllocError> {
+    let mut numbers = numbers_below(alloc, 100_000)?;
+    let all = even_count(&numbers);
+    remove_each_second(&mut numbers, 0, 200)?;
+    let fewer = even_count(&numbers);
+    remove_each_second(&mut numbers, 1, 200)?;
+    Ok((all, fewer, even_count(&numbers)))
+}

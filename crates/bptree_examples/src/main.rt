@@ -1,0 +1,40 @@
+//! Four examples of a map and a set, and short uses of their reads and changes.
+#![tactic(auto)]
+
+mod argument;
+mod calendar;
+mod date_statistic;
+mod string;
+mod uses;
+mod visit_depth;
+
+use std::alloc::AllocError;
+use std::fmt::Debug;
+use std::io;
+
+fn tell<T: Debug + Drop>(
+    rt: &HostRuntime,
+    what: &str,
+    answer: Result<T, AllocError>,
+) -> io::Result<()> {
+    match answer {
+        Ok(numbers) => println!(rt; "{what}: {numbers:?}"),
+        Err(_) => println!(rt; "{what}: out of memory"),
+    }
+}
+
+fn main(rt: HostRuntime) -> io::Result<()> {
+    let alloc = rt.alloc();
+    tell(&rt, "hello, world, other", string::run(alloc))?;
+    tell(&rt, "size, depth", visit_depth::run(alloc, 10000))?;
+    tell(&rt, "even numbers", argument::run(alloc))?;
+    tell(&rt, "leap years", Ok(calendar::leap_years()))?;
+    tell(&rt, "days of February", Ok(calendar::days_of_february()))?;
+    tell(&rt, "days of 2021", calendar::days_of_months(alloc, 2021))?;
+    let days = date_statistic::run(alloc);
+    tell(&rt, "days, of 2011, 2012, 2020, 2021, left of 2011", days)?;
+    tell(&rt, "ranks, players", uses::leaderboard::run(alloc))?;
+    tell(&rt, "segments beside", uses::sweep_line::run(alloc))?;
+    tell(&rt, "items", uses::grouped_index::run(alloc))?;
+    tell(&rt, "rows by value", uses::secondary_index::run(alloc))
+}

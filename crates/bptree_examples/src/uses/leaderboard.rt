@@ -1,0 +1,87 @@
+//! A leaderboard: ranks of players, and players by their ranks.
+ghost use Rattle.std.specs.Prelude.{◌≡◌, IfOk, Some, None, cond, slice_get};
+ghost use Rattle.std.specs.Map.{keys_of};
+ghost use Rattle.std.specs.Option.{option_map};
+ghost use Rattle.std.proofs.Common.{rules};
+ghost use Rattle.bptree_arguments.specs.CountLaws.{count_below};
+ghost use Rattle.bptree_keys.specs.Contents.{has};
+
+use std::alloc::{AllocError, Global};
+use std::cmp::Reverse;
+use sweep_bptree::BPlusTreeMap;
+use sweep_bptree::tree::Key;
+use sweep_bptree::tree::count::Count;
+
+/// A score and who has it. The greatest score comes first, and of equal scores the least player.
+#[derive(Clone, Copy, PartialEq, Eq, PartialOrd, Ord)]
+pub struct Standing {
+    pub score: Reverse<u32>,
+    pub player: u32,
+}
+
+impl Key for Standing {
+    ghost clone_is_equal = { Prim.search rules };
+}
+
+pub type Board = BPlusTreeMap<Standing, (), Count>;
+
+/// A board of scores, each with its player.
+pub fn new_board(alloc: Global, scores: &[(u32, u32)]) -> Result<Board, AllocError> {
+    let mut board = BPlusTreeMap::new(alloc)?;
+    for (score, player) in scores {
+        let standing = Standing {
+            score: Reverse(*score),
+            player: *player,
+        };
+        if board.insert(standing, ()).is_err() {
+            return Err(AllocError);
+        }
+    }
+    Ok(board)
+}
+
+/// How many stand before a standing that is on the board; none where it is not there.
+///
+/// It needs a map that keeps `Count`, and `rank_by_argument`, which goes down one way: a search a level, and one addition a child
+/// before the one on the way. It takes no memory, and no call is refused.
+pub fn rank_of(board: &Board, standing: &Standing) -> Result<Option<usize>, AllocError>
+    ensures { IfOk result (λ rank. rank ≡ cond (has ⟦<Standing as Ord>⟧.cmp board.now standing.now) (Some (count_below ⟦<Standing as Ord>⟧.cmp standing.now (keys_of board.now))) None) }
+{
+    match board.rank_by_argument(standing)? {
+        Ok(rank) => Ok(Some(rank)),
+        Err(_) => Ok(None),
+    }
+}
+
+/// The player before whom so many stand; none past the end.
+///
+/// It needs a map that keeps `Count`, and `get_by_argument`, which goes down one way with at most one subtraction a child. It takes
+/// no memory, and no call is refused.
+pub fn player_at(board: &Board, rank: usize) -> Result<Option<u32>, AllocError>
+    ensures { IfOk result (λ player. player ≡ option_map (λ pair. pair.0.player) (slice_get board.now rank)) }
+{
+    match board.get_by_argument(rank)? {
+        Some((standing, _)) => Ok(Some(standing.player)),
+        None => Ok(None),
+    }
+}
+
+/// The ranks of two standings of four, of which one is not on the board, and the players at three places.
+pub fn run(alloc: Global) -> Result<([Option<usize>; 2], [Option<u32>; 3]), AllocError> {
+    let board = new_board(alloc, &[(50, 7), (90, 3), (70, 5), (70, 2)])?;
+    let there = Standing {
+        score: Reverse(70),
+        player: 5,
+    };
+    let absent = Standing {
+        score: Reverse(60),
+        player: 1,
+    };
+    let ranks = [rank_of(&board, &there)?, rank_of(&board, &absent)?];
+    let players = [
+        player_at(&board, 0)?,
+        player_at(&board, 3)?,
+        player_at(&board, 4)?,
+    ];
+    Ok((ranks, players))
+}

@@ -1,0 +1,109 @@
+//! An index of rows by a value of theirs, kept in step with the rows.
+ghost use Rattle.std.specs.Prelude.{◌≡◌, ◌≢◌, ◌⊎◌, ℕ, OnErr, OnOk, IfOk, IsTrue, None, Some};
+ghost use Rattle.std.specs.Ordering.{nat_cmp};
+ghost use Rattle.std.proofs.Common.{rules};
+ghost use Rattle.bptree_keys.specs.Contents.{del, has, put, value};
+
+use std::alloc::{AllocError, Global};
+use sweep_bptree::BPlusTreeMap;
+use sweep_bptree::tree::Key;
+
+/// A value and the number of a row that has it.
+#[derive(Clone, Copy, PartialEq, Eq, PartialOrd, Ord)]
+pub struct Entry {
+    pub value: u64,
+    pub row: u64,
+}
+
+impl Key for Entry {
+    ghost clone_is_equal = { Prim.search rules };
+}
+
+pub type Index = BPlusTreeMap<Entry, ()>;
+
+/// The value of each row, by the row's number.
+pub type Rows = BPlusTreeMap<u64, u64>;
+
+/// Rows with their values, and an index of them.
+pub fn new_table(alloc: Global, values: &[(u64, u64)]) -> Result<(Rows, Index), AllocError> {
+    let mut rows = BPlusTreeMap::new(alloc)?;
+    let mut index = BPlusTreeMap::new(alloc)?;
+    for (row, value) in values {
+        let entry = Entry {
+            value: *value,
+            row: *row,
+        };
+        if rows.insert(*row, *value).is_err() || index.insert(entry, ()).is_err() {
+            return Err(AllocError);
+        }
+    }
+    Ok((rows, index))
+}
+
+/// Puts a new entry, and removes an old one.
+///
+/// It needs `insert` and `remove`, each of which goes down one way. The new entry is put first, since that alone takes memory for
+/// nodes: where it is refused, the index is as it was. Where the old entry can't be removed, the new one is taken back; where that
+/// can't be done either, it stays.
+pub fn move_entry(index: &mut Index, old: Entry, new: Entry) -> Result<(), AllocError>
+    ensures moved { OnOk result (index.new ≡ del ⟦<Entry as Ord>⟧.cmp (put ⟦<Entry as Ord>⟧.cmp index.old new tt) old) }
+    ensures refused { OnErr result ((index.new ≡ index.old) ⊎ (index.new ≡ put ⟦<Entry as Ord>⟧.cmp index.old new tt)) }
+{
+    // Read, so that it is known to ascend.
+    let _len = index.len();
+    let was = match index.insert(new, ()) {
+        Ok(was) => was,
+        Err(_) => return Err(AllocError),
+    };
+    match index.remove(&old) {
+        Ok(_) => Ok(()),
+        Err(error) => {
+            if was.is_none() {
+                let _ = index.remove(&new);
+            }
+            Err(error)
+        }
+    }
+}
+
+/// Gives a row another value, and tells whether the row is there.
+///
+/// It needs `get`, `move_entry` and `insert`, which searches once and is never refused for a row that is there. So the index is
+/// changed first: where that is refused, the row keeps its value.
+pub fn set_value(rows: &mut Rows, index: &mut Index, row: u64, now: u64) -> Result<bool, AllocError>
+    ensures there { IfOk result (λ there. there ≡ has nat_cmp rows.old row) }
+    ensures row { IfOk result (λ there. IsTrue there → rows.new ≡ put nat_cmp rows.old row now) }
+    ensures entry { OnOk result ((old : ℕ) → value nat_cmp rows.old row ≡ Some old → old ≢ now → index.new ≡ del ⟦<Entry as Ord>⟧.cmp (put ⟦<Entry as Ord>⟧.cmp index.old (record { value = now; row = row }) tt) (record { value = old; row = row })) }
+    ensures absent { OnOk result (value nat_cmp rows.old row ≡ None → index.new ≡ index.old) }
+    ensures same { OnOk result (value nat_cmp rows.old row ≡ Some now → index.new ≡ index.old) }
+    ensures refused { OnErr result (rows.new ≡ rows.old) }
+{
+    let Some(old) = rows.get(&row).copied() else {
+        return Ok(false);
+    };
+    if old != now {
+        move_entry(index, Entry { value: old, row }, Entry { value: now, row })?;
+    }
+    match rows.insert(row, now) {
+        Ok(_) => Ok(true),
+        Err(_) => unreachable!(),
+    }
+}
+
+/// The rows in the order of their values.
+pub fn rows_by_value(alloc: Global, index: &Index) -> Result<Vec<u64>, AllocError> {
+    let mut rows = Vec::new(alloc);
+    for (entry, _) in index.iter() {
+        rows.push(entry.row)?;
+    }
+    Ok(rows)
+}
+
+/// Three rows by their values, before one takes another value and after, and whether a fourth is there to take one.
+pub fn run(alloc: Global) -> Result<(Vec<u64>, Vec<u64>, bool), AllocError> {
+    let (mut rows, mut index) = new_table(alloc, &[(3, 60), (1, 40), (2, 50)])?;
+    let before = rows_by_value(alloc, &index)?;
+    set_value(&mut rows, &mut index, 1, 70)?;
+    let fourth = set_value(&mut rows, &mut index, 4, 10)?;
+    Ok((before, rows_by_value(alloc, &index)?, fourth))
+}

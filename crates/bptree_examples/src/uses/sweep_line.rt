@@ -1,0 +1,54 @@
+//! A sweep line: the segments that it cuts, by their heights.
+ghost use Rattle.std.specs.Prelude.{◌≡◌, IfOk};
+ghost use Rattle.std.specs.Ordering.{nat_cmp};
+ghost use Rattle.std.specs.Option.{option_map};
+ghost use Rattle.bptree_keys.specs.Contents.{next, previous};
+
+use std::alloc::{AllocError, Global};
+use sweep_bptree::BPlusTreeMap;
+use sweep_bptree::tree::Cursor;
+
+/// The number of a segment at each height.
+pub type Line = BPlusTreeMap<u64, u32>;
+
+/// A line that cuts segments at these heights.
+pub fn new_line(alloc: Global, segments: &[(u64, u32)]) -> Result<Line, AllocError> {
+    let mut line = BPlusTreeMap::new(alloc)?;
+    for (height, segment) in segments {
+        if line.insert(*height, *segment).is_err() {
+            return Err(AllocError);
+        }
+    }
+    Ok(line)
+}
+
+/// The segments next below a height and next above it. The height itself may be there or not.
+///
+/// It needs the cursors of the tree inside the map: `get_cursor`, which searches once from the root, and the cursor's `prev_with_value` and `next_with_value`, which take
+/// constant time where the cursor's leaf has the pair. Each takes what a clone of a key takes, here nothing; no call is refused.
+pub fn beside(line: &Line, height: u64) -> Result<(Option<u32>, Option<u32>), AllocError>
+    ensures { IfOk result (λ both. both ≡ (option_map (λ pair. pair.1) (previous nat_cmp line.now height), option_map (λ pair. pair.1) (next nat_cmp line.now height))) }
+{
+    match line.tree().get_cursor(&height)? {
+        Some((cursor, _)) => Ok((
+            segment_of(cursor.prev_with_value(line.tree())?),
+            segment_of(cursor.next_with_value(line.tree())?),
+        )),
+        None => unreachable!(),
+    }
+}
+
+fn segment_of(found: Option<(Cursor<u64>, &u32)>) -> Option<u32>
+    ensures { result ≡ option_map (λ there. there.1.now) found.entry }
+{
+    match found {
+        Some((_, segment)) => Some(*segment),
+        None => None,
+    }
+}
+
+/// The segments beside three heights.
+pub fn run(alloc: Global) -> Result<[(Option<u32>, Option<u32>); 3], AllocError> {
+    let line = new_line(alloc, &[(10, 1), (20, 2), (30, 3)])?;
+    Ok([beside(&line, 25)?, beside(&line, 20)?, beside(&line, 35)?])
+}

@@ -1,0 +1,42 @@
+//! A visitor that counts the nodes on its way down.
+ghost use Rattle.bptree_examples.specs.Depths.{IsDepth};
+
+use std::alloc::{AllocError, Global};
+use sweep_bptree::BPlusTreeMap;
+use sweep_bptree::tree::{Argument, DescendVisit, DescendVisitResult, Key};
+
+/// Counts the nodes on the way to the first leaf. Any number from 1 on is allowed.
+#[derive(Default, Drop)]
+pub struct GetTreeDepth {
+    depth: usize,
+}
+
+impl<K: Key, V, A: Argument<K>> DescendVisit<K, V, A> for GetTreeDepth {
+    type Result = usize;
+
+    ghost answers = { λ _ _ answer. IsDepth answer };
+
+    fn visit_inner(
+        &mut self,
+        _keys: &[K],
+        _arguments: &[A],
+    ) -> Result<DescendVisitResult<usize>, AllocError> {
+        self.depth = self.depth.saturating_add(1);
+        Ok(DescendVisitResult::GoDown(0))
+    }
+
+    fn visit_leaf(&mut self, _keys: &[K], _values: &[V]) -> Result<Option<usize>, AllocError> {
+        Ok(Some(self.depth.saturating_add(1)))
+    }
+}
+
+/// The number of pairs of a map that is collected of the first numbers, each with its tenfold, and how many nodes stand on the way to its
+/// first leaf.
+pub fn run(alloc: Global, len: u32) -> Result<(usize, Option<usize>), AllocError> {
+    let pairs = (0..len).map(|i| (u64::from(i), u64::from(i) * 10));
+    let map: BPlusTreeMap<u64, u64> = BPlusTreeMap::from_iter(alloc, pairs)?;
+    match map.descend_visit(GetTreeDepth::default()) {
+        Ok(depth) => Ok((map.len(), depth)),
+        Err(_) => Err(AllocError),
+    }
+}

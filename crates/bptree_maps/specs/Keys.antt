@@ -1,0 +1,23 @@
+-- A set: one list of keys, by their order.
+use Rattle.std.specs.Prelude.{Bool, not, List, [], ◌∷◌, ◌++◌, if◌then◌else◌, filter}
+use Rattle.std.specs.declared.cmp.Ordering.{Ordering}
+use Rattle.std.specs.Ordering.{is_lt, is_eq, is_gt}
+use Rattle.std.specs.List.{list_any}
+
+module _ {K : Type 0} (cmp : K → K → Ordering) where
+  -- some key equals k
+  abbrev pub holds : List K → K → Bool
+  holds keys k = list_any (λ key. is_eq (cmp key k)) keys
+
+  -- with k: a key that equals it stays, else k stands between the smaller and the greater keys
+  abbrev pub with_key : List K → K → List K
+  with_key keys k = if holds keys k then keys else filter (λ key. is_lt (cmp key k)) keys ++ k ∷ filter (λ key. is_gt (cmp key k)) keys
+
+  -- without the key that equals k
+  abbrev pub without_key : List K → K → List K
+  without_key keys k = filter (λ key. not (is_eq (cmp key k))) keys
+
+  -- the ascending list of those keys after which no equal key comes
+  abbrev pub gathered : List K → List K
+  gathered [] = []
+  gathered (k ∷ rest) = if holds rest k then gathered rest else with_key (gathered rest) k

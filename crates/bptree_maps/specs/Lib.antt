@@ -1,0 +1,4 @@
+pub mod Keys
+pub mod Rows
+pub mod Union
+pub mod Writing

@@ -1,0 +1,20 @@
+-- The types of a map and of the tree inside it, as clauses on borrows name them.
+use Rattle.std.specs.Borrow.{RattleType}
+use Rattle.std.specs.declared.clone.Clone.{Ghosts as CloneOf}
+use Rattle.std.specs.declared.cmp.Eq.{Ghosts as EqOf}
+use Rattle.std.specs.declared.cmp.Ord.{Ghosts as OrdOf}
+use Rattle.std.specs.declared.cmp.PartialEq.{Ghosts as PartialEqOf}
+use Rattle.std.specs.declared.cmp.PartialOrd.{Ghosts as PartialOrdOf}
+use Rattle.std.specs.declared.default.Default.{Ghosts as DefaultOf}
+use Rattle.bptree_arguments.specs.declared.argument.Argument.{Ghosts as ArgumentOf}
+use Rattle.bptree_keys.specs.declared.key.Key.{Ghosts as KeyOf}
+use Rattle.bptree_stores.specs.contracts.node_store_vec.NodeStoreVec.{the_row as store_row}
+use Rattle.bptree_stores.specs.contracts.node_store_vec.NodeStoreVecNodeStore.TheImpl.{ghosts, no_dict}
+use Rattle.bptree_tree.specs.contracts.tree.BPlusTree.{the_row as tree_row}
+
+-- the type of the tree inside a map of these keys, values and summaries
+abbrev pub inner_row : (K V A : RattleType) → KeyOf K.Denot → CloneOf K.Denot → OrdOf K.Denot → EqOf K.Denot → PartialEqOf K.Denot → PartialOrdOf K.Denot → ArgumentOf A.Denot K.Denot → CloneOf A.Denot → DefaultOf A.Denot → RattleType
+inner_row K V A key clone ord eq partial_eq partial_ord argument argument_clone default =
+    tree_row (store_row K V A) K V A
+    (ghosts K V A key no_dict clone no_dict ord no_dict eq no_dict partial_eq no_dict partial_ord no_dict argument no_dict argument_clone no_dict default no_dict no_dict no_dict no_dict)
+    clone ord partial_eq partial_ord argument argument_clone default

@@ -1,0 +1,18 @@
+-- The union of two ascending lists of keys.
+use Rattle.std.specs.Prelude.{◌≡◌, List, Option}
+use Rattle.std.specs.declared.cmp.Ordering.{Ordering}
+use Rattle.std.specs.Borrow.{Bor}
+use Rattle.std.specs.Map.Iter.{TakesFirst, deref}
+use Rattle.std.specs.Option.{option_map, option_or}
+use Rattle.bptree_merging.specs.Merge.{keys_given, merge_step, merged}
+
+module _ {K : Type 0} (cmp : K → K → Ordering) where
+  -- the keys of both lists in their order: of two equal keys the first list's
+  abbrev pub union : List K → List K → List K
+  union first second = keys_given (merged cmp first second)
+
+  -- a step gave the first key of the union of what was left of both lists, and left of each what a step of their merge does
+  abbrev pub IsUnionStep : List K × List K → Option (Bor K) → List K × List K → Type 0
+  IsUnionStep old r new =
+      let step = merge_step cmp old.0 old.1 in
+      (option_map deref r ≡ option_or step.first step.second) × (new ≡ step.left) × TakesFirst deref (union old.0 old.1) r (union new.0 new.1)

@@ -1,0 +1,281 @@
+//! An ordered map.
+ghost use Rattle.std.specs.Prelude.{◌≡◌, ℕ, List, [], None, Some, Ok, length, slice_get, false, IfOk, IfErr, OnErr, IsOk, IsTrue, ◌↔◌, MatchResult, MatchOption, is_ok, IfSome};
+ghost use Rattle.std.specs.Borrow.{Lends, LendsIf, LendsSoOk, sem};
+ghost use Rattle.std.specs.Map.{keys_of, values_of};
+ghost use Rattle.std.specs.Iterator.{Drains, IsFinite, at_most, item_count, UpTo};
+ghost use Rattle.std.specs.Iterator.Runs.{WholeRun};
+ghost use Rattle.std.specs.Iterator.SizeHint.{IsWithinCount};
+ghost use Rattle.std.specs.Map.Iter.{ShowsInOrder, TakesFirst, TakesLast, deref_pair};
+ghost use Rattle.std.specs.Option.{option_map, option_copied, option_copied_mut};
+ghost use Rattle.bptree_arguments.specs.Visits.{answered, IsAllowedError};
+ghost use Rattle.bptree_insertion.specs.Lending.{written};
+ghost use Rattle.bptree_keys.specs.Contents.{IsAscending, has, value, put, del, gather};
+ghost use Rattle.bptree_shape.specs.ByArgument.{IsSelected, IsTaken};
+ghost use Rattle.bptree_tree.specs.Refusal.{pair_of};
+ghost use Rattle.bptree_maps.specs.contracts.map.BPlusTreeMap.{the_row};
+ghost use Rattle.bptree_maps.specs.Rows.{inner_row};
+ghost use Rattle.bptree_maps.specs.Writing.{WritesAt};
+
+use crate::gathering::gather_tree;
+use bptree_arguments::argument::{Argument, RankArgument, SearchArgument};
+use bptree_arguments::visit::{DescendError, DescendVisit};
+use bptree_keys::key::Key;
+use bptree_stores::node_store_vec::NodeStoreVec;
+use bptree_tree::{BPlusTree, InsertError, SelectError, iterator};
+use std::alloc::{AllocError, Global};
+use std::iter::{ExactSizeIterator, FusedIterator};
+use std::marker::Model;
+
+/// Pairs of a key and a value, in the strictly ascending order of their keys, with summaries of the keys.
+#[derive(Drop)]
+pub struct BPlusTreeMap<K: Key, V: Drop, A: Argument<K> = ()> {
+    inner: BPlusTree<NodeStoreVec<K, V, A>>,
+}
+
+impl<K: Key, V: Drop, A: Argument<K>> Model for BPlusTreeMap<K, V, A> {
+    ghost use Rattle.std.specs.Prelude.{List};
+
+    ghost Value = { List (K × V) };
+
+    ghost view = { λ map. map.inner.contents };
+}
+
+impl<K: Key, V: Drop, A: Argument<K>> BPlusTreeMap<K, V, A> {
+    /// A map with no pairs. Its one leaf takes memory.
+    pub fn new(alloc: Global) -> Result<Self, AllocError>
+        ensures { IfOk result (λ map. map ≡ []) }
+    {
+        Ok(BPlusTreeMap {
+            inner: BPlusTree::new(NodeStoreVec::new(alloc))?,
+        })
+    }
+
+    /// The same as `new`.
+    pub fn default(alloc: Global) -> Result<Self, AllocError>
+        ensures { IfOk result (λ map. map ≡ []) }
+    {
+        BPlusTreeMap::new(alloc)
+    }
+
+    /// The pairs that an iterator gives, in the order of their keys: of each key the last pair, with its key, is held.
+    ///
+    /// The pairs are collected, sorted by the standard library's stable sort, and loaded at once. A refusal for want of
+    /// memory drops all that was given.
+    pub fn from_iter<I: IntoIterator<Item = (K, V)>>(
+        alloc: Global,
+        pairs: I,
+    ) -> Result<Self, AllocError>
+        requires { (it : I.IntoIter) → I.into_iter_gives pairs it → I.IntoIter.can_next it × IsFinite (I.IntoIter.remaining it) }
+        ensures given { IfOk result (λ map. (it : I.IntoIter) × (given : List (K × V)) × I.into_iter_gives pairs it × Drains I.IntoIter.next_gives it given × (map ≡ gather K.cmp given)) }
+        ensures runs { IfOk result (λ map. (it : I.IntoIter) × I.into_iter_gives pairs it × WholeRun I.IntoIter.next_gives it (λ run. map ≡ gather K.cmp run.items)) }
+    {
+        let given: Vec<(K, V)> = pairs.into_iter().collect(alloc)?;
+        Ok(BPlusTreeMap {
+            inner: gather_tree(alloc, given)?,
+        })
+    }
+
+    /// The number of pairs.
+    pub fn len(&self) -> usize
+        ensures value { result ≡ length self.now }
+        ensures ascending { IsAscending K.cmp self.now }
+    {
+        self.inner.len()
+    }
+
+    /// Whether there are no pairs.
+    pub fn is_empty(&self) -> bool
+        ensures { IsTrue result ↔ (self.now ≡ []) }
+    {
+        self.inner.is_empty()
+    }
+
+    /// The value at a key equal to `k`.
+    pub fn get(&self, k: &K) -> Option<&V>
+        ensures { option_copied result ≡ value K.cmp self.now k.now }
+    {
+        self.inner.get(k)
+    }
+
+    /// The value at a key equal to `k`, for writing.
+    pub fn get_mut(&mut self, k: &K) -> Option<&mut V>
+        ensures* writes_back { sem 𝓛 (LendsIf (the_row K.row V.row A.row K.Key.own K.Clone K.Ord.own K.Eq.own K.PartialEq K.PartialOrd.own A.Argument.own A.Clone A.Default) V.row self.entry result (written K.cmp k.now self.old) self.old) }
+        ensures value { option_copied_mut result ≡ value K.cmp self.old k.now }
+    {
+        self.inner.get_mut(k)
+    }
+
+    /// Puts `v` at `k`, and hands back the value that was there.
+    ///
+    /// A key that equals `k` stays, and its value alone is replaced: that takes no memory and is never refused. A pair with a
+    /// new key can be refused: for want of memory, or in a map of `usize::MAX` pairs. Then nothing has changed.
+    pub fn insert(&mut self, k: K, v: V) -> Result<Option<V>, InsertError<K, V>>
+        ensures ok { IfOk result (λ old. (old ≡ value K.cmp self.old k) × (self.new ≡ put K.cmp self.old k v)) }
+        ensures err { IfErr result (λ refusal. (pair_of refusal ≡ (k, v)) × (self.new ≡ self.old)) }
+        ensures present { IsTrue (has K.cmp self.old k) → IsOk result }
+        ensures full { (result ≡ Err (InsertError.Full k v)) ↔ ((length self.old ≡ usize.MAX) × (has K.cmp self.old k ≡ false)) }
+    {
+        self.inner.insert(k, v)
+    }
+
+    /// Removes the pair whose key equals `k`, and hands back its value. Where no key does, nothing changes and nothing can be
+    /// refused. The removal of a pair can be refused for want of memory; then nothing has changed.
+    pub fn remove(&mut self, k: &K) -> Result<Option<V>, AllocError>
+        ensures ok { IfOk result (λ old. (old ≡ value K.cmp self.old k.now) × (self.new ≡ del K.cmp self.old k.now)) }
+        ensures absent { has K.cmp self.old k.now ≡ false → result ≡ Ok None }
+        ensures err { OnErr result (self.new ≡ self.old) }
+    {
+        self.inner.remove(k)
+    }
+
+    /// A summary of all keys; of no keys what `Default` makes.
+    pub fn root_argument(&self) -> &A
+        ensures { A.is_summary result.now (keys_of self.now) }
+    {
+        self.inner.root_argument()
+    }
+
+    /// The pair at a place that is allowed for the query, or none. It takes no memory but what the argument takes.
+    pub fn get_by_argument(
+        &self,
+        query: <A as SearchArgument<K>>::Query,
+    ) -> Result<Option<(&K, &V)>, AllocError>
+    where
+        A: SearchArgument<K>,
+        ensures { IfOk result (λ answer. IsSelected A.selects query self.now (option_map (λ pair. (pair.0.now, pair.1.now)) answer)) }
+    {
+        self.inner.get_by_argument(query)
+    }
+
+    /// The value at a place that is allowed for the query, for writing. It takes no memory but what the argument takes.
+    ///
+    /// That one value alone is written, and no key, so that the summaries stay. With `NotFound`, where no place is allowed,
+    /// and with `OutOfMemory`, where the argument is refused memory, nothing has changed.
+    pub fn get_mut_by_argument(
+        &mut self,
+        query: <A as SearchArgument<K>>::Query,
+    ) -> Result<&mut V, SelectError>
+    where
+        A: SearchArgument<K>,
+        ensures* writes_back { sem 𝓛 (LendsSoOk (the_row K.row V.row A.row K.Key.own K.Clone K.Ord.own K.Eq.own K.PartialEq K.PartialOrd.own A.Argument.own A.Clone A.Default) V.row self.entry result (λ n w. IfOk result (λ r. WritesAt A.selects query self.old r.now w n)) (λ n. n ≡ self.old)) }
+        ensures value { IfOk result (λ lent. (i : ℕ) × A.selects query (keys_of self.old) (Some i) × (slice_get (values_of self.old) i ≡ Some lent.now)) }
+        ensures absent { IfErr result (λ error. error ≡ SelectError.NotFound → A.selects query (keys_of self.old) None) }
+    {
+        self.inner.get_mut_by_argument(query)
+    }
+
+    /// Removes the pair at a place that is allowed for the query, and hands it back. Where none is found, nothing changes; a
+    /// refusal for want of memory changes nothing either.
+    pub fn remove_by_argument(
+        &mut self,
+        query: <A as SearchArgument<K>>::Query,
+    ) -> Result<Option<(K, V)>, AllocError>
+    where
+        A: SearchArgument<K>,
+        ensures ok { IfOk result (IsTaken A.selects query self.old self.new) }
+        ensures by_key { IfOk result (λ gone. MatchOption gone (self.new ≡ self.old) (λ pair. self.new ≡ del K.cmp self.old pair.0)) }
+        ensures err { OnErr result (self.new ≡ self.old) }
+    {
+        self.inner.remove_by_argument(query)
+    }
+
+    /// The rank of a key, which need not be present: `Ok` where it is. It takes no memory but what the argument takes.
+    pub fn rank_by_argument(
+        &self,
+        k: &K,
+    ) -> Result<Result<<A as RankArgument<K>>::Rank, <A as RankArgument<K>>::Rank>, AllocError>
+    where
+        A: RankArgument<K>,
+        ensures ranked { IfOk result (λ answer. MatchResult answer (A.ranks k.now (keys_of self.now)) (A.ranks k.now (keys_of self.now))) }
+        ensures present { IfOk result (λ answer. is_ok answer ≡ has K.cmp self.now k.now) }
+    {
+        self.inner.rank_by_argument(k)
+    }
+
+    /// What a visitor answers on its way down, or none where it ends without an answer. It takes no memory but what the
+    /// visitor takes.
+    pub fn descend_visit<W: DescendVisit<K, V, A>>(
+        &self,
+        visitor: W,
+    ) -> Result<Option<W::Result>, DescendError>
+        ensures answer { IfOk result (λ answer. W.answers visitor self.now (answered answer)) }
+        ensures error { IfErr result (IsAllowedError W.answers visitor self.now) }
+    {
+        self.inner.descend_visit(visitor)
+    }
+
+    /// The pairs in the order of their keys. It takes no memory, and neither do its steps.
+    pub fn iter(&self) -> Iter<'_, K, V, A>
+        ensures rest { result ≡ self.now }
+        ensures ascending { IsAscending K.cmp self.now }
+        ensures runs { ShowsInOrder (deref_pair {K = K} {X = V}) }
+    {
+        Iter {
+            inner: self.inner.iter(),
+        }
+    }
+
+    /// The tree inside, whose contents are the map's.
+    pub fn tree(&self) -> &BPlusTree<NodeStoreVec<K, V, A>>
+        ensures { result.now.contents ≡ self.now }
+    {
+        &self.inner
+    }
+    /// The tree inside, for writing: once it is given back, the map has what the tree's contents are then.
+    pub fn tree_mut(&mut self) -> &mut BPlusTree<NodeStoreVec<K, V, A>>
+        ensures* writes_back { sem 𝓛 (Lends (the_row K.row V.row A.row K.Key.own K.Clone K.Ord.own K.Eq.own K.PartialEq K.PartialOrd.own A.Argument.own A.Clone A.Default) (inner_row K.row V.row A.row K.Key.own K.Clone K.Ord.own K.Eq.own K.PartialEq K.PartialOrd.own A.Argument.own A.Clone A.Default) self.entry result (λ tree. tree.contents)) }
+        ensures value { result.now.contents ≡ self.old }
+    {
+        &mut self.inner
+    }
+}
+
+/// The pairs of a map that are left, in the order of their keys. No step takes memory.
+#[derive(Drop)]
+pub struct Iter<'a, K: Key, V: Drop, A: Argument<K>> {
+    inner: iterator::Iter<'a, NodeStoreVec<K, V, A>>,
+}
+
+impl<'a, K: Key, V: Drop, A: Argument<K>> Model for Iter<'a, K, V, A> {
+    ghost use Rattle.std.specs.Prelude.{List};
+
+    ghost Value = { List (K × V) };
+
+    ghost view = { λ it. it.inner };
+}
+
+impl<'a, K: Key, V: Drop, A: Argument<K>> Iterator for Iter<'a, K, V, A> {
+    type Item = (&'a K, &'a V);
+
+    ghost next_gives = { TakesFirst deref_pair };
+
+    ghost remaining = { item_count (λ left. left) };
+
+    fn next(&mut self) -> Option<(&'a K, &'a V)> {
+        self.inner.next()
+    }
+
+    fn size_hint(&self) -> (usize, Option<usize>)
+        ensures lower { IsWithinCount result.0 (at_most (length self.now)) }
+        ensures upper { IfSome result.1 (UpTo (at_most (length self.now))) }
+        ensures exact { result ≡ (length self.now, Some (length self.now)) }
+    {
+        self.inner.size_hint()
+    }
+}
+
+impl<'a, K: Key, V: Drop, A: Argument<K>> DoubleEndedIterator for Iter<'a, K, V, A> {
+    ghost next_back_gives = { TakesLast deref_pair };
+
+    fn next_back(&mut self) -> Option<(&'a K, &'a V)> {
+        self.inner.next_back()
+    }
+}
+
+impl<'a, K: Key, V: Drop, A: Argument<K>> ExactSizeIterator for Iter<'a, K, V, A> {
+    fn len(&self) -> usize {
+        self.inner.len()
+    }
+}
+
+impl<'a, K: Key, V: Drop, A: Argument<K>> FusedIterator for Iter<'a, K, V, A> {}

@@ -1,0 +1,179 @@
+//! An ordered set.
+ghost use Rattle.std.specs.Prelude.{◌≡◌, ◌-◌, ℕ, [], false, not, length, slice_get, IfOk, IfErr, OnErr, Ok, Err, IsOk, IsTrue, ◌↔◌, List, ⊤};
+ghost use Rattle.std.specs.Iterator.{DrainsIf, IsFinite};
+ghost use Rattle.std.specs.List.Sorted.{IsStrictlySortedBy};
+ghost use Rattle.std.specs.Map.Iter.{ShowsInOrder, GivesInOrder, GivesInReverse, deref};
+ghost use Rattle.std.specs.Option.{option_copied};
+ghost use Rattle.bptree_tree.specs.Refusal.{pair_of};
+ghost use Rattle.bptree_maps.specs.Keys.{holds, with_key, without_key, gathered};
+
+mod iter;
+mod laws;
+mod union;
+
+use crate::gathering::gather_tree;
+use bptree_keys::key::Key;
+use bptree_stores::node_store_vec::NodeStoreVec;
+use bptree_tree::{BPlusTree, InsertError};
+pub use iter::{IntoIter, Iter};
+pub use laws::laws_of_keys;
+use std::alloc::{AllocError, Global};
+use std::marker::Model;
+pub use union::{Union, laws_of_union};
+
+/// Keys in their strictly ascending order.
+#[derive(Drop)]
+pub struct BPlusTreeSet<K: Key> {
+    tree: BPlusTree<NodeStoreVec<K, ()>>,
+}
+
+impl<K: Key> Model for BPlusTreeSet<K> {
+    ghost use Rattle.std.specs.Prelude.{List};
+    ghost use Rattle.std.specs.Map.{keys_of};
+
+    ghost Value = { List K };
+
+    ghost view = { λ set. keys_of set.tree.contents };
+}
+
+impl<K: Key> BPlusTreeSet<K> {
+    /// A set with no keys. Its one leaf takes memory.
+    pub fn new(alloc: Global) -> Result<Self, AllocError>
+        ensures { IfOk result (λ set. set ≡ []) }
+    {
+        Ok(BPlusTreeSet {
+            tree: BPlusTree::new(NodeStoreVec::new(alloc))?,
+        })
+    }
+
+    /// The same as `new`.
+    pub fn default(alloc: Global) -> Result<Self, AllocError>
+        ensures { IfOk result (λ set. set ≡ []) }
+    {
+        BPlusTreeSet::new(alloc)
+    }
+
+    /// The keys that an iterator gives, in any order; of equal ones the last stays.
+    ///
+    /// They are held in one vector, which is sorted and then loaded. A refusal for want of memory drops the keys.
+    pub fn from_iter<I: IntoIterator<Item = K>>(alloc: Global, iter: I) -> Result<Self, AllocError>
+        requires { (it : I.IntoIter) → I.into_iter_gives iter it → I.IntoIter.can_next it × IsFinite (I.IntoIter.remaining it) }
+        ensures { IfOk result (λ set. (it : I.IntoIter) × (xs : List K) × I.into_iter_gives iter it × DrainsIf I.IntoIter.next_gives ⊤ it xs × (set ≡ gathered K.cmp xs)) }
+    {
+        let keys = iter.into_iter();
+        let mut pairs = Vec::with_capacity(alloc, keys.size_hint().0)?;
+        for k in keys {
+            pairs.push((k, ()))?;
+        }
+        Ok(BPlusTreeSet {
+            tree: gather_tree(alloc, pairs)?,
+        })
+    }
+
+    /// The number of keys.
+    pub fn len(&self) -> usize
+        ensures value { result ≡ length self.now }
+        ensures ascending { IsStrictlySortedBy K.cmp self.now }
+    {
+        self.tree.len()
+    }
+
+    /// Whether there are no keys.
+    pub fn is_empty(&self) -> bool
+        ensures { IsTrue result ↔ (self.now ≡ []) }
+    {
+        self.tree.is_empty()
+    }
+
+    /// Puts `k` in, and says whether no key equalled it.
+    ///
+    /// A key that equals `k` stays, and `k` is dropped: that takes no memory and is never refused. A new key can be refused: for
+    /// want of memory, or in a set of `usize::MAX` keys. Then nothing has changed.
+    pub fn insert(&mut self, k: K) -> Result<bool, InsertError<K, ()>>
+        ensures ok { IfOk result (λ is_new. (is_new ≡ not (holds K.cmp self.old k)) × (self.new ≡ with_key K.cmp self.old k)) }
+        ensures err { IfErr result (λ refusal. (pair_of refusal ≡ (k, tt)) × (self.new ≡ self.old)) }
+        ensures present { IsTrue (holds K.cmp self.old k) → IsOk result }
+        ensures full { (result ≡ Err (InsertError.Full k tt)) ↔ ((length self.old ≡ usize.MAX) × (holds K.cmp self.old k ≡ false)) }
+    {
+        Ok(self.tree.insert(k, ())?.is_none())
+    }
+
+    /// Removes the key that equals `k`, and says whether there was one. Where there is none, nothing changes and nothing can
+    /// be refused. The removal of a key can be refused for want of memory; then nothing has changed.
+    pub fn remove(&mut self, k: &K) -> Result<bool, AllocError>
+        ensures ok { IfOk result (λ was. (was ≡ holds K.cmp self.old k.now) × (self.new ≡ without_key K.cmp self.old k.now)) }
+        ensures absent { holds K.cmp self.old k.now ≡ false → result ≡ Ok false }
+        ensures err { OnErr result (self.new ≡ self.old) }
+    {
+        Ok(self.tree.remove(k)?.is_some())
+    }
+
+    /// Whether some key equals `k`.
+    pub fn contains(&self, k: &K) -> bool
+        ensures { result ≡ holds K.cmp self.now k.now }
+    {
+        self.tree.get(k).is_some()
+    }
+
+    /// Removes all keys. The new leaf takes memory; where that is refused, nothing has changed.
+    pub fn clear(&mut self) -> Result<(), AllocError>
+        ensures ok { IfOk result (λ _. self.new ≡ []) }
+        ensures err { OnErr result (self.new ≡ self.old) }
+    {
+        self.tree.clear()
+    }
+
+    /// The least key.
+    pub fn first(&self) -> Option<&K>
+        ensures { option_copied result ≡ slice_get self.now 0 }
+    {
+        let (key, _) = self.tree.first()?;
+        Some(key)
+    }
+
+    /// The greatest key.
+    pub fn last(&self) -> Option<&K>
+        ensures { option_copied result ≡ slice_get self.now (length self.now - 1) }
+    {
+        let (key, _) = self.tree.last()?;
+        Some(key)
+    }
+
+    /// The keys in their order. It takes no memory, and neither do its steps.
+    pub fn iter(&self) -> Iter<'_, K>
+        ensures rest { result ≡ self.now }
+        ensures ascending { IsStrictlySortedBy K.cmp self.now }
+        ensures runs { ShowsInOrder (deref {X = K}) }
+    {
+        Iter::new(self.tree.iter())
+    }
+
+    /// The keys in their order, each handed over. It takes no memory, and neither do its steps.
+    pub fn into_iter(self) -> IntoIter<K>
+        ensures rest { result ≡ self }
+        ensures ascending { IsStrictlySortedBy K.cmp self }
+        ensures runs { GivesInOrder K }
+        ensures runs_back { GivesInReverse K }
+    {
+        IntoIter::new(self.tree.into_iter())
+    }
+
+    /// The keys of both sets in their order; of two equal keys that of this set. It takes no memory, and neither do its steps.
+    pub fn union<'a>(&'a self, other: &'a Self) -> Union<'a, K>
+        ensures { result ≡ (self.now, other.now) }
+    {
+        Union::new(self.iter(), other.iter())
+    }
+}
+
+impl<K: Key> IntoIterator for BPlusTreeSet<K> {
+    type Item = K;
+
+    type IntoIter = IntoIter<K>;
+
+    ghost into_iter_gives = { λ set keys. (keys ≡ set) × IsStrictlySortedBy K.cmp set × GivesInOrder K × GivesInReverse K };
+
+    fn into_iter(self) -> IntoIter<K> {
+        self.into_iter()
+    }
+}

@@ -1,0 +1,5 @@
+//! Callers that are proved: what each ensures follows from the contracts of the functions that it calls.
+
+mod maps;
+mod sets;
+mod together;

@@ -1,0 +1,190 @@
+//! Callers of sets, of their iterators and of unions.
+ghost use Rattle.std.specs.Prelude.{◌≡◌, ◌+◌, ◌∷◌, [], List, ◌||◌, ◌&&◌, length, map, max, not, true, false, slice_get, IfOk, IsOk, IsTrue, Err, Ok, Some, None};
+ghost use Rattle.std.specs.List.{find};
+ghost use Rattle.std.specs.Map.Iter.{TakesFirst, deref};
+ghost use Rattle.std.specs.Option.{option_copied, option_or};
+ghost use Rattle.std.specs.Ordering.{is_eq};
+ghost use Rattle.bptree_maps.specs.Keys.{holds, with_key, without_key, gathered};
+ghost use Rattle.bptree_maps.specs.Union.{union};
+
+use bptree_keys::key::Key;
+use bptree_maps::set::{BPlusTreeSet, IntoIter, Iter, Union, laws_of_keys, laws_of_union};
+use bptree_tree::InsertError;
+use std::alloc::{AllocError, Global};
+
+// A new set holds nothing.
+fn holds_nothing<K: Key>(alloc: Global, k: &K) -> Result<bool, AllocError>
+    ensures { IfOk result (λ there. there ≡ false) }
+{
+    Ok(BPlusTreeSet::new(alloc)?.contains(k))
+}
+
+fn has_no_keys<K: Key>(alloc: Global, k: K) -> Result<(K, usize, bool), AllocError>
+    ensures { IfOk result (λ all. (all.1 ≡ 0) × (all.2 ≡ true)) }
+{
+    let set: BPlusTreeSet<K> = BPlusTreeSet::default(alloc)?;
+    Ok((k, set.len(), set.is_empty()))
+}
+
+// A set of a vector's keys, and of no keys.
+fn gathers<K: Key>(alloc: Global, keys: Vec<K>) -> Result<BPlusTreeSet<K>, AllocError>
+    ensures { IfOk result (λ set. set ≡ gathered K.cmp keys.items) }
+{
+    BPlusTreeSet::from_iter(alloc, keys)
+}
+
+// The answer says whether the key is new, and a key that is there is never refused.
+fn puts_in<K: Key>(set: &mut BPlusTreeSet<K>, k: K) -> Result<bool, InsertError<K, ()>>
+    ensures fresh { holds K.cmp set.old k ≡ false → IfOk result (λ is_new. is_new ≡ true) }
+    ensures there { holds K.cmp set.old k ≡ true → (result ≡ Ok false) × (set.new ≡ set.old) }
+{
+    set.insert(k)
+}
+
+// The key and its like are held from then on, and others as before.
+fn holds_what_was_put_in<K: Key>(
+    set: &mut BPlusTreeSet<K>,
+    k: K,
+    other: &K,
+) -> Result<bool, InsertError<K, ()>>
+    ensures { IfOk result (λ there. there ≡ is_eq (K.cmp k other.now) || holds K.cmp set.old other.now) }
+{
+    laws_of_keys::<K>();
+    let _len = set.len();
+    set.insert(k)?;
+    Ok(set.contains(other))
+}
+
+// In a set of fewer keys than there can be, the one refusal is for want of memory, and hands the key back.
+fn hands_back<K: Key>(set: &mut BPlusTreeSet<K>, k: K) -> Result<bool, K>
+    requires { length set.old ≡ 2 }
+    ensures { (key : K) → result ≡ Err key → (key ≡ k) × (set.new ≡ set.old) }
+{
+    match set.insert(k) {
+        Ok(is_new) => Ok(is_new),
+        Err(InsertError::OutOfMemory(key, ())) => Err(key),
+        Err(InsertError::Full(_, ())) => unreachable!(),
+    }
+}
+
+// The answer says whether there was a key, and where there was none nothing is refused.
+fn takes_out<K: Key>(set: &mut BPlusTreeSet<K>, k: &K) -> Result<bool, AllocError>
+    ensures there { holds K.cmp set.old k.now ≡ true → IfOk result (λ was. was ≡ true) }
+    ensures absent { holds K.cmp set.old k.now ≡ false → result ≡ Ok false }
+{
+    set.remove(k)
+}
+
+fn lacks_what_was_taken_out<K: Key>(
+    set: &mut BPlusTreeSet<K>,
+    k: &K,
+    other: &K,
+) -> Result<bool, AllocError>
+    ensures { IfOk result (λ there. there ≡ not (is_eq (K.cmp k.now other.now)) && holds K.cmp set.old other.now) }
+{
+    laws_of_keys::<K>();
+    let _len = set.len();
+    set.remove(k)?;
+    Ok(set.contains(other))
+}
+
+// After a set was cleared it has no keys.
+fn counts_none_when_cleared<K: Key>(set: &mut BPlusTreeSet<K>) -> Result<usize, AllocError>
+    ensures { IfOk result (λ len. len ≡ 0) }
+{
+    set.clear()?;
+    Ok((*set).len())
+}
+
+// The least and the greatest of two keys.
+fn gives_both_ends<K: Key>(set: &BPlusTreeSet<K>) -> (Option<&K>, Option<&K>)
+    ensures { (a b : K) → set.now ≡ a ∷ b ∷ [] → (option_copied result.0 ≡ Some a) × (option_copied result.1 ≡ Some b) }
+{
+    (set.first(), set.last())
+}
+
+// The keys of a set come in order, and it tells how many.
+fn starts_with_all<K: Key>(set: &BPlusTreeSet<K>) -> (Iter<'_, K>, usize)
+    ensures keys { result.0 ≡ set.now }
+    ensures len { result.1 ≡ length set.now }
+{
+    let keys = set.iter();
+    let len = keys.len();
+    (keys, len)
+}
+
+// Of two keys each comes once, the one from the front and the other from the back, and then none.
+fn gives_two_from_both_ends<'a, K: Key>(keys: &mut Iter<'a, K>) -> (&'a K, &'a K, bool)
+    requires { length keys.old ≡ 2 }
+    ensures { (keys.old ≡ result.0.now ∷ result.1.now ∷ []) × (result.2 ≡ true) }
+{
+    match (keys.next(), keys.next_back(), keys.next()) {
+        (Some(first), Some(last), None) => (first, last, keys.next_back().is_none()),
+        _ => unreachable!(),
+    }
+}
+
+// One step makes one fewer, and the hint is exact.
+fn counts_what_is_left<K: Key>(keys: &mut Iter<'_, K>) -> (usize, Option<usize>)
+    requires { length keys.old ≡ 2 }
+    ensures { result ≡ (1, Some 1) }
+{
+    keys.next();
+    (*keys).size_hint()
+}
+
+// A clone has the same keys left, and is never refused.
+fn clones_what_is_left<'a, K: Key>(keys: &Iter<'a, K>) -> Iter<'a, K>
+    ensures { result ≡ keys.now }
+{
+    match keys.clone() {
+        Ok(copy) => copy,
+        Err(_) => unreachable!(),
+    }
+}
+
+// The keys of an owned set, from both ends.
+fn hands_over_two<K: Key>(set: BPlusTreeSet<K>) -> (K, K, usize)
+    requires { length set ≡ 2 }
+    ensures { (set ≡ result.0 ∷ result.1 ∷ []) × (result.2 ≡ 0) }
+{
+    let mut keys: IntoIter<K> = set.into_iter();
+    match (keys.next(), keys.next_back()) {
+        (Some(first), Some(last)) => (first, last, keys.len()),
+        _ => unreachable!(),
+    }
+}
+
+// The keys of both sets come in their order, and each key of either set is among them.
+fn joins<'a, K: Key>(first: &'a BPlusTreeSet<K>, second: &'a BPlusTreeSet<K>) -> Union<'a, K>
+    ensures keys { union K.cmp result.0 result.1 ≡ union K.cmp first.now second.now }
+    ensures holds { (k : K) → holds K.cmp (union K.cmp result.0 result.1) k ≡ holds K.cmp first.now k || holds K.cmp second.now k }
+{
+    laws_of_union::<K>();
+    first.union(second)
+}
+
+// A step gives the first key of the union.
+fn gives_the_first_of_both<'a, K: Key>(keys: &mut Union<'a, K>) -> Option<&'a K>
+    ensures { TakesFirst deref (union K.cmp keys.old.0 keys.old.1) result (union K.cmp keys.new.0 keys.new.1) }
+{
+    keys.next()
+}
+
+// Between the greater number and the sum of both.
+fn counts_both<K: Key>(keys: &Union<'_, K>) -> (usize, Option<usize>)
+    requires { (length keys.now.0 ≡ 2) × (length keys.now.1 ≡ 3) }
+    ensures { result ≡ (3, Some 5) }
+{
+    keys.size_hint()
+}
+
+// A clone of a union has the same keys left, and is never refused.
+fn clones_a_union<'a, K: Key>(keys: &Union<'a, K>) -> Union<'a, K>
+    ensures { result ≡ keys.now }
+{
+    match keys.clone() {
+        Ok(copy) => copy,
+        Err(_) => unreachable!(),
+    }
+}

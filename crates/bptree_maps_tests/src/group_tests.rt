@@ -1,0 +1,207 @@
+//! Maps that keep groups of keys.
+use bptree_arguments::argument::{RankArgument, SearchArgument};
+use bptree_arguments::group::{GroupCount, Tuple2};
+use bptree_arguments::group_size::ExtractGroupSize;
+use bptree_arguments::visit::DescendVisit;
+use bptree_maps::map::BPlusTreeMap;
+use std::alloc::{AllocError, Global};
+use std::test::Fail;
+
+type Pair = (u64, u64);
+
+/// A summary of groups, which finds and ranks keys in them. The tests know no more of it: a map over `GroupCount` of
+/// `Tuple2` has more types than a proof of a caller follows.
+trait Grouping: SearchArgument<Pair, Query = (Tuple2<u64>, usize)>
+    + RankArgument<Pair, Rank = Option<(Tuple2<u64>, usize)>> {
+    fn number(&self) -> usize;
+}
+
+impl Grouping for GroupCount<Tuple2<u64>> {
+    fn number(&self) -> usize {
+        if self.is_zero() {
+            0
+        } else {
+            self.group_count()
+        }
+    }
+}
+
+// A map of keys, each with its second part as its value.
+fn collect<A: Grouping>(
+    alloc: Global,
+    keys: &[Pair],
+) -> Result<BPlusTreeMap<Pair, u64, A>, AllocError> {
+    BPlusTreeMap::from_iter(alloc, keys.iter().map(|key| (*key, key.1)))
+}
+
+// So many keys whose first part is their place by a number, and whose second is what is left.
+fn collect_by<A: Grouping>(
+    alloc: Global,
+    len: u64,
+    size: u64,
+) -> Result<BPlusTreeMap<Pair, u64, A>, AllocError> {
+    BPlusTreeMap::from_iter(
+        alloc,
+        (0..len).map(|i| {
+            let group = i.checked_div(size).unwrap_or(0);
+            let rest = i.checked_rem(size).unwrap_or(0);
+            ((group, rest), rest)
+        }),
+    )
+}
+
+// Whether so many groups are there.
+fn has_groups<A: Grouping>(map: &BPlusTreeMap<Pair, u64, A>, wanted: usize) -> bool {
+    map.root_argument().number() == wanted
+}
+
+// Whether a visitor counts so many keys.
+fn has_size<A: Grouping, W: DescendVisit<Pair, u64, A, Result = usize>>(
+    map: &BPlusTreeMap<Pair, u64, A>,
+    visitor: W,
+    wanted: usize,
+) -> bool {
+    match map.descend_visit(visitor) {
+        Ok(Some(size)) => size == wanted,
+        _ => false,
+    }
+}
+
+// Whether this value stands at a place of a group.
+fn has_place<A: Grouping>(
+    map: &BPlusTreeMap<Pair, u64, A>,
+    group: u64,
+    place: usize,
+    wanted: u64,
+) -> bool {
+    match map.get_by_argument((Tuple2(group), place)) {
+        Ok(Some((_, value))) => *value == wanted,
+        _ => false,
+    }
+}
+
+fn has_no_place<A: Grouping>(map: &BPlusTreeMap<Pair, u64, A>, group: u64, place: usize) -> bool {
+    matches!(map.get_by_argument((Tuple2(group), place)), Ok(None))
+}
+
+// Whether a key is there, or not, and its group has so many smaller keys.
+fn has_rank<A: Grouping>(
+    map: &BPlusTreeMap<Pair, u64, A>,
+    key: Pair,
+    present: bool,
+    wanted: usize,
+) -> bool {
+    let (first, _) = key;
+    match map.rank_by_argument(&key) {
+        Ok(Ok(Some((group, count)))) => present && group.0 == first && count == wanted,
+        Ok(Err(Some((group, count)))) => !present && group.0 == first && count == wanted,
+        _ => false,
+    }
+}
+
+fn are_ranked<A: Grouping>(alloc: Global) -> Result<bool, AllocError> {
+    let none: BPlusTreeMap<Pair, u64, A> = collect(alloc, &[])?;
+    let map: BPlusTreeMap<Pair, u64, A> = collect(
+        alloc,
+        &[(1, 1), (1, 2), (1, 3), (2, 4), (3, 5)],
+    )?;
+    let mut all = has_rank(&none, (4, 1), false, 0);
+    for (key, present, wanted) in [
+        ((1, 0), false, 0),
+        ((1, 1), true, 0),
+        ((1, 3), true, 2),
+        ((1, 4), false, 3),
+        ((2, 3), false, 0),
+        ((5, 0), false, 0),
+    ] {
+        all = all && has_rank(&map, key, present, wanted);
+    }
+    Ok(all)
+}
+
+// Groups 0 and 1 have 500 keys each, and group 2 has 50. The visitors are those of groups 0, 1, 2 and 7.
+fn are_sized<A: Grouping, W: DescendVisit<Pair, u64, A, Result = usize>>(
+    alloc: Global,
+    zero: W,
+    one: W,
+    two: W,
+    seven: W,
+) -> Result<bool, AllocError> {
+    let map: BPlusTreeMap<Pair, u64, A> = collect_by(alloc, 1050, 500)?;
+    let mut all = has_groups(&map, 3);
+    all = all && has_size(&map, zero, 500) && has_size(&map, one, 500);
+    all = all && has_size(&map, two, 50) && has_size(&map, seven, 0);
+    for (group, place, wanted) in [(0, 499, 499), (1, 0, 0), (2, 49, 49)] {
+        all = all && has_place(&map, group, place, wanted);
+    }
+    for (group, size) in [(0, 500), (1, 500), (2, 50), (7, 0)] {
+        all = all && has_no_place(&map, group, size);
+    }
+    Ok(all && has_rank(&map, (1, 250), true, 250))
+}
+
+// One group of so many keys that two levels of nodes stand above its leaves.
+fn is_one_large_group<A: Grouping>(alloc: Global) -> Result<bool, AllocError> {
+    let map: BPlusTreeMap<Pair, u64, A> = collect_by(alloc, 4161, 4161)?;
+    Ok(
+        map.len() == 4161
+            && map.tree().height() == 2
+            && has_rank(&map, (0, 4160), true, 4160)
+            && has_rank(&map, (0, 2112), true, 2112),
+    )
+}
+
+fn put<A: Grouping>(map: &mut BPlusTreeMap<Pair, u64, A>, key: Pair, value: u64) -> bool {
+    matches!(map.insert(key, value), Ok(None))
+}
+
+// Removes a key that is there.
+fn take<A: Grouping>(map: &mut BPlusTreeMap<Pair, u64, A>, key: Pair, value: u64) -> bool {
+    match map.remove(&key) {
+        Ok(Some(old)) => old == value,
+        _ => false,
+    }
+}
+
+// One pair comes and goes, and no group is left; then two pairs are one group.
+fn one_group_comes_and_goes<A: Grouping, W: DescendVisit<Pair, u64, A, Result = usize>>(
+    alloc: Global,
+    before: W,
+    after: W,
+) -> Result<bool, AllocError> {
+    let mut map: BPlusTreeMap<Pair, u64, A> = collect(alloc, &[])?;
+    let mut all = has_groups(&map, 0) && has_size(&map, before, 0);
+    all = all && put(&mut map, (1, 1), 100) && has_groups(&map, 1);
+    all = all && take(&mut map, (1, 1), 100) && has_groups(&map, 0);
+    all = all && put(&mut map, (1, 1), 100) && put(&mut map, (1, 2), 101);
+    all = all && has_groups(&map, 1) && has_size(&map, after, 2);
+    all = all && has_place(&map, 1, 0, 100) && has_place(&map, 1, 1, 101);
+    Ok(all && has_no_place(&map, 1, 3) && has_rank(&map, (1, 0), false, 0))
+}
+
+fn counter(group: u64) -> ExtractGroupSize<Tuple2<u64>, Pair> {
+    ExtractGroupSize::new(Tuple2(group))
+}
+
+#[test]
+fn groups_are_counted_and_ranked(rt: HostRuntime) -> Result<(), Fail> {
+    assert!(rt; are_ranked::<GroupCount<Tuple2<u64>>>(rt.alloc())?);
+    assert!(rt; is_one_large_group::<GroupCount<Tuple2<u64>>>(rt.alloc())?);
+    assert!(rt;
+        are_sized::<GroupCount<Tuple2<u64>>, ExtractGroupSize<Tuple2<u64>, Pair>>(
+            rt.alloc(),
+            counter(0),
+            counter(1),
+            counter(2),
+            counter(7),
+        )?
+    );
+    assert!(rt;
+        one_group_comes_and_goes::<GroupCount<Tuple2<u64>>, ExtractGroupSize<Tuple2<u64>, Pair>,>(
+            rt.alloc(),
+            counter(1),
+            counter(1)
+        )?
+    );
+    Ok(())
+}
