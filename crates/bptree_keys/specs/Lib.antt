@@ -5,3 +5,4 @@ pub mod Neighbours
 pub mod Numbers
 pub mod Pieces
 pub mod Places
+pub mod Ranges

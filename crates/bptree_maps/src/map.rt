@@ -1,5 +1,5 @@
 //! An ordered map.
-ghost use Rattle.std.specs.Prelude.{◌≡◌, ℕ, List, [], None, Some, Ok, length, slice_get, false, IfOk, IfErr, OnErr, IsOk, IsTrue, ◌↔◌, MatchResult, MatchOption, is_ok, IfSome};
+ghost use Rattle.std.specs.Prelude.{◌≡◌, ◌+◌, ◌-◌, ◌*◌, ◌^◌, ◌<◌, ◌≤◌, ℕ, List, [], None, Some, Ok, length, slice_get, false, IfOk, IfErr, OnErr, IsOk, IsTrue, ◌↔◌, MatchResult, MatchOption, is_ok, IfSome};
 ghost use Rattle.std.specs.Borrow.{Lends, LendsIf, LendsSoOk, sem};
 ghost use Rattle.std.specs.Map.{keys_of, values_of};
 ghost use Rattle.std.specs.Iterator.{Drains, IsFinite, at_most, item_count, UpTo};
@@ -95,6 +95,16 @@ impl<K: Key, V: Drop, A: Argument<K>> BPlusTreeMap<K, V, A> {
         ensures { option_copied result ≡ value K.cmp self.now k.now }
     {
         self.inner.get(k)
+    }
+
+    /// The same as `get`, and how many comparisons of keys it made.
+    pub fn get_counted(&self, k: &K) -> (Option<&V>, usize)
+        ensures value { option_copied result.0 ≡ value K.cmp self.now k.now }
+        ensures count { (h : ℕ) × (h ≤ 15) × (0 < h → 32 * 17 ^ (h - 1) ≤ length self.now) × (result.1 ≤ 7 * (h + 1) + 2) }
+    {
+        // Read, so that it is known to be low.
+        let _height = self.inner.height();
+        self.inner.get_counted(k)
     }
 
     /// The value at a key equal to `k`, for writing.

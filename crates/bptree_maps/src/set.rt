@@ -1,5 +1,5 @@
 //! An ordered set.
-ghost use Rattle.std.specs.Prelude.{◌≡◌, ◌-◌, ℕ, [], false, not, length, slice_get, IfOk, IfErr, OnErr, Ok, Err, IsOk, IsTrue, ◌↔◌, List, ⊤};
+ghost use Rattle.std.specs.Prelude.{◌≡◌, ◌+◌, ◌-◌, ◌*◌, ◌^◌, ◌<◌, ◌≤◌, ℕ, [], false, not, length, slice_get, IfOk, IfErr, OnErr, Ok, Err, IsOk, IsTrue, ◌↔◌, List, ⊤};
 ghost use Rattle.std.specs.Iterator.{DrainsIf, IsFinite};
 ghost use Rattle.std.specs.List.Sorted.{IsStrictlySortedBy};
 ghost use Rattle.std.specs.Map.Iter.{ShowsInOrder, GivesInOrder, GivesInReverse, deref};
@@ -113,6 +113,17 @@ impl<K: Key> BPlusTreeSet<K> {
         ensures { result ≡ holds K.cmp self.now k.now }
     {
         self.tree.get(k).is_some()
+    }
+
+    /// The same as `contains`, and how many comparisons of keys it made.
+    pub fn contains_counted(&self, k: &K) -> (bool, usize)
+        ensures value { result.0 ≡ holds K.cmp self.now k.now }
+        ensures count { (h : ℕ) × (h ≤ 15) × (0 < h → 32 * 17 ^ (h - 1) ≤ length self.now) × (result.1 ≤ 7 * (h + 1) + 2) }
+    {
+        // Read, so that it is known to be low.
+        let _height = self.tree.height();
+        let (value, compares) = self.tree.get_counted(k);
+        (value.is_some(), compares)
     }
 
     /// Removes all keys. The new leaf takes memory; where that is refused, nothing has changed.

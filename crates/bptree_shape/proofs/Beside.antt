@@ -48,11 +48,11 @@ module _ {K V : Type 0} (cmp : K → K → Ordering) (total : IsTotalOrder cmp) 
   above_from (Ok i) found = pairs_above_hit _ _ _ (hit_at cmp total l ascending k i (pair_found i found).0 found).1
   above_from (Err i) gap = pairs_above_gap cmp l _ _ k (gap_at cmp total l ascending k i gap.0 gap.1).1
 
-  below_upto : (place : Result ℕ ℕ) → IsPlaceOf cmp l k place → pairs_below cmp l k ≡ take (place_of place) l
+  pub below_upto : (place : Result ℕ ℕ) → IsPlaceOf cmp l k place → pairs_below cmp l k ≡ take (place_of place) l
   below_upto (Ok i) found = pairs_below_hit cmp l _ _ _ k (hit_at cmp total l ascending k i (pair_found i found).0 found).1
   below_upto (Err i) gap = pairs_below_gap cmp l _ _ k (gap_at cmp total l ascending k i gap.0 gap.1).1
 
-  place_within : (place : Result ℕ ℕ) → IsPlaceOf cmp l k place → place_of place ≤ length l
+  pub place_within : (place : Result ℕ ℕ) → IsPlaceOf cmp l k place → place_of place ≤ length l
   place_within (Ok i) found = let pair = pair_found i found in omega (arith, slice_get_within l i pair.0 pair.1)
   place_within (Err i) gap = (gap_at cmp total l ascending k i gap.0 gap.1).0
 
@@ -70,7 +70,7 @@ get_left [] ys some = absurd (omega arith)
 get_left (x ∷ xs) ys some = refl
 
 module _ {K V A : Type 0} (slots : Slots (Inner K A) (Leaf K V)) where
-  abbrev HasPair : LeafNodeId → Type 0
+  abbrev pub HasPair : LeafNodeId → Type 0
   HasPair l = 0 < length (leaf_pairs (slots.leaf l.0))
 
   -- the first pair behind a leaf is the first of the next leaf
@@ -94,7 +94,7 @@ module _ {K V A : Type 0} (slots : Slots (Inner K A) (Leaf K V)) where
   last_before (x ∷ xs) ys all = last_among x xs ys all
 
   -- where a leaf stands beside others, each has a pair
-  others_have : (cmp : K → K → Ordering) (h : ℕ) (root : NodeId) (leaf : LeafNodeId) (in' : StandsIn slots h root leaf) → IsTree cmp slots (root_least h) h root None None → AllByRecursion HasPair in'.before × AllByRecursion HasPair in'.after
+  pub others_have : (cmp : K → K → Ordering) (h : ℕ) (root : NodeId) (leaf : LeafNodeId) (in' : StandsIn slots h root leaf) → IsTree cmp slots (root_least h) h root None None → AllByRecursion HasPair in'.before × AllByRecursion HasPair in'.after
   others_have cmp zero (kind.Leaf id) leaf in' t = let none = alone id in'.before leaf in'.after in'.leaves in rw (none.0, none.1) (tt, tt)
   others_have cmp zero (kind.Inner id) leaf in' t = absurd t
   others_have cmp (suc h) (kind.Leaf id) leaf in' t = absurd t

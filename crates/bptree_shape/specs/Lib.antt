@@ -5,4 +5,5 @@ pub mod Neighbours
 pub mod Order
 pub mod Outcome
 pub mod Path
+pub mod Ranges
 pub mod Shape

@@ -1,5 +1,5 @@
 //! Ways down a tree that stands in a store.
-ghost use Rattle.std.specs.Prelude.{◌≡◌, ◌+◌, ◌≤◌, ℕ, List, ◌∷◌, ◌++◌, [], length};
+ghost use Rattle.std.specs.Prelude.{◌≡◌, ◌+◌, ◌*◌, ◌≤◌, ℕ, List, ◌∷◌, ◌++◌, [], length};
 ghost use Rattle.bptree_keys.specs.declared.node_id.LeafNodeId.{LeafNodeId};
 ghost use Rattle.bptree_shape.specs.Leaves.{Stands, IsLeafFor, IsFirstLeaf, IsLastLeaf};
 ghost use Rattle.bptree_keys.specs.declared.node_id.NodeId.{NodeId};
@@ -7,20 +7,39 @@ ghost use Rattle.bptree_keys.specs.declared.node_id.NodeId.TheVariants as kind;
 ghost use Rattle.bptree_shape.specs.Path.{Way};
 ghost use Rattle.bptree_shape.specs.Shape.{leaves_at};
 
+use bptree_keys::compares::Compares;
 use bptree_keys::entry_ref::VisitStack;
 use bptree_keys::node_id::{LeafNodeId, NodeId};
 use bptree_stores::node_stores::NodeStore;
 
 /// The leaf that a key belongs to, in the tree of a height under a number.
+#[inline]
 pub fn find_leaf<S: NodeStore>(store: &S, id: NodeId, height: usize, key: &S::K) -> LeafNodeId
     requires { Stands S.K.cmp (S.slots store.now) height id }
     ensures { IsLeafFor S.K.cmp (S.slots store.now) height id key.now result }
 {
+    find_leaf_counted(store, id, height, key, &mut Compares::new())
+}
+
+/// The same as `find_leaf`, with its comparisons counted.
+#[inline]
+pub fn find_leaf_counted<S: NodeStore>(
+    store: &S,
+    id: NodeId,
+    height: usize,
+    key: &S::K,
+    compares: &mut Compares,
+) -> LeafNodeId
+    requires { Stands S.K.cmp (S.slots store.now) height id }
+    ensures leaf { IsLeafFor S.K.cmp (S.slots store.now) height id key.now result }
+    ensures counts_on { compares.old ≤ compares.new }
+    ensures count { compares.new ≤ compares.old + 7 * height }
+{
     match id {
         NodeId::Leaf(leaf) => leaf,
         NodeId::Inner(inner) => {
-            let (_, child) = store.get_inner(inner).locate_child(key);
-            find_leaf(store, child, height - 1, key)
+            let (_, child) = store.get_inner(inner).locate_child_counted(key, compares);
+            find_leaf_counted(store, child, height - 1, key, compares)
         }
     }
 }

@@ -4,5 +4,6 @@
 pub mod by_argument;
 pub mod descent;
 pub mod neighbours;
+pub mod ranges;
 pub mod reading;
 pub mod visiting;

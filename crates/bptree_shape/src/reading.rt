@@ -1,30 +1,50 @@
 //! Reads of a tree that stands in a store.
-ghost use Rattle.std.specs.Prelude.{◌≡◌, ◌-◌, Some, length, slice_get};
+ghost use Rattle.std.specs.Prelude.{◌≡◌, ◌+◌, ◌*◌, ◌≤◌, ◌-◌, Some, length, slice_get};
 ghost use Rattle.std.specs.Option.{option_copied, option_map};
 ghost use Rattle.bptree_keys.specs.Contents.{value};
 ghost use Rattle.bptree_shape.specs.Leaves.{Stands, IsLeafFor};
 ghost use Rattle.bptree_shape.specs.Shape.{pairs_at, IsWellShaped};
 
-use crate::descent::{find_leaf, first_leaf, last_leaf};
+use crate::descent::{find_leaf_counted, first_leaf, last_leaf};
+use bptree_keys::compares::Compares;
 use bptree_keys::node_id::{LeafNodeId, NodeId};
 use bptree_stores::node_stores::NodeStore;
 
 /// The leaf that a key belongs to: the remembered one where it is that, else it is searched for from the root.
 ///
 /// The leaf is then remembered.
+#[inline]
 pub fn leaf_for<S: NodeStore>(store: &S, root: NodeId, height: usize, key: &S::K) -> LeafNodeId
     requires { IsWellShaped S.K.cmp S.Argument.is_summary (S.slots store.now) height root }
     ensures { IsLeafFor S.K.cmp (S.slots store.now) height root key.now result }
 {
-    if let Some(leaf) = store.try_cache(key) {
+    leaf_for_counted(store, root, height, key, &mut Compares::new())
+}
+
+/// The same as `leaf_for`, with its comparisons counted.
+#[inline]
+pub fn leaf_for_counted<S: NodeStore>(
+    store: &S,
+    root: NodeId,
+    height: usize,
+    key: &S::K,
+    compares: &mut Compares,
+) -> LeafNodeId
+    requires { IsWellShaped S.K.cmp S.Argument.is_summary (S.slots store.now) height root }
+    ensures leaf { IsLeafFor S.K.cmp (S.slots store.now) height root key.now result }
+    ensures counts_on { compares.old ≤ compares.new }
+    ensures count { compares.new ≤ compares.old + (7 * height + S.HINT_COMPARES) }
+{
+    if let Some(leaf) = store.try_cache_counted(key, compares) {
         return leaf;
     }
-    let leaf = find_leaf(store, root, height, key);
+    let leaf = find_leaf_counted(store, root, height, key, compares);
     store.cache_leaf(leaf);
     leaf
 }
 
 /// The value at a key.
+#[inline]
 pub fn get<'a, S: NodeStore>(
     store: &'a S,
     root: NodeId,
@@ -34,8 +54,27 @@ pub fn get<'a, S: NodeStore>(
     requires { IsWellShaped S.K.cmp S.Argument.is_summary (S.slots store.now) height root }
     ensures { option_copied result ≡ value S.K.cmp (pairs_at (S.slots store.now) height root) key.now }
 {
-    let leaf = leaf_for(store, root, height, key);
-    let (_, value) = store.get_leaf(leaf).locate_slot_with_value(key);
+    get_counted(store, root, height, key, &mut Compares::new())
+}
+
+/// The same as `get`, with its comparisons counted.
+#[inline]
+pub fn get_counted<'a, S: NodeStore>(
+    store: &'a S,
+    root: NodeId,
+    height: usize,
+    key: &S::K,
+    compares: &mut Compares,
+) -> Option<&'a S::V>
+    requires { IsWellShaped S.K.cmp S.Argument.is_summary (S.slots store.now) height root }
+    ensures value { option_copied result ≡ value S.K.cmp (pairs_at (S.slots store.now) height root) key.now }
+    ensures counts_on { compares.old ≤ compares.new }
+    ensures count { compares.new ≤ compares.old + (7 * (height + 1) + S.HINT_COMPARES) }
+{
+    let leaf = leaf_for_counted(store, root, height, key, compares);
+    let (_, value) = store
+        .get_leaf(leaf)
+        .locate_slot_with_value_counted(key, compares);
     value
 }
 

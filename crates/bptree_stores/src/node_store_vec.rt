@@ -6,6 +6,7 @@ ghost use Rattle.bptree_stores.specs.Place.{slot_at};
 use crate::node_stores::{CloneStore, NodeStore};
 use crate::place::Place;
 use bptree_arguments::argument::Argument;
+use bptree_keys::compares::Compares;
 use bptree_keys::key::Key;
 use bptree_keys::node_id::{InnerNodeId, LeafNodeId};
 use bptree_nodes::inner_node::InnerNode;
@@ -64,6 +65,7 @@ impl<K: Key, V: Drop, A: Argument<K>> NodeStoreVec<K, V, A> {
 }
 
 impl<K: Key, V: Drop, A: Argument<K>> NodeStore for NodeStoreVec<K, V, A> {
+    ghost use Rattle.std.proofs.Common.{arith};
     ghost use Rattle.std.specs.Prelude.{◌≡◌, ℕ, IfOk, IfErr, OnErr};
     ghost use Rattle.bptree_nodes.specs.Slot.{Free, Held, Present, UpdatesInner, UpdatesLeaf};
     ghost use Rattle.bptree_stores.specs.StoreSlabs.{slots, store_with_leaf, store_with_leaf_updates, store_with_inner, store_with_inner_updates};
@@ -73,6 +75,10 @@ impl<K: Key, V: Drop, A: Argument<K>> NodeStore for NodeStoreVec<K, V, A> {
     type V = V;
 
     type Argument = A;
+
+    const HINT_COMPARES: usize = 2;
+
+    ghost HINT_COMPARES = { 2 };
 
     ghost slots = { slots };
 
@@ -194,14 +200,16 @@ impl<K: Key, V: Drop, A: Argument<K>> NodeStore for NodeStoreVec<K, V, A> {
         }
     }
 
-    fn try_cache(&self, k: &K) -> Option<LeafNodeId> {
+    fn try_cache_counted(&self, k: &K, compares: &mut Compares) -> Option<LeafNodeId> {
         let id = LeafNodeId::from_usize(self.cached_leaf.get());
-        if self.try_get_leaf(id)?.in_range(k) {
+        if self.try_get_leaf(id)?.in_range_counted(k, compares) {
             Some(id)
         } else {
             None
         }
     }
+
+    ghost hint_is_cheap = { Prim.omega arith };
 
     ghost with_inner_updates = { store_with_inner_updates };
 

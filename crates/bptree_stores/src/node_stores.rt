@@ -1,5 +1,5 @@
 //! What a tree asks of a store.
-ghost use Rattle.std.specs.Prelude.{◌≡◌, ℕ, IfOk, IfErr, OnErr, IfSome, IsTrue, ◌↔◌, MatchOption, []};
+ghost use Rattle.std.specs.Prelude.{◌≡◌, ◌+◌, ◌≤◌, ℕ, IfOk, IfErr, OnErr, IfSome, IsTrue, ◌↔◌, MatchOption, []};
 ghost use Rattle.std.specs.Borrow.{Lends, sem};
 ghost use Rattle.bptree_nodes.specs.Inner.{Inner};
 ghost use Rattle.bptree_nodes.specs.Leaf.{Leaf};
@@ -9,6 +9,7 @@ ghost use Rattle.bptree_nodes.specs.contracts.leaf_node.LeafNode.{the_row as lea
 ghost use Rattle.bptree_stores.specs.Hint.{HoldsKey};
 
 use bptree_arguments::argument::Argument;
+use bptree_keys::compares::Compares;
 use bptree_keys::key::Key;
 use bptree_keys::node_id::{InnerNodeId, LeafNodeId};
 use bptree_nodes::inner_node::InnerNode;
@@ -28,6 +29,11 @@ pub trait NodeStore: Drop {
 
     /// The summaries of the inner nodes.
     type Argument: Argument<Self::K>;
+
+    /// The greatest number of keys that a lookup of the remembered leaf compares.
+    const HINT_COMPARES: usize;
+
+    ghost HINT_COMPARES: { ℕ };
 
     // What stands under each number.
     ghost slots: { Self → Slots (Inner Self.K Self.Argument) (Leaf Self.K Self.V) };
@@ -164,8 +170,21 @@ pub trait NodeStore: Drop {
 
     /// The remembered leaf, where one is present under that number and no leaf beside it can hold the key. A store may
     /// forget the number at any time.
+    #[inline]
     fn try_cache(&self, k: &Self::K) -> Option<LeafNodeId>
-        ensures { IfSome result (λ id. HoldsKey Self.K.cmp ((slots self.now).leaf id.0) k.now) };
+        ensures { IfSome result (λ id. HoldsKey Self.K.cmp ((slots self.now).leaf id.0) k.now) }
+    {
+        self.try_cache_counted(k, &mut Compares::new())
+    }
+
+    /// The same as `try_cache`, with its comparisons counted: at most `HINT_COMPARES`.
+    fn try_cache_counted(&self, k: &Self::K, compares: &mut Compares) -> Option<LeafNodeId>
+        ensures value { IfSome result (λ id. HoldsKey Self.K.cmp ((slots self.now).leaf id.0) k.now) }
+        ensures counts_on { compares.old ≤ compares.new }
+        ensures count { compares.new ≤ compares.old + HINT_COMPARES };
+
+    // A remembered leaf is looked up with few comparisons.
+    ghost hint_is_cheap: { HINT_COMPARES ≤ 1000 };
 
     // A write to a present inner node changes what stands under its number alone.
     ghost with_inner_updates: { (s : Self) (id : ℕ) (node : Inner Self.K Self.Argument)

@@ -7,6 +7,7 @@ ghost use Rattle.bptree_nodes.specs.Slot.{Free, Held, Present, IsPresent};
 ghost use Rattle.bptree_stores.specs.Clones.{IsSlotClone};
 
 use bptree_arguments::argument::Argument;
+use bptree_keys::compares::Compares;
 use bptree_keys::key::Key;
 use bptree_keys::node_id::{InnerNodeId, LeafNodeId};
 use bptree_nodes::inner_node::InnerNode;
@@ -221,6 +222,32 @@ fn trusts_the_hint<S: NodeStore>(store: &S, any: LeafNodeId, key: &S::K) -> Opti
     store.cache_leaf(any);
     let id = store.try_cache(key)?;
     Some(store.get_leaf(id).in_range(key))
+}
+
+// The same, with its comparisons counted: no more than the store says, which is little.
+fn counts_the_hint<S: NodeStore>(store: &S, key: &S::K) -> (Option<bool>, usize)
+    ensures holds { IfSome result.0 (λ holds. holds ≡ true) }
+    ensures count { result.1 ≤ S.HINT_COMPARES }
+    ensures few { result.1 ≤ 1000 }
+{
+    let mut compares = Compares::new();
+    let holds = match store.try_cache_counted(key, &mut compares) {
+        Some(id) => Some(store.get_leaf(id).in_range(key)),
+        None => None,
+    };
+    (holds, compares.count())
+}
+
+// The store over slabs compares the key with two others at most.
+fn compares_two_keys<K: Key, V: Drop, A: Argument<K>>(
+    store: &NodeStoreVec<K, V, A>,
+    key: &K,
+) -> usize
+    ensures { result ≤ 2 }
+{
+    let mut compares = Compares::new();
+    let _ = store.try_cache_counted(key, &mut compares);
+    compares.count()
 }
 
 // A number that is held is held in the clone too, which can take a leaf there.

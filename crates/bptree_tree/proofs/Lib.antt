@@ -1,7 +1,9 @@
 pub mod ChainLemmas
 pub mod Cloned
 pub mod Counted
+pub mod Heights
 pub mod LentAt
+pub mod PartSpans
 pub mod SpanLemmas
 pub mod Spans
 pub mod Started

@@ -28,7 +28,7 @@ last_is : (first : LeafNodeId) (after before : List LeafNodeId) (last : LeafNode
 last_is first after [] last e = let h : first ≡ last = cc in let t : after ≡ [] = cc in rw (h, t) refl
 last_is first after (x ∷ before) last e = let t : after ≡ before ++ last ∷ [] = cc in rw t (last_of_append first before last)
 
-some_of : {K V : Type 0} (slot : Slot (Leaf K V)) → 0 < length (leaf_pairs slot) → (leaf : Leaf K V) × (slot ≡ Present leaf) × (0 < length leaf.pairs)
+pub some_of : {K V : Type 0} (slot : Slot (Leaf K V)) → 0 < length (leaf_pairs slot) → (leaf : Leaf K V) × (slot ≡ Present leaf) × (0 < length leaf.pairs)
 some_of Free h = absurd (omega arith)
 some_of Held h = absurd (omega arith)
 some_of (Present leaf) h = (leaf, refl, h)

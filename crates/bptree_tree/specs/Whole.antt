@@ -14,3 +14,9 @@ pub record IsWhole {S K V A : Type 0} (cmp : K → K → Ordering) (is_summary :
   pub shape : IsWellShaped cmp is_summary (slots tree.store) tree.height tree.root
   pub contents : tree.contents ≡ pairs_at (slots tree.store) tree.height tree.root
   pub summary : is_summary tree.root_argument (keys_of tree.contents)
+
+-- one tree is what another was: what stands under each number of its store, its root, its height, its root's argument and
+-- its contents
+abbrev pub IsUntouched : {S K V A : Type 0} → (S → Slots (Inner K A) (Leaf K V)) → NodeTree S K V A → NodeTree S K V A → Type 0
+IsUntouched slots new old = (slots new.store ≡ slots old.store) × (new.root ≡ old.root) × (new.height ≡ old.height)
+    × (new.root_argument ≡ old.root_argument) × (new.contents ≡ old.contents)

@@ -1,5 +1,5 @@
 //! A tree over the nodes of a store.
-ghost use Rattle.std.specs.Prelude.{◌≡◌, ◌-◌, [], List, false, length, slice_get, IfOk, IfErr, OnErr, Ok, None, IsTrue, IsOk, ◌↔◌};
+ghost use Rattle.std.specs.Prelude.{◌≡◌, ◌+◌, ◌*◌, ◌^◌, ◌<◌, ◌≤◌, ◌-◌, [], List, false, length, slice_get, IfOk, IfErr, OnErr, Ok, None, IsTrue, IsOk, ◌↔◌};
 ghost use Rattle.std.specs.Map.{keys_of};
 ghost use Rattle.std.specs.Map.Iter.{ShowsInOrder, deref_pair};
 ghost use Rattle.std.specs.Option.{option_map, option_copied};
@@ -7,18 +7,20 @@ ghost use Rattle.bptree_keys.specs.Contents.{IsAscending, has, value, put, del};
 ghost use Rattle.bptree_nodes.specs.Slot.{IsEmpty};
 ghost use Rattle.bptree_tree.specs.Refusal.{pair_of};
 ghost use Rattle.bptree_shape.specs.Shape.{IsWellShaped};
-ghost use Rattle.bptree_tree.specs.Whole.{IsWhole};
+ghost use Rattle.bptree_tree.specs.Whole.{IsWhole, IsUntouched};
 
 mod cloning;
 mod cursors;
 mod loading;
 mod owning;
 mod queries;
+mod ranges;
 mod removals;
 
 use crate::InsertError;
 use crate::iterator::Iter;
 use bptree_insertion::insertion::{Put, upsert};
+use bptree_keys::compares::Compares;
 use bptree_keys::entry_ref::VisitStack;
 use bptree_keys::node_id::NodeId;
 use bptree_removal::removal::{Removed, remove};
@@ -99,6 +101,16 @@ impl<S: NodeStore> BPlusTree<S> {
         reading::get(&self.store, self.root, self.height, k)
     }
 
+    /// The same as `get`, and how many comparisons of keys it made.
+    pub fn get_counted(&self, k: &S::K) -> (Option<&S::V>, usize)
+        ensures value { option_copied result.0 ≡ value S.K.cmp self.now.contents k.now }
+        ensures count { result.1 ≤ 7 * (self.now.height + 1) + S.HINT_COMPARES }
+    {
+        let mut compares = Compares::new();
+        let value = reading::get_counted(&self.store, self.root, self.height, k, &mut compares);
+        (value, compares.count())
+    }
+
     /// The pair with the least key.
     pub fn first(&self) -> Option<(&S::K, &S::V)>
         ensures { option_map (λ pair. (pair.0.now, pair.1.now)) result ≡ slice_get self.now.contents 0 }
@@ -134,7 +146,7 @@ impl<S: NodeStore> BPlusTree<S> {
     pub fn insert(&mut self, k: S::K, v: S::V) -> Result<Option<S::V>, InsertError<S::K, S::V>>
         ensures ok { IfOk result (λ old. (old ≡ value S.K.cmp self.old.contents k) × (self.new.contents ≡ put S.K.cmp self.old.contents k v)) }
         ensures err { IfErr result (λ refusal. (pair_of refusal ≡ (k, v)) × (self.new.contents ≡ self.old.contents)) }
-        ensures unchanged { IfErr result (λ _. (S.slots self.new.store ≡ S.slots self.old.store) × (self.new.root ≡ self.old.root) × (self.new.height ≡ self.old.height) × (self.new.root_argument ≡ self.old.root_argument)) }
+        ensures unchanged { IfErr result (λ _. IsUntouched (λ store. S.slots store) self.new self.old) }
         ensures present { IsTrue (has S.K.cmp self.old.contents k) → IsOk result }
         ensures whole { IsWhole S.K.cmp S.Argument.is_summary (λ store. S.slots store) self.new }
         ensures full { (result ≡ Err (InsertError.Full k v)) ↔ ((length self.old.contents ≡ usize.MAX) × (has S.K.cmp self.old.contents k ≡ false)) }
@@ -173,7 +185,7 @@ impl<S: NodeStore> BPlusTree<S> {
         ensures whole { IsWhole S.K.cmp S.Argument.is_summary (λ store. S.slots store) self.new }
         ensures untouched { has S.K.cmp self.old.contents k.now ≡ false → (S.slots self.new.store ≡ S.slots self.old.store) × (self.new.root ≡ self.old.root) × (self.new.height ≡ self.old.height) × (self.new.root_argument ≡ self.old.root_argument) }
         ensures err { OnErr result (self.new.contents ≡ self.old.contents) }
-        ensures unchanged { OnErr result ((S.slots self.new.store ≡ S.slots self.old.store) × (self.new.root ≡ self.old.root) × (self.new.height ≡ self.old.height) × (self.new.root_argument ≡ self.old.root_argument)) }
+        ensures unchanged { OnErr result (IsUntouched (λ store. S.slots store) self.new self.old) }
     {
         match remove(
             &mut self.store,
@@ -230,8 +242,12 @@ impl<S: NodeStore> BPlusTree<S> {
 
     /// The number of levels of inner nodes.
     pub fn height(&self) -> usize
-        ensures { result ≡ self.now.height }
+        ensures value { result ≡ self.now.height }
+        ensures levels { result ≤ 15 }
+        ensures enough { 0 < result → 32 * 17 ^ (result - 1) ≤ length self.now.contents }
     {
+        // Read, so that it is known to fit.
+        let _len = self.len;
         self.height
     }
 }

@@ -7,4 +7,5 @@ mod cursors;
 mod iteration;
 mod owning;
 mod queries;
+mod ranges;
 mod reads;

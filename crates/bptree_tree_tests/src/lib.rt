@@ -6,6 +6,8 @@ mod callers;
 #[cfg(test)]
 mod cloning_tests;
 #[cfg(test)]
+mod counting_tests;
+#[cfg(test)]
 mod cursor_tests;
 #[cfg(test)]
 mod insertion_tests;
@@ -13,6 +15,8 @@ mod insertion_tests;
 mod number_tests;
 #[cfg(test)]
 mod owning_tests;
+#[cfg(test)]
+mod range_tests;
 #[cfg(test)]
 mod reading_tests;
 #[cfg(test)]

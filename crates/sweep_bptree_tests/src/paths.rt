@@ -20,16 +20,17 @@ pub mod of_script {
 
 pub mod of_tree {
     pub use sweep_bptree::tree::{
-        Argument, BPlusTree, CloneStore, DescendError, DescendVisit, DescendVisitResult, EntryRef,
-        EntryRefDetached, InnerMergeResult, InnerNode, InnerNodeId, InsertError, Iter, Key,
-        LeafDeleteResult, LeafNode, LeafNodeId, LeafUpsertResult, NodeId, NodeStore, NodeStoreVec,
-        RankArgument, SearchArgument, SelectError, Tuple2, VisitStack, count, group, in_load_order,
-        visit,
+        Argument, BPlusTree, CloneStore, Compares, DescendError, DescendVisit, DescendVisitResult,
+        EntryRef, EntryRefDetached, InnerMergeResult, InnerNode, InnerNodeId, InsertError, Iter,
+        Key, LeafDeleteResult, LeafNode, LeafNodeId, LeafUpsertResult, NodeId, NodeStore,
+        NodeStoreVec, RankArgument, SearchArgument, SelectError, Tuple2, VisitStack, count, group,
+        in_load_order, visit,
     };
 }
 
 pub mod of_modules {
     pub use sweep_bptree::tree::bulk_load::{DeDupKeepLast, DedupByExt};
+    pub use sweep_bptree::tree::compares::Compares;
     pub use sweep_bptree::tree::entry_ref::{EntryRef, EntryRefDetached, VisitStack};
     pub use sweep_bptree::tree::inner_node::{InnerMergeResult, InnerNode};
     pub use sweep_bptree::tree::iterator::Iter;

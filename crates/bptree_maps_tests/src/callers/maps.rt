@@ -1,8 +1,8 @@
 //! Callers of maps.
-ghost use Rattle.std.specs.Prelude.{◌≡◌, ◌<◌, ◌≤◌, ◌-◌, ◌+◌, ◌^◌, ◌∷◌, [], ℕ, length, true, false, slice_get, remove, if◌then◌else◌, IfOk, IfErr, OnErr, OnOk, IfSome, IsTrue, Some, None};
+ghost use Rattle.std.specs.Prelude.{◌≡◌, ◌<◌, ◌≤◌, ◌-◌, ◌+◌, ◌*◌, ◌^◌, ◌∷◌, [], ℕ, length, true, false, slice_get, remove, if◌then◌else◌, IfOk, IfErr, OnErr, OnOk, IfSome, IsTrue, Some, None};
 ghost use Rattle.std.specs.Map.{keys_of};
 ghost use Rattle.std.specs.Ordering.{nat_cmp};
-ghost use Rattle.std.specs.Option.{option_map};
+ghost use Rattle.std.specs.Option.{option_copied, option_map};
 ghost use Rattle.bptree_arguments.specs.CountLaws.{count_below};
 ghost use Rattle.bptree_arguments.specs.Visits.{answered};
 ghost use Rattle.bptree_insertion.specs.Lending.{written};
@@ -35,6 +35,18 @@ fn starts_empty_by_default<K: Key, V: Drop, A: Argument<K>>(
     ensures { IfOk result (λ says. says ≡ true) }
 {
     Ok(BPlusTreeMap::<K, V, A>::default(alloc)?.is_empty())
+}
+
+// A look-up makes at most seven comparisons on each level, of which there are few, and two of the remembered leaf.
+fn counts_a_look_up<'a, K: Key, V: Drop, A: Argument<K>>(
+    map: &'a BPlusTreeMap<K, V, A>,
+    k: &K,
+) -> (Option<&'a V>, usize)
+    ensures value { option_copied result.0 ≡ value_of K.cmp map.now k.now }
+    ensures count { (h : ℕ) × (h ≤ 15) × (0 < h → 32 * 17 ^ (h - 1) ≤ length map.now) × (result.1 ≤ 7 * (h + 1) + 2) }
+    ensures most { result.1 ≤ 114 }
+{
+    map.get_counted(k)
 }
 
 // Of pairs in any order the last of each key is held.

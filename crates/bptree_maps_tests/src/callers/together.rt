@@ -8,11 +8,7 @@ use bptree_maps::map::BPlusTreeMap;
 use bptree_maps::set::BPlusTreeSet;
 
 // The value at a key that a set allows; at other keys none.
-fn get_allowed<K: Key>(
-    allowed: &BPlusTreeSet<K>,
-    map: &BPlusTreeMap<K, u64>,
-    k: &K,
-) -> Option<u64>
+fn get_allowed<K: Key>(allowed: &BPlusTreeSet<K>, map: &BPlusTreeMap<K, u64>, k: &K) -> Option<u64>
     ensures allowed { holds K.cmp allowed.now k.now ≡ true → result ≡ value_of K.cmp map.now k.now }
     ensures others { holds K.cmp allowed.now k.now ≡ false → result ≡ None }
 {

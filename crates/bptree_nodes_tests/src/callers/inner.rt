@@ -7,6 +7,7 @@ ghost use Rattle.std.specs.List.Sorted.{IsStrictlySortedBy};
 ghost use Rattle.bptree_keys.specs.declared.node_id.NodeId.{NodeId};
 ghost use Rattle.bptree_nodes.specs.Inner.{Gives};
 
+use bptree_keys::compares::Compares;
 use bptree_keys::node_id::NodeId;
 use bptree_nodes::inner_node::{InnerMergeResult, InnerNode};
 use std::alloc::{AllocError, Global};
@@ -335,6 +336,18 @@ fn goes_behind_an_equal_key<K: Ord + Drop, A: Drop>(
     ensures child { slice_get node.now.children result.0 ≡ Some result.1 }
 {
     node.locate_child(key)
+}
+
+// The same child, with the comparisons counted.
+fn goes_on_in_seven<K: Ord + Drop, A: Drop>(node: &InnerNode<K, A>, key: &K) -> (NodeId, usize)
+    requires node { 0 < length node.now.children }
+    requires ascending { IsStrictlySortedBy K.cmp node.now.keys }
+    ensures equal { (x y : K) → node.now.keys ≡ x ∷ y ∷ [] → K.cmp x key.now ≡ Equal → K.cmp y key.now ≡ Greater → slice_get node.now.children 1 ≡ Some result.0 }
+    ensures count { result.1 ≤ 7 }
+{
+    let mut compares = Compares::new();
+    let child = node.locate_child_counted(key, &mut compares).1;
+    (child, compares.count())
 }
 
 // A clone has the same children, and clones of the keys and summaries in their order.

@@ -6,6 +6,7 @@ ghost use Rattle.std.specs.Iterator.{Yields, YieldsThen};
 ghost use Rattle.bptree_keys.specs.Contents.{IsAscending, below, has, value as value_of, put};
 ghost use Rattle.bptree_keys.specs.declared.node_id.LeafNodeId.{LeafNodeId};
 
+use bptree_keys::compares::Compares;
 use bptree_keys::node_id::LeafNodeId;
 use bptree_nodes::leaf_node::{LeafDeleteResult, LeafNode, LeafUpsertResult};
 use std::alloc::{AllocError, Global};
@@ -187,6 +188,42 @@ fn reads_the_value<'a, K: Ord + Drop, V: Drop>(leaf: &'a LeafNode<K, V>, key: &K
     ensures { option_copied result ≡ value_of K.cmp leaf.now.pairs key.now }
 {
     leaf.locate_slot_with_value(key).1
+}
+
+// The same searches, with their comparisons counted: at most seven for the slot, as many for the value, and two for the range.
+fn counts_a_value_in_seven<'a, K: Ord + Drop, V: Drop>(
+    leaf: &'a LeafNode<K, V>,
+    key: &K,
+) -> (Option<&'a V>, usize)
+    requires { IsAscending K.cmp leaf.now.pairs }
+    ensures value { option_copied result.0 ≡ value_of K.cmp leaf.now.pairs key.now }
+    ensures count { result.1 ≤ 7 }
+{
+    let mut compares = Compares::new();
+    let value = leaf.locate_slot_with_value_counted(key, &mut compares).1;
+    (value, compares.count())
+}
+
+fn counts_smaller_keys_in_seven<K: Ord + Drop, V: Drop>(
+    leaf: &LeafNode<K, V>,
+    key: &K,
+) -> (Option<usize>, usize)
+    requires { IsAscending K.cmp leaf.now.pairs }
+    ensures place { IfSome result.0 (λ place. place ≡ length (below K.cmp leaf.now.pairs key.now)) }
+    ensures count { result.1 ≤ 7 }
+{
+    let mut compares = Compares::new();
+    let place = leaf.locate_slot_counted(key, &mut compares).err();
+    (place, compares.count())
+}
+
+fn tells_its_range_in_two<K: Ord + Drop, V: Drop>(leaf: &LeafNode<K, V>, key: &K) -> (bool, usize)
+    ensures same { result.0 ≡ true }
+    ensures count { result.1 ≤ 2 }
+{
+    let mut compares = Compares::new();
+    let within = leaf.in_range_counted(key, &mut compares);
+    (within == leaf.in_range(key), compares.count())
 }
 
 // A pair that is put where there is room: the contents are those of a map, and an old value is handed back.

@@ -2,7 +2,7 @@
 ghost use Rattle.std.specs.Prelude.{◌≡◌, [], None, Ok, IfOk, OnErr, MatchOption};
 ghost use Rattle.bptree_keys.specs.Contents.{del};
 ghost use Rattle.bptree_shape.specs.ByArgument.{IsTaken};
-ghost use Rattle.bptree_tree.specs.Whole.{IsWhole};
+ghost use Rattle.bptree_tree.specs.Whole.{IsWhole, IsUntouched};
 
 use crate::tree::BPlusTree;
 use bptree_arguments::argument::SearchArgument;
@@ -27,7 +27,7 @@ impl<S: NodeStore> BPlusTree<S> {
         ensures by_key { IfOk result (λ gone. MatchOption gone (self.new.contents ≡ self.old.contents) (λ pair. self.new.contents ≡ del S.K.cmp self.old.contents pair.0)) }
         ensures untouched { result ≡ Ok None → (S.slots self.new.store ≡ S.slots self.old.store) × (self.new.root ≡ self.old.root) × (self.new.height ≡ self.old.height) × (self.new.root_argument ≡ self.old.root_argument) }
         ensures err { OnErr result (self.new.contents ≡ self.old.contents) }
-        ensures unchanged { OnErr result ((S.slots self.new.store ≡ S.slots self.old.store) × (self.new.root ≡ self.old.root) × (self.new.height ≡ self.old.height) × (self.new.root_argument ≡ self.old.root_argument)) }
+        ensures unchanged { OnErr result (IsUntouched (λ store. S.slots store) self.new self.old) }
     {
         // Read, so that it is known to fit.
         let _len = self.len;
@@ -61,7 +61,7 @@ impl<S: NodeStore> BPlusTree<S> {
         ensures whole { IsWhole S.K.cmp S.Argument.is_summary (λ store. S.slots store) self.new }
         ensures ok { IfOk result (λ _. self.new.contents ≡ []) }
         ensures err { OnErr result (self.new.contents ≡ self.old.contents) }
-        ensures unchanged { OnErr result ((S.slots self.new.store ≡ S.slots self.old.store) × (self.new.root ≡ self.old.root) × (self.new.height ≡ self.old.height) × (self.new.root_argument ≡ self.old.root_argument)) }
+        ensures unchanged { OnErr result (IsUntouched (λ store. S.slots store) self.new self.old) }
     {
         let fresh = BPlusTree::new(S::empty(self.store.allocator()))?;
         *self = fresh;

@@ -1,5 +1,5 @@
 //! Callers of a new tree, and of what is read of any tree.
-ghost use Rattle.std.specs.Prelude.{◌≡◌, ◌≢◌, ◌<◌, ◌-◌, [], length, true, false, slice_get, IfOk, Some, None};
+ghost use Rattle.std.specs.Prelude.{◌≡◌, ◌≢◌, ◌<◌, ◌≤◌, ◌+◌, ◌*◌, ◌^◌, ◌-◌, [], length, true, false, slice_get, IfOk, Some, None};
 ghost use Rattle.std.specs.Map.{keys_of};
 ghost use Rattle.std.specs.Option.{option_copied};
 ghost use Rattle.bptree_keys.specs.Contents.{IsAscending, has, value as value_of};
@@ -128,6 +128,29 @@ fn shows_its_nodes<S: NodeStore>(tree: &BPlusTree<S>) -> (&S, NodeId, usize)
     ensures { IsWellShaped S.K.cmp S.Argument.is_summary (S.slots result.0.now) result.2 result.1 }
 {
     (tree.node_store(), tree.root_id(), tree.height())
+}
+
+// A look-up and how many comparisons it made: at most seven on each level, and those of the remembered leaf.
+fn counts_a_look_up<'a, S: NodeStore>(
+    tree: &'a BPlusTree<S>,
+    k: &S::K,
+) -> (Option<&'a S::V>, usize, usize)
+    ensures value { option_copied result.0 ≡ value_of S.K.cmp tree.now.contents k.now }
+    ensures count { result.1 ≤ 7 * (result.2 + 1) + S.HINT_COMPARES }
+    ensures most { result.1 ≤ 112 + S.HINT_COMPARES }
+{
+    let height = tree.height();
+    let (value, count) = tree.get_counted(k);
+    (value, count, height)
+}
+
+// A tree is low, and has many pairs where it has levels.
+fn is_low<S: NodeStore>(tree: &BPlusTree<S>) -> (usize, usize)
+    ensures levels { result.0 ≤ 15 }
+    ensures enough { 0 < result.0 → 32 * 17 ^ (result.0 - 1) ≤ result.1 }
+    ensures len { result.1 ≡ length tree.now.contents }
+{
+    (tree.height(), tree.len())
 }
 
 // The root is a leaf just where there are no levels above the leaves, and it stands in the store.

@@ -2,7 +2,7 @@ use Rattle.std.proofs.Common.{sym}
 use Rattle.bptree_keys.proofs.Found.{gap_at}
 use Rattle.bptree_nodes.proofs.LeafContents.{value_of_pair, place_is_below}
 use Rattle.bptree_keys.proofs.Parted.{value_gap}
-use Rattle.bptree_nodes.proofs.leaf_node.LeafNode.locate_slot_with_value.Goals as goal
+use Rattle.bptree_nodes.proofs.leaf_node.LeafNode.locate_slot_with_value_counted.Goals as goal
 
 pub returns-in-Ok-clause-contents : goal.returns-in-Ok-clause-contents
 returns-in-Ok-clause-contents g c = λ ascending.

@@ -1,5 +1,5 @@
 use Rattle.bptree_nodes.proofs.Separators.{child_for_counted}
-use Rattle.bptree_nodes.proofs.inner_node.InnerNode.locate_child.Goals as goal
+use Rattle.bptree_nodes.proofs.inner_node.InnerNode.locate_child_counted.Goals as goal
 
 pub returns-clause-leads : goal.returns-clause-leads
 returns-clause-leads g c = λ s.

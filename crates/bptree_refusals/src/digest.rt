@@ -1,0 +1,170 @@
+//! What a tree is, told as one number. It takes no memory.
+
+use sweep_bptree::tree::count::Count;
+use sweep_bptree::tree::group::{GroupCount, Tuple2};
+use sweep_bptree::tree::{
+    BPlusTree, InnerNode, InnerNodeId, LeafNode, LeafNodeId, NodeId, NodeStore,
+};
+
+/// Made of words in their order: another word, or another order, makes another number.
+#[derive(Drop)]
+pub struct Digest(u64);
+
+impl Digest {
+    pub fn new() -> Digest {
+        Digest(0)
+    }
+
+    pub fn add(&mut self, word: u64) {
+        let mixed = (self.0 ^ word).wrapping_add(1);
+        let mixed = mixed.wrapping_mul(0x9e37_79b9_7f4a_7c15);
+        self.0 = mixed ^ (mixed >> 29);
+    }
+
+    pub fn value(&self) -> u64 {
+        self.0
+    }
+}
+
+/// What can be told to a digest.
+pub trait Told {
+    fn tell(&self, digest: &mut Digest);
+}
+
+impl Told for u64 {
+    fn tell(&self, digest: &mut Digest) {
+        digest.add(*self);
+    }
+}
+
+impl Told for String {
+    fn tell(&self, digest: &mut Digest) {
+        for byte in self.as_bytes() {
+            digest.add(*byte as u64);
+        }
+        digest.add(256);
+    }
+}
+
+impl<A: Told, B: Told> Told for (A, B) {
+    fn tell(&self, digest: &mut Digest) {
+        self.0.tell(digest);
+        self.1.tell(digest);
+    }
+}
+
+impl Told for Count {
+    fn tell(&self, digest: &mut Digest) {
+        digest.add(self.count() as u64);
+    }
+}
+
+impl<T: Told> Told for Tuple2<T> {
+    fn tell(&self, digest: &mut Digest) {
+        self.0.tell(digest);
+    }
+}
+
+impl<G: Told> Told for GroupCount<G> {
+    fn tell(&self, digest: &mut Digest) {
+        match self {
+            GroupCount::Zero => digest.add(0),
+            GroupCount::One(group, size) => {
+                digest.add(1);
+                group.tell(digest);
+                digest.add(*size as u64);
+            }
+            GroupCount::Multiple {
+                min_group,
+                max_group,
+                group_count,
+            } => {
+                digest.add(2);
+                min_group.0.tell(digest);
+                digest.add(min_group.1 as u64);
+                max_group.0.tell(digest);
+                digest.add(max_group.1 as u64);
+                digest.add(*group_count as u64);
+            }
+        }
+    }
+}
+
+fn tell_number(id: NodeId, digest: &mut Digest) {
+    match id {
+        NodeId::Inner(id) => {
+            digest.add(1);
+            digest.add(id.as_usize() as u64);
+        }
+        NodeId::Leaf(id) => {
+            digest.add(2);
+            digest.add(id.as_usize() as u64);
+        }
+    }
+}
+
+fn tell_link(link: Option<LeafNodeId>, digest: &mut Digest) {
+    match link {
+        Some(id) => tell_number(NodeId::Leaf(id), digest),
+        None => digest.add(0),
+    }
+}
+
+fn tell_inner<K: Told + Drop, A: Told + Drop>(node: &InnerNode<K, A>, digest: &mut Digest) {
+    digest.add(node.len() as u64);
+    for key in node.keys() {
+        key.tell(digest);
+    }
+    for argument in node.arguments() {
+        argument.tell(digest);
+    }
+    if node.len() == 0 {
+        return;
+    }
+    for place in 0..node.len() {
+        tell_number(node.child_id(place), digest);
+    }
+    tell_number(node.child_id(node.len()), digest);
+}
+
+fn tell_leaf<K: Told + Ord + Drop, V: Told + Drop>(leaf: &LeafNode<K, V>, digest: &mut Digest) {
+    digest.add(leaf.len() as u64);
+    for key in leaf.keys() {
+        key.tell(digest);
+    }
+    for value in leaf.values() {
+        value.tell(digest);
+    }
+    tell_link(leaf.prev(), digest);
+    tell_link(leaf.next(), digest);
+}
+
+/// The number of nodes of each kind that are looked for.
+const NUMBERS: usize = 160;
+
+/// A tree's length, height, root and summary, and its store's nodes under the first numbers: their keys, values, links,
+/// children and summaries.
+pub fn digest_of<S: NodeStore>(tree: &BPlusTree<S>) -> u64
+where
+    S::K: Told,
+    S::V: Told,
+    S::Argument: Told,
+{
+    let mut digest = Digest::new();
+    digest.add(tree.len() as u64);
+    digest.add(tree.height() as u64);
+    tell_number(tree.root_id(), &mut digest);
+    tree.root_argument().tell(&mut digest);
+    let store = tree.node_store();
+    for number in 0..NUMBERS {
+        if let Some(node) = store.try_get_inner(InnerNodeId::from_usize(number)) {
+            digest.add(number as u64);
+            tell_inner(node, &mut digest);
+        }
+        if let Some(leaf) = store.try_get_leaf(LeafNodeId::from_usize(number)) {
+            digest.add(number as u64);
+            tell_leaf(leaf, &mut digest);
+        }
+    }
+    digest.value()
+}

@@ -1,0 +1,194 @@
+-- A part of a tree's contents stands between two places in its leaves.
+use Rattle.std.proofs.Common.{◌≡◌, ℕ, zero, suc, ◌+◌, ◌-◌, ◌<◌, ◌≤◌, inl, inr, List, [], ◌∷◌, ◌++◌, length, take, drop, refl, sym, ap, subst, ◌∙◌, arith, Option, Some, None, append_assoc, length-append, length-drop, take-append-drop}
+use Rattle.std.proofs.lemmas.List.{drop-append-le, length-take-le}
+use Rattle.std.specs.declared.cmp.Ordering.{Ordering}
+use Rattle.std.specs.Cmp.{IsTotalOrder}
+use Rattle.std.specs.List.{AllByRecursion}
+use Rattle.bptree_nodes.specs.Inner.{Inner}
+use Rattle.bptree_nodes.specs.Leaf.{Leaf}
+use Rattle.bptree_nodes.specs.Slot.{Slot, Slots, Free, Held, Present, IsPresent}
+use Rattle.bptree_keys.specs.declared.node_id.LeafNodeId.{LeafNodeId}
+use Rattle.bptree_keys.specs.declared.node_id.NodeId.{NodeId}
+use Rattle.bptree_keys.specs.Contents.{IsAscending}
+use Rattle.bptree_keys.specs.Ranges.{part}
+use Rattle.bptree_keys.proofs.PieceLemmas.{AllByRecursion-right}
+use Rattle.bptree_shape.specs.declared.ranges.Part.{Part}
+use Rattle.bptree_shape.specs.Leaves.{pairs_of}
+use Rattle.bptree_shape.specs.Ranges.{start, IsPart}
+use Rattle.bptree_shape.specs.Shape.{leaf_pairs, leaf_prev, leaf_next, pairs_at, AreLinked, IsWellShaped}
+use Rattle.bptree_shape.proofs.Beside.{HasPair, others_have}
+use Rattle.bptree_shape.proofs.Ranged.{sides, start_is, reached, comes_before}
+use Rattle.bptree_shape.proofs.Ordered.{ascending_after}
+use Rattle.bptree_shape.proofs.Spot.{parts_of, ascending_before}
+use Rattle.bptree_shape.proofs.Walk.{flat-append}
+use Rattle.bptree_tree.specs.Span.{IsSpan, IsBetween, leaves_of, leaf_of, pairs_left}
+use Rattle.bptree_tree.proofs.SpanLemmas.{IsBetween-span, pairs_left-span, take-part}
+use Rattle.bptree_tree.proofs.Spans.{some_of}
+
+-- dropping what stands before, and taking over a seam
+drop_past : {X : Type 0} (xs ys : List X) (n : ℕ) → drop (length xs + n) (xs ++ ys) ≡ drop n ys
+drop_past [] ys n = let e : 0 + n ≡ n = omega arith in rw e refl
+drop_past (x ∷ xs) ys n = let e : suc (length xs) + n ≡ suc (length xs + n) = omega arith in rw e (drop_past xs ys n)
+
+take_past : {X : Type 0} (xs ys : List X) (n : ℕ) → take (length xs + n) (xs ++ ys) ≡ xs ++ take n ys
+take_past [] ys n = let e : 0 + n ≡ n = omega arith in rw e refl
+take_past (x ∷ xs) ys n = let e : suc (length xs) + n ≡ suc (length xs + n) = omega arith in rw e (ap (λ more. x ∷ more) (take_past xs ys n))
+
+take_within : {X : Type 0} (xs ys : List X) (n : ℕ) → n ≤ length xs → take n (xs ++ ys) ≡ take n xs
+take_within [] ys zero h = refl
+take_within [] ys (suc n) h = absurd (omega arith)
+take_within (x ∷ xs) ys zero h = refl
+take_within (x ∷ xs) ys (suc n) h = ap (λ more. x ∷ more) (take_within xs ys n (omega arith))
+
+-- a part within one piece
+one_piece : {X : Type 0} (before here after : List X) (from to n : ℕ) → from ≤ to → to ≤ length here → from + n ≡ to → part (before ++ (here ++ after)) (length before + from) n ≡ drop from (take to here)
+one_piece before here after from to n h g e =
+    let within : from ≤ length here = omega arith in
+    let long : length (drop from (take to here)) ≡ n = omega (arith, length-drop from (take to here), length-take-le to here g) in
+    ap (take n) (drop_past before (here ++ after) from ∙ drop-append-le from here after within)
+    ∙ (ap (λ m. take m (drop from here ++ after)) (sym long) ∙ take-part here after from to h g)
+
+-- a part over a piece, some in the middle, and a last one
+more_pieces : {X : Type 0} (before here mid last after : List X) (from to n : ℕ) → from ≤ length here → to ≤ length last → from + n ≡ length here + (length mid + to)
+    → part (before ++ (here ++ (mid ++ (last ++ after)))) (length before + from) n ≡ drop from here ++ (mid ++ take to last)
+more_pieces before here mid last after from to n h g e =
+    let long : length (drop from here) ≡ length here - from = length-drop from here in
+    let n_is : n ≡ length (drop from here) + (length mid + to) = omega (arith, long, e, h) in
+    ap (take n) (drop_past before (here ++ (mid ++ (last ++ after))) from ∙ drop-append-le from here (mid ++ (last ++ after)) h)
+    ∙ (ap (λ m. take m (drop from here ++ (mid ++ (last ++ after)))) n_is
+    ∙ (take_past (drop from here) (mid ++ (last ++ after)) (length mid + to)
+    ∙ ap (λ l. drop from here ++ l) (take_past mid (last ++ after) to ∙ ap (λ l. mid ++ l) (take_within last after to g))))
+
+module _ {K V A : Type 0} (slots : Slots (Inner K A) (Leaf K V)) where
+  present_leaf : (s : Slot (Leaf K V)) → 0 < length (leaf_pairs s) → (leaf : Leaf K V) × (s ≡ Present leaf) × (0 < length leaf.pairs)
+  present_leaf s h = some_of s h
+
+  first_prev : (x y : LeafNodeId) (ys : List LeafNodeId) (q : Option LeafNodeId) → AreLinked slots (Some x) (y ∷ ys) q → leaf_prev (slots.leaf y.0) ≡ Some x
+  first_prev x y [] q l = l.0
+  first_prev x y (z ∷ zs) q l = l.0
+
+  -- the links of the last of a list of leaves
+  linked_tail : (p : Option LeafNodeId) (before rest : List LeafNodeId) (q : Option LeafNodeId) → AreLinked slots p (before ++ rest) q → (p' : Option LeafNodeId) × AreLinked slots p' rest q
+  linked_tail p [] rest q h = (p, h)
+  linked_tail p (x ∷ []) [] q h = (p, tt)
+  linked_tail p (x ∷ []) (y ∷ ys) q h = (Some x, h.2)
+  linked_tail p (x ∷ y ∷ before) rest q h = linked_tail (Some x) (y ∷ before) rest q h.2
+
+  -- from a place of a leaf, over others, to a place of the last
+  span_over : (x : LeafNodeId) (mid : List LeafNodeId) (back : LeafNodeId) (rest : List LeafNodeId) (from to : ℕ) (p q : Option LeafNodeId) → AreLinked slots p (x ∷ (mid ++ back ∷ rest)) q
+      → AllByRecursion (HasPair slots) (x ∷ (mid ++ back ∷ rest)) → from ≤ length (leaf_pairs (slots.leaf x.0)) → to ≤ length (leaf_pairs (slots.leaf back.0))
+      → IsSpan (leaves_of slots) x from (mid ++ back ∷ []) back to (drop from (leaf_pairs (slots.leaf x.0)) ++ (pairs_of slots mid ++ take to (leaf_pairs (slots.leaf back.0))))
+  span_over x [] back rest from to p q linked all h g =
+      let at = present_leaf (slots.leaf x.0) all.0 in
+      let after = present_leaf (slots.leaf back.0) all.1.0 in
+      let prev = first_prev x back rest q linked.2 in
+      let long : length (leaf_pairs (slots.leaf x.0)) ≡ length at.0.pairs = ap (λ s. length (leaf_pairs s)) at.1 in
+      let long' : length (leaf_pairs (slots.leaf back.0)) ≡ length after.0.pairs = ap (λ s. length (leaf_pairs s)) after.1 in (
+        at.0,
+        after.0,
+        ap leaf_of at.1,
+        sym (ap leaf_next at.1) ∙ linked.1,
+        ap leaf_of after.1,
+        sym (ap leaf_prev after.1) ∙ prev,
+        omega (arith, h, long),
+        at.2,
+        take to (leaf_pairs (slots.leaf back.0)),
+        ap (λ s. drop from (leaf_pairs s) ++ take to (leaf_pairs (slots.leaf back.0))) at.1,
+        (after.0, ap leaf_of after.1, refl, omega arith, omega (arith, g, long'), ap (λ s. take to (leaf_pairs s)) after.1),
+      )
+  span_over x (y ∷ mid) back rest from to p q linked all h g =
+      let at = present_leaf (slots.leaf x.0) all.0 in
+      let after = present_leaf (slots.leaf y.0) all.1.0 in
+      let prev = first_prev x y (mid ++ back ∷ rest) q linked.2 in
+      let long : length (leaf_pairs (slots.leaf x.0)) ≡ length at.0.pairs = ap (λ s. length (leaf_pairs s)) at.1 in
+      let ys = pairs_of slots (y ∷ mid) ++ take to (leaf_pairs (slots.leaf back.0)) in
+      let more = span_over y mid back rest 0 to (Some x) q linked.2 all.1 (omega arith) g in (
+        at.0,
+        after.0,
+        ap leaf_of at.1,
+        sym (ap leaf_next at.1) ∙ linked.1,
+        ap leaf_of after.1,
+        sym (ap leaf_prev after.1) ∙ prev,
+        omega (arith, h, long),
+        at.2,
+        ys,
+        ap (λ s. drop from (leaf_pairs s) ++ ys) at.1,
+        subst (IsSpan (leaves_of slots) y 0 (mid ++ back ∷ []) back to) (sym (append_assoc (leaf_pairs (slots.leaf y.0)) (pairs_of slots mid) (take to (leaf_pairs (slots.leaf back.0))))) more,
+      )
+
+module _ {K V A : Type 0} {cmp : K → K → Ordering} (is_summary : A → List K → Type 0) (slots : Slots (Inner K A) (Leaf K V)) (h : ℕ) (root : NodeId) (shape : IsWellShaped cmp is_summary slots h root) where
+  abbrev size : LeafNodeId → ℕ
+  size leaf = length (leaf_pairs (slots.leaf leaf.0))
+
+  -- a part that begins and ends in one leaf
+  one_leaf : (p : Part) (xs : List (K × V)) (is : IsPart slots h root p xs) → p.front ≡ p.back → IsSpan (leaves_of slots) p.front p.from [] p.back p.to xs
+  one_leaf p xs is same =
+      let at = present_slot (slots.leaf p.front.0) is.front.stands.present in
+      let e : start slots h root p.front ≡ start slots h root p.back = ap (start slots h root) same in
+      let s : size p.back ≡ size p.front = ap size (sym same) in
+      let long : size p.front ≡ length at.0.pairs = ap (λ s. length (leaf_pairs s)) at.1 in
+      let in' = is.front.stands in
+      let i : start slots h root p.front ≡ length (pairs_of slots in'.before) = start_is is_summary slots h root shape p.front in' in
+      let xs_is : xs ≡ drop p.from (take p.to (leaf_pairs (slots.leaf p.front.0))) =
+      is.pairs ∙ (ap (λ l. part l (start slots h root p.front + p.from) p.len) (parts_of slots h root p.front in')
+      ∙ (ap (λ n. part (pairs_of slots in'.before ++ (leaf_pairs (slots.leaf p.front.0) ++ pairs_of slots in'.after)) (n + p.from) p.len) i
+      ∙ one_piece (pairs_of slots in'.before) (leaf_pairs (slots.leaf p.front.0)) (pairs_of slots in'.after) p.from p.to p.len (omega (arith, is.apart, e)) (omega (arith, is.back.within, s)) (omega (arith, is.apart, e)))) in
+      (at.0, ap leaf_of at.1, sym same, omega (arith, is.apart, e), omega (arith, is.back.within, s, long), xs_is ∙ ap (λ s. drop p.from (take p.to (leaf_pairs s))) at.1)
+    where
+      present_slot : (s : Slot (Leaf K V)) → IsPresent s → (leaf : Leaf K V) × (s ≡ Present leaf)
+      present_slot Free h = absurd h
+      present_slot Held h = absurd h
+      present_slot (Present leaf) h = (leaf, refl)
+
+  -- one that goes over the ends of leaves
+  more_leaves : (p : Part) (xs : List (K × V)) (is : IsPart slots h root p xs) (mid : List LeafNodeId) → is.front.stands.after ≡ mid ++ p.back ∷ is.back.stands.after → is.back.stands.before ≡ is.front.stands.before ++ p.front ∷ mid
+      → IsSpan (leaves_of slots) p.front p.from (mid ++ p.back ∷ []) p.back p.to xs
+  more_leaves p xs is mid e f =
+      let in' = is.front.stands in
+      let out = is.back.stands in
+      let here = leaf_pairs (slots.leaf p.front.0) in
+      let last = leaf_pairs (slots.leaf p.back.0) in
+      let linked = linked_tail slots None in'.before (p.front ∷ in'.after) None (subst (λ ids. AreLinked slots None ids None) in'.leaves shape.linked) in
+      let some = (others_have slots cmp h root p.front in' shape.tree).1 in
+      let some' = AllByRecursion-right (HasPair slots) in'.before (p.front ∷ mid) (subst (AllByRecursion (HasPair slots)) f (others_have slots cmp h root p.back out shape.tree).0) in
+      let ids = ap (λ l. p.front ∷ l) e in
+      let span = span_over slots p.front mid p.back out.after p.from p.to linked.0 None (subst (λ l. AreLinked slots linked.0 l None) ids linked.1) (some'.0, subst (AllByRecursion (HasPair slots)) e some) is.front.within is.back.within in
+      let i : start slots h root p.front ≡ length (pairs_of slots in'.before) = start_is is_summary slots h root shape p.front in' in
+      let j : start slots h root p.back ≡ length (pairs_of slots in'.before) + (length here + length (pairs_of slots mid)) =
+      start_is is_summary slots h root shape p.back out ∙ (ap (λ l. length (pairs_of slots l)) f ∙ (ap length (flat-append (λ (l : LeafNodeId). leaf_pairs (slots.leaf l.0)) in'.before (p.front ∷ mid))
+      ∙ omega (arith, length-append (pairs_of slots in'.before) (pairs_of slots (p.front ∷ mid)), length-append here (pairs_of slots mid)))) in
+      let all : pairs_at slots h root ≡ pairs_of slots in'.before ++ (here ++ (pairs_of slots mid ++ (last ++ pairs_of slots out.after))) =
+      parts_of slots h root p.front in' ∙ ap (λ l. pairs_of slots in'.before ++ (here ++ l)) (ap (pairs_of slots) e ∙ flat-append (λ (l : LeafNodeId). leaf_pairs (slots.leaf l.0)) mid (p.back ∷ out.after)) in
+      let xs_is : xs ≡ drop p.from here ++ (pairs_of slots mid ++ take p.to last) =
+      is.pairs ∙ (ap (λ l. part l (start slots h root p.front + p.from) p.len) all
+      ∙ (ap (λ n. part (pairs_of slots in'.before ++ (here ++ (pairs_of slots mid ++ (last ++ pairs_of slots out.after)))) (n + p.from) p.len) i
+      ∙ more_pieces (pairs_of slots in'.before) here (pairs_of slots mid) last (pairs_of slots out.after) p.from p.to p.len is.front.within is.back.within (omega (arith, is.apart, i, j)))) in
+      subst (IsSpan (leaves_of slots) p.front p.from (mid ++ p.back ∷ []) p.back p.to) (sym xs_is) span
+
+  part_long : (p : Part) (xs : List (K × V)) (is : IsPart slots h root p xs) → p.len ≡ length xs
+  part_long p xs is =
+      let all = reached is_summary slots h root shape p.back is.back.stands in
+      let l = length-drop (start slots h root p.front + p.from) (pairs_at slots h root) in
+      sym (ap length is.pairs ∙ length-take-le p.len (drop (start slots h root p.front + p.from) (pairs_at slots h root)) (omega (arith, l, all, is.apart, is.back.within)))
+
+  -- what an iterator over the part asks, and shows
+  pub part_between_places : (p : Part) (xs : List (K × V)) → IsPart slots h root p xs → IsBetween (leaves_of slots) p.front p.from p.back p.to p.len × (pairs_left (leaves_of slots) p.front p.from p.len ≡ xs)
+  part_between_places p xs is =
+      let long = part_long p xs is in
+      let so : (ids : List LeafNodeId) → IsSpan (leaves_of slots) p.front p.from ids p.back p.to xs → IsBetween (leaves_of slots) p.front p.from p.back p.to p.len × (pairs_left (leaves_of slots) p.front p.from p.len ≡ xs) =
+      (λ ids span. (IsBetween-span (leaves_of slots) p.front p.from ids p.back p.to xs p.len span long, pairs_left-span (leaves_of slots) p.front p.from ids p.back p.to xs p.len span long)) in
+      elim (sides p.front p.back is.front.stands.before is.front.stands.after is.back.stands.before is.back.stands.after (sym is.front.stands.leaves ∙ is.back.stands.leaves)) [
+        | inl same ↦ so [] (one_leaf p xs is same.1)
+        | inr rest ↦ (elim rest [
+          | inl first ↦ so (first.0 ++ p.back ∷ []) (more_leaves p xs is first.0 first.2 first.1)
+          | inr last ↦
+              (let before = comes_before is_summary slots h root shape p.back p.front is.back.stands is.front.stands last.0 last.1 last.2 in
+              so [] (one_leaf p xs is (sym (is.none (omega (arith, before.from, is.apart, is.back.within))).0)))
+        ])
+      ]
+
+-- a part of an ascending list ascends
+pub part_ascends : {K V : Type 0} {cmp : K → K → Ordering} (total : IsTotalOrder cmp) (l : List (K × V)) (i n : ℕ) → IsAscending cmp l → IsAscending cmp (part l i n)
+part_ascends {cmp = cmp} total l i n ascending =
+    let rest = ascending_after total (take i l) (drop i l) (subst (IsAscending cmp) (sym (take-append-drop i l)) ascending) in
+    ascending_before cmp (take n (drop i l)) (drop n (drop i l)) (subst (IsAscending cmp) (sym (take-append-drop n (drop i l))) rest)
