@@ -1,5 +1,5 @@
 //! Callers of sets, of their iterators and of unions.
-ghost use Rattle.std.specs.Prelude.{◌≡◌, ◌+◌, ◌∷◌, [], List, ◌||◌, ◌&&◌, length, map, max, not, true, false, slice_get, IfOk, IsOk, IsTrue, Err, Ok, Some, None};
+ghost use Rattle.std.specs.Prelude.{◌≡◌, ◌+◌, ◌∷◌, ◌≤◌, [], List, ◌||◌, ◌&&◌, length, map, max, not, true, false, slice_get, IfOk, IsOk, IsTrue, Err, Ok, Some, None};
 ghost use Rattle.std.specs.List.{find};
 ghost use Rattle.std.specs.Map.Iter.{TakesFirst, deref};
 ghost use Rattle.std.specs.Option.{option_copied, option_or};
@@ -187,4 +187,12 @@ fn clones_a_union<'a, K: Key>(keys: &Union<'a, K>) -> Union<'a, K>
         Ok(copy) => copy,
         Err(_) => unreachable!(),
     }
+}
+
+// To tell whether a set holds a key, at most seven keys are compared on each of sixteen levels, and two of the remembered leaf.
+fn counts_a_search<K: Key>(set: &BPlusTreeSet<K>, k: &K) -> (bool, usize)
+    ensures value { result.0 ≡ holds K.cmp set.now k.now }
+    ensures most { result.1 ≤ 114 }
+{
+    set.contains_counted(k)
 }
