@@ -13,7 +13,7 @@ use bptree_keys::node_id::{LeafNodeId, NodeId};
 use bptree_stores::node_stores::NodeStore;
 
 /// The leaf that a key belongs to, in the tree of a height under a number.
-#[inline]
+#[inline(always)]
 pub fn find_leaf<S: NodeStore>(store: &S, id: NodeId, height: usize, key: &S::K) -> LeafNodeId
     requires { Stands S.K.cmp (S.slots store.now) height id }
     ensures { IsLeafFor S.K.cmp (S.slots store.now) height id key.now result }
@@ -22,7 +22,7 @@ pub fn find_leaf<S: NodeStore>(store: &S, id: NodeId, height: usize, key: &S::K)
 }
 
 /// The same as `find_leaf`, with its comparisons counted.
-#[inline]
+#[inline(always)]
 pub fn find_leaf_counted<S: NodeStore>(
     store: &S,
     id: NodeId,

@@ -13,7 +13,7 @@ use bptree_stores::node_stores::NodeStore;
 /// The leaf that a key belongs to: the remembered one where it is that, else it is searched for from the root.
 ///
 /// The leaf is then remembered.
-#[inline]
+#[inline(always)]
 pub fn leaf_for<S: NodeStore>(store: &S, root: NodeId, height: usize, key: &S::K) -> LeafNodeId
     requires { IsWellShaped S.K.cmp S.Argument.is_summary (S.slots store.now) height root }
     ensures { IsLeafFor S.K.cmp (S.slots store.now) height root key.now result }
@@ -22,7 +22,7 @@ pub fn leaf_for<S: NodeStore>(store: &S, root: NodeId, height: usize, key: &S::K
 }
 
 /// The same as `leaf_for`, with its comparisons counted.
-#[inline]
+#[inline(always)]
 pub fn leaf_for_counted<S: NodeStore>(
     store: &S,
     root: NodeId,
@@ -44,7 +44,7 @@ pub fn leaf_for_counted<S: NodeStore>(
 }
 
 /// The value at a key.
-#[inline]
+#[inline(always)]
 pub fn get<'a, S: NodeStore>(
     store: &'a S,
     root: NodeId,
@@ -58,7 +58,7 @@ pub fn get<'a, S: NodeStore>(
 }
 
 /// The same as `get`, with its comparisons counted.
-#[inline]
+#[inline(always)]
 pub fn get_counted<'a, S: NodeStore>(
     store: &'a S,
     root: NodeId,

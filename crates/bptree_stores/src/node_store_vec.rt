@@ -200,6 +200,7 @@ impl<K: Key, V: Drop, A: Argument<K>> NodeStore for NodeStoreVec<K, V, A> {
         }
     }
 
+    #[inline(always)]
     fn try_cache_counted(&self, k: &K, compares: &mut Compares) -> Option<LeafNodeId> {
         let id = LeafNodeId::from_usize(self.cached_leaf.get());
         if self.try_get_leaf(id)?.in_range_counted(k, compares) {
