@@ -1,6 +1,6 @@
 // Loaded ahead of the C library (LD_PRELOAD): refuses the one request for memory whose number, from 1, is REFUSE_AT, and
 // keeps how many requests there were, as one machine word, in the file that REFUSE_COUNT names. Requests are counted from
-// the program's first write on.
+// the program's first write up to its second.
 typedef unsigned long word;
 
 char *getenv(const char *);
@@ -15,7 +15,7 @@ void *__libc_calloc(word, word);
 void *__libc_realloc(void *, word);
 void *__libc_memalign(word, word);
 
-static int has_begun;
+static int writes;
 static word refused_at;
 static word own_count;
 static word *count = &own_count;
@@ -33,10 +33,10 @@ __attribute__((constructor)) static void begin(void) {
     *count = 0;
 }
 
-static int is_refused(void) { return has_begun && ++*count == refused_at; }
+static int is_refused(void) { return writes == 1 && ++*count == refused_at; }
 
 long write(int file, const void *from, word size) {
-    has_begun = 1;
+    if (writes < 2) writes++;
     return __write(file, from, size);
 }
 

@@ -34,7 +34,7 @@ between Greater h k = absurd (true≢false k)
 
 module _ {G : Type 0} {R : G → G → Ordering} (o : IsTotalOrder R) where
   -- what is not above another is before the border where that one is
-  before_below : (g : G) (end : Bool) (x y : G) → is_gt (R x y) ≡ false → is_before end (R y g) ≡ true → is_before end (R x g) ≡ true
+  pub before_below : (g : G) (end : Bool) (x y : G) → is_gt (R x y) ≡ false → is_before end (R y g) ≡ true → is_before end (R x g) ≡ true
   before_below g true x y h e = not_from_false (is_gt (R x g)) (upto o x y g h (not-true (is_gt (R y g)) e))
   before_below g false x y h e = ap is_lt (le_less o x y g h (less_from (R y g) e))
 

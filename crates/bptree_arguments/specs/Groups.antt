@@ -70,3 +70,7 @@ module _ {K G : Type 0} (cmp : G → G → Ordering) (group_of : K → G) where
   -- the keys whose group equals g
   abbrev pub group : G → List K → List K
   group g keys = filter (λ k. is_eq (cmp (group_of k) g)) keys
+
+  -- the pairs whose key's group equals g
+  abbrev pub of_group : {V : Type 0} → G → List (K × V) → List (K × V)
+  of_group g pairs = filter (λ pair. is_eq (cmp (group_of pair.0) g)) pairs

@@ -4,6 +4,6 @@
 pub mod argument;
 pub mod count;
 pub mod group;
-mod group_order;
+pub mod group_order;
 pub mod group_size;
 pub mod visit;

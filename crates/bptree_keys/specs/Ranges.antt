@@ -1,5 +1,5 @@
 -- Parts of the contents: between two keys, and of so many pairs from a place on.
-use Rattle.std.specs.Prelude.{ℕ, Bool, true, false, not, Option, Some, None, List, filter, take, drop}
+use Rattle.std.specs.Prelude.{ℕ, Bool, true, false, not, Option, Some, None, List, [], filter, take, drop}
 use Rattle.std.specs.Prelude.{◌&&◌}
 use Rattle.std.specs.declared.cmp.Ordering.{Ordering}
 use Rattle.std.specs.Ordering.{is_lt}
@@ -22,3 +22,8 @@ module _ {K : Type 0} (cmp : K → K → Ordering) where
 -- the first n members, or all where there are fewer, of the list without its first i members
 abbrev pub part : {X : Type 0} → List X → ℕ → ℕ → List X
 part l i n = take n (drop i l)
+
+-- the same from an optional place on, and nothing where there is none
+abbrev pub part_at : {X : Type 0} → List X → Option ℕ → ℕ → List X
+part_at l None n = []
+part_at l (Some i) n = part l i n

@@ -14,7 +14,8 @@ use Rattle.bptree_keys.specs.Contents.{has, put, del, gather, pairs_below, pairs
 use Rattle.bptree_keys.proofs.Equal.{has_where_value}
 use Rattle.bptree_keys.proofs.Laws.{put_ascending, gather_ascending}
 use Rattle.bptree_keys.proofs.Updates.{del_ascending, has_put, has_del, length_put, length_del}
-use Rattle.bptree_maps.specs.Keys.{holds, with_key, without_key, gathered}
+use Rattle.bptree_keys.specs.Ranges.{between, falls_short, stays_below}
+use Rattle.bptree_maps.specs.Keys.{holds, with_key, without_key, gathered, keys_between}
 
 module _ {K V : Type 0} where
   -- keys of two lists, one behind the other
@@ -50,6 +51,9 @@ module _ {K V : Type 0} (cmp : K → K → Ordering) where
 
   pub keys_del : (l : List (K × V)) (k : K) → keys_of (del cmp l k) ≡ without_key cmp (keys_of l) k
   keys_del l k = keys_filter (λ key. not (is_eq (cmp key k))) l
+
+  pub keys_between-is : (l : List (K × V)) (lo hi : Option K) → keys_of (between cmp l lo hi) ≡ keys_between cmp (keys_of l) lo hi
+  keys_between-is l lo hi = keys_filter (λ key. not (falls_short cmp lo key) && stays_below cmp hi key) l
 
   keys_gather-at : (b c : Bool) → b ≡ c → (l : List (K × V)) (keys : List K) (k : K) (v : V) → keys_of l ≡ keys → keys_of (cond b l (put cmp l k v)) ≡ cond c keys (with_key cmp keys k)
   keys_gather-at true true same l keys k v is = is

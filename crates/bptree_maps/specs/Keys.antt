@@ -1,8 +1,9 @@
 -- A set: one list of keys, by their order.
-use Rattle.std.specs.Prelude.{Bool, not, List, [], ◌∷◌, ◌++◌, if◌then◌else◌, filter}
+use Rattle.std.specs.Prelude.{Bool, not, ◌&&◌, List, [], ◌∷◌, ◌++◌, if◌then◌else◌, filter, Option}
 use Rattle.std.specs.declared.cmp.Ordering.{Ordering}
 use Rattle.std.specs.Ordering.{is_lt, is_eq, is_gt}
 use Rattle.std.specs.List.{list_any}
+use Rattle.bptree_keys.specs.Ranges.{falls_short, stays_below}
 
 module _ {K : Type 0} (cmp : K → K → Ordering) where
   -- some key equals k
@@ -21,3 +22,7 @@ module _ {K : Type 0} (cmp : K → K → Ordering) where
   abbrev pub gathered : List K → List K
   gathered [] = []
   gathered (k ∷ rest) = if holds rest k then gathered rest else with_key (gathered rest) k
+
+  -- the keys that are not below lo, where lo is given, and are below hi, where hi is given
+  abbrev pub keys_between : List K → Option K → Option K → List K
+  keys_between keys lo hi = filter (λ key. not (falls_short cmp lo key) && stays_below cmp hi key) keys

@@ -7,10 +7,12 @@ ghost use Rattle.std.specs.Iterator.Runs.{WholeRun};
 ghost use Rattle.std.specs.Iterator.SizeHint.{IsWithinCount};
 ghost use Rattle.std.specs.Map.Iter.{ShowsInOrder, TakesFirst, TakesLast, deref_pair};
 ghost use Rattle.std.specs.Option.{option_map, option_copied, option_copied_mut};
+ghost use Rattle.bptree_arguments.specs.Groups.{of_group};
 ghost use Rattle.bptree_arguments.specs.Visits.{answered, IsAllowedError};
 ghost use Rattle.bptree_insertion.specs.Lending.{written};
 ghost use Rattle.bptree_keys.specs.Contents.{IsAscending, has, value, put, del, gather};
-ghost use Rattle.bptree_shape.specs.ByArgument.{IsSelected, IsTaken};
+ghost use Rattle.bptree_keys.specs.Ranges.{between, part};
+ghost use Rattle.bptree_shape.specs.ByArgument.{IsPartSelected, IsSelected, IsTaken};
 ghost use Rattle.bptree_tree.specs.Refusal.{pair_of};
 ghost use Rattle.bptree_maps.specs.contracts.map.BPlusTreeMap.{the_row};
 ghost use Rattle.bptree_maps.specs.Rows.{inner_row};
@@ -18,6 +20,7 @@ ghost use Rattle.bptree_maps.specs.Writing.{WritesAt};
 
 use crate::gathering::gather_tree;
 use bptree_arguments::argument::{Argument, RankArgument, SearchArgument};
+use bptree_arguments::group::FromRef;
 use bptree_arguments::visit::{DescendError, DescendVisit};
 use bptree_keys::key::Key;
 use bptree_stores::node_store_vec::NodeStoreVec;
@@ -225,12 +228,83 @@ impl<K: Key, V: Drop, A: Argument<K>> BPlusTreeMap<K, V, A> {
         }
     }
 
+    /// The pairs whose key is not below `lo` and is below `hi`, where they are given, in the order of their keys. It takes no
+    /// memory, and neither do its steps.
+    ///
+    /// Each end that is given is searched for once, and the leaves between are stepped through, to tell how many pairs there are.
+    pub fn range<'b>(&self, lo: Option<&'b K>, hi: Option<&'b K>) -> Iter<'_, K, V, A>
+        ensures rest { result ≡ between K.cmp self.now (option_copied lo.entry) (option_copied hi.entry) }
+        ensures ascending { IsAscending K.cmp result }
+        ensures runs { ShowsInOrder (deref_pair {K = K} {X = V}) }
+    {
+        Iter {
+            inner: self.inner.range(lo, hi),
+        }
+    }
+
+    /// The first `n` pairs, or all where there are fewer, from a place on that is allowed for the query, in the order of
+    /// their keys; none where none is. It takes no memory but what the argument takes, and its steps take none.
+    ///
+    /// The query is asked once on each level, and the leaves of the part are stepped through, to tell how many pairs there
+    /// are.
+    pub fn range_by_argument(
+        &self,
+        query: <A as SearchArgument<K>>::Query,
+        n: usize,
+    ) -> Result<Iter<'_, K, V, A>, AllocError>
+    where
+        A: SearchArgument<K>,
+        ensures rest { IfOk result (λ pairs. IsPartSelected A.selects query self.now n pairs) }
+        ensures ascending { IfOk result (λ pairs. IsAscending K.cmp pairs) }
+        ensures runs { ShowsInOrder (deref_pair {K = K} {X = V}) }
+    {
+        Ok(Iter {
+            inner: self.inner.range_by_argument(query, n)?,
+        })
+    }
+
+    /// The pairs whose key's group equals the group, in the order of their keys. It takes no memory but what the groups of
+    /// keys take, and its steps take none.
+    ///
+    /// No summary is asked: the group is searched for by the groups of at most 7 keys or separators a node, once for its
+    /// beginning and once for its end. Then its leaves are stepped through, to tell how many pairs there are.
+    pub fn group_range<G: FromRef<K> + Key>(
+        &self,
+        group: &G,
+    ) -> Result<Iter<'_, K, V, A>, AllocError>
+        ensures rest { IfOk result (λ pairs. pairs ≡ of_group G.cmp G.group_of group.now self.now) }
+        ensures ascending { IfOk result (λ pairs. IsAscending K.cmp pairs) }
+        ensures runs { ShowsInOrder (deref_pair {K = K} {X = V}) }
+    {
+        Ok(Iter {
+            inner: self.inner.group_range(group)?,
+        })
+    }
+
+    /// The first `n` pairs of a group, or all where there are fewer, without its first `i`. What it takes is the same as of
+    /// `group_range`, and so is what it costs, with a step more for each leaf of the group up to the last of the pairs.
+    pub fn group_part<G: FromRef<K> + Key>(
+        &self,
+        group: &G,
+        i: usize,
+        n: usize,
+    ) -> Result<Iter<'_, K, V, A>, AllocError>
+        ensures rest { IfOk result (λ pairs. pairs ≡ part (of_group G.cmp G.group_of group.now self.now) i n) }
+        ensures ascending { IfOk result (λ pairs. IsAscending K.cmp pairs) }
+        ensures runs { ShowsInOrder (deref_pair {K = K} {X = V}) }
+    {
+        Ok(Iter {
+            inner: self.inner.group_part(group, i, n)?,
+        })
+    }
+
     /// The tree inside, whose contents are the map's.
     pub fn tree(&self) -> &BPlusTree<NodeStoreVec<K, V, A>>
         ensures { result.now.contents ≡ self.now }
     {
         &self.inner
     }
+
     /// The tree inside, for writing: once it is given back, the map has what the tree's contents are then.
     pub fn tree_mut(&mut self) -> &mut BPlusTree<NodeStoreVec<K, V, A>>
         ensures* writes_back { sem 𝓛 (Lends (the_row K.row V.row A.row K.Key.own K.Clone K.Ord.own K.Eq.own K.PartialEq K.PartialOrd.own A.Argument.own A.Clone A.Default) (inner_row K.row V.row A.row K.Key.own K.Clone K.Ord.own K.Eq.own K.PartialEq K.PartialOrd.own A.Argument.own A.Clone A.Default) self.entry result (λ tree. tree.contents)) }

@@ -5,7 +5,7 @@ ghost use Rattle.std.specs.List.Sorted.{IsStrictlySortedBy};
 ghost use Rattle.std.specs.Map.Iter.{ShowsInOrder, GivesInOrder, GivesInReverse, deref};
 ghost use Rattle.std.specs.Option.{option_copied};
 ghost use Rattle.bptree_tree.specs.Refusal.{pair_of};
-ghost use Rattle.bptree_maps.specs.Keys.{holds, with_key, without_key, gathered};
+ghost use Rattle.bptree_maps.specs.Keys.{holds, with_key, without_key, gathered, keys_between};
 
 mod iter;
 mod laws;
@@ -157,6 +157,18 @@ impl<K: Key> BPlusTreeSet<K> {
         ensures runs { ShowsInOrder (deref {X = K}) }
     {
         Iter::new(self.tree.iter())
+    }
+
+    /// The keys that are not below `lo` and are below `hi`, where they are given, in their order. It takes no memory, and
+    /// neither do its steps.
+    ///
+    /// Each end that is given is searched for once, and the leaves between are stepped through, to tell how many keys there are.
+    pub fn range<'b>(&self, lo: Option<&'b K>, hi: Option<&'b K>) -> Iter<'_, K>
+        ensures rest { result ≡ keys_between K.cmp self.now (option_copied lo.entry) (option_copied hi.entry) }
+        ensures ascending { IsStrictlySortedBy K.cmp result }
+        ensures runs { ShowsInOrder (deref {X = K}) }
+    {
+        Iter::new(self.tree.range(lo, hi))
     }
 
     /// The keys in their order, each handed over. It takes no memory, and neither do its steps.

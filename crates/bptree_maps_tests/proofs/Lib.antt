@@ -1,1 +1,2 @@
 pub mod GatherLemmas
+pub mod PartLemmas

@@ -3,7 +3,8 @@ use bptree_arguments::argument::{RankArgument, SearchArgument};
 use bptree_arguments::group::{GroupCount, Tuple2};
 use bptree_arguments::group_size::ExtractGroupSize;
 use bptree_arguments::visit::DescendVisit;
-use bptree_maps::map::BPlusTreeMap;
+use bptree_maps::map::{BPlusTreeMap, Iter};
+use bptree_pages::page::group_page;
 use std::alloc::{AllocError, Global};
 use std::test::Fail;
 
@@ -84,6 +85,45 @@ fn has_no_place<A: Grouping>(map: &BPlusTreeMap<Pair, u64, A>, group: u64, place
     matches!(map.get_by_argument((Tuple2(group), place)), Ok(None))
 }
 
+// Whether there are so many pairs of a group, whose keys and values count from a number on.
+fn count_from<A: Grouping>(
+    mut pairs: Iter<'_, Pair, u64, A>,
+    group: u64,
+    first: u64,
+    len: usize,
+) -> bool {
+    let mut all = pairs.len() == len;
+    let mut rest = first;
+    for _ in 0..len {
+        all = all
+            && match pairs.next() {
+                Some((key, value)) => *key == (group, rest) && *value == rest,
+                None => false,
+            };
+        rest = rest.wrapping_add(1);
+    }
+    all && pairs.next().is_none() && pairs.next_back().is_none()
+}
+
+fn has_pairs<A: Grouping>(
+    map: &BPlusTreeMap<Pair, u64, A>,
+    group: u64,
+    len: usize,
+) -> Result<bool, AllocError> {
+    Ok(count_from(map.group_range(&Tuple2(group))?, group, 0, len))
+}
+
+// Whether a page of twenty pairs of a group begins with a number, and has so many pairs.
+fn has_page<A: Grouping>(
+    map: &BPlusTreeMap<Pair, u64, A>,
+    group: u64,
+    p: usize,
+    first: u64,
+    len: usize,
+) -> Result<bool, AllocError> {
+    Ok(count_from(group_page(map, &Tuple2(group), p, 20)?, group, first, len))
+}
+
 // Whether a key is there, or not, and its group has so many smaller keys.
 fn has_rank<A: Grouping>(
     map: &BPlusTreeMap<Pair, u64, A>,
@@ -135,7 +175,17 @@ fn are_sized<A: Grouping, W: DescendVisit<Pair, u64, A, Result = usize>>(
         all = all && has_place(&map, group, place, wanted);
     }
     for (group, size) in [(0, 500), (1, 500), (2, 50), (7, 0)] {
-        all = all && has_no_place(&map, group, size);
+        all = all && has_no_place(&map, group, size) && has_pairs(&map, group, size)?;
+    }
+    for (group, p, first, len) in [
+        (0, 24, 480, 20),
+        (2, 0, 0, 20),
+        (2, 2, 40, 10),
+        (2, 3, 60, 0),
+        (2, usize::MAX, 0, 0),
+        (7, 0, 0, 0),
+    ] {
+        all = all && has_page(&map, group, p, first, len)?;
     }
     Ok(all && has_rank(&map, (1, 250), true, 250))
 }

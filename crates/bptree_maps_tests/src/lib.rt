@@ -8,4 +8,6 @@ mod group_tests;
 #[cfg(test)]
 mod map_tests;
 #[cfg(test)]
+mod page_tests;
+#[cfg(test)]
 mod set_tests;

@@ -1,7 +1,7 @@
 //! Maps of numbers: places and ranks, and what is collected.
 use bptree_arguments::count::Count;
 use bptree_arguments::visit::DescendError;
-use bptree_maps::map::BPlusTreeMap;
+use bptree_maps::map::{BPlusTreeMap, Iter};
 use bptree_tree::SelectError;
 use bptree_visits_tests::probe::Probe;
 use bptree_visits_tests::visitors::{GetTreeDepth, Says};
@@ -124,11 +124,57 @@ fn asks_each_level_once(alloc: Global) -> Result<bool, AllocError> {
     Ok(matches!(map.get_by_argument(0)?, Some((2, 20))) && map.rank_by_argument(&9_999)? == Ok(2))
 }
 
+type Pairs<'a> = Iter<'a, u64, u64, Count>;
+
+fn first(pairs: &mut Pairs<'_>) -> Option<u64> {
+    let (key, _) = pairs.next()?;
+    Some(*key)
+}
+
+fn last(pairs: &mut Pairs<'_>) -> Option<u64> {
+    let (key, _) = pairs.next_back()?;
+    Some(*key)
+}
+
+fn is_over(pairs: &mut Pairs<'_>) -> bool {
+    first(pairs).is_none() && last(pairs).is_none() && (*pairs).len() == 0
+}
+
+// How many pairs there are, when the front and the back have given three.
+fn from_both_ends(map: &Counted) -> bool {
+    let mut pairs = map.range(Some(&10), Some(&13));
+    pairs.len() == 3
+        && first(&mut pairs) == Some(10)
+        && last(&mut pairs) == Some(12)
+        && first(&mut pairs) == Some(11)
+        && is_over(&mut pairs)
+}
+
+fn are_two(pairs: &mut Pairs<'_>, one: u64, other: u64) -> bool {
+    first(pairs) == Some(one) && first(pairs) == Some(other) && is_over(pairs)
+}
+
+fn gives_parts_of_a_hundred(alloc: Global) -> Result<bool, AllocError> {
+    let map = collect(alloc, 100, 1)?;
+    Ok(
+        from_both_ends(&map)
+            && are_two(&mut map.range(None, Some(&2)), 0, 1)
+            && are_two(&mut map.range(Some(&98), None), 98, 99)
+            && is_over(&mut map.range(Some(&5), Some(&5)))
+            && is_over(&mut map.range(Some(&7), Some(&3)))
+            && map.range(None, None).len() == 100
+            && are_two(&mut map.range_by_argument(98, 5)?, 98, 99)
+            && is_over(&mut map.range_by_argument(100, 5)?)
+            && is_over(&mut map.range_by_argument(0, 0)?),
+    )
+}
+
 #[test]
 fn collected_pairs_are_held(rt: HostRuntime) -> Result<(), Fail> {
     assert!(rt; removes_the_last_of_many(rt.alloc())?);
     assert!(rt; goes_down_ten_thousand(rt.alloc())?);
     assert!(rt; keeps_the_last_of_each_key(rt.alloc())?);
     assert!(rt; asks_each_level_once(rt.alloc())?);
+    assert!(rt; gives_parts_of_a_hundred(rt.alloc())?);
     Ok(())
 }

@@ -19,6 +19,23 @@ fn joins_two_sets(alloc: Global) -> Result<bool, AllocError> {
     )
 }
 
+// The keys between two, from both ends, and those up to a key and from one on.
+fn gives_parts(alloc: Global) -> Result<bool, AllocError> {
+    let set: BPlusTreeSet<u64> = BPlusTreeSet::from_iter(alloc, 0..100u64)?;
+    let mut keys = set.range(Some(&10), Some(&13));
+    let ends = keys.len() == 3
+        && keys.next() == Some(&10)
+        && keys.next_back() == Some(&12)
+        && keys.next() == Some(&11)
+        && keys.next().is_none();
+    Ok(
+        ends && set.range(None, Some(&2)).len() == 2
+            && set.range(Some(&98), None).next_back() == Some(&99)
+            && set.range(Some(&7), Some(&3)).len() == 0
+            && set.range(None, None).len() == 100,
+    )
+}
+
 // Words are put in, asked for, given from both ends and taken out.
 fn keeps_words(alloc: Global) -> Result<bool, AllocError> {
     let hello = String::from_str(alloc, "hello")?;
@@ -55,6 +72,7 @@ fn keeps_words(alloc: Global) -> Result<bool, AllocError> {
 
 #[test]
 fn sets_of_numbers_and_of_words(rt: HostRuntime) -> Result<(), Fail> {
-    assert!(rt; joins_two_sets(rt.alloc())? && keeps_words(rt.alloc())?);
+    assert!(rt; joins_two_sets(rt.alloc())? && gives_parts(rt.alloc())?);
+    assert!(rt; keeps_words(rt.alloc())?);
     Ok(())
 }

@@ -37,12 +37,39 @@ impl Told for u64 {
     }
 }
 
+impl Told for usize {
+    fn tell(&self, digest: &mut Digest) {
+        digest.add(*self as u64);
+    }
+}
+
+impl Told for () {
+    fn tell(&self, _digest: &mut Digest) {}
+}
+
+impl<T: Told> Told for Option<T> {
+    fn tell(&self, digest: &mut Digest) {
+        match self {
+            Some(told) => {
+                digest.add(1);
+                told.tell(digest);
+            }
+            None => digest.add(0),
+        }
+    }
+}
+
+/// The bytes of a text and its end.
+pub fn tell_text(text: &str, digest: &mut Digest) {
+    for byte in text.as_bytes() {
+        digest.add(*byte as u64);
+    }
+    digest.add(256);
+}
+
 impl Told for String {
     fn tell(&self, digest: &mut Digest) {
-        for byte in self.as_bytes() {
-            digest.add(*byte as u64);
-        }
-        digest.add(256);
+        tell_text(self.as_str(), digest);
     }
 }
 
@@ -110,7 +137,7 @@ fn tell_link(link: Option<LeafNodeId>, digest: &mut Digest) {
     }
 }
 
-fn tell_inner<K: Told + Drop, A: Told + Drop>(node: &InnerNode<K, A>, digest: &mut Digest) {
+pub fn tell_inner<K: Told + Drop, A: Told + Drop>(node: &InnerNode<K, A>, digest: &mut Digest) {
     digest.add(node.len() as u64);
     for key in node.keys() {
         key.tell(digest);
@@ -127,7 +154,7 @@ fn tell_inner<K: Told + Drop, A: Told + Drop>(node: &InnerNode<K, A>, digest: &m
     tell_number(node.child_id(node.len()), digest);
 }
 
-fn tell_leaf<K: Told + Ord + Drop, V: Told + Drop>(leaf: &LeafNode<K, V>, digest: &mut Digest) {
+pub fn tell_leaf<K: Told + Ord + Drop, V: Told + Drop>(leaf: &LeafNode<K, V>, digest: &mut Digest) {
     digest.add(leaf.len() as u64);
     for key in leaf.keys() {
         key.tell(digest);
@@ -142,8 +169,26 @@ fn tell_leaf<K: Told + Ord + Drop, V: Told + Drop>(leaf: &LeafNode<K, V>, digest
 /// The number of nodes of each kind that are looked for.
 const NUMBERS: usize = 160;
 
-/// A tree's length, height, root and summary, and its store's nodes under the first numbers: their keys, values, links,
-/// children and summaries.
+/// A store's nodes under the first numbers: their keys, values, links, children and summaries.
+pub fn tell_store<S: NodeStore>(store: &S, digest: &mut Digest)
+where
+    S::K: Told,
+    S::V: Told,
+    S::Argument: Told,
+{
+    for number in 0..NUMBERS {
+        if let Some(node) = store.try_get_inner(InnerNodeId::from_usize(number)) {
+            digest.add(number as u64);
+            tell_inner(node, digest);
+        }
+        if let Some(leaf) = store.try_get_leaf(LeafNodeId::from_usize(number)) {
+            digest.add(number as u64);
+            tell_leaf(leaf, digest);
+        }
+    }
+}
+
+/// A tree's length, height, root and summary, and its store's nodes.
 pub fn digest_of<S: NodeStore>(tree: &BPlusTree<S>) -> u64
 where
     S::K: Told,
@@ -155,16 +200,23 @@ where
     digest.add(tree.height() as u64);
     tell_number(tree.root_id(), &mut digest);
     tree.root_argument().tell(&mut digest);
-    let store = tree.node_store();
+    tell_store(tree.node_store(), &mut digest);
+    digest.value()
+}
+
+/// Whether a store holds no number without a node: with its nodes taken out it is empty.
+pub fn holds_none<S: NodeStore>(mut store: S) -> bool {
     for number in 0..NUMBERS {
-        if let Some(node) = store.try_get_inner(InnerNodeId::from_usize(number)) {
-            digest.add(number as u64);
-            tell_inner(node, &mut digest);
+        let id = InnerNodeId::from_usize(number);
+        if store.try_get_inner(id).is_some() {
+            store.take_inner(id);
+            store.release_inner(id);
         }
-        if let Some(leaf) = store.try_get_leaf(LeafNodeId::from_usize(number)) {
-            digest.add(number as u64);
-            tell_leaf(leaf, &mut digest);
+        let id = LeafNodeId::from_usize(number);
+        if store.try_get_leaf(id).is_some() {
+            store.take_leaf(id);
+            store.release_leaf(id);
         }
     }
-    digest.value()
+    store.is_empty()
 }

@@ -2,11 +2,12 @@
 
 use crate::digest::{Told, digest_of};
 use crate::trial::{Sample, Trial};
-use sweep_bptree::BPlusTree;
-use sweep_bptree::tree::NodeStore;
+use std::alloc::{AllocError, Global};
+use sweep_bptree::tree::group::{ExtractGroupSize, GroupCount, Tuple2};
+use sweep_bptree::tree::{Argument, BPlusTree, CloneStore, Cursor, DescendVisit, Key, NodeStore};
 
 /// A leaf of 64 pairs is split, which makes the root.
-pub fn full_leaf<S: NodeStore<V = u64>>(trial: &mut Trial, name: &str) -> Option<bool>
+pub fn full_leaf<S: CloneStore<V = u64>>(trial: &mut Trial, name: &str) -> Option<bool>
 where
     S::K: Sample,
     S::Argument: Told,
@@ -22,11 +23,11 @@ where
     well = well && tree.height() == 1 && tree.len() == 65;
     well = trial.insert(&mut tree, 5, 9)? == Some(5) && well;
     well = trial.remove(&mut tree, 99)? == None && well;
-    Some(well && tree.len() == 65)
+    Some(trial.is_tidy(&tree)? && well && tree.len() == 65)
 }
 
 /// 65 full leaves stand below a full root: the last leaf and the root are split.
-pub fn full_root<S: NodeStore<V = u64>>(trial: &mut Trial, name: &str) -> Option<bool>
+pub fn full_root<S: CloneStore<V = u64>>(trial: &mut Trial, name: &str) -> Option<bool>
 where
     S::K: Sample,
     S::Argument: Told,
@@ -35,12 +36,32 @@ where
     trial.begin(name)?;
     let mut well = tree.height() == 1 && tree.len() == 4160;
     well = trial.insert(&mut tree, 4160, 0)? == None && well;
-    Some(well && tree.height() == 2 && tree.len() == 4161)
+    Some(trial.is_tidy(&tree)? && well && tree.height() == 2 && tree.len() == 4161)
+}
+
+/// A tree of 4161 pairs has more put behind its last, till the last leaf is split, two levels below the root. Only what
+/// happens once it has 4191 pairs can be refused.
+pub fn upward<S: CloneStore<V = u64>>(trial: &mut Trial, name: &str) -> Option<bool>
+where
+    S::K: Sample,
+    S::Argument: Told,
+{
+    let mut tree = trial.load::<S>(4161)?;
+    for number in 4161..4191u64 {
+        let key: S::K = trial.key(number)?;
+        tree.insert(key, number).ok()?;
+    }
+    trial.begin(name)?;
+    let mut well = true;
+    for number in 4191..4196u64 {
+        well = trial.insert(&mut tree, number, number)? == None && well;
+    }
+    Some(trial.is_tidy(&tree)? && well && tree.height() == 2 && tree.len() == 4196)
 }
 
 /// A tree of 4161 pairs is loaded, and loses the last pair again and again, till its height falls from 2 to 1. Only what
 /// happens once it has so many pairs can be refused.
-pub fn downward<S: NodeStore<V = u64>>(trial: &mut Trial, name: &str, near: u64) -> Option<bool>
+pub fn downward<S: CloneStore<V = u64>>(trial: &mut Trial, name: &str, near: u64) -> Option<bool>
 where
     S::K: Sample,
     S::Argument: Told,
@@ -63,11 +84,11 @@ where
         }
     }
     let len = tree.len() as u64;
-    Some(well && tree.height() == 1 && 0 < len && len < near)
+    Some(trial.is_tidy(&tree)? && well && tree.height() == 1 && 0 < len && len < near)
 }
 
 /// So many pairs are loaded at once, and then removed one by one, from the last down.
-pub fn emptied<S: NodeStore<V = u64>>(trial: &mut Trial, name: &str, many: u64) -> Option<bool>
+pub fn emptied<S: CloneStore<V = u64>>(trial: &mut Trial, name: &str, many: u64) -> Option<bool>
 where
     S::K: Sample,
     S::Argument: Told,
@@ -81,7 +102,7 @@ where
     }
     let default = <S::Argument as Default>::default();
     well = well && told(tree.root_argument()) == told(&default);
-    Some(well && tree.is_empty() && tree.height() == 0)
+    Some(trial.is_tidy(&tree)? && well && tree.is_empty() && tree.height() == 0)
 }
 
 fn told<T: Told>(what: &T) -> u64 {
@@ -91,60 +112,18 @@ fn told<T: Told>(what: &T) -> u64 {
 }
 
 /// So many pairs are loaded at once.
-pub fn loaded<S: NodeStore<V = u64>>(trial: &mut Trial, name: &str, many: u64) -> Option<bool>
+pub fn loaded<S: CloneStore<V = u64>>(trial: &mut Trial, name: &str, many: u64) -> Option<bool>
 where
     S::K: Sample,
     S::Argument: Told,
 {
     trial.begin(name)?;
     let tree = trial.load::<S>(many)?;
-    Some(tree.len() as u64 == many)
-}
-
-/// The number of keys that are drawn from.
-const KEYS: usize = 400;
-
-// Each number is made of the one before by shifts.
-fn next_number(state: u64) -> u64 {
-    let mut next = state;
-    next ^= next << 13;
-    next ^= next >> 7;
-    next ^= next << 17;
-    next
-}
-
-/// A thousand insertions and removals of keys in no order: first two insertions to each removal, then the other way
-/// about. Each answers what a table of the values holds.
-pub fn mixed<S: NodeStore<V = u64>>(trial: &mut Trial, name: &str) -> Option<bool>
-where
-    S::K: Sample,
-    S::Argument: Told,
-{
-    trial.begin(name)?;
-    let mut tree = trial.none::<S>()?;
-    let mut table = [None; KEYS];
-    let mut state = 0x9e37_79b9_7f4a_7c15;
-    let mut well = true;
-    for turn in 0..1000u64 {
-        state = next_number(state);
-        let number = state % (KEYS as u64);
-        let is_rare = state / 1024 % 3 == 0;
-        let is_removal = if turn < 600 { is_rare } else { !is_rare };
-        let old = if is_removal {
-            trial.remove(&mut tree, number)?
-        } else {
-            trial.insert(&mut tree, number, turn)?
-        };
-        let place = number as usize;
-        well = well && old == table[place];
-        table[place] = if is_removal { None } else { Some(turn) };
-    }
-    let held = table.iter().filter(|value| value.is_some()).count();
-    Some(well && tree.len() == held)
+    Some(trial.is_tidy(&tree)? && tree.len() as u64 == many)
 }
 
 /// All pairs are removed at once.
-pub fn cleared<S: NodeStore<V = u64>>(trial: &mut Trial, name: &str) -> Option<bool>
+pub fn cleared<S: CloneStore<V = u64>>(trial: &mut Trial, name: &str) -> Option<bool>
 where
     S::K: Sample,
     S::Argument: Told,
@@ -159,24 +138,33 @@ where
         }
         tree.clear().ok()?;
     }
-    Some(tree.is_empty() && tree.height() == 0)
+    Some(trial.is_tidy(&tree)? && tree.is_empty() && tree.height() == 0)
 }
 
+// How many steps a cursor takes from the first key to the last, and back from there.
 fn steps<S: NodeStore>(tree: &BPlusTree<S>) -> Option<usize> {
-    let mut at = tree.cursor_first().ok()?;
     let mut count: usize = 0;
+    let mut cursor = tree.cursor_first().ok()??;
     for _turn in 0..tree.len() {
-        let Some(cursor) = at else {
+        let Some(next) = cursor.next(tree).ok()? else {
             break;
         };
         count = count.saturating_add(1);
-        at = cursor.next(tree).ok()?;
+        cursor = next;
+    }
+    let (mut cursor, _) = Cursor::last(tree).ok()??;
+    for _turn in 0..tree.len() {
+        let Some(previous) = cursor.prev(tree).ok()? else {
+            break;
+        };
+        count = count.saturating_add(1);
+        cursor = previous;
     }
     Some(count)
 }
 
-/// A cursor goes from the first key to the last.
-pub fn walked<S: NodeStore<V = u64>>(trial: &mut Trial, name: &str) -> Option<bool>
+/// Cursors go from the first key to the last, and back.
+pub fn walked<S: CloneStore<V = u64>>(trial: &mut Trial, name: &str) -> Option<bool>
 where
     S::K: Sample,
     S::Argument: Told,
@@ -191,5 +179,50 @@ where
             steps(&tree)?
         }
     };
-    Some(count == 200 && digest_of(&tree) == before)
+    Some(count == 398 && digest_of(&tree) == before)
+}
+
+/// A visitor that is made anew for each visit.
+pub trait Guest<K: Key, A: Argument<K>>: DescendVisit<K, u64, A, Result = usize> {
+    fn guest(alloc: Global) -> Result<Self, AllocError>;
+}
+
+/// One that counts the keys of a group that is not there, between the first group and the second.
+impl Guest<(String, u64), GroupCount<Tuple2<String>>>
+    for ExtractGroupSize<Tuple2<String>, (String, u64)> {
+    fn guest(alloc: Global) -> Result<Self, AllocError> {
+        Ok(ExtractGroupSize::new(Tuple2(String::from_str(alloc, "aa")?)))
+    }
+}
+
+fn visit_once<S: NodeStore<V = u64>, W: Guest<S::K, S::Argument>>(
+    alloc: Global,
+    tree: &BPlusTree<S>,
+) -> Result<Option<usize>, AllocError> {
+    match tree.descend_visit(W::guest(alloc)?) {
+        Ok(answer) => Ok(answer),
+        Err(_) => Err(AllocError),
+    }
+}
+
+/// A tree of 400 pairs is visited.
+pub fn visited<S: CloneStore<V = u64>, W: Guest<S::K, S::Argument>>(
+    trial: &mut Trial,
+    name: &str,
+) -> Option<bool>
+where
+    S::K: Sample,
+    S::Argument: Told,
+{
+    let tree = trial.load::<S>(400)?;
+    trial.begin(name)?;
+    let before = digest_of(&tree);
+    let answer = match visit_once::<S, W>(trial.allocator(), &tree) {
+        Ok(answer) => answer,
+        Err(_) => {
+            trial.count();
+            visit_once::<S, W>(trial.allocator(), &tree).ok()?
+        }
+    };
+    Some(answer == Some(0) && digest_of(&tree) == before)
 }

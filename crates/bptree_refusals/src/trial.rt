@@ -1,24 +1,42 @@
 //! Calls that are made again where they are refused.
 
-use crate::digest::{Digest, Told, digest_of};
+use crate::digest::{Digest, Told, digest_of, holds_none, tell_text};
 use std::alloc::{AllocError, Global};
-use sweep_bptree::tree::{BPlusTree, InsertError, Key, NodeStore, in_load_order};
+use sweep_bptree::tree::{BPlusTree, CloneStore, InsertError, Key, NodeStore, in_load_order};
 
 /// Keys for numbers, which ascend with them.
 pub trait Sample: Key + Told {
     fn sample(alloc: Global, number: u64) -> Result<Self, AllocError>;
+
+    /// What the key of a number tells, with none made.
+    fn tell_sample(number: u64, digest: &mut Digest);
 }
 
 impl Sample for u64 {
     fn sample(_alloc: Global, number: u64) -> Result<u64, AllocError> {
         Ok(number)
     }
+
+    fn tell_sample(number: u64, digest: &mut Digest) {
+        digest.add(number);
+    }
+}
+
+/// How many keys a group has; the last has all others.
+pub const GROUP: usize = 170;
+
+fn group_name(number: u64) -> &'static str {
+    GROUPS[(number / GROUP as u64).min(25) as usize]
 }
 
 /// The group of a number's key.
 pub fn group_of(alloc: Global, number: u64) -> Result<String, AllocError> {
-    let place = (number / 170).min(25) as usize;
-    String::from_str(alloc, GROUPS[place])
+    String::from_str(alloc, group_name(number))
+}
+
+/// What the group of a number's key tells.
+pub fn tell_group(number: u64, digest: &mut Digest) {
+    tell_text(group_name(number), digest);
 }
 
 const GROUPS: [&str; 26] = [
@@ -26,11 +44,20 @@ const GROUPS: [&str; 26] = [
     "t", "u", "v", "w", "x", "y", "z",
 ];
 
-/// 170 keys are of one group, but the last group has all others.
 impl Sample for (String, u64) {
     fn sample(alloc: Global, number: u64) -> Result<(String, u64), AllocError> {
         Ok((group_of(alloc, number)?, number))
     }
+
+    fn tell_sample(number: u64, digest: &mut Digest) {
+        tell_group(number, digest);
+        digest.add(number);
+    }
+}
+
+/// What is made of memory, and told.
+pub trait Made {
+    fn made(alloc: Global) -> Result<u64, AllocError>;
 }
 
 /// Counts the calls that were refused, and makes each once more. None stands for a call that was refused twice, or that
@@ -39,6 +66,7 @@ impl Sample for (String, u64) {
 pub struct Trial<'a> {
     rt: &'a HostRuntime,
     refused: u64,
+    has_ended: bool,
 }
 
 fn told_pair<K: Told>(key: &K, value: u64) -> u64 {
@@ -48,7 +76,10 @@ fn told_pair<K: Told>(key: &K, value: u64) -> u64 {
     digest.value()
 }
 
-fn load_once<S: NodeStore<V = u64>>(alloc: Global, many: u64) -> Result<BPlusTree<S>, AllocError>
+pub fn load_once<S: NodeStore<V = u64>>(
+    alloc: Global,
+    many: u64,
+) -> Result<BPlusTree<S>, AllocError>
 where
     S::K: Sample,
 {
@@ -64,13 +95,44 @@ where
 
 impl<'a> Trial<'a> {
     pub fn new(rt: &'a HostRuntime) -> Trial<'a> {
-        Trial { rt, refused: 0 }
+        Trial {
+            rt,
+            refused: 0,
+            has_ended: false,
+        }
     }
 
     /// Prints the name of a scenario. The first line that is written is the sign from which on requests are refused: so what
     /// a scenario makes ready before it is never refused.
     pub fn begin(&self, name: &str) -> Option<()> {
         print!(self.rt; "{name}").ok()
+    }
+
+    /// Prints a colon, once. The second line that is written is the sign from which on nothing is refused.
+    pub fn end(&mut self) -> Option<()> {
+        if self.has_ended {
+            return Some(());
+        }
+        self.has_ended = true;
+        print!(self.rt; ":").ok()
+    }
+
+    /// Whether the store of a tree holds no number that none of its nodes has. It ends the scenario, since it clones the
+    /// store.
+    pub fn is_tidy<S: CloneStore<V = u64>>(&mut self, tree: &BPlusTree<S>) -> Option<bool> {
+        self.end()?;
+        Some(holds_none(tree.node_store().clone().ok()?))
+    }
+
+    /// Something made, told.
+    pub fn make<M: Made>(&mut self) -> Option<u64> {
+        match M::made(self.allocator()) {
+            Ok(told) => Some(told),
+            Err(_) => {
+                self.count();
+                M::made(self.allocator()).ok()
+            }
+        }
     }
 
     pub fn refused(&self) -> u64 {

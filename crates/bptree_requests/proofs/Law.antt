@@ -11,10 +11,10 @@ use Rattle.std.specs.Str.{all_ascii_digits}
 use Rattle.std.specs.Str.Parse.{digits_value}
 use Rattle.bptree_requests.proofs.NumberLemmas.{digits_model}
 use Rattle.bptree_requests.specs.Number.{number_of}
-use Rattle.bptree_requests.specs.Request.{words, bare_request_from, key_request_from, request_from, request_of, line_of, FitsRequest}
+use Rattle.bptree_requests.specs.Request.{words, bare_request_from, key_request_from, pair_request_from, request_from, request_of, line_of, FitsRequest}
 use Rattle.bptree_requests.specs.declared.Request.{Request}
 use Rattle.bptree_requests.specs.declared.TheConstants.{LONGEST_LINE}
-use Rattle.bptree_requests.specs.declared.Request.TheVariants.{Put, Del, Get, Len, All as AllPairs, First, Last, At, Rank, Next, Prev, Back, Clear}
+use Rattle.bptree_requests.specs.declared.Request.TheVariants.{Put, Del, Get, Len, All as AllPairs, First, Last, At, Rank, Next, Prev, Back, Clear, Range, Page}
 
 -- a word that writes a number is its decimal text
 pub number_of-some : (word : List ℕ) (n : ℕ) → number_of word ≡ Some n → (word ≡ decimal n) × (n < 2 ^ 64)
@@ -98,12 +98,24 @@ request_of-line (Prev k) fits =
     ap request_from e ∙ rw (number_of-decimal k fits) refl
 request_of-line Back fits = refl
 request_of-line Clear fits = refl
+request_of-line (Range lo hi) fits =
+    let dl = digits_decimal digits_model lo fits.0 in
+    let dh = digits_decimal digits_model hi fits.1 in
+    let e : words (line_of (Range lo hi)) ≡ codes "range" ∷ decimal lo ∷ decimal hi ∷ [] =
+    ap (λ ws. codes "range" ∷ ws) (ap words (append_assoc (decimal lo) (32 ∷ []) (decimal hi)) ∙ words_digits (decimal lo) (decimal hi) dl ∙ ap (λ ws. decimal lo ∷ ws) (words_digits_end (decimal hi) dh)) in
+    ap request_from e ∙ rw (number_of-decimal lo fits.0, number_of-decimal hi fits.1) refl
+request_of-line (Page p s) fits =
+    let dp = digits_decimal digits_model p fits.0 in
+    let ds = digits_decimal digits_model s fits.1 in
+    let e : words (line_of (Page p s)) ≡ codes "page" ∷ decimal p ∷ decimal s ∷ [] =
+    ap (λ ws. codes "page" ∷ ws) (ap words (append_assoc (decimal p) (32 ∷ []) (decimal s)) ∙ words_digits (decimal p) (decimal s) dp ∙ ap (λ ws. decimal p ∷ ws) (words_digits_end (decimal s) ds)) in
+    ap request_from e ∙ rw (number_of-decimal p fits.0, number_of-decimal s fits.1) refl
 
-put-some : (o p : Option ℕ) (r : Request) → option_and_then (λ k. option_map (λ v. Put k v) p) o ≡ Some r
-    → (k : ℕ) × (v : ℕ) × (o ≡ Some k) × (p ≡ Some v) × (Put k v ≡ r)
-put-some None p r h = absurd (cc h)
-put-some (Some k) None r h = absurd (cc h)
-put-some (Some k) (Some v) r h = (k, v, refl, refl, cc h)
+pair-some : (make : ℕ → ℕ → Request) (o p : Option ℕ) (r : Request) → option_and_then (λ k. option_map (make k) p) o ≡ Some r
+    → (k : ℕ) × (v : ℕ) × (o ≡ Some k) × (p ≡ Some v) × (make k v ≡ r)
+pair-some make None p r h = absurd (cc h)
+pair-some make (Some k) None r h = absurd (cc h)
+pair-some make (Some k) (Some v) r h = (k, v, refl, refl, cc h)
 
 key-some : (make : ℕ → Request) (o : Option ℕ) (r : Request) → option_map make o ≡ Some r → (k : ℕ) × (o ≡ Some k) × (make k ≡ r)
 key-some make None r h = absurd (cc h)
@@ -122,10 +134,17 @@ key-line name text k make r same h writes fits =
     let P : Request → Type 0 = λ r. (name ++ 32 ∷ k ≡ line_of r) × FitsRequest r in
     subst P g.2 (same_line name text k (decimal g.0) ((bytes_eq-Decides name text).0 same) number.0 ∙ writes g.0, fits g.0 number.1)
 
-put-line : (name k v : List ℕ) (m n : ℕ) (r : Request) → name ≡ codes "put" → (k ≡ decimal m) × (m < 2 ^ 64) → (v ≡ decimal n) × (n < 2 ^ 64) → Put m n ≡ r
+-- a name and words for two numbers that make a request are the line that writes it
+pair-line : (name text k v : List ℕ) (make : ℕ → ℕ → Request) (r : Request) → bytes_eq name text ≡ true
+    → option_and_then (λ k. option_map (make k) (number_of v)) (number_of k) ≡ Some r
+    → ((m n : ℕ) → text ++ 32 ∷ (decimal m ++ 32 ∷ decimal n) ≡ line_of (make m n)) → ((m n : ℕ) → m < 2 ^ 64 → n < 2 ^ 64 → FitsRequest (make m n))
     → (name ++ 32 ∷ (k ++ 32 ∷ v) ≡ line_of r) × FitsRequest r
-put-line name k v m n r is key value e = let P : Request → Type 0 = λ r. (name ++ 32 ∷ (k ++ 32 ∷ v) ≡ line_of r) × FitsRequest r in
-    subst P e (rw (is, key.0, value.0) (ap (λ rest. codes "put " ++ rest) (sym (append_assoc (decimal m) (32 ∷ []) (decimal n)))), (key.1, value.1))
+pair-line name text k v make r same h writes fits =
+    let g = pair-some make (number_of k) (number_of v) r h in
+    let first = number_of-some k g.0 g.2 in
+    let second = number_of-some v g.1 g.3 in
+    let P : Request → Type 0 = λ r. (name ++ 32 ∷ (k ++ 32 ∷ v) ≡ line_of r) × FitsRequest r in
+    subst P g.4 (same_line name text (k ++ 32 ∷ v) (decimal g.0 ++ 32 ∷ decimal g.1) ((bytes_eq-Decides name text).0 same) (same_line k (decimal g.0) v (decimal g.1) first.0 second.0) ∙ writes g.0 g.1, fits g.0 g.1 first.1 second.1)
 
 -- a word alone that makes a request is the line that writes it
 word-line : (name text : List ℕ) (q r : Request) → bytes_eq name text ≡ true → text ≡ line_of q → FitsRequest q → Some q ≡ Some r → (name ≡ line_of r) × FitsRequest r
@@ -176,17 +195,24 @@ key_request_from-some name k r h = elim (cases_Bool (bytes_eq name (codes "get")
   ]
 ]
 
+pair_request_from-some : (name k v : List ℕ) (r : Request) → pair_request_from name (number_of k) (number_of v) ≡ Some r → (name ++ 32 ∷ (k ++ 32 ∷ v) ≡ line_of r) × FitsRequest r
+pair_request_from-some name k v r h = elim (cases_Bool (bytes_eq name (codes "put"))) [
+  | inl e ↦ pair-line name (codes "put") k v (λ m n. Put m n) r e (rw e at h) (λ m n. ap (λ rest. codes "put " ++ rest) (sym (append_assoc (decimal m) (32 ∷ []) (decimal n)))) (λ m n small small_too. (small, small_too))
+  | inr e ↦ elim (cases_Bool (bytes_eq name (codes "range"))) [
+    | inl f ↦ pair-line name (codes "range") k v (λ m n. Range m n) r f (rw (e, f) at h) (λ m n. ap (λ rest. codes "range " ++ rest) (sym (append_assoc (decimal m) (32 ∷ []) (decimal n)))) (λ m n small small_too. (small, small_too))
+    | inr f ↦ elim (cases_Bool (bytes_eq name (codes "page"))) [
+      | inl i ↦ pair-line name (codes "page") k v (λ m n. Page m n) r i (rw (e, f, i) at h) (λ m n. ap (λ rest. codes "page " ++ rest) (sym (append_assoc (decimal m) (32 ∷ []) (decimal n)))) (λ m n small small_too. (small, small_too))
+      | inr i ↦ absurd (cc (rw (e, f, i) at h))
+    ]
+  ]
+]
+
 -- words that make a request are those of the line that writes it
 request_from-some : (ws : List (List ℕ)) (r : Request) → request_from ws ≡ Some r → (join_with_byte 32 ws ≡ line_of r) × FitsRequest r
 request_from-some [] r h = absurd (cc h)
 request_from-some (name ∷ []) r h = bare_request_from-some name r h
 request_from-some (name ∷ k ∷ []) r h = key_request_from-some name k r h
-request_from-some (name ∷ k ∷ v ∷ []) r h = elim (cases_Bool (bytes_eq name (codes "put"))) [
-  | inl e ↦
-      let g = put-some (number_of k) (number_of v) r (rw e at h) in
-      put-line name k v g.0 g.1 r ((bytes_eq-Decides name (codes "put")).0 e) (number_of-some k g.0 g.2) (number_of-some v g.1 g.3) g.4
-  | inr e ↦ absurd (cc (rw e at h))
-]
+request_from-some (name ∷ k ∷ v ∷ []) r h = pair_request_from-some name k v r h
 request_from-some (name ∷ k ∷ v ∷ more ∷ rest) r h = absurd (cc h)
 
 -- a line that is read as a request is the line that writes it
@@ -214,6 +240,14 @@ length-line_of (Next k) fits = let a = length-decimal-le 20 k (omega arith) (ome
 length-line_of (Prev k) fits = let a = length-decimal-le 20 k (omega arith) (omega arith) fits in omega arith
 length-line_of Back fits = omega arith
 length-line_of Clear fits = omega arith
+length-line_of (Range lo hi) fits =
+    let a = length-decimal-le 20 lo (omega arith) (omega arith) fits.0 in
+    let b = length-decimal-le 20 hi (omega arith) (omega arith) fits.1 in
+    omega (arith, length-append (decimal lo ++ 32 ∷ []) (decimal hi), length-append (decimal lo) (32 ∷ []))
+length-line_of (Page p s) fits =
+    let a = length-decimal-le 20 p (omega arith) (omega arith) fits.0 in
+    let b = length-decimal-le 20 s (omega arith) (omega arith) fits.1 in
+    omega (arith, length-append (decimal p ++ 32 ∷ []) (decimal s), length-append (decimal p) (32 ∷ []))
 
 option_none : (o : Option Request) → ((r : Request) → o ≡ Some r → ⊥) → o ≡ None
 option_none None h = refl

@@ -3,7 +3,7 @@ use Rattle.std.specs.Prelude.{ℕ, ◌<◌, ◌^◌, List, [], ◌∷◌, ◌++�
 use Rattle.std.specs.List.{slice_split}
 use Rattle.bptree_requests.specs.Number.{number_of}
 use Rattle.bptree_requests.specs.declared.Request.{Request}
-use Rattle.bptree_requests.specs.declared.Request.TheVariants.{Put, Del, Get, Len, All, First, Last, At, Rank, Next, Prev, Back, Clear}
+use Rattle.bptree_requests.specs.declared.Request.TheVariants.{Put, Del, Get, Len, All, First, Last, At, Rank, Next, Prev, Back, Clear, Range, Page}
 
 -- the line that writes a request
 abbrev pub line_of : Request → List ℕ
@@ -20,6 +20,8 @@ line_of (Next k) = codes "next " ++ decimal k
 line_of (Prev k) = codes "prev " ++ decimal k
 line_of Back = codes "back"
 line_of Clear = codes "clear"
+line_of (Range lo hi) = codes "range " ++ decimal lo ++ codes " " ++ decimal hi
+line_of (Page p s) = codes "page " ++ decimal p ++ codes " " ++ decimal s
 
 -- its numbers fit 64 bits
 abbrev pub FitsRequest : Request → Type 0
@@ -36,6 +38,8 @@ FitsRequest (Next k) = k < 2 ^ 64
 FitsRequest (Prev k) = k < 2 ^ 64
 FitsRequest Back = Unit {0}
 FitsRequest Clear = Unit {0}
+FitsRequest (Range lo hi) = (lo < 2 ^ 64) × (hi < 2 ^ 64)
+FitsRequest (Page p s) = (p < 2 ^ 64) × (s < 2 ^ 64)
 
 -- the words of a line, with one space between two
 unfoldable pub words : List ℕ → List (List ℕ)
@@ -51,13 +55,17 @@ abbrev pub key_request_from : List ℕ → Option ℕ → Option Request
 key_request_from name key =
     if bytes_eq name (codes "get") then option_map (λ k. Get k) key else (if bytes_eq name (codes "at") then option_map (λ i. At i) key else (if bytes_eq name (codes "rank") then option_map (λ k. Rank k) key else (if bytes_eq name (codes "del") then option_map (λ k. Del k) key else (if bytes_eq name (codes "next") then option_map (λ k. Next k) key else (if bytes_eq name (codes "prev") then option_map (λ k. Prev k) key else None)))))
 
+-- the request that a command's name and two numbers make
+abbrev pub pair_request_from : List ℕ → Option ℕ → Option ℕ → Option Request
+pair_request_from name first second =
+    if bytes_eq name (codes "put") then option_and_then (λ k. option_map (λ v. Put k v) second) first else (if bytes_eq name (codes "range") then option_and_then (λ lo. option_map (λ hi. Range lo hi) second) first else (if bytes_eq name (codes "page") then option_and_then (λ p. option_map (λ s. Page p s) second) first else None))
+
 -- the request that a command's name and its words make
 abbrev pub request_from : List (List ℕ) → Option Request
 request_from [] = None
 request_from (name ∷ []) = bare_request_from name
 request_from (name ∷ k ∷ []) = key_request_from name (number_of k)
-request_from (name ∷ k ∷ v ∷ []) =
-    if bytes_eq name (codes "put") then option_and_then (λ k. option_map (λ v. Put k v) (number_of v)) (number_of k) else None
+request_from (name ∷ k ∷ v ∷ []) = pair_request_from name (number_of k) (number_of v)
 request_from (name ∷ k ∷ v ∷ more ∷ rest) = None
 
 -- the request that a line writes, or none

@@ -8,7 +8,7 @@ ghost use Rattle.bptree_requests.specs.Number.{number_of};
 ghost use Rattle.bptree_requests.specs.Request.{words, words_after, request_from, request_of};
 
 /// How many bytes the longest line has that is a request.
-pub const LONGEST_LINE: usize = 45;
+pub const LONGEST_LINE: usize = 47;
 
 /// What a line asks of a map.
 #[derive(Clone, Copy, Debug, PartialEq, Eq)]
@@ -39,6 +39,10 @@ pub enum Request {
     Back,
     /// `clear`: all pairs go.
     Clear,
+    /// `range a b`: the pairs with a key from a on, and below b.
+    Range(u64, u64),
+    /// `page p s`: the pairs of page p, of s pairs a page.
+    Page(u64, u64),
 }
 
 /// The number that a word writes: `0`, or a digit 1 to 9 and then digits, below 2 to the power of 64. A sign, a leading
@@ -142,11 +146,15 @@ fn key_request(name: &[u8], key: &[u8]) -> Option<Request>
     }
 }
 
-fn pair_request(name: &[u8], key: &[u8], value: &[u8]) -> Option<Request>
-    ensures { result ≡ request_from (name.now ∷ key.now ∷ value.now ∷ []) }
+fn pair_request(name: &[u8], first: &[u8], second: &[u8]) -> Option<Request>
+    ensures { result ≡ request_from (name.now ∷ first.now ∷ second.now ∷ []) }
 {
     if name == b"put".as_slice() {
-        Some(Request::Put(number(key)?, number(value)?))
+        Some(Request::Put(number(first)?, number(second)?))
+    } else if name == b"range".as_slice() {
+        Some(Request::Range(number(first)?, number(second)?))
+    } else if name == b"page".as_slice() {
+        Some(Request::Page(number(first)?, number(second)?))
     } else {
         None
     }

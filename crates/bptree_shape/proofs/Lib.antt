@@ -1,6 +1,7 @@
 pub mod Agreeing
 pub mod Beside
 pub mod Between
+pub mod Bordered
 pub mod Down
 pub mod Ends
 pub mod Frame

@@ -1,11 +1,14 @@
 -- Places in the leaves of a tree: how many pairs stand before them, and which leaf comes after which.
-use Rattle.std.proofs.Common.{◌≡◌, ℕ, zero, suc, ◌+◌, ◌-◌, ◌<◌, ◌≤◌, ◌⊎◌, inl, inr, Bool, true, false, not, cond, eqb, List, [], ◌∷◌, ◌++◌, length, refl, sym, ap, subst, ◌∙◌, arith, Some, None, Result, take, append_assoc, length-append}
-use Rattle.std.proofs.lemmas.List.{length-take-le}
+use Rattle.std.proofs.Common.{◌≡◌, ℕ, zero, suc, ◌+◌, ◌-◌, ◌<◌, ◌≤◌, ◌⊎◌, inl, inr, Bool, true, false, not, cond, eqb, List, [], ◌∷◌, ◌++◌, length, refl, sym, ap, subst, ◌∙◌, arith, Option, Some, None, Result, take, drop, min, append_assoc, length-append, length-drop}
+use Rattle.std.proofs.Common.{drop-drop}
+use Rattle.std.proofs.Math.Seq.{take-nil}
+use Rattle.std.proofs.lemmas.List.{drop-take, drop_all, length-take, length-take-le, take_min}
 use Rattle.std.specs.Cmp.{IsTotalOrder}
 use mathlib.Core.Bool.{true≢false}
 use Rattle.std.proofs.lemmas.Bool.Decides.{eqb_tells}
 use Rattle.std.specs.declared.cmp.Ordering.{Ordering}
 use Rattle.std.specs.List.{AllByRecursion}
+use Rattle.std.specs.Map.{keys_of}
 use Rattle.bptree_keys.specs.declared.node_id.LeafNodeId.{LeafNodeId}
 use Rattle.bptree_keys.specs.declared.node_id.NodeId.{NodeId}
 use Rattle.bptree_nodes.specs.Inner.{Inner}
@@ -13,9 +16,11 @@ use Rattle.bptree_nodes.specs.Leaf.{Leaf}
 use Rattle.bptree_nodes.specs.Slot.{Slot, Slots, Free, Held, Present, IsPresent}
 use Rattle.bptree_keys.specs.Contents.{IsAscending, pairs_below}
 use Rattle.bptree_keys.specs.Places.{IsPlaceOf}
+use Rattle.bptree_keys.specs.Ranges.{part}
 use Rattle.bptree_nodes.specs.LeafResults.{place_of}
 use Rattle.bptree_keys.proofs.Around.{pairs_below_around}
 use Rattle.bptree_keys.proofs.PieceLemmas.{AllByRecursion-right}
+use Rattle.bptree_shape.specs.ByArgument.{IsSelectedAt}
 use Rattle.bptree_shape.specs.Leaves.{pairs_of, StandsIn, IsFirstLeaf, IsLastLeaf, IsLeafFor}
 use Rattle.bptree_shape.specs.Ranges.{ahead, start, IsPlaceOn}
 use Rattle.bptree_shape.specs.Shape.{leaf_pairs, leaf_next, leaves_at, pairs_at, stands, AreLinked, IsWellShaped, root_least}
@@ -193,7 +198,7 @@ module _ {K V A : Type 0} {cmp : K → K → Ordering} (is_summary : A → List 
       let zero' : length (pairs_of slots in'.after) ≡ 0 = rw none refl in
       omega (arith, total_is leaf in', zero')
 
-  size_of : (leaf : LeafNodeId) (node : Leaf K V) → slots.leaf leaf.0 ≡ Present node → size leaf ≡ length node.pairs
+  pub size_of : (leaf : LeafNodeId) (node : Leaf K V) → slots.leaf leaf.0 ≡ Present node → size leaf ≡ length node.pairs
   size_of leaf node here = ap (λ s. length (leaf_pairs s)) here
 
   -- a count of the pairs between two places begins
@@ -291,3 +296,34 @@ module _ {K V A : Type 0} {cmp : K → K → Ordering} (is_summary : A → List 
 
   pub contents_ascend : IsTotalOrder cmp → IsAscending cmp (pairs_at slots h root)
   contents_ascend total = tree_ascends total slots (root_least h) h root None None shape.tree
+
+  -- the place that a query selects
+  pub selected_place : {Q : Type 0} (selects : Q → List K → Option ℕ → Type 0) (query : Q) (leaf : LeafNodeId) (slot : ℕ) → IsSelectedAt selects query slots h root (Some (leaf, slot))
+      → IsPlaceOn slots h root leaf slot × selects query (keys_of (pairs_at slots h root)) (Some (start slots h root leaf + slot))
+  selected_place selects query leaf slot (in', short, selected) = (
+    record { stands = in'; within = omega (arith, short) },
+    subst (λ (n : ℕ). selects query (keys_of (pairs_at slots h root)) (Some (n + slot))) (sym (start_is leaf in')) selected,
+  )
+
+-- a part that asks for more than there is
+pub part_cut : {X : Type 0} (l : List X) (i n m : ℕ) → m ≡ min n (length l - i) → part l i n ≡ part l i m
+part_cut l i n m e = sym (take_min n (drop i l)) ∙ ap (λ k. take k (drop i l)) (ap (min n) (length-drop i l) ∙ sym e)
+
+-- the first of the first, of two numbers the less
+take_of_take : {X : Type 0} (n k : ℕ) (l : List X) → take n (take k l) ≡ take (min n k) l
+take_of_take zero k l = let on : min zero k ≡ zero = omega arith in sym (ap (λ j. take j l) on)
+take_of_take (suc n) zero l = let on : min (suc n) zero ≡ zero = omega arith in sym (ap (λ j. take j l) on)
+take_of_take (suc n) (suc k) [] = sym (take-nil (min (suc n) (suc k)))
+take_of_take (suc n) (suc k) (x ∷ xs) =
+    let on : min (suc n) (suc k) ≡ suc (min n k) = omega arith in
+    ap (λ ys. x ∷ ys) (take_of_take n k xs) ∙ sym (ap (λ j. take j (x ∷ xs)) on)
+
+-- a part of a part
+pub part_of_part : {X : Type 0} (l : List X) (s m i n : ℕ) → i < m → part (part l s m) i n ≡ part l (s + i) (min n (m - i))
+part_of_part l s m i n more =
+    let on : m ≡ i + (m - i) = omega (arith, more) in
+    ap (λ k. take n (drop i (take k (drop s l)))) on ∙ ap (take n) (drop-take i (m - i) (drop s l)) ∙ take_of_take n (m - i) (drop i (drop s l)) ∙ ap (take (min n (m - i))) (drop-drop i s l)
+
+-- a part behind all of a part
+pub part_behind : {X : Type 0} (l : List X) (s m i n : ℕ) → m ≤ i → part (part l s m) i n ≡ []
+part_behind l s m i n less = ap (take n) (drop_all i (take m (drop s l)) (omega (arith, length-take m (drop s l), less))) ∙ take-nil n

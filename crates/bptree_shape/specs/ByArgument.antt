@@ -6,6 +6,7 @@ use Rattle.std.specs.Map.{keys_of}
 use Rattle.std.specs.Option.{option_and_then}
 use Rattle.bptree_arguments.specs.Ranks.{AllAbove, AllBelow}
 use Rattle.bptree_arguments.specs.Selection.{IsPlaceIn}
+use Rattle.bptree_keys.specs.Ranges.{part_at}
 use Rattle.bptree_nodes.specs.Inner.{Inner}
 use Rattle.bptree_nodes.specs.Leaf.{Leaf}
 use Rattle.bptree_nodes.specs.Slot.{Slots}
@@ -32,6 +33,10 @@ module _ {Q K V : Type 0} (selects : Q → List K → Option ℕ → Type 0) (qu
   -- the pair at some allowed place, or none where none is allowed
   abbrev pub IsSelected : List (K × V) → Option (K × V) → Type 0
   IsSelected pairs answer = (place : Option ℕ) × IsPlaceIn pairs place × selects query (keys_of pairs) place × (answer ≡ option_and_then (λ i. slice_get pairs i) place)
+
+  -- the first n pairs from some allowed place on, or none where none is allowed
+  abbrev pub IsPartSelected : List (K × V) → ℕ → List (K × V) → Type 0
+  IsPartSelected l n found = (o : Option ℕ) × selects query (keys_of l) o × (found ≡ part_at l o n)
 
   -- the leaf and the slot of some allowed place of a tree, or none where none is allowed
   abbrev pub IsSelectedAt : {A : Type 0} → Slots (Inner K A) (Leaf K V) → ℕ → NodeId → Option (LeafNodeId × ℕ) → Type 0

@@ -1,7 +1,8 @@
 -- Where a leaf stands in the order of a tree's leaves.
-use Rattle.std.specs.Prelude.{◌≡◌, ℕ, List, [], ◌∷◌, ◌++◌, Option}
+use Rattle.std.specs.Prelude.{◌≡◌, ℕ, Bool, true, false, List, [], ◌∷◌, ◌++◌, Option}
 use Rattle.std.specs.declared.cmp.Ordering.{Ordering}
 use Rattle.std.specs.declared.cmp.Ordering.TheVariants.{Less, Greater}
+use Rattle.std.specs.List.{AllByRecursion}
 use Rattle.bptree_nodes.specs.Inner.{Inner}
 use Rattle.bptree_nodes.specs.Leaf.{Leaf}
 use Rattle.bptree_keys.specs.Places.{AllAnswer}
@@ -31,6 +32,12 @@ module _ {K V A : Type 0} (slots : Slots (Inner K A) (Leaf K V)) where
   pub record IsLastLeaf (h : ℕ) (root : NodeId) (leaf : LeafNodeId) : Type 0 where
     pub stands : StandsIn h root leaf
     pub last : stands.after ≡ []
+
+  -- the keys before the leaf pass a test, and those behind it don't
+  pub record IsBorderLeaf (test : K → Bool) (h : ℕ) (root : NodeId) (leaf : LeafNodeId) : Type 0 where
+    pub stands : StandsIn h root leaf
+    pub before : AllByRecursion (λ p. test p.0 ≡ true) (pairs_of stands.before)
+    pub behind : AllByRecursion (λ p. test p.0 ≡ false) (pairs_of stands.after)
 
 module _ {K V A : Type 0} (cmp : K → K → Ordering) (slots : Slots (Inner K A) (Leaf K V)) where
   -- a tree with its keys between some bounds

@@ -3,6 +3,7 @@
 
 pub mod by_argument;
 pub mod descent;
+pub mod groups;
 pub mod neighbours;
 pub mod ranges;
 pub mod reading;

@@ -1,15 +1,19 @@
 //! Parts of the contents of a tree that stands in a store, by the places where they begin and end.
-ghost use Rattle.std.specs.Prelude.{◌≡◌, ◌+◌, ◌-◌, ◌<◌, ◌^◌, ◌&&◌, filter, false, length, not};
+ghost use Rattle.std.specs.Prelude.{◌≡◌, ◌+◌, ◌-◌, ◌<◌, ◌^◌, ◌&&◌, ℕ, Option, IfOk, filter, false, length, min, not};
+ghost use Rattle.std.specs.Map.{keys_of};
 ghost use Rattle.std.specs.Option.{option_copied};
 ghost use Rattle.bptree_keys.specs.Contents.{pairs_below};
-ghost use Rattle.bptree_keys.specs.Ranges.{between, falls_short, stays_below};
+ghost use Rattle.bptree_keys.specs.Ranges.{between, falls_short, part, part_at, stays_below};
 ghost use Rattle.bptree_shape.specs.Ranges.{start, IsPart, IsPlaceOn};
 ghost use Rattle.bptree_shape.specs.Shape.{pairs_at, IsWellShaped};
 
+use crate::by_argument::find_by_argument;
 use crate::descent::{first_leaf, last_leaf};
 use crate::reading::leaf_for;
+use bptree_arguments::argument::SearchArgument;
 use bptree_keys::node_id::{LeafNodeId, NodeId};
 use bptree_stores::node_stores::NodeStore;
+use std::alloc::AllocError;
 use std::cmp::Ordering;
 
 /// So many pairs between two places in leaves. A part without a pair begins and ends at one place.
@@ -40,20 +44,44 @@ pub fn part_between<S: NodeStore>(
     ensures { IsPart (S.slots store.now) height root result (between S.K.cmp (pairs_at (S.slots store.now) height root) (option_copied lo.entry) (option_copied hi.entry)) }
 {
     let (front, from) = front_of(store, root, height, lo);
-    let nothing = Part {
-        front,
-        from,
-        back: front,
-        to: from,
-        len: 0,
-    };
     if !are_apart(lo, hi) {
-        return nothing;
+        return Part {
+            front,
+            from,
+            back: front,
+            to: from,
+            len: 0,
+        };
     }
     let (back, to) = back_of(store, root, height, hi);
+    part_of_places(store, root, height, front, from, back, to)
+}
+
+/// The pairs between two places: none where the second is not behind the first.
+pub(crate) fn part_of_places<S: NodeStore>(
+    store: &S,
+    root: NodeId,
+    height: usize,
+    front: LeafNodeId,
+    from: usize,
+    back: LeafNodeId,
+    to: usize,
+) -> Part
+    requires shape { IsWellShaped S.K.cmp S.Argument.is_summary (S.slots store.now) height root }
+    requires fits { length (pairs_at (S.slots store.now) height root) < 2 ^ 64 }
+    requires front { IsPlaceOn (S.slots store.now) height root front from }
+    requires back { IsPlaceOn (S.slots store.now) height root back to }
+    ensures { IsPart (S.slots store.now) height root result (part (pairs_at (S.slots store.now) height root) (start (S.slots store.now) height root front + from) ((start (S.slots store.now) height root back + to) - (start (S.slots store.now) height root front + from))) }
+{
     let len = count_between(store, root, height, front, from, back, to);
     if len == 0 {
-        return nothing;
+        return Part {
+            front,
+            from,
+            back: front,
+            to: from,
+            len,
+        };
     }
     Part {
         front,
@@ -161,4 +189,100 @@ fn count_between<S: NodeStore>(
         passed = 0;
     }
     count + to.saturating_sub(passed)
+}
+
+/// The first `n` pairs, or all where there are fewer, from a place on that is allowed for the query; none where none is.
+///
+/// One descent for the query; then a step for each leaf of the part.
+pub fn part_by_argument<S: NodeStore>(
+    store: &S,
+    root: NodeId,
+    height: usize,
+    query: <S::Argument as SearchArgument<S::K>>::Query,
+    n: usize,
+) -> Result<Part, AllocError>
+where
+    S::Argument: SearchArgument<S::K>,
+    requires shape { IsWellShaped S.K.cmp S.Argument.is_summary (S.slots store.now) height root }
+    requires fits { length (pairs_at (S.slots store.now) height root) < 2 ^ 64 }
+    ensures { IfOk result (λ found. (o : Option ℕ) × S.Argument.selects query (keys_of (pairs_at (S.slots store.now) height root)) o × IsPart (S.slots store.now) height root found (part_at (pairs_at (S.slots store.now) height root) o n)) }
+{
+    match find_by_argument(store, root, height, query)? {
+        None => {
+            let front = first_leaf(store, root, height);
+            Ok(Part {
+                front,
+                from: 0,
+                back: front,
+                to: 0,
+                len: 0,
+            })
+        }
+        Some((front, from)) => Ok(part_from(store, root, height, front, from, n)),
+    }
+}
+
+/// So many pairs from a place on, or all where there are fewer.
+pub(crate) fn part_from<S: NodeStore>(
+    store: &S,
+    root: NodeId,
+    height: usize,
+    front: LeafNodeId,
+    from: usize,
+    n: usize,
+) -> Part
+    requires shape { IsWellShaped S.K.cmp S.Argument.is_summary (S.slots store.now) height root }
+    requires fits { length (pairs_at (S.slots store.now) height root) < 2 ^ 64 }
+    requires place { IsPlaceOn (S.slots store.now) height root front from }
+    ensures { IsPart (S.slots store.now) height root result (part (pairs_at (S.slots store.now) height root) (start (S.slots store.now) height root front + from) n) }
+{
+    let (back, to, len) = place_after(store, root, height, front, from, n);
+    if len == 0 {
+        return Part {
+            front,
+            from,
+            back: front,
+            to: from,
+            len,
+        };
+    }
+    Part {
+        front,
+        from,
+        back,
+        to,
+        len,
+    }
+}
+
+/// The place behind so many pairs from a place on, or behind the last of all where there are fewer, and how many there are.
+pub(crate) fn place_after<S: NodeStore>(
+    store: &S,
+    root: NodeId,
+    height: usize,
+    front: LeafNodeId,
+    from: usize,
+    n: usize,
+) -> (LeafNodeId, usize, usize)
+    requires shape { IsWellShaped S.K.cmp S.Argument.is_summary (S.slots store.now) height root }
+    requires fits { length (pairs_at (S.slots store.now) height root) < 2 ^ 64 }
+    requires place { IsPlaceOn (S.slots store.now) height root front from }
+    ensures place { IsPlaceOn (S.slots store.now) height root result.0 result.1 }
+    ensures apart { (start (S.slots store.now) height root front + from) + result.2 ≡ start (S.slots store.now) height root result.0 + result.1 }
+    ensures len { result.2 ≡ min n (length (pairs_at (S.slots store.now) height root) - (start (S.slots store.now) height root front + from)) }
+{
+    let mut at = front;
+    let mut passed = from;
+    let mut left = n;
+    let mut here = store.get_leaf(front).len() - from;
+    'leaves: while left > here {
+        let Some(next) = store.get_leaf(at).next() else {
+            return (at, passed + here, n - (left - here));
+        };
+        left -= here;
+        at = next;
+        passed = 0;
+        here = store.get_leaf(next).len();
+    }
+    (at, passed + left, n)
 }

@@ -186,6 +186,33 @@ fn rank_all(tree: &Tree<Count>, keys: &[u64]) -> Result<u64, AllocError> {
     Ok(sum)
 }
 
+// Ten pairs from each place on, by the keys there and ten pairs further.
+fn range_all(tree: &Tree<Count>, sorted: &[u64], places: &[u64]) -> u64 {
+    let mut sum = 0u64;
+    for place in places {
+        let place = *place as usize;
+        let lo = sorted.get(place);
+        let hi = sorted.get(place.saturating_add(10));
+        if lo.is_some() && hi.is_some() {
+            for (key, _) in tree.range(lo, hi) {
+                sum = sum.wrapping_add(*key);
+            }
+        }
+    }
+    sum
+}
+
+// Twenty pairs from each place on.
+fn page_all(tree: &Tree<Count>, places: &[u64]) -> Result<u64, AllocError> {
+    let mut sum = 0u64;
+    for place in places {
+        for (key, _) in tree.range_by_argument(*place as usize, 20)? {
+            sum = sum.wrapping_add(*key);
+        }
+    }
+    Ok(sum)
+}
+
 // One tree, filled and read. It is none where memory was refused.
 fn filled<A: Argument<u64>>(
     rt: &HostRuntime,
@@ -238,6 +265,19 @@ fn counted(rt: &HostRuntime, tree: &Tree<Count>, keys: &[u64]) {
     if let Ok(start) = Instant::now(rt) {
         if let Ok(sum) = rank_all(tree, keys) {
             tell(rt, "count", "rank", start, keys.len(), sum);
+        }
+    }
+}
+
+// Parts of a tree, each of ten or of twenty pairs.
+fn parted(rt: &HostRuntime, tree: &Tree<Count>, sorted: &[u64], places: &[u64]) {
+    if let Ok(start) = Instant::now(rt) {
+        let sum = range_all(tree, sorted, places);
+        tell(rt, "count", "range", start, places.len(), sum);
+    }
+    if let Ok(start) = Instant::now(rt) {
+        if let Ok(sum) = page_all(tree, places) {
+            tell(rt, "count", "page", start, places.len(), sum);
         }
     }
 }
@@ -353,6 +393,7 @@ fn rounds(rt: &HostRuntime, pairs: usize, rounds: usize) -> Result<(), AllocErro
         }
         if let Some(mut tree) = filled::<Count>(rt, "count", &keys, &others, &sorted) {
             counted(rt, &tree, &others);
+            parted(rt, &tree, &sorted, &numbers);
             emptied(rt, "count", &mut tree, &others);
         }
         loaded::<()>(rt, "plain", &sorted)?;

@@ -1,11 +1,11 @@
 //! Clones of trees, which go their own way.
 use crate::trees::{
-    CountedStore, Keys, holds_all_below, is_well_shaped, measures, put, read, take, tree_of,
-    value_of,
+    CountedStore, Keys, holds_all_below, measures, put, read, take, tree_of, value_of,
 };
 use bptree_arguments::argument::CloneArgument;
 use bptree_stores::node_stores::CloneStore;
 use bptree_tree::BPlusTree;
+use bptree_visits_tests::walks::is_well_shaped;
 use std::alloc::{AllocError, Global};
 use std::test::Fail;
 

@@ -2,14 +2,15 @@
 ghost use Rattle.std.proofs.Common.{rules};
 
 use crate::trees::{
-    CountedStore, Keys, are_same, has_leaves, holds_all_below, is_well_shaped, measures, new_tree,
-    put, put_all, read, tree_of, value_of,
+    CountedStore, Keys, are_same, has_leaves, holds_all_below, measures, new_tree, put, put_all,
+    read, tree_of, value_of,
 };
 use bptree_keys::key::Key;
 use bptree_stores::node_store_vec::NodeStoreVec;
 use bptree_stores::node_stores::NodeStore;
 use bptree_tree::{BPlusTree, InsertError};
 use bptree_visits_tests::probe::{Probe, ProbedStore};
+use bptree_visits_tests::walks::is_well_shaped;
 use std::alloc::{AllocError, Global};
 use std::test::Fail;
 

@@ -1,12 +1,12 @@
 //! Numbers of nodes that are released, and stand for other nodes later.
 use crate::cursor_tests::{cursor_for, stands_between};
 use crate::trees::{
-    CountedStore, Keys, is_well_shaped, new_tree, nodes_below, put, put_all, take, take_all,
-    tree_of,
+    CountedStore, Keys, new_tree, nodes_below, put, put_all, take, take_all, tree_of,
 };
 use bptree_keys::node_id::LeafNodeId;
 use bptree_stores::node_stores::NodeStore;
 use bptree_tree::BPlusTree;
+use bptree_visits_tests::walks::is_well_shaped;
 use std::alloc::{AllocError, Global};
 use std::test::Fail;
 

@@ -1,5 +1,6 @@
-//! Parts of trees between two keys, from both ends, beside a plain filter of all pairs.
+//! Parts of trees between two keys, from both ends, beside a plain filter of all pairs; and from a place on.
 use crate::trees::{CountedStore, Keys, front, tree_of};
+use bptree_arguments::argument::SearchArgument;
 use bptree_stores::node_stores::NodeStore;
 use bptree_tree::BPlusTree;
 use bptree_tree::iterator::Iter;
@@ -48,10 +49,37 @@ fn ends<S: NodeStore<K = u64, V = u64>>(tree: &BPlusTree<S>) -> bool {
     last(&mut pairs) == Some(99) && last(&mut pairs) == Some(98) && is_over(&mut pairs)
 }
 
-fn hundred_keys<S: NodeStore<K = u64, V = u64>>(alloc: Global) -> Result<bool, AllocError> {
+// Whether the pairs from a place on are those between two keys, and so many.
+fn as_between<S: NodeStore<K = u64, V = u64>>(
+    tree: &BPlusTree<S>,
+    place: usize,
+    n: usize,
+    ends: (u64, u64),
+    len: usize,
+) -> Result<bool, AllocError>
+where
+    S::Argument: SearchArgument<u64, Query = usize>,
+{
+    let (lo, hi) = ends;
+    let mut part = tree.range_by_argument(place, n)?;
+    let mut pairs = tree.range(Some(&lo), Some(&hi));
+    let mut all = part.len() == len && pairs.len() == len;
+    for _ in 0..len {
+        all = all && front(&mut part) == front(&mut pairs);
+    }
+    Ok(all && is_over(&mut part))
+}
+
+fn hundred_keys<S: NodeStore<K = u64, V = u64>>(alloc: Global) -> Result<bool, AllocError>
+where
+    S::Argument: SearchArgument<u64, Query = usize>,
+{
     let (tree, filled): (BPlusTree<S>, bool) = tree_of(alloc, Keys::below(100))?;
     Ok(
         filled
+            && as_between(&tree, 98, 5, (98, 100), 2)?
+            && is_over(&mut tree.range_by_argument(100, 5)?)
+            && is_over(&mut tree.range_by_argument(0, 0)?)
             && from_both_ends(&tree)
             && begins(&tree)
             && ends(&tree)
@@ -84,9 +112,13 @@ fn as_filtered<S: NodeStore<K = u64, V = u64>>(tree: &BPlusTree<S>, lo: u64, hi:
 }
 
 // The even keys from 2 to 2,000: the ends are in gaps, on keys, and at the borders of leaves.
-fn thousand_keys<S: NodeStore<K = u64, V = u64>>(alloc: Global) -> Result<bool, AllocError> {
+fn thousand_keys<S: NodeStore<K = u64, V = u64>>(alloc: Global) -> Result<bool, AllocError>
+where
+    S::Argument: SearchArgument<u64, Query = usize>,
+{
     let (tree, filled): (BPlusTree<S>, bool) = tree_of(alloc, Keys::multiples(2, 1_000))?;
-    let mut all = filled;
+    let mut all = filled && as_between(&tree, 300, 400, (602, 1_402), 400)?;
+    all = all && as_between(&tree, 900, usize::MAX, (1_802, 2_002), 100)?;
     for step in 0..34_u64 {
         let lo = step.wrapping_mul(61);
         for size in [0, 1, 2, 63, 64, 65, 128, 700] {

@@ -1,10 +1,9 @@
 //! Reads of an empty tree, and the pairs of three leaves from both ends.
-use crate::trees::{
-    CountedStore, Keys, front, is_well_shaped, measures, new_tree, read, tree_of, value_of,
-};
+use crate::trees::{CountedStore, Keys, front, measures, new_tree, read, tree_of, value_of};
 use bptree_stores::node_stores::NodeStore;
 use bptree_tree::BPlusTree;
 use bptree_tree::iterator::Iter;
+use bptree_visits_tests::walks::is_well_shaped;
 use std::alloc::{AllocError, Global};
 use std::test::Fail;
 

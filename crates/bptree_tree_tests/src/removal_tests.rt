@@ -1,13 +1,14 @@
 //! Trees that shrink by removal, and removals that are refused.
 use crate::cursor_tests::key_after;
 use crate::trees::{
-    CountedStore, Keys, are_same, front, has_leaves, is_well_shaped, measures, new_tree,
-    nodes_below, put, put_all, rank, take, take_all, tree_of, value_of,
+    CountedStore, Keys, are_same, front, has_leaves, measures, new_tree, nodes_below, put, put_all,
+    rank, take, take_all, tree_of, value_of,
 };
 use bptree_arguments::count::Count;
 use bptree_stores::node_stores::NodeStore;
 use bptree_tree::BPlusTree;
 use bptree_visits_tests::probe::{Probe, ProbedStore};
+use bptree_visits_tests::walks::is_well_shaped;
 use std::alloc::{AllocError, Global};
 use std::test::Fail;
 

@@ -1,13 +1,14 @@
 //! Trees whose summaries are kept up, and reads, writes and removals by them.
 use crate::trees::{
-    CountedStore, Keys, are_same, is_well_shaped, measures, new_tree, put, put_all, rank, read,
-    take_all, tree_of, value_of,
+    CountedStore, Keys, are_same, measures, new_tree, put, put_all, rank, read, take_all, tree_of,
+    value_of,
 };
 use bptree_arguments::argument::SearchArgument;
 use bptree_arguments::count::Count;
 use bptree_stores::node_stores::NodeStore;
 use bptree_tree::{BPlusTree, SelectError};
 use bptree_visits_tests::probe::{Probe, ProbedStore};
+use bptree_visits_tests::walks::is_well_shaped;
 use std::alloc::{AllocError, Global};
 use std::test::Fail;
 

@@ -48,13 +48,14 @@ fn rank_is_refused<S: NodeStore<K = Pair, V = u64, Argument = GroupCount<Guarded
     tree.rank_by_argument(&key).is_err()
 }
 
-// Whether no call finds the key after the first of group 1.
+// Whether no call finds the key after the first of group 1, or the pairs of that group.
 fn place_is_refused<S: NodeStore<K = Pair, V = u64, Argument = GroupCount<Guarded>>>(
     tree: &mut BPlusTree<S>,
 ) -> bool {
     tree.get_by_argument((Guarded(1), 1)).is_err()
         && tree.get_mut_by_argument((Guarded(1), 1)).is_err()
         && tree.remove_by_argument((Guarded(1), 1)).is_err()
+        && tree.group_range(&Guarded(1)).is_err()
 }
 
 // Of a leaf whose keys are of one group the first and the last make theirs. So a key between them that is refused its group

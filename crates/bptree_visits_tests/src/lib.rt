@@ -10,3 +10,4 @@ pub mod probe;
 #[cfg(test)]
 mod visit_tests;
 pub mod visitors;
+pub mod walks;

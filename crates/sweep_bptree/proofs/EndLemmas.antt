@@ -35,6 +35,9 @@ module _ {X : Type 0} where
   none_seen Front l none = none
   none_seen Back l none = sym (reverse-reverse l) ∙ ap reverse none
 
+  pub some_seen : (end : End) (l : List X) → (length l ≡ 0 → ⊥) → seen_from end l ≡ [] → ⊥
+  some_seen end l some none = some (ap length (none_seen end l none))
+
   -- one fewer is left
   pub fewer_left : (end : End) (l rest : List X) (x : X) → seen_from end l ≡ x ∷ seen_from end rest → length rest < length l
   fewer_left end l rest x seen = omega (arith, ap length seen, length-seen_from end l, length-seen_from end rest)

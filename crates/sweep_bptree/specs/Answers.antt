@@ -1,13 +1,15 @@
 -- What is answered to lines.
-use Rattle.std.specs.Prelude.{ℕ, ◌-◌, ◌^◌, ◌==◌, ◌&&◌, not, List, [], ◌∷◌, ◌++◌, length, map, Bool, true, false, if◌then◌else◌, Option, Some, None, codes, decimal, reverse, slice_get}
+use Rattle.std.specs.Prelude.{ℕ, zero, suc, ◌-◌, ◌^◌, ◌==◌, ◌&&◌, not, List, [], ◌∷◌, ◌++◌, length, map, Bool, true, false, if◌then◌else◌, Option, Some, None, codes, decimal, reverse, slice_get}
 use Rattle.std.specs.List.{join_with_byte}
 use Rattle.std.specs.Map.{keys_of}
 use Rattle.std.specs.Ordering.{nat_cmp}
 use Rattle.bptree_arguments.specs.CountLaws.{count_below}
 use Rattle.bptree_keys.specs.Contents.{has, value, put, del, next, previous}
+use Rattle.bptree_keys.specs.Ranges.{between}
+use Rattle.bptree_pages.specs.Pages.{page}
 use Rattle.bptree_requests.specs.Request.{request_of}
 use Rattle.bptree_requests.specs.declared.Request.{Request}
-use Rattle.bptree_requests.specs.declared.Request.TheVariants.{Put, Del, Get, Len, All, First, Last, At, Rank, Next, Prev, Back, Clear}
+use Rattle.bptree_requests.specs.declared.Request.TheVariants.{Put, Del, Get, Len, All, First, Last, At, Rank, Next, Prev, Back, Clear, Range, Page}
 use Rattle.sweep_bptree.specs.Lines.{lines_of}
 
 abbrev pub value_text : Option ℕ → List ℕ
@@ -50,6 +52,11 @@ abbrev pub pairs_text : List (ℕ × ℕ) → List ℕ
 pairs_text [] = codes "empty"
 pairs_text (pair ∷ pairs) = join_with_byte 44 (map pair_text (pair ∷ pairs))
 
+-- the pairs of page p of s pairs; no page has none
+abbrev pub page_text : List (ℕ × ℕ) → ℕ → ℕ → List ℕ
+page_text pairs p zero = codes "bad"
+page_text pairs p (suc s) = pairs_text (page pairs p (suc s))
+
 -- a pair in that text: it has a comma before it where it is not the first
 abbrev pub item_text : Bool → ℕ × ℕ → List ℕ
 item_text true pair = pair_text pair
@@ -71,6 +78,8 @@ reply_to pairs (Some (Next key)) = found_text (next nat_cmp pairs key)
 reply_to pairs (Some (Prev key)) = found_text (previous nat_cmp pairs key)
 reply_to pairs (Some Back) = pairs_text (reverse pairs)
 reply_to pairs (Some Clear) = codes "cleared"
+reply_to pairs (Some (Range lo hi)) = pairs_text (between nat_cmp pairs (Some lo) (Some hi))
+reply_to pairs (Some (Page p s)) = page_text pairs p s
 
 -- the pairs after it
 abbrev pub pairs_with : List (ℕ × ℕ) → Option Request → List (ℕ × ℕ)
@@ -88,6 +97,8 @@ pairs_with pairs (Some (Next key)) = pairs
 pairs_with pairs (Some (Prev key)) = pairs
 pairs_with pairs (Some Back) = pairs
 pairs_with pairs (Some Clear) = []
+pairs_with pairs (Some (Range lo hi)) = pairs
+pairs_with pairs (Some (Page p s)) = pairs
 
 -- the answer to a line, and the pairs after it
 unfoldable pub answer : List (ℕ × ℕ) → List ℕ → List ℕ

@@ -6,13 +6,14 @@ use Rattle.std.specs.List.{AllZip}
 use Rattle.std.specs.Map.{keys_of}
 use Rattle.bptree_arguments.specs.Selection.{IsPlaceIn}
 use Rattle.bptree_keys.specs.Contents.{has, value, put, del, next, previous}
+use Rattle.bptree_keys.specs.Ranges.{between}
 use Rattle.bptree_nodes.specs.Leaf.{set_value_at}
-use Rattle.bptree_shape.specs.ByArgument.{IsSelected, IsTaken}
+use Rattle.bptree_shape.specs.ByArgument.{IsPartSelected, IsSelected, IsTaken}
 use Rattle.bptree_insertion.specs.Lending.{written}
 use Rattle.bptree_tree.specs.declared.InsertError as insert_error
 use Rattle.bptree_tree.specs.declared.InsertError.TheVariants as refusal
 use Rattle.sweep_bptree.specs.declared.script.commands.Command.{Command}
-use Rattle.sweep_bptree.specs.declared.script.commands.Command.TheVariants.{Insert, Remove, RemoveAt, Clear, Get, Set, SetAt, First, Last, Len, At, Rank as RankOf, Cursor, CursorFirst, CursorLast, Next, Prev, Exists, Value as ValueOf, Walk}
+use Rattle.sweep_bptree.specs.declared.script.commands.Command.TheVariants.{Insert, Remove, RemoveAt, Clear, Get, Set, SetAt, First, Last, Len, At, Rank as RankOf, Cursor, CursorFirst, CursorLast, Next, Prev, Exists, Value as ValueOf, Walk, Range, RangeAt}
 use Rattle.sweep_bptree.specs.declared.script.commands.Reply.{Reply}
 use Rattle.sweep_bptree.specs.declared.script.commands.Reply.TheVariants.{Value, Pair, Number, Done, Rank, Held, Walked, NoCursor, OutOfMemory, Full}
 use Rattle.sweep_bptree.specs.Ends.{walked}
@@ -109,6 +110,10 @@ module _ {K V Q R : Type 0} (cmp : K → K → Ordering) (selects : Q → List K
   TreeStep old (RankOf k) OutOfMemory new = new ≡ old
   TreeStep old (Walk word) (Walked answers) new = AllZip (IsCopyOf cmp) (walked word.items old) answers.items × (new ≡ old)
   TreeStep old (Walk word) OutOfMemory new = new ≡ old
+  TreeStep old (Range lo hi word) (Walked answers) new = AllZip (IsCopyOf cmp) (walked word.items (between cmp old lo hi)) answers.items × (new ≡ old)
+  TreeStep old (Range lo hi word) OutOfMemory new = new ≡ old
+  TreeStep old (RangeAt q n word) (Walked answers) new = ((part : List (K × V)) × IsPartSelected selects q old n part × AllZip (IsCopyOf cmp) (walked word.items part) answers.items) × (new ≡ old)
+  TreeStep old (RangeAt q n word) OutOfMemory new = new ≡ old
   -- no other reply is given
   TreeStep old command reply new = ⊥
 

@@ -15,6 +15,6 @@ pub places_and_ranks_text : text (codes "first\nlast\nat 0\nrank 7\nall\nput 7 7
 unfolding answer pairs_after request_of words number_of digits
 places_and_ranks_text = refl
 
-pub neighbours_and_back_text : text (codes "back\nnext 0\nput 7 70\nput 9 90\nnext 7\nnext 8\nnext 9\nprev 9\nprev 8\nprev 7\nback\n") ≡ codes "empty\nnone\nnew\nnew\n9 90\n9 90\nnone\n7 70\n7 70\nnone\n9 90,7 70\n"
+pub neighbours_and_back_text : text (codes "back\nnext 0\nput 7 70\nput 9 90\nnext 7\nnext 8\nnext 9\nprev 9\nprev 8\nprev 7\nback\nrange 7 9\nrange 8 18446744073709551615\nrange 9 9\nrange 7\npage 0 1\npage 1 1\npage 9223372036854775808 2\npage 0 0\n") ≡ codes "empty\nnone\nnew\nnew\n9 90\n9 90\nnone\n7 70\n7 70\nnone\n9 90,7 70\n7 70\n9 90\nempty\nbad\n7 70\n9 90\nempty\nbad\n"
 unfolding answer pairs_after request_of words number_of digits
 neighbours_and_back_text = refl

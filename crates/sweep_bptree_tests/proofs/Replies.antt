@@ -1,7 +1,7 @@
 -- What the reply to a command is, in other words than those of a step.
-use Rattle.std.proofs.Common.{◌≡◌, ℕ, ◌-◌, ◌^◌, ◌<◌, ◌≤◌, ◌⊎◌, inl, inr, List, length, true, false, cond, Option, None, Some, Result, Ok, Err, refl, ap, ◌∙◌}
+use Rattle.std.proofs.Common.{◌≡◌, ℕ, ◌-◌, ◌^◌, ◌<◌, ◌≤◌, ◌⊎◌, inl, inr, List, [], ◌∷◌, ◌++◌, length, length-append, arith, true, false, cond, Option, None, Some, Result, Ok, Err, Vec, Global, refl, ap, subst, ◌∙◌}
 use Rattle.std.specs.Prelude.{IfOk, MatchResult}
-use Rattle.std.specs.List.{slice_get}
+use Rattle.std.specs.List.{AllZip, slice_get}
 use Rattle.std.specs.Map.{keys_of}
 use Rattle.std.specs.Ordering.{nat_cmp}
 use Rattle.std.specs.declared.cmp.Ordering.{Ordering}
@@ -9,12 +9,15 @@ use Rattle.std.proofs.lemmas.Map.Entries.{length-keys_of}
 use Rattle.std.proofs.lemmas.Map.Lookups.{exact_unsigned}
 use Rattle.bptree_arguments.specs.CountLaws.{SelectsPlace, count_below}
 use Rattle.bptree_keys.specs.Contents.{has, value, put}
+use Rattle.bptree_keys.specs.Ranges.{between}
 use Rattle.bptree_nodes.specs.Leaf.{set_value_at}
 use Rattle.bptree_insertion.specs.Lending.{written}
 use Rattle.sweep_bptree.proofs.PlaceLemmas.{selected_is}
 use Rattle.sweep_bptree.specs.Steps.{TreeStep, IsCopyOf}
-use Rattle.sweep_bptree.specs.declared.script.commands.Command.TheVariants.{Insert, Get, Set, SetAt, First, Last, Len, At, Rank as RankOf}
+use Rattle.sweep_bptree.specs.declared.script.commands.Command.TheVariants.{Insert, Get, Set, SetAt, Len, At, Range, Rank as RankOf}
 use Rattle.sweep_bptree.specs.declared.script.commands.Reply.{Reply}
+use Rattle.sweep_bptree.specs.declared.script.walk.End.{End}
+use Rattle.sweep_bptree.specs.declared.script.walk.End.TheVariants.{Front}
 use Rattle.sweep_bptree.specs.declared.script.commands.Reply.TheVariants.{Value, Pair, Number, Done, Rank, Held, Walked, NoCursor, OutOfMemory, Full}
 
 -- a fact of a reply, where there is one
@@ -84,6 +87,19 @@ copy_is None None same = refl
 copy_is None (Some q) same = absurd same
 copy_is (Some p) None same = absurd same
 copy_is (Some p) (Some q) same = ap Some (same_pair p q (exact_unsigned p.0 q.0 same.0) same.1)
+
+-- the one answer to a word of one end is what stood there
+pub one_answer : {V : Type 0} (item answer : Option (ℕ × V)) (answers rest : List (Option (ℕ × V))) → AllZip (IsCopyOf nat_cmp) (item ∷ []) answers → answers ≡ rest ++ answer ∷ [] → answer ≡ item
+one_answer item answer [] rest copies is = absurd copies
+one_answer item answer (a ∷ []) [] copies is = let same : a ≡ answer = cc is in copy_is item answer (rw (← same) copies.0)
+one_answer item answer (a ∷ []) (b ∷ rest) copies is = absurd (omega (arith, ap length is, length-append rest (answer ∷ [])))
+one_answer item answer (a ∷ b ∷ answers) rest copies is = absurd copies.1
+
+pub first_ranged : {V R : Type 0} (selects : ℕ → List ℕ → Option ℕ → Type 0) (ranks : ℕ → List ℕ → R → Type 0) (old new : List (ℕ × V)) (lo : ℕ) (word : Vec End Global) (reply : Reply ℕ V R) (answers : Vec (Option (ℕ × V)) Global) (rest : List (Option (ℕ × V))) (answer : Option (ℕ × V))
+    → word.items ≡ Front ∷ [] → reply ≡ Walked answers → TreeStep nat_cmp selects ranks old (Range (Some lo) None word) reply new → answers.items ≡ rest ++ answer ∷ [] → answer ≡ slice_get (between nat_cmp old (Some lo) None) 0
+first_ranged selects ranks old new lo word reply answers rest answer one is step gave =
+    let P : Reply _ _ _ → Type 0 = λ r. TreeStep nat_cmp selects ranks old (Range (Some lo) None word) r new in
+    one_answer (slice_get (between nat_cmp old (Some lo) None) 0) answer answers.items rest (rw one at (subst P is step).0) gave
 
 module _ {V R : Type 0} (ranks : ℕ → List ℕ → R → Type 0) (old new : List (ℕ × V)) where
   pub told_at : (i : ℕ) (reply : Reply ℕ V R) → TreeStep nat_cmp SelectsPlace ranks old (At i) reply new

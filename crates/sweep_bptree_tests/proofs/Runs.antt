@@ -1,5 +1,5 @@
 -- Runs of all commands, or of none.
-use Rattle.std.proofs.Common.{◌≡◌, ℕ, ◌⊎◌, ◌↔◌, inl, inr, List, [], ◌∷◌, ◌++◌, length, Option, None, Some, refl, sym, ap, ◌∙◌, subst, arith, length-append}
+use Rattle.std.proofs.Common.{◌≡◌, ℕ, ◌⊎◌, ◌↔◌, inl, inr, ◌<◌, List, [], ◌∷◌, ◌++◌, length, Option, None, Some, refl, sym, ap, ◌∙◌, subst, arith, length-append}
 use Rattle.std.specs.Prelude.{IsNone, IsSome}
 use Rattle.std.specs.declared.cmp.Ordering.{Ordering}
 use Rattle.sweep_bptree.specs.Steps.{Run, Step}
@@ -17,6 +17,11 @@ pub none_refused : {E T : Type 0} {P : Type 0} (error : Option E) (replies : Lis
     → (IsSome error → (replies ≡ []) × P) → error ≡ None
 none_refused None replies n all len none whole refused = refl
 none_refused (Some e) replies n all len none whole refused = let is = whole.1 (len ∙ ap length (refused refl).0 ∙ sym none) in cc is
+
+-- where there was a command and there is no reply, all was refused
+pub all_refused : {E T : Type 0} {P : Type 0} (error : Option E) (replies : List T) (n all : ℕ) → n ≡ length replies → n ≡ 0 → 0 < all → (IsNone error ↔ (n ≡ all)) → (IsSome error → (replies ≡ []) × P) → P
+all_refused None replies n all len none some whole refused = absurd (omega (arith, none, some, whole.0 refl))
+all_refused (Some e) replies n all len none some whole refused = (refused refl).1
 
 first_is : {T : Type 0} (a b : T) → a ∷ [] ≡ b ∷ [] → a ≡ b
 first_is a b is = cc

@@ -1,11 +1,12 @@
 //! Callers of the library's functions, which know nothing of them but their contracts.
-ghost use Rattle.std.specs.Prelude.{◌≡◌, ◌<◌, ◌≤◌, ◌==◌, ◌-◌, ◌+◌, ◌^◌, ◌↔◌, ◌⊎◌, ℕ, List, [], ◌++◌, length, codes, Some, None, IsTrue, true, false, if◌then◌else◌, IsSome, IsErr, IsErrOf, IfOk, OnOk, OnErr, IfSome, MatchResult, slice_get, string_bytes, vec_len};
+ghost use Rattle.std.specs.Prelude.{◌≡◌, ◌<◌, ◌≤◌, ◌==◌, ◌-◌, ◌+◌, ◌^◌, ◌↔◌, ◌⊎◌, ℕ, List, [], ◌++◌, ◌∷◌, Option, length, codes, Some, None, IsTrue, true, false, if◌then◌else◌, IsSome, IsErr, IsErrOf, IfOk, OnOk, OnErr, IfSome, MatchResult, slice_get, string_bytes, vec_len};
 ghost use Rattle.std.specs.Io.KnownBytes.{Appends};
 ghost use Rattle.std.specs.List.{slice_split};
 ghost use Rattle.std.specs.Map.{keys_of};
 ghost use Rattle.std.specs.Ordering.{nat_cmp};
 ghost use Rattle.sweep_bptree.specs.Answers.{text};
 ghost use Rattle.sweep_bptree.specs.Contents.{has, value, put};
+ghost use Rattle.bptree_keys.specs.Ranges.{between};
 ghost use Rattle.sweep_bptree.specs.CountLaws.{count_below};
 ghost use Rattle.sweep_bptree.specs.Lines.{ended_lines};
 ghost use Rattle.sweep_bptree.specs.Sent.{AppendsBeginning};
@@ -20,7 +21,7 @@ use std::io::{Read, Write};
 use sweep_bptree::argument::count::Count;
 use sweep_bptree::argument::{RankArgument, SearchArgument};
 use sweep_bptree::script::{
-    Command, CommandOn, Reply, ReplyOf, ServeError, exit_status, parts_are_lines, run, serve,
+    Command, CommandOn, End, Reply, ReplyOf, ServeError, exit_status, parts_are_lines, run, serve,
 };
 use sweep_bptree::{BPlusTree, NodeStore, NodeStoreVec};
 
@@ -96,15 +97,15 @@ pub fn places_and_ranks<R: Read, W: Write>(
     serve(alloc, reader, writer)
 }
 
-// The pairs beside a key, whether it is there or not, and all pairs from the last one.
+// The pairs beside a key, whether it is there or not, all pairs from the last one, those between two keys, and pages.
 pub fn neighbours_and_back<R: Read, W: Write>(
     alloc: Global,
     reader: &mut R,
     writer: &mut W,
 ) -> Result<(), ServeError>
-    requires { R.remaining reader.old ≡ Some (codes "back\nnext 0\nput 7 70\nput 9 90\nnext 7\nnext 8\nnext 9\nprev 9\nprev 8\nprev 7\nback\n") }
+    requires { R.remaining reader.old ≡ Some (codes "back\nnext 0\nput 7 70\nput 9 90\nnext 7\nnext 8\nnext 9\nprev 9\nprev 8\nprev 7\nback\nrange 7 9\nrange 8 18446744073709551615\nrange 9 9\nrange 7\npage 0 1\npage 1 1\npage 9223372036854775808 2\npage 0 0\n") }
     ensures { OnOk result (Appends (W.contents writer.old) (W.contents writer.new)
-        (codes "empty\nnone\nnew\nnew\n9 90\n9 90\nnone\n7 70\n7 70\nnone\n9 90,7 70\n")) }
+        (codes "empty\nnone\nnew\nnew\n9 90\n9 90\nnone\n7 70\n7 70\nnone\n9 90,7 70\n7 70\n9 90\nempty\nbad\n7 70\n9 90\nempty\nbad\n")) }
 {
     serve(alloc, reader, writer)
 }
@@ -318,4 +319,30 @@ pub fn reply_to_set_at(
         ⊎ ((reply ≡ Reply.OutOfMemory) × (tree.new.contents ≡ tree.old.contents))) }
 {
     reply_to(alloc, tree, Command::SetAt(place, new))
+}
+
+// A range with no upper end begins with the first pair whose key is not below the lower one.
+pub fn first_from(
+    alloc: Global,
+    tree: &mut NumberTree,
+    lo: u64,
+) -> Result<Option<(u64, u64)>, AllocError>
+    ensures { IfOk result (λ first. first ≡ slice_get (between nat_cmp tree.old.contents (Some lo) None) 0) }
+{
+    let mut word = Vec::new(alloc);
+    word.push(End::Front)?;
+    match reply_to(alloc, tree, Command::Range(Some(lo), None, word))? {
+        Reply::Walked(answers) => one_of(answers),
+        _ => Err(AllocError),
+    }
+}
+
+fn one_of(answers: Vec<Option<(u64, u64)>>) -> Result<Option<(u64, u64)>, AllocError>
+    ensures { IfOk result (λ answer. (rest : List (Option (ℕ × ℕ))) × (answers.items ≡ rest ++ answer ∷ [])) }
+{
+    let mut answers = answers;
+    match answers.pop() {
+        Some(answer) => Ok(answer),
+        None => Err(AllocError),
+    }
 }

@@ -38,3 +38,7 @@ pub mod of_modules {
     pub use sweep_bptree::tree::node_id::{InnerNodeId, LeafNodeId, NodeId};
     pub use sweep_bptree::tree::node_stores::{CloneStore, NodeStore};
 }
+
+pub mod of_page {
+    pub use sweep_bptree::page::{laws_of_pages, page, page_of, pages};
+}

@@ -234,6 +234,18 @@ fn a_run_holds_cursors(rt: HostRuntime) -> Result<(), Fail> {
         Command::Prev(3),
         Command::Walk(vec![in rt.alloc(); End::Back, End::Front, End::Back, End::Front]?),
         Command::Walk(Vec::new(rt.alloc())),
+        Command::Range(
+            Some(key_of(1, 'g')),
+            Some(key_of(3, 'g')),
+            vec![in rt.alloc(); End::Back, End::Front, End::Back]?
+        ),
+        Command::Range(
+            Some(key_of(3, 'g')),
+            None,
+            vec![in rt.alloc(); End::Front, End::Front]?
+        ),
+        Command::RangeAt(1, 1, vec![in rt.alloc(); End::Front, End::Front]?),
+        Command::RangeAt(3, 5, vec![in rt.alloc(); End::Back]?),
     ]?;
     let wanted = [
         "Pair(None)",
@@ -262,6 +274,10 @@ fn a_run_holds_cursors(rt: HostRuntime) -> Result<(), Fail> {
         "NoCursor",
         "Walked([Some((Numbered { number: 3, letter: 'f' }, 30)), Some((Numbered { number: 1, letter: 'e' }, 11)), Some((Numbered { number: 2, letter: 'b' }, 20)), None])",
         "Walked([])",
+        "Walked([Some((Numbered { number: 2, letter: 'b' }, 20)), Some((Numbered { number: 1, letter: 'e' }, 11)), None])",
+        "Walked([Some((Numbered { number: 3, letter: 'f' }, 30)), None])",
+        "Walked([Some((Numbered { number: 2, letter: 'b' }, 20)), None])",
+        "Walked([None])",
     ];
     let replies = replies_to(rt.alloc(), commands)?;
     assert!(rt; print_as(rt.alloc(), &replies, &wanted)?);

@@ -72,6 +72,11 @@ const RANKS: &str =
 
 const RANKED: &str = "new\nnew\nold 20\nin 1\nout 2\n1 10\n2 21\nnone\nout 0\n1 10,2 21\nbad\n";
 
+const NEIGHBOURS: &str =
+    "put 2 20\nput 1 10\nput 2 21\nrank 2\nrank 3\nat 0\nnext 1\ndel 1\nall\nget 01x";
+
+const NEIGHBOURED: &str = "new\nnew\nold 20\nin 1\nout 2\n1 10\n2 21\ngone 10\n2 21\nbad\n";
+
 // Whether serving gives this, and this is what was written.
 fn serves(
     alloc: Global,
@@ -133,10 +138,7 @@ fn inputs(rt: HostRuntime) {
             "put 18446744073709551615 18446744073709551615\nput 18446744073709551615 184467440737095516150\nlen",
             "new\nbad\n1\n",
         ),
-        (
-            "put 2 20\nput 1 10\nput 2 21\nrank 2\nrank 3\nat 0\nnext 1\ndel 1\nall\nget 01x",
-            "new\nnew\nold 20\nin 1\nout 2\n1 10\n2 21\ngone 10\n2 21\nbad\n",
-        ),
+        (NEIGHBOURS, NEIGHBOURED),
         (
             "put 0 18446744073709551615\nput 18446744073709551615 0\nall\nback\nat 2\nprev 0\nclear\nall\nlen",
             "new\nnew\n0 18446744073709551615,18446744073709551615 0\n18446744073709551615 0,0 18446744073709551615\nnone\nnone\ncleared\nempty\n0\n",
@@ -148,6 +150,14 @@ fn inputs(rt: HostRuntime) {
         (
             "del 5\nput 5 50\ndel 5\ndel 5\nlen\nclear\nput 5 51\ndel 5\n",
             "none\nnew\ngone 50\nnone\n0\ncleared\nnew\ngone 51\n",
+        ),
+        (
+            "put 5 50\nput 6 60\nput 7 70\nrange 6 18446744073709551615\nrange 7 7\nrange 5\nrange 18446744073709551615 18446744073709551615\nrange 1 18446744073709551616\nrange 18446744073709551615 184467440737095516150",
+            "new\nnew\nnew\n6 60,7 70\nempty\nbad\nempty\nbad\nbad\n",
+        ),
+        (
+            "put 5 50\nput 6 60\nput 7 70\npage 0 2\npage 1 2\npage 2 2\npage 0 0\npage 9223372036854775808 2\npage 0",
+            "new\nnew\nnew\n5 50,6 60\n7 70\nempty\nbad\nempty\nbad\n",
         ),
         (
             "put 1 10\nPUT 1 11\nget 1\n\nget 1\n",
@@ -235,6 +245,10 @@ fn answers_byte_by_byte(alloc: Global) -> Result<bool, AllocError> {
         input.extend_from_slice(b"get 123\n")?;
         output.extend_from_slice(b"none\n")?;
     }
+    input.extend_from_slice(b"clear\n")?;
+    output.extend_from_slice(b"cleared\n")?;
+    input.extend_from_slice(NEIGHBOURS.as_bytes())?;
+    output.extend_from_slice(NEIGHBOURED.as_bytes())?;
     let source = new_source(&input, 1, usize::MAX);
     let sink = new_sink(alloc, 1, usize::MAX, true);
     Ok(serves(alloc, source, sink, Ok(()), &output))
@@ -253,6 +267,7 @@ fn streams_with_faults(rt: HostRuntime) {
         (INPUT, (1, 1000), (1, 6, true), "new\nne"),
         (INPUT, (100, 1000), (100, 6, true), "new\nne"),
         ("len", (100, 1000), (100, 1, true), "0"),
+        (NEIGHBOURS, (1, 1000), (100, 6, true), "new\nne"),
         ("len", (100, 1000), (0, 100, true), ""),
         ("len", (100, 1000), (100, 100, false), "0\n"),
         ("", (100, 1000), (100, 100, false), ""),

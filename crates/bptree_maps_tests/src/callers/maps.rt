@@ -1,5 +1,5 @@
 //! Callers of maps.
-ghost use Rattle.std.specs.Prelude.{◌≡◌, ◌<◌, ◌≤◌, ◌-◌, ◌+◌, ◌*◌, ◌^◌, ◌∷◌, [], ℕ, length, true, false, slice_get, remove, if◌then◌else◌, IfOk, IfErr, OnErr, OnOk, IfSome, IsTrue, Some, None};
+ghost use Rattle.std.specs.Prelude.{◌≡◌, ◌<◌, ◌≤◌, ◌-◌, ◌+◌, ◌*◌, ◌^◌, ◌∷◌, [], ℕ, length, min, true, false, slice_get, remove, if◌then◌else◌, IfOk, IfErr, OnErr, OnOk, IfSome, IsTrue, Some, None};
 ghost use Rattle.std.specs.Map.{keys_of};
 ghost use Rattle.std.specs.Ordering.{nat_cmp};
 ghost use Rattle.std.specs.Option.{option_copied, option_map};
@@ -7,6 +7,7 @@ ghost use Rattle.bptree_arguments.specs.CountLaws.{count_below};
 ghost use Rattle.bptree_arguments.specs.Visits.{answered};
 ghost use Rattle.bptree_insertion.specs.Lending.{written};
 ghost use Rattle.bptree_keys.specs.Contents.{IsAscending, has, value as value_of, put, del, gather};
+ghost use Rattle.bptree_keys.specs.Ranges.{between};
 ghost use Rattle.bptree_nodes.specs.Leaf.{set_value_at};
 
 use bptree_arguments::argument::{Argument, RankArgument, SearchArgument};
@@ -196,6 +197,19 @@ fn says_how_many_are_left<K: Key, V: Drop, A: Argument<K>>(
     map.iter().size_hint()
 }
 
+// It tells how many pairs are below a key, and the last of them comes from the back.
+fn gives_the_last_below<'a, K: Key, V: Drop, A: Argument<K>>(
+    map: &'a BPlusTreeMap<K, V, A>,
+    hi: &K,
+) -> (usize, Option<(&'a K, &'a V)>)
+    ensures len { result.0 ≡ length (between K.cmp map.now None (Some hi.now)) }
+    ensures last { option_map (λ pair. (pair.0.now, pair.1.now)) result.1 ≡ slice_get (between K.cmp map.now None (Some hi.now)) (result.0 - 1) }
+{
+    let mut pairs = map.range(None, Some(hi));
+    let len = pairs.len();
+    (len, pairs.next_back())
+}
+
 // The summary of all keys is a count where the argument is one.
 fn counts_all_keys(map: &BPlusTreeMap<u64, u64, Count>) -> usize
     ensures { result ≡ length map.now }
@@ -211,6 +225,17 @@ fn finds_the_pair_at_a_place(
     ensures { IfOk result (λ found. option_map (λ pair. (pair.0.now, pair.1.now)) found ≡ slice_get map.now place) }
 {
     map.get_by_argument(place)
+}
+
+// By a count so many pairs are given from a place on, or those that are left there.
+fn counts_the_pairs_from_a_place(
+    map: &BPlusTreeMap<u64, u64, Count>,
+    place: usize,
+    n: usize,
+) -> Result<usize, AllocError>
+    ensures { IfOk result (λ len. len ≡ min n (length map.now - place)) }
+{
+    Ok(map.range_by_argument(place, n)?.len())
 }
 
 // By a count the rank of a key is how many keys are smaller, and tells whether the key is there.

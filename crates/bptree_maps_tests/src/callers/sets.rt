@@ -4,7 +4,7 @@ ghost use Rattle.std.specs.List.{find};
 ghost use Rattle.std.specs.Map.Iter.{TakesFirst, deref};
 ghost use Rattle.std.specs.Option.{option_copied, option_or};
 ghost use Rattle.std.specs.Ordering.{is_eq};
-ghost use Rattle.bptree_maps.specs.Keys.{holds, with_key, without_key, gathered};
+ghost use Rattle.bptree_maps.specs.Keys.{holds, with_key, without_key, gathered, keys_between};
 ghost use Rattle.bptree_maps.specs.Union.{union};
 
 use bptree_keys::key::Key;
@@ -111,6 +111,20 @@ fn starts_with_all<K: Key>(set: &BPlusTreeSet<K>) -> (Iter<'_, K>, usize)
     let keys = set.iter();
     let len = keys.len();
     (keys, len)
+}
+
+// It tells how many keys are between two, and the first of them comes first.
+fn gives_the_first_between<'a, K: Key>(
+    set: &'a BPlusTreeSet<K>,
+    lo: &K,
+    hi: &K,
+) -> (usize, Option<&'a K>)
+    ensures len { result.0 ≡ length (keys_between K.cmp set.now (Some lo.now) (Some hi.now)) }
+    ensures first { option_copied result.1 ≡ slice_get (keys_between K.cmp set.now (Some lo.now) (Some hi.now)) 0 }
+{
+    let mut keys = set.range(Some(lo), Some(hi));
+    let len = keys.len();
+    (len, keys.next())
 }
 
 // Of two keys each comes once, the one from the front and the other from the back, and then none.

@@ -1,14 +1,21 @@
 //! Parts of the contents of a tree.
-ghost use Rattle.std.specs.Prelude.{◌≡◌};
+ghost use Rattle.std.specs.Prelude.{◌≡◌, IfOk};
 ghost use Rattle.std.specs.Map.Iter.{ShowsInOrder, deref_pair};
 ghost use Rattle.std.specs.Option.{option_copied};
+ghost use Rattle.bptree_arguments.specs.Groups.{of_group};
 ghost use Rattle.bptree_keys.specs.Contents.{IsAscending};
-ghost use Rattle.bptree_keys.specs.Ranges.{between};
+ghost use Rattle.bptree_keys.specs.Ranges.{between, part};
+ghost use Rattle.bptree_shape.specs.ByArgument.{IsPartSelected};
 
 use crate::iterator::Iter;
 use crate::tree::BPlusTree;
-use bptree_shape::ranges::part_between;
+use bptree_arguments::argument::SearchArgument;
+use bptree_arguments::group::FromRef;
+use bptree_keys::key::Key;
+use bptree_shape::groups::{part_of_group, part_within_group};
+use bptree_shape::ranges::{part_between, part_by_argument};
 use bptree_stores::node_stores::NodeStore;
+use std::alloc::AllocError;
 
 impl<S: NodeStore> BPlusTree<S> {
     /// The pairs whose key is not below `lo` and is below `hi`, where they are given, in the order of their keys. It takes no
@@ -16,7 +23,7 @@ impl<S: NodeStore> BPlusTree<S> {
     ///
     /// Each end that is given is searched for once, from the root, and the leaves from the one to the other are stepped
     /// through, to tell how many pairs there are.
-    pub fn range(&self, lo: Option<&S::K>, hi: Option<&S::K>) -> Iter<'_, S>
+    pub fn range<'b>(&self, lo: Option<&'b S::K>, hi: Option<&'b S::K>) -> Iter<'_, S>
         ensures rest { result ≡ between S.K.cmp self.now.contents (option_copied lo.entry) (option_copied hi.entry) }
         ensures ascending { IsAscending S.K.cmp result }
         ensures runs { ShowsInOrder (deref_pair {K = S.K} {X = S.V}) }
@@ -32,5 +39,85 @@ impl<S: NodeStore> BPlusTree<S> {
             part.to,
             part.len,
         )
+    }
+
+    /// The first `n` pairs, or all where there are fewer, from a place on that is allowed for the query, in the order of
+    /// their keys; none where none is. It takes no memory but what the argument takes, and its steps take none.
+    ///
+    /// The query is asked once on each level, and the leaves of the part are stepped through, to tell how many pairs there
+    /// are.
+    pub fn range_by_argument(
+        &self,
+        query: <S::Argument as SearchArgument<S::K>>::Query,
+        n: usize,
+    ) -> Result<Iter<'_, S>, AllocError>
+    where
+        S::Argument: SearchArgument<S::K>,
+        ensures rest { IfOk result (λ it. IsPartSelected S.Argument.selects query self.now.contents n it) }
+        ensures ascending { IfOk result (λ it. IsAscending S.K.cmp it) }
+        ensures runs { ShowsInOrder (deref_pair {K = S.K} {X = S.V}) }
+    {
+        // Read, so that it is known to fit.
+        let _len = self.len;
+        let part = part_by_argument(&self.store, self.root, self.height, query, n)?;
+        Ok(Iter::new(
+            &self.store,
+            part.front,
+            part.from,
+            part.back,
+            part.to,
+            part.len,
+        ))
+    }
+
+    /// The pairs whose key's group equals the group, in the order of their keys. Its steps take no memory, and it takes none
+    /// but what the groups of keys take.
+    ///
+    /// The beginning and the end of the group are searched for once each, from the root, by the groups of separators and
+    /// keys: no summary is asked, so it can be had whatever the argument is. At most 7 groups are made of each node on the
+    /// way. Then the leaves of the group are stepped through, to tell how many pairs there are.
+    pub fn group_range<G: FromRef<S::K> + Key>(&self, group: &G) -> Result<Iter<'_, S>, AllocError>
+        ensures rest { IfOk result (λ it. it ≡ of_group G.cmp G.group_of group.now self.now.contents) }
+        ensures ascending { IfOk result (λ it. IsAscending S.K.cmp it) }
+        ensures runs { ShowsInOrder (deref_pair {K = S.K} {X = S.V}) }
+    {
+        // Read, so that it is known to fit.
+        let _len = self.len;
+        let part = part_of_group(&self.store, self.root, self.height, group)?;
+        Ok(Iter::new(
+            &self.store,
+            part.front,
+            part.from,
+            part.back,
+            part.to,
+            part.len,
+        ))
+    }
+
+    /// So many pairs of a group, or all where there are fewer, without its first `i`: a page of the group. What it takes is the
+    /// same as of `group_range`.
+    ///
+    /// It costs the same as `group_range`, and then a step for each leaf of the group up to the last of the pairs.
+    pub fn group_part<G: FromRef<S::K> + Key>(
+        &self,
+        group: &G,
+        i: usize,
+        n: usize,
+    ) -> Result<Iter<'_, S>, AllocError>
+        ensures rest { IfOk result (λ it. it ≡ part (of_group G.cmp G.group_of group.now self.now.contents) i n) }
+        ensures ascending { IfOk result (λ it. IsAscending S.K.cmp it) }
+        ensures runs { ShowsInOrder (deref_pair {K = S.K} {X = S.V}) }
+    {
+        // Read, so that it is known to fit.
+        let _len = self.len;
+        let part = part_within_group(&self.store, self.root, self.height, group, i, n)?;
+        Ok(Iter::new(
+            &self.store,
+            part.front,
+            part.from,
+            part.back,
+            part.to,
+            part.len,
+        ))
     }
 }

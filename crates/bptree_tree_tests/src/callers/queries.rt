@@ -6,6 +6,7 @@ ghost use Rattle.std.specs.Option.{option_map};
 ghost use Rattle.bptree_arguments.specs.CountLaws.{count_below};
 ghost use Rattle.bptree_keys.specs.Contents.{has, del};
 ghost use Rattle.bptree_nodes.specs.Leaf.{set_value_at};
+ghost use Rattle.bptree_tree.specs.Whole.{IsUntouched};
 
 use bptree_arguments::argument::{RankArgument, SearchArgument};
 use bptree_arguments::count::Count;
@@ -112,7 +113,8 @@ fn takes_nothing_past_the_end<S: NodeStore<K = u64, V = u64, Argument = Count>>(
     }
 }
 
-// A value is written at an allowed place, and no key changes. Where the query is refused, nothing does.
+// A value is written at an allowed place, and no key changes. Where the query is refused, nothing does: what stands under
+// each number of the store, the root, the height and the root's summary are as they were.
 fn writes_by_a_query<S: NodeStore>(
     tree: &mut BPlusTree<S>,
     query: <S::Argument as SearchArgument<S::K>>::Query,
@@ -122,6 +124,7 @@ where
     S::Argument: SearchArgument<S::K>,
     ensures written { OnOk result ((i : ℕ) × S.Argument.selects query (keys_of tree.old.contents) (Some i) × (tree.new.contents ≡ set_value_at tree.old.contents i v)) }
     ensures refused { OnErr result (tree.new ≡ tree.old) }
+    ensures unchanged { OnErr result (IsUntouched (λ store. S.slots store) tree.new tree.old) }
     ensures absent { IfErr result (λ error. error ≡ SelectError.NotFound → S.Argument.selects query (keys_of tree.old.contents) None) }
 {
     match tree.get_mut_by_argument(query) {

@@ -1,10 +1,19 @@
 //! Callers of parts of a tree.
-ghost use Rattle.std.specs.Prelude.{◌≡◌, length, slice_get, Some};
+ghost use Rattle.std.specs.Prelude.{◌≡◌, ◌≤◌, length, slice_get, Some, IfOk, IfSome};
+ghost use Rattle.std.specs.declared.cmp.Ordering.TheVariants.{Equal};
+ghost use Rattle.std.specs.Map.{keys_of};
 ghost use Rattle.std.specs.Option.{option_map};
-ghost use Rattle.bptree_keys.specs.Ranges.{between};
+ghost use Rattle.bptree_arguments.specs.Groups.{group};
+ghost use Rattle.bptree_keys.specs.Ranges.{between, part};
 
+use bptree_arguments::argument::SearchArgument;
+use bptree_arguments::count::Count;
+use bptree_arguments::group::FromRef;
+use bptree_keys::key::Key;
 use bptree_stores::node_stores::NodeStore;
 use bptree_tree::BPlusTree;
+use bptree_tree::iterator::Iter;
+use std::alloc::AllocError;
 
 // It tells how many pairs are between two keys, and the first of them comes first.
 fn gives_the_first_between<'a, S: NodeStore>(
@@ -18,4 +27,41 @@ fn gives_the_first_between<'a, S: NodeStore>(
     let mut pairs = tree.range(Some(lo), Some(hi));
     let len = pairs.len();
     (len, pairs.next())
+}
+
+// From an allowed place on it tells no more pairs than were asked for.
+fn gives_no_more_than_asked<S: NodeStore>(
+    tree: &BPlusTree<S>,
+    query: <S::Argument as SearchArgument<S::K>>::Query,
+    n: usize,
+) -> Result<usize, AllocError>
+where
+    S::Argument: SearchArgument<S::K>,
+    ensures { IfOk result (λ len. len ≤ n) }
+{
+    Ok(tree.range_by_argument(query, n)?.len())
+}
+
+// By a count it gives the pairs from a place on, and none past the end.
+fn gives_the_pairs_from_a_place<S: NodeStore<K = u64, V = u64, Argument = Count>>(
+    tree: &BPlusTree<S>,
+    place: usize,
+    n: usize,
+) -> Result<Iter<'_, S>, AllocError>
+    ensures { IfOk result (λ pairs. pairs ≡ part tree.now.contents place n) }
+{
+    tree.range_by_argument(place, n)
+}
+
+// It gives as many pairs as a group has keys, and the first of them first.
+fn gives_the_pairs_of_a_group<'a, S: NodeStore, G: FromRef<S::K> + Key>(
+    tree: &'a BPlusTree<S>,
+    g: &G,
+) -> Result<(usize, Option<(&'a S::K, &'a S::V)>), AllocError>
+    ensures len { IfOk result (λ told. told.0 ≡ length (group G.cmp G.group_of g.now (keys_of tree.now.contents))) }
+    ensures first { IfOk result (λ told. IfSome told.1 (λ pair. G.cmp (G.group_of pair.0.now) g.now ≡ Equal)) }
+{
+    let mut pairs = tree.group_range(g)?;
+    let len = pairs.len();
+    Ok((len, pairs.next()))
 }

@@ -5,7 +5,7 @@ ghost use Rattle.bptree_tree.specs.Cursor.{cursor_key};
 ghost use Rattle.sweep_bptree.specs.Steps.{IsCopyOf, RepliesCopy, TreeStep, Step, Run, reply_to_refusal};
 
 use crate::script::held;
-use crate::script::walk::{End, walk};
+use crate::script::walk::{End, walk, walk_range, walk_range_at};
 use bptree_arguments::argument::{RankArgument, SearchArgument};
 use bptree_keys::key::Key;
 use bptree_stores::node_stores::NodeStore;
@@ -57,6 +57,11 @@ pub enum Command<K, V, Q> {
     Value(usize),
     /// Takes pairs from the ends of an iterator that is made for it.
     Walk(Vec<End>),
+    /// Takes pairs from the ends of an iterator over those whose key is not below the first, where it is given, and is below
+    /// the second, where it is given.
+    Range(Option<K>, Option<K>, Vec<End>),
+    /// Takes pairs from the ends of an iterator over so many, from a place on that is allowed for the query.
+    RangeAt(Q, usize, Vec<End>),
 }
 
 /// What a command is answered.
@@ -293,6 +298,8 @@ where
         Command::Exists(number) => held::exists(tree, cursors.as_slice(), number),
         Command::Value(number) => held::value(tree, cursors.as_slice(), number),
         Command::Walk(word) => walk(alloc, tree, word),
+        Command::Range(lo, hi, word) => walk_range(alloc, tree, lo, hi, word),
+        Command::RangeAt(query, n, word) => walk_range_at(alloc, tree, query, n, word),
     }
 }
 

@@ -6,7 +6,7 @@ ghost use Rattle.bptree_arguments.specs.CountLaws.{count_below};
 ghost use Rattle.bptree_keys.specs.Contents.{has, value, del, next, previous};
 ghost use Rattle.bptree_requests.specs.Request.{request_of};
 ghost use Rattle.bptree_tree.specs.Cursor.{cursor_key};
-ghost use Rattle.sweep_bptree.specs.Answers.{pair_text, found_text, item_text, pairs_text, rank_text, old_text, gone_text, value_text, put_text, pairs_with_put, reply_to, pairs_with, answer, pairs_after};
+ghost use Rattle.sweep_bptree.specs.Answers.{pair_text, found_text, item_text, pairs_text, page_text, rank_text, old_text, gone_text, value_text, put_text, pairs_with_put, reply_to, pairs_with, answer, pairs_after};
 ghost use Rattle.sweep_bptree.specs.Ends.{seen_from};
 ghost use Rattle.sweep_bptree.specs.Sent.{SendsOrFails, Replies};
 
@@ -18,11 +18,14 @@ use arrayvec::ArrayString;
 use bptree_arguments::count::Count;
 use bptree_requests::{Request, read_request};
 use bptree_tree::cursor::Cursor;
+use bptree_tree::iterator::Iter;
 use std::fmt::Write as _;
 use std::io::Write;
 
 /// The tree that lines are carried out on.
-pub type NumberTree = BPlusTree<NodeStoreVec<u64, u64, Count>>;
+pub type NumberTree = BPlusTree<NumberStore>;
+
+type NumberStore = NodeStoreVec<u64, u64, Count>;
 
 /// How many digits the greatest number has.
 const DIGITS: usize = 20;
@@ -110,20 +113,44 @@ fn send_item<W: Write>(
     send_pair(out, key, value)
 }
 
-// All pairs, from one end to the other.
-fn send_pairs<W: Write>(out: &mut Output<W>, tree: &NumberTree, end: End) -> Result<(), ServeError>
-    ensures { SendsOrFails out.old out.new (pairs_text (seen_from end tree.now.contents)) result }
+// Pairs, from one end to the other.
+fn send_pairs<W: Write>(
+    out: &mut Output<W>,
+    pairs: Iter<'_, NumberStore>,
+    end: End,
+) -> Result<(), ServeError>
+    ensures { SendsOrFails out.old out.new (pairs_text (seen_from end pairs.entry)) result }
 {
-    if tree.is_empty() {
+    if pairs.len() == 0 {
         return out.send(b"empty");
     }
-    let mut pairs = tree.iter();
+    let mut pairs = pairs;
     let mut is_first = true;
     while let Some((key, value)) = take_pair(&mut pairs, end) {
         send_item(out, is_first, *key, *value)?;
         is_first = false;
     }
     Ok(())
+}
+
+// The pairs of a page, where a page has some.
+fn send_page<W: Write>(
+    out: &mut Output<W>,
+    tree: &NumberTree,
+    p: u64,
+    s: u64,
+) -> Result<(), ServeError>
+    ensures { Replies out.old out.new (page_text tree.now.contents p s) result }
+{
+    if s == 0 {
+        return out.send(b"bad");
+    }
+    // Read, so that it is known that no place is as great as the greatest number.
+    let _len = tree.len();
+    match tree.range_by_argument(p.saturating_mul(s) as usize, s as usize) {
+        Ok(pairs) => send_pairs(out, pairs, End::Front),
+        Err(_) => Err(ServeError::OutOfMemory),
+    }
 }
 
 // The pair at a place, if there is one.
@@ -250,8 +277,10 @@ fn carry_out<W: Write>(
         Request::Del(key) => delete_pair(tree, key, out),
         Request::Get(key) => send_value(out, tree.get(&key).copied()),
         Request::Len => send_number(out, tree.len() as u64),
-        Request::All => send_pairs(out, tree, End::Front),
-        Request::Back => send_pairs(out, tree, End::Back),
+        Request::All => send_pairs(out, tree.iter(), End::Front),
+        Request::Back => send_pairs(out, tree.iter(), End::Back),
+        Request::Range(lo, hi) => send_pairs(out, tree.range(Some(&lo), Some(&hi)), End::Front),
+        Request::Page(p, s) => send_page(out, tree, p, s),
         Request::First => send_found(out, tree.first()),
         Request::Last => send_found(out, tree.last()),
         Request::At(place) => send_place(out, tree, place),

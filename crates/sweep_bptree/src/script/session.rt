@@ -131,7 +131,7 @@ fn serve_pieces<R: Read, W: Write>(
 /// Reads lines to the end of the input, carries out each on the tree of a map that begins empty, and writes the answer to each.
 ///
 /// The answers to all lines that were read are written before more is read, and the writer is flushed at the end. Of a
-/// line no more than 46 bytes are kept, and no memory is taken beside the map's. A write that takes no byte is a fault,
+/// line no more than 48 bytes are kept, and no memory is taken beside the map's. A write that takes no byte is a fault,
 /// and so is an input without an end after `u64::MAX` reads.
 pub fn serve<R: Read, W: Write>(
     alloc: Global,

@@ -34,18 +34,18 @@ pub(crate) fn take_pair<'a, S: NodeStore>(
     }
 }
 
-// Copies of what each end of a word takes of the pairs of a tree. Room for all is found by one request.
+// Copies of what each end of a word takes of pairs. Room for all is found by one request.
 fn taken<S: NodeStore>(
     alloc: Global,
-    tree: &BPlusTree<S>,
+    pairs: Iter<'_, S>,
     word: &[End],
 ) -> Result<Vec<Option<(S::K, S::V)>>, AllocError>
 where
     S::V: Copy,
-    ensures { IfOk result (λ answers. AllZip (IsCopyOf S.K.cmp) (walked word.now tree.now.contents) answers.items) }
+    ensures { IfOk result (λ answers. AllZip (IsCopyOf S.K.cmp) (walked word.now pairs.entry) answers.items) }
 {
     let mut answers = Vec::with_capacity(alloc, word.len())?;
-    let mut pairs = tree.iter();
+    let mut pairs = pairs;
     let mut left = word;
     while let Some((end, rest)) = left.split_first() {
         let pair = take_pair(&mut pairs, *end);
@@ -62,7 +62,49 @@ where
     S::Argument: SearchArgument<S::K> + RankArgument<S::K>,
     ensures { TreeStep S.K.cmp S.Argument.selects S.Argument.ranks tree.now.contents (Command.Walk word) result tree.now.contents }
 {
-    match taken(alloc, tree, word.as_slice()) {
+    match taken(alloc, tree.iter(), word.as_slice()) {
+        Ok(answers) => Reply::Walked(answers),
+        Err(_) => Reply::OutOfMemory,
+    }
+}
+
+/// Takes pairs from the ends of what is between two keys.
+pub(crate) fn walk_range<S: NodeStore>(
+    alloc: Global,
+    tree: &BPlusTree<S>,
+    lo: Option<S::K>,
+    hi: Option<S::K>,
+    word: Vec<End>,
+) -> ReplyOf<S>
+where
+    S::V: Copy,
+    S::Argument: SearchArgument<S::K> + RankArgument<S::K>,
+    ensures { TreeStep S.K.cmp S.Argument.selects S.Argument.ranks tree.now.contents (Command.Range lo hi word) result tree.now.contents }
+{
+    let pairs = tree.range(lo.as_ref(), hi.as_ref());
+    match taken(alloc, pairs, word.as_slice()) {
+        Ok(answers) => Reply::Walked(answers),
+        Err(_) => Reply::OutOfMemory,
+    }
+}
+
+/// Takes pairs from the ends of so many, from a place on that is allowed for the query.
+pub(crate) fn walk_range_at<S: NodeStore>(
+    alloc: Global,
+    tree: &BPlusTree<S>,
+    query: <S::Argument as SearchArgument<S::K>>::Query,
+    n: usize,
+    word: Vec<End>,
+) -> ReplyOf<S>
+where
+    S::V: Copy,
+    S::Argument: SearchArgument<S::K> + RankArgument<S::K>,
+    ensures { TreeStep S.K.cmp S.Argument.selects S.Argument.ranks tree.now.contents (Command.RangeAt query n word) result tree.now.contents }
+{
+    let Ok(pairs) = tree.range_by_argument(query, n) else {
+        return Reply::OutOfMemory;
+    };
+    match taken(alloc, pairs, word.as_slice()) {
         Ok(answers) => Reply::Walked(answers),
         Err(_) => Reply::OutOfMemory,
     }

@@ -1,7 +1,6 @@
-use Rattle.std.proofs.Common.{◌≡◌, ◌∙◌, ◌+◌, ◌-◌, ap, arith, refl, sym}
+use Rattle.std.proofs.Common.{◌+◌, arith, refl, subst, sym}
 use Rattle.std.specs.Option.{option_copied}
-use Rattle.bptree_keys.specs.Ranges.{part}
-use Rattle.bptree_shape.specs.Ranges.{start}
+use Rattle.bptree_shape.specs.Ranges.{start, IsPart}
 use Rattle.bptree_shape.specs.Shape.{pairs_at}
 use Rattle.bptree_shape.proofs.Between.{between_is, between_none}
 use Rattle.bptree_shape.proofs.Ranged.{contents_ascend}
@@ -18,22 +17,6 @@ returns-then-not-are_apart g c =
       pairs = between_none g.met.S.K.Ord.total (pairs_at slots c.args.height c.args.root) (option_copied c.args.lo) (option_copied c.args.hi) (c.are_apart.ensures c.if-not-are_apart.true);
     }
 
-pub returns-then-len-eq0 : goal.returns-then-len-eq0
-returns-then-len-eq0 g c =
-    let slots = g.S.NodeStore.slots c.args.store.now in
-    let pairs = pairs_at slots c.args.height c.args.root in
-    let i = start slots c.args.height c.args.root c.front_of-from.result.0 + c.front_of-from.result.1 in
-    let j = start slots c.args.height c.args.root c.back_of-to.result.0 + c.back_of-to.result.1 in
-    let is = between_is g.met.S.K.Ord.total pairs (option_copied c.args.lo) (option_copied c.args.hi) i j (contents_ascend g.S.Argument.Argument.is_summary slots c.args.height c.args.root c.requires.shape g.met.S.K.Ord.total) c.front_of-from.ensures.before c.back_of-to.ensures.before in
-    let none : j - i ≡ 0 = sym c.count_between-len.ensures ∙ c.if-len-eq0.true in
-    record {
-      front = c.front_of-from.ensures.place;
-      back = c.front_of-from.ensures.place;
-      apart = omega arith;
-      none = λ e. (refl, refl);
-      pairs = is ∙ ap (part pairs i) none;
-    }
-
 pub returns : goal.returns
 returns g c =
     let slots = g.S.NodeStore.slots c.args.store.now in
@@ -41,10 +24,4 @@ returns g c =
     let i = start slots c.args.height c.args.root c.front_of-from.result.0 + c.front_of-from.result.1 in
     let j = start slots c.args.height c.args.root c.back_of-to.result.0 + c.back_of-to.result.1 in
     let is = between_is g.met.S.K.Ord.total pairs (option_copied c.args.lo) (option_copied c.args.hi) i j (contents_ascend g.S.Argument.Argument.is_summary slots c.args.height c.args.root c.requires.shape g.met.S.K.Ord.total) c.front_of-from.ensures.before c.back_of-to.ensures.before in
-    record {
-      front = c.front_of-from.ensures.place;
-      back = c.back_of-to.ensures.place;
-      apart = omega (arith, c.count_between-len.ensures, c.if-len-eq0.false);
-      none = λ e. absurd (c.if-len-eq0.false e);
-      pairs = is ∙ ap (part pairs i) (sym c.count_between-len.ensures);
-    }
+    subst (IsPart slots c.args.height c.args.root c.part_of_places.result) (sym is) c.part_of_places.ensures

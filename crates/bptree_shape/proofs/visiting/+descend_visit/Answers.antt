@@ -1,4 +1,4 @@
-use Rattle.std.proofs.Common.{ap, arith, length, ◌+◌, ◌-◌, ◌<◌}
+use Rattle.std.proofs.Common.{ap, arith, length, ◌-◌, ◌<◌}
 use Rattle.std.proofs.lemmas.Result.{MatchResult-weaker}
 use Rattle.bptree_arguments.specs.Visits.{answered}
 use Rattle.bptree_keys.specs.declared.node_id.NodeId.TheVariants.{Inner}

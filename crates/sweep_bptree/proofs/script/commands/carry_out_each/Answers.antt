@@ -1,4 +1,5 @@
-use Rattle.std.proofs.Common.{◌∙◌, ◌++◌, ◌∷◌, [], ap, sym, append_assoc, length-append, arith}
+use Rattle.std.proofs.Common.{◌≡◌, ◌∙◌, ◌++◌, ◌∷◌, [], ap, sym, length, append_assoc, append-nil, length-append, arith}
+use Rattle.std.proofs.lemmas.List.{nil_from_length}
 use Rattle.std.specs.Vec.Iter.{into_iter_items}
 use Rattle.sweep_bptree.proofs.RunLemmas.{Run-more}
 use Rattle.sweep_bptree.proofs.script.commands.carry_out_each.Goals as goal
@@ -14,3 +15,16 @@ loop-command-preserved g c =
       omega (arith, c.push_reserved.ensures.capacity, inv.4),
       rw c.push_reserved.ensures.items (Run-more g.S.K.Ord.cmp g.S.Argument.SearchArgument.selects g.S.Argument.RankArgument.ranks done c.loop-command.replies.items _ _ _ _ _ _ _ _ inv.5 c.carry_out.ensures),
     )
+
+-- no command is left
+pub returns-clause-run : goal.returns-clause-run
+returns-clause-run g c =
+    let none = nil_from_length (into_iter_items c.loop-command.command-iterator) (sym c.loop-command.command-iterator.rest.ok.0 ∙ c.in-None.ensures.steps.0) in
+    let all : c.args.commands.items ≡ c.loop-command.yielded = c.loop-command.invariant.2 ∙ ap (λ rest. c.loop-command.yielded ++ rest) none ∙ append-nil c.loop-command.yielded in
+    rw all c.loop-command.invariant.5
+
+pub returns-clause-all : goal.returns-clause-all
+returns-clause-all g c =
+    let none = nil_from_length (into_iter_items c.loop-command.command-iterator) (sym c.loop-command.command-iterator.rest.ok.0 ∙ c.in-None.ensures.steps.0) in
+    let all : c.args.commands.items ≡ c.loop-command.yielded = c.loop-command.invariant.2 ∙ ap (λ rest. c.loop-command.yielded ++ rest) none ∙ append-nil c.loop-command.yielded in
+    c.loop-command.invariant.3 ∙ ap length (sym all) ∙ sym c.args.commands.ok.0

@@ -1,17 +1,15 @@
-use Rattle.std.proofs.Common.{ℕ, ◌≡◌, ◌++◌, [], ap, sym, ◌∙◌, arith, append_assoc, append-nil, false, refl, true}
+use Rattle.std.proofs.Common.{ℕ, ◌≡◌, ◌++◌, [], ap, sym, ◌∙◌, append_assoc, append-nil, false, refl, true}
 use Rattle.std.proofs.lemmas.Result.{err_from_is_err_and}
 use Rattle.sweep_bptree.specs.Answers.{item_text, pairs_text}
 use Rattle.sweep_bptree.specs.Ends.{seen_from}
-use Rattle.sweep_bptree.proofs.EndLemmas.{none_from, none_seen, fewer_left}
+use Rattle.sweep_bptree.proofs.EndLemmas.{none_from, some_seen, fewer_left}
 use Rattle.sweep_bptree.proofs.PairLemmas.{items_text, items_text-is}
 use Rattle.sweep_bptree.proofs.SentLemmas.{SendsOrFails-then, SendsOrFails-cut, Sends-then, Sends-nothing}
 use Rattle.sweep_bptree.proofs.script.reply.send_pairs.Goals as goal
 
 -- nothing was sent yet, and all pairs are left
 pub loop-key-init : goal.loop-key-init
-loop-key-init g c =
-    let all : c.iter-pairs.result ≡ c.args.tree.now.contents = c.iter-pairs.ensures.rest in
-    ([], Sends-nothing _, ap (λ l. items_text true (seen_from c.args.end l)) all)
+loop-key-init g c = ([], Sends-nothing _, refl)
 
 pub returns-in_err-send_item : goal.returns-in_err-send_item
 returns-in_err-send_item g c =
@@ -19,9 +17,9 @@ returns-in_err-send_item g c =
     let pair : ℕ × ℕ = (c.in-Some.key.now, c.in-Some.value.now) in
     let left = seen_from c.args.end c.take_pair.new.pairs in
     let inv = c.loop-key.invariant in
-    let e : inv.0 ++ (item_text c.loop-key.is_first pair ++ items_text false left) ≡ pairs_text (seen_from c.args.end c.args.tree.now.contents) =
+    let e : inv.0 ++ (item_text c.loop-key.is_first pair ++ items_text false left) ≡ pairs_text (seen_from c.args.end c.args.pairs) =
     ap (λ it. inv.0 ++ items_text c.loop-key.is_first it) (sym c.in-Some.ensures.seen) ∙ inv.2
-    ∙ items_text-is (seen_from c.args.end c.args.tree.now.contents) (λ none. let empty = c.is_empty.ensures.1 (none_seen c.args.end c.args.tree.now.contents none) in cc) in
+    ∙ items_text-is (seen_from c.args.end c.args.pairs) (some_seen c.args.end c.args.pairs (λ none. c.if-len-eq0.false (c.len.ensures.value ∙ none))) in
     rw (← e) (SendsOrFails-then _ c.loop-key.out _ inv.0 (item_text c.loop-key.is_first pair ++ items_text false left) _ inv.1
     (SendsOrFails-cut _ _ (item_text c.loop-key.is_first pair) (items_text false left) _ _ _ p.1 p.2 c.in_err-send_item.ensures))
 
@@ -30,7 +28,7 @@ loop-key-preserved g c =
     let pair : ℕ × ℕ = (c.in-Some.key.now, c.in-Some.value.now) in
     let left = seen_from c.args.end c.take_pair.new.pairs in
     let inv = c.loop-key.invariant in
-    let e : inv.0 ++ (item_text c.loop-key.is_first pair ++ items_text false left) ≡ items_text true (seen_from c.args.end c.args.tree.now.contents) =
+    let e : inv.0 ++ (item_text c.loop-key.is_first pair ++ items_text false left) ≡ items_text true (seen_from c.args.end c.args.pairs) =
     ap (λ it. inv.0 ++ items_text c.loop-key.is_first it) (sym c.in-Some.ensures.seen) ∙ inv.2 in (
       inv.0 ++ item_text c.loop-key.is_first pair,
       Sends-then _ c.loop-key.out _ inv.0 (item_text c.loop-key.is_first pair) inv.1 c.in_ok-send_item.ensures,
@@ -46,7 +44,7 @@ returns g c =
     let inv = c.loop-key.invariant in
     let left : c.loop-key.pairs ≡ [] = rw c.in_default.is at c.take_pair.ensures.seen in
     let none : seen_from c.args.end c.loop-key.pairs ≡ [] = ap (seen_from c.args.end) left ∙ none_from c.args.end in
-    let e : inv.0 ≡ pairs_text (seen_from c.args.end c.args.tree.now.contents) =
+    let e : inv.0 ≡ pairs_text (seen_from c.args.end c.args.pairs) =
     sym (append-nil inv.0) ∙ ap (λ it. inv.0 ++ items_text c.loop-key.is_first it) (sym none) ∙ inv.2
-    ∙ items_text-is (seen_from c.args.end c.args.tree.now.contents) (λ none. let empty = c.is_empty.ensures.1 (none_seen c.args.end c.args.tree.now.contents none) in cc) in
+    ∙ items_text-is (seen_from c.args.end c.args.pairs) (some_seen c.args.end c.args.pairs (λ none. c.if-len-eq0.false (c.len.ensures.value ∙ none))) in
     rw (← e) inv.1

@@ -8,7 +8,7 @@ use Rattle.sweep_bptree.proofs.script.reply.send_pairs.Given as goal
 abbrev pub invariant-loop-key : goal.invariant-loop-key
 invariant-loop-key g l =
     (sent : List ℕ) × Sends l.initial.out l.out sent
-    × (sent ++ items_text l.is_first (seen_from l.end l.pairs) ≡ items_text l.initial.is_first (seen_from l.end l.tree.contents))
+    × (sent ++ items_text l.is_first (seen_from l.end l.pairs) ≡ items_text l.initial.is_first (seen_from l.end l.fn.pairs))
 
 abbrev pub decreases-loop-key : goal.decreases-loop-key
 decreases-loop-key g l = length l.pairs

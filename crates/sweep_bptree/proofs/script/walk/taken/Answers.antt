@@ -1,4 +1,4 @@
-use Rattle.std.proofs.Common.{◌≡◌, arith}
+use Rattle.std.proofs.Common.{arith}
 use Rattle.std.specs.Map.Iter.{deref_pair}
 use Rattle.sweep_bptree.specs.Steps.{IsCopyOf}
 use Rattle.sweep_bptree.proofs.EndLemmas.{walking_start, walking_more, walking_end}
@@ -6,7 +6,7 @@ use Rattle.sweep_bptree.proofs.script.walk.taken.Goals as goal
 
 pub loop-end-init : goal.loop-end-init
 loop-end-init g c = (
-  rw (c.iter-pairs.ensures.rest, c.in_ok-answers.ensures.items) (walking_start (IsCopyOf g.S.K.Ord.cmp) c.args.word.now c.args.tree.now.contents),
+  rw c.in_ok-answers.ensures.items (walking_start (IsCopyOf g.S.K.Ord.cmp) c.args.word.now c.args.pairs),
   omega (arith, c.in_ok-answers.ensures.len, c.in_ok-answers.ensures.capacity),
 )
 

@@ -7,7 +7,7 @@ use Rattle.sweep_bptree.proofs.script.walk.taken.Given as goal
 -- the ends so far have their answers, and the others have room
 abbrev pub invariant-loop-end : goal.invariant-loop-end
 invariant-loop-end g l =
-    IsWalking (IsCopyOf g.S.K.Ord.cmp) (walked l.fn.word l.fn.tree.contents) l.left l.pairs l.answers.items
+    IsWalking (IsCopyOf g.S.K.Ord.cmp) (walked l.fn.word l.fn.pairs) l.left l.pairs l.answers.items
     × (vec_len l.answers + length l.left ≤ vec_capacity l.answers)
 
 abbrev pub decreases-loop-end : goal.decreases-loop-end

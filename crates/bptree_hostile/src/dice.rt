@@ -1,0 +1,46 @@
+//! Numbers in no order, the same in each run, and keys that are made of them.
+
+use std::alloc::{AllocError, Global};
+use sweep_bptree::tree::Key;
+
+/// Each number is made of the one before by shifts.
+#[derive(Drop)]
+pub struct Dice(u64);
+
+impl Dice {
+    /// Another seed makes other numbers.
+    pub fn new(seed: u64) -> Dice {
+        Dice(seed.wrapping_mul(0x9e37_79b9_7f4a_7c15) | 1)
+    }
+
+    pub fn number(&mut self) -> u64 {
+        let mut next = self.0;
+        next ^= next << 13;
+        next ^= next >> 7;
+        next ^= next << 17;
+        self.0 = next;
+        next.wrapping_mul(0x2545_f491_4f6c_dd1d)
+    }
+
+    /// A number below another one.
+    pub fn below(&mut self, end: u64) -> u64 {
+        (self.number() >> 11) % end.max(1)
+    }
+}
+
+/// Keys that are made of numbers. Their order need not be the numbers'.
+pub trait Sample: Key {
+    fn sample(alloc: Global, number: u64) -> Result<Self, AllocError>;
+}
+
+impl Sample for u64 {
+    fn sample(_alloc: Global, number: u64) -> Result<u64, AllocError> {
+        Ok(number)
+    }
+}
+
+impl Sample for String {
+    fn sample(alloc: Global, number: u64) -> Result<String, AllocError> {
+        format!(in alloc; "{number}")
+    }
+}

@@ -1,0 +1,82 @@
+//! Callers of pages.
+ghost use Rattle.std.specs.Prelude.{◌≡◌, ◌≤◌, ◌/◌, ◌-◌, ◌*◌, IfOk, filter, length, min, slice_get, true};
+ghost use Rattle.std.specs.Ordering.{is_eq};
+ghost use Rattle.std.specs.Map.{keys_of};
+ghost use Rattle.std.specs.Option.{option_map};
+ghost use Rattle.bptree_arguments.specs.CountLaws.{count_below};
+ghost use Rattle.bptree_arguments.specs.Groups.{of_group};
+ghost use Rattle.bptree_keys.specs.Contents.{has};
+
+use bptree_arguments::argument::Argument;
+use bptree_arguments::count::Count;
+use bptree_arguments::group::FromRef;
+use bptree_keys::key::Key;
+use bptree_maps::map::BPlusTreeMap;
+use bptree_pages::page::{group_page, laws_of_pages, page, page_of, pages};
+use std::alloc::AllocError;
+
+// The page behind the last one is empty.
+fn shows_none_behind_the_last<K: Key, V: Drop>(
+    map: &BPlusTreeMap<K, V, Count>,
+    s: usize,
+) -> Result<usize, AllocError>
+    requires { 1 ≤ s }
+    ensures { IfOk result (λ len. len ≡ 0) }
+{
+    laws_of_pages::<K, V>();
+    let after = pages(map, s);
+    Ok(page(map, after, s)?.len())
+}
+
+// The first page has as many pairs as fit, and begins with the first of all.
+fn begins_with_the_first<K: Key, V: Drop>(
+    map: &BPlusTreeMap<K, V, Count>,
+    s: usize,
+) -> Result<(usize, Option<(&K, &V)>), AllocError>
+    requires { 1 ≤ s }
+    ensures len { IfOk result (λ answer. answer.0 ≡ min s (length map.now)) }
+    ensures first { IfOk result (λ answer. option_map (λ pair. (pair.0.now, pair.1.now)) answer.1 ≡ slice_get map.now 0) }
+{
+    let mut pairs = page(map, 0, s)?;
+    let len = pairs.len();
+    Ok((len, pairs.next()))
+}
+
+// A key that is there has the page that the number of smaller keys says.
+fn finds_its_page<K: Key, V: Drop>(
+    map: &BPlusTreeMap<K, V, Count>,
+    k: &K,
+    s: usize,
+) -> Result<usize, AllocError>
+    requires some { 1 ≤ s }
+    requires there { has K.cmp map.now k.now ≡ true }
+    ensures { IfOk result (λ p. p ≡ count_below K.cmp k.now (keys_of map.now) / s) }
+{
+    match page_of(map, k, s)? {
+        Ok(p) => Ok(p),
+        Err(_) => unreachable!(),
+    }
+}
+
+// A page of a group has as many pairs as fit, of those that the group has behind the pages before.
+fn holds_what_is_left_of_a_group<K: Key, V: Drop, A: Argument<K>, G: FromRef<K> + Key>(
+    map: &BPlusTreeMap<K, V, A>,
+    group: &G,
+    p: usize,
+    s: usize,
+) -> Result<usize, AllocError>
+    requires { 1 ≤ s }
+    ensures { IfOk result (λ len. len ≡ min s (length (of_group G.cmp G.group_of group.now map.now) - p * s)) }
+{
+    Ok(group_page(map, group, p, s)?.len())
+}
+
+// All pairs of a group have its group, and none is left out.
+fn holds_a_group<K: Key, V: Drop, A: Argument<K>, G: FromRef<K> + Key>(
+    map: &BPlusTreeMap<K, V, A>,
+    group: &G,
+) -> Result<usize, AllocError>
+    ensures { IfOk result (λ len. len ≡ length (filter (λ pair. is_eq (G.cmp (G.group_of pair.0) group.now)) map.now)) }
+{
+    Ok(map.group_range(group)?.len())
+}

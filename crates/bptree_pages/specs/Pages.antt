@@ -1,0 +1,20 @@
+-- Pages of a list: so many members each, counted from 0.
+use Rattle.std.specs.Prelude.{ℕ, zero, suc, ◌*◌, List, [], ◌++◌}
+use Rattle.std.specs.declared.cmp.Ordering.{Ordering}
+use Rattle.bptree_arguments.specs.Groups.{of_group}
+use Rattle.bptree_keys.specs.Ranges.{part}
+
+module _ {X : Type 0} where
+  -- page p of s members, or of those that are there
+  abbrev pub page : List X → ℕ → ℕ → List X
+  page l p s = part l (p * s) s
+
+  -- the first n pages, one after another
+  abbrev pub first_pages : List X → ℕ → ℕ → List X
+  first_pages l s zero = []
+  first_pages l s (suc n) = first_pages l s n ++ page l n s
+
+module _ {K V G : Type 0} (cmp : G → G → Ordering) (group_of : K → G) where
+  -- page p of s pairs of one group
+  abbrev pub group_page : G → List (K × V) → ℕ → ℕ → List (K × V)
+  group_page g l p s = page (of_group cmp group_of g l) p s

@@ -1,0 +1,4 @@
+//! Pages of a map by rank, through the map's contracts alone.
+#![tactic(auto)]
+
+pub mod page;
