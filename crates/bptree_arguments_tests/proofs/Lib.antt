@@ -1,3 +1,4 @@
 pub mod Children
 pub mod Groups
 pub mod GroupItems
+pub mod StepLemmas

@@ -2,6 +2,9 @@
 
 mod arguments;
 mod counts;
+mod dedup;
 mod group_answers;
 mod groups;
+mod loading;
+mod merging;
 mod requests;

@@ -1,4 +1,4 @@
-//! Tests of arguments and of requests.
+//! Tests of arguments, of requests, of loading and of merging.
 #![tactic(auto)]
 
 #[cfg(test)]
@@ -11,3 +11,7 @@ mod count_tests;
 mod group_answer_tests;
 #[cfg(test)]
 mod group_tests;
+#[cfg(test)]
+mod loading_tests;
+#[cfg(test)]
+mod merge_tests;

@@ -1,3 +1,2 @@
-pub mod Cuts
 pub mod Layer
 pub mod Steps

@@ -5,11 +5,11 @@ ghost use Rattle.bptree_keys.specs.Contents.{IsAscending};
 ghost use Rattle.bptree_building.specs.Layer.{IsLayer};
 ghost use Rattle.bptree_building.specs.Steps.{IsAbove, IsRaised};
 
-use crate::cuts::first_of_layer;
 use crate::subtree::{Subtree, append};
 use bptree_arguments::argument::Argument;
 use bptree_keys::key::Key;
 use bptree_keys::node_id::NodeId;
+use bptree_loading::cuts::first_of_layer;
 use bptree_nodes::inner_node::{CHILDREN_CAPACITY, INNER_MINIMUM, InnerNode};
 use bptree_stores::node_stores::NodeStore;
 use std::alloc::AllocError;

@@ -7,11 +7,11 @@ ghost use Rattle.bptree_insertion.specs.Change.{StartsAt};
 ghost use Rattle.bptree_building.specs.Layer.{IsLayer, IsSpreading};
 ghost use Rattle.bptree_building.specs.Steps.{IsFilled};
 
-use crate::cuts::first_of_layer;
 use crate::subtree::{Subtree, append};
 use bptree_arguments::argument::Argument;
 use bptree_keys::key::Key;
 use bptree_keys::node_id::{LeafNodeId, NodeId};
+use bptree_loading::cuts::first_of_layer;
 use bptree_nodes::leaf_node::{LEAF_CAPACITY, LEAF_MINIMUM, LeafNode};
 use bptree_stores::node_stores::NodeStore;
 use std::alloc::{AllocError, Global};

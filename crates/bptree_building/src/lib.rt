@@ -2,7 +2,6 @@
 #![tactic(auto)]
 
 pub mod building;
-pub mod cuts;
 mod inner_layer;
 mod leaf_layer;
 pub mod subtree;

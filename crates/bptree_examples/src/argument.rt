@@ -4,6 +4,7 @@ ghost use Rattle.std.specs.List.{filter};
 ghost use Rattle.std.specs.Map.{keys_of};
 ghost use Rattle.std.proofs.Common.{rules};
 
+use crate::filling::{filled, removed};
 use std::alloc::{AllocError, Global};
 use sweep_bptree::BPlusTreeMap;
 use sweep_bptree::tree::Argument;
@@ -43,20 +44,18 @@ pub type Numbers = BPlusTreeMap<u64, u64, EvenCount>;
 
 /// The numbers below one, put in upward.
 pub fn numbers_below(alloc: Global, end: u64) -> Result<Numbers, AllocError> {
-    let mut numbers = BPlusTreeMap::new(alloc)?;
+    let mut pairs = Vec::new(alloc);
     for number in 0..end {
-        if numbers.insert(number, number).is_err() {
-            return Err(AllocError);
-        }
+        pairs.push((number, number))?;
     }
-    Ok(numbers)
+    filled(alloc, &pairs)
 }
 
 /// Removes every second number below one, from a first one on.
 pub fn remove_each_second(numbers: &mut Numbers, from: u64, end: u64) -> Result<(), AllocError> {
     for number in from..end {
         if number % 2 == from % 2 {
-            numbers.remove(&number)?;
+            removed(numbers, &number)?;
         }
     }
     Ok(())
@@ -73,9 +72,13 @@ pub fn even_count(numbers: &Numbers) -> usize
 /// ones removed too.
 pub fn run(alloc: Global) -> Result<(usize, usize, usize), AllocError> {
     let mut numbers = numbers_below(alloc, 100_000)?;
-    let all = even_count(&numbers);
-    remove_each_second(&mut numbers, 0, 200)?;
-    let fewer = even_count(&numbers);
-    remove_each_second(&mut numbers, 1, 200)?;
-    Ok((all, fewer, even_count(&numbers)))
+    counts(&mut numbers)
+}
+
+fn counts(numbers: &mut Numbers) -> Result<(usize, usize, usize), AllocError> {
+    let all = even_count(numbers);
+    remove_each_second(numbers, 0, 200)?;
+    let fewer = even_count(numbers);
+    remove_each_second(numbers, 1, 200)?;
+    Ok((all, fewer, even_count(numbers)))
 }

@@ -6,6 +6,7 @@ ghost use Rattle.std.proofs.Common.{rules};
 ghost use Rattle.bptree_examples.specs.Dates.{in_year, same_year, same_month, same_day, IsEntry, IsStatistic, IsYearAnswer};
 
 use crate::calendar::day_count;
+use crate::filling::{filled, removed};
 use std::alloc::{AllocError, Global};
 use sweep_bptree::BPlusTreeMap;
 use sweep_bptree::tree::{Argument, DescendError, DescendVisit, DescendVisitResult, Key};
@@ -211,18 +212,15 @@ pub type Calendar = BPlusTreeMap<Date, (), DateStatisticArgument>;
 
 /// A calendar of each day of some years.
 pub fn each_day(alloc: Global, from: u16, to: u16) -> Result<Calendar, AllocError> {
-    let mut calendar = BPlusTreeMap::new(alloc)?;
+    let mut days = Vec::new(alloc);
     for year in from..to {
         for month in 1..13 {
             for day in 1..day_count(year, month) + 1 {
-                let date = Date { year, month, day };
-                if calendar.insert(date, ()).is_err() {
-                    return Err(AllocError);
-                }
+                days.push((Date { year, month, day }, ()))?;
             }
         }
     }
-    Ok(calendar)
+    filled(alloc, &days)
 }
 
 /// How many dates of a year are there.
@@ -248,12 +246,16 @@ fn counted_days(calendar: &Calendar, year: u16) -> Result<usize, AllocError> {
 /// The days of 2011 to 2020: of all these years, of 2011, 2012, 2020 and 2021, and of 2011 once three are removed.
 pub fn run(alloc: Global) -> Result<(usize, [usize; 4], usize), AllocError> {
     let mut calendar = each_day(alloc, 2011, 2021)?;
+    counts(&mut calendar)
+}
+
+fn counts(calendar: &mut Calendar) -> Result<(usize, [usize; 4], usize), AllocError> {
     let len = calendar.len();
     let days = [
-        counted_days(&calendar, 2011)?,
-        counted_days(&calendar, 2012)?,
-        counted_days(&calendar, 2020)?,
-        counted_days(&calendar, 2021)?,
+        counted_days(calendar, 2011)?,
+        counted_days(calendar, 2012)?,
+        counted_days(calendar, 2020)?,
+        counted_days(calendar, 2021)?,
     ];
     for (month, day) in [(1, 3), (3, 3), (5, 30)] {
         let date = Date {
@@ -261,7 +263,7 @@ pub fn run(alloc: Global) -> Result<(usize, [usize; 4], usize), AllocError> {
             month,
             day,
         };
-        calendar.remove(&date)?;
+        removed(calendar, &date)?;
     }
-    Ok((len, days, counted_days(&calendar, 2011)?))
+    Ok((len, days, counted_days(calendar, 2011)?))
 }

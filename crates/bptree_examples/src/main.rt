@@ -4,6 +4,7 @@
 mod argument;
 mod calendar;
 mod date_statistic;
+mod filling;
 mod string;
 mod uses;
 mod visit_depth;

@@ -35,6 +35,12 @@ impl<K: Key, V, A: Argument<K>> DescendVisit<K, V, A> for GetTreeDepth {
 pub fn run(alloc: Global, len: u32) -> Result<(usize, Option<usize>), AllocError> {
     let pairs = (0..len).map(|i| (u64::from(i), u64::from(i) * 10));
     let map: BPlusTreeMap<u64, u64> = BPlusTreeMap::from_iter(alloc, pairs)?;
+    len_and_depth(&map)
+}
+
+fn len_and_depth<K: Key, V: Drop, A: Argument<K>>(
+    map: &BPlusTreeMap<K, V, A>,
+) -> Result<(usize, Option<usize>), AllocError> {
     match map.descend_visit(GetTreeDepth::default()) {
         Ok(depth) => Ok((map.len(), depth)),
         Err(_) => Err(AllocError),

@@ -9,6 +9,28 @@ pub type Asked<K> = Command<K, u64, usize>;
 
 pub type Answered<K> = Reply<K, u64, usize>;
 
+/// Commands, and the reply that each is to have.
+#[derive(Drop)]
+pub struct Talk<K: Sample> {
+    pub commands: Vec<Asked<K>>,
+    pub wanted: Vec<Answered<K>>,
+}
+
+impl<K: Sample> Talk<K> {
+    pub fn new(alloc: Global) -> Talk<K> {
+        Talk {
+            commands: Vec::new(alloc),
+            wanted: Vec::new(alloc),
+        }
+    }
+
+    fn add(&mut self, command: Asked<K>, reply: Answered<K>) -> Result<(), AllocError> {
+        self.wanted.push(reply)?;
+        self.commands.push(command)?;
+        Ok(())
+    }
+}
+
 /// What is drawn from, and what the list holds by now.
 #[derive(Drop)]
 pub struct Drawing<K: Sample> {
@@ -45,12 +67,11 @@ impl<K: Sample> Drawing<K> {
     pub fn key(&mut self) -> Result<K, AllocError> {
         let place = self.place();
         if self.dice.below(2) == 0 {
-            if let Some((key, _)) = self.plain.pair_at(place)? {
-                return Ok(key);
+            if let Some(key) = self.plain.key_at(place) {
+                return key.clone();
             }
         }
-        let number = self.dice.below(self.end);
-        K::sample(self.alloc, number)
+        K::sample(self.alloc, self.dice.below(self.end))
     }
 
     /// A place, at most three behind the last one.
@@ -68,173 +89,253 @@ impl<K: Sample> Drawing<K> {
         self.dice.below(10) < self.puts
     }
 
-    // A change of the pairs.
-    fn change(&mut self) -> Result<(Asked<K>, Answered<K>), AllocError> {
+    // The number of a cursor, or one more than the last has.
+    fn number(&mut self) -> usize {
+        let end = self.plain.held_len().saturating_add(1);
+        self.dice.below(end as u64) as usize
+    }
+
+    fn insert(&mut self, talk: &mut Talk<K>) -> Result<(), AllocError> {
         let key = self.key()?;
-        let place = self.place();
         let value = self.value();
-        if self.is_put() {
-            let old = self.plain.put(key.clone()?, value)?;
-            return Ok((Command::Insert(key, value), Reply::Value(old)));
-        }
-        if self.below(4) == 0 {
-            let taken = self.plain.take_at(place);
-            return Ok((Command::RemoveAt(place), Reply::Pair(taken)));
-        }
+        let old = self.plain.put(&key, value)?;
+        talk.add(Command::Insert(key, value), Reply::Value(old))
+    }
+
+    fn remove_at(&mut self, talk: &mut Talk<K>) -> Result<(), AllocError> {
+        let place = self.place();
+        let taken = self.plain.take_at(place);
+        talk.add(Command::RemoveAt(place), Reply::Pair(taken))
+    }
+
+    fn remove(&mut self, talk: &mut Talk<K>) -> Result<(), AllocError> {
+        let key = self.key()?;
         let old = self.plain.take(&key);
-        Ok((Command::Remove(key), Reply::Value(old)))
+        talk.add(Command::Remove(key), Reply::Value(old))
     }
 
-    // A value is written where a pair is.
-    fn write(&mut self) -> Result<(Asked<K>, Answered<K>), AllocError> {
-        let value = self.value();
-        if self.below(2) == 0 {
-            let place = self.place();
-            let old = self.plain.set_at(place, value);
-            return Ok((Command::SetAt(place, value), Reply::Done(old.is_some())));
-        }
-        let key = self.key()?;
-        let old = match self.plain.find(&key) {
-            Ok(place) => self.plain.set_at(place, value),
-            Err(_) => None,
-        };
-        Ok((Command::Set(key, value), Reply::Done(old.is_some())))
+    fn clear(&mut self, talk: &mut Talk<K>) -> Result<(), AllocError> {
+        self.plain.clear();
+        talk.add(Command::Clear, Reply::Done(true))
     }
 
-    // A look at the pairs.
-    fn look(&mut self) -> Result<(Asked<K>, Answered<K>), AllocError> {
-        let key = self.key()?;
+    fn set_at(&mut self, talk: &mut Talk<K>) -> Result<(), AllocError> {
         let place = self.place();
-        let last = self.plain.len().wrapping_sub(1);
-        Ok(match self.below(6) {
-            0 => {
-                let value = self.plain.get(&key);
-                (Command::Get(key), Reply::Value(value))
-            }
-            1 => (Command::At(place), Reply::Pair(self.plain.pair_at(place)?)),
-            2 => {
-                let rank = self.plain.find(&key);
-                (Command::Rank(key), Reply::Rank(rank))
-            }
-            3 => (Command::First, Reply::Pair(self.plain.pair_at(0)?)),
-            4 => (Command::Last, Reply::Pair(self.plain.pair_at(last)?)),
-            _ => (Command::Len, Reply::Number(self.plain.len())),
-        })
+        let value = self.value();
+        let is_there = self.plain.set_at(place, value).is_some();
+        talk.add(Command::SetAt(place, value), Reply::Done(is_there))
     }
 
-    // A cursor is held.
-    fn hold(&mut self) -> Result<(Asked<K>, Answered<K>), AllocError> {
+    fn set(&mut self, talk: &mut Talk<K>) -> Result<(), AllocError> {
         let key = self.key()?;
-        let number = self.plain.held_len();
-        let (command, place) = match self.below(4) {
-            0 => (Command::CursorFirst, 0),
-            1 => (Command::CursorLast, self.plain.len().wrapping_sub(1)),
-            _ => {
-                let value = self.plain.hold(key.clone()?)?;
-                return Ok((Command::Cursor(key), Reply::Held(number, value)));
-            }
-        };
-        let Some((key, _)) = self.plain.pair_at(place)? else {
-            return Ok((command, Reply::Pair(None)));
-        };
-        let value = self.plain.hold(key)?;
-        Ok((command, Reply::Held(number, value)))
+        let value = self.value();
+        let is_there = self.plain.set(&key, value);
+        talk.add(Command::Set(key, value), Reply::Done(is_there))
     }
 
-    // A cursor is moved, or asked.
-    fn point(&mut self) -> Result<(Asked<K>, Answered<K>), AllocError> {
-        let held = self.plain.held_len() as u64;
-        let number = self.below(held.saturating_add(1)) as usize;
-        let kind = self.below(4);
-        let command = match kind {
-            0 => Command::Next(number),
-            1 => Command::Prev(number),
-            2 => Command::Exists(number),
-            _ => Command::Value(number),
-        };
-        let Some(key) = self.plain.held(number) else {
-            return Ok((command, Reply::NoCursor));
-        };
-        let value = self.plain.get(key);
-        let reply = match kind {
-            0 => Reply::Pair(self.plain.step(number, End::Front)?),
-            1 => Reply::Pair(self.plain.step(number, End::Back)?),
-            2 => Reply::Done(value.is_some()),
-            _ => Reply::Value(value),
-        };
-        Ok((command, reply))
+    fn get(&mut self, talk: &mut Talk<K>) -> Result<(), AllocError> {
+        let key = self.key()?;
+        let value = self.plain.get(&key);
+        talk.add(Command::Get(key), Reply::Value(value))
+    }
+
+    fn at(&mut self, talk: &mut Talk<K>) -> Result<(), AllocError> {
+        let place = self.place();
+        let pair = self.plain.pair_at(place)?;
+        talk.add(Command::At(place), Reply::Pair(pair))
+    }
+
+    fn rank(&mut self, talk: &mut Talk<K>) -> Result<(), AllocError> {
+        let key = self.key()?;
+        let rank = self.plain.find(&key);
+        talk.add(Command::Rank(key), Reply::Rank(rank))
+    }
+
+    fn first(&mut self, talk: &mut Talk<K>) -> Result<(), AllocError> {
+        let pair = self.plain.pair_at(0)?;
+        talk.add(Command::First, Reply::Pair(pair))
+    }
+
+    fn last(&mut self, talk: &mut Talk<K>) -> Result<(), AllocError> {
+        let pair = self.plain.pair_at(self.plain.last())?;
+        talk.add(Command::Last, Reply::Pair(pair))
+    }
+
+    fn len(&mut self, talk: &mut Talk<K>) -> Result<(), AllocError> {
+        talk.add(Command::Len, Reply::Number(self.plain.len()))
+    }
+
+    fn cursor_first(&mut self, talk: &mut Talk<K>) -> Result<(), AllocError> {
+        let reply = self.plain.hold_at(0)?;
+        talk.add(Command::CursorFirst, reply)
+    }
+
+    fn cursor_last(&mut self, talk: &mut Talk<K>) -> Result<(), AllocError> {
+        let reply = self.plain.hold_at(self.plain.last())?;
+        talk.add(Command::CursorLast, reply)
+    }
+
+    fn cursor(&mut self, talk: &mut Talk<K>) -> Result<(), AllocError> {
+        let key = self.key()?;
+        let reply = self.plain.hold(&key)?;
+        talk.add(Command::Cursor(key), reply)
+    }
+
+    fn next(&mut self, talk: &mut Talk<K>) -> Result<(), AllocError> {
+        let number = self.number();
+        let reply = self.plain.step(number, End::Front)?;
+        talk.add(Command::Next(number), reply)
+    }
+
+    fn prev(&mut self, talk: &mut Talk<K>) -> Result<(), AllocError> {
+        let number = self.number();
+        let reply = self.plain.step(number, End::Back)?;
+        talk.add(Command::Prev(number), reply)
+    }
+
+    fn exists(&mut self, talk: &mut Talk<K>) -> Result<(), AllocError> {
+        let number = self.number();
+        let reply = self.plain.exists(number);
+        talk.add(Command::Exists(number), reply)
+    }
+
+    fn look(&mut self, talk: &mut Talk<K>) -> Result<(), AllocError> {
+        let number = self.number();
+        let reply = self.plain.value_of(number);
+        talk.add(Command::Value(number), reply)
     }
 
     fn word(&mut self) -> Result<Vec<End>, AllocError> {
         let mut word = Vec::new(self.alloc);
         for _ in 0..self.below(8) {
-            let end = if self.below(2) == 0 {
-                End::Front
+            if self.below(2) == 0 {
+                word.push(End::Front)?;
             } else {
-                End::Back
-            };
-            word.push(end)?;
+                word.push(End::Back)?;
+            }
         }
         Ok(word)
     }
 
     // A key two times of three.
     fn end(&mut self) -> Result<Option<K>, AllocError> {
-        match self.below(3) {
-            0 => Ok(None),
-            _ => Ok(Some(self.key()?)),
+        if self.below(3) == 0 {
+            return Ok(None);
+        }
+        let key = self.key()?;
+        Ok(Some(key))
+    }
+
+    // Some pairs are taken from both ends: of all, of those between two keys, or of so many from a place on.
+    fn walk(&mut self, talk: &mut Talk<K>) -> Result<(), AllocError> {
+        let word = self.word()?;
+        let taken = self.plain.walk(0, usize::MAX, &word)?;
+        talk.add(Command::Walk(word), Reply::Walked(taken))
+    }
+
+    fn range(&mut self, talk: &mut Talk<K>) -> Result<(), AllocError> {
+        let word = self.word()?;
+        let lo = self.end()?;
+        let hi = self.end()?;
+        let taken = self.plain.range(lo.as_ref(), hi.as_ref(), &word)?;
+        talk.add(Command::Range(lo, hi, word), Reply::Walked(taken))
+    }
+
+    fn range_at(&mut self, talk: &mut Talk<K>) -> Result<(), AllocError> {
+        let word = self.word()?;
+        let place = self.place();
+        let count = self.below(80) as usize;
+        let taken = self.plain.walk(place, place.saturating_add(count), &word)?;
+        talk.add(Command::RangeAt(place, count, word), Reply::Walked(taken))
+    }
+
+    // A change of the pairs.
+    fn change(&mut self, talk: &mut Talk<K>) -> Result<(), AllocError> {
+        if self.is_put() {
+            self.insert(talk)
+        } else if self.below(4) == 0 {
+            self.remove_at(talk)
+        } else {
+            self.remove(talk)
+        }
+    }
+
+    // A value is written where a pair is.
+    fn write(&mut self, talk: &mut Talk<K>) -> Result<(), AllocError> {
+        if self.below(2) == 0 {
+            self.set_at(talk)
+        } else {
+            self.set(talk)
+        }
+    }
+
+    // A look at the pairs.
+    fn see(&mut self, talk: &mut Talk<K>) -> Result<(), AllocError> {
+        match self.below(6) {
+            0 => self.get(talk),
+            1 => self.at(talk),
+            2 => self.rank(talk),
+            3 => self.first(talk),
+            4 => self.last(talk),
+            _ => self.len(talk),
+        }
+    }
+
+    // A cursor is held.
+    fn hold(&mut self, talk: &mut Talk<K>) -> Result<(), AllocError> {
+        match self.below(4) {
+            0 => self.cursor_first(talk),
+            1 => self.cursor_last(talk),
+            _ => self.cursor(talk),
+        }
+    }
+
+    // A cursor is moved, or asked.
+    fn point(&mut self, talk: &mut Talk<K>) -> Result<(), AllocError> {
+        match self.below(4) {
+            0 => self.next(talk),
+            1 => self.prev(talk),
+            2 => self.exists(talk),
+            _ => self.look(talk),
         }
     }
 
     // Some pairs are taken from both ends: of all, of those between two keys, or of so many from a place on.
-    fn walk(&mut self) -> Result<(Asked<K>, Answered<K>), AllocError> {
-        let word = self.word()?;
-        let (lo, hi) = (self.end()?, self.end()?);
-        let place = self.place();
-        let count = self.below(80) as usize;
-        let kind = self.below(3);
-        let part = match kind {
-            0 => (0, usize::MAX),
-            1 => self.plain.between(lo.as_ref(), hi.as_ref()),
-            _ => (place, place.saturating_add(count)),
-        };
-        let taken = self.plain.walk(part, &word)?;
-        let command = match kind {
-            0 => Command::Walk(word),
-            1 => Command::Range(lo, hi, word),
-            _ => Command::RangeAt(place, count, word),
-        };
-        Ok((command, Reply::Walked(taken)))
+    fn part(&mut self, talk: &mut Talk<K>) -> Result<(), AllocError> {
+        match self.below(3) {
+            0 => self.walk(talk),
+            1 => self.range(talk),
+            _ => self.range_at(talk),
+        }
     }
 
     /// A command, and the reply that it is to have.
-    pub fn draw(&mut self) -> Result<(Asked<K>, Answered<K>), AllocError> {
+    pub fn draw(&mut self, talk: &mut Talk<K>) -> Result<(), AllocError> {
         match self.below(1_000) {
-            0 => {
-                self.plain.clear();
-                Ok((Command::Clear, Reply::Done(true)))
-            }
-            1..=400 => self.change(),
-            401..=500 => self.write(),
-            501..=700 => self.look(),
-            701..=750 => self.hold(),
-            751..=900 => self.point(),
-            _ => self.walk(),
+            0 => self.clear(talk),
+            1..=400 => self.change(talk),
+            401..=500 => self.write(talk),
+            501..=700 => self.see(talk),
+            701..=750 => self.hold(talk),
+            751..=900 => self.point(talk),
+            _ => self.part(talk),
         }
     }
 }
 
 // Whether a reply is the one that was wanted.
 fn is_same<K: Sample>(reply: &Answered<K>, wanted: &Answered<K>) -> bool {
-    match (reply, wanted) {
-        (Reply::Value(one), Reply::Value(other)) => one == other,
-        (Reply::Pair(one), Reply::Pair(other)) => one == other,
-        (Reply::Number(one), Reply::Number(other)) => one == other,
-        (Reply::Done(one), Reply::Done(other)) => one == other,
-        (Reply::Rank(one), Reply::Rank(other)) => one == other,
-        (Reply::Held(one, value), Reply::Held(other, wanted)) => one == other && value == wanted,
-        (Reply::Walked(one), Reply::Walked(other)) => one == other,
-        (Reply::NoCursor, Reply::NoCursor) => true,
+    match reply {
+        Reply::Value(one) => matches!(wanted, Reply::Value(other) if one == other),
+        Reply::Pair(one) => matches!(wanted, Reply::Pair(other) if one == other),
+        Reply::Number(one) => matches!(wanted, Reply::Number(other) if one == other),
+        Reply::Done(one) => matches!(wanted, Reply::Done(other) if one == other),
+        Reply::Rank(one) => matches!(wanted, Reply::Rank(other) if one == other),
+        Reply::Held(one, value) => {
+            matches!(wanted, Reply::Held(other, wanted) if one == other && value == wanted)
+        }
+        Reply::Walked(one) => matches!(wanted, Reply::Walked(other) if one == other),
+        Reply::NoCursor => matches!(wanted, Reply::NoCursor),
         _ => false,
     }
 }
@@ -242,8 +343,11 @@ fn is_same<K: Sample>(reply: &Answered<K>, wanted: &Answered<K>) -> bool {
 /// Whether the replies are those that were wanted.
 pub fn are_same<K: Sample>(replies: &[Answered<K>], wanted: &[Answered<K>]) -> bool {
     let mut well = replies.len() == wanted.len();
-    for (reply, wanted) in replies.iter().zip(wanted) {
-        well = is_same(reply, wanted) && well;
+    for (place, reply) in replies.iter().enumerate() {
+        well = match wanted.get(place) {
+            Some(wanted) => is_same(reply, wanted) && well,
+            None => false,
+        };
     }
     well
 }

@@ -9,60 +9,36 @@ mod plain;
 mod rounds;
 mod rows;
 
-use crate::forgetful::Forgetful;
 use crate::rounds::Counted;
 use std::alloc::{AllocError, Global};
 use std::io::Read;
 use std::process::ExitCode;
 
-type Numbers = Counted<u64>;
-
-// What a byte names of the trees of known pairs, and whether it went well; none for another byte.
-fn known_pairs(alloc: Global, letter: u8) -> Result<Option<(&'static str, bool)>, AllocError> {
-    Ok(Some(match letter {
-        b'a' => ("false hints", rows::hints::<Numbers>(alloc)?),
-        b'b' => ("no hint", rows::no_hint::<Forgetful<Numbers>>(alloc)?),
-        b'c' => ("visitors out of range", rows::visitors::<Numbers>(alloc)?),
-        b'd' => ("a hundred thousand pairs", rows::many::<Numbers>(alloc)?),
-        _ => return Ok(None),
-    }))
+// What a byte names: a tree of known pairs, or calls in no order. There a capital letter stands for many keys, of which few
+// come twice.
+fn name_of(letter: u8) -> &'static str {
+    match letter {
+        b'a' => "false hints",
+        b'b' => "no hint",
+        b'c' => "visitors out of range",
+        b'd' => "a hundred thousand pairs",
+        b't' | b'T' => "trees of numbers",
+        b's' | b'S' => "trees of strings",
+        b'm' | b'M' => "a map of numbers",
+        b'w' | b'W' => "a map of strings",
+        b'k' | b'K' => "a set of numbers",
+        b'l' | b'L' => "a set of strings",
+        _ => "nothing",
+    }
 }
 
-// The same of the calls in no order. A capital letter stands for many keys, of which few come twice.
-fn no_order(alloc: Global, letter: u8, seed: u64) -> Result<(&'static str, bool), AllocError> {
-    let end = if letter.is_ascii_uppercase() {
-        u64::MAX
-    } else {
-        300
-    };
-    Ok(match letter {
-        b't' | b'T' => (
-            "trees of numbers",
-            rounds::trees::<Numbers>(alloc, seed, end)?,
-        ),
-        b's' | b'S' => (
-            "trees of strings",
-            rounds::trees::<Counted<String>>(alloc, seed, end)?,
-        ),
-        b'm' | b'M' => ("a map of numbers", rounds::maps::<u64>(alloc, seed, end)?),
-        b'w' | b'W' => (
-            "a map of strings",
-            rounds::maps::<String>(alloc, seed, end)?,
-        ),
-        b'k' | b'K' => ("a set of numbers", rounds::sets::<u64>(alloc, seed, end)?),
-        b'l' | b'L' => (
-            "a set of strings",
-            rounds::sets::<String>(alloc, seed, end)?,
-        ),
-        _ => ("nothing", false),
-    })
-}
-
-// What a byte names, and whether it went well.
-fn carry_out(alloc: Global, letter: u8, seed: u64) -> Result<(&'static str, bool), AllocError> {
-    match known_pairs(alloc, letter)? {
-        Some(told) => Ok(told),
-        None => no_order(alloc, letter, seed),
+// Whether what a byte names went well.
+fn carry_out(alloc: Global, letter: u8, seed: u64) -> Result<bool, AllocError> {
+    match letter {
+        b'a' | b'b' | b'c' | b'd' => rows::known_pairs::<Counted<u64>>(alloc, letter),
+        b't' | b'T' | b'm' | b'M' | b'k' | b'K' => rounds::no_order::<u64>(alloc, letter, seed),
+        b's' | b'S' | b'w' | b'W' | b'l' | b'L' => rounds::no_order::<String>(alloc, letter, seed),
+        _ => Ok(false),
     }
 }
 
@@ -77,7 +53,7 @@ fn main(rt: HostRuntime) -> ExitCode {
             continue;
         }
         let (name, well) = match carry_out(rt.alloc(), *letter, seed as u64) {
-            Ok(told) => told,
+            Ok(well) => (name_of(*letter), well),
             Err(_) => ("out of memory", false),
         };
         let word = if well { "ok" } else { "failed" };

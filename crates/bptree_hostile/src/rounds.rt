@@ -2,14 +2,14 @@
 //! as the list has it.
 
 use crate::dice::Sample;
-use crate::drawing::{Drawing, are_same};
+use crate::drawing::{Drawing, Talk, are_same};
 use crate::plain::Plain;
+use crate::rows::loaded;
 use std::alloc::{AllocError, Global};
+use std::mem;
 use sweep_bptree::script::run;
 use sweep_bptree::tree::count::Count;
-use sweep_bptree::tree::{
-    BPlusTree, CloneArgument, NodeStore, RankArgument, SearchArgument, in_load_order,
-};
+use sweep_bptree::tree::{BPlusTree, CloneArgument, NodeStore, RankArgument, SearchArgument};
 use sweep_bptree::{BPlusTreeMap, BPlusTreeSet, CloneStore, NodeStoreVec};
 
 /// The number of calls of a round.
@@ -24,28 +24,19 @@ where
     S::K: Sample,
 {
     let mut pairs = tree.iter();
-    let mut left = plain.pairs();
-    let mut well = pairs.len() == left.len() && tree.len() == left.len();
-    for turn in 0..tree.len() {
-        let (found, wanted) = if turn % 3 == 2 {
-            let Some((wanted, rest)) = left.split_last() else {
-                return false;
-            };
-            left = rest;
-            (pairs.next_back(), wanted)
+    let mut front: usize = 0;
+    let mut back = plain.len();
+    let mut well = pairs.len() == back && tree.len() == back;
+    for turn in 0..plain.len() {
+        if turn % 3 == 2 {
+            back = back.saturating_sub(1);
+            well = plain.has(back, pairs.next_back()) && well;
         } else {
-            let Some((wanted, rest)) = left.split_first() else {
-                return false;
-            };
-            left = rest;
-            (pairs.next(), wanted)
-        };
-        let Some((key, value)) = found else {
-            return false;
-        };
-        well = well && *key == wanted.0 && *value == wanted.1;
+            well = plain.has(front, pairs.next()) && well;
+            front = front.saturating_add(1);
+        }
     }
-    well && left.is_empty() && pairs.next().is_none() && pairs.next_back().is_none()
+    well && pairs.next().is_none() && pairs.next_back().is_none()
 }
 
 // A run of commands on a tree. The cursors that it holds are let go at its end.
@@ -58,36 +49,13 @@ where
     S::K: Sample,
     S::Argument: SearchArgument<S::K, Query = usize> + RankArgument<S::K, Rank = usize>,
 {
-    let mut commands = Vec::new(alloc);
-    let mut wanted = Vec::new(alloc);
+    let mut talk = Talk::new(alloc);
     for _ in 0..RUN {
-        let (command, reply) = drawing.draw()?;
-        commands.push(command)?;
-        wanted.push(reply)?;
+        drawing.draw(&mut talk)?;
     }
-    let (replies, error) = run(alloc, tree, commands);
+    let (replies, error) = run(alloc, tree, talk.commands);
     drawing.plain.forget();
-    Ok(error.is_none() && are_same(&replies, &wanted) && shows(tree, &drawing.plain))
-}
-
-// A tree of the pairs of a list, of which each comes after one of the same key with another value.
-fn loads<S: NodeStore<V = u64>>(
-    alloc: Global,
-    plain: &Plain<S::K>,
-) -> Result<Option<BPlusTree<S>>, AllocError>
-where
-    S::K: Sample,
-{
-    let mut pairs = Vec::new(alloc);
-    for (key, value) in plain.pairs() {
-        pairs.push((key.clone()?, value.wrapping_add(1)))?;
-        pairs.push((key.clone()?, *value))?;
-    }
-    if !in_load_order(&pairs) {
-        return Ok(None);
-    }
-    let tree = BPlusTree::bulk_load(alloc, pairs)?;
-    Ok(Some(tree))
+    Ok(error.is_none() && are_same(&replies, &talk.wanted) && shows(tree, &drawing.plain))
 }
 
 // The pairs of a tree that is given away, from the back.
@@ -96,175 +64,222 @@ where
     S::K: Sample,
 {
     let mut pairs = tree.into_iter();
-    let mut left = plain.pairs();
-    let mut well = pairs.len() == left.len();
-    for _ in 0..pairs.len() {
-        let (Some((key, value)), Some((wanted, rest))) = (pairs.next_back(), left.split_last())
-        else {
-            return false;
-        };
-        left = rest;
-        well = well && key == wanted.0 && value == wanted.1;
+    let mut left = plain.len();
+    let mut well = pairs.len() == left;
+    for _ in 0..plain.len() {
+        left = left.saturating_sub(1);
+        well = plain.has_own(left, pairs.next_back()) && well;
     }
-    well && left.is_empty() && pairs.next().is_none()
+    plain.has_own(usize::MAX, pairs.next()) && well
 }
 
-/// A tree by runs of commands; now and then a clone of it goes on, or a tree that is loaded with what it holds.
-pub fn trees<S: CloneStore<V = u64>>(alloc: Global, seed: u64, end: u64) -> Result<bool, AllocError>
+// A clone of a tree, or a tree that is loaded with what it holds, goes on in its place.
+fn renews<S: CloneStore<V = u64>>(
+    alloc: Global,
+    tree: &mut BPlusTree<S>,
+    plain: &Plain<S::K>,
+    is_cloned: bool,
+) -> Result<bool, AllocError>
+where
+    S::K: Sample,
+    S::Argument: CloneArgument<S::K>,
+{
+    let next = if is_cloned {
+        tree.clone()?
+    } else {
+        loaded(alloc, plain.doubled()?)?
+    };
+    let before = mem::replace(tree, next);
+    Ok(gives_back(before, plain) && shows(tree, plain))
+}
+
+// A run of commands on a tree, after which now and then another tree goes on in its place.
+fn goes_on<S: CloneStore<V = u64>>(
+    alloc: Global,
+    tree: &mut BPlusTree<S>,
+    drawing: &mut Drawing<S::K>,
+    turn: u64,
+) -> Result<bool, AllocError>
 where
     S::K: Sample,
     S::Argument: SearchArgument<S::K, Query = usize>
         + RankArgument<S::K, Rank = usize>
         + CloneArgument<S::K>,
 {
-    let mut drawing: Drawing<S::K> = Drawing::new(alloc, seed, end);
+    drawing.put_of_ten(if turn % 10 < 6 { 7 } else { 3 });
+    let well = runs(alloc, tree, drawing)?;
+    if turn % 5 > 1 {
+        return Ok(well);
+    }
+    Ok(renews(alloc, tree, &drawing.plain, turn % 5 == 0)? && well)
+}
+
+/// A tree by runs of commands; now and then a clone of it goes on, or a tree that is loaded with what it holds.
+pub fn trees<S: CloneStore<V = u64>>(
+    alloc: Global,
+    drawing: &mut Drawing<S::K>,
+) -> Result<bool, AllocError>
+where
+    S::K: Sample,
+    S::Argument: SearchArgument<S::K, Query = usize>
+        + RankArgument<S::K, Rank = usize>
+        + CloneArgument<S::K>,
+{
     let mut tree: BPlusTree<S> = BPlusTree::new(S::empty(alloc))?;
     let mut well = true;
     for turn in 0..CALLS / RUN {
-        drawing.put_of_ten(if turn % 10 < 6 { 7 } else { 3 });
-        well = runs(alloc, &mut tree, &mut drawing)? && well;
-        let next = match turn % 5 {
-            0 => tree.clone()?,
-            1 => match loads(alloc, &drawing.plain)? {
-                Some(next) => next,
-                None => return Ok(false),
-            },
-            _ => continue,
-        };
-        well = gives_back(tree, &drawing.plain) && well;
-        well = shows(&next, &drawing.plain) && well;
-        tree = next;
+        well = goes_on(alloc, &mut tree, drawing, turn)? && well;
     }
     Ok(well)
 }
 
 type Map<K> = BPlusTreeMap<K, u64, Count>;
 
+fn map_puts<K: Sample>(map: &mut Map<K>, drawing: &mut Drawing<K>) -> Result<bool, AllocError> {
+    let key = drawing.key()?;
+    let value = drawing.value();
+    let old = drawing.plain.put(&key, value)?;
+    Ok(map.insert(key, value).ok() == Some(old))
+}
+
+fn map_removes<K: Sample>(map: &mut Map<K>, drawing: &mut Drawing<K>) -> Result<bool, AllocError> {
+    let key = drawing.key()?;
+    Ok(map.remove(&key)? == drawing.plain.take(&key))
+}
+
+fn map_removes_at<K: Sample>(
+    map: &mut Map<K>,
+    drawing: &mut Drawing<K>,
+) -> Result<bool, AllocError> {
+    let place = drawing.place();
+    Ok(map.remove_by_argument(place)? == drawing.plain.take_at(place))
+}
+
 // A call of a map that changes its pairs.
 fn map_changes<K: Sample>(map: &mut Map<K>, drawing: &mut Drawing<K>) -> Result<bool, AllocError> {
-    let key = drawing.key()?;
-    let place = drawing.place();
-    let value = drawing.value();
     if drawing.is_put() {
-        let old = drawing.plain.put(key.clone()?, value)?;
-        return Ok(map.insert(key, value).ok() == Some(old));
+        map_puts(map, drawing)
+    } else if drawing.below(3) == 0 {
+        map_removes_at(map, drawing)
+    } else {
+        map_removes(map, drawing)
     }
-    if drawing.below(3) == 0 {
-        let taken = drawing.plain.take_at(place);
-        return Ok(map.remove_by_argument(place)? == taken);
+}
+
+// A value that is lent by its key is written, where it is there.
+fn map_writes_by_key<K: Sample>(map: &mut Map<K>, key: &K, value: u64) -> bool {
+    match map.get_mut(key) {
+        Some(written) => {
+            *written = value;
+            true
+        }
+        None => false,
     }
-    let taken = drawing.plain.take(&key);
-    Ok(map.remove(&key)? == taken)
+}
+
+fn map_writes_at<K: Sample>(map: &mut Map<K>, place: usize, value: u64) -> bool {
+    match map.get_mut_by_argument(place) {
+        Ok(written) => {
+            *written = value;
+            true
+        }
+        Err(_) => false,
+    }
 }
 
 // A call of a map that lends a value, which is written.
 fn map_writes<K: Sample>(map: &mut Map<K>, drawing: &mut Drawing<K>) -> Result<bool, AllocError> {
-    let key = drawing.key()?;
-    let place = drawing.place();
     let value = drawing.value();
     if drawing.below(2) == 0 {
+        let place = drawing.place();
         let is_there = drawing.plain.set_at(place, value).is_some();
-        let Ok(written) = map.get_mut_by_argument(place) else {
-            return Ok(!is_there);
-        };
-        *written = value;
-        return Ok(is_there);
+        return Ok(map_writes_at(map, place, value) == is_there);
     }
-    let found = drawing.plain.find(&key);
-    let Some(written) = map.get_mut(&key) else {
-        return Ok(found.is_err());
-    };
-    *written = value;
-    let Ok(place) = found else {
-        return Ok(false);
-    };
-    Ok(drawing.plain.set_at(place, value).is_some())
-}
-
-// Whether a pair is the one that stands at a place of a list.
-fn stands_at<K: Sample>(pair: Option<(&K, &u64)>, plain: &Plain<K>, place: usize) -> bool {
-    match pair {
-        Some((key, value)) => {
-            plain.key_at(place) == Some(key) && plain.value_at(place) == Some(*value)
-        }
-        None => plain.key_at(place).is_none(),
-    }
+    let key = drawing.key()?;
+    Ok(map_writes_by_key(map, &key, value) == drawing.plain.set(&key, value))
 }
 
 // A look at a map.
 fn map_shows_some<K: Sample>(map: &Map<K>, drawing: &mut Drawing<K>) -> Result<bool, AllocError> {
     let key = drawing.key()?;
     let place = drawing.place();
-    let found = drawing.plain.find(&key);
-    let value = drawing.plain.get(&key);
-    Ok(
-        map.get(&key).copied() == value
-            && map.rank_by_argument(&key)? == found
-            && stands_at(map.get_by_argument(place)?, &drawing.plain, place)
-            && map.len() == drawing.plain.len()
-            && map.root_argument().count() == map.len(),
-    )
+    let plain = &drawing.plain;
+    let mut well = map.get(&key).copied() == plain.get(&key);
+    well = map.rank_by_argument(&key)? == plain.find(&key) && well;
+    well = plain.has(place, map.get_by_argument(place)?) && well;
+    Ok(well && map.len() == plain.len() && map.root_argument().count() == plain.len())
 }
 
 // Whether a map has the pairs of a list.
 fn map_shows<K: Sample>(map: &Map<K>, plain: &Plain<K>) -> bool {
     let mut pairs = map.iter();
     let mut well = pairs.len() == plain.len();
-    for (wanted, number) in plain.pairs() {
-        let Some((key, value)) = pairs.next() else {
-            return false;
-        };
-        well = well && key == wanted && value == number;
+    for place in 0..plain.len() {
+        well = plain.has(place, pairs.next()) && well;
     }
     well && pairs.next().is_none() && shows(map.tree(), plain)
 }
 
-/// A map by its own calls; now and then by a run on its tree, or it is collected anew from what it holds, twice, in two orders.
-pub fn maps<K: Sample>(alloc: Global, seed: u64, end: u64) -> Result<bool, AllocError> {
-    let mut drawing: Drawing<K> = Drawing::new(alloc, seed, end);
+// Calls of a map, and now and then a run on its tree, or it is collected anew from what it holds, twice, in two orders.
+fn map_goes_on<K: Sample>(
+    alloc: Global,
+    map: &mut Map<K>,
+    drawing: &mut Drawing<K>,
+    turn: u64,
+) -> Result<bool, AllocError> {
+    drawing.put_of_ten(if turn % 10 < 6 { 7 } else { 3 });
+    let mut well = true;
+    if turn % 5 == 4 {
+        well = runs(alloc, map.tree_mut(), drawing)?;
+    } else {
+        for _ in 0..RUN / 4 {
+            well = map_changes(map, drawing)? && well;
+            well = map_changes(map, drawing)? && well;
+            well = map_writes(map, drawing)? && well;
+            well = map_shows_some(map, drawing)? && well;
+        }
+    }
+    if turn % 7 == 0 {
+        *map = BPlusTreeMap::from_iter(alloc, drawing.plain.both_ways()?)?;
+    }
+    Ok(map_shows(map, &drawing.plain) && well)
+}
+
+/// A map by its own calls.
+pub fn maps<K: Sample>(alloc: Global, drawing: &mut Drawing<K>) -> Result<bool, AllocError> {
     let mut map: Map<K> = BPlusTreeMap::new(alloc)?;
     let mut well = true;
     for turn in 0..CALLS / RUN {
-        drawing.put_of_ten(if turn % 10 < 6 { 7 } else { 3 });
-        if turn % 5 == 4 {
-            well = runs(alloc, map.tree_mut(), &mut drawing)? && well;
-        } else {
-            for _ in 0..RUN / 4 {
-                well = map_changes(&mut map, &mut drawing)? && well;
-                well = map_changes(&mut map, &mut drawing)? && well;
-                well = map_writes(&mut map, &mut drawing)? && well;
-                well = map_shows_some(&map, &mut drawing)? && well;
-            }
-        }
-        if turn % 7 == 0 {
-            let mut pairs = drawing.plain.copies()?;
-            pairs.reverse();
-            for pair in drawing.plain.copies()? {
-                pairs.push(pair)?;
-            }
-            map = BPlusTreeMap::from_iter(alloc, pairs)?;
-        }
-        well = map_shows(&map, &drawing.plain) && well;
+        well = map_goes_on(alloc, &mut map, drawing, turn)? && well;
     }
     Ok(well)
 }
 
-// One call of a set.
-fn set_answers<K: Sample>(
+// A call of a set that changes its keys.
+fn set_changes<K: Sample>(
     set: &mut BPlusTreeSet<K>,
     drawing: &mut Drawing<K>,
 ) -> Result<bool, AllocError> {
     let key = drawing.key()?;
-    let last = drawing.plain.len().wrapping_sub(1);
-    Ok(match drawing.below(8) {
-        0..=3 if drawing.is_put() => {
-            let is_new = drawing.plain.put(key.clone()?, 0)?.is_none();
-            set.insert(key).ok() == Some(is_new)
-        }
-        0..=3 => set.remove(&key)? == drawing.plain.take(&key).is_some(),
-        4 | 5 => set.contains(&key) == drawing.plain.get(&key).is_some(),
-        6 => set.first() == drawing.plain.key_at(0) && set.last() == drawing.plain.key_at(last),
-        _ => set.len() == drawing.plain.len(),
+    if drawing.is_put() {
+        let is_new = drawing.plain.put(&key, 0)?.is_none();
+        return Ok(set.insert(key).ok() == Some(is_new));
+    }
+    Ok(set.remove(&key)? == drawing.plain.take(&key).is_some())
+}
+
+// A look at a set.
+fn set_shows_some<K: Sample>(
+    set: &BPlusTreeSet<K>,
+    drawing: &mut Drawing<K>,
+) -> Result<bool, AllocError> {
+    let key = drawing.key()?;
+    let kind = drawing.below(4);
+    let plain = &drawing.plain;
+    Ok(match kind {
+        0 | 1 => set.contains(&key) == plain.find(&key).is_ok(),
+        2 => set.first() == plain.key_at(0) && set.last() == plain.key_at(plain.last()),
+        _ => set.len() == plain.len(),
     })
 }
 
@@ -274,36 +289,59 @@ fn set_shows<K: Sample>(
     set: &BPlusTreeSet<K>,
     plain: &Plain<K>,
 ) -> Result<bool, AllocError> {
-    let mut other = Vec::new(alloc);
-    for (place, (key, _)) in plain.pairs().iter().enumerate() {
-        if place % 3 != 0 {
-            other.push(key.clone()?)?;
-        }
-    }
-    let other = BPlusTreeSet::from_iter(alloc, other)?;
+    let other = BPlusTreeSet::from_iter(alloc, plain.most_keys()?)?;
     let mut keys = set.iter();
     let mut union = set.union(&other);
     let mut well = keys.len() == plain.len();
-    for (wanted, _) in plain.pairs() {
-        well = well && keys.next() == Some(wanted) && union.next() == Some(wanted);
+    for place in 0..plain.len() {
+        well = keys.next() == plain.key_at(place) && well;
+        well = union.next() == plain.key_at(place) && well;
     }
     Ok(well && keys.next().is_none() && union.next().is_none())
 }
 
+fn set_goes_on<K: Sample>(
+    alloc: Global,
+    set: &mut BPlusTreeSet<K>,
+    drawing: &mut Drawing<K>,
+    turn: u64,
+) -> Result<bool, AllocError> {
+    drawing.put_of_ten(if turn % 10 < 6 { 7 } else { 3 });
+    let mut well = true;
+    for _ in 0..RUN {
+        if drawing.below(2) == 0 {
+            well = set_changes(set, drawing)? && well;
+        } else {
+            well = set_shows_some(set, drawing)? && well;
+        }
+    }
+    Ok(set_shows(alloc, set, &drawing.plain)? && well)
+}
+
 /// A set by its own calls.
-pub fn sets<K: Sample>(alloc: Global, seed: u64, end: u64) -> Result<bool, AllocError> {
-    let mut drawing: Drawing<K> = Drawing::new(alloc, seed, end);
+pub fn sets<K: Sample>(alloc: Global, drawing: &mut Drawing<K>) -> Result<bool, AllocError> {
     let mut set: BPlusTreeSet<K> = BPlusTreeSet::new(alloc)?;
     let mut well = true;
     for turn in 0..CALLS / RUN {
-        drawing.put_of_ten(if turn % 10 < 6 { 7 } else { 3 });
-        for _ in 0..RUN {
-            well = set_answers(&mut set, &mut drawing)? && well;
-        }
-        well = set_shows(alloc, &set, &drawing.plain)? && well;
+        well = set_goes_on(alloc, &mut set, drawing, turn)? && well;
     }
     Ok(well)
 }
 
 /// A tree whose store is the library's.
 pub type Counted<K> = NodeStoreVec<K, u64, Count>;
+
+/// What a letter names of the calls in no order, with keys of one type: a capital letter stands for many keys.
+pub fn no_order<K: Sample>(alloc: Global, letter: u8, seed: u64) -> Result<bool, AllocError> {
+    let end = if letter.is_ascii_uppercase() {
+        u64::MAX
+    } else {
+        300
+    };
+    let mut drawing: Drawing<K> = Drawing::new(alloc, seed, end);
+    match letter {
+        b't' | b'T' | b's' | b'S' => trees::<Counted<K>>(alloc, &mut drawing),
+        b'm' | b'M' | b'w' | b'W' => maps(alloc, &mut drawing),
+        _ => sets(alloc, &mut drawing),
+    }
+}

@@ -1,5 +1,6 @@
 //! Trees of known pairs, and what each call on them has to answer.
 
+use crate::forgetful::Forgetful;
 use bptree_visits_tests::visitors::Says;
 use bptree_visits_tests::walks::{is_counted, is_well_shaped};
 use std::alloc::{AllocError, Global};
@@ -8,7 +9,18 @@ use sweep_bptree::tree::count::Count;
 use sweep_bptree::tree::visit::DescendError;
 use sweep_bptree::tree::{BPlusTree, InnerNodeId, LeafNodeId, NodeId, NodeStore, in_load_order};
 
-/// The pairs (i, 10 i) for i below a number, loaded at once.
+/// A tree that is loaded at once with pairs in the order of their keys.
+pub fn loaded<S: NodeStore>(
+    alloc: Global,
+    pairs: Vec<(S::K, S::V)>,
+) -> Result<BPlusTree<S>, AllocError> {
+    if !in_load_order(&pairs) {
+        return Err(AllocError);
+    }
+    BPlusTree::bulk_load(alloc, pairs)
+}
+
+// The pairs (i, 10 i) for i below a number, loaded at once.
 fn tens<S: NodeStore<K = u64, V = u64>>(
     alloc: Global,
     len: u64,
@@ -17,10 +29,7 @@ fn tens<S: NodeStore<K = u64, V = u64>>(
     for key in 0..len {
         pairs.push((key, key.wrapping_mul(10)))?;
     }
-    if !in_load_order(&pairs) {
-        return Err(AllocError);
-    }
-    BPlusTree::bulk_load(alloc, pairs)
+    loaded(alloc, pairs)
 }
 
 // Whether keys at the ends, in the middle and behind all are found, and others are not.
@@ -46,51 +55,41 @@ fn finds_after<S: NodeStore<K = u64, V = u64>>(tree: &BPlusTree<S>, number: usiz
     well
 }
 
-/// Each leaf's number, an absent one and the greatest are given as the remembered leaf's.
-pub fn hints<S: NodeStore<K = u64, V = u64>>(alloc: Global) -> Result<bool, AllocError> {
-    let tree: BPlusTree<S> = tens(alloc, 10_000)?;
-    let mut well = finds(&tree);
+// Each leaf's number, an absent one and the greatest are given as the remembered leaf's.
+fn hints<S: NodeStore<K = u64, V = u64>>(tree: &BPlusTree<S>) -> bool {
+    let mut well = finds(tree);
     let mut leaves: usize = 0;
     for number in 0..1_000 {
-        if tree
-            .node_store()
-            .try_get_leaf(LeafNodeId::from_usize(number))
-            .is_some()
-        {
+        let id = LeafNodeId::from_usize(number);
+        if tree.node_store().try_get_leaf(id).is_some() {
             leaves = leaves.saturating_add(1);
-            well = finds_after(&tree, number) && well;
+            well = finds_after(tree, number) && well;
         }
     }
-    Ok(well && leaves > 150 && finds_after(&tree, 999) && finds_after(&tree, usize::MAX))
+    well && leaves > 150 && finds_after(tree, 999) && finds_after(tree, usize::MAX)
 }
 
-/// Visitors that name a child which is there, and others which are not.
-pub fn visitors<S: NodeStore<K = u64, V = u64>>(alloc: Global) -> Result<bool, AllocError> {
-    let tree: BPlusTree<S> = tens(alloc, 10_000)?;
+// The number of keys of the root, 0 of a leaf.
+fn root_len<S: NodeStore<K = u64, V = u64>>(tree: &BPlusTree<S>) -> usize {
     let NodeId::Inner(root) = tree.root_id() else {
-        return Ok(false);
+        return 0;
     };
-    let Some(node) = tree.node_store().try_get_inner(root) else {
-        return Ok(false);
-    };
-    let last = node.len();
-    Ok(
-        tree.height() == 2
-            && is_answered(
-                &tree,
-                Says::Child(last.saturating_add(1)),
-                Err(DescendError::InvalidChild),
-            )
-            && is_answered(&tree, Says::Child(65), Err(DescendError::InvalidChild))
-            && is_answered(
-                &tree,
-                Says::Child(usize::MAX),
-                Err(DescendError::InvalidChild),
-            )
-            && is_answered(&tree, Says::Nothing, Ok(None))
-            && is_answered(&tree, Says::Number(7), Ok(Some(7)))
-            && went_down(&tree, last),
-    )
+    match tree.node_store().try_get_inner(root) {
+        Some(node) => node.len(),
+        None => 0,
+    }
+}
+
+// Visitors that name a child which is there, and others which are not.
+fn visitors<S: NodeStore<K = u64, V = u64>>(tree: &BPlusTree<S>) -> bool {
+    let last = root_len(tree);
+    let mut well = tree.height() == 2 && went_down(tree, last);
+    for place in [last.saturating_add(1), 65, usize::MAX] {
+        let wanted = Err(DescendError::InvalidChild);
+        well = is_answered(tree, Says::Child(place), wanted) && well;
+    }
+    well && is_answered(tree, Says::Nothing, Ok(None))
+        && is_answered(tree, Says::Number(7), Ok(Some(7)))
 }
 
 fn is_answered<S: NodeStore<K = u64, V = u64>>(
@@ -134,33 +133,39 @@ fn is_well<S: NodeStore<Argument = Count>>(tree: &BPlusTree<S>) -> Result<bool, 
     Ok(is_well_shaped(tree)? && is_counted(tree))
 }
 
-/// A hundred thousand pairs come in one order, and leave in another. After each thousand all nodes are walked over.
-pub fn many<S: NodeStore<K = u64, V = u64, Argument = Count>>(
-    alloc: Global,
+// A hundred thousand pairs come. After each thousand all nodes are walked over.
+fn come<S: NodeStore<K = u64, V = u64, Argument = Count>>(
+    tree: &mut BPlusTree<S>,
 ) -> Result<bool, AllocError> {
-    let mut tree: BPlusTree<S> = BPlusTree::new(S::empty(alloc))?;
     let mut well = true;
     for turn in 0..100_000 {
         well = tree.insert(turn * 7_919 % 100_000, turn).ok() == Some(None) && well;
         if turn % 1_000 == 999 {
-            well = is_well(&tree)? && well;
+            well = is_well(tree)? && well;
         }
     }
-    well = well && tree.len() == 100_000 && (tree.height() == 2 || tree.height() == 3);
+    Ok(well && tree.len() == 100_000 && (tree.height() == 2 || tree.height() == 3))
+}
+
+// They leave in another order.
+fn leave<S: NodeStore<K = u64, V = u64, Argument = Count>>(
+    tree: &mut BPlusTree<S>,
+) -> Result<bool, AllocError> {
+    let mut well = true;
     for turn in 0..100_000 {
         well = tree.remove(&(turn * 6_007 % 100_000))?.is_some() && well;
         if turn % 1_000 == 999 {
-            well = is_well(&tree)? && well;
+            well = is_well(tree)? && well;
         }
     }
-    Ok(well && tree.is_empty() && nodes(&tree, 10_000) == (1, 0))
+    Ok(well && tree.is_empty() && nodes(tree, 10_000) == (1, 0))
 }
 
-// Whether two held cursors' commands are answered so.
+// Whether two held cursors' commands are answered so, on a tree with no pairs.
 fn holds_cursors<S: NodeStore<K = u64, V = u64, Argument = Count>>(
     alloc: Global,
+    tree: &mut BPlusTree<S>,
 ) -> Result<bool, AllocError> {
-    let mut tree: BPlusTree<S> = BPlusTree::new(S::empty(alloc))?;
     let commands = vec![in alloc;
         Command::Insert(1, 10),
         Command::Insert(2, 20),
@@ -185,20 +190,54 @@ fn holds_cursors<S: NodeStore<K = u64, V = u64, Argument = Count>>(
         Reply::NoCursor,
         Reply::Walked(vec![in alloc; Some((2, 20)), None]?),
     ]?;
-    let (replies, error) = run(alloc, &mut tree, commands);
+    let (replies, error) = run(alloc, tree, commands);
     Ok(error.is_none() && crate::drawing::are_same(&replies, &wanted))
 }
 
-/// A tree over a store that remembers no leaf.
-pub fn no_hint<S: NodeStore<K = u64, V = u64, Argument = Count>>(
-    alloc: Global,
-) -> Result<bool, AllocError> {
-    let tree: BPlusTree<S> = tens(alloc, 10_000)?;
-    let mut well = finds(&tree) && tree.height() == 2;
+// Whether look-ups over a store that remembers no leaf make few comparisons.
+fn no_hint<S: NodeStore<K = u64, V = u64>>(tree: &BPlusTree<S>) -> bool {
+    let mut well = finds(tree) && tree.height() == 2;
     for key in 0..10_001 {
         let (value, compares) = tree.get_counted(&key);
         let wanted = if key < 10_000 { Some(key * 10) } else { None };
         well = value.copied() == wanted && compares <= 21 && well;
     }
-    Ok(well && holds_cursors::<S>(alloc)?)
+    well
+}
+
+// What a letter names of an empty tree.
+fn from_empty<S: NodeStore<K = u64, V = u64, Argument = Count>>(
+    alloc: Global,
+    letter: u8,
+) -> Result<bool, AllocError> {
+    let mut tree: BPlusTree<S> = BPlusTree::new(S::empty(alloc))?;
+    if letter == b'b' {
+        holds_cursors(alloc, &mut tree)
+    } else {
+        Ok(come(&mut tree)? && leave(&mut tree)?)
+    }
+}
+
+// What a letter names of a tree of ten thousand pairs.
+fn of_tens<S: NodeStore<K = u64, V = u64>>(alloc: Global, letter: u8) -> Result<bool, AllocError> {
+    let tree: BPlusTree<S> = tens(alloc, 10_000)?;
+    Ok(match letter {
+        b'a' => hints(&tree),
+        b'b' => no_hint(&tree),
+        _ => visitors(&tree),
+    })
+}
+
+/// What a letter names of the trees of known pairs.
+pub fn known_pairs<S: NodeStore<K = u64, V = u64, Argument = Count>>(
+    alloc: Global,
+    letter: u8,
+) -> Result<bool, AllocError> {
+    match letter {
+        b'b' => Ok(
+            of_tens::<Forgetful<S>>(alloc, letter)? && from_empty::<Forgetful<S>>(alloc, letter)?,
+        ),
+        b'd' => from_empty::<S>(alloc, letter),
+        _ => of_tens::<S>(alloc, letter),
+    }
 }

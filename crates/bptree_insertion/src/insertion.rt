@@ -1,5 +1,5 @@
 //! Insertion into a tree that stands in a store.
-ghost use Rattle.std.specs.Prelude.{◌≡◌, ◌+◌, ◌≤◌, ◌<◌, ◌^◌, IfOk, IfErr, OnErr, IfSome, List, false, length, slice_get, Some, drop, insert};
+ghost use Rattle.std.specs.Prelude.{◌≡◌, ◌+◌, ◌≤◌, ◌<◌, ◌^◌, ◌≢◌, IfOk, IfErr, OnErr, IfSome, List, false, true, length, slice_get, Some, drop, insert};
 ghost use Rattle.std.specs.Map.{values_of};
 ghost use Rattle.bptree_keys.specs.Contents.{has};
 ghost use Rattle.bptree_keys.specs.declared.node_id.NodeId.TheVariants as kind;
@@ -274,6 +274,14 @@ fn top_of(root: NodeId, height: usize, top: Option<InnerNodeId>) -> (NodeId, usi
         Some(id) => (NodeId::Inner(id), height + 1),
         None => (root, height),
     }
+}
+
+/// Whether a tree of so many pairs takes no pair with a new key: its length could not count one more.
+pub fn is_full(len: usize) -> bool
+    ensures full { result ≡ true → len ≡ usize.MAX }
+    ensures room { result ≡ false → len ≢ usize.MAX }
+{
+    len == usize::MAX
 }
 
 /// Puts a pair into a whole tree.

@@ -1,2 +1,3 @@
 pub mod GatherLemmas
 pub mod PartLemmas
+pub mod Sizes

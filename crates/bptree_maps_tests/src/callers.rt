@@ -4,3 +4,4 @@ mod maps;
 mod pages;
 mod sets;
 mod together;
+mod visits;

@@ -1,8 +1,10 @@
-//! Tests of maps and sets.
+//! Tests of maps and sets, and of visits.
 #![tactic(auto)]
 
 #[cfg(test)]
 mod callers;
+#[cfg(test)]
+mod firsts;
 #[cfg(test)]
 mod group_tests;
 #[cfg(test)]
@@ -11,3 +13,5 @@ mod map_tests;
 mod page_tests;
 #[cfg(test)]
 mod set_tests;
+#[cfg(test)]
+mod visit_tests;

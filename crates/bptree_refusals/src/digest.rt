@@ -31,6 +31,13 @@ pub trait Told {
     fn tell(&self, digest: &mut Digest);
 }
 
+/// What a thing tells, as one word.
+pub fn word_of<T: Told>(what: &T) -> u64 {
+    let mut digest = Digest::new();
+    what.tell(&mut digest);
+    digest.value()
+}
+
 impl Told for u64 {
     fn tell(&self, digest: &mut Digest) {
         digest.add(*self);
@@ -170,7 +177,7 @@ pub fn tell_leaf<K: Told + Ord + Drop, V: Told + Drop>(leaf: &LeafNode<K, V>, di
 const NUMBERS: usize = 160;
 
 /// A store's nodes under the first numbers: their keys, values, links, children and summaries.
-pub fn tell_store<S: NodeStore>(store: &S, digest: &mut Digest)
+fn tell_store<S: NodeStore>(store: &S, digest: &mut Digest)
 where
     S::K: Told,
     S::V: Told,
@@ -186,6 +193,18 @@ where
             tell_leaf(leaf, digest);
         }
     }
+}
+
+/// The same as one number.
+pub fn told_store<S: NodeStore>(store: &S) -> u64
+where
+    S::K: Told,
+    S::V: Told,
+    S::Argument: Told,
+{
+    let mut digest = Digest::new();
+    tell_store(store, &mut digest);
+    digest.value()
 }
 
 /// A tree's length, height, root and summary, and its store's nodes.

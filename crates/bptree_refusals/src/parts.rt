@@ -1,20 +1,45 @@
-//! Nodes, stores and what is made of a whole tree. None or false stands for what is not as it should be.
+//! Nodes and stores.
 
 ghost use Rattle.std.specs.Prelude.{◌≡◌, ◌≤◌, ◌+◌, vec_len};
 
-use crate::digest::{Digest, Told, digest_of, holds_none, tell_inner, tell_leaf, tell_store};
-use crate::trial::{Made, Sample, Trial, load_once};
+use crate::digest::{Digest, Told, holds_none, tell_inner, tell_leaf, told_store};
+use crate::plans::Call;
+use crate::sample::Sample;
+use crate::trial::Subject;
 use std::alloc::{AllocError, Global};
 use std::marker::PhantomData;
 use sweep_bptree::tree::{
-    Argument, CloneArgument, CloneStore, InnerNode, InnerNodeId, LeafNode, LeafNodeId, NodeId,
-    NodeStore, NodeStoreVec,
+    Argument, InnerNode, LeafNode, LeafNodeId, NodeId, NodeStore, NodeStoreVec,
 };
 
+/// What is made of memory, and tells one number.
+pub trait Part {
+    fn made(alloc: Global) -> Result<u64, AllocError>;
+}
+
+/// What a part told.
+#[derive(Drop)]
+pub struct Made<P>(u64, PhantomData<P>);
+
+impl<P: Part + Drop> Subject for Made<P> {
+    fn made(alloc: Global, _many: u64) -> Result<Made<P>, AllocError> {
+        Ok(Made(P::made(alloc)?, PhantomData))
+    }
+
+    fn answers(&mut self, _alloc: Global, _call: Call) -> Result<bool, AllocError> {
+        Ok(false)
+    }
+
+    fn told(&self) -> (u64, usize) {
+        (self.0, 0)
+    }
+}
+
 /// A leaf, its clone, and the clones of its first and its last key.
+#[derive(Drop)]
 pub struct LeafParts<K>(PhantomData<K>);
 
-impl<K: Sample> Made for LeafParts<K> {
+impl<K: Sample> Part for LeafParts<K> {
     fn made(alloc: Global) -> Result<u64, AllocError> {
         let mut leaf = LeafNode::<K, u64>::new(alloc)?;
         leaf.insert_at(0, K::sample(alloc, 1)?, 10);
@@ -30,9 +55,10 @@ impl<K: Sample> Made for LeafParts<K> {
 }
 
 /// An inner node made of vectors, its clone, and an empty one.
+#[derive(Drop)]
 pub struct InnerParts<K>(PhantomData<K>);
 
-impl<K: Sample> Made for InnerParts<K> {
+impl<K: Sample> Part for InnerParts<K> {
     fn made(alloc: Global) -> Result<u64, AllocError> {
         let child = NodeId::Leaf(LeafNodeId::from_usize(3));
         let mut keys = Vec::new(alloc);
@@ -65,9 +91,10 @@ fn node_of_given(
 }
 
 /// An inner node that is made so.
+#[derive(Drop)]
 pub struct InnerGiven;
 
-impl Made for InnerGiven {
+impl Part for InnerGiven {
     fn made(alloc: Global) -> Result<u64, AllocError> {
         let child = NodeId::Leaf(LeafNodeId::from_usize(3));
         let keys = vec![in alloc; 5u64]?;
@@ -81,170 +108,65 @@ impl Made for InnerGiven {
 }
 
 /// A store with room.
+#[derive(Drop)]
 pub struct Roomy<K, A>(PhantomData<K>, PhantomData<A>);
 
-impl<K: Sample, A: Argument<K> + Told> Made for Roomy<K, A> {
+impl<K: Sample, A: Argument<K>> Part for Roomy<K, A> {
     fn made(alloc: Global) -> Result<u64, AllocError> {
         let store = NodeStoreVec::<K, u64, A>::with_capacity(alloc, 8)?;
         Ok(store.is_empty() as u64)
     }
 }
 
-/// What is made is the same where a request was refused on the way.
-pub fn made<M: Made>(trial: &mut Trial, name: &str) -> Option<bool> {
-    trial.begin(name)?;
-    let told = trial.make::<M>()?;
-    trial.end()?;
-    Some(M::made(trial.allocator()).ok()? == told)
-}
+/// A store whose numbers are held, released and taken by nodes.
+#[derive(Drop)]
+pub struct Numbered<S>(S);
 
-// A store's nodes, told.
-fn told_store<S: NodeStore>(store: &S) -> u64
+impl<S: NodeStore> Subject for Numbered<S>
 where
     S::K: Told,
     S::V: Told,
     S::Argument: Told,
 {
-    let mut digest = Digest::new();
-    tell_store(store, &mut digest);
-    digest.value()
-}
+    fn made(alloc: Global, _many: u64) -> Result<Numbered<S>, AllocError> {
+        Ok(Numbered(S::empty(alloc)))
+    }
 
-/// A tree of 200 pairs is cloned, and its store too.
-pub fn cloned<S: CloneStore<V = u64>>(trial: &mut Trial, name: &str) -> Option<bool>
-where
-    S::K: Sample,
-    S::Argument: CloneArgument<S::K> + Told,
-{
-    let tree = trial.load::<S>(200)?;
-    trial.begin(name)?;
-    let before = digest_of(&tree);
-    let copy = match tree.clone() {
-        Ok(copy) => copy,
-        Err(_) => {
-            trial.count();
-            tree.clone().ok()?
-        }
-    };
-    let store = match tree.node_store().clone() {
-        Ok(store) => store,
-        Err(_) => {
-            trial.count();
-            tree.node_store().clone().ok()?
-        }
-    };
-    trial.end()?;
-    let well = digest_of(&tree) == before && digest_of(&copy) == before;
-    Some(well && told_store(&store) == told_store(tree.node_store()) && holds_none(store))
-}
-
-// Each call of a store that can be refused, made again where it is. A refused one leaves the store as it was.
-fn fresh_leaf<S: NodeStore>(trial: &mut Trial, store: &mut S) -> Option<LeafNodeId>
-where
-    S::K: Told,
-    S::V: Told,
-    S::Argument: Told,
-{
-    let before = told_store(store);
-    match store.new_empty_leaf() {
-        Ok(id) => Some(id),
-        Err(_) => {
-            trial.count();
-            if told_store(store) != before {
-                return None;
+    fn answers(&mut self, alloc: Global, call: Call) -> Result<bool, AllocError> {
+        let store = &mut self.0;
+        let Call::Own(turn) = call else {
+            return Ok(false);
+        };
+        match turn % 4 {
+            0 => {
+                let id = store.reserve_leaf()?;
+                let is_held = store.try_get_leaf(id).is_none();
+                store.release_leaf(id);
+                Ok(is_held)
             }
-            store.new_empty_leaf().ok()
+            1 => {
+                let id = store.reserve_inner()?;
+                let is_held = store.try_get_inner(id).is_none();
+                store.release_inner(id);
+                Ok(is_held)
+            }
+            2 => {
+                let id = store.new_empty_leaf()?;
+                Ok(store.try_get_leaf(id).is_some())
+            }
+            _ => match store.add_inner(InnerNode::empty(alloc)?) {
+                Ok(id) => Ok(store.try_get_inner(id).is_some()),
+                Err(node) if node.len() == 0 => Err(AllocError),
+                Err(_) => Ok(false),
+            },
         }
     }
-}
 
-fn hold_leaf<S: NodeStore>(trial: &mut Trial, store: &mut S) -> Option<()>
-where
-    S::K: Told,
-    S::V: Told,
-    S::Argument: Told,
-{
-    let before = told_store(store);
-    let id = match store.reserve_leaf() {
-        Ok(id) => id,
-        Err(_) => {
-            trial.count();
-            if told_store(store) != before {
-                return None;
-            }
-            store.reserve_leaf().ok()?
-        }
-    };
-    let is_held = store.try_get_leaf(id).is_none();
-    store.release_leaf(id);
-    if is_held { Some(()) } else { None }
-}
-
-fn hold_inner<S: NodeStore>(trial: &mut Trial, store: &mut S) -> Option<()>
-where
-    S::K: Told,
-    S::V: Told,
-    S::Argument: Told,
-{
-    let before = told_store(store);
-    let id = match store.reserve_inner() {
-        Ok(id) => id,
-        Err(_) => {
-            trial.count();
-            if told_store(store) != before {
-                return None;
-            }
-            store.reserve_inner().ok()?
-        }
-    };
-    let is_held = store.try_get_inner(id).is_none();
-    store.release_inner(id);
-    if is_held { Some(()) } else { None }
-}
-
-fn add_inner<S: NodeStore>(trial: &mut Trial, store: &mut S) -> Option<InnerNodeId>
-where
-    S::K: Told,
-    S::V: Told,
-    S::Argument: Told,
-{
-    let node = match InnerNode::empty(store.allocator()) {
-        Ok(node) => node,
-        Err(_) => {
-            trial.count();
-            InnerNode::empty(store.allocator()).ok()?
-        }
-    };
-    let before = told_store(store);
-    match store.add_inner(node) {
-        Ok(id) => Some(id),
-        Err(node) => {
-            trial.count();
-            if told_store(store) != before {
-                return None;
-            }
-            store.add_inner(node).ok()
-        }
+    fn told(&self) -> (u64, usize) {
+        (told_store(&self.0), 0)
     }
-}
 
-/// Numbers of a store are held, released and taken by nodes.
-pub fn stored<S: NodeStore>(trial: &mut Trial, name: &str) -> Option<bool>
-where
-    S::K: Told,
-    S::V: Told,
-    S::Argument: Told,
-{
-    let mut store = S::empty(trial.allocator());
-    trial.begin(name)?;
-    let mut well = true;
-    for _turn in 0..6 {
-        hold_leaf(trial, &mut store)?;
-        hold_inner(trial, &mut store)?;
-        let leaf = fresh_leaf(trial, &mut store)?;
-        let inner = add_inner(trial, &mut store)?;
-        well = well && store.try_get_leaf(leaf).is_some() && store.try_get_inner(inner).is_some();
+    fn is_tidy(self) -> bool {
+        holds_none(self.0)
     }
-    trial.end()?;
-    Some(well && holds_none(store))
 }

@@ -1,52 +1,61 @@
-//! Calls that take no memory. None or false stands for what is not as it should be.
+//! Calls that take no memory.
 
-use crate::collections::full_set;
 use crate::digest::{Told, digest_of};
-use crate::trial::{Sample, Trial};
+use crate::plans::Call;
+use crate::sample::{Sample, keys_of};
+use crate::trees::last_of;
+use crate::trial::Subject;
+use std::alloc::{AllocError, Global};
 use sweep_bptree::BPlusTreeSet;
-use sweep_bptree::tree::{BPlusTree, CloneStore, Cursor, NodeStore};
+use sweep_bptree::tree::{BPlusTree, CloneArgument, CloneStore, Cursor, NodeStore};
 
-// How many pairs the trees have, and the number of the last of them.
-const MANY: u64 = 200;
-
-const LAST: u64 = 199;
-
-// Whether a tree has all its pairs.
-fn is_whole<S: NodeStore<V = u64>>(tree: &BPlusTree<S>) -> bool {
-    let is_long = tree.len() as u64 == MANY && !tree.is_empty();
-    is_long && tree.height() == 1 && tree.first().is_some() && tree.last().is_some()
+/// A tree that is read, an empty one, and one that is handed over; with its last key, that key once more, and a greater one.
+#[derive(Drop)]
+pub struct Readings<S: NodeStore> {
+    tree: BPlusTree<S>,
+    empty: BPlusTree<S>,
+    given: Option<BPlusTree<S>>,
+    cursor: Option<Cursor<S::K>>,
+    here: S::K,
+    equal: Option<S::K>,
+    gone: S::K,
+    last: u64,
 }
 
 // Reads of a tree, by a key that is there and one that is not.
 fn is_read<S: NodeStore<V = u64>>(tree: &BPlusTree<S>, here: &S::K, gone: &S::K) -> bool {
     let (value, compares) = tree.get_counted(here);
-    let is_there = value.is_some() && compares > 0;
-    is_there && tree.get(here).is_some() && tree.get(gone).is_none()
+    let is_there = value.is_some() && compares > 0 && tree.get(here).is_some();
+    is_there && tree.get(gone).is_none() && tree.first().is_some() && tree.last().is_some()
 }
 
-// How many pairs the iterator over a tree gives from both ends, with how many there are between two keys.
-fn steps_of<S: NodeStore<V = u64>>(tree: &BPlusTree<S>, here: &S::K, gone: &S::K) -> usize {
+// Whether the iterator over a tree gives all pairs from both ends, with one pair between two keys.
+fn is_gone_through<S: NodeStore<V = u64>>(tree: &BPlusTree<S>, here: &S::K, gone: &S::K) -> bool {
     let mut count: usize = 0;
     let mut pairs = tree.iter();
-    for _turn in 0..MANY {
+    for _turn in 0..tree.len() {
         count = count.saturating_add(pairs.next().is_some() as usize);
         count = count.saturating_add(pairs.next_back().is_some() as usize);
     }
-    count.saturating_add(tree.range(Some(here), Some(gone)).len())
+    count == tree.len() && tree.range(Some(here), Some(gone)).len() == 1
 }
 
-// What a cursor on the last key tells, which has no key behind it.
-fn is_last<S: NodeStore<V = u64>>(tree: &BPlusTree<S>, cursor: &Cursor<S::K>) -> Option<bool> {
-    let end = cursor.next(tree).ok()?;
-    Some(end.is_none() && cursor.exists(tree) && cursor.value(tree) == Some(&LAST))
+// A cursor on the last key has no key behind it.
+fn is_last<S: NodeStore<V = u64>>(
+    tree: &BPlusTree<S>,
+    cursor: &Cursor<S::K>,
+    last: u64,
+) -> Result<bool, AllocError> {
+    let end = cursor.next(tree)?;
+    Ok(end.is_none() && cursor.exists(tree) && cursor.value(tree) == Some(&last))
 }
 
 // An empty tree has no pair to stand on.
-fn has_no_place<S: NodeStore<V = u64>>(tree: &BPlusTree<S>) -> Option<bool> {
-    Some(
-        tree.cursor_first().ok()?.is_none()
-            && Cursor::first(tree).ok()?.is_none()
-            && Cursor::last(tree).ok()?.is_none(),
+fn has_no_place<S: NodeStore<V = u64>>(tree: &BPlusTree<S>) -> Result<bool, AllocError> {
+    Ok(
+        tree.cursor_first()?.is_none()
+            && Cursor::first(tree)?.is_none()
+            && Cursor::last(tree)?.is_none(),
     )
 }
 
@@ -54,76 +63,163 @@ fn has_no_place<S: NodeStore<V = u64>>(tree: &BPlusTree<S>) -> Option<bool> {
 fn is_kept<S: NodeStore<V = u64>>(
     tree: &mut BPlusTree<S>,
     equal: S::K,
-    here: &S::K,
     gone: &S::K,
-) -> Option<bool> {
-    let old = tree.insert(equal, 7).ok()?;
-    let none = tree.remove(gone).ok()?;
-    let value = tree.get_mut(here)?;
+    last: u64,
+) -> bool {
+    tree.insert(equal, 7).ok() == Some(Some(last)) && tree.remove(gone) == Ok(None)
+}
+
+// Writes the last value anew.
+fn is_mended<S: NodeStore<V = u64>>(tree: &mut BPlusTree<S>, here: &S::K, last: u64) -> bool {
+    let Some(value) = tree.get_mut(here) else {
+        return false;
+    };
     let is_new = *value == 7;
-    *value = LAST;
-    Some(old == Some(LAST) && none.is_none() && is_new)
+    *value = last;
+    is_new
 }
 
 // How many pairs a tree hands over.
-fn handed_over<S: NodeStore<V = u64>>(tree: BPlusTree<S>) -> u64 {
-    let mut count: u64 = 0;
+fn handed_over<S: NodeStore<V = u64>>(tree: BPlusTree<S>) -> usize {
+    let mut count: usize = 0;
+    let many = tree.len();
     let mut pairs = tree.into_iter();
-    for _turn in 0..MANY {
-        count = count.saturating_add(pairs.next().is_some() as u64);
-        count = count.saturating_add(pairs.next_back().is_some() as u64);
+    for _turn in 0..many {
+        count = count.saturating_add(pairs.next().is_some() as usize);
+        count = count.saturating_add(pairs.next_back().is_some() as usize);
     }
     count
 }
 
-/// A tree of 200 pairs is read, changed where that takes no memory, and handed over.
-pub fn read<S: CloneStore<V = u64>>(trial: &mut Trial, name: &str) -> Option<bool>
+impl<S: CloneStore<V = u64>> Subject for Readings<S>
 where
     S::K: Sample,
-    S::Argument: Told,
+    S::Argument: CloneArgument<S::K> + Told,
 {
-    let empty = trial.none::<S>()?;
-    let mut tree = trial.load::<S>(MANY)?;
-    let here: S::K = trial.key(LAST)?;
-    let equal: S::K = trial.key(LAST)?;
-    let gone: S::K = trial.key(MANY)?;
-    let (cursor, _) = tree.get_cursor(&here).ok()??;
-    trial.begin(name)?;
-    let before = digest_of(&tree);
-    let mut well = is_whole(&tree) && is_read(&tree, &here, &gone);
-    well = well && steps_of(&tree, &here, &gone) as u64 == MANY + 1;
-    well = is_last(&tree, &cursor)? && has_no_place(&empty)? && well;
-    well = is_kept(&mut tree, equal, &here, &gone)? && well;
-    well = digest_of(&tree) == before && well;
-    well = handed_over(tree) == MANY && well;
-    trial.end()?;
-    Some(well)
+    fn made(alloc: Global, many: u64) -> Result<Readings<S>, AllocError> {
+        let last = many.saturating_sub(1);
+        let here = S::K::sample(alloc, last)?;
+        let equal = S::K::sample(alloc, last)?;
+        let gone = S::K::sample(alloc, many)?;
+        let empty = <BPlusTree<S> as Subject>::made(alloc, 0)?;
+        let tree = <BPlusTree<S> as Subject>::made(alloc, many)?;
+        let given = <BPlusTree<S> as Subject>::made(alloc, many)?;
+        let cursor = last_of(&tree)?;
+        Ok(Readings {
+            tree,
+            empty,
+            given: Some(given),
+            cursor,
+            here,
+            equal: Some(equal),
+            gone,
+            last,
+        })
+    }
+
+    fn answers(&mut self, _alloc: Global, call: Call) -> Result<bool, AllocError> {
+        match call {
+            Call::Own(0) => Ok(is_read(&self.tree, &self.here, &self.gone)),
+            Call::Own(1) => Ok(is_gone_through(&self.tree, &self.here, &self.gone)),
+            Call::Own(2) => match &self.cursor {
+                Some(cursor) => is_last(&self.tree, cursor, self.last),
+                None => Ok(false),
+            },
+            Call::Own(3) => has_no_place(&self.empty),
+            Call::Own(4) => match self.equal.take() {
+                Some(equal) => {
+                    let before = digest_of(&self.tree);
+                    Ok(
+                        is_kept(&mut self.tree, equal, &self.gone, self.last)
+                            && is_mended(&mut self.tree, &self.here, self.last)
+                            && digest_of(&self.tree) == before,
+                    )
+                }
+                None => Ok(false),
+            },
+            _ => match self.given.take() {
+                Some(given) => Ok(handed_over(given) == self.tree.len()),
+                None => Ok(false),
+            },
+        }
+    }
+
+    fn told(&self) -> (u64, usize) {
+        self.tree.told()
+    }
+
+    fn is_tidy(self) -> bool {
+        self.tree.is_tidy()
+    }
 }
 
-// How many keys of two sets there are together, and how many the one hands over.
-fn keys_of<K: Sample>(one: BPlusTreeSet<K>, other: &BPlusTreeSet<K>) -> usize {
+/// Two sets that are read, of which one is handed over, with the last key of both, that key once more, and a greater one.
+#[derive(Drop)]
+pub struct SetReadings<K: Sample> {
+    one: BPlusTreeSet<K>,
+    other: Option<BPlusTreeSet<K>>,
+    here: K,
+    equal: Option<K>,
+    gone: K,
+}
+
+// How many keys of two sets there are together, and how many the second hands over.
+fn counted<K: Sample>(one: &BPlusTreeSet<K>, other: BPlusTreeSet<K>) -> usize {
     let mut count: usize = 0;
-    for _key in one.union(other) {
+    for _key in one.union(&other) {
         count = count.saturating_add(1);
     }
-    for _key in one {
+    for _key in other {
         count = count.saturating_add(1);
     }
     count
 }
 
-/// Two sets of 100 keys are read, and one is handed over.
-pub fn read_sets<K: Sample>(trial: &mut Trial, name: &str) -> Option<bool> {
-    let mut one = full_set::<K>(trial.allocator()).ok()?;
-    let other = full_set::<K>(trial.allocator()).ok()?;
-    let here: K = trial.key(99)?;
-    let equal: K = trial.key(99)?;
-    let gone: K = trial.key(100)?;
-    trial.begin(name)?;
-    let mut well = one.contains(&here) && !one.contains(&gone) && one.len() == 100;
-    well = one.first().is_some() && one.last() == Some(&here) && well;
-    well = !one.insert(equal).ok()? && !one.remove(&gone).ok()? && well;
-    well = keys_of(one, &other) == 200 && well;
-    trial.end()?;
-    Some(well)
+impl<K: Sample> Subject for SetReadings<K> {
+    fn made(alloc: Global, many: u64) -> Result<SetReadings<K>, AllocError> {
+        let last = many.saturating_sub(1);
+        let here = K::sample(alloc, last)?;
+        let equal = K::sample(alloc, last)?;
+        let gone = K::sample(alloc, many)?;
+        let one = BPlusTreeSet::from_iter(alloc, keys_of(alloc, many, true)?)?;
+        let other = BPlusTreeSet::from_iter(alloc, keys_of(alloc, many, true)?)?;
+        Ok(SetReadings {
+            one,
+            other: Some(other),
+            here,
+            equal: Some(equal),
+            gone,
+        })
+    }
+
+    fn answers(&mut self, _alloc: Global, call: Call) -> Result<bool, AllocError> {
+        let SetReadings {
+            one,
+            other,
+            here,
+            equal,
+            gone,
+        } = self;
+        match call {
+            Call::Own(0) => Ok(
+                one.contains(here)
+                    && !one.contains(gone)
+                    && one.first().is_some()
+                    && one.last() == Some(here),
+            ),
+            Call::Own(1) => match equal.take() {
+                Some(equal) => Ok(one.insert(equal).ok() == Some(false)),
+                None => Ok(false),
+            },
+            Call::Own(2) => Ok(!one.remove(gone)?),
+            _ => match other.take() {
+                Some(other) => Ok(counted(one, other) == one.len().saturating_mul(2)),
+                None => Ok(false),
+            },
+        }
+    }
+
+    fn told(&self) -> (u64, usize) {
+        (0, self.one.len())
+    }
 }

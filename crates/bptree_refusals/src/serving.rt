@@ -80,9 +80,11 @@ fn answers(trial: &mut Trial, input: &[u8], output: &[u8]) -> bool {
 }
 
 /// Ten lines.
-pub fn few_lines(trial: &mut Trial) -> Option<bool> {
-    trial.begin("lines of each kind")?;
-    Some(answers(trial, INPUT.as_bytes(), OUTPUT.as_bytes()))
+pub fn few_lines(trial: &mut Trial) {
+    trial.begin("lines of each kind");
+    let is_well = answers(trial, INPUT.as_bytes(), OUTPUT.as_bytes());
+    trial.check(is_well);
+    trial.end();
 }
 
 // The line at a place of many, which puts a pair.
@@ -95,7 +97,7 @@ fn put_line(place: usize) -> [u8; 10] {
 }
 
 /// Lines that put 300 new pairs.
-pub fn many_lines(trial: &mut Trial) -> Option<bool> {
+pub fn many_lines(trial: &mut Trial) {
     let mut input = [b'\n'; 3300];
     let mut output = [b'\n'; 1200];
     for place in 0..300 {
@@ -103,6 +105,8 @@ pub fn many_lines(trial: &mut Trial) -> Option<bool> {
         input[place * 11..place * 11 + 10].copy_from_slice(&line);
         output[place * 4..place * 4 + 3].copy_from_slice(b"new");
     }
-    trial.begin("lines that put")?;
-    Some(answers(trial, &input, &output))
+    trial.begin("lines that put");
+    let is_well = answers(trial, &input, &output);
+    trial.check(is_well);
+    trial.end();
 }

@@ -1,228 +1,149 @@
-//! Trees that are changed. None or false stands for what is not as it should be.
+//! Trees that are loaded, changed and walked.
 
-use crate::digest::{Told, digest_of};
-use crate::trial::{Sample, Trial};
+use crate::digest::{Digest, Told, digest_of, holds_none, told_store, word_of};
+use crate::plans::Call;
+use crate::sample::{Sample, pairs_of};
+use crate::trial::Subject;
 use std::alloc::{AllocError, Global};
-use sweep_bptree::tree::group::{ExtractGroupSize, GroupCount, Tuple2};
-use sweep_bptree::tree::{Argument, BPlusTree, CloneStore, Cursor, DescendVisit, Key, NodeStore};
+use sweep_bptree::script::End;
+use sweep_bptree::tree::{
+    BPlusTree, CloneArgument, CloneStore, Cursor, InsertError, NodeStore, in_load_order,
+};
 
-/// A leaf of 64 pairs is split, which makes the root.
-pub fn full_leaf<S: CloneStore<V = u64>>(trial: &mut Trial, name: &str) -> Option<bool>
-where
-    S::K: Sample,
-    S::Argument: Told,
-{
-    trial.begin(name)?;
-    let mut tree = trial.none::<S>()?;
-    let mut well = true;
-    for number in 0..64 {
-        well = trial.insert(&mut tree, number, number)? == None && well;
-    }
-    well = well && tree.height() == 0;
-    well = trial.insert(&mut tree, 64, 7)? == None && well;
-    well = well && tree.height() == 1 && tree.len() == 65;
-    well = trial.insert(&mut tree, 5, 9)? == Some(5) && well;
-    well = trial.remove(&mut tree, 99)? == None && well;
-    Some(trial.is_tidy(&tree)? && well && tree.len() == 65)
-}
-
-/// 65 full leaves stand below a full root: the last leaf and the root are split.
-pub fn full_root<S: CloneStore<V = u64>>(trial: &mut Trial, name: &str) -> Option<bool>
-where
-    S::K: Sample,
-    S::Argument: Told,
-{
-    let mut tree = trial.load::<S>(4160)?;
-    trial.begin(name)?;
-    let mut well = tree.height() == 1 && tree.len() == 4160;
-    well = trial.insert(&mut tree, 4160, 0)? == None && well;
-    Some(trial.is_tidy(&tree)? && well && tree.height() == 2 && tree.len() == 4161)
-}
-
-/// A tree of 4161 pairs has more put behind its last, till the last leaf is split, two levels below the root. Only what
-/// happens once it has 4191 pairs can be refused.
-pub fn upward<S: CloneStore<V = u64>>(trial: &mut Trial, name: &str) -> Option<bool>
-where
-    S::K: Sample,
-    S::Argument: Told,
-{
-    let mut tree = trial.load::<S>(4161)?;
-    for number in 4161..4191u64 {
-        let key: S::K = trial.key(number)?;
-        tree.insert(key, number).ok()?;
-    }
-    trial.begin(name)?;
-    let mut well = true;
-    for number in 4191..4196u64 {
-        well = trial.insert(&mut tree, number, number)? == None && well;
-    }
-    Some(trial.is_tidy(&tree)? && well && tree.height() == 2 && tree.len() == 4196)
-}
-
-/// A tree of 4161 pairs is loaded, and loses the last pair again and again, till its height falls from 2 to 1. Only what
-/// happens once it has so many pairs can be refused.
-pub fn downward<S: CloneStore<V = u64>>(trial: &mut Trial, name: &str, near: u64) -> Option<bool>
-where
-    S::K: Sample,
-    S::Argument: Told,
-{
-    let mut tree = trial.load::<S>(4161)?;
-    let mut well = true;
-    for turn in 0..4161 {
-        let number = 4160 - turn;
-        if tree.height() < 2 {
-            break;
+/// Whether an insertion is answered as it is to be. A refusal hands the pair back.
+pub fn is_put<K: Sample>(
+    answer: Result<Option<u64>, InsertError<K, u64>>,
+    (number, value): (u64, u64),
+    old: Option<u64>,
+) -> Result<bool, AllocError> {
+    match answer {
+        Ok(found) => Ok(found == old),
+        Err(InsertError::OutOfMemory(key, back)) => {
+            if is_sample(&key, number) && back == value {
+                Err(AllocError)
+            } else {
+                Ok(false)
+            }
         }
-        if number < near {
-            well = trial.remove(&mut tree, number)? == Some(number) && well;
-            continue;
-        }
-        let key: S::K = trial.key(number)?;
-        well = tree.remove(&key).ok()? == Some(number) && well;
-        if number == near {
-            trial.begin(name)?;
-        }
+        Err(InsertError::Full(_key, _value)) => Ok(false),
     }
-    let len = tree.len() as u64;
-    Some(trial.is_tidy(&tree)? && well && tree.height() == 1 && 0 < len && len < near)
 }
 
-/// So many pairs are loaded at once, and then removed one by one, from the last down.
-pub fn emptied<S: CloneStore<V = u64>>(trial: &mut Trial, name: &str, many: u64) -> Option<bool>
-where
-    S::K: Sample,
-    S::Argument: Told,
-{
-    trial.begin(name)?;
-    let mut tree = trial.load::<S>(many)?;
-    let mut well = tree.len() as u64 == many;
-    for turn in 0..many {
-        let number = many - 1 - turn;
-        well = trial.remove(&mut tree, number)? == Some(number) && well;
-    }
-    let default = <S::Argument as Default>::default();
-    well = well && told(tree.root_argument()) == told(&default);
-    Some(trial.is_tidy(&tree)? && well && tree.is_empty() && tree.height() == 0)
+/// Whether a key is that of a number.
+pub fn is_sample<K: Sample>(key: &K, number: u64) -> bool {
+    let mut digest = Digest::new();
+    K::tell_sample(number, &mut digest);
+    word_of(key) == digest.value()
 }
 
-fn told<T: Told>(what: &T) -> u64 {
-    let mut digest = crate::digest::Digest::new();
-    what.tell(&mut digest);
-    digest.value()
-}
-
-/// So many pairs are loaded at once.
-pub fn loaded<S: CloneStore<V = u64>>(trial: &mut Trial, name: &str, many: u64) -> Option<bool>
-where
-    S::K: Sample,
-    S::Argument: Told,
-{
-    trial.begin(name)?;
-    let tree = trial.load::<S>(many)?;
-    Some(trial.is_tidy(&tree)? && tree.len() as u64 == many)
-}
-
-/// All pairs are removed at once.
-pub fn cleared<S: CloneStore<V = u64>>(trial: &mut Trial, name: &str) -> Option<bool>
-where
-    S::K: Sample,
-    S::Argument: Told,
-{
-    let mut tree = trial.load::<S>(300)?;
-    trial.begin(name)?;
-    let before = digest_of(&tree);
-    if tree.clear().is_err() {
-        trial.count();
-        if digest_of(&tree) != before {
-            return None;
-        }
-        tree.clear().ok()?;
-    }
-    Some(trial.is_tidy(&tree)? && tree.is_empty() && tree.height() == 0)
-}
-
-// How many steps a cursor takes from the first key to the last, and back from there.
-fn steps<S: NodeStore>(tree: &BPlusTree<S>) -> Option<usize> {
+// How many keys there are on a cursor's way from one end to the other.
+fn steps<S: NodeStore>(tree: &BPlusTree<S>, from: End) -> Result<usize, AllocError> {
     let mut count: usize = 0;
-    let mut cursor = tree.cursor_first().ok()??;
+    let mut cursor = match from {
+        End::Front => tree.cursor_first()?,
+        End::Back => last_of(tree)?,
+    };
     for _turn in 0..tree.len() {
-        let Some(next) = cursor.next(tree).ok()? else {
-            break;
-        };
+        let Some(here) = &cursor else { break };
         count = count.saturating_add(1);
-        cursor = next;
-    }
-    let (mut cursor, _) = Cursor::last(tree).ok()??;
-    for _turn in 0..tree.len() {
-        let Some(previous) = cursor.prev(tree).ok()? else {
-            break;
+        cursor = match from {
+            End::Front => here.next(tree)?,
+            End::Back => here.prev(tree)?,
         };
-        count = count.saturating_add(1);
-        cursor = previous;
     }
-    Some(count)
+    Ok(if cursor.is_none() { count } else { 0 })
 }
 
-/// Cursors go from the first key to the last, and back.
-pub fn walked<S: CloneStore<V = u64>>(trial: &mut Trial, name: &str) -> Option<bool>
+/// A cursor on the last key.
+pub fn last_of<S: NodeStore>(tree: &BPlusTree<S>) -> Result<Option<Cursor<S::K>>, AllocError> {
+    match Cursor::last(tree)? {
+        Some((cursor, _)) => Ok(Some(cursor)),
+        None => Ok(None),
+    }
+}
+
+// Whether a tree that has no pairs has the summary of none.
+fn has_summary<S: NodeStore>(tree: &BPlusTree<S>) -> bool
 where
-    S::K: Sample,
     S::Argument: Told,
 {
-    let tree = trial.load::<S>(200)?;
-    trial.begin(name)?;
-    let before = digest_of(&tree);
-    let count = match steps(&tree) {
-        Some(count) => count,
-        None => {
-            trial.count();
-            steps(&tree)?
+    !tree.is_empty()
+        || word_of(tree.root_argument()) == word_of(&<S::Argument as Default>::default())
+}
+
+/// Whether the store of a tree holds no number that none of its nodes has.
+pub fn is_tidy_tree<S: CloneStore<V = u64>>(tree: &BPlusTree<S>) -> bool {
+    match tree.node_store().clone() {
+        Ok(store) => holds_none(store),
+        Err(_) => false,
+    }
+}
+
+// Cursors go over a tree from both ends; then it is cloned, and its store.
+fn is_gone_over<S: CloneStore<V = u64>>(tree: &BPlusTree<S>, turn: u64) -> Result<bool, AllocError>
+where
+    S::K: Told,
+    S::Argument: CloneArgument<S::K> + Told,
+{
+    match turn {
+        0 => Ok(steps(tree, End::Front)? == tree.len()),
+        1 => Ok(steps(tree, End::Back)? == tree.len()),
+        2 => Ok(digest_of(&tree.clone()?) == digest_of(tree)),
+        _ => {
+            let store = tree.node_store().clone()?;
+            Ok(told_store(&store) == told_store(tree.node_store()) && holds_none(store))
         }
-    };
-    Some(count == 398 && digest_of(&tree) == before)
-}
-
-/// A visitor that is made anew for each visit.
-pub trait Guest<K: Key, A: Argument<K>>: DescendVisit<K, u64, A, Result = usize> {
-    fn guest(alloc: Global) -> Result<Self, AllocError>;
-}
-
-/// One that counts the keys of a group that is not there, between the first group and the second.
-impl Guest<(String, u64), GroupCount<Tuple2<String>>>
-    for ExtractGroupSize<Tuple2<String>, (String, u64)> {
-    fn guest(alloc: Global) -> Result<Self, AllocError> {
-        Ok(ExtractGroupSize::new(Tuple2(String::from_str(alloc, "aa")?)))
     }
 }
 
-fn visit_once<S: NodeStore<V = u64>, W: Guest<S::K, S::Argument>>(
-    alloc: Global,
-    tree: &BPlusTree<S>,
-) -> Result<Option<usize>, AllocError> {
-    match tree.descend_visit(W::guest(alloc)?) {
-        Ok(answer) => Ok(answer),
-        Err(_) => Err(AllocError),
-    }
-}
-
-/// A tree of 400 pairs is visited.
-pub fn visited<S: CloneStore<V = u64>, W: Guest<S::K, S::Argument>>(
-    trial: &mut Trial,
-    name: &str,
-) -> Option<bool>
+impl<S: CloneStore<V = u64>> Subject for BPlusTree<S>
 where
     S::K: Sample,
-    S::Argument: Told,
+    S::Argument: CloneArgument<S::K> + Told,
 {
-    let tree = trial.load::<S>(400)?;
-    trial.begin(name)?;
-    let before = digest_of(&tree);
-    let answer = match visit_once::<S, W>(trial.allocator(), &tree) {
-        Ok(answer) => answer,
-        Err(_) => {
-            trial.count();
-            visit_once::<S, W>(trial.allocator(), &tree).ok()?
+    fn made(alloc: Global, many: u64) -> Result<BPlusTree<S>, AllocError> {
+        if many == 0 {
+            return BPlusTree::new(S::empty(alloc));
         }
-    };
-    Some(answer == Some(0) && digest_of(&tree) == before)
+        let pairs = pairs_of(alloc, many, true)?;
+        if in_load_order(&pairs) {
+            BPlusTree::bulk_load(alloc, pairs)
+        } else {
+            Err(AllocError)
+        }
+    }
+
+    fn answers(&mut self, alloc: Global, call: Call) -> Result<bool, AllocError> {
+        match call {
+            Call::Put(number, value, old) => {
+                let key = S::K::sample(alloc, number)?;
+                is_put(self.insert(key, value), (number, value), old)
+            }
+            Call::Remove(number, old) => {
+                let key = S::K::sample(alloc, number)?;
+                Ok(self.remove(&key)? == old)
+            }
+            Call::Lower(number) => {
+                if self.height() < 2 {
+                    return Ok(true);
+                }
+                let key = S::K::sample(alloc, number)?;
+                Ok(self.remove(&key)? == Some(number))
+            }
+            Call::Clear => {
+                self.clear()?;
+                Ok(self.is_empty())
+            }
+            Call::Height(height) => Ok(self.height() == height && has_summary(self)),
+            Call::Own(turn) => is_gone_over(self, turn),
+        }
+    }
+
+    fn told(&self) -> (u64, usize) {
+        (digest_of(self), self.len())
+    }
+
+    fn is_tidy(self) -> bool {
+        is_tidy_tree(&self)
+    }
 }

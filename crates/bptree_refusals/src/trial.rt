@@ -1,96 +1,32 @@
-//! Calls that are made again where they are refused.
+//! Scenarios: something is made and called, and what is refused is made or called again.
 
-use crate::digest::{Digest, Told, digest_of, holds_none, tell_text};
+use crate::plans::{Call, Plan, TURNS};
 use std::alloc::{AllocError, Global};
-use sweep_bptree::tree::{BPlusTree, CloneStore, InsertError, Key, NodeStore, in_load_order};
 
-/// Keys for numbers, which ascend with them.
-pub trait Sample: Key + Told {
-    fn sample(alloc: Global, number: u64) -> Result<Self, AllocError>;
+/// What a scenario is about.
+pub trait Subject: Drop + Sized {
+    /// One with so many pairs or keys.
+    fn made(alloc: Global, many: u64) -> Result<Self, AllocError>;
 
-    /// What the key of a number tells, with none made.
-    fn tell_sample(number: u64, digest: &mut Digest);
-}
+    /// Whether a call is answered as it is to be. An error stands for a refusal.
+    fn answers(&mut self, alloc: Global, call: Call) -> Result<bool, AllocError>;
 
-impl Sample for u64 {
-    fn sample(_alloc: Global, number: u64) -> Result<u64, AllocError> {
-        Ok(number)
-    }
+    /// The whole of it as one number, and how many pairs or keys it has.
+    fn told(&self) -> (u64, usize);
 
-    fn tell_sample(number: u64, digest: &mut Digest) {
-        digest.add(number);
+    /// Whether its store holds no number but those of its nodes.
+    fn is_tidy(self) -> bool {
+        true
     }
 }
 
-/// How many keys a group has; the last has all others.
-pub const GROUP: usize = 170;
-
-fn group_name(number: u64) -> &'static str {
-    GROUPS[(number / GROUP as u64).min(25) as usize]
-}
-
-/// The group of a number's key.
-pub fn group_of(alloc: Global, number: u64) -> Result<String, AllocError> {
-    String::from_str(alloc, group_name(number))
-}
-
-/// What the group of a number's key tells.
-pub fn tell_group(number: u64, digest: &mut Digest) {
-    tell_text(group_name(number), digest);
-}
-
-const GROUPS: [&str; 26] = [
-    "a", "b", "c", "d", "e", "f", "g", "h", "i", "j", "k", "l", "m", "n", "o", "p", "q", "r", "s",
-    "t", "u", "v", "w", "x", "y", "z",
-];
-
-impl Sample for (String, u64) {
-    fn sample(alloc: Global, number: u64) -> Result<(String, u64), AllocError> {
-        Ok((group_of(alloc, number)?, number))
-    }
-
-    fn tell_sample(number: u64, digest: &mut Digest) {
-        tell_group(number, digest);
-        digest.add(number);
-    }
-}
-
-/// What is made of memory, and told.
-pub trait Made {
-    fn made(alloc: Global) -> Result<u64, AllocError>;
-}
-
-/// Counts the calls that were refused, and makes each once more. None stands for a call that was refused twice, or that
-/// left something else than there was.
+/// How a scenario went.
 #[derive(Drop)]
 pub struct Trial<'a> {
     rt: &'a HostRuntime,
     refused: u64,
-    has_ended: bool,
-}
-
-fn told_pair<K: Told>(key: &K, value: u64) -> u64 {
-    let mut digest = Digest::new();
-    key.tell(&mut digest);
-    digest.add(value);
-    digest.value()
-}
-
-pub fn load_once<S: NodeStore<V = u64>>(
-    alloc: Global,
-    many: u64,
-) -> Result<BPlusTree<S>, AllocError>
-where
-    S::K: Sample,
-{
-    let mut pairs = Vec::new(alloc);
-    for number in 0..many {
-        pairs.push((S::K::sample(alloc, number)?, number))?;
-    }
-    if !in_load_order(&pairs) {
-        return Err(AllocError);
-    }
-    BPlusTree::bulk_load(alloc, pairs)
+    is_well: bool,
+    has_begun: bool,
 }
 
 impl<'a> Trial<'a> {
@@ -98,45 +34,9 @@ impl<'a> Trial<'a> {
         Trial {
             rt,
             refused: 0,
-            has_ended: false,
+            is_well: true,
+            has_begun: false,
         }
-    }
-
-    /// Prints the name of a scenario. The first line that is written is the sign from which on requests are refused: so what
-    /// a scenario makes ready before it is never refused.
-    pub fn begin(&self, name: &str) -> Option<()> {
-        print!(self.rt; "{name}").ok()
-    }
-
-    /// Prints a colon, once. The second line that is written is the sign from which on nothing is refused.
-    pub fn end(&mut self) -> Option<()> {
-        if self.has_ended {
-            return Some(());
-        }
-        self.has_ended = true;
-        print!(self.rt; ":").ok()
-    }
-
-    /// Whether the store of a tree holds no number that none of its nodes has. It ends the scenario, since it clones the
-    /// store.
-    pub fn is_tidy<S: CloneStore<V = u64>>(&mut self, tree: &BPlusTree<S>) -> Option<bool> {
-        self.end()?;
-        Some(holds_none(tree.node_store().clone().ok()?))
-    }
-
-    /// Something made, told.
-    pub fn make<M: Made>(&mut self) -> Option<u64> {
-        match M::made(self.allocator()) {
-            Ok(told) => Some(told),
-            Err(_) => {
-                self.count();
-                M::made(self.allocator()).ok()
-            }
-        }
-    }
-
-    pub fn refused(&self) -> u64 {
-        self.refused
     }
 
     pub fn allocator(&self) -> Global {
@@ -147,90 +47,88 @@ impl<'a> Trial<'a> {
         self.refused = self.refused.wrapping_add(1);
     }
 
-    /// The key of a number.
-    pub fn key<K: Sample>(&mut self, number: u64) -> Option<K> {
-        match K::sample(self.allocator(), number) {
-            Ok(key) => Some(key),
+    pub fn check(&mut self, is_well: bool) {
+        self.is_well = self.is_well && is_well;
+    }
+
+    /// Prints the name of a scenario. The first line that is written is the sign from which on requests are refused: so what
+    /// a scenario makes ready before it is never refused.
+    pub fn begin(&mut self, name: &str) {
+        self.has_begun = true;
+        let is_said = print!(self.rt; "{name}").is_ok();
+        self.check(is_said);
+    }
+
+    /// Prints a colon. The second line that is written is the sign from which on nothing is refused.
+    pub fn end(&mut self) {
+        let is_said = print!(self.rt; ":").is_ok();
+        self.check(is_said);
+    }
+
+    /// Prints whether all was as it should be, which is the answer, and how many calls were refused.
+    pub fn tell(self) -> bool {
+        let word = if self.is_well { "ok" } else { "failed" };
+        let refused = self.refused;
+        println!(self.rt; " {word}, {refused} refused").is_ok() && self.is_well
+    }
+
+    fn make<T: Subject>(&mut self, many: u64) -> Result<T, AllocError> {
+        match T::made(self.allocator(), many) {
+            Ok(subject) => Ok(subject),
             Err(_) => {
                 self.count();
-                K::sample(self.allocator(), number).ok()
+                T::made(self.allocator(), many)
             }
         }
     }
 
-    /// A tree with no pairs.
-    pub fn none<S: NodeStore>(&mut self) -> Option<BPlusTree<S>> {
-        match BPlusTree::new(S::empty(self.allocator())) {
-            Ok(tree) => Some(tree),
+    // A refused call must leave all as it was, and is made again.
+    fn call<T: Subject>(&mut self, subject: &mut T, call: Call) {
+        let before = if self.has_begun {
+            subject.told()
+        } else {
+            (0, 0)
+        };
+        let is_well = match subject.answers(self.allocator(), call) {
+            Ok(is_well) => is_well,
             Err(_) => {
                 self.count();
-                BPlusTree::new(S::empty(self.allocator())).ok()
+                subject.told() == before && subject.answers(self.allocator(), call) == Ok(true)
             }
-        }
+        };
+        self.check(is_well);
     }
 
-    /// A tree of the pairs (i, i) for i below a number, loaded at once.
-    pub fn load<S: NodeStore<V = u64>>(&mut self, many: u64) -> Option<BPlusTree<S>>
-    where
-        S::K: Sample,
-    {
-        match load_once(self.allocator(), many) {
-            Ok(tree) => Some(tree),
-            Err(_) => {
-                self.count();
-                load_once(self.allocator(), many).ok()
-            }
+    /// Carries out a scenario. What is made after a refusal has to be the same as where nothing is refused.
+    pub fn carry_out<T: Subject>(&mut self, plan: &Plan) {
+        let name = plan.name;
+        if plan.begins.is_none() {
+            self.begin(name);
         }
-    }
-
-    /// Inserts a pair at a number's key. A refusal hands the pair back, and leaves the tree whole as before.
-    pub fn insert<S: NodeStore<V = u64>>(
-        &mut self,
-        tree: &mut BPlusTree<S>,
-        number: u64,
-        value: u64,
-    ) -> Option<Option<u64>>
-    where
-        S::K: Sample,
-        S::Argument: Told,
-    {
-        let key: S::K = self.key(number)?;
-        let before = digest_of(tree);
-        let pair = told_pair(&key, value);
-        match tree.insert(key, value) {
-            Ok(old) => Some(old),
-            Err(InsertError::OutOfMemory(key, value)) => {
-                self.count();
-                if digest_of(tree) != before || told_pair(&key, value) != pair {
-                    return None;
-                }
-                tree.insert(key, value).ok()
+        let Ok(mut subject) = self.make::<T>(plan.many) else {
+            self.check(false);
+            return;
+        };
+        let made = subject.told();
+        for turn in 0..TURNS {
+            if plan.begins == Some(turn) {
+                self.begin(name);
             }
-            Err(InsertError::Full(_, _)) => None,
+            let Some(call) = plan.call_at(turn) else {
+                break;
+            };
+            self.call(&mut subject, call);
         }
-    }
-
-    /// Removes the pair at a number's key. A refusal leaves the tree whole as before.
-    pub fn remove<S: NodeStore<V = u64>>(
-        &mut self,
-        tree: &mut BPlusTree<S>,
-        number: u64,
-    ) -> Option<Option<u64>>
-    where
-        S::K: Sample,
-        S::Argument: Told,
-    {
-        let key: S::K = self.key(number)?;
-        let before = digest_of(tree);
-        match tree.remove(&key) {
-            Ok(old) => Some(old),
-            Err(_) => {
-                self.count();
-                if digest_of(tree) != before {
-                    return None;
-                }
-                tree.remove(&key).ok()
-            }
+        self.end();
+        let (_, len) = subject.told();
+        let is_long = plan.least <= len && len <= plan.most;
+        self.check(is_long && subject.is_tidy());
+        if plan.begins.is_none() {
+            let is_same = match T::made(self.allocator(), plan.many) {
+                Ok(again) => again.told() == made,
+                Err(_) => false,
+            };
+            self.check(is_same);
         }
     }
 }

@@ -1,7 +1,6 @@
 pub mod Agreeing
 pub mod Beside
 pub mod Between
-pub mod Bordered
 pub mod Down
 pub mod Ends
 pub mod Frame
@@ -9,7 +8,6 @@ pub mod Hinted
 pub mod ListReads
 pub mod NodePieces
 pub mod Ordered
-pub mod Ranged
 pub mod Selected
 pub mod Slots
 pub mod Spot

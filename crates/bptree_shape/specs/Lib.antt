@@ -5,5 +5,4 @@ pub mod Neighbours
 pub mod Order
 pub mod Outcome
 pub mod Path
-pub mod Ranges
 pub mod Shape

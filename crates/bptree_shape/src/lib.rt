@@ -3,8 +3,6 @@
 
 pub mod by_argument;
 pub mod descent;
-pub mod groups;
 pub mod neighbours;
-pub mod ranges;
 pub mod reading;
 pub mod visiting;

@@ -9,9 +9,12 @@ use std::time::Instant;
 use sweep_bptree::tree::count::Count;
 use sweep_bptree::tree::group::{GroupCount, Tuple2};
 use sweep_bptree::tree::{
-    Argument, BPlusTree, NodeStore, NodeStoreVec, RankArgument, SearchArgument, in_load_order,
+    Argument, BPlusTree, Iter, NodeStore, NodeStoreVec, RankArgument, SearchArgument, in_load_order,
 };
 
+type Pair = (u64, u64);
+
+// A tree of numbers, with summaries.
 type Tree<A> = BPlusTree<NodeStoreVec<u64, u64, A>>;
 
 // Numbers in no order: each is made of the one before by shifts.
@@ -50,56 +53,98 @@ fn shuffled(alloc: Global, numbers: &[u64]) -> Result<Vec<u64>, AllocError> {
 }
 
 // The time since the start, told for one of the calls.
-fn tell(rt: &HostRuntime, kind: &str, call: &str, start: Instant, calls: usize, sum: u64) {
+fn tell(rt: &HostRuntime, kind: &str, call: &str, start: Option<Instant>, calls: usize, sum: u64) {
+    let Some(start) = start else {
+        return;
+    };
     if let Ok(spent) = start.elapsed(rt) {
         let each = spent.as_nanos() * 100 / (calls as u128 + 1);
         let _ = println!(rt; "{calls} {kind} {call} {each} {sum}");
     }
 }
 
+fn now(rt: &HostRuntime) -> Option<Instant> {
+    Instant::now(rt).ok()
+}
+
 // Each key with itself as its value.
-fn insert_all<A: Argument<u64>>(tree: &mut Tree<A>, keys: &[u64]) -> Result<u64, ()> {
+fn insert_all<S: NodeStore<K = u64, V = u64>>(
+    rt: &HostRuntime,
+    kind: &str,
+    call: &str,
+    tree: &mut BPlusTree<S>,
+    keys: &[u64],
+) -> Result<(), AllocError> {
+    let start = now(rt);
     let mut found = 0u64;
     for key in keys {
         match tree.insert(*key, *key) {
             Ok(None) => {}
             Ok(Some(_)) => found = found.wrapping_add(1),
-            Err(_) => return Err(()),
+            Err(_) => return Err(AllocError),
         }
     }
-    Ok(found)
+    tell(rt, kind, call, start, keys.len(), found);
+    Ok(())
 }
 
-fn get_all<A: Argument<u64>>(tree: &Tree<A>, keys: &[u64], mask: u64) -> u64 {
+fn get_all<S: NodeStore<K = u64, V = u64>>(
+    rt: &HostRuntime,
+    kind: &str,
+    call: &str,
+    tree: &BPlusTree<S>,
+    keys: &[u64],
+    mask: u64,
+) {
+    let start = now(rt);
     let mut sum = 0u64;
     for key in keys {
         if let Some(value) = tree.get(&(*key & mask)) {
             sum = sum.wrapping_add(*value);
         }
     }
-    sum
+    tell(rt, kind, call, start, keys.len(), sum);
 }
 
-fn step_through<A: Argument<u64>>(tree: &Tree<A>) -> u64 {
-    let mut sum = 0u64;
-    for (key, _) in tree.iter() {
+#[inline(always)]
+fn add_keys<A: Argument<u64>>(before: u64, pairs: Iter<'_, NodeStoreVec<u64, u64, A>>) -> u64 {
+    let mut sum = before;
+    for (key, _) in pairs {
         sum = sum.wrapping_add(*key);
     }
     sum
 }
 
-fn remove_all<A: Argument<u64>>(tree: &mut Tree<A>, keys: &[u64]) -> Result<u64, AllocError> {
+fn step_through<A: Argument<u64>>(rt: &HostRuntime, kind: &str, call: &str, tree: &Tree<A>) {
+    let start = now(rt);
+    let sum = add_keys(0, tree.iter());
+    tell(rt, kind, call, start, tree.len(), sum);
+}
+
+fn remove_all<S: NodeStore<K = u64, V = u64>>(
+    rt: &HostRuntime,
+    kind: &str,
+    tree: &mut BPlusTree<S>,
+    keys: &[u64],
+) -> Result<(), AllocError> {
+    let start = now(rt);
     let mut sum = 0u64;
     for key in keys {
         if let Some(value) = tree.remove(key)? {
             sum = sum.wrapping_add(value);
         }
     }
-    Ok(sum)
+    tell(rt, kind, "remove", start, keys.len(), sum);
+    Ok(())
 }
 
 // A cursor goes from the first key to the last.
-fn walk_through<A: Argument<u64>>(tree: &Tree<A>) -> Result<u64, AllocError> {
+fn walk_through<S: NodeStore<K = u64, V = u64>>(
+    rt: &HostRuntime,
+    kind: &str,
+    tree: &BPlusTree<S>,
+) -> Result<(), AllocError> {
+    let start = now(rt);
     let mut sum = 0u64;
     let mut at = tree.cursor_first()?;
     for _ in 0..tree.len() {
@@ -109,15 +154,18 @@ fn walk_through<A: Argument<u64>>(tree: &Tree<A>) -> Result<u64, AllocError> {
         sum = sum.wrapping_add(*cursor.key());
         at = cursor.next(tree)?;
     }
-    Ok(sum)
+    tell(rt, kind, "cursor", start, tree.len(), sum);
+    Ok(())
 }
 
-fn drain<A: Argument<u64>>(tree: Tree<A>) -> u64 {
+fn drain<S: NodeStore<K = u64, V = u64>>(rt: &HostRuntime, kind: &str, tree: BPlusTree<S>) {
+    let many = tree.len();
+    let start = now(rt);
     let mut sum = 0u64;
     for (key, _) in tree.into_iter() {
         sum = sum.wrapping_add(key);
     }
-    sum
+    tell(rt, kind, "drain", start, many, sum);
 }
 
 fn pairs_of(alloc: Global, keys: &[u64]) -> Result<Vec<Pair>, AllocError> {
@@ -128,44 +176,56 @@ fn pairs_of(alloc: Global, keys: &[u64]) -> Result<Vec<Pair>, AllocError> {
     Ok(pairs)
 }
 
+fn inserted<S: NodeStore<K = u64, V = u64>>(
+    rt: &HostRuntime,
+    kind: &str,
+    call: &str,
+    keys: &[u64],
+) -> Result<BPlusTree<S>, AllocError> {
+    let mut tree = BPlusTree::new(S::empty(rt.alloc()))?;
+    insert_all(rt, kind, call, &mut tree, keys)?;
+    Ok(tree)
+}
+
+fn load_all<S: NodeStore<K = u64, V = u64>>(
+    rt: &HostRuntime,
+    kind: &str,
+    sorted: &[u64],
+) -> Result<BPlusTree<S>, AllocError> {
+    let pairs = pairs_of(rt.alloc(), sorted)?;
+    if !in_load_order(&pairs) {
+        return Err(AllocError);
+    }
+    let start = now(rt);
+    let tree: BPlusTree<S> = BPlusTree::bulk_load(rt.alloc(), pairs)?;
+    tell(rt, kind, "load", start, sorted.len(), tree.len() as u64);
+    Ok(tree)
+}
+
 // One tree of ascending keys, filled by insertions, and another that is loaded at once and walked.
 fn loaded<A: Argument<u64>>(
     rt: &HostRuntime,
     kind: &str,
     sorted: &[u64],
 ) -> Result<(), AllocError> {
-    let mut tree: Tree<A> = BPlusTree::new(NodeStoreVec::new(rt.alloc()))?;
-    if let Ok(start) = Instant::now(rt) {
-        if let Ok(found) = insert_all(&mut tree, sorted) {
-            tell(rt, kind, "upward", start, sorted.len(), found);
-        }
-    }
-    let pairs = pairs_of(rt.alloc(), sorted)?;
-    if !in_load_order(&pairs) {
-        return Ok(());
-    }
-    let Ok(start) = Instant::now(rt) else {
-        return Ok(());
-    };
-    let tree: Tree<A> = BPlusTree::bulk_load(rt.alloc(), pairs)?;
-    tell(rt, kind, "load", start, sorted.len(), tree.len() as u64);
-    if let Ok(start) = Instant::now(rt) {
-        let sum = walk_through(&tree)?;
-        tell(rt, kind, "cursor", start, sorted.len(), sum);
-    }
-    if let Ok(start) = Instant::now(rt) {
-        let sum = step_through(&tree);
-        tell(rt, kind, "full", start, sorted.len(), sum);
-    }
-    if let Ok(start) = Instant::now(rt) {
-        let sum = drain(tree);
-        tell(rt, kind, "drain", start, sorted.len(), sum);
-    }
+    let _upward: Tree<A> = inserted(rt, kind, "upward", sorted)?;
+    let tree: Tree<A> = load_all(rt, kind, sorted)?;
+    walk_through(rt, kind, &tree)?;
+    step_through(rt, kind, "full", &tree);
+    drain(rt, kind, tree);
     Ok(())
 }
 
 // The keys name places, and are ranked.
-fn place_all(tree: &Tree<Count>, keys: &[u64]) -> Result<u64, AllocError> {
+fn place_all<S: NodeStore<K = u64, V = u64>>(
+    rt: &HostRuntime,
+    tree: &BPlusTree<S>,
+    keys: &[u64],
+) -> Result<(), AllocError>
+where
+    S::Argument: SearchArgument<u64, Query = usize>,
+{
+    let start = now(rt);
     let mut sum = 0u64;
     let many = keys.len() as u64 + 1;
     for key in keys {
@@ -173,150 +233,150 @@ fn place_all(tree: &Tree<Count>, keys: &[u64]) -> Result<u64, AllocError> {
             sum = sum.wrapping_add(*found);
         }
     }
-    Ok(sum)
+    tell(rt, "count", "at", start, keys.len(), sum);
+    Ok(())
 }
 
-fn rank_all(tree: &Tree<Count>, keys: &[u64]) -> Result<u64, AllocError> {
+fn rank_all<S: NodeStore<K = u64, V = u64>>(
+    rt: &HostRuntime,
+    tree: &BPlusTree<S>,
+    keys: &[u64],
+) -> Result<(), AllocError>
+where
+    S::Argument: RankArgument<u64, Rank = usize>,
+{
+    let start = now(rt);
     let mut sum = 0u64;
     for key in keys {
         if let Ok(rank) = tree.rank_by_argument(key)? {
             sum = sum.wrapping_add(rank as u64);
         }
     }
-    Ok(sum)
+    tell(rt, "count", "rank", start, keys.len(), sum);
+    Ok(())
 }
 
 // Ten pairs from each place on, by the keys there and ten pairs further.
-fn range_all(tree: &Tree<Count>, sorted: &[u64], places: &[u64]) -> u64 {
+fn range_all<A: Argument<u64>>(rt: &HostRuntime, tree: &Tree<A>, sorted: &[u64], places: &[u64]) {
+    let start = now(rt);
     let mut sum = 0u64;
     for place in places {
         let place = *place as usize;
         let lo = sorted.get(place);
         let hi = sorted.get(place.saturating_add(10));
         if lo.is_some() && hi.is_some() {
-            for (key, _) in tree.range(lo, hi) {
-                sum = sum.wrapping_add(*key);
-            }
+            sum = add_keys(sum, tree.range(lo, hi));
         }
     }
-    sum
+    tell(rt, "count", "range", start, places.len(), sum);
 }
 
 // Twenty pairs from each place on.
-fn page_all(tree: &Tree<Count>, places: &[u64]) -> Result<u64, AllocError> {
+fn page_all<A: SearchArgument<u64, Query = usize>>(
+    rt: &HostRuntime,
+    tree: &Tree<A>,
+    places: &[u64],
+) -> Result<(), AllocError> {
+    let start = now(rt);
     let mut sum = 0u64;
     for place in places {
-        for (key, _) in tree.range_by_argument(*place as usize, 20)? {
-            sum = sum.wrapping_add(*key);
-        }
+        sum = add_keys(sum, tree.range_by_argument(*place as usize, 20)?);
     }
-    Ok(sum)
+    tell(rt, "count", "page", start, places.len(), sum);
+    Ok(())
 }
 
-// One tree, filled and read. It is none where memory was refused.
+// The same keys in three orders, and all numbers below their number.
+#[derive(Clone, Copy)]
+struct Numbers<'a> {
+    keys: &'a [u64],
+    others: &'a [u64],
+    sorted: &'a [u64],
+    places: &'a [u64],
+}
+
+// A tree that is filled and read.
 fn filled<A: Argument<u64>>(
     rt: &HostRuntime,
     kind: &str,
-    keys: &[u64],
-    others: &[u64],
-    sorted: &[u64],
-) -> Option<Tree<A>> {
-    let Ok(mut tree) = BPlusTree::new(NodeStoreVec::new(rt.alloc())) else {
-        return None;
-    };
-    let Ok(start) = Instant::now(rt) else {
-        return None;
-    };
-    let Ok(found) = insert_all(&mut tree, keys) else {
-        return None;
-    };
-    tell(rt, kind, "insert", start, keys.len(), found);
-    for (call, wanted, mask) in [
-        ("get", others, u64::MAX),
-        ("absent", others, u64::MAX - 1),
-        ("inorder", sorted, u64::MAX),
-    ] {
-        if let Ok(start) = Instant::now(rt) {
-            let sum = get_all(&tree, wanted, mask);
-            tell(rt, kind, call, start, wanted.len(), sum);
-        }
-    }
-    if let Ok(start) = Instant::now(rt) {
-        let sum = step_through(&tree);
-        tell(rt, kind, "step", start, keys.len(), sum);
-    }
-    Some(tree)
+    numbers: &Numbers<'_>,
+) -> Result<Tree<A>, AllocError> {
+    let tree = inserted(rt, kind, "insert", numbers.keys)?;
+    get_all(rt, kind, "get", &tree, numbers.others, u64::MAX);
+    get_all(rt, kind, "absent", &tree, numbers.others, u64::MAX - 1);
+    get_all(rt, kind, "inorder", &tree, numbers.sorted, u64::MAX);
+    step_through(rt, kind, "step", &tree);
+    Ok(tree)
 }
 
-fn emptied<A: Argument<u64>>(rt: &HostRuntime, kind: &str, tree: &mut Tree<A>, keys: &[u64]) {
-    if let Ok(start) = Instant::now(rt) {
-        if let Ok(sum) = remove_all(tree, keys) {
-            tell(rt, kind, "remove", start, keys.len(), sum);
-        }
-    }
+fn plain<A: Argument<u64>>(rt: &HostRuntime, numbers: &Numbers<'_>) -> Result<(), AllocError> {
+    let mut tree: Tree<A> = filled(rt, "plain", numbers)?;
+    remove_all(rt, "plain", &mut tree, numbers.others)
 }
 
-fn counted(rt: &HostRuntime, tree: &Tree<Count>, keys: &[u64]) {
-    if let Ok(start) = Instant::now(rt) {
-        if let Ok(sum) = place_all(tree, keys) {
-            tell(rt, "count", "at", start, keys.len(), sum);
-        }
-    }
-    if let Ok(start) = Instant::now(rt) {
-        if let Ok(sum) = rank_all(tree, keys) {
-            tell(rt, "count", "rank", start, keys.len(), sum);
-        }
-    }
+// Places and ranks, and parts of a tree, each of ten or of twenty pairs.
+fn placed<A: SearchArgument<u64, Query = usize> + RankArgument<u64, Rank = usize>>(
+    rt: &HostRuntime,
+    tree: &Tree<A>,
+    numbers: &Numbers<'_>,
+) -> Result<(), AllocError> {
+    place_all(rt, tree, numbers.others)?;
+    rank_all(rt, tree, numbers.others)?;
+    range_all(rt, tree, numbers.sorted, numbers.places);
+    page_all(rt, tree, numbers.places)
 }
 
-// Parts of a tree, each of ten or of twenty pairs.
-fn parted(rt: &HostRuntime, tree: &Tree<Count>, sorted: &[u64], places: &[u64]) {
-    if let Ok(start) = Instant::now(rt) {
-        let sum = range_all(tree, sorted, places);
-        tell(rt, "count", "range", start, places.len(), sum);
-    }
-    if let Ok(start) = Instant::now(rt) {
-        if let Ok(sum) = page_all(tree, places) {
-            tell(rt, "count", "page", start, places.len(), sum);
-        }
-    }
+fn counted<A: SearchArgument<u64, Query = usize> + RankArgument<u64, Rank = usize>>(
+    rt: &HostRuntime,
+    numbers: &Numbers<'_>,
+) -> Result<(), AllocError> {
+    let mut tree: Tree<A> = filled(rt, "count", numbers)?;
+    placed(rt, &tree, numbers)?;
+    remove_all(rt, "count", &mut tree, numbers.others)
 }
 
-type Pair = (u64, u64);
+fn put<S: NodeStore>(tree: &mut BPlusTree<S>, key: S::K, value: S::V) -> Result<(), AllocError> {
+    match tree.insert(key, value) {
+        Ok(_) => Ok(()),
+        Err(_) => Err(AllocError),
+    }
+}
 
 // Keys in groups of 500.
 fn insert_in_groups<S: NodeStore<K = Pair, V = u64>>(
     tree: &mut BPlusTree<S>,
     numbers: &[u64],
-) -> Result<(), ()> {
+) -> Result<(), AllocError> {
     for number in numbers {
-        if tree
-            .insert((*number / 500, *number % 500), *number)
-            .is_err()
-        {
-            return Err(());
-        }
+        put(tree, (*number / 500, *number % 500), *number)?;
     }
     Ok(())
 }
 
-fn get_in_groups<S: NodeStore<K = Pair, V = u64>>(tree: &BPlusTree<S>, numbers: &[u64]) -> u64 {
+fn get_in_groups<S: NodeStore<K = Pair, V = u64>>(
+    rt: &HostRuntime,
+    tree: &BPlusTree<S>,
+    numbers: &[u64],
+) {
+    let start = now(rt);
     let mut sum = 0u64;
     for number in numbers {
         if let Some(value) = tree.get(&(*number / 500, *number % 500)) {
             sum = sum.wrapping_add(*value);
         }
     }
-    sum
+    tell(rt, "groups", "get", start, numbers.len(), sum);
 }
 
 fn place_in_groups<S: NodeStore<K = Pair, V = u64>>(
+    rt: &HostRuntime,
     tree: &BPlusTree<S>,
     numbers: &[u64],
-) -> Result<u64, AllocError>
+) -> Result<(), AllocError>
 where
     S::Argument: SearchArgument<Pair, Query = (Tuple2<u64>, usize)>,
 {
+    let start = now(rt);
     let mut sum = 0u64;
     for number in numbers {
         let place = (*number % 500) as usize;
@@ -324,51 +384,44 @@ where
             sum = sum.wrapping_add(*value);
         }
     }
-    Ok(sum)
+    tell(rt, "groups", "at", start, numbers.len(), sum);
+    Ok(())
 }
 
 fn rank_in_groups<S: NodeStore<K = Pair, V = u64>>(
+    rt: &HostRuntime,
     tree: &BPlusTree<S>,
     numbers: &[u64],
-) -> Result<u64, AllocError>
+) -> Result<(), AllocError>
 where
     S::Argument: RankArgument<Pair, Rank = Option<(Tuple2<u64>, usize)>>,
 {
+    let start = now(rt);
     let mut sum = 0u64;
     for number in numbers {
         if let Ok(Some((_, rank))) = tree.rank_by_argument(&(*number / 500, *number % 500))? {
             sum = sum.wrapping_add(rank as u64);
         }
     }
-    Ok(sum)
+    tell(rt, "groups", "rank", start, numbers.len(), sum);
+    Ok(())
 }
 
 // The numbers are all those below their number, in two orders.
-fn grouped<S: NodeStore<K = Pair, V = u64>>(rt: &HostRuntime, numbers: &[u64], others: &[u64])
+fn grouped<S: NodeStore<K = Pair, V = u64>>(
+    rt: &HostRuntime,
+    numbers: &[u64],
+    others: &[u64],
+) -> Result<(), AllocError>
 where
     S::Argument: SearchArgument<Pair, Query = (Tuple2<u64>, usize)>,
     S::Argument: RankArgument<Pair, Rank = Option<(Tuple2<u64>, usize)>>,
 {
-    let Ok(mut tree) = BPlusTree::new(S::empty(rt.alloc())) else {
-        return;
-    };
-    if insert_in_groups(&mut tree, numbers).is_err() {
-        return;
-    }
-    if let Ok(start) = Instant::now(rt) {
-        let sum = get_in_groups(&tree, others);
-        tell(rt, "groups", "get", start, others.len(), sum);
-    }
-    if let Ok(start) = Instant::now(rt) {
-        if let Ok(sum) = place_in_groups(&tree, others) {
-            tell(rt, "groups", "at", start, others.len(), sum);
-        }
-    }
-    if let Ok(start) = Instant::now(rt) {
-        if let Ok(sum) = rank_in_groups(&tree, others) {
-            tell(rt, "groups", "rank", start, others.len(), sum);
-        }
-    }
+    let mut tree: BPlusTree<S> = BPlusTree::new(S::empty(rt.alloc()))?;
+    insert_in_groups(&mut tree, numbers)?;
+    get_in_groups(rt, &tree, others);
+    place_in_groups(rt, &tree, others)?;
+    rank_in_groups(rt, &tree, others)
 }
 
 fn numbers_below(alloc: Global, many: usize) -> Result<Vec<u64>, AllocError> {
@@ -379,25 +432,30 @@ fn numbers_below(alloc: Global, many: usize) -> Result<Vec<u64>, AllocError> {
     Ok(numbers)
 }
 
+// All calls on each of the trees.
+fn round(rt: &HostRuntime, numbers: &Numbers<'_>, again: &[u64]) -> Result<(), AllocError> {
+    grouped::<NodeStoreVec<Pair, u64, GroupCount<Tuple2<u64>>>>(rt, numbers.places, again)?;
+    plain::<()>(rt, numbers)?;
+    counted::<Count>(rt, numbers)?;
+    loaded::<()>(rt, "plain", numbers.sorted)?;
+    loaded::<Count>(rt, "count", numbers.sorted)
+}
+
 fn rounds(rt: &HostRuntime, pairs: usize, rounds: usize) -> Result<(), AllocError> {
     let keys = odd_numbers(rt.alloc(), pairs)?;
     let others = shuffled(rt.alloc(), &keys)?;
     let mut sorted = keys.to_vec(rt.alloc())?;
     sorted.sort_unstable();
-    let numbers = shuffled(rt.alloc(), &numbers_below(rt.alloc(), pairs)?)?;
-    let again = shuffled(rt.alloc(), &numbers)?;
+    let places = shuffled(rt.alloc(), &numbers_below(rt.alloc(), pairs)?)?;
+    let again = shuffled(rt.alloc(), &places)?;
+    let numbers = Numbers {
+        keys: &keys,
+        others: &others,
+        sorted: &sorted,
+        places: &places,
+    };
     for _ in 0..rounds {
-        grouped::<NodeStoreVec<Pair, u64, GroupCount<Tuple2<u64>>>>(rt, &numbers, &again);
-        if let Some(mut tree) = filled::<()>(rt, "plain", &keys, &others, &sorted) {
-            emptied(rt, "plain", &mut tree, &others);
-        }
-        if let Some(mut tree) = filled::<Count>(rt, "count", &keys, &others, &sorted) {
-            counted(rt, &tree, &others);
-            parted(rt, &tree, &sorted, &numbers);
-            emptied(rt, "count", &mut tree, &others);
-        }
-        loaded::<()>(rt, "plain", &sorted)?;
-        loaded::<Count>(rt, "count", &sorted)?;
+        round(rt, &numbers, &again)?;
     }
     Ok(())
 }

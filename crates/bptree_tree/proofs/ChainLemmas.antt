@@ -21,8 +21,8 @@ use Rattle.bptree_shape.proofs.Walk.{flat-append}
 use Rattle.bptree_insertion.proofs.Lent.{pairs_apart}
 use Rattle.bptree_insertion.proofs.Mended.{linked_same, one_at, same_links}
 use Rattle.bptree_tree.specs.Chain.{IsChain, IsLeft, chain_pairs}
-use Rattle.bptree_tree.specs.Span.{IsSpan, leaves_of}
-use Rattle.bptree_tree.proofs.SpanLemmas.{pairs_left-span}
+use Rattle.bptree_iteration.specs.Span.{IsSpan, leaves_of}
+use Rattle.bptree_iteration.proofs.SpanLemmas.{pairs_left-span}
 use Rattle.bptree_tree.proofs.Spans.{last_in, span_of}
 
 module _ {K V A : Type 0} (slots : Slots (Inner K A) (Leaf K V)) where

@@ -4,6 +4,5 @@ pub mod Counted
 pub mod Heights
 pub mod LentAt
 pub mod PartSpans
-pub mod SpanLemmas
 pub mod Spans
 pub mod Started

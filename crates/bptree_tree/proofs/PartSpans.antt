@@ -12,17 +12,17 @@ use Rattle.bptree_keys.specs.declared.node_id.NodeId.{NodeId}
 use Rattle.bptree_keys.specs.Contents.{IsAscending}
 use Rattle.bptree_keys.specs.Ranges.{part, part_at}
 use Rattle.bptree_keys.proofs.PieceLemmas.{AllByRecursion-right}
-use Rattle.bptree_shape.specs.declared.ranges.Part.{Part}
+use Rattle.bptree_ranges.specs.declared.ranges.Part.{Part}
 use Rattle.bptree_shape.specs.Leaves.{pairs_of}
-use Rattle.bptree_shape.specs.Ranges.{start, IsPart}
+use Rattle.bptree_ranges.specs.Ranges.{start, IsPart}
 use Rattle.bptree_shape.specs.Shape.{leaf_pairs, leaf_prev, leaf_next, pairs_at, AreLinked, IsWellShaped}
 use Rattle.bptree_shape.proofs.Beside.{HasPair, others_have}
-use Rattle.bptree_shape.proofs.Ranged.{sides, start_is, reached, comes_before}
+use Rattle.bptree_ranges.proofs.Ranged.{sides, start_is, reached, comes_before}
 use Rattle.bptree_shape.proofs.Ordered.{ascending_after}
 use Rattle.bptree_shape.proofs.Spot.{parts_of, ascending_before}
 use Rattle.bptree_shape.proofs.Walk.{flat-append}
-use Rattle.bptree_tree.specs.Span.{IsSpan, IsBetween, leaves_of, leaf_of, pairs_left}
-use Rattle.bptree_tree.proofs.SpanLemmas.{IsBetween-span, pairs_left-span, take-part}
+use Rattle.bptree_iteration.specs.Span.{IsSpan, IsBetween, leaves_of, leaf_of, pairs_left}
+use Rattle.bptree_iteration.proofs.SpanLemmas.{IsBetween-span, pairs_left-span, take-part}
 use Rattle.bptree_tree.proofs.Spans.{some_of}
 
 -- dropping what stands before, and taking over a seam

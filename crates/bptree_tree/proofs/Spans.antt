@@ -11,7 +11,7 @@ use Rattle.bptree_keys.specs.declared.node_id.NodeId.{NodeId}
 use Rattle.bptree_keys.specs.declared.node_id.NodeId.TheVariants as kind
 use Rattle.bptree_shape.specs.Leaves.{pairs_of, IsFirstLeaf, IsLastLeaf}
 use Rattle.bptree_shape.specs.Shape.{leaf_pairs, leaf_prev, leaf_next, pairs_at, leaves_at, AreLinked, IsWellShaped}
-use Rattle.bptree_tree.specs.Span.{IsSpan, leaves_of, leaf_of}
+use Rattle.bptree_iteration.specs.Span.{IsSpan, leaves_of, leaf_of}
 use Rattle.bptree_shape.proofs.Down.{pairs_of_leaves}
 use Rattle.bptree_shape.proofs.Ends.{leaves_have}
 

@@ -8,7 +8,7 @@ use Rattle.bptree_nodes.specs.Slot.{Slots}
 use Rattle.bptree_shape.specs.Leaves.{pairs_of}
 use Rattle.bptree_shape.specs.Order.{total}
 use Rattle.bptree_shape.specs.Shape.{leaf_pairs, AreLinked}
-use Rattle.bptree_tree.specs.Span.{leaves_of, pairs_left}
+use Rattle.bptree_iteration.specs.Span.{leaves_of, pairs_left}
 
 module _ {K V A : Type 0} (slots : Slots (Inner K A) (Leaf K V)) where
   -- from the leaf `first` to the leaf `last` stand the pairs xs

@@ -1,6 +1,5 @@
 pub mod Chain
 pub mod Cursor
 pub mod Refusal
-pub mod Span
 pub mod Whole
 pub mod Writing

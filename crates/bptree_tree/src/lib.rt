@@ -3,9 +3,9 @@
 
 mod chain;
 pub mod cursor;
-pub mod iterator;
 pub mod tree;
 
+pub use bptree_iteration::iterator;
 pub use bptree_removal::statistics::Statistic;
 pub use cursor::Cursor;
 pub use tree::BPlusTree;

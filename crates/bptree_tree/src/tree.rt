@@ -18,8 +18,8 @@ mod ranges;
 mod removals;
 
 use crate::InsertError;
-use crate::iterator::Iter;
-use bptree_insertion::insertion::{Put, upsert};
+use bptree_insertion::insertion::{Put, is_full, upsert};
+use bptree_iteration::iterator::Iter;
 use bptree_keys::compares::Compares;
 use bptree_keys::entry_ref::VisitStack;
 use bptree_keys::node_id::NodeId;
@@ -151,7 +151,7 @@ impl<S: NodeStore> BPlusTree<S> {
         ensures whole { IsWhole S.K.cmp S.Argument.is_summary (λ store. S.slots store) self.new }
         ensures full { (result ≡ Err (InsertError.Full k v)) ↔ ((length self.old.contents ≡ usize.MAX) × (has S.K.cmp self.old.contents k ≡ false)) }
     {
-        if self.len == usize::MAX && self.get(&k).is_none() {
+        if is_full(self.len) && self.get(&k).is_none() {
             return Err(InsertError::Full(k, v));
         }
         match upsert(

@@ -5,6 +5,7 @@ mod changes;
 mod cloning;
 mod cursors;
 mod iteration;
+mod loading;
 mod owning;
 mod queries;
 mod ranges;

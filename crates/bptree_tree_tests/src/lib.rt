@@ -4,24 +4,16 @@
 #[cfg(test)]
 mod callers;
 #[cfg(test)]
-mod cloning_tests;
+mod counted;
 #[cfg(test)]
-mod counting_tests;
+mod counted_tests;
 #[cfg(test)]
-mod cursor_tests;
+mod cursors;
 #[cfg(test)]
-mod insertion_tests;
+mod places;
 #[cfg(test)]
-mod number_tests;
+mod shapes;
 #[cfg(test)]
-mod owning_tests;
-#[cfg(test)]
-mod range_tests;
-#[cfg(test)]
-mod reading_tests;
-#[cfg(test)]
-mod removal_tests;
-#[cfg(test)]
-mod summary_tests;
+mod tree_tests;
 #[cfg(test)]
 mod trees;

@@ -1,13 +1,6 @@
-//! Tests of visits of trees, and of trees that keep groups of keys.
+//! What the tests of trees and maps share: visitors, a summary that shows how it is asked, and walks over the nodes of a tree.
 #![tactic(auto)]
 
-#[cfg(test)]
-mod callers;
-#[cfg(test)]
-mod group_tests;
-pub mod guarded;
 pub mod probe;
-#[cfg(test)]
-mod visit_tests;
 pub mod visitors;
 pub mod walks;

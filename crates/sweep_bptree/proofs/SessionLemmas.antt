@@ -5,16 +5,16 @@ use Rattle.std.proofs.lemmas.List.{take_all}
 use Rattle.std.proofs.Math.Seq.{take-append_seam}
 use Rattle.std.specs.Io.KnownBytes.{Appends, Consumes, IsAtEnd, Keeps}
 use Rattle.std.proofs.KnownBytes.{Appends-nil, Appends-trans, Appends-kept, Consumes-nil, Consumes-trans, Consumes-kept}
-use Rattle.sweep_bptree.proofs.SentLemmas.{AppendsBeginning-longer}
-use Rattle.sweep_bptree.proofs.LineLemmas.{answers-append, clipped_after-append, clipped_rest-append, pairs_after_all-append, ended_after-append, answers-clipped, pairs_after_all-clipped, clipped_rest-is, answer-take}
-use Rattle.sweep_bptree.specs.Answers.{answer, answers, pairs_after_all, text}
-use Rattle.sweep_bptree.specs.declared.script.lines.TheConstants.{KEPT}
-use Rattle.sweep_bptree.specs.Clipped.{clipped_after, clipped_rest}
-use Rattle.sweep_bptree.specs.Lines.{ended_after, rest_after, ended_lines, last_line, lines_of}
-use Rattle.sweep_bptree.specs.Sent.{Sent, Sends, CutsOff, Breaks, Drains, Flushes, AppendsBeginning}
+use Rattle.bptree_script.proofs.SentLemmas.{AppendsBeginning-longer}
+use Rattle.bptree_script.proofs.LineLemmas.{answers-append, clipped_after-append, clipped_rest-append, pairs_after_all-append, ended_after-append, answers-clipped, pairs_after_all-clipped, clipped_rest-is, answer-take}
+use Rattle.bptree_script.specs.Answers.{answer, answers, pairs_after_all, text}
+use Rattle.bptree_script.specs.declared.lines.TheConstants.{KEPT}
+use Rattle.bptree_script.specs.Clipped.{clipped_after, clipped_rest}
+use Rattle.bptree_script.specs.Lines.{ended_after, rest_after, ended_lines, last_line, lines_of}
+use Rattle.bptree_script.specs.Sent.{Sent, Sends, CutsOff, Breaks, Drains, Flushes, AppendsBeginning}
 use Rattle.sweep_bptree.specs.Served.{Answered, StoppedBy, stop_of, EndsAt, AnswersPiece, BreaksLast, AnswersLast}
-use Rattle.sweep_bptree.specs.declared.script.error.ServeError.{ServeError}
-use Rattle.sweep_bptree.specs.declared.script.error.ServeError.TheVariants.{Io, OutOfMemory}
+use Rattle.bptree_script.specs.declared.error.ServeError.{ServeError}
+use Rattle.bptree_script.specs.declared.error.ServeError.TheVariants.{Io, OutOfMemory}
 use Rattle.sweep_bptree.specs.declared.script.session.Stop.TheVariants as stop
 
 -- where nothing was held, the text is what was written and is held now

@@ -1,14 +1,14 @@
 -- What serving an input is.
 use Rattle.std.specs.Prelude.{◌≡◌, ◌≤◌, ◌-◌, ◌^◌, ◌⊎◌, ℕ, List, [], length, take, Option, Result, MatchResult}
 use Rattle.std.specs.Io.KnownBytes.{Appends, Consumes, IsAtEnd}
-use Rattle.sweep_bptree.specs.declared.script.error.ServeError.{ServeError}
-use Rattle.sweep_bptree.specs.declared.script.error.ServeError.TheVariants as error
+use Rattle.bptree_script.specs.declared.error.ServeError.{ServeError}
+use Rattle.bptree_script.specs.declared.error.ServeError.TheVariants as error
 use Rattle.sweep_bptree.specs.declared.script.session.Stop.{Stop}
 use Rattle.sweep_bptree.specs.declared.script.session.Stop.TheVariants.{Reader, Writer, NoEnd, OutOfMemory}
-use Rattle.sweep_bptree.specs.Answers.{answers, text}
-use Rattle.sweep_bptree.specs.Clipped.{clipped_after}
-use Rattle.sweep_bptree.specs.Lines.{ended_lines, last_line, lines_of}
-use Rattle.sweep_bptree.specs.Sent.{AppendsBeginning, Sent}
+use Rattle.bptree_script.specs.Answers.{answers, text}
+use Rattle.bptree_script.specs.Clipped.{clipped_after}
+use Rattle.bptree_script.specs.Lines.{ended_lines, last_line, lines_of}
+use Rattle.bptree_script.specs.Sent.{AppendsBeginning, Sent}
 
 -- the lines that were read: those that a line feed ended, and last bytes without one only where no input is left
 abbrev pub AreLinesRead : List (List ℕ) → List ℕ → Option (List ℕ) → Type 0

@@ -2,13 +2,13 @@
 use Rattle.std.proofs.Common.{◌≡◌, ℕ, ◌-◌, ◌^◌, ◌<◌, ◌⊎◌, inl, inr, List, [], ◌++◌, length, take, drop, Option, None, Some, Result, Ok, Err, refl, sym, ap, ◌∙◌, append_assoc, append-nil, subst, arith, length-append, take-append-drop}
 use Rattle.std.specs.Prelude.{IfSome, OnOk, OnErr, IsErrOf, IsSome}
 use Rattle.std.specs.Io.KnownBytes.{Appends}
-use Rattle.sweep_bptree.proofs.LineLemmas.{answers-append, ended_after-append}
-use Rattle.sweep_bptree.specs.Answers.{answers, pairs_after_all, text}
-use Rattle.sweep_bptree.specs.Lines.{ended_after, rest_after, ended_lines, last_line}
-use Rattle.sweep_bptree.specs.Sent.{AppendsBeginning}
+use Rattle.bptree_script.proofs.LineLemmas.{answers-append, ended_after-append}
+use Rattle.bptree_script.specs.Answers.{answers, pairs_after_all, text}
+use Rattle.bptree_script.specs.Lines.{ended_after, rest_after, ended_lines, last_line}
+use Rattle.bptree_script.specs.Sent.{AppendsBeginning}
 use Rattle.sweep_bptree.specs.Served.{StoppedBy, EndedBy, AreLinesRead, error_of}
-use Rattle.sweep_bptree.specs.declared.script.error.ServeError.{ServeError}
-use Rattle.sweep_bptree.specs.declared.script.error.ServeError.TheVariants as error
+use Rattle.bptree_script.specs.declared.error.ServeError.{ServeError}
+use Rattle.bptree_script.specs.declared.error.ServeError.TheVariants as error
 use Rattle.sweep_bptree.specs.declared.script.session.Stop.{Stop}
 use Rattle.sweep_bptree.specs.declared.script.session.Stop.TheVariants.{Reader, Writer, NoEnd, OutOfMemory}
 

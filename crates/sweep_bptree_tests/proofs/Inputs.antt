@@ -2,7 +2,7 @@
 use Rattle.std.proofs.Common.{◌≡◌, refl}
 use Rattle.std.specs.Prelude.{codes}
 use Rattle.std.specs.Fmt.{digits}
-use Rattle.sweep_bptree.specs.Answers.{text, answer, pairs_after}
+use Rattle.bptree_script.specs.Answers.{text, answer, pairs_after}
 use Rattle.sweep_bptree.specs.Number.{number_of}
 use Rattle.sweep_bptree.specs.Request.{request_of, words}
 

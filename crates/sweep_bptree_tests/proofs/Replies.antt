@@ -12,13 +12,13 @@ use Rattle.bptree_keys.specs.Contents.{has, value, put}
 use Rattle.bptree_keys.specs.Ranges.{between}
 use Rattle.bptree_nodes.specs.Leaf.{set_value_at}
 use Rattle.bptree_insertion.specs.Lending.{written}
-use Rattle.sweep_bptree.proofs.PlaceLemmas.{selected_is}
-use Rattle.sweep_bptree.specs.Steps.{TreeStep, IsCopyOf}
-use Rattle.sweep_bptree.specs.declared.script.commands.Command.TheVariants.{Insert, Get, Set, SetAt, Len, At, Range, Rank as RankOf}
-use Rattle.sweep_bptree.specs.declared.script.commands.Reply.{Reply}
-use Rattle.sweep_bptree.specs.declared.script.walk.End.{End}
-use Rattle.sweep_bptree.specs.declared.script.walk.End.TheVariants.{Front}
-use Rattle.sweep_bptree.specs.declared.script.commands.Reply.TheVariants.{Value, Pair, Number, Done, Rank, Held, Walked, NoCursor, OutOfMemory, Full}
+use Rattle.bptree_script.proofs.PlaceLemmas.{selected_is}
+use Rattle.bptree_script.specs.Steps.{TreeStep, IsCopyOf}
+use Rattle.bptree_script.specs.declared.commands.Command.TheVariants.{Insert, Get, Set, SetAt, Len, At, Range, Rank as RankOf}
+use Rattle.bptree_script.specs.declared.commands.Reply.{Reply}
+use Rattle.bptree_script.specs.declared.walk.End.{End}
+use Rattle.bptree_script.specs.declared.walk.End.TheVariants.{Front}
+use Rattle.bptree_script.specs.declared.commands.Reply.TheVariants.{Value, Pair, Number, Done, Rank, Held, Walked, NoCursor, OutOfMemory, Full}
 
 -- a fact of a reply, where there is one
 pub at_reply : {T E : Type 0} (P Q : T → Type 0) (N : E → Type 0) (r : Result T E) → MatchResult r P N → ((reply : T) → P reply → Q reply) → IfOk r Q

@@ -2,9 +2,9 @@
 use Rattle.std.proofs.Common.{◌≡◌, ℕ, ◌⊎◌, ◌↔◌, inl, inr, ◌<◌, List, [], ◌∷◌, ◌++◌, length, Option, None, Some, refl, sym, ap, ◌∙◌, subst, arith, length-append}
 use Rattle.std.specs.Prelude.{IsNone, IsSome}
 use Rattle.std.specs.declared.cmp.Ordering.{Ordering}
-use Rattle.sweep_bptree.specs.Steps.{Run, Step}
-use Rattle.sweep_bptree.specs.declared.script.commands.Command.{Command}
-use Rattle.sweep_bptree.specs.declared.script.commands.Reply.{Reply}
+use Rattle.bptree_script.specs.Steps.{Run, Step}
+use Rattle.bptree_script.specs.declared.commands.Command.{Command}
+use Rattle.bptree_script.specs.declared.commands.Reply.{Reply}
 
 -- as many replies as commands, or none
 pub all_or_none : {E T : Type 0} {P : Type 0} (error : Option E) (replies : List T) (n all : ℕ) → n ≡ length replies → (IsNone error ↔ (n ≡ all))

@@ -6,6 +6,7 @@ ghost use Rattle.std.proofs.Common.{rules};
 ghost use Rattle.bptree_arguments.specs.declared.visit.DescendError.TheVariants.{OutOfMemory};
 ghost use Rattle.bptree_examples.specs.Items.{items_of};
 
+use crate::filling::filled;
 use std::alloc::{AllocError, Global};
 use sweep_bptree::BPlusTreeMap;
 use sweep_bptree::tree::group::{ExtractGroupSize, FromRef, GroupCount};
@@ -44,17 +45,15 @@ pub type Items = BPlusTreeMap<Item, (), GroupCount<Group>>;
 
 /// An index of items, each with its group.
 pub fn new_items(alloc: Global, all: &[(u32, u32)]) -> Result<Items, AllocError> {
-    let mut items = BPlusTreeMap::new(alloc)?;
+    let mut items = Vec::new(alloc);
     for (group, number) in all {
         let item = Item {
             group: *group,
             number: *number,
         };
-        if items.insert(item, ()).is_err() {
-            return Err(AllocError);
-        }
+        items.push((item, ()))?;
     }
-    Ok(items)
+    filled(alloc, &items)
 }
 
 /// The number of items of a group, 0 where there is none.
@@ -93,15 +92,19 @@ fn counted_items(items: &Items, group: u32) -> Result<usize, AllocError> {
 /// How many items three groups have, and the items at three places of groups.
 pub fn run(alloc: Global) -> Result<([usize; 3], [Option<u32>; 3]), AllocError> {
     let items = new_items(alloc, &[(3, 6), (1, 12), (1, 10), (3, 5), (1, 11)])?;
+    answers(&items)
+}
+
+fn answers(items: &Items) -> Result<([usize; 3], [Option<u32>; 3]), AllocError> {
     let sizes = [
-        counted_items(&items, 1)?,
-        counted_items(&items, 2)?,
-        counted_items(&items, 3)?,
+        counted_items(items, 1)?,
+        counted_items(items, 2)?,
+        counted_items(items, 3)?,
     ];
     let found = [
-        item_at(&items, 1, 2)?,
-        item_at(&items, 3, 0)?,
-        item_at(&items, 3, 2)?,
+        item_at(items, 1, 2)?,
+        item_at(items, 3, 0)?,
+        item_at(items, 3, 2)?,
     ];
     Ok((sizes, found))
 }

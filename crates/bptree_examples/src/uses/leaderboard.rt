@@ -6,6 +6,7 @@ ghost use Rattle.std.proofs.Common.{rules};
 ghost use Rattle.bptree_arguments.specs.CountLaws.{count_below};
 ghost use Rattle.bptree_keys.specs.Contents.{has};
 
+use crate::filling::filled;
 use std::alloc::{AllocError, Global};
 use std::cmp::Reverse;
 use sweep_bptree::BPlusTreeMap;
@@ -27,17 +28,15 @@ pub type Board = BPlusTreeMap<Standing, (), Count>;
 
 /// A board of scores, each with its player.
 pub fn new_board(alloc: Global, scores: &[(u32, u32)]) -> Result<Board, AllocError> {
-    let mut board = BPlusTreeMap::new(alloc)?;
+    let mut standings = Vec::new(alloc);
     for (score, player) in scores {
         let standing = Standing {
             score: Reverse(*score),
             player: *player,
         };
-        if board.insert(standing, ()).is_err() {
-            return Err(AllocError);
-        }
+        standings.push((standing, ()))?;
     }
-    Ok(board)
+    filled(alloc, &standings)
 }
 
 /// How many stand before a standing that is on the board; none where it is not there.
@@ -69,6 +68,10 @@ pub fn player_at(board: &Board, rank: usize) -> Result<Option<u32>, AllocError>
 /// The ranks of two standings of four, of which one is not on the board, and the players at three places.
 pub fn run(alloc: Global) -> Result<([Option<usize>; 2], [Option<u32>; 3]), AllocError> {
     let board = new_board(alloc, &[(50, 7), (90, 3), (70, 5), (70, 2)])?;
+    answers(&board)
+}
+
+fn answers(board: &Board) -> Result<([Option<usize>; 2], [Option<u32>; 3]), AllocError> {
     let there = Standing {
         score: Reverse(70),
         player: 5,
@@ -77,11 +80,11 @@ pub fn run(alloc: Global) -> Result<([Option<usize>; 2], [Option<u32>; 3]), Allo
         score: Reverse(60),
         player: 1,
     };
-    let ranks = [rank_of(&board, &there)?, rank_of(&board, &absent)?];
+    let ranks = [rank_of(board, &there)?, rank_of(board, &absent)?];
     let players = [
-        player_at(&board, 0)?,
-        player_at(&board, 3)?,
-        player_at(&board, 4)?,
+        player_at(board, 0)?,
+        player_at(board, 3)?,
+        player_at(board, 4)?,
     ];
     Ok((ranks, players))
 }

@@ -4,6 +4,7 @@ ghost use Rattle.std.specs.Ordering.{nat_cmp};
 ghost use Rattle.std.proofs.Common.{rules};
 ghost use Rattle.bptree_keys.specs.Contents.{del, has, put, value};
 
+use crate::filling::filled;
 use std::alloc::{AllocError, Global};
 use sweep_bptree::BPlusTreeMap;
 use sweep_bptree::tree::Key;
@@ -24,20 +25,17 @@ pub type Index = BPlusTreeMap<Entry, ()>;
 /// The value of each row, by the row's number.
 pub type Rows = BPlusTreeMap<u64, u64>;
 
-/// Rows with their values, and an index of them.
-pub fn new_table(alloc: Global, values: &[(u64, u64)]) -> Result<(Rows, Index), AllocError> {
-    let mut rows = BPlusTreeMap::new(alloc)?;
-    let mut index = BPlusTreeMap::new(alloc)?;
+/// An index of rows with their values.
+pub fn new_index(alloc: Global, values: &[(u64, u64)]) -> Result<Index, AllocError> {
+    let mut entries = Vec::new(alloc);
     for (row, value) in values {
         let entry = Entry {
             value: *value,
             row: *row,
         };
-        if rows.insert(*row, *value).is_err() || index.insert(entry, ()).is_err() {
-            return Err(AllocError);
-        }
+        entries.push((entry, ()))?;
     }
-    Ok((rows, index))
+    filled(alloc, &entries)
 }
 
 /// Puts a new entry, and removes an old one.
@@ -101,9 +99,19 @@ pub fn rows_by_value(alloc: Global, index: &Index) -> Result<Vec<u64>, AllocErro
 
 /// Three rows by their values, before one takes another value and after, and whether a fourth is there to take one.
 pub fn run(alloc: Global) -> Result<(Vec<u64>, Vec<u64>, bool), AllocError> {
-    let (mut rows, mut index) = new_table(alloc, &[(3, 60), (1, 40), (2, 50)])?;
-    let before = rows_by_value(alloc, &index)?;
-    set_value(&mut rows, &mut index, 1, 70)?;
-    let fourth = set_value(&mut rows, &mut index, 4, 10)?;
-    Ok((before, rows_by_value(alloc, &index)?, fourth))
+    let values = [(3, 60), (1, 40), (2, 50)];
+    let mut rows = filled(alloc, &values)?;
+    let mut index = new_index(alloc, &values)?;
+    answers(alloc, &mut rows, &mut index)
+}
+
+fn answers(
+    alloc: Global,
+    rows: &mut Rows,
+    index: &mut Index,
+) -> Result<(Vec<u64>, Vec<u64>, bool), AllocError> {
+    let before = rows_by_value(alloc, index)?;
+    set_value(rows, index, 1, 70)?;
+    let fourth = set_value(rows, index, 4, 10)?;
+    Ok((before, rows_by_value(alloc, index)?, fourth))
 }

@@ -4,6 +4,7 @@ ghost use Rattle.std.specs.Ordering.{nat_cmp};
 ghost use Rattle.std.specs.Option.{option_map};
 ghost use Rattle.bptree_keys.specs.Contents.{next, previous};
 
+use crate::filling::filled;
 use std::alloc::{AllocError, Global};
 use sweep_bptree::BPlusTreeMap;
 use sweep_bptree::tree::Cursor;
@@ -13,13 +14,7 @@ pub type Line = BPlusTreeMap<u64, u32>;
 
 /// A line that cuts segments at these heights.
 pub fn new_line(alloc: Global, segments: &[(u64, u32)]) -> Result<Line, AllocError> {
-    let mut line = BPlusTreeMap::new(alloc)?;
-    for (height, segment) in segments {
-        if line.insert(*height, *segment).is_err() {
-            return Err(AllocError);
-        }
-    }
-    Ok(line)
+    filled(alloc, segments)
 }
 
 /// The segments next below a height and next above it. The height itself may be there or not.
@@ -50,5 +45,9 @@ fn segment_of(found: Option<(Cursor<u64>, &u32)>) -> Option<u32>
 /// The segments beside three heights.
 pub fn run(alloc: Global) -> Result<[(Option<u32>, Option<u32>); 3], AllocError> {
     let line = new_line(alloc, &[(10, 1), (20, 2), (30, 3)])?;
-    Ok([beside(&line, 25)?, beside(&line, 20)?, beside(&line, 35)?])
+    answers(&line)
+}
+
+fn answers(line: &Line) -> Result<[(Option<u32>, Option<u32>); 3], AllocError> {
+    Ok([beside(line, 25)?, beside(line, 20)?, beside(line, 35)?])
 }

@@ -7,13 +7,13 @@ ghost use Rattle.bptree_keys.specs.Contents.{IsAscending};
 ghost use Rattle.bptree_keys.specs.Ranges.{between, part};
 ghost use Rattle.bptree_shape.specs.ByArgument.{IsPartSelected};
 
-use crate::iterator::Iter;
 use crate::tree::BPlusTree;
 use bptree_arguments::argument::SearchArgument;
 use bptree_arguments::group::FromRef;
+use bptree_iteration::iterator::Iter;
 use bptree_keys::key::Key;
-use bptree_shape::groups::{part_of_group, part_within_group};
-use bptree_shape::ranges::{part_between, part_by_argument};
+use bptree_ranges::groups::{part_of_group, part_within_group};
+use bptree_ranges::ranges::{part_between, part_by_argument};
 use bptree_stores::node_stores::NodeStore;
 use std::alloc::AllocError;
 

@@ -87,19 +87,6 @@ fn removes<S: NodeStore>(tree: &mut BPlusTree<S>, k: &S::K) -> Option<S::V>
     }
 }
 
-// What leaves is the value that was read before.
-fn removes_what_was_read<S: NodeStore>(
-    tree: &mut BPlusTree<S>,
-    k: &S::K,
-) -> Result<(Option<S::V>, Option<S::V>), AllocError>
-where
-    S::V: Copy,
-    ensures { IfOk result (λ both. both.0 ≡ both.1) }
-{
-    let read = tree.get(k).copied();
-    Ok((read, tree.remove(k)?))
-}
-
 // A tree that was cleared has no pairs. A refusal changes nothing.
 fn clears<S: NodeStore>(tree: &mut BPlusTree<S>) -> Result<(bool, usize), AllocError>
     ensures empty { IfOk result (λ says. says ≡ (true, 0)) }

@@ -10,7 +10,7 @@ use bptree_arguments::count::Count;
 use bptree_keys::node_id::NodeId;
 use bptree_stores::node_stores::NodeStore;
 use bptree_tree::BPlusTree;
-use std::alloc::{AllocError, Global};
+use std::alloc::AllocError;
 
 // A new tree over an empty store has no pairs, and says so.
 fn starts_empty<S: NodeStore>(store: S) -> Result<(bool, usize, bool, bool), AllocError>
@@ -24,14 +24,6 @@ fn starts_empty<S: NodeStore>(store: S) -> Result<(bool, usize, bool, bool), All
         tree.first().is_none(),
         tree.last().is_none(),
     ))
-}
-
-// A new tree has no key.
-fn finds_nothing_in_a_new_tree<S: NodeStore>(alloc: Global, k: &S::K) -> Result<bool, AllocError>
-    ensures { IfOk result (λ found. found ≡ false) }
-{
-    let tree: BPlusTree<S> = BPlusTree::new(S::empty(alloc))?;
-    Ok(tree.get(k).is_some())
 }
 
 // A tree without pairs says so, and has no ends.
@@ -73,17 +65,6 @@ fn has_a_last<S: NodeStore>(tree: &BPlusTree<S>) -> (&S::K, &S::V)
     match tree.last() {
         Some(last) => last,
         None => unreachable!(),
-    }
-}
-
-// One pair alone is the first and the last.
-fn has_one_pair_at_both_ends<S: NodeStore>(tree: &BPlusTree<S>) -> (&S::V, &S::V)
-    requires { length tree.now.contents ≡ 1 }
-    ensures { result.0.now ≡ result.1.now }
-{
-    match (tree.first(), tree.last()) {
-        (Some(first), Some(last)) => (first.1, last.1),
-        _ => unreachable!(),
     }
 }
 

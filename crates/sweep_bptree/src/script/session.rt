@@ -2,18 +2,18 @@
 ghost use Rattle.std.specs.Prelude.{◌≡◌, ◌≤◌, [], OnOk, IfSome, IsErrOf};
 ghost use Rattle.std.specs.Io.KnownBytes.{Appends};
 ghost use Rattle.arrayvec.specs.ArrayVec.{array_vec_len};
-ghost use Rattle.sweep_bptree.specs.Answers.{pairs_after_all, text};
-ghost use Rattle.sweep_bptree.specs.Clipped.{clipped_after, clipped_rest};
-ghost use Rattle.sweep_bptree.specs.Lines.{PartsAreLines};
+ghost use Rattle.bptree_script.specs.Answers.{pairs_after_all, text};
+ghost use Rattle.bptree_script.specs.Clipped.{clipped_after, clipped_rest};
+ghost use Rattle.bptree_script.specs.Lines.{PartsAreLines};
 ghost use Rattle.sweep_bptree.specs.Served.{Serves, Answered, EndedBy, AnswersPiece, AnswersLast, stop_of, error_of};
 
-use crate::script::error::ServeError;
-use crate::script::lines::{KEPT, Kept, take_lines};
-use crate::script::output::Output;
-use crate::script::reply::{NumberTree, answer_line};
 use arrayvec::ArrayVec;
 use bptree_arguments::count::Count;
 use bptree_maps::map::BPlusTreeMap;
+use bptree_script::error::ServeError;
+use bptree_script::lines::{KEPT, Kept, take_lines};
+use bptree_script::output::Output;
+use bptree_script::reply::{NumberTree, answer_line};
 use std::alloc::Global;
 use std::io::{Read, Write};
 

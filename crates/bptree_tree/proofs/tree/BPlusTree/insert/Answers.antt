@@ -4,7 +4,7 @@ use Rattle.bptree_shape.specs.Shape.{root_least, pairs_at}
 use Rattle.bptree_tree.proofs.Counted.{has_read, one_more}
 use Rattle.bptree_shape.proofs.Walk.{tree_ascends}
 use Rattle.bptree_tree.proofs.tree.BPlusTree.insert.Goals as goal
-use Rattle.bptree_tree.proofs.tree.BPlusTree.insert.Goals.{else-self-via-then-self+else-is_none, else-self-via-else-self}
+use Rattle.bptree_tree.proofs.tree.BPlusTree.insert.Goals.{else-is_full-via-then-is_full+else-is_none, else-is_full-via-else-is_full}
 
 pub returns-then-is_none-clause-present : goal.returns-then-is_none-clause-present
 returns-then-is_none-clause-present g c = λ there. sym (has_read g.S.K.Ord.cmp c.args.self.now.contents c.args.k c.get.result false c.get.ensures c.if-is_none.ensures) ∙ there
@@ -12,13 +12,13 @@ returns-then-is_none-clause-present g c = λ there. sym (has_read g.S.K.Ord.cmp 
 pub returns-then-is_none-clause-full : goal.returns-then-is_none-clause-full
 returns-then-is_none-clause-full g c =
     let absent = has_read g.S.K.Ord.cmp c.args.self.now.contents c.args.k c.get.result false c.get.ensures c.if-is_none.ensures in
-    (λ e. (rw (← c.self.view_is) (sym c.self.invariant.1 ∙ c.if-self.true), absent), λ facts. refl)
+    (λ e. (rw (← c.self.view_is) (sym c.self.invariant.1 ∙ c.if-is_full.ensures.full refl), absent), λ facts. refl)
 
 pub upsert-requires-clause-room : goal.upsert-requires-clause-room
 upsert-requires-clause-room g c absent =
-    elim c.else-self.branch [
-      | else-self-via-then-self+else-is_none w ↦ absurd (true≢false (sym (has_read g.S.K.Ord.cmp c.args.self.now.contents c.args.k w.get.result true w.get.ensures w.if-is_none.ensures) ∙ (rw (← c.self.view_is) absent)))
-      | else-self-via-else-self w ↦ omega (arith, c.self.invariant.1, w.if-self.false, c.self.ranges.1.1.1.0.1)
+    elim c.else-is_full.branch [
+      | else-is_full-via-then-is_full+else-is_none w ↦ absurd (true≢false (sym (has_read g.S.K.Ord.cmp c.args.self.now.contents c.args.k w.get.result true w.get.ensures w.if-is_none.ensures) ∙ (rw (← c.self.view_is) absent)))
+      | else-is_full-via-else-is_full w ↦ omega (arith, c.self.invariant.1, w.if-is_full.ensures.room refl, c.self.ranges.1.1.1.0.1)
     ]
 
 pub invariant_of-self-in-Ok-Added : goal.invariant_of-self-in-Ok-Added
@@ -36,17 +36,17 @@ invariant_of-self-in-Ok-Added g c =
 pub returns-in-Ok-Replaced-clause-full : goal.returns-in-Ok-Replaced-clause-full
 returns-in-Ok-Replaced-clause-full g c = (
   λ e. cc,
-  λ facts. absurd (elim c.else-self.branch [
-    | else-self-via-then-self+else-is_none w ↦ true≢false (sym (has_read g.S.K.Ord.cmp c.args.self.now.contents c.args.k w.get.result true w.get.ensures w.if-is_none.ensures) ∙ facts.1)
-    | else-self-via-else-self w ↦ w.if-self.false (c.self.invariant.1 ∙ (rw (← c.self.view_is) at facts.0))
+  λ facts. absurd (elim c.else-is_full.branch [
+    | else-is_full-via-then-is_full+else-is_none w ↦ true≢false (sym (has_read g.S.K.Ord.cmp c.args.self.now.contents c.args.k w.get.result true w.get.ensures w.if-is_none.ensures) ∙ facts.1)
+    | else-is_full-via-else-is_full w ↦ w.if-is_full.ensures.room refl (c.self.invariant.1 ∙ (rw (← c.self.view_is) at facts.0))
   ]),
 )
 
 pub returns-in-Err-clause-full : goal.returns-in-Err-clause-full
 returns-in-Err-clause-full g c = (
   λ e. cc,
-  λ facts. absurd (elim c.else-self.branch [
-    | else-self-via-then-self+else-is_none w ↦ true≢false (sym (has_read g.S.K.Ord.cmp c.args.self.now.contents c.args.k w.get.result true w.get.ensures w.if-is_none.ensures) ∙ facts.1)
-    | else-self-via-else-self w ↦ w.if-self.false (c.self.invariant.1 ∙ (rw (← c.self.view_is) at facts.0))
+  λ facts. absurd (elim c.else-is_full.branch [
+    | else-is_full-via-then-is_full+else-is_none w ↦ true≢false (sym (has_read g.S.K.Ord.cmp c.args.self.now.contents c.args.k w.get.result true w.get.ensures w.if-is_none.ensures) ∙ facts.1)
+    | else-is_full-via-else-is_full w ↦ w.if-is_full.ensures.room refl (c.self.invariant.1 ∙ (rw (← c.self.view_is) at facts.0))
   ]),
 )

@@ -2,8 +2,8 @@ use Rattle.std.proofs.Common.{ap, length, None, ◌∙◌}
 use Rattle.std.proofs.iter.runs.Sources.{from_front}
 use Rattle.std.specs.Map.Iter.{TakesFirst, deref_pair}
 use Rattle.bptree_shape.specs.Shape.{root_least, pairs_at}
-use Rattle.bptree_tree.specs.Span.{leaves_of}
-use Rattle.bptree_tree.proofs.SpanLemmas.{IsBetween-span, pairs_left-span}
+use Rattle.bptree_iteration.specs.Span.{leaves_of}
+use Rattle.bptree_iteration.proofs.SpanLemmas.{IsBetween-span, pairs_left-span}
 use Rattle.bptree_tree.proofs.Spans.{tree_span}
 use Rattle.bptree_shape.proofs.Walk.{tree_ascends}
 use Rattle.bptree_tree.proofs.tree.BPlusTree.iter.Goals as goal

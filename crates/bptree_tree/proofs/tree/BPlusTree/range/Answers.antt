@@ -4,7 +4,7 @@ use Rattle.std.specs.Map.Iter.{TakesFirst, deref_pair}
 use Rattle.std.specs.Option.{option_copied}
 use Rattle.bptree_keys.specs.Contents.{IsAscending}
 use Rattle.bptree_keys.specs.Ranges.{between}
-use Rattle.bptree_shape.specs.Ranges.{start}
+use Rattle.bptree_ranges.specs.Ranges.{start}
 use Rattle.bptree_shape.specs.Shape.{pairs_at, root_least}
 use Rattle.bptree_shape.proofs.Walk.{tree_ascends}
 use Rattle.bptree_tree.proofs.PartSpans.{part_between_places, part_ascends}

@@ -1,4 +1,4 @@
-use Rattle.sweep_bptree.proofs.LineLemmas.{parts_are_lines_lem}
+use Rattle.bptree_script.proofs.LineLemmas.{parts_are_lines_lem}
 use Rattle.sweep_bptree.proofs.script.session.parts_are_lines.Goals as goal
 
 pub returns : goal.returns

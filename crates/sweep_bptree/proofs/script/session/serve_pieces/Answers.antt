@@ -1,9 +1,9 @@
 use Rattle.std.proofs.Common.{rules, [], ◌++◌, refl, ap, ◌∙◌, take, arith, length-append, length-take}
 use Rattle.std.proofs.lemmas.Result.{err_from_is_err_and}
 use Rattle.std.proofs.KnownBytes.{Consumes-trans}
-use Rattle.sweep_bptree.specs.Answers.{pairs_after_all}
-use Rattle.sweep_bptree.specs.Clipped.{clipped_after}
-use Rattle.sweep_bptree.proofs.FeedLemmas.{length-clipped_rest}
+use Rattle.bptree_script.specs.Answers.{pairs_after_all}
+use Rattle.bptree_script.specs.Clipped.{clipped_after}
+use Rattle.bptree_script.proofs.FeedLemmas.{length-clipped_rest}
 use Rattle.sweep_bptree.proofs.SessionLemmas.{stopped_at_start, stopped_by_reader, stopped_with_no_end, stopped_by_piece, stopped_by_last, answered_last, answered_more, pairs_then, rest_then}
 use Rattle.sweep_bptree.proofs.script.session.serve_pieces.Goals as goal
 

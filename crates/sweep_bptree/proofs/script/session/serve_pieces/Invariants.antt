@@ -1,7 +1,7 @@
 use Rattle.std.proofs.Common.{◌≡◌, ◌≤◌, ℕ, List, [], length}
 use Rattle.std.specs.Io.KnownBytes.{Appends, Consumes}
-use Rattle.sweep_bptree.specs.Answers.{answers, pairs_after_all}
-use Rattle.sweep_bptree.specs.Clipped.{clipped_after, clipped_rest}
+use Rattle.bptree_script.specs.Answers.{answers, pairs_after_all}
+use Rattle.bptree_script.specs.Clipped.{clipped_after, clipped_rest}
 use Rattle.sweep_bptree.proofs.script.session.serve_pieces.Given as goal
 
 -- what was read so far was answered, and each read gave a byte at least

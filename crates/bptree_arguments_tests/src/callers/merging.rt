@@ -1,0 +1,97 @@
+//! Callers of merges.
+ghost use Rattle.std.specs.Prelude.{◌≡◌, ◌<◌, ◌+◌, [], ◌∷◌, Some, None, List, IfOk, IsOk, IsTrue, drop, length, slice_get};
+ghost use Rattle.std.specs.declared.cmp.Ordering.TheVariants.{Less, Equal, Greater};
+ghost use Rattle.std.specs.Map.Iter.{TakesFirst, deref};
+ghost use Rattle.std.specs.Option.{option_map};
+ghost use Rattle.bptree_merging.specs.Merge.{keys_given, merged};
+
+use bptree_keys::key::Key;
+use bptree_merging::merge_iter::{Listed, MergeIterInner, laws_of_merge};
+use std::alloc::AllocError;
+use std::cmp::Ordering;
+use std::slice;
+
+// A merge that has just begun has all of both sides.
+fn counts_both_sides<K: Key>(a: &[K], b: &[K]) -> (usize, usize)
+    ensures { result ≡ (length a.now, length b.now) }
+{
+    MergeIterInner::new(a.iter(), b.iter()).lens()
+}
+
+// One step, with the order of the keys.
+fn step<'a, K: Key>(
+    merge: &mut MergeIterInner<slice::Iter<'a, K>>,
+) -> (Option<&'a K>, Option<&'a K>)
+    ensures less { (x y : K) → (xs ys : List K) → merge.old ≡ (x ∷ xs, y ∷ ys) → K.cmp x y ≡ Less → (option_map deref result.0 ≡ Some x) × (result.1 ≡ None) × (merge.new ≡ (xs, y ∷ ys)) }
+    ensures equal { (x y : K) → (xs ys : List K) → merge.old ≡ (x ∷ xs, y ∷ ys) → K.cmp x y ≡ Equal → (option_map deref result.0 ≡ Some x) × (option_map deref result.1 ≡ Some y) × (merge.new ≡ (xs, ys)) }
+    ensures greater { (x y : K) → (xs ys : List K) → merge.old ≡ (x ∷ xs, y ∷ ys) → K.cmp x y ≡ Greater → (result.0 ≡ None) × (option_map deref result.1 ≡ Some y) × (merge.new ≡ (x ∷ xs, ys)) }
+    ensures first { (x : K) → (xs : List K) → merge.old ≡ (x ∷ xs, []) → (option_map deref result.0 ≡ Some x) × (result.1 ≡ None) × (merge.new ≡ (xs, [])) }
+    ensures second { (y : K) → (ys : List K) → merge.old ≡ ([], y ∷ ys) → (result.0 ≡ None) × (option_map deref result.1 ≡ Some y) × (merge.new ≡ ([], ys)) }
+    ensures end { merge.old ≡ ([], []) → (result.0 ≡ None) × (result.1 ≡ None) × (merge.new ≡ ([], [])) }
+{
+    merge.nexts(|a, b| a.cmp(b))
+}
+
+// At the end of both there is nothing for good.
+fn ends_for_good<'a, K: Key>(merge: &mut MergeIterInner<slice::Iter<'a, K>>) -> bool
+    requires { merge.old ≡ ([], []) }
+    ensures { IsTrue result }
+{
+    let (first, second) = step(merge);
+    let (third, fourth) = step(merge);
+    first.is_none() && second.is_none() && third.is_none() && fourth.is_none()
+}
+
+// Where the first side has ended, the second's items come alone, whatever the closure answers.
+fn gives_the_others_alone<I: Listed, Cmp: Fn(&I::Item, &I::Item) -> Ordering>(
+    merge: &mut MergeIterInner<I>,
+    cmp: Cmp,
+) -> (Option<I::Item>, Option<I::Item>)
+where
+    I::Item: Drop,
+    requires callable { Cmp.IsAlwaysCallable cmp }
+    requires ended { merge.old.0 ≡ [] }
+    ensures first { option_map I.shows result.0 ≡ None }
+    ensures second { option_map I.shows result.1 ≡ slice_get merge.old.1 0 }
+    ensures left { merge.new ≡ ([], drop 1 merge.old.1) }
+{
+    merge.nexts(cmp)
+}
+
+// What a step gives is the first of what all steps give, and what it leaves gives the rest.
+fn gives_the_first_of_all_steps<'a, K: Key>(
+    merge: &mut MergeIterInner<slice::Iter<'a, K>>,
+) -> (Option<&'a K>, Option<&'a K>)
+    requires { 0 < length merge.old.0 + length merge.old.1 }
+    ensures { merged K.cmp merge.old.0 merge.old.1 ≡ (option_map deref result.0, option_map deref result.1) ∷ merged K.cmp merge.new.0 merge.new.1 }
+{
+    laws_of_merge::<K>();
+    merge.nexts(|a, b| a.cmp(b))
+}
+
+// The one item, or the first of the two, is the next key of both lists, and the keys behind it are left.
+fn gives_the_next_key<'a, K: Key>(merge: &mut MergeIterInner<slice::Iter<'a, K>>) -> Option<&'a K>
+    ensures { TakesFirst deref (keys_given (merged K.cmp merge.old.0 merge.old.1)) result (keys_given (merged K.cmp merge.new.0 merge.new.1)) }
+{
+    let (first, second) = merge.nexts(|a, b| a.cmp(b));
+    first.or(second)
+}
+
+// After the smaller head the other one waits, and is counted.
+fn counts_the_one_that_waits<K: Key>(a: &[K], b: &[K]) -> (usize, usize)
+    ensures { (x y : K) → (xs ys : List K) → a.now ≡ x ∷ xs → b.now ≡ y ∷ ys → K.cmp x y ≡ Less → result ≡ (length xs, length b.now) }
+{
+    let mut merge = MergeIterInner::new(a.iter(), b.iter());
+    step(&mut merge);
+    merge.lens()
+}
+
+// A clone of a merge of slices is made without fail, and has the same left.
+fn copies<'a, K: Key>(
+    merge: &MergeIterInner<slice::Iter<'a, K>>,
+) -> Result<MergeIterInner<slice::Iter<'a, K>>, AllocError>
+    ensures copy { IfOk result (λ copy. copy ≡ merge.now) }
+    ensures done { IsOk result }
+{
+    merge.clone()
+}

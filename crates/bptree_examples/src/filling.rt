@@ -1,0 +1,28 @@
+//! Maps that are filled, whatever their keys, values and summaries.
+
+use std::alloc::{AllocError, Global};
+use sweep_bptree::BPlusTreeMap;
+use sweep_bptree::tree::{Argument, Key};
+
+/// A map of pairs, which are put in one after another.
+pub fn filled<K: Key + Copy, V: Copy, A: Argument<K>>(
+    alloc: Global,
+    pairs: &[(K, V)],
+) -> Result<BPlusTreeMap<K, V, A>, AllocError> {
+    let mut map = BPlusTreeMap::new(alloc)?;
+    for (key, value) in pairs {
+        if map.insert(*key, *value).is_err() {
+            return Err(AllocError);
+        }
+    }
+    Ok(map)
+}
+
+/// Removes the pair with a key, where there is one.
+pub fn removed<K: Key, V: Drop, A: Argument<K>>(
+    map: &mut BPlusTreeMap<K, V, A>,
+    key: &K,
+) -> Result<(), AllocError> {
+    map.remove(key)?;
+    Ok(())
+}

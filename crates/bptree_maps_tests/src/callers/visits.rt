@@ -1,0 +1,48 @@
+//! Callers of visits.
+ghost use Rattle.std.specs.Prelude.{◌≡◌, IfOk, IfErr, Some, length};
+ghost use Rattle.std.specs.Map.{keys_of};
+ghost use Rattle.bptree_arguments.specs.Groups.{group};
+ghost use Rattle.bptree_arguments.specs.Visits.{answered, invalid_child};
+ghost use Rattle.bptree_arguments.specs.declared.visit.DescendError.TheVariants.{OutOfMemory};
+
+use crate::firsts::First;
+use bptree_arguments::group::{GroupCount, laws_of_groups};
+use bptree_arguments::group_size::ExtractGroupSize;
+use bptree_arguments::visit::{DescendError, DescendVisit};
+use bptree_stores::node_stores::NodeStore;
+use bptree_tree::BPlusTree;
+
+// What is answered is allowed for the visitor on the pairs of the tree.
+fn visits<S: NodeStore, W: DescendVisit<S::K, S::V, S::Argument>>(
+    tree: &BPlusTree<S>,
+    visitor: W,
+) -> Result<Option<W::Result>, DescendError>
+    ensures { IfOk result (λ answer. W.answers visitor tree.now.contents (answered answer)) }
+{
+    tree.descend_visit(visitor)
+}
+
+// A visitor to which no other child is ever allowed gets no error but a refusal.
+fn visits_children<S: NodeStore, W: DescendVisit<S::K, S::V, S::Argument>>(
+    tree: &BPlusTree<S>,
+    visitor: W,
+) -> Result<Option<W::Result>, DescendError>
+    requires { W.answers visitor tree.now.contents invalid_child → ⊥ }
+    ensures { IfErr result (λ error. error ≡ OutOfMemory) }
+{
+    tree.descend_visit(visitor)
+}
+
+// The keys of a group are counted, 0 where there is none, and no child is missed.
+fn sizes_a_group<S: NodeStore<K = (u64, u64), Argument = GroupCount<First>>>(
+    tree: &BPlusTree<S>,
+    g: First,
+) -> Result<Option<usize>, DescendError>
+    ensures counted { IfOk result (λ size. size ≡ Some (length (group ⟦<First as Ord>⟧.cmp (λ pair. record { 0 = pair.0 }) g (keys_of tree.now.contents)))) }
+    ensures refused { IfErr result (λ error. error ≡ OutOfMemory) }
+{
+    laws_of_groups::<(u64, u64), First>();
+    // Read, so that it is known to fit.
+    let _len = tree.len();
+    tree.descend_visit(ExtractGroupSize::new(g))
+}

@@ -1,7 +1,0 @@
-//! Tests of merging.
-#![tactic(auto)]
-
-#[cfg(test)]
-mod callers;
-#[cfg(test)]
-mod merge_tests;

@@ -1,0 +1,178 @@
+-- The leaf in which those keys end that pass a test, where no key passes it that is above one that doesn't.
+use Rattle.std.proofs.Common.{◌≡◌, ℕ, zero, suc, ◌+◌, ◌-◌, ◌<◌, ◌≤◌, Bool, true, false, not, ◌&&◌, List, [], ◌∷◌, ◌++◌, length, map, filter, take, drop, refl, sym, ap, subst, ◌∙◌, arith, Option, Some, slice_get, length-append}
+use mathlib.Core.Bool.{true≢false}
+use Rattle.std.specs.declared.cmp.Ordering.{Ordering}
+use Rattle.std.specs.declared.cmp.Ordering.TheVariants.{Less, Equal, Greater}
+use Rattle.std.specs.Ordering.{is_eq, is_gt, is_lt}
+use Rattle.std.specs.Cmp.{IsTotalOrder}
+use Rattle.std.specs.List.{AllByRecursion}
+use Rattle.std.specs.Map.{keys_of}
+use Rattle.std.proofs.lemmas.List.Elements.{filter-append}
+use Rattle.std.proofs.lemmas.Map.Keys.{sorted_head, sorted_tail}
+use Rattle.bptree_arguments.specs.GroupAnswers.{IsBorderOf, is_before}
+use Rattle.bptree_arguments.specs.Groups.{of_group}
+use Rattle.bptree_arguments.proofs.GroupOrderLemmas.{before_below}
+use Rattle.bptree_nodes.specs.Inner.{Inner}
+use Rattle.bptree_nodes.specs.Leaf.{Leaf}
+use Rattle.bptree_nodes.specs.Slot.{Slots, Present}
+use Rattle.bptree_keys.specs.Contents.{IsAscending}
+use Rattle.bptree_keys.specs.Ranges.{part}
+use Rattle.bptree_keys.specs.declared.node_id.InnerNodeId.{InnerNodeId}
+use Rattle.bptree_keys.specs.declared.node_id.LeafNodeId.{LeafNodeId}
+use Rattle.bptree_keys.specs.declared.node_id.NodeId.{NodeId}
+use Rattle.bptree_keys.specs.declared.node_id.NodeId.TheVariants as kind
+use Rattle.bptree_keys.proofs.Ascending.{all_pairs, less_turned}
+use Rattle.bptree_keys.proofs.PieceLemmas.{AllByRecursion-append, AllByRecursion-weaker}
+use Rattle.bptree_shape.specs.Leaves.{pairs_of, Stands, IsBorderLeaf}
+use Rattle.bptree_shape.specs.Order.{flat, Within, Chain}
+use Rattle.bptree_ranges.specs.Ranges.{start, IsPlaceOn}
+use Rattle.bptree_shape.specs.Shape.{leaf_pairs, pairs_at, leaves_at, IsTree, IsWellShaped}
+use Rattle.bptree_shape.proofs.Between.{Falls, cut, none_pass}
+use Rattle.bptree_shape.proofs.Down.{inner_at, node_children, pairs_of_all, stands_above}
+use Rattle.bptree_shape.proofs.Ordered.{by_cases, not_less_back}
+use Rattle.bptree_ranges.proofs.Ranged.{size_of, start_is}
+use Rattle.bptree_shape.proofs.Spot.{parts_of_read}
+use Rattle.bptree_shape.proofs.Walk.{flat-append, chain_inside, tree_inside}
+
+-- the first of the members that a function makes, and those from one on
+module _ {X Y : Type 0} (P : Y → Type 0) (f : X → Y) where
+  first_made : (n : ℕ) (xs : List X) → AllByRecursion P (take n (map f xs)) → AllByRecursion (λ x. P (f x)) (take n xs)
+  first_made zero xs all = tt
+  first_made (suc n) [] all = tt
+  first_made (suc n) (x ∷ xs) all = (all.0, first_made n xs all.1)
+
+  made_from : (n : ℕ) (xs : List X) → AllByRecursion P (drop n (map f xs)) → AllByRecursion (λ x. P (f x)) (drop n xs)
+  made_from zero [] all = tt
+  made_from zero (x ∷ xs) all = (all.0, made_from zero xs all.1)
+  made_from (suc n) [] all = tt
+  made_from (suc n) (x ∷ xs) all = made_from n xs all
+
+every_pass : {X : Type 0} (test : X → Bool) (l : List X) → AllByRecursion (λ x. test x ≡ true) l → filter test l ≡ l
+every_pass test [] all = refl
+every_pass test (x ∷ l) all = rw all.0 (ap (λ more. x ∷ more) (every_pass test l all.1))
+
+-- where the first n keys pass and no others do, n pairs pass
+count_of_first : {K V : Type 0} (test : K → Bool) (l : List (K × V)) (n : ℕ) → n ≤ length l → AllByRecursion (λ k. test k ≡ true) (take n (keys_of l)) → AllByRecursion (λ k. test k ≡ false) (drop n (keys_of l)) → length (filter (λ (p : K × V). test p.0) l) ≡ n
+count_of_first test [] n within pass fail = omega (arith, within)
+count_of_first test (p ∷ l) zero within pass fail = rw fail.0 (count_of_first test l zero (omega arith) tt fail.1)
+count_of_first test (p ∷ l) (suc n) within pass fail = rw pass.0 (ap suc (count_of_first test l n (omega (arith, within)) pass.1 fail))
+
+module _ {K : Type 0} {cmp : K → K → Ordering} (total : IsTotalOrder cmp) (test : K → Bool) (falls : (x y : K) → is_gt (cmp x y) ≡ false → test y ≡ true → test x ≡ true) where
+  fails_from : (x y : K) → is_lt (cmp y x) ≡ false → test x ≡ false → test y ≡ false
+  fails_from x y up low =
+      by (test y) refl
+    where
+      not_above : is_gt (cmp x y) ≡ false
+      not_above = by_cases (cmp x y) (λ e. ap is_gt e) (λ e. ap is_gt e) (λ e. absurd (true≢false (sym (ap is_lt (less_turned cmp total x y e)) ∙ up)))
+
+      by : (b : Bool) → test y ≡ b → test y ≡ false
+      by true e = absurd (true≢false (sym (falls x y not_above e) ∙ low))
+      by false e = e
+
+  pub falls_all : {V : Type 0} (l : List (K × V)) → IsAscending cmp l → Falls (λ (p : K × V). test p.0) l
+  falls_all [] ascending = tt
+  falls_all (p ∷ l) ascending = (
+    (λ low. all_pairs (λ key. cmp p.0 key ≡ Less) (λ key. test key ≡ false) (λ key less. fails_from p.0 key (not_less_back total p.0 key less) low) l (sorted_head cmp p.0 (keys_of l) ascending)),
+    falls_all l (sorted_tail cmp p.0 (keys_of l) ascending),
+  )
+
+  module _ {C V : Type 0} (f : C → List (K × V)) (P : C → Option K → Option K → Type 0) (inside : (c : C) (lo hi : Option K) → P c lo hi → AllByRecursion (λ p. Within cmp lo hi p.0) (f c)) where
+    -- where the first i separators pass and no others do, so do the keys of the children before child i, and none behind it
+    chain_passes : (ks : List K) (cs : List C) (lo hi : Option K) (i : ℕ) → Chain cmp P ks cs lo hi → i ≤ length ks → AllByRecursion (λ k. test k ≡ true) (take i ks) → AllByRecursion (λ (p : K × V). test p.0 ≡ true) (flat f (take i cs))
+    chain_passes ks [] lo hi i h within all = absurd h
+    chain_passes [] (c ∷ []) lo hi zero h within all = tt
+    chain_passes [] (c ∷ []) lo hi (suc i) h within all = absurd (omega (arith, within))
+    chain_passes [] (c ∷ d ∷ cs) lo hi i h within all = absurd h
+    chain_passes (s ∷ ss) (c ∷ cs) lo hi zero h within all = tt
+    chain_passes (s ∷ ss) (c ∷ cs) lo hi (suc i) h within all =
+        AllByRecursion-append _ (f c) (flat f (take i cs))
+        (AllByRecursion-weaker _ _ (λ p w. falls p.0 s (ap is_gt w.1) all.0) (f c) (inside c lo (Some s) h.0))
+        (chain_passes ss cs (Some s) hi i h.2 (omega (arith, within)) all.1)
+
+    chain_fails : (ks : List K) (cs : List C) (lo hi : Option K) (i : ℕ) → Chain cmp P ks cs lo hi → i ≤ length ks → AllByRecursion (λ k. test k ≡ false) (drop i ks) → AllByRecursion (λ (p : K × V). test p.0 ≡ false) (flat f (drop (suc i) cs))
+    chain_fails ks [] lo hi i h within all = absurd h
+    chain_fails [] (c ∷ []) lo hi zero h within all = tt
+    chain_fails [] (c ∷ []) lo hi (suc i) h within all = absurd (omega (arith, within))
+    chain_fails [] (c ∷ d ∷ cs) lo hi i h within all = absurd h
+    chain_fails (s ∷ ss) (c ∷ cs) lo hi zero h within all =
+        AllByRecursion-weaker _ _ (λ p w. fails_from s p.0 w.0 all.0) (flat f cs) (chain_inside total f P inside ss cs (Some s) hi h.2)
+    chain_fails (s ∷ ss) (c ∷ cs) lo hi (suc i) h within all = chain_fails ss cs (Some s) hi i h.2 (omega (arith, within)) all
+
+  module _ {V A : Type 0} (slots : Slots (Inner K A) (Leaf K V)) where
+    -- the border below the child behind the separators that pass is the border below the node
+    border_above : (h : ℕ) (id : InnerNodeId) (node : Inner K A) (e : slots.inner id.0 ≡ Present node) (lo hi : Option K) (i : ℕ) (child : NodeId) (leaf : LeafNodeId) → Chain cmp (IsTree cmp slots 16 h) node.keys node.children lo hi → i ≤ length node.keys → i < length node.children
+        → AllByRecursion (λ k. test k ≡ true) (take i node.keys) → AllByRecursion (λ k. test k ≡ false) (drop i node.keys) → slice_get node.children i ≡ Some child → IsBorderLeaf slots test h child leaf → IsBorderLeaf slots test (suc h) (kind.Inner id) leaf
+    border_above h id node e lo hi i child leaf chain few within pass fail read below =
+        let inside = λ (c : NodeId) (a b : Option K) (u : IsTree cmp slots 16 h c a b). tree_inside total slots 16 h c a b u in
+        let left = flat (leaves_at slots h) (take i node.children) in
+        let right = flat (leaves_at slots h) (drop (suc i) node.children) in
+        record {
+          stands = stands_above slots h id node e i child leaf within read below.stands;
+          before =
+              rw (flat-append (λ (l : LeafNodeId). leaf_pairs (slots.leaf l.0)) left below.stands.before, pairs_of_all slots h (take i node.children))
+              (AllByRecursion-append (λ (p : K × V). test p.0 ≡ true) (flat (pairs_at slots h) (take i node.children)) (pairs_of slots below.stands.before)
+              (chain_passes (pairs_at slots h) (IsTree cmp slots 16 h) inside node.keys node.children lo hi i chain few pass) below.before);
+          behind =
+              rw (flat-append (λ (l : LeafNodeId). leaf_pairs (slots.leaf l.0)) below.stands.after right, pairs_of_all slots h (drop (suc i) node.children))
+              (AllByRecursion-append (λ (p : K × V). test p.0 ≡ false) (pairs_of slots below.stands.after) (flat (pairs_at slots h) (drop (suc i) node.children))
+              below.behind (chain_fails (pairs_at slots h) (IsTree cmp slots 16 h) inside node.keys node.children lo hi i chain few fail));
+        }
+
+    -- the same at a height that the code knows
+    pub border_node : (h : ℕ) (id : InnerNodeId) (node : Inner K A) (i : ℕ) (child : NodeId) → Stands cmp slots h (kind.Inner id) → slots.inner id.0 ≡ Present node → i ≤ length node.keys
+        → AllByRecursion (λ k. test k ≡ true) (take i node.keys) → AllByRecursion (λ k. test k ≡ false) (drop i node.keys) → slice_get node.children i ≡ Some child → (leaf : LeafNodeId) → IsBorderLeaf slots test (h - 1) child leaf → IsBorderLeaf slots test h (kind.Inner id) leaf
+    border_node h id node i child s e few pass fail read leaf below =
+        let at = inner_at total slots h id node s e in
+        let down : h - 1 ≡ at.below = let up = at.above in omega arith in
+        let long = node_children total slots h id node s e in
+        subst (λ m. IsBorderLeaf slots test m (kind.Inner id) leaf) (sym at.above)
+        (border_above at.below id node e at.low at.high i child leaf at.chain few (omega (arith, long, few)) pass fail read (subst (λ m. IsBorderLeaf slots test m child leaf) down below))
+
+    -- a leaf is the border of its tree
+    pub border_leaf : (h : ℕ) (id : LeafNodeId) → Stands cmp slots h (kind.Leaf id) → IsBorderLeaf slots test h (kind.Leaf id) id
+    border_leaf zero id s = record { stands = record { before = []; after = []; leaves = refl; present = s.tree.0 }; before = tt; behind = tt }
+    border_leaf (suc h) id s = absurd s.tree
+
+    -- the place in it behind the keys that pass
+    pub border_place : (is_summary : A → List K → Type 0) (h : ℕ) (root : NodeId) (shape : IsWellShaped cmp is_summary slots h root) (leaf : LeafNodeId) (node : Leaf K V) → IsBorderLeaf slots test h root leaf → slots.leaf leaf.0 ≡ Present node
+        → (n : ℕ) → n ≤ length node.pairs → AllByRecursion (λ k. test k ≡ true) (take n (keys_of node.pairs)) → AllByRecursion (λ k. test k ≡ false) (drop n (keys_of node.pairs)) → IsPlaceOn slots h root leaf n × (start slots h root leaf + n ≡ length (filter (λ (p : K × V). test p.0) (pairs_at slots h root)))
+    border_place is_summary h root shape leaf node border here n within pass fail =
+        let in' = border.stands in
+        let before = pairs_of slots in'.before in
+        let after = pairs_of slots in'.after in
+        let t = λ (p : K × V). test p.0 in
+        let here' : length (filter t node.pairs) ≡ n = count_of_first test node.pairs n within pass fail in
+        let one : filter t before ≡ before = every_pass t before border.before in
+        let other : filter t after ≡ [] = none_pass t after border.behind in
+        let cut' : filter t (pairs_at slots h root) ≡ before ++ (filter t node.pairs ++ []) =
+        ap (filter t) (parts_of_read slots h root leaf in' node here) ∙ (filter-append t before (node.pairs ++ after) ∙ (ap (λ l. l ++ filter t (node.pairs ++ after)) one ∙ ap (λ l. before ++ l) (filter-append t node.pairs after ∙ ap (λ l. filter t node.pairs ++ l) other))) in (
+          record { stands = in'; within = omega (arith, within, size_of is_summary slots h root shape leaf node here) },
+          omega (arith, start_is is_summary slots h root shape leaf in', ap length cut', length-append before (filter t node.pairs ++ []), length-append (filter t node.pairs) [], here'),
+        )
+
+module _ {K G : Type 0} {cmp : K → K → Ordering} {R : G → G → Ordering} (total : IsTotalOrder cmp) (o : IsTotalOrder R) (group_of : K → G) (keeps : (x y : K) → is_gt (cmp x y) ≡ false → is_gt (R (group_of x) (group_of y)) ≡ false) (g : G) where
+  -- whether a key is before the end of the group, or else before its beginning
+  abbrev pub is_key_before : Bool → K → Bool
+  is_key_before end k = is_before end (R (group_of k) g)
+
+  pub key_falls : (end : Bool) (x y : K) → is_gt (cmp x y) ≡ false → is_key_before end y ≡ true → is_key_before end x ≡ true
+  key_falls end x y up e = before_below o g end (group_of x) (group_of y) (keeps x y up) e
+
+  eq_parts : (r : Ordering) → is_eq r ≡ (not (is_before false r) && is_before true r)
+  eq_parts Less = refl
+  eq_parts Equal = refl
+  eq_parts Greater = refl
+
+  -- the pairs of a group stand from its beginning to its end
+  pub of_group_is : {V : Type 0} (l : List (K × V)) (i j : ℕ) → IsAscending cmp l → i ≡ length (filter (λ (p : K × V). is_before false (R (group_of p.0) g)) l) → j ≡ length (filter (λ (p : K × V). is_before true (R (group_of p.0) g)) l) → of_group R group_of g l ≡ part l i (j - i)
+  of_group_is {V} l i j ascending e f =
+      let one = λ (p : K × V). is_key_before false p.0 in
+      let other = λ (p : K × V). is_key_before true p.0 in
+      rw (e, f) (ap (λ t. filter t l) (λ i p. eq_parts (R (group_of p.0) g) i) ∙ cut one other l (falls_all total (is_key_before false) (key_falls false) l ascending) (falls_all total (is_key_before true) (key_falls true) l ascending))
+
+  -- the borders that a search finds among keys
+  pub passed : (end : Bool) (keys : List K) (n : ℕ) → IsBorderOf R g end (map group_of keys) n → AllByRecursion (λ k. is_key_before end k ≡ true) (take n keys)
+  passed end keys n border = first_made (λ x. is_before end (R x g) ≡ true) group_of n keys border.before
+
+  pub failed : (end : Bool) (keys : List K) (n : ℕ) → IsBorderOf R g end (map group_of keys) n → AllByRecursion (λ k. is_key_before end k ≡ false) (drop n keys)
+  failed end keys n border = made_from (λ x. is_before end (R x g) ≡ false) group_of n keys border.from_there

@@ -1,0 +1,2 @@
+pub mod Bordered
+pub mod Ranged

@@ -1,0 +1,329 @@
+-- Places in the leaves of a tree: how many pairs stand before them, and which leaf comes after which.
+use Rattle.std.proofs.Common.{◌≡◌, ℕ, zero, suc, ◌+◌, ◌-◌, ◌<◌, ◌≤◌, ◌⊎◌, inl, inr, Bool, true, false, not, cond, eqb, List, [], ◌∷◌, ◌++◌, length, refl, sym, ap, subst, ◌∙◌, arith, Option, Some, None, Result, take, drop, min, append_assoc, length-append, length-drop}
+use Rattle.std.proofs.Common.{drop-drop}
+use Rattle.std.proofs.Math.Seq.{take-nil}
+use Rattle.std.proofs.lemmas.List.{drop-take, drop_all, length-take, length-take-le, take_min}
+use Rattle.std.specs.Cmp.{IsTotalOrder}
+use mathlib.Core.Bool.{true≢false}
+use Rattle.std.proofs.lemmas.Bool.Decides.{eqb_tells}
+use Rattle.std.specs.declared.cmp.Ordering.{Ordering}
+use Rattle.std.specs.List.{AllByRecursion}
+use Rattle.std.specs.Map.{keys_of}
+use Rattle.bptree_keys.specs.declared.node_id.LeafNodeId.{LeafNodeId}
+use Rattle.bptree_keys.specs.declared.node_id.NodeId.{NodeId}
+use Rattle.bptree_nodes.specs.Inner.{Inner}
+use Rattle.bptree_nodes.specs.Leaf.{Leaf}
+use Rattle.bptree_nodes.specs.Slot.{Slot, Slots, Free, Held, Present, IsPresent}
+use Rattle.bptree_keys.specs.Contents.{IsAscending, pairs_below}
+use Rattle.bptree_keys.specs.Places.{IsPlaceOf}
+use Rattle.bptree_keys.specs.Ranges.{part}
+use Rattle.bptree_nodes.specs.LeafResults.{place_of}
+use Rattle.bptree_keys.proofs.Around.{pairs_below_around}
+use Rattle.bptree_keys.proofs.PieceLemmas.{AllByRecursion-right}
+use Rattle.bptree_shape.specs.ByArgument.{IsSelectedAt}
+use Rattle.bptree_shape.specs.Leaves.{pairs_of, StandsIn, IsFirstLeaf, IsLastLeaf, IsLeafFor}
+use Rattle.bptree_ranges.specs.Ranges.{ahead, start, IsPlaceOn}
+use Rattle.bptree_shape.specs.Shape.{leaf_pairs, leaf_next, leaves_at, pairs_at, stands, AreLinked, IsWellShaped, root_least}
+use Rattle.bptree_shape.proofs.Beside.{HasPair, others_have, found_at, below_upto, place_within}
+use Rattle.bptree_shape.proofs.Hinted.{count_of, count_leaves, first_or, linked_next, total-append}
+use Rattle.bptree_shape.proofs.Spot.{parts_of, parts_of_read, leaf_ascends}
+use Rattle.bptree_shape.proofs.Walk.{flat-append, tree_ascends}
+
+-- of two members of a list, each with what stands before and behind it: they are one, or one stands before the other
+abbrev pub Sides : {X : Type 0} → X → X → List X → List X → List X → List X → Type 0
+Sides {X} a b xs ys us vs = ((xs ≡ us) × (a ≡ b) × (ys ≡ vs)) ⊎ (((mid : List X) × (us ≡ xs ++ a ∷ mid) × (ys ≡ mid ++ b ∷ vs)) ⊎ ((mid : List X) × (xs ≡ us ++ b ∷ mid) × (vs ≡ mid ++ a ∷ ys)))
+
+pub sides : {X : Type 0} (a b : X) (xs ys us vs : List X) → xs ++ a ∷ ys ≡ us ++ b ∷ vs → Sides a b xs ys us vs
+sides a b [] ys [] vs e = inl (refl, cc, cc)
+sides a b [] ys (u ∷ us) vs e = let h : u ≡ a = cc in inr (inl (us, ap (λ x. x ∷ us) h, cc))
+sides a b (x ∷ xs) ys [] vs e = let h : x ≡ b = cc in inr (inr (xs, ap (λ y. y ∷ xs) h, cc))
+sides a b (x ∷ xs) ys (u ∷ us) vs e =
+    let h : x ≡ u = cc in
+    let t : xs ++ a ∷ ys ≡ us ++ b ∷ vs = cc in
+    elim (sides a b xs ys us vs t) [
+      | inl same ↦ inl (rw (h, same.0) refl, same.1, same.2)
+      | inr other ↦ (elim other [
+        | inl first ↦ inr (inl (first.0, rw (h, first.1) refl, first.2))
+        | inr last ↦ inr (inr (last.0, rw (h, last.1) refl, last.2))
+      ])
+    ]
+
+-- a number that is counted once has nothing of it before
+pub ahead_is : (before : List LeafNodeId) (leaf : LeafNodeId) (after : List LeafNodeId) → count_of (before ++ leaf ∷ after) leaf.0 ≤ 1 → ahead leaf.0 (before ++ leaf ∷ after) ≡ before
+ahead_is [] leaf after once =
+    elim (eqb_tells leaf.0 leaf.0) [
+      | inl same ↦ rw same.0 refl
+      | inr other ↦ absurd (other.1 refl)
+    ]
+ahead_is (x ∷ before) leaf after once =
+    elim (eqb_tells x.0 leaf.0) [
+      | inl same ↦ absurd (twice same.0)
+      | inr other ↦ rw other.0 (ap (λ more. x ∷ more) (ahead_is before leaf after (let e = other.0 in let g = rw e at once in omega (arith, g))))
+    ]
+  where
+    itself : count_of (leaf ∷ after) leaf.0 ≡ 1 + count_of after leaf.0
+    itself =
+        elim (eqb_tells leaf.0 leaf.0) [
+          | inl same ↦ rw same.0 refl
+          | inr other ↦ absurd (other.1 refl)
+        ]
+
+    twice : eqb x.0 leaf.0 ≡ true → ⊥
+    twice e = omega (arith, rw e at once, itself, total-append (λ (l : LeafNodeId). cond (eqb l.0 leaf.0) 1 0) before (leaf ∷ after))
+
+-- two numbers of leaves that compare unequal, and two that compare equal
+pub unlike : (a b : LeafNodeId) (r : Bool) → r ≡ not (eqb a.0 b.0) → r ≡ true → a ≡ b → ⊥
+unlike a b r e t same =
+    elim (eqb_tells a.0 b.0) [
+      | inl is ↦ true≢false (sym t ∙ (e ∙ ap not is.0))
+      | inr other ↦ other.1 (ap (λ (x : LeafNodeId). x.0) same)
+    ]
+
+pub alike : (a b : LeafNodeId) (r : Bool) → r ≡ not (eqb a.0 b.0) → r ≡ false → a ≡ b
+alike a b r e f =
+    elim (eqb_tells a.0 b.0) [
+      | inl is ↦ (λ i. record { 0 = is.1 i })
+      | inr other ↦ absurd (true≢false (sym (ap not other.0) ∙ (sym e ∙ f)))
+    ]
+
+stands_le : {N : Type 0} (s : Slot N) → stands s ≤ 1
+stands_le Free = omega arith
+stands_le Held = omega arith
+stands_le (Present node) = omega arith
+
+present_of : {K V : Type 0} (s : Slot (Leaf K V)) → 0 < length (leaf_pairs s) → IsPresent s
+present_of Free h = absurd (omega arith)
+present_of Held h = absurd (omega arith)
+present_of (Present leaf) h = tt
+
+module _ {K V A : Type 0} {cmp : K → K → Ordering} (is_summary : A → List K → Type 0) (slots : Slots (Inner K A) (Leaf K V)) (h : ℕ) (root : NodeId) (shape : IsWellShaped cmp is_summary slots h root) where
+  abbrev pub size : LeafNodeId → ℕ
+  size leaf = length (leaf_pairs (slots.leaf leaf.0))
+
+  pub ahead_of : (leaf : LeafNodeId) (in' : StandsIn slots h root leaf) → ahead leaf.0 (leaves_at slots h root) ≡ in'.before
+  ahead_of leaf in' =
+      let once : count_of (leaves_at slots h root) leaf.0 ≤ 1 = omega (arith, count_leaves slots h root leaf.0, shape.leaves leaf.0, stands_le (slots.leaf leaf.0)) in
+      rw in'.leaves (ahead_is in'.before leaf in'.after (rw in'.leaves at once))
+
+  pub start_is : (leaf : LeafNodeId) (in' : StandsIn slots h root leaf) → start slots h root leaf ≡ length (pairs_of slots in'.before)
+  start_is leaf in' = ap (λ ids. length (pairs_of slots ids)) (ahead_of leaf in')
+
+  pub total_is : (leaf : LeafNodeId) (in' : StandsIn slots h root leaf) → length (pairs_at slots h root) ≡ start slots h root leaf + (size leaf + length (pairs_of slots in'.after))
+  total_is leaf in' =
+      let here = leaf_pairs (slots.leaf leaf.0) in
+      let all = ap length (parts_of slots h root leaf in') in
+      omega (arith, all, start_is leaf in', length-append (pairs_of slots in'.before) (here ++ pairs_of slots in'.after), length-append here (pairs_of slots in'.after))
+
+  pub reached : (leaf : LeafNodeId) → StandsIn slots h root leaf → start slots h root leaf + size leaf ≤ length (pairs_at slots h root)
+  reached leaf in' = omega (arith, total_is leaf in')
+
+  -- a leaf that stands before another
+  pub record ComesBefore (a b : LeafNodeId) : Type 0 where
+    pub from : start slots h root a + size a ≤ start slots h root b
+    pub first : 0 < size a
+    pub last : 0 < size b
+
+  pub comes_before : (a b : LeafNodeId) (one : StandsIn slots h root a) (other : StandsIn slots h root b) (mid : List LeafNodeId) → other.before ≡ one.before ++ a ∷ mid → one.after ≡ mid ++ b ∷ other.after → ComesBefore a b
+  comes_before a b one other mid e f =
+      let some = others_have slots cmp h root a one shape.tree in
+      let some' = others_have slots cmp h root b other shape.tree in
+      let l = subst (AllByRecursion (HasPair slots)) f some.1 in
+      let l' = subst (AllByRecursion (HasPair slots)) e some'.0 in
+      let at : length (pairs_of slots other.before) ≡ length (pairs_of slots one.before) + (size a + length (pairs_of slots mid)) =
+      rw (e, flat-append (λ (l : LeafNodeId). leaf_pairs (slots.leaf l.0)) one.before (a ∷ mid)) (omega (arith, length-append (pairs_of slots one.before) (pairs_of slots (a ∷ mid)), length-append (leaf_pairs (slots.leaf a.0)) (pairs_of slots mid))) in
+      record {
+        from = omega (arith, start_is a one, start_is b other, at);
+        first = (AllByRecursion-right (HasPair slots) one.before (a ∷ mid) l').0;
+        last = (AllByRecursion-right (HasPair slots) mid (b ∷ other.after) l).0;
+      }
+
+  -- two leaves of a tree
+  pub order : (a b : LeafNodeId) → StandsIn slots h root a → StandsIn slots h root b → (a ≡ b) ⊎ (ComesBefore a b ⊎ ComesBefore b a)
+  order a b one other =
+      elim (sides a b one.before one.after other.before other.after (sym one.leaves ∙ other.leaves)) [
+        | inl same ↦ inl same.1
+        | inr rest ↦ (elim rest [
+          | inl first ↦ inr (inl (comes_before a b one other first.0 first.1 first.2))
+          | inr last ↦ inr (inr (comes_before b a other one last.0 last.1 last.2))
+        ])
+      ]
+
+  -- the leaf that a link names
+  pub record NextLeaf (leaf next : LeafNodeId) : Type 0 where
+    pub stands' : StandsIn slots h root next
+    pub from : start slots h root next ≡ start slots h root leaf + size leaf
+    pub later : length (ahead next.0 (leaves_at slots h root)) ≡ length (ahead leaf.0 (leaves_at slots h root)) + 1
+    pub more : length (ahead next.0 (leaves_at slots h root)) < length (leaves_at slots h root)
+    pub some : 0 < size leaf
+
+  links : (leaf : LeafNodeId) (in' : StandsIn slots h root leaf) → AreLinked slots None (in'.before ++ leaf ∷ in'.after) None
+  links leaf in' = subst (λ ids. AreLinked slots None ids None) in'.leaves shape.linked
+
+  next_is : (leaf : LeafNodeId) (in' : StandsIn slots h root leaf) → leaf_next (slots.leaf leaf.0) ≡ first_or None in'.after
+  next_is leaf in' = linked_next slots None in'.before leaf in'.after None (links leaf in')
+
+  next_by : (leaf next : LeafNodeId) (in' : StandsIn slots h root leaf) (after : List LeafNodeId) → in'.after ≡ after → first_or None after ≡ Some next → NextLeaf leaf next
+  next_by leaf next in' [] e f = cc
+  next_by leaf next in' (y ∷ ys) e f =
+      let same : y ≡ next = cc in
+      let some = subst (AllByRecursion (HasPair slots)) e (others_have slots cmp h root leaf in' shape.tree).1 in
+      let in2 : StandsIn slots h root next = record {
+        before = in'.before ++ leaf ∷ [];
+        after = ys;
+        leaves = in'.leaves ∙ (rw (e, same) refl ∙ sym (append_assoc in'.before (leaf ∷ []) (next ∷ ys)));
+        present = rw (← same) (present_of (slots.leaf y.0) some.0);
+      } in
+      let before = comes_before leaf next in' in2 [] refl (e ∙ ap (λ (x : LeafNodeId). x ∷ ys) same) in
+      let at : length (pairs_of slots (in'.before ++ leaf ∷ [])) ≡ length (pairs_of slots in'.before) + size leaf =
+      rw (flat-append (λ (l : LeafNodeId). leaf_pairs (slots.leaf l.0)) in'.before (leaf ∷ [])) (omega (arith, length-append (pairs_of slots in'.before) (pairs_of slots (leaf ∷ [])), length-append (leaf_pairs (slots.leaf leaf.0)) [])) in
+      record {
+        stands' = in2;
+        from = omega (arith, start_is leaf in', start_is next in2, at);
+        later = omega (arith, ap length (ahead_of leaf in'), ap length (ahead_of next in2), length-append in'.before (leaf ∷ []));
+        more = omega (arith, ap length in2.leaves, ap length (ahead_of next in2), length-append in2.before (next ∷ ys));
+        some = before.first;
+      }
+
+  pub next_of : (leaf next : LeafNodeId) (node : Leaf K V) → StandsIn slots h root leaf → slots.leaf leaf.0 ≡ Present node → node.next ≡ Some next → NextLeaf leaf next
+  next_of leaf next node in' here e = next_by leaf next in' in'.after refl (sym (next_is leaf in') ∙ (ap leaf_next here ∙ e))
+
+  nothing_after : (after : List LeafNodeId) → first_or None after ≡ None → after ≡ []
+  nothing_after [] e = refl
+  nothing_after (y ∷ ys) e = cc
+
+  -- behind a leaf whose link names none stands nothing
+  pub last_of : (leaf : LeafNodeId) (node : Leaf K V) → StandsIn slots h root leaf → slots.leaf leaf.0 ≡ Present node → node.next ≡ None → length (pairs_at slots h root) ≡ start slots h root leaf + size leaf
+  last_of leaf node in' here e =
+      let none : in'.after ≡ [] = nothing_after in'.after (sym (next_is leaf in') ∙ (ap leaf_next here ∙ e)) in
+      let zero' : length (pairs_of slots in'.after) ≡ 0 = rw none refl in
+      omega (arith, total_is leaf in', zero')
+
+  pub size_of : (leaf : LeafNodeId) (node : Leaf K V) → slots.leaf leaf.0 ≡ Present node → size leaf ≡ length node.pairs
+  size_of leaf node here = ap (λ s. length (leaf_pairs s)) here
+
+  -- a count of the pairs between two places begins
+  pub count_begins : (front back : LeafNodeId) (from to : ℕ) → IsPlaceOn slots h root front from → IsPlaceOn slots h root back to → (start slots h root front ≤ start slots h root back) ⊎ (start slots h root back + to ≤ start slots h root front + from)
+  count_begins front back from to one other =
+      elim (order front back one.stands other.stands) [
+        | inl same ↦ inl (rw same (omega arith))
+        | inr rest ↦ (elim rest [
+          | inl first ↦ inl (omega (arith, first.from))
+          | inr last ↦ inr (omega (arith, last.from, other.within))
+        ])
+      ]
+
+  module _ (front back at : LeafNodeId) (from to passed count : ℕ) (leaf : Leaf K V) (other : IsPlaceOn slots h root back to) (place : IsPlaceOn slots h root at passed) (so_far : start slots h root at + passed ≡ (start slots h root front + from) + count)
+      (not_past : (start slots h root at ≤ start slots h root back) ⊎ (start slots h root back + to ≤ start slots h root front + from)) (here : slots.leaf at.0 ≡ Present leaf) where
+    -- it has come to the last leaf, and that is another
+    pub count_misses : leaf.next ≡ None → (at ≡ back → ⊥) → 0 ≡ (start slots h root back + to) - (start slots h root front + from)
+    count_misses none apart =
+        let all = last_of at leaf place.stands here none in
+        elim not_past [
+          | inl up ↦ (elim (order at back place.stands other.stands) [
+            | inl same ↦ absurd (apart same)
+            | inr rest ↦ (elim rest [
+              | inl first ↦ absurd (omega (arith, first.from, first.last, all, reached back other.stands))
+              | inr last ↦ absurd (omega (arith, last.from, last.first, up))
+            ])
+          ])
+          | inr past ↦ omega (arith, past)
+        ]
+
+    -- it goes on to the next leaf
+    pub count_goes_on : (next : LeafNodeId) → leaf.next ≡ Some next → (at ≡ back → ⊥) → (start slots h root next ≤ start slots h root back) ⊎ (start slots h root back + to ≤ start slots h root front + from)
+    count_goes_on next is apart =
+        let n = next_of at next leaf place.stands here is in
+        elim not_past [
+          | inl up ↦ (elim (order at back place.stands other.stands) [
+            | inl same ↦ absurd (apart same)
+            | inr rest ↦ (elim rest [
+              | inl first ↦ inl (omega (arith, first.from, n.from))
+              | inr last ↦ absurd (omega (arith, last.from, last.first, up))
+            ])
+          ])
+          | inr past ↦ inr past
+        ]
+
+    pub count_more : (next : LeafNodeId) → leaf.next ≡ Some next → start slots h root next + 0 ≡ (start slots h root front + from) + (count + (length leaf.pairs - passed))
+    count_more next is =
+        let n = next_of at next leaf place.stands here is in
+        omega (arith, n.from, so_far, place.within, size_of at leaf here)
+
+    pub count_fits : count + (length leaf.pairs - passed) ≤ length (pairs_at slots h root)
+    count_fits = omega (arith, so_far, place.within, size_of at leaf here, reached at place.stands)
+
+  -- it is at its end
+  pub count_ends : (front back at : LeafNodeId) (from to passed count rest : ℕ) → IsPlaceOn slots h root back to → IsPlaceOn slots h root at passed → start slots h root at + passed ≡ (start slots h root front + from) + count → (0 < count → passed ≡ 0) → at ≡ back → rest ≡ to - passed
+      → (count + rest ≤ length (pairs_at slots h root)) × (count + rest ≡ (start slots h root back + to) - (start slots h root front + from))
+  count_ends front back at from to passed count rest other place so_far fresh same is =
+      by_count count refl
+    where
+      by_count : (n : ℕ) → n ≡ count → (count + rest ≤ length (pairs_at slots h root)) × (count + rest ≡ (start slots h root back + to) - (start slots h root front + from))
+      by_count zero e =
+          let one : start slots h root at ≡ start slots h root back = ap (start slots h root) same in
+          (omega (arith, one, reached back other.stands, other.within, so_far, is, e), omega (arith, one, so_far, is, e))
+      by_count (suc n) e =
+          let one : start slots h root at ≡ start slots h root back = ap (start slots h root) same in
+          let none = fresh (omega (arith, e)) in
+          (omega (arith, one, reached back other.stands, other.within, so_far, is, none), omega (arith, one, so_far, is, none))
+
+  -- the first place of all, and the one behind the last pair
+  pub first_place : (leaf : LeafNodeId) → IsFirstLeaf slots h root leaf → IsPlaceOn slots h root leaf 0 × (start slots h root leaf + 0 ≡ 0)
+  first_place leaf first =
+      let none : length (pairs_of slots first.stands.before) ≡ 0 = rw first.first refl in
+      (record { stands = first.stands; within = omega arith }, omega (arith, start_is leaf first.stands, none))
+
+  pub last_place : (leaf : LeafNodeId) (node : Leaf K V) → IsLastLeaf slots h root leaf → slots.leaf leaf.0 ≡ Present node → IsPlaceOn slots h root leaf (length node.pairs) × (start slots h root leaf + length node.pairs ≡ length (pairs_at slots h root))
+  last_place leaf node last here =
+      let none : length (pairs_of slots last.stands.after) ≡ 0 = rw last.last refl in
+      (record { stands = last.stands; within = omega (arith, size_of leaf node here) }, omega (arith, total_is leaf last.stands, none, size_of leaf node here))
+
+  -- the place behind the smaller keys
+  pub key_place : (total : IsTotalOrder cmp) (k : K) (id : LeafNodeId) (leaf : Leaf K V) (place : Result ℕ ℕ) → IsLeafFor cmp slots h root k id → slots.leaf id.0 ≡ Present leaf → (IsAscending cmp leaf.pairs → IsPlaceOf cmp leaf.pairs k place) → length leaf.pairs ≤ 64
+      → IsPlaceOn slots h root id (place_of place) × (start slots h root id + place_of place ≡ length (pairs_below cmp (pairs_at slots h root) k))
+  key_place total k id leaf place for' here found fits =
+      let at = found_at total is_summary slots h root shape k id leaf place for' here found fits in
+      let in' = for'.stands in
+      let ascending = leaf_ascends total slots h root id leaf in' (tree_ascends total slots (root_least h) h root None None shape.tree) here in
+      let within = place_within cmp total leaf.pairs ascending k place at.place_is in
+      let around : pairs_below cmp (pairs_at slots h root) k ≡ pairs_of slots in'.before ++ take (place_of place) leaf.pairs =
+      ap (λ l. pairs_below cmp l k) (parts_of_read slots h root id in' leaf here)
+      ∙ (pairs_below_around cmp k (pairs_of slots in'.before) leaf.pairs (pairs_of slots in'.after) for'.smaller for'.greater
+      ∙ ap (λ l. pairs_of slots in'.before ++ l) (below_upto cmp total leaf.pairs ascending k place at.place_is)) in (
+        record { stands = in'; within = omega (arith, within, size_of id leaf here) },
+        omega (arith, start_is id in', ap length around, length-append (pairs_of slots in'.before) (take (place_of place) leaf.pairs), length-take-le (place_of place) leaf.pairs within),
+      )
+
+  pub contents_ascend : IsTotalOrder cmp → IsAscending cmp (pairs_at slots h root)
+  contents_ascend total = tree_ascends total slots (root_least h) h root None None shape.tree
+
+  -- the place that a query selects
+  pub selected_place : {Q : Type 0} (selects : Q → List K → Option ℕ → Type 0) (query : Q) (leaf : LeafNodeId) (slot : ℕ) → IsSelectedAt selects query slots h root (Some (leaf, slot))
+      → IsPlaceOn slots h root leaf slot × selects query (keys_of (pairs_at slots h root)) (Some (start slots h root leaf + slot))
+  selected_place selects query leaf slot (in', short, selected) = (
+    record { stands = in'; within = omega (arith, short) },
+    subst (λ (n : ℕ). selects query (keys_of (pairs_at slots h root)) (Some (n + slot))) (sym (start_is leaf in')) selected,
+  )
+
+-- a part that asks for more than there is
+pub part_cut : {X : Type 0} (l : List X) (i n m : ℕ) → m ≡ min n (length l - i) → part l i n ≡ part l i m
+part_cut l i n m e = sym (take_min n (drop i l)) ∙ ap (λ k. take k (drop i l)) (ap (min n) (length-drop i l) ∙ sym e)
+
+-- the first of the first, of two numbers the less
+take_of_take : {X : Type 0} (n k : ℕ) (l : List X) → take n (take k l) ≡ take (min n k) l
+take_of_take zero k l = let on : min zero k ≡ zero = omega arith in sym (ap (λ j. take j l) on)
+take_of_take (suc n) zero l = let on : min (suc n) zero ≡ zero = omega arith in sym (ap (λ j. take j l) on)
+take_of_take (suc n) (suc k) [] = sym (take-nil (min (suc n) (suc k)))
+take_of_take (suc n) (suc k) (x ∷ xs) =
+    let on : min (suc n) (suc k) ≡ suc (min n k) = omega arith in
+    ap (λ ys. x ∷ ys) (take_of_take n k xs) ∙ sym (ap (λ j. take j (x ∷ xs)) on)
+
+-- a part of a part
+pub part_of_part : {X : Type 0} (l : List X) (s m i n : ℕ) → i < m → part (part l s m) i n ≡ part l (s + i) (min n (m - i))
+part_of_part l s m i n more =
+    let on : m ≡ i + (m - i) = omega (arith, more) in
+    ap (λ k. take n (drop i (take k (drop s l)))) on ∙ ap (take n) (drop-take i (m - i) (drop s l)) ∙ take_of_take n (m - i) (drop i (drop s l)) ∙ ap (take (min n (m - i))) (drop-drop i s l)
+
+-- a part behind all of a part
+pub part_behind : {X : Type 0} (l : List X) (s m i n : ℕ) → m ≤ i → part (part l s m) i n ≡ []
+part_behind l s m i n less = ap (take n) (drop_all i (take m (drop s l)) (omega (arith, length-take m (drop s l), less))) ∙ take-nil n

@@ -1,0 +1,101 @@
+//! The pairs of one group of keys, in a tree that stands in a store.
+ghost use Rattle.std.specs.Prelude.{◌≡◌, ◌+◌, ◌<◌, ◌^◌, IfOk, filter, length};
+ghost use Rattle.bptree_arguments.specs.GroupAnswers.{is_before};
+ghost use Rattle.bptree_arguments.specs.Groups.{of_group};
+ghost use Rattle.bptree_keys.specs.Ranges.{part};
+ghost use Rattle.bptree_shape.specs.Leaves.{Stands, IsBorderLeaf};
+ghost use Rattle.bptree_ranges.specs.Ranges.{start, IsPart, IsPlaceOn};
+ghost use Rattle.bptree_shape.specs.Shape.{pairs_at, IsWellShaped};
+
+use crate::ranges::{Part, part_from, part_of_places, place_after};
+use bptree_arguments::group::FromRef;
+use bptree_arguments::group_order::keys_before;
+use bptree_keys::key::Key;
+use bptree_keys::node_id::{LeafNodeId, NodeId};
+use bptree_stores::node_stores::NodeStore;
+use std::alloc::AllocError;
+
+/// The pairs whose key's group equals the group.
+///
+/// Two descents, for where the group begins and where it ends, which make the groups of at most 7 keys or separators of each
+/// node; then a step for each leaf of the group. It fails only where one of these groups does.
+pub fn part_of_group<S: NodeStore, G: FromRef<S::K> + Key>(
+    store: &S,
+    root: NodeId,
+    height: usize,
+    group: &G,
+) -> Result<Part, AllocError>
+    requires shape { IsWellShaped S.K.cmp S.Argument.is_summary (S.slots store.now) height root }
+    requires fits { length (pairs_at (S.slots store.now) height root) < 2 ^ 64 }
+    ensures { IfOk result (λ found. IsPart (S.slots store.now) height root found (of_group G.cmp G.group_of group.now (pairs_at (S.slots store.now) height root))) }
+{
+    let (front, from) = place_of_group(store, root, height, group, false)?;
+    let (back, to) = place_of_group(store, root, height, group, true)?;
+    Ok(part_of_places(store, root, height, front, from, back, to))
+}
+
+/// So many pairs of a group, or all where there are fewer, without its first `i`.
+///
+/// The same as `part_of_group`, and then a step for each leaf of the group up to the last of the pairs.
+pub fn part_within_group<S: NodeStore, G: FromRef<S::K> + Key>(
+    store: &S,
+    root: NodeId,
+    height: usize,
+    group: &G,
+    i: usize,
+    n: usize,
+) -> Result<Part, AllocError>
+    requires shape { IsWellShaped S.K.cmp S.Argument.is_summary (S.slots store.now) height root }
+    requires fits { length (pairs_at (S.slots store.now) height root) < 2 ^ 64 }
+    ensures { IfOk result (λ found. IsPart (S.slots store.now) height root found (part (of_group G.cmp G.group_of group.now (pairs_at (S.slots store.now) height root)) i n)) }
+{
+    let whole = part_of_group(store, root, height, group)?;
+    if whole.len <= i {
+        return Ok(Part {
+            back: whole.front,
+            to: whole.from,
+            len: 0,
+            ..whole
+        });
+    }
+    let (front, from, _) = place_after(store, root, height, whole.front, whole.from, i);
+    Ok(part_from(store, root, height, front, from, n.min(whole.len - i)))
+}
+
+// Where a group ends, or else where it begins.
+fn place_of_group<S: NodeStore, G: FromRef<S::K> + Key>(
+    store: &S,
+    root: NodeId,
+    height: usize,
+    group: &G,
+    end: bool,
+) -> Result<(LeafNodeId, usize), AllocError>
+    requires { IsWellShaped S.K.cmp S.Argument.is_summary (S.slots store.now) height root }
+    ensures { IfOk result (λ at. IsPlaceOn (S.slots store.now) height root at.0 at.1 × (start (S.slots store.now) height root at.0 + at.1 ≡ length (filter (λ pair. is_before end (G.cmp (G.group_of pair.0) group.now)) (pairs_at (S.slots store.now) height root)))) }
+{
+    let leaf = leaf_of_group(store, root, height, group, end)?;
+    let offset = keys_before(store.get_leaf(leaf).keys(), group, end)?;
+    Ok((leaf, offset))
+}
+
+// The leaf in which a group ends, or else in which it begins.
+fn leaf_of_group<S: NodeStore, G: FromRef<S::K> + Key>(
+    store: &S,
+    id: NodeId,
+    height: usize,
+    group: &G,
+    end: bool,
+) -> Result<LeafNodeId, AllocError>
+    requires { Stands S.K.cmp (S.slots store.now) height id }
+    ensures { IfOk result (IsBorderLeaf (S.slots store.now) (λ k. is_before end (G.cmp (G.group_of k) group.now)) height id) }
+{
+    match id {
+        NodeId::Leaf(leaf) => Ok(leaf),
+        NodeId::Inner(inner) => {
+            let node = store.get_inner(inner);
+            let place = keys_before(node.keys(), group, end)?;
+            let child = node.child_id(place);
+            leaf_of_group(store, child, height - 1, group, end)
+        }
+    }
+}

@@ -1,0 +1,230 @@
+//! The scenarios: what each makes and calls.
+
+/// A call, with what it is to be answered.
+#[derive(Clone, Copy)]
+pub enum Call {
+    /// Puts a value at the key of a number, where the other value stands or none.
+    Put(u64, u64, Option<u64>),
+    /// Removes the pair at the key of a number, where that value stands or none.
+    Remove(u64, Option<u64>),
+    /// The same at the key of a number where that number stands, while the height is 2.
+    Lower(u64),
+    /// Removes all pairs.
+    Clear,
+    /// Tells the height.
+    Height(usize),
+    /// Of the calls that its kind alone has, the one of a turn.
+    Own(u64),
+}
+
+/// How a scenario goes.
+#[derive(Clone, Copy)]
+pub struct Plan {
+    letter: u8,
+    pub name: &'static str,
+    /// How many pairs or keys it begins with.
+    pub many: u64,
+    /// The turn from which on requests are refused; none where they are from the beginning on, where all is made.
+    pub begins: Option<u64>,
+    /// How many pairs or keys it ends with, at least.
+    pub least: usize,
+    /// The same at most.
+    pub most: usize,
+}
+
+/// How many lists of commands there are.
+pub const LISTS: u64 = 400;
+
+/// No scenario has as many turns.
+pub const TURNS: u64 = 4200;
+
+// 64 pairs are put into a leaf, which then is split, and its tree is used.
+fn full_leaf(turn: u64) -> Option<Call> {
+    match turn {
+        0..=63 => Some(Call::Put(turn, turn, None)),
+        64 => Some(Call::Height(0)),
+        65 => Some(Call::Put(64, 7, None)),
+        66 => Some(Call::Height(1)),
+        67 => Some(Call::Put(5, 9, Some(5))),
+        68 => Some(Call::Remove(99, None)),
+        _ => None,
+    }
+}
+
+// 65 full leaves stand below a full root: the last leaf and the root are split.
+fn full_root(turn: u64) -> Option<Call> {
+    match turn {
+        0 => Some(Call::Height(1)),
+        1 => Some(Call::Put(4160, 0, None)),
+        2 => Some(Call::Height(2)),
+        _ => None,
+    }
+}
+
+// 65 pairs are put, the half of them is removed, and of a set at last all.
+fn halved(turn: u64, is_cleared: bool) -> Option<Call> {
+    match turn {
+        0..=64 => Some(Call::Put(turn, turn, None)),
+        65..=97 => Some(removed(turn.saturating_sub(49))),
+        98 if is_cleared => Some(Call::Clear),
+        _ => None,
+    }
+}
+
+fn removed(number: u64) -> Call {
+    Call::Remove(number, Some(number))
+}
+
+// The first so many calls of its own.
+fn own(turn: u64, many: u64) -> Option<Call> {
+    if turn < many {
+        Some(Call::Own(turn))
+    } else {
+        None
+    }
+}
+
+// The height alone, in the turn after so many others.
+fn high(turn: u64, after: u64, height: usize) -> Option<Call> {
+    if turn == after {
+        Some(Call::Height(height))
+    } else {
+        None
+    }
+}
+
+impl Plan {
+    /// The call of a turn, or none where there is no more.
+    pub fn call_at(&self, turn: u64) -> Option<Call> {
+        match self.letter {
+            b'a' => full_leaf(turn),
+            b'b' => full_root(turn),
+            // The last pair is removed, again and again.
+            b'c' if turn < 65 => Some(removed(64u64.saturating_sub(turn))),
+            b'c' => high(turn, 65, 0),
+            // More pairs are put behind the last, till the last leaf is split.
+            b'd' if turn < 35 => Some(Call::Put(turn.saturating_add(4161), turn, None)),
+            b'd' => high(turn, 35, 2),
+            // The last pair is removed, till the height falls.
+            b'e' | b'f' if turn < 4161 => Some(Call::Lower(4160u64.saturating_sub(turn))),
+            b'e' | b'f' => high(turn, 4161, 1),
+            b'g' => high(turn, 0, 2),
+            b'h' => high(turn, 0, 1),
+            b'i' if turn == 0 => Some(Call::Clear),
+            b'i' => high(turn, 1, 0),
+            b'j' => own(turn, 2),
+            b'k' => own(turn, LISTS),
+            b'l' => own(turn, 6),
+            b'm' => own(turn, 24),
+            b'o' => halved(turn, false),
+            b'u' => halved(turn, true),
+            b's' if turn < 2 => Some(Call::Own(turn.saturating_add(2))),
+            b'v' | b'x' => own(turn, 4),
+            _ => None,
+        }
+    }
+}
+
+// The names of the scenarios on numbers: that of a letter, small, stands at its place.
+const NUMBER_NAMES: [&str; 24] = [
+    "numbers, full leaf",
+    "numbers, full root",
+    "numbers, emptied",
+    "numbers, upward",
+    "numbers, downward, without memory",
+    "numbers, downward near the end, without memory",
+    "numbers, loaded",
+    "numbers, few loaded",
+    "numbers, cleared",
+    "numbers, walked, without memory",
+    "numbers, commands",
+    "numbers, read, without memory",
+    "numbers, store",
+    "numbers, map of items, with a hint",
+    "numbers, map",
+    "numbers, store with room",
+    "leaves of numbers",
+    "inner nodes of numbers",
+    "numbers, clones",
+    "set of numbers, of items",
+    "set of numbers",
+    "sets of numbers, read, without memory",
+    "inner node of vectors in turn",
+    "groups, asked",
+];
+
+// The same on groups, whose letters are capital.
+const GROUP_NAMES: [&str; 24] = [
+    "groups, full leaf",
+    "groups, full root",
+    "groups, emptied",
+    "groups, upward",
+    "groups, downward",
+    "groups, downward near the end",
+    "groups, loaded",
+    "groups, few loaded",
+    "groups, cleared",
+    "groups, walked",
+    "groups, commands",
+    "groups, read, without memory",
+    "groups, store",
+    "groups, map of items, with a hint",
+    "groups, map",
+    "groups, store with room",
+    "leaves of pairs",
+    "inner nodes of pairs",
+    "pairs, clones",
+    "set of pairs, of items",
+    "set of pairs",
+    "sets of pairs, read, without memory",
+    "inner node of vectors in turn",
+    "groups, asked",
+];
+
+// Of each letter how many pairs or keys there are at first, the turn from which on requests are refused, and how many there are
+// at the end, at least and at most.
+const ROWS: [(u64, Option<u64>, usize, usize); 24] = [
+    (0, None, 65, 65),
+    (4160, Some(0), 4161, 4161),
+    (65, None, 0, 0),
+    (4161, Some(30), 4196, 4196),
+    (4161, Some(1), 65, 4159),
+    (4161, Some(1961), 65, 2199),
+    (4161, None, 4161, 4161),
+    (400, None, 400, 400),
+    (300, Some(0), 0, 0),
+    (200, Some(0), 200, 200),
+    (0, Some(0), 1, 399),
+    (200, Some(0), 200, 200),
+    (0, Some(0), 0, 0),
+    (200, None, 100, 100),
+    (0, None, 32, 32),
+    (8, None, 0, 0),
+    (0, None, 0, 0),
+    (0, None, 0, 0),
+    (200, Some(0), 200, 200),
+    (200, None, 100, 100),
+    (0, None, 0, 0),
+    (100, Some(0), 100, 100),
+    (0, None, 0, 0),
+    (400, Some(0), 400, 400),
+];
+
+/// The plan of a letter, as it is called on groups or on numbers.
+pub fn plan_of(letter: u8, on_groups: bool) -> Option<Plan> {
+    let place = letter.checked_sub(b'a')? as usize;
+    let names = if on_groups {
+        &GROUP_NAMES
+    } else {
+        &NUMBER_NAMES
+    };
+    let (many, begins, least, most) = *ROWS.get(place)?;
+    Some(Plan {
+        letter,
+        name: *names.get(place)?,
+        many,
+        begins,
+        least,
+        most,
+    })
+}

@@ -1,0 +1,25 @@
+-- The text of all pairs, pair by pair.
+use Rattle.std.proofs.Common.{◌≡◌, ℕ, zero, suc, List, [], ◌∷◌, ◌++◌, map, Bool, true, false, refl, sym, ap, append-nil}
+use Rattle.std.specs.List.{join_with_byte}
+use Rattle.bptree_pages.specs.Pages.{page}
+use Rattle.bptree_script.specs.Answers.{pair_text, item_text, pairs_text, page_text}
+
+-- the pairs that are left of a list
+abbrev pub items_text : Bool → List (ℕ × ℕ) → List ℕ
+items_text is_first [] = []
+items_text is_first (pair ∷ pairs) = item_text is_first pair ++ items_text false pairs
+
+-- a pair after the first, and those after it
+joined_items : (pair : ℕ × ℕ) (pairs : List (ℕ × ℕ)) → pair_text pair ++ items_text false pairs ≡ join_with_byte 44 (map pair_text (pair ∷ pairs))
+joined_items pair [] = append-nil (pair_text pair)
+joined_items pair (next ∷ pairs) = ap (λ t. pair_text pair ++ (44 ∷ t)) (joined_items next pairs)
+
+-- pairs, where there are some
+pub items_text-is : (pairs : List (ℕ × ℕ)) → (pairs ≡ [] → ⊥) → items_text true pairs ≡ pairs_text pairs
+items_text-is [] some = absurd (some refl)
+items_text-is (pair ∷ pairs) some = joined_items pair pairs
+
+-- a page of some pairs
+pub page_text-is : (pairs found : List (ℕ × ℕ)) (p s : ℕ) → (s ≡ 0 → ⊥) → found ≡ page pairs p s → page_text pairs p s ≡ pairs_text found
+page_text-is pairs found p zero some is = absurd (some refl)
+page_text-is pairs found p (suc s) some is = ap pairs_text (sym is)

@@ -1,0 +1,121 @@
+-- What is answered to lines.
+use Rattle.std.specs.Prelude.{ℕ, zero, suc, ◌-◌, ◌^◌, ◌==◌, ◌&&◌, not, List, [], ◌∷◌, ◌++◌, length, map, Bool, true, false, if◌then◌else◌, Option, Some, None, codes, decimal, reverse, slice_get}
+use Rattle.std.specs.List.{join_with_byte}
+use Rattle.std.specs.Map.{keys_of}
+use Rattle.std.specs.Ordering.{nat_cmp}
+use Rattle.bptree_arguments.specs.CountLaws.{count_below}
+use Rattle.bptree_keys.specs.Contents.{has, value, put, del, next, previous}
+use Rattle.bptree_keys.specs.Ranges.{between}
+use Rattle.bptree_pages.specs.Pages.{page}
+use Rattle.bptree_requests.specs.Request.{request_of}
+use Rattle.bptree_requests.specs.declared.Request.{Request}
+use Rattle.bptree_requests.specs.declared.Request.TheVariants.{Put, Del, Get, Len, All, First, Last, At, Rank, Next, Prev, Back, Clear, Range, Page}
+use Rattle.bptree_script.specs.Lines.{lines_of}
+
+abbrev pub value_text : Option ℕ → List ℕ
+value_text None = codes "none"
+value_text (Some found) = decimal found
+
+abbrev pub old_text : Option ℕ → List ℕ
+old_text None = codes "new"
+old_text (Some old) = codes "old " ++ decimal old
+
+abbrev pub gone_text : Option ℕ → List ℕ
+gone_text None = codes "none"
+gone_text (Some gone) = codes "gone " ++ decimal gone
+
+-- the key is absent, and no number counts one pair more
+abbrev pub has_no_place : List (ℕ × ℕ) → ℕ → Bool
+has_no_place pairs key = (length pairs == 2 ^ 64 - 1) && not (has nat_cmp pairs key)
+
+abbrev pub put_text : List (ℕ × ℕ) → ℕ → List ℕ
+put_text pairs key = if has_no_place pairs key then codes "full" else old_text (value nat_cmp pairs key)
+
+abbrev pub pairs_with_put : List (ℕ × ℕ) → ℕ → ℕ → List (ℕ × ℕ)
+pairs_with_put pairs key new = if has_no_place pairs key then pairs else put nat_cmp pairs key new
+
+abbrev pub pair_text : ℕ × ℕ → List ℕ
+pair_text pair = decimal pair.0 ++ 32 ∷ decimal pair.1
+
+-- one pair, where there is one
+abbrev pub found_text : Option (ℕ × ℕ) → List ℕ
+found_text None = codes "none"
+found_text (Some pair) = pair_text pair
+
+-- whether the key is there, and how many keys are smaller
+abbrev pub rank_text : Bool → ℕ → List ℕ
+rank_text true smaller = codes "in " ++ decimal smaller
+rank_text false smaller = codes "out " ++ decimal smaller
+
+-- all pairs, with a comma between two
+abbrev pub pairs_text : List (ℕ × ℕ) → List ℕ
+pairs_text [] = codes "empty"
+pairs_text (pair ∷ pairs) = join_with_byte 44 (map pair_text (pair ∷ pairs))
+
+-- the pairs of page p of s pairs; no page has none
+abbrev pub page_text : List (ℕ × ℕ) → ℕ → ℕ → List ℕ
+page_text pairs p zero = codes "bad"
+page_text pairs p (suc s) = pairs_text (page pairs p (suc s))
+
+-- a pair in that text: it has a comma before it where it is not the first
+abbrev pub item_text : Bool → ℕ × ℕ → List ℕ
+item_text true pair = pair_text pair
+item_text false pair = 44 ∷ pair_text pair
+
+-- the answer to a line that was read so
+abbrev pub reply_to : List (ℕ × ℕ) → Option Request → List ℕ
+reply_to pairs None = codes "bad"
+reply_to pairs (Some (Put key new)) = put_text pairs key
+reply_to pairs (Some (Del key)) = gone_text (value nat_cmp pairs key)
+reply_to pairs (Some (Get key)) = value_text (value nat_cmp pairs key)
+reply_to pairs (Some Len) = decimal (length pairs)
+reply_to pairs (Some All) = pairs_text pairs
+reply_to pairs (Some First) = found_text (slice_get pairs 0)
+reply_to pairs (Some Last) = found_text (slice_get pairs (length pairs - 1))
+reply_to pairs (Some (At i)) = found_text (slice_get pairs i)
+reply_to pairs (Some (Rank key)) = rank_text (has nat_cmp pairs key) (count_below nat_cmp key (keys_of pairs))
+reply_to pairs (Some (Next key)) = found_text (next nat_cmp pairs key)
+reply_to pairs (Some (Prev key)) = found_text (previous nat_cmp pairs key)
+reply_to pairs (Some Back) = pairs_text (reverse pairs)
+reply_to pairs (Some Clear) = codes "cleared"
+reply_to pairs (Some (Range lo hi)) = pairs_text (between nat_cmp pairs (Some lo) (Some hi))
+reply_to pairs (Some (Page p s)) = page_text pairs p s
+
+-- the pairs after it
+abbrev pub pairs_with : List (ℕ × ℕ) → Option Request → List (ℕ × ℕ)
+pairs_with pairs None = pairs
+pairs_with pairs (Some (Put key new)) = pairs_with_put pairs key new
+pairs_with pairs (Some (Del key)) = del nat_cmp pairs key
+pairs_with pairs (Some (Get key)) = pairs
+pairs_with pairs (Some Len) = pairs
+pairs_with pairs (Some All) = pairs
+pairs_with pairs (Some First) = pairs
+pairs_with pairs (Some Last) = pairs
+pairs_with pairs (Some (At i)) = pairs
+pairs_with pairs (Some (Rank key)) = pairs
+pairs_with pairs (Some (Next key)) = pairs
+pairs_with pairs (Some (Prev key)) = pairs
+pairs_with pairs (Some Back) = pairs
+pairs_with pairs (Some Clear) = []
+pairs_with pairs (Some (Range lo hi)) = pairs
+pairs_with pairs (Some (Page p s)) = pairs
+
+-- the answer to a line, and the pairs after it
+unfoldable pub answer : List (ℕ × ℕ) → List ℕ → List ℕ
+answer pairs line = reply_to pairs (request_of line) ++ 10 ∷ []
+
+unfoldable pub pairs_after : List (ℕ × ℕ) → List ℕ → List (ℕ × ℕ)
+pairs_after pairs line = pairs_with pairs (request_of line)
+
+-- the answers to lines, and the pairs after them
+abbrev pub answers : List (ℕ × ℕ) → List (List ℕ) → List ℕ
+answers pairs [] = []
+answers pairs (line ∷ lines) = answer pairs line ++ answers (pairs_after pairs line) lines
+
+abbrev pub pairs_after_all : List (ℕ × ℕ) → List (List ℕ) → List (ℕ × ℕ)
+pairs_after_all pairs [] = pairs
+pairs_after_all pairs (line ∷ lines) = pairs_after_all (pairs_after pairs line) lines
+
+-- what is answered to a whole input
+abbrev pub text : List ℕ → List ℕ
+text input = answers [] (lines_of input)

@@ -1,0 +1,7 @@
+pub mod Answers
+pub mod Clipped
+pub mod Ends
+pub mod Faults
+pub mod Lines
+pub mod Sent
+pub mod Steps

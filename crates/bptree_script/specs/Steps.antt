@@ -1,0 +1,140 @@
+-- What commands on a tree reply and change, by the list of its pairs and the keys of the cursors that are held.
+use Rattle.std.specs.Prelude.{◌≡◌, ◌^◌, ◌-◌, ◌≤◌, ℕ, true, false, Bool, List, [], ◌∷◌, ◌++◌, length, Option, Some, None, MatchResult, is_ok, slice_get, slice_set}
+use Rattle.std.specs.declared.cmp.Ordering.{Ordering}
+use Rattle.std.specs.declared.cmp.Ordering.TheVariants.{Equal}
+use Rattle.std.specs.List.{AllZip}
+use Rattle.std.specs.Map.{keys_of}
+use Rattle.bptree_arguments.specs.Selection.{IsPlaceIn}
+use Rattle.bptree_keys.specs.Contents.{has, value, put, del, next, previous}
+use Rattle.bptree_keys.specs.Ranges.{between}
+use Rattle.bptree_nodes.specs.Leaf.{set_value_at}
+use Rattle.bptree_shape.specs.ByArgument.{IsPartSelected, IsSelected, IsTaken}
+use Rattle.bptree_insertion.specs.Lending.{written}
+use Rattle.bptree_tree.specs.declared.InsertError as insert_error
+use Rattle.bptree_tree.specs.declared.InsertError.TheVariants as refusal
+use Rattle.bptree_script.specs.declared.commands.Command.{Command}
+use Rattle.bptree_script.specs.declared.commands.Command.TheVariants.{Insert, Remove, RemoveAt, Clear, Get, Set, SetAt, First, Last, Len, At, Rank as RankOf, Cursor, CursorFirst, CursorLast, Next, Prev, Exists, Value as ValueOf, Walk, Range, RangeAt}
+use Rattle.bptree_script.specs.declared.commands.Reply.{Reply}
+use Rattle.bptree_script.specs.declared.commands.Reply.TheVariants.{Value, Pair, Number, Done, Rank, Held, Walked, NoCursor, OutOfMemory, Full}
+use Rattle.bptree_script.specs.Ends.{walked}
+
+-- the reply to a refused insertion
+abbrev pub reply_to_refusal : {K V R : Type 0} → insert_error.InsertError K V → Reply K V R
+reply_to_refusal (refusal.OutOfMemory k v) = OutOfMemory
+reply_to_refusal (refusal.Full k v) = Full
+
+module _ {K V : Type 0} (cmp : K → K → Ordering) where
+  -- the reply has the pair's value and a key that equals its key
+  abbrev pub IsCopyOf : Option (K × V) → Option (K × V) → Type 0
+  IsCopyOf None None = Unit {0}
+  IsCopyOf (Some p) (Some q) = (cmp p.0 q.0 ≡ Equal) × (q.1 ≡ p.1)
+  IsCopyOf p q = ⊥
+
+  -- the reply has a copy of the pair, or its key could not be cloned
+  abbrev pub RepliesCopy : {R : Type 0} → Option (K × V) → Reply K V R → Type 0
+  RepliesCopy pair (Pair copy) = IsCopyOf pair copy
+  RepliesCopy pair OutOfMemory = Unit {0}
+  RepliesCopy pair reply = ⊥
+
+  -- the list has the greatest length, and the key would make it longer
+  abbrev pub HasNoRoomFor : List (K × V) → K → Type 0
+  HasNoRoomFor l k = (length l ≡ 2 ^ 64 - 1) × (has cmp l k ≡ false)
+
+-- a cursor with this key joins the held ones, and its number is told with a value; or there is no memory for it
+abbrev pub JoinsOrStays : {K V R : Type 0} → K → Option V → List K → Reply K V R → List K → Type 0
+JoinsOrStays key told held (Held n found) held_after = (n ≡ length held) × (found ≡ told) × (held_after ≡ held ++ key ∷ [])
+JoinsOrStays key told held OutOfMemory held_after = held_after ≡ held
+JoinsOrStays key told held reply held_after = ⊥
+
+-- the reply where a cursor of that number is held, by the key of that cursor; else that none is
+abbrev pub ForHeld : {K V R : Type 0} → List K → ℕ → Reply K V R → List K → (K → Type 0) → Type 0
+ForHeld held n NoCursor held_after P = (length held ≤ n) × (held_after ≡ held)
+ForHeld {K} held n reply held_after P = (k : K) × (slice_get held n ≡ Some k) × P k
+
+-- a key that equals k joins the held ones at their end
+abbrev pub Joins : {K : Type 0} → (K → K → Ordering) → List K → K → List K → Type 0
+Joins {K} cmp held k held_after = (key : K) × (cmp key k ≡ Equal) × (held_after ≡ held ++ key ∷ [])
+
+module _ {K V : Type 0} (cmp : K → K → Ordering) where
+  -- a cursor at a pair joins the held ones, and its number is told with the pair's value
+  abbrev pub HoldsPair : Option (K × V) → List K → ℕ → Option V → List K → Type 0
+  HoldsPair None held n told held_after = ⊥
+  HoldsPair (Some pair) held n told held_after = (n ≡ length held) × (told ≡ Some pair.1) × Joins cmp held pair.0 held_after
+
+  -- a cursor at the pair of an end is held, or there is none to be held
+  abbrev pub EndStep : {R : Type 0} → Option (K × V) → List K → Reply K V R → List K → Type 0
+  EndStep pair held (Held n told) held_after = HoldsPair pair held n told held_after
+  EndStep pair held (Pair None) held_after = (pair ≡ None) × (held_after ≡ held)
+  EndStep pair held OutOfMemory held_after = held_after ≡ held
+  EndStep pair held reply held_after = ⊥
+
+  -- cursor n moves to a pair, which is copied
+  abbrev pub MovesTo : Option (K × V) → List K → ℕ → K × V → List K → Type 0
+  MovesTo None held n copy held_after = ⊥
+  MovesTo (Some pair) held n copy held_after = (cmp pair.0 copy.0 ≡ Equal) × (copy.1 ≡ pair.1) × (key : K) × (cmp key pair.0 ≡ Equal) × (held_after ≡ slice_set held n key)
+
+  -- A step of a cursor, where there is a neighbour or none: the cursor moves there and the neighbour is copied; else it
+  -- stays, and is refused only where there is a neighbour.
+  abbrev pub NeighbourStep : {R : Type 0} → Option (K × V) → List K → ℕ → Reply K V R → List K → Type 0
+  NeighbourStep neighbour held n (Pair (Some copy)) held_after = MovesTo neighbour held n copy held_after
+  NeighbourStep neighbour held n (Pair None) held_after = (neighbour ≡ None) × (held_after ≡ held)
+  NeighbourStep neighbour held n OutOfMemory held_after = ((neighbour ≡ None) → ⊥) × (held_after ≡ held)
+  NeighbourStep neighbour held n reply held_after = ⊥
+
+module _ {K V Q R : Type 0} (cmp : K → K → Ordering) (selects : Q → List K → Option ℕ → Type 0) (ranks : K → List K → R → Type 0) where
+  -- From old, a command that needs no cursor may be given this reply, and leaves new.
+  abbrev pub TreeStep : List (K × V) → Command K V Q → Reply K V R → List (K × V) → Type 0
+  TreeStep old (Insert k v) (Value before) new = (HasNoRoomFor cmp old k → ⊥) × (before ≡ value cmp old k) × (new ≡ put cmp old k v)
+  TreeStep old (Insert k v) OutOfMemory new = (HasNoRoomFor cmp old k → ⊥) × (has cmp old k ≡ false) × (new ≡ old)
+  TreeStep old (Insert k v) Full new = HasNoRoomFor cmp old k × (new ≡ old)
+  TreeStep old (Remove k) (Value gone) new = (gone ≡ value cmp old k) × (new ≡ del cmp old k)
+  TreeStep old (Remove k) OutOfMemory new = (has cmp old k ≡ true) × (new ≡ old)
+  TreeStep old (RemoveAt q) (Pair pair) new = IsTaken selects q old new pair
+  TreeStep old (RemoveAt q) OutOfMemory new = new ≡ old
+  TreeStep old Clear (Done true) new = new ≡ []
+  TreeStep old Clear OutOfMemory new = new ≡ old
+  TreeStep old (Get k) (Value found) new = (found ≡ value cmp old k) × (new ≡ old)
+  TreeStep old (Set k v) (Done true) new = (has cmp old k ≡ true) × (new ≡ written cmp k old v)
+  TreeStep old (Set k v) (Done false) new = (has cmp old k ≡ false) × (new ≡ old)
+  TreeStep old (SetAt q v) (Done true) new = (i : ℕ) × IsPlaceIn old (Some i) × selects q (keys_of old) (Some i) × (new ≡ set_value_at old i v)
+  TreeStep old (SetAt q v) (Done false) new = selects q (keys_of old) None × (new ≡ old)
+  TreeStep old (SetAt q v) OutOfMemory new = new ≡ old
+  TreeStep old First (Pair pair) new = IsCopyOf cmp (slice_get old 0) pair × (new ≡ old)
+  TreeStep old First OutOfMemory new = new ≡ old
+  TreeStep old Last (Pair pair) new = IsCopyOf cmp (slice_get old (length old - 1)) pair × (new ≡ old)
+  TreeStep old Last OutOfMemory new = new ≡ old
+  TreeStep old Len (Number n) new = (n ≡ length old) × (new ≡ old)
+  TreeStep old (At q) (Pair pair) new = ((found : Option (K × V)) × IsSelected selects q old found × IsCopyOf cmp found pair) × (new ≡ old)
+  TreeStep old (At q) OutOfMemory new = new ≡ old
+  TreeStep old (RankOf k) (Rank rank) new = MatchResult rank (ranks k (keys_of old)) (ranks k (keys_of old)) × (is_ok rank ≡ has cmp old k) × (new ≡ old)
+  TreeStep old (RankOf k) OutOfMemory new = new ≡ old
+  TreeStep old (Walk word) (Walked answers) new = AllZip (IsCopyOf cmp) (walked word.items old) answers.items × (new ≡ old)
+  TreeStep old (Walk word) OutOfMemory new = new ≡ old
+  TreeStep old (Range lo hi word) (Walked answers) new = AllZip (IsCopyOf cmp) (walked word.items (between cmp old lo hi)) answers.items × (new ≡ old)
+  TreeStep old (Range lo hi word) OutOfMemory new = new ≡ old
+  TreeStep old (RangeAt q n word) (Walked answers) new = ((part : List (K × V)) × IsPartSelected selects q old n part × AllZip (IsCopyOf cmp) (walked word.items part) answers.items) × (new ≡ old)
+  TreeStep old (RangeAt q n word) OutOfMemory new = new ≡ old
+  -- no other reply is given
+  TreeStep old command reply new = ⊥
+
+  -- From old and the keys of the held cursors, the command may be given this reply, and leaves new and those keys.
+  abbrev pub Step : List (K × V) → List K → Command K V Q → Reply K V R → List (K × V) → List K → Type 0
+  Step old held (Cursor k) (Held n told) new held_after = (n ≡ length held) × (told ≡ value cmp old k) × (new ≡ old) × Joins cmp held k held_after
+  Step old held (Cursor k) OutOfMemory new held_after = (new ≡ old) × (held_after ≡ held)
+  Step old held (Cursor k) reply new held_after = ⊥
+  Step old held CursorFirst reply new held_after = (new ≡ old) × EndStep cmp (slice_get old 0) held reply held_after
+  Step old held CursorLast reply new held_after = (new ≡ old) × EndStep cmp (slice_get old (length old - 1)) held reply held_after
+  Step old held (Next n) reply new held_after = (new ≡ old) × ForHeld held n reply held_after (λ k. NeighbourStep cmp (next cmp old k) held n reply held_after)
+  Step old held (Prev n) reply new held_after = (new ≡ old) × ForHeld held n reply held_after (λ k. NeighbourStep cmp (previous cmp old k) held n reply held_after)
+  Step old held (Exists n) reply new held_after = (new ≡ old) × ForHeld held n reply held_after (λ k. (reply ≡ Done (has cmp old k)) × (held_after ≡ held))
+  Step old held (ValueOf n) reply new held_after = (new ≡ old) × ForHeld held n reply held_after (λ k. (reply ≡ Value (value cmp old k)) × (held_after ≡ held))
+  -- a command that needs no cursor leaves the held ones
+  Step old held command reply new held_after = TreeStep old command reply new × (held_after ≡ held)
+
+  -- the commands may be given these replies, one step after another
+  abbrev pub Run : List (K × V) → List K → List (Command K V Q) → List (Reply K V R) → List (K × V) → List K → Type 0
+  Run old held [] [] new held_after = (new ≡ old) × (held_after ≡ held)
+  Run old held (command ∷ commands) (reply ∷ replies) new held_after =
+      (mid : List (K × V)) × (held_mid : List K) × Step old held command reply mid held_mid × Run mid held_mid commands replies new held_after
+  Run old held [] (reply ∷ replies) new held_after = ⊥
+  Run old held (command ∷ commands) [] new held_after = ⊥

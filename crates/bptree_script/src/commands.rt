@@ -1,0 +1,351 @@
+//! Commands on a tree, and their replies.
+ghost use Rattle.std.specs.Prelude.{◌≡◌, ◌≤◌, ◌↔◌, [], List, IfOk, IsNone, IsSome, map, vec_capacity, vec_len};
+ghost use Rattle.std.specs.Option.{option_map};
+ghost use Rattle.bptree_tree.specs.Cursor.{cursor_key};
+ghost use Rattle.bptree_script.specs.Steps.{IsCopyOf, RepliesCopy, TreeStep, Step, Run, reply_to_refusal};
+
+use crate::held;
+use crate::walk::{End, walk, walk_range, walk_range_at};
+use bptree_arguments::argument::{RankArgument, SearchArgument};
+use bptree_keys::key::Key;
+use bptree_stores::node_stores::NodeStore;
+use bptree_tree::cursor::Cursor;
+use bptree_tree::{BPlusTree, InsertError, SelectError};
+use std::alloc::{AllocError, Global};
+
+/// What is asked of a tree, or of a cursor that is held. Held cursors are numbered 0, 1, and so on, in the order in which
+/// they were made.
+#[derive(Debug, Drop)]
+pub enum Command<K, V, Q> {
+    /// Puts the value at the key.
+    Insert(K, V),
+    /// Removes the pair with the key.
+    Remove(K),
+    /// Removes the pair at a place that is allowed for the query, where one is.
+    RemoveAt(Q),
+    /// Removes all pairs.
+    Clear,
+    /// Looks the key up.
+    Get(K),
+    /// Replaces the value at the key, and puts nothing where the key is absent.
+    Set(K, V),
+    /// Replaces the value at a place that is allowed for the query, and puts nothing where none is.
+    SetAt(Q, V),
+    /// Asks for the first pair.
+    First,
+    /// Asks for the last pair.
+    Last,
+    /// Asks for the number of pairs.
+    Len,
+    /// Asks for the pair at a place that is allowed for the query.
+    At(Q),
+    /// Asks for the rank of the key, which need not be present.
+    Rank(K),
+    /// Holds a new cursor at the key, which need not be present.
+    Cursor(K),
+    /// Holds a new cursor at the first pair.
+    CursorFirst,
+    /// Holds a new cursor at the last pair.
+    CursorLast,
+    /// Moves the cursor of this number to the pair with the least greater key.
+    Next(usize),
+    /// Moves the cursor of this number to the pair with the greatest smaller key.
+    Prev(usize),
+    /// Asks whether the key of the cursor of this number is present.
+    Exists(usize),
+    /// Asks for the value at the key of the cursor of this number.
+    Value(usize),
+    /// Takes pairs from the ends of an iterator that is made for it.
+    Walk(Vec<End>),
+    /// Takes pairs from the ends of an iterator over those whose key is not below the first, where it is given, and is below
+    /// the second, where it is given.
+    Range(Option<K>, Option<K>, Vec<End>),
+    /// Takes pairs from the ends of an iterator over so many, from a place on that is allowed for the query.
+    RangeAt(Q, usize, Vec<End>),
+}
+
+/// What a command is answered.
+#[derive(Debug, Drop)]
+pub enum Reply<K, V, R> {
+    /// The value at the key, before the command.
+    Value(Option<V>),
+    /// A pair: the one that was removed, or a copy with a clone of its key. None where there is none: a cursor that was to
+    /// move stays, and none is held anew.
+    Pair(Option<(K, V)>),
+    /// A number of pairs.
+    Number(usize),
+    /// Whether there was a value to replace; true where all pairs were removed; whether the cursor's key is present.
+    Done(bool),
+    /// The rank of the key: `Ok` where it is present.
+    Rank(Result<R, R>),
+    /// The number of the cursor that is held anew, and the value at its key.
+    Held(usize, Option<V>),
+    /// What each end of the word took: a copy of a pair, or none where none was left.
+    Walked(Vec<Option<(K, V)>>),
+    /// No cursor of that number is held.
+    NoCursor,
+    /// There was no memory, and nothing has changed.
+    OutOfMemory,
+    /// The tree has `usize::MAX` pairs and not this key, and nothing has changed.
+    Full,
+}
+
+/// A command on the tree over a store.
+pub type CommandOn<S> = Command<
+    <S as NodeStore>::K,
+    <S as NodeStore>::V,
+    <<S as NodeStore>::Argument as SearchArgument<<S as NodeStore>::K>>::Query,
+>;
+
+/// A reply of the tree over a store.
+pub type ReplyOf<S> = Reply<
+    <S as NodeStore>::K,
+    <S as NodeStore>::V,
+    <<S as NodeStore>::Argument as RankArgument<<S as NodeStore>::K>>::Rank,
+>;
+
+fn refused<K: Drop, V: Drop, R>(error: InsertError<K, V>) -> Reply<K, V, R>
+    ensures { result ≡ reply_to_refusal error }
+{
+    match error {
+        InsertError::OutOfMemory(..) => Reply::OutOfMemory,
+        InsertError::Full(..) => Reply::Full,
+    }
+}
+
+/// A pair with a clone of its key, where there is one.
+pub(crate) fn copy_of<K: Key, V: Copy>(pair: Option<(&K, &V)>) -> Result<Option<(K, V)>, AllocError>
+    ensures { IfOk result (λ copy. IsCopyOf K.cmp (option_map (λ pair. (pair.0.now, pair.1.now)) pair.entry) copy) }
+{
+    match pair {
+        None => Ok(None),
+        Some((key, value)) => Ok(Some((key.clone()?, *value))),
+    }
+}
+
+fn copied<K: Key, V: Copy, R>(pair: Option<(&K, &V)>) -> Reply<K, V, R>
+    ensures { RepliesCopy K.cmp (option_map (λ pair. (pair.0.now, pair.1.now)) pair.entry) result }
+{
+    match copy_of(pair) {
+        Ok(copy) => Reply::Pair(copy),
+        Err(_) => Reply::OutOfMemory,
+    }
+}
+
+fn insert<S: NodeStore>(tree: &mut BPlusTree<S>, key: S::K, value: S::V) -> ReplyOf<S>
+where
+    S::Argument: SearchArgument<S::K> + RankArgument<S::K>,
+    ensures { TreeStep S.K.cmp S.Argument.selects S.Argument.ranks tree.old.contents (Command.Insert key value) result tree.new.contents }
+{
+    match tree.insert(key, value) {
+        Ok(before) => Reply::Value(before),
+        Err(error) => refused(error),
+    }
+}
+
+fn remove<S: NodeStore>(tree: &mut BPlusTree<S>, key: S::K) -> ReplyOf<S>
+where
+    S::Argument: SearchArgument<S::K> + RankArgument<S::K>,
+    ensures { TreeStep S.K.cmp S.Argument.selects S.Argument.ranks tree.old.contents (Command.Remove key) result tree.new.contents }
+{
+    match tree.remove(&key) {
+        Ok(gone) => Reply::Value(gone),
+        Err(_) => Reply::OutOfMemory,
+    }
+}
+
+fn remove_at<S: NodeStore>(
+    tree: &mut BPlusTree<S>,
+    query: <S::Argument as SearchArgument<S::K>>::Query,
+) -> ReplyOf<S>
+where
+    S::Argument: SearchArgument<S::K> + RankArgument<S::K>,
+    ensures { TreeStep S.K.cmp S.Argument.selects S.Argument.ranks tree.old.contents (Command.RemoveAt query) result tree.new.contents }
+{
+    match tree.remove_by_argument(query) {
+        Ok(pair) => Reply::Pair(pair),
+        Err(_) => Reply::OutOfMemory,
+    }
+}
+
+fn clear<S: NodeStore>(tree: &mut BPlusTree<S>) -> ReplyOf<S>
+where
+    S::Argument: SearchArgument<S::K> + RankArgument<S::K>,
+    ensures { TreeStep S.K.cmp S.Argument.selects S.Argument.ranks tree.old.contents Command.Clear result tree.new.contents }
+{
+    match tree.clear() {
+        Ok(()) => Reply::Done(true),
+        Err(_) => Reply::OutOfMemory,
+    }
+}
+
+fn get<S: NodeStore>(tree: &BPlusTree<S>, key: S::K) -> ReplyOf<S>
+where
+    S::V: Copy,
+    S::Argument: SearchArgument<S::K> + RankArgument<S::K>,
+    ensures { TreeStep S.K.cmp S.Argument.selects S.Argument.ranks tree.now.contents (Command.Get key) result tree.now.contents }
+{
+    Reply::Value(tree.get(&key).copied())
+}
+
+fn set<S: NodeStore>(tree: &mut BPlusTree<S>, key: S::K, value: S::V) -> ReplyOf<S>
+where
+    S::V: Copy,
+    S::Argument: SearchArgument<S::K> + RankArgument<S::K>,
+    ensures { TreeStep S.K.cmp S.Argument.selects S.Argument.ranks tree.old.contents (Command.Set key value) result tree.new.contents }
+{
+    let Some(held) = tree.get_mut(&key) else {
+        return Reply::Done(false);
+    };
+    *held = value;
+    Reply::Done(true)
+}
+
+fn set_at<S: NodeStore>(
+    tree: &mut BPlusTree<S>,
+    query: <S::Argument as SearchArgument<S::K>>::Query,
+    value: S::V,
+) -> ReplyOf<S>
+where
+    S::V: Copy,
+    S::Argument: SearchArgument<S::K> + RankArgument<S::K>,
+    ensures { TreeStep S.K.cmp S.Argument.selects S.Argument.ranks tree.old.contents (Command.SetAt query value) result tree.new.contents }
+{
+    match tree.get_mut_by_argument(query) {
+        Ok(found) => {
+            *found = value;
+            Reply::Done(true)
+        }
+        Err(SelectError::NotFound) => Reply::Done(false),
+        Err(SelectError::OutOfMemory) => Reply::OutOfMemory,
+    }
+}
+
+fn first<S: NodeStore>(tree: &BPlusTree<S>) -> ReplyOf<S>
+where
+    S::V: Copy,
+    S::Argument: SearchArgument<S::K> + RankArgument<S::K>,
+    ensures { TreeStep S.K.cmp S.Argument.selects S.Argument.ranks tree.now.contents Command.First result tree.now.contents }
+{
+    copied(tree.first())
+}
+
+fn last<S: NodeStore>(tree: &BPlusTree<S>) -> ReplyOf<S>
+where
+    S::V: Copy,
+    S::Argument: SearchArgument<S::K> + RankArgument<S::K>,
+    ensures { TreeStep S.K.cmp S.Argument.selects S.Argument.ranks tree.now.contents Command.Last result tree.now.contents }
+{
+    copied(tree.last())
+}
+
+fn at<S: NodeStore>(
+    tree: &BPlusTree<S>,
+    query: <S::Argument as SearchArgument<S::K>>::Query,
+) -> ReplyOf<S>
+where
+    S::V: Copy,
+    S::Argument: SearchArgument<S::K> + RankArgument<S::K>,
+    ensures { TreeStep S.K.cmp S.Argument.selects S.Argument.ranks tree.now.contents (Command.At query) result tree.now.contents }
+{
+    match tree.get_by_argument(query) {
+        Ok(pair) => copied(pair),
+        Err(_) => Reply::OutOfMemory,
+    }
+}
+
+fn rank<S: NodeStore>(tree: &BPlusTree<S>, key: S::K) -> ReplyOf<S>
+where
+    S::Argument: SearchArgument<S::K> + RankArgument<S::K>,
+    ensures { TreeStep S.K.cmp S.Argument.selects S.Argument.ranks tree.now.contents (Command.Rank key) result tree.now.contents }
+{
+    match tree.rank_by_argument(&key) {
+        Ok(rank) => Reply::Rank(rank),
+        Err(_) => Reply::OutOfMemory,
+    }
+}
+
+// Carries out one command, with the cursors that are held.
+fn carry_out<S: NodeStore>(
+    alloc: Global,
+    tree: &mut BPlusTree<S>,
+    cursors: &mut Vec<Cursor<S::K>>,
+    command: CommandOn<S>,
+) -> ReplyOf<S>
+where
+    S::V: Copy,
+    S::Argument: SearchArgument<S::K> + RankArgument<S::K>,
+    ensures { Step S.K.cmp S.Argument.selects S.Argument.ranks tree.old.contents (map cursor_key cursors.old.items) command result tree.new.contents (map cursor_key cursors.new.items) }
+{
+    match command {
+        Command::Insert(key, value) => insert(tree, key, value),
+        Command::Remove(key) => remove(tree, key),
+        Command::RemoveAt(query) => remove_at(tree, query),
+        Command::Clear => clear(tree),
+        Command::Get(key) => get(tree, key),
+        Command::Set(key, value) => set(tree, key, value),
+        Command::SetAt(query, value) => set_at(tree, query, value),
+        Command::First => first(tree),
+        Command::Last => last(tree),
+        Command::Len => Reply::Number(tree.len()),
+        Command::At(query) => at(tree, query),
+        Command::Rank(key) => rank(tree, key),
+        Command::Cursor(key) => held::hold(tree, cursors, key),
+        Command::CursorFirst => held::hold_first(tree, cursors),
+        Command::CursorLast => held::hold_last(tree, cursors),
+        Command::Next(number) => held::next(tree, cursors, number),
+        Command::Prev(number) => held::prev(tree, cursors, number),
+        Command::Exists(number) => held::exists(tree, cursors.as_slice(), number),
+        Command::Value(number) => held::value(tree, cursors.as_slice(), number),
+        Command::Walk(word) => walk(alloc, tree, word),
+        Command::Range(lo, hi, word) => walk_range(alloc, tree, lo, hi, word),
+        Command::RangeAt(query, n, word) => walk_range_at(alloc, tree, query, n, word),
+    }
+}
+
+// Carries out the commands in order, with the cursors that are held, and answers each.
+fn carry_out_each<S: NodeStore>(
+    alloc: Global,
+    tree: &mut BPlusTree<S>,
+    cursors: &mut Vec<Cursor<S::K>>,
+    commands: Vec<CommandOn<S>>,
+    replies: &mut Vec<ReplyOf<S>>,
+)
+where
+    S::V: Copy,
+    S::Argument: SearchArgument<S::K> + RankArgument<S::K>,
+    requires none { replies.old.items ≡ [] }
+    requires empty { vec_len replies.old ≡ 0 }
+    requires room { vec_len commands ≤ vec_capacity replies.old }
+    ensures run { Run S.K.cmp S.Argument.selects S.Argument.ranks tree.old.contents (map cursor_key cursors.old.items) commands.items replies.new.items tree.new.contents (map cursor_key cursors.new.items) }
+    ensures all { vec_len replies.new ≡ vec_len commands }
+{
+    for command in commands {
+        replies.push_reserved(carry_out(alloc, tree, cursors, command));
+    }
+}
+
+/// Carries out the commands in order, and answers each.
+///
+/// Room for all replies is found by one request, before the first command. Where that is refused, no command is carried
+/// out, and the error is answered with no reply. No cursor is held at first, and all are dropped at the end.
+pub fn run<S: NodeStore>(
+    alloc: Global,
+    tree: &mut BPlusTree<S>,
+    commands: Vec<CommandOn<S>>,
+) -> (Vec<ReplyOf<S>>, Option<AllocError>)
+where
+    S::V: Copy,
+    S::Argument: SearchArgument<S::K> + RankArgument<S::K>,
+    ensures run { IsNone result.1 → (held : List S.K) × Run S.K.cmp S.Argument.selects S.Argument.ranks tree.old.contents [] commands.items result.0.items tree.new.contents held }
+    ensures refused { IsSome result.1 → (result.0.items ≡ []) × (tree.new ≡ tree.old) }
+    ensures all { IsNone result.1 ↔ (vec_len result.0 ≡ vec_len commands) }
+{
+    let mut replies = Vec::new(alloc);
+    if let Err(error) = replies.reserve(commands.len()) {
+        return (replies, Some(error));
+    }
+    let mut cursors = Vec::new(alloc);
+    carry_out_each(alloc, tree, &mut cursors, commands, &mut replies);
+    (replies, None)
+}

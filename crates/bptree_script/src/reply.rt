@@ -1,0 +1,322 @@
+//! The answers to lines.
+ghost use Rattle.std.specs.Prelude.{◌≡◌, ◌≤◌, [], ◌∷◌, ◌++◌, codes, decimal, length, MatchResult, OnOk, option_map, slice_get};
+ghost use Rattle.std.specs.Map.{keys_of};
+ghost use Rattle.std.specs.Ordering.{nat_cmp};
+ghost use Rattle.bptree_arguments.specs.CountLaws.{count_below};
+ghost use Rattle.bptree_keys.specs.Contents.{has, value, del, next, previous};
+ghost use Rattle.bptree_requests.specs.Request.{request_of};
+ghost use Rattle.bptree_tree.specs.Cursor.{cursor_key};
+ghost use Rattle.bptree_script.specs.Answers.{pair_text, found_text, item_text, pairs_text, page_text, rank_text, old_text, gone_text, value_text, put_text, pairs_with_put, reply_to, pairs_with, answer, pairs_after};
+ghost use Rattle.bptree_script.specs.Ends.{seen_from};
+ghost use Rattle.bptree_script.specs.Sent.{SendsOrFails, Replies};
+
+use crate::error::ServeError;
+use crate::output::Output;
+use crate::walk::{End, take_pair};
+use arrayvec::ArrayString;
+use bptree_arguments::count::Count;
+use bptree_requests::{Request, read_request};
+use bptree_stores::node_store_vec::NodeStoreVec;
+use bptree_tree::cursor::Cursor;
+use bptree_tree::iterator::Iter;
+use bptree_tree::{BPlusTree, InsertError};
+use std::fmt::Write as _;
+use std::io::Write;
+
+/// The tree that lines are carried out on.
+pub type NumberTree = BPlusTree<NumberStore>;
+
+type NumberStore = NodeStoreVec<u64, u64, Count>;
+
+/// How many digits the greatest number has.
+const DIGITS: usize = 20;
+
+/// How many bytes a label before a number has at most.
+const LABEL: usize = 5;
+
+fn send_number<W: Write>(out: &mut Output<W>, n: u64) -> Result<(), ServeError>
+    ensures { SendsOrFails out.old out.new (decimal n) result }
+{
+    let mut digits = ArrayString::<{ DIGITS }>::new();
+    match write!(digits, "{n}") {
+        Ok(()) => out.send(digits.as_str().as_bytes()),
+        // Never met: each number has room.
+        Err(_) => Err(ServeError::Io),
+    }
+}
+
+// A label, and then a number.
+fn send_labelled<W: Write>(out: &mut Output<W>, label: &[u8], n: u64) -> Result<(), ServeError>
+    requires { length label.now ≤ LABEL }
+    ensures { SendsOrFails out.old out.new (label.now ++ decimal n) result }
+{
+    out.send(label)?;
+    send_number(out, n)
+}
+
+fn send_old<W: Write>(out: &mut Output<W>, old: Option<u64>) -> Result<(), ServeError>
+    ensures { SendsOrFails out.old out.new (old_text old) result }
+{
+    match old {
+        None => out.send(b"new"),
+        Some(old) => send_labelled(out, b"old ", old),
+    }
+}
+
+fn send_gone<W: Write>(out: &mut Output<W>, gone: Option<u64>) -> Result<(), ServeError>
+    ensures { SendsOrFails out.old out.new (gone_text gone) result }
+{
+    match gone {
+        None => out.send(b"none"),
+        Some(gone) => send_labelled(out, b"gone ", gone),
+    }
+}
+
+fn send_value<W: Write>(out: &mut Output<W>, value: Option<u64>) -> Result<(), ServeError>
+    ensures { SendsOrFails out.old out.new (value_text value) result }
+{
+    match value {
+        None => out.send(b"none"),
+        Some(value) => send_number(out, value),
+    }
+}
+
+fn send_pair<W: Write>(out: &mut Output<W>, key: u64, value: u64) -> Result<(), ServeError>
+    ensures { SendsOrFails out.old out.new (pair_text (key, value)) result }
+{
+    send_number(out, key)?;
+    out.send(b" ")?;
+    send_number(out, value)
+}
+
+fn send_found<W: Write>(out: &mut Output<W>, pair: Option<(&u64, &u64)>) -> Result<(), ServeError>
+    ensures { SendsOrFails out.old out.new (found_text (option_map (λ pair. (pair.0.now, pair.1.now)) pair.entry)) result }
+{
+    match pair {
+        None => out.send(b"none"),
+        Some((key, value)) => send_pair(out, *key, *value),
+    }
+}
+
+// A pair, after a comma where it is not the first.
+fn send_item<W: Write>(
+    out: &mut Output<W>,
+    is_first: bool,
+    key: u64,
+    value: u64,
+) -> Result<(), ServeError>
+    ensures { SendsOrFails out.old out.new (item_text is_first (key, value)) result }
+{
+    if is_first {
+        return send_pair(out, key, value);
+    }
+    out.send(b",")?;
+    send_pair(out, key, value)
+}
+
+// Pairs, from one end to the other.
+fn send_pairs<W: Write>(
+    out: &mut Output<W>,
+    pairs: Iter<'_, NumberStore>,
+    end: End,
+) -> Result<(), ServeError>
+    ensures { SendsOrFails out.old out.new (pairs_text (seen_from end pairs.entry)) result }
+{
+    if pairs.len() == 0 {
+        return out.send(b"empty");
+    }
+    let mut pairs = pairs;
+    let mut is_first = true;
+    while let Some((key, value)) = take_pair(&mut pairs, end) {
+        send_item(out, is_first, *key, *value)?;
+        is_first = false;
+    }
+    Ok(())
+}
+
+// The pairs of a page, where a page has some.
+fn send_page<W: Write>(
+    out: &mut Output<W>,
+    tree: &NumberTree,
+    p: u64,
+    s: u64,
+) -> Result<(), ServeError>
+    ensures { Replies out.old out.new (page_text tree.now.contents p s) result }
+{
+    if s == 0 {
+        return out.send(b"bad");
+    }
+    // Read, so that it is known that no place is as great as the greatest number.
+    let _len = tree.len();
+    match tree.range_by_argument(p.saturating_mul(s) as usize, s as usize) {
+        Ok(pairs) => send_pairs(out, pairs, End::Front),
+        Err(_) => Err(ServeError::OutOfMemory),
+    }
+}
+
+// The pair at a place, if there is one.
+fn send_place<W: Write>(
+    out: &mut Output<W>,
+    tree: &NumberTree,
+    place: u64,
+) -> Result<(), ServeError>
+    ensures { Replies out.old out.new (found_text (slice_get tree.now.contents place)) result }
+{
+    match tree.get_by_argument(place as usize) {
+        Ok(pair) => send_found(out, pair),
+        Err(_) => Err(ServeError::OutOfMemory),
+    }
+}
+
+// The key that a cursor stands on, with the value there, if there is one.
+fn send_beside<W: Write>(
+    out: &mut Output<W>,
+    found: Option<(Cursor<u64>, &u64)>,
+) -> Result<(), ServeError>
+    ensures { SendsOrFails out.old out.new (found_text (option_map (λ found. (cursor_key found.0, found.1.now)) found.entry)) result }
+{
+    match found {
+        None => out.send(b"none"),
+        Some((cursor, value)) => send_pair(out, *cursor.key(), *value),
+    }
+}
+
+// A cursor on the key, which need not be there.
+fn cursor_on(tree: &NumberTree, key: u64) -> Result<Cursor<u64>, ServeError>
+    ensures { MatchResult result (λ cursor. cursor_key cursor ≡ key) (λ error. error ≡ ServeError.OutOfMemory) }
+{
+    match tree.get_cursor(&key) {
+        Ok(Some((cursor, _))) => Ok(cursor),
+        _ => Err(ServeError::OutOfMemory),
+    }
+}
+
+// The pair with the least greater key, if there is one.
+fn send_next<W: Write>(out: &mut Output<W>, tree: &NumberTree, key: u64) -> Result<(), ServeError>
+    ensures { Replies out.old out.new (found_text (next nat_cmp tree.now.contents key)) result }
+{
+    let cursor = cursor_on(tree, key)?;
+    match cursor.next_with_value(tree) {
+        Ok(found) => send_beside(out, found),
+        Err(_) => Err(ServeError::OutOfMemory),
+    }
+}
+
+// The pair with the greatest smaller key, if there is one.
+fn send_prev<W: Write>(out: &mut Output<W>, tree: &NumberTree, key: u64) -> Result<(), ServeError>
+    ensures { Replies out.old out.new (found_text (previous nat_cmp tree.now.contents key)) result }
+{
+    let cursor = cursor_on(tree, key)?;
+    match cursor.prev_with_value(tree) {
+        Ok(found) => send_beside(out, found),
+        Err(_) => Err(ServeError::OutOfMemory),
+    }
+}
+
+// Whether a key is there, and how many keys are smaller.
+fn send_rank<W: Write>(out: &mut Output<W>, tree: &NumberTree, key: u64) -> Result<(), ServeError>
+    ensures { Replies out.old out.new (rank_text (has nat_cmp tree.now.contents key) (count_below nat_cmp key (keys_of tree.now.contents))) result }
+{
+    match tree.rank_by_argument(&key) {
+        Ok(Ok(smaller)) => send_labelled(out, b"in ", smaller as u64),
+        Ok(Err(smaller)) => send_labelled(out, b"out ", smaller as u64),
+        Err(_) => Err(ServeError::OutOfMemory),
+    }
+}
+
+fn put_pair<W: Write>(
+    tree: &mut NumberTree,
+    key: u64,
+    value: u64,
+    out: &mut Output<W>,
+) -> Result<(), ServeError>
+    ensures replies { Replies out.old out.new (put_text tree.old.contents key) result }
+    ensures pairs { OnOk result (tree.new.contents ≡ pairs_with_put tree.old.contents key value) }
+{
+    match tree.insert(key, value) {
+        Ok(old) => send_old(out, old),
+        Err(InsertError::Full(_, _)) => out.send(b"full"),
+        Err(InsertError::OutOfMemory(_, _)) => Err(ServeError::OutOfMemory),
+    }
+}
+
+fn delete_pair<W: Write>(
+    tree: &mut NumberTree,
+    key: u64,
+    out: &mut Output<W>,
+) -> Result<(), ServeError>
+    ensures replies { Replies out.old out.new (gone_text (value nat_cmp tree.old.contents key)) result }
+    ensures pairs { OnOk result (tree.new.contents ≡ del nat_cmp tree.old.contents key) }
+{
+    match tree.remove(&key) {
+        Ok(gone) => send_gone(out, gone),
+        Err(_) => Err(ServeError::OutOfMemory),
+    }
+}
+
+fn delete_all<W: Write>(tree: &mut NumberTree, out: &mut Output<W>) -> Result<(), ServeError>
+    ensures replies { Replies out.old out.new (codes "cleared") result }
+    ensures pairs { OnOk result (tree.new.contents ≡ []) }
+{
+    match tree.clear() {
+        Ok(()) => out.send(b"cleared"),
+        Err(_) => Err(ServeError::OutOfMemory),
+    }
+}
+
+fn carry_out<W: Write>(
+    tree: &mut NumberTree,
+    request: Request,
+    out: &mut Output<W>,
+) -> Result<(), ServeError>
+    ensures replies { Replies out.old out.new (reply_to tree.old.contents (Some request)) result }
+    ensures pairs { OnOk result
+        (tree.new.contents ≡ pairs_with tree.old.contents (Some request)) }
+{
+    match request {
+        Request::Put(key, value) => put_pair(tree, key, value, out),
+        Request::Del(key) => delete_pair(tree, key, out),
+        Request::Get(key) => send_value(out, tree.get(&key).copied()),
+        Request::Len => send_number(out, tree.len() as u64),
+        Request::All => send_pairs(out, tree.iter(), End::Front),
+        Request::Back => send_pairs(out, tree.iter(), End::Back),
+        Request::Range(lo, hi) => send_pairs(out, tree.range(Some(&lo), Some(&hi)), End::Front),
+        Request::Page(p, s) => send_page(out, tree, p, s),
+        Request::First => send_found(out, tree.first()),
+        Request::Last => send_found(out, tree.last()),
+        Request::At(place) => send_place(out, tree, place),
+        Request::Rank(key) => send_rank(out, tree, key),
+        Request::Next(key) => send_next(out, tree, key),
+        Request::Prev(key) => send_prev(out, tree, key),
+        Request::Clear => delete_all(tree, out),
+    }
+}
+
+fn reply_line<W: Write>(
+    tree: &mut NumberTree,
+    line: &[u8],
+    out: &mut Output<W>,
+) -> Result<(), ServeError>
+    ensures replies { Replies out.old out.new (reply_to tree.old.contents (request_of line.now)) result }
+    ensures pairs { OnOk result
+        (tree.new.contents ≡ pairs_with tree.old.contents (request_of line.now)) }
+{
+    match read_request(line) {
+        None => out.send(b"bad"),
+        Some(request) => carry_out(tree, request, out),
+    }
+}
+
+/// Carries out a line, and sends the answer with a line feed.
+#[tactic(auto, unfolding(crate::specs::Answers::pairs_after))]
+pub fn answer_line<W: Write>(
+    tree: &mut NumberTree,
+    line: &[u8],
+    out: &mut Output<W>,
+) -> Result<(), ServeError>
+    ensures replies { Replies out.old out.new (answer tree.old.contents line.now) result }
+    ensures pairs { OnOk result (tree.new.contents ≡ pairs_after tree.old.contents line.now) }
+{
+    reply_line(tree, line, out)?;
+    out.send(b"\n")
+}

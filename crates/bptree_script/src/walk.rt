@@ -1,0 +1,111 @@
+//! Pairs taken from both ends.
+ghost use Rattle.std.specs.Prelude.{IfOk};
+ghost use Rattle.std.specs.List.{AllZip};
+ghost use Rattle.std.specs.Map.Iter.{deref_pair};
+ghost use Rattle.bptree_script.specs.Ends.{TakesFrom, walked};
+ghost use Rattle.bptree_script.specs.Steps.{IsCopyOf, TreeStep};
+
+use crate::commands::{Command, Reply, ReplyOf, copy_of};
+use bptree_arguments::argument::{RankArgument, SearchArgument};
+use bptree_stores::node_stores::NodeStore;
+use bptree_tree::BPlusTree;
+use bptree_tree::iterator::Iter;
+use std::alloc::{AllocError, Global};
+
+/// An end of what is left of a list.
+#[derive(Clone, Copy, Debug, PartialEq, Eq)]
+pub enum End {
+    /// The first that is left is taken.
+    Front,
+    /// The last that is left is taken.
+    Back,
+}
+
+/// Takes the pair at an end, if one is left.
+pub(crate) fn take_pair<'a, S: NodeStore>(
+    pairs: &mut Iter<'a, S>,
+    end: End,
+) -> Option<(&'a S::K, &'a S::V)>
+    ensures { TakesFrom (deref_pair {K = S.K} {X = S.V}) end pairs.old result pairs.new }
+{
+    match end {
+        End::Front => pairs.next(),
+        End::Back => pairs.next_back(),
+    }
+}
+
+// Copies of what each end of a word takes of pairs. Room for all is found by one request.
+fn taken<S: NodeStore>(
+    alloc: Global,
+    pairs: Iter<'_, S>,
+    word: &[End],
+) -> Result<Vec<Option<(S::K, S::V)>>, AllocError>
+where
+    S::V: Copy,
+    ensures { IfOk result (λ answers. AllZip (IsCopyOf S.K.cmp) (walked word.now pairs.entry) answers.items) }
+{
+    let mut answers = Vec::with_capacity(alloc, word.len())?;
+    let mut pairs = pairs;
+    let mut left = word;
+    while let Some((end, rest)) = left.split_first() {
+        let pair = take_pair(&mut pairs, *end);
+        answers.push_reserved(copy_of(pair)?);
+        left = rest;
+    }
+    Ok(answers)
+}
+
+/// Takes pairs from the ends of an iterator that is made for it.
+pub(crate) fn walk<S: NodeStore>(alloc: Global, tree: &BPlusTree<S>, word: Vec<End>) -> ReplyOf<S>
+where
+    S::V: Copy,
+    S::Argument: SearchArgument<S::K> + RankArgument<S::K>,
+    ensures { TreeStep S.K.cmp S.Argument.selects S.Argument.ranks tree.now.contents (Command.Walk word) result tree.now.contents }
+{
+    match taken(alloc, tree.iter(), word.as_slice()) {
+        Ok(answers) => Reply::Walked(answers),
+        Err(_) => Reply::OutOfMemory,
+    }
+}
+
+/// Takes pairs from the ends of what is between two keys.
+pub(crate) fn walk_range<S: NodeStore>(
+    alloc: Global,
+    tree: &BPlusTree<S>,
+    lo: Option<S::K>,
+    hi: Option<S::K>,
+    word: Vec<End>,
+) -> ReplyOf<S>
+where
+    S::V: Copy,
+    S::Argument: SearchArgument<S::K> + RankArgument<S::K>,
+    ensures { TreeStep S.K.cmp S.Argument.selects S.Argument.ranks tree.now.contents (Command.Range lo hi word) result tree.now.contents }
+{
+    let pairs = tree.range(lo.as_ref(), hi.as_ref());
+    match taken(alloc, pairs, word.as_slice()) {
+        Ok(answers) => Reply::Walked(answers),
+        Err(_) => Reply::OutOfMemory,
+    }
+}
+
+/// Takes pairs from the ends of so many, from a place on that is allowed for the query.
+pub(crate) fn walk_range_at<S: NodeStore>(
+    alloc: Global,
+    tree: &BPlusTree<S>,
+    query: <S::Argument as SearchArgument<S::K>>::Query,
+    n: usize,
+    word: Vec<End>,
+) -> ReplyOf<S>
+where
+    S::V: Copy,
+    S::Argument: SearchArgument<S::K> + RankArgument<S::K>,
+    ensures { TreeStep S.K.cmp S.Argument.selects S.Argument.ranks tree.now.contents (Command.RangeAt query n word) result tree.now.contents }
+{
+    let Ok(pairs) = tree.range_by_argument(query, n) else {
+        return Reply::OutOfMemory;
+    };
+    match taken(alloc, pairs, word.as_slice()) {
+        Ok(answers) => Reply::Walked(answers),
+        Err(_) => Reply::OutOfMemory,
+    }
+}

@@ -1,5 +1,0 @@
-use Rattle.bptree_tree.proofs.SpanLemmas.{IsSome-front}
-use Rattle.bptree_tree.proofs.iterator.Iter.new.Goals as goal
-
-pub leaf_at-requires : goal.leaf_at-requires
-leaf_at-requires g c = IsSome-front _ _ _ _ _ _ _ c.requires.span

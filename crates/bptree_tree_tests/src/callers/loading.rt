@@ -1,0 +1,97 @@
+//! Callers of loading, and of how a layer of nodes is cut.
+ghost use Rattle.std.specs.Prelude.{◌≡◌, [], IfOk};
+ghost use Rattle.std.specs.Map.{keys_of};
+ghost use Rattle.bptree_keys.specs.Contents.{IsAscending, value, load};
+ghost use Rattle.bptree_loading.specs.Loading.{IsInLoadOrder, last_value};
+
+use bptree_keys::key::Key;
+use bptree_loading::cuts::first_of_layer;
+use bptree_loading::loading::laws_of_load;
+use bptree_stores::node_stores::NodeStore;
+use bptree_tree::BPlusTree;
+use std::alloc::{AllocError, Global};
+
+// As many as a leaf holds are one leaf, and one more is shared between two. So of 4161 pairs the last two leaves share the 65
+// behind 64 full ones.
+fn one_leaf_or_two() -> (usize, usize, usize, usize, usize)
+    ensures { result ≡ (1, 64, 33, 32, 64) }
+{
+    (
+        first_of_layer(1, 64, 16),
+        first_of_layer(64, 64, 16),
+        first_of_layer(65, 64, 16),
+        first_of_layer(32, 64, 16),
+        first_of_layer(4161, 64, 16),
+    )
+}
+
+// Up to 79 pairs are shared, and from 80 on the first leaf is full.
+fn shared_or_full() -> (usize, usize, usize, usize)
+    ensures { result ≡ (40, 39, 64, 16) }
+{
+    (
+        first_of_layer(79, 64, 16),
+        first_of_layer(39, 64, 16),
+        first_of_layer(80, 64, 16),
+        first_of_layer(16, 64, 16),
+    )
+}
+
+// Up to 81 children are shared between two nodes, and from 82 on the first is full.
+fn children() -> (usize, usize, usize, usize, usize)
+    ensures { result ≡ (65, 33, 41, 65, 65) }
+{
+    (
+        first_of_layer(65, 65, 17),
+        first_of_layer(66, 65, 17),
+        first_of_layer(81, 65, 17),
+        first_of_layer(82, 65, 17),
+        first_of_layer(157, 65, 17),
+    )
+}
+
+// No pairs are loaded as no pairs.
+fn loads_none<S: NodeStore>(
+    alloc: Global,
+    pairs: Vec<(S::K, S::V)>,
+) -> Result<BPlusTree<S>, AllocError>
+    requires { pairs.items ≡ [] }
+    ensures { IfOk result (λ tree. tree.contents ≡ []) }
+{
+    BPlusTree::bulk_load(alloc, pairs)
+}
+
+// Pairs that ascend are loaded as they come.
+fn loads_all<S: NodeStore>(
+    alloc: Global,
+    pairs: Vec<(S::K, S::V)>,
+) -> Result<BPlusTree<S>, AllocError>
+    requires { IsAscending S.K.cmp pairs.items }
+    ensures { IfOk result (λ tree. tree.contents ≡ pairs.items) }
+{
+    laws_of_load::<S::K, S::V>();
+    BPlusTree::bulk_load(alloc, pairs)
+}
+
+// At each key stands the value of the last pair with an equal key.
+fn loads_the_last<S: NodeStore>(
+    alloc: Global,
+    pairs: Vec<(S::K, S::V)>,
+) -> Result<BPlusTree<S>, AllocError>
+    requires { IsInLoadOrder S.K.cmp pairs.items }
+    ensures { IfOk result (λ tree. (k : S.K) → value S.K.cmp tree.contents k ≡ last_value S.K.cmp pairs.items k) }
+{
+    laws_of_load::<S::K, S::V>();
+    BPlusTree::bulk_load(alloc, pairs)
+}
+
+// The root's argument is a summary of what was loaded.
+fn loads_with_a_summary<S: NodeStore>(
+    alloc: Global,
+    pairs: Vec<(S::K, S::V)>,
+) -> Result<BPlusTree<S>, AllocError>
+    requires { IsInLoadOrder S.K.cmp pairs.items }
+    ensures { IfOk result (λ tree. S.Argument.is_summary tree.root_argument (keys_of (load S.K.cmp pairs.items))) }
+{
+    BPlusTree::bulk_load(alloc, pairs)
+}

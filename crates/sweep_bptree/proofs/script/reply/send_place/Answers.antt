@@ -1,9 +1,0 @@
-use Rattle.std.proofs.Common.{rules, ap, sym}
-use Rattle.sweep_bptree.specs.Answers.{found_text}
-use Rattle.sweep_bptree.proofs.PlaceLemmas.{selected_is}
-use Rattle.sweep_bptree.proofs.script.reply.send_place.Goals as goal
-
-pub returns-in-Ok : goal.returns-in-Ok
-returns-in-Ok g c =
-    let found = ap found_text (sym (selected_is c.args.place c.args.tree.now.contents _ c.in-Ok.ensures)) in
-    rw found (search rules)
