@@ -1,4 +1,4 @@
-// The same calls as the crate `bptree_speed` times, over the `BTreeMap` of Rust's standard library.
+// The same calls as `bptree_examples` times, over the `BTreeMap` of Rust's standard library.
 use std::collections::BTreeMap;
 use std::io::stdin;
 use std::time::Instant;

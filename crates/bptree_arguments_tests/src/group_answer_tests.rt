@@ -1,8 +1,8 @@
-//! Places and ranks of keys in their groups, at concrete keys.
+//! Ranks of keys in their groups, at concrete keys.
 ghost use Rattle.std.specs.Prelude.{◌≤◌, length};
 ghost use Rattle.bptree_arguments.specs.Ranks.{IsSlotOf};
 
-use bptree_arguments::argument::{RankArgument, SearchArgument};
+use bptree_arguments::argument::RankArgument;
 use bptree_arguments::group::{FromRef, GroupCount, Tuple2};
 use bptree_keys::key::Key;
 use std::alloc::AllocError;
@@ -42,27 +42,5 @@ fn ranks() -> Result<bool, AllocError> {
 #[test]
 fn ranks_keys_in_their_groups(rt: HostRuntime) -> Result<(), Fail> {
     assert!(rt; ranks()?);
-    Ok(())
-}
-
-fn finds_places() -> Result<bool, AllocError> {
-    let keys = [(1u64, 1u64), (1, 2), (1, 3), (2, 4), (3, 5)];
-    for (group, place, found) in [
-        (1u64, 0, Some(0)),
-        (1, 2, Some(2)),
-        (1, 3, None),
-        (2, 0, Some(3)),
-        (9, 0, None),
-    ] {
-        if GroupCount::locate_in_leaf((Tuple2(group), place), &keys)? != found {
-            return Ok(false);
-        }
-    }
-    Ok(true)
-}
-
-#[test]
-fn finds_keys_by_their_places_in_groups(rt: HostRuntime) -> Result<(), Fail> {
-    assert!(rt; finds_places()?);
     Ok(())
 }

@@ -2,8 +2,6 @@
 #![tactic(auto)]
 
 #[cfg(test)]
-mod argument_tests;
-#[cfg(test)]
 mod callers;
 #[cfg(test)]
 mod count_tests;

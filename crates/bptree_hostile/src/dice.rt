@@ -28,19 +28,36 @@ impl Dice {
     }
 }
 
-/// Keys that are made of numbers. Their order need not be the numbers'.
+/// Keys that are made of numbers, and are ordered as they are.
 pub trait Sample: Key {
     fn sample(alloc: Global, number: u64) -> Result<Self, AllocError>;
+
+    /// The number that the key is made of.
+    fn number(&self) -> u64;
 }
 
 impl Sample for u64 {
     fn sample(_alloc: Global, number: u64) -> Result<u64, AllocError> {
         Ok(number)
     }
+
+    fn number(&self) -> u64 {
+        *self
+    }
 }
 
 impl Sample for String {
     fn sample(alloc: Global, number: u64) -> Result<String, AllocError> {
-        format!(in alloc; "{number}")
+        format!(in alloc; "{number:020}")
+    }
+
+    // Another text makes another number, if it is no sample.
+    fn number(&self) -> u64 {
+        let mut number: u64 = 0;
+        for byte in self.as_bytes() {
+            let digit = u64::from(*byte).wrapping_sub(48);
+            number = number.wrapping_mul(10).wrapping_add(digit);
+        }
+        number
     }
 }

@@ -1,50 +1,40 @@
 //! Commands in no order, each with the reply that a plain list gives.
 
 use crate::dice::{Dice, Sample};
-use crate::plain::Plain;
+use crate::plain::{Answered, Asked, Plain};
 use std::alloc::{AllocError, Global};
 use sweep_bptree::script::{Command, End, Reply};
 
-pub type Asked<K> = Command<K, u64, usize>;
-
-pub type Answered<K> = Reply<K, u64, usize>;
+/// Whose commands are drawn: all of a tree, or those that a map or a set has calls for.
+#[derive(Clone, Copy)]
+pub enum Kinds {
+    Tree,
+    Map,
+    Set,
+}
 
 /// Commands, and the reply that each is to have.
 #[derive(Drop)]
-pub struct Talk<K: Sample> {
-    pub commands: Vec<Asked<K>>,
-    pub wanted: Vec<Answered<K>>,
-}
-
-impl<K: Sample> Talk<K> {
-    pub fn new(alloc: Global) -> Talk<K> {
-        Talk {
-            commands: Vec::new(alloc),
-            wanted: Vec::new(alloc),
-        }
-    }
-
-    fn add(&mut self, command: Asked<K>, reply: Answered<K>) -> Result<(), AllocError> {
-        self.wanted.push(reply)?;
-        self.commands.push(command)?;
-        Ok(())
-    }
+pub struct Talk {
+    pub kinds: Kinds,
+    pub asked: Vec<Asked>,
+    pub wanted: Vec<Answered>,
 }
 
 /// What is drawn from, and what the list holds by now.
 #[derive(Drop)]
-pub struct Drawing<K: Sample> {
+pub struct Drawing {
     alloc: Global,
     dice: Dice,
     // The number that keys are made below.
     end: u64,
     // Of ten changes, how many put a pair.
     puts: u64,
-    pub plain: Plain<K>,
+    pub plain: Plain,
 }
 
-impl<K: Sample> Drawing<K> {
-    pub fn new(alloc: Global, seed: u64, end: u64) -> Drawing<K> {
+impl Drawing {
+    pub fn new(alloc: Global, seed: u64, end: u64) -> Drawing {
         Drawing {
             alloc,
             dice: Dice::new(seed),
@@ -59,289 +49,217 @@ impl<K: Sample> Drawing<K> {
         self.puts = puts;
     }
 
-    pub fn below(&mut self, end: u64) -> u64 {
+    fn below(&mut self, end: u64) -> u64 {
         self.dice.below(end)
     }
 
-    /// A key: every other time one that is there, if any is.
-    pub fn key(&mut self) -> Result<K, AllocError> {
-        let place = self.place();
-        if self.dice.below(2) == 0 {
-            if let Some(key) = self.plain.key_at(place) {
-                return key.clone();
-            }
-        }
-        K::sample(self.alloc, self.dice.below(self.end))
-    }
-
-    /// A place, at most three behind the last one.
-    pub fn place(&mut self) -> usize {
+    // A place, at most three behind the last one.
+    fn place(&mut self) -> usize {
         let end = self.plain.len().saturating_add(3);
-        self.dice.below(end as u64) as usize
+        self.below(end as u64) as usize
     }
 
-    pub fn value(&mut self) -> u64 {
-        self.dice.number()
+    // A key: every other time one that is there, if any is.
+    fn key(&mut self) -> u64 {
+        let place = self.place();
+        let number = self.below(self.end);
+        if self.below(2) == 0 {
+            self.plain.key_at(place).unwrap_or(number)
+        } else {
+            number
+        }
     }
 
-    /// Whether a change is to put a pair.
-    pub fn is_put(&mut self) -> bool {
-        self.dice.below(10) < self.puts
+    // A key two times of three.
+    fn some_key(&mut self) -> Option<u64> {
+        if self.below(3) == 0 {
+            None
+        } else {
+            Some(self.key())
+        }
     }
 
     // The number of a cursor, or one more than the last has.
     fn number(&mut self) -> usize {
         let end = self.plain.held_len().saturating_add(1);
-        self.dice.below(end as u64) as usize
+        self.below(end as u64) as usize
     }
 
-    fn insert(&mut self, talk: &mut Talk<K>) -> Result<(), AllocError> {
-        let key = self.key()?;
-        let value = self.value();
-        let old = self.plain.put(&key, value)?;
-        talk.add(Command::Insert(key, value), Reply::Value(old))
-    }
-
-    fn remove_at(&mut self, talk: &mut Talk<K>) -> Result<(), AllocError> {
-        let place = self.place();
-        let taken = self.plain.take_at(place);
-        talk.add(Command::RemoveAt(place), Reply::Pair(taken))
-    }
-
-    fn remove(&mut self, talk: &mut Talk<K>) -> Result<(), AllocError> {
-        let key = self.key()?;
-        let old = self.plain.take(&key);
-        talk.add(Command::Remove(key), Reply::Value(old))
-    }
-
-    fn clear(&mut self, talk: &mut Talk<K>) -> Result<(), AllocError> {
-        self.plain.clear();
-        talk.add(Command::Clear, Reply::Done(true))
-    }
-
-    fn set_at(&mut self, talk: &mut Talk<K>) -> Result<(), AllocError> {
-        let place = self.place();
-        let value = self.value();
-        let is_there = self.plain.set_at(place, value).is_some();
-        talk.add(Command::SetAt(place, value), Reply::Done(is_there))
-    }
-
-    fn set(&mut self, talk: &mut Talk<K>) -> Result<(), AllocError> {
-        let key = self.key()?;
-        let value = self.value();
-        let is_there = self.plain.set(&key, value);
-        talk.add(Command::Set(key, value), Reply::Done(is_there))
-    }
-
-    fn get(&mut self, talk: &mut Talk<K>) -> Result<(), AllocError> {
-        let key = self.key()?;
-        let value = self.plain.get(&key);
-        talk.add(Command::Get(key), Reply::Value(value))
-    }
-
-    fn at(&mut self, talk: &mut Talk<K>) -> Result<(), AllocError> {
-        let place = self.place();
-        let pair = self.plain.pair_at(place)?;
-        talk.add(Command::At(place), Reply::Pair(pair))
-    }
-
-    fn rank(&mut self, talk: &mut Talk<K>) -> Result<(), AllocError> {
-        let key = self.key()?;
-        let rank = self.plain.find(&key);
-        talk.add(Command::Rank(key), Reply::Rank(rank))
-    }
-
-    fn first(&mut self, talk: &mut Talk<K>) -> Result<(), AllocError> {
-        let pair = self.plain.pair_at(0)?;
-        talk.add(Command::First, Reply::Pair(pair))
-    }
-
-    fn last(&mut self, talk: &mut Talk<K>) -> Result<(), AllocError> {
-        let pair = self.plain.pair_at(self.plain.last())?;
-        talk.add(Command::Last, Reply::Pair(pair))
-    }
-
-    fn len(&mut self, talk: &mut Talk<K>) -> Result<(), AllocError> {
-        talk.add(Command::Len, Reply::Number(self.plain.len()))
-    }
-
-    fn cursor_first(&mut self, talk: &mut Talk<K>) -> Result<(), AllocError> {
-        let reply = self.plain.hold_at(0)?;
-        talk.add(Command::CursorFirst, reply)
-    }
-
-    fn cursor_last(&mut self, talk: &mut Talk<K>) -> Result<(), AllocError> {
-        let reply = self.plain.hold_at(self.plain.last())?;
-        talk.add(Command::CursorLast, reply)
-    }
-
-    fn cursor(&mut self, talk: &mut Talk<K>) -> Result<(), AllocError> {
-        let key = self.key()?;
-        let reply = self.plain.hold(&key)?;
-        talk.add(Command::Cursor(key), reply)
-    }
-
-    fn next(&mut self, talk: &mut Talk<K>) -> Result<(), AllocError> {
-        let number = self.number();
-        let reply = self.plain.step(number, End::Front)?;
-        talk.add(Command::Next(number), reply)
-    }
-
-    fn prev(&mut self, talk: &mut Talk<K>) -> Result<(), AllocError> {
-        let number = self.number();
-        let reply = self.plain.step(number, End::Back)?;
-        talk.add(Command::Prev(number), reply)
-    }
-
-    fn exists(&mut self, talk: &mut Talk<K>) -> Result<(), AllocError> {
-        let number = self.number();
-        let reply = self.plain.exists(number);
-        talk.add(Command::Exists(number), reply)
-    }
-
-    fn look(&mut self, talk: &mut Talk<K>) -> Result<(), AllocError> {
-        let number = self.number();
-        let reply = self.plain.value_of(number);
-        talk.add(Command::Value(number), reply)
+    // A value. The keys of a set have all the same.
+    fn value(&mut self, kinds: Kinds) -> u64 {
+        match kinds {
+            Kinds::Set => 0,
+            _ => self.dice.number(),
+        }
     }
 
     fn word(&mut self) -> Result<Vec<End>, AllocError> {
         let mut word = Vec::new(self.alloc);
         for _ in 0..self.below(8) {
-            if self.below(2) == 0 {
-                word.push(End::Front)?;
+            let end = if self.below(2) == 0 {
+                End::Front
             } else {
-                word.push(End::Back)?;
-            }
+                End::Back
+            };
+            word.push(end)?;
         }
         Ok(word)
     }
 
-    // A key two times of three.
-    fn end(&mut self) -> Result<Option<K>, AllocError> {
-        if self.below(3) == 0 {
-            return Ok(None);
-        }
-        let key = self.key()?;
-        Ok(Some(key))
-    }
-
-    // Some pairs are taken from both ends: of all, of those between two keys, or of so many from a place on.
-    fn walk(&mut self, talk: &mut Talk<K>) -> Result<(), AllocError> {
-        let word = self.word()?;
-        let taken = self.plain.walk(0, usize::MAX, &word)?;
-        talk.add(Command::Walk(word), Reply::Walked(taken))
-    }
-
-    fn range(&mut self, talk: &mut Talk<K>) -> Result<(), AllocError> {
-        let word = self.word()?;
-        let lo = self.end()?;
-        let hi = self.end()?;
-        let taken = self.plain.range(lo.as_ref(), hi.as_ref(), &word)?;
-        talk.add(Command::Range(lo, hi, word), Reply::Walked(taken))
-    }
-
-    fn range_at(&mut self, talk: &mut Talk<K>) -> Result<(), AllocError> {
-        let word = self.word()?;
-        let place = self.place();
-        let count = self.below(80) as usize;
-        let taken = self.plain.walk(place, place.saturating_add(count), &word)?;
-        talk.add(Command::RangeAt(place, count, word), Reply::Walked(taken))
-    }
-
     // A change of the pairs.
-    fn change(&mut self, talk: &mut Talk<K>) -> Result<(), AllocError> {
-        if self.is_put() {
-            self.insert(talk)
-        } else if self.below(4) == 0 {
-            self.remove_at(talk)
-        } else {
-            self.remove(talk)
+    fn change(&mut self, kinds: Kinds) -> Asked {
+        let key = self.key();
+        let place = self.place();
+        let value = self.value(kinds);
+        if self.below(10) < self.puts {
+            return Command::Insert(key, value);
+        }
+        match (kinds, self.below(4)) {
+            (Kinds::Set, _) => Command::Remove(key),
+            (_, 0) => Command::RemoveAt(place),
+            _ => Command::Remove(key),
         }
     }
 
     // A value is written where a pair is.
-    fn write(&mut self, talk: &mut Talk<K>) -> Result<(), AllocError> {
+    fn write(&mut self) -> Asked {
+        let value = self.dice.number();
         if self.below(2) == 0 {
-            self.set_at(talk)
+            Command::SetAt(self.place(), value)
         } else {
-            self.set(talk)
+            Command::Set(self.key(), value)
         }
     }
 
-    // A look at the pairs.
-    fn see(&mut self, talk: &mut Talk<K>) -> Result<(), AllocError> {
-        match self.below(6) {
-            0 => self.get(talk),
-            1 => self.at(talk),
-            2 => self.rank(talk),
-            3 => self.first(talk),
-            4 => self.last(talk),
-            _ => self.len(talk),
+    // A look at the pairs: by the least numbers at the ends, by the greatest by a rank.
+    fn look(&mut self, kind: u64) -> Asked {
+        match kind {
+            0 => Command::First,
+            1 => Command::Last,
+            2 => Command::Get(self.key()),
+            3 => Command::Len,
+            4 => Command::Rank(self.key()),
+            _ => Command::At(self.place()),
         }
     }
 
     // A cursor is held.
-    fn hold(&mut self, talk: &mut Talk<K>) -> Result<(), AllocError> {
+    fn hold(&mut self) -> Asked {
         match self.below(4) {
-            0 => self.cursor_first(talk),
-            1 => self.cursor_last(talk),
-            _ => self.cursor(talk),
+            0 => Command::CursorFirst,
+            1 => Command::CursorLast,
+            _ => Command::Cursor(self.key()),
         }
     }
 
     // A cursor is moved, or asked.
-    fn point(&mut self, talk: &mut Talk<K>) -> Result<(), AllocError> {
+    fn point(&mut self) -> Asked {
+        let number = self.number();
         match self.below(4) {
-            0 => self.next(talk),
-            1 => self.prev(talk),
-            2 => self.exists(talk),
-            _ => self.look(talk),
+            0 => Command::Next(number),
+            1 => Command::Prev(number),
+            2 => Command::Exists(number),
+            _ => Command::Value(number),
         }
     }
 
     // Some pairs are taken from both ends: of all, of those between two keys, or of so many from a place on.
-    fn part(&mut self, talk: &mut Talk<K>) -> Result<(), AllocError> {
-        match self.below(3) {
-            0 => self.walk(talk),
-            1 => self.range(talk),
-            _ => self.range_at(talk),
+    fn part(&mut self) -> Result<Asked, AllocError> {
+        let word = self.word()?;
+        Ok(match self.below(3) {
+            0 => Command::Walk(word),
+            1 => Command::Range(self.some_key(), self.some_key(), word),
+            _ => Command::RangeAt(self.place(), self.below(80) as usize, word),
+        })
+    }
+
+    // A command of a tree.
+    fn of_tree(&mut self) -> Result<Asked, AllocError> {
+        Ok(match self.below(1_000) {
+            0 => Command::Clear,
+            1..=400 => self.change(Kinds::Tree),
+            401..=500 => self.write(),
+            501..=700 => {
+                let kind = self.below(6);
+                self.look(kind)
+            }
+            701..=750 => self.hold(),
+            751..=900 => self.point(),
+            _ => self.part()?,
+        })
+    }
+
+    // A command, of which half are changes.
+    fn of(&mut self, kinds: Kinds) -> Result<Asked, AllocError> {
+        let part = self.below(4);
+        let kind = self.below(4);
+        match kinds {
+            Kinds::Tree => self.of_tree(),
+            _ if part < 2 => Ok(self.change(kinds)),
+            Kinds::Map if part == 2 => Ok(self.write()),
+            Kinds::Map => Ok(self.look(kind.saturating_add(2))),
+            Kinds::Set => Ok(self.look(kind)),
         }
     }
 
-    /// A command, and the reply that it is to have.
-    pub fn draw(&mut self, talk: &mut Talk<K>) -> Result<(), AllocError> {
-        match self.below(1_000) {
-            0 => self.clear(talk),
-            1..=400 => self.change(talk),
-            401..=500 => self.write(talk),
-            501..=700 => self.see(talk),
-            701..=750 => self.hold(talk),
-            751..=900 => self.point(talk),
-            _ => self.part(talk),
+    /// So many commands, and the replies that they are to have.
+    pub fn talk(&mut self, kinds: Kinds, count: u64) -> Result<Talk, AllocError> {
+        let mut asked = Vec::new(self.alloc);
+        let mut wanted = Vec::new(self.alloc);
+        for _ in 0..count {
+            let command = self.of(kinds)?;
+            wanted.push(self.plain.answer(&command)?)?;
+            asked.push(command)?;
         }
+        self.plain.forget();
+        Ok(Talk {
+            kinds,
+            asked,
+            wanted,
+        })
     }
 }
 
-// Whether a reply is the one that was wanted.
-fn is_same<K: Sample>(reply: &Answered<K>, wanted: &Answered<K>) -> bool {
-    match reply {
-        Reply::Value(one) => matches!(wanted, Reply::Value(other) if one == other),
-        Reply::Pair(one) => matches!(wanted, Reply::Pair(other) if one == other),
-        Reply::Number(one) => matches!(wanted, Reply::Number(other) if one == other),
-        Reply::Done(one) => matches!(wanted, Reply::Done(other) if one == other),
-        Reply::Rank(one) => matches!(wanted, Reply::Rank(other) if one == other),
-        Reply::Held(one, value) => {
-            matches!(wanted, Reply::Held(other, wanted) if one == other && value == wanted)
-        }
-        Reply::Walked(one) => matches!(wanted, Reply::Walked(other) if one == other),
-        Reply::NoCursor => matches!(wanted, Reply::NoCursor),
+/// The numbers of a pair.
+pub fn numbers<K: Sample>(pair: Option<(&K, &u64)>) -> Option<(u64, u64)> {
+    let (key, value) = pair?;
+    Some((key.number(), *value))
+}
+
+/// The numbers of a pair that is owned.
+pub fn own_numbers<K: Sample>(pair: &Option<(K, u64)>) -> Option<(u64, u64)> {
+    match pair {
+        Some((key, value)) => Some((key.number(), *value)),
+        None => None,
+    }
+}
+
+// Whether the pairs are those that were wanted.
+fn are_pairs<K: Sample>(pairs: &[Option<(K, u64)>], wanted: &[Option<(u64, u64)>]) -> bool {
+    let mut well = pairs.len() == wanted.len();
+    for (place, pair) in pairs.iter().enumerate() {
+        well = wanted.get(place).copied() == Some(own_numbers(pair)) && well;
+    }
+    well
+}
+
+/// Whether a reply is the one that was wanted.
+pub fn is_same<K: Sample>(reply: &Reply<K, u64, usize>, wanted: &Answered) -> bool {
+    match (reply, wanted) {
+        (Reply::Value(one), Reply::Value(other)) => one == other,
+        (Reply::Pair(one), Reply::Pair(other)) => own_numbers(one) == *other,
+        (Reply::Number(one), Reply::Number(other)) => one == other,
+        (Reply::Done(one), Reply::Done(other)) => one == other,
+        (Reply::Rank(one), Reply::Rank(other)) => one == other,
+        (Reply::Held(one, value), Reply::Held(other, wanted)) => one == other && value == wanted,
+        (Reply::Walked(one), Reply::Walked(other)) => are_pairs(one, other),
+        (Reply::NoCursor, Reply::NoCursor) => true,
         _ => false,
     }
 }
 
 /// Whether the replies are those that were wanted.
-pub fn are_same<K: Sample>(replies: &[Answered<K>], wanted: &[Answered<K>]) -> bool {
+pub fn are_same<K: Sample>(replies: &[Reply<K, u64, usize>], wanted: &[Answered]) -> bool {
     let mut well = replies.len() == wanted.len();
     for (place, reply) in replies.iter().enumerate() {
         well = match wanted.get(place) {

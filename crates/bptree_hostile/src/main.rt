@@ -2,9 +2,11 @@
 //! input names what is to be done, and for each its name is printed, and whether all was as it should be.
 #![tactic(auto)]
 
+mod calls;
 mod dice;
 mod drawing;
 mod forgetful;
+mod holds;
 mod plain;
 mod rounds;
 mod rows;

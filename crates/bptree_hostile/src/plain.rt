@@ -1,20 +1,22 @@
-//! A plain list of pairs, sorted by key, that answers what a tree is to answer.
+//! A plain list of pairs of numbers, sorted by key, that answers what a tree is to answer.
 
-use crate::dice::Sample;
-use crate::drawing::Answered;
 use std::alloc::{AllocError, Global};
 use std::mem;
-use sweep_bptree::script::{End, Reply};
+use sweep_bptree::script::{Command, End, Reply};
+
+pub type Asked = Command<u64, u64, usize>;
+
+pub type Answered = Reply<u64, u64, usize>;
 
 /// The pairs in the order of their keys, and the keys of the cursors that are held.
 #[derive(Drop)]
-pub struct Plain<K: Sample> {
-    pairs: Vec<(K, u64)>,
-    held: Vec<K>,
+pub struct Plain {
+    pairs: Vec<(u64, u64)>,
+    held: Vec<u64>,
 }
 
-impl<K: Sample> Plain<K> {
-    pub fn new(alloc: Global) -> Plain<K> {
+impl Plain {
+    pub fn new(alloc: Global) -> Plain {
         Plain {
             pairs: Vec::new(alloc),
             held: Vec::new(alloc),
@@ -25,9 +27,9 @@ impl<K: Sample> Plain<K> {
         self.pairs.len()
     }
 
-    /// The last place.
-    pub fn last(&self) -> usize {
-        self.pairs.len().wrapping_sub(1)
+    /// How many cursors are held.
+    pub fn held_len(&self) -> usize {
+        self.held.len()
     }
 
     /// Lets go of the cursors.
@@ -35,18 +37,14 @@ impl<K: Sample> Plain<K> {
         self.held.clear();
     }
 
-    pub fn clear(&mut self) {
-        self.pairs.clear();
-    }
-
-    /// How many keys are smaller.
-    pub fn rank(&self, key: &K) -> usize {
+    // How many keys are smaller.
+    fn rank(&self, key: u64) -> usize {
         let mut low: usize = 0;
         let mut high = self.pairs.len();
         for _ in 0..64 {
             let middle = low.saturating_add(high) / 2;
             match self.pairs.get(middle) {
-                Some((smaller, _)) if low < high && *smaller < *key => {
+                Some((smaller, _)) if low < high && *smaller < key => {
                     low = middle.saturating_add(1);
                 }
                 Some(_) if low < high => high = middle,
@@ -56,28 +54,24 @@ impl<K: Sample> Plain<K> {
         low
     }
 
+    /// The pair at a place.
+    pub fn pair_at(&self, place: usize) -> Option<(u64, u64)> {
+        self.pairs.get(place).copied()
+    }
+
     /// The key at a place.
-    pub fn key_at(&self, place: usize) -> Option<&K> {
-        let (key, _) = self.pairs.get(place)?;
+    pub fn key_at(&self, place: usize) -> Option<u64> {
+        let (key, _) = self.pair_at(place)?;
         Some(key)
     }
 
-    /// The value at a place.
-    pub fn value_at(&self, place: usize) -> Option<u64> {
-        let (_, value) = self.pairs.get(place)?;
-        Some(*value)
+    // The last pair.
+    fn last(&self) -> Option<(u64, u64)> {
+        self.pairs.last().copied()
     }
 
-    /// A copy of the pair at a place.
-    pub fn pair_at(&self, place: usize) -> Result<Option<(K, u64)>, AllocError> {
-        match self.pairs.get(place) {
-            Some((key, value)) => Ok(Some((key.clone()?, *value))),
-            None => Ok(None),
-        }
-    }
-
-    /// Where the key stands: `Ok` of its place, or `Err` of the number of smaller keys.
-    pub fn find(&self, key: &K) -> Result<usize, usize> {
+    // Where the key stands: `Ok` of its place, or `Err` of the number of smaller keys.
+    fn find(&self, key: u64) -> Result<usize, usize> {
         let place = self.rank(key);
         if self.key_at(place) == Some(key) {
             Ok(place)
@@ -86,42 +80,34 @@ impl<K: Sample> Plain<K> {
         }
     }
 
-    pub fn get(&self, key: &K) -> Option<u64> {
-        self.value_at(self.find(key).ok()?)
+    fn get(&self, key: u64) -> Option<u64> {
+        let (_, value) = self.pair_at(self.find(key).ok()?)?;
+        Some(value)
     }
 
-    /// Writes the value at a place, and answers what was there.
-    pub fn set_at(&mut self, place: usize, value: u64) -> Option<u64> {
+    // Writes the value at a place, and answers what was there.
+    fn set_at(&mut self, place: usize, value: u64) -> Option<u64> {
         let (_, old) = self.pairs.get_mut(place)?;
         Some(mem::replace(old, value))
     }
 
-    /// Writes the value at a key, and answers whether it is there.
-    pub fn set(&mut self, key: &K, value: u64) -> bool {
-        match self.find(key) {
-            Ok(place) => self.set_at(place, value).is_some(),
-            Err(_) => false,
-        }
+    // The same at a key.
+    fn set(&mut self, key: u64, value: u64) -> Option<u64> {
+        self.set_at(self.find(key).ok()?, value)
     }
 
-    fn add(&mut self, place: usize, key: &K, value: u64) -> Result<(), AllocError> {
-        let key = key.clone()?;
-        let place = place.min(self.pairs.len());
-        self.pairs.insert(place, (key, value))?;
-        Ok(())
-    }
-
-    pub fn put(&mut self, key: &K, value: u64) -> Result<Option<u64>, AllocError> {
+    fn put(&mut self, key: u64, value: u64) -> Result<Option<u64>, AllocError> {
         match self.find(key) {
             Ok(place) => Ok(self.set_at(place, value)),
             Err(place) => {
-                self.add(place, key, value)?;
+                let place = place.min(self.pairs.len());
+                self.pairs.insert(place, (key, value))?;
                 Ok(None)
             }
         }
     }
 
-    pub fn take_at(&mut self, place: usize) -> Option<(K, u64)> {
+    fn take_at(&mut self, place: usize) -> Option<(u64, u64)> {
         if place < self.pairs.len() {
             Some(self.pairs.remove(place))
         } else {
@@ -129,52 +115,28 @@ impl<K: Sample> Plain<K> {
         }
     }
 
-    pub fn take(&mut self, key: &K) -> Option<u64> {
-        let place = self.find(key).ok()?;
-        let (_, value) = self.take_at(place)?;
+    fn take(&mut self, key: u64) -> Option<u64> {
+        let (_, value) = self.take_at(self.find(key).ok()?)?;
         Some(value)
     }
 
-    /// How many cursors are held.
-    pub fn held_len(&self) -> usize {
-        self.held.len()
-    }
-
-    /// Holds a cursor at a key.
-    pub fn hold(&mut self, key: &K) -> Result<Answered<K>, AllocError> {
+    // Holds a cursor at a key.
+    fn hold(&mut self, key: u64) -> Result<Answered, AllocError> {
         let number = self.held.len();
-        self.held.push(key.clone()?)?;
+        self.held.push(key)?;
         Ok(Reply::Held(number, self.get(key)))
     }
 
-    /// Holds a cursor at the key at a place, where there is one.
-    pub fn hold_at(&mut self, place: usize) -> Result<Answered<K>, AllocError> {
-        let number = self.held.len();
-        let Some((key, value)) = self.pairs.get(place) else {
-            return Ok(Reply::Pair(None));
-        };
-        self.held.push(key.clone()?)?;
-        Ok(Reply::Held(number, Some(*value)))
-    }
-
-    /// The value at a cursor's key.
-    pub fn value_of(&self, number: usize) -> Answered<K> {
-        match self.held.get(number) {
-            Some(key) => Reply::Value(self.get(key)),
-            None => Reply::NoCursor,
-        }
-    }
-
-    /// Whether a cursor's key is there.
-    pub fn exists(&self, number: usize) -> Answered<K> {
-        match self.held.get(number) {
-            Some(key) => Reply::Done(self.find(key).is_ok()),
-            None => Reply::NoCursor,
+    // Holds a cursor at the key of a pair, where there is one.
+    fn hold_at(&mut self, pair: Option<(u64, u64)>) -> Result<Answered, AllocError> {
+        match pair {
+            Some((key, _)) => self.hold(key),
+            None => Ok(Reply::Pair(None)),
         }
     }
 
     // The place beside a key, behind all where there is none.
-    fn beside(&self, key: &K, end: End) -> usize {
+    fn beside(&self, key: u64, end: End) -> usize {
         match end {
             End::Front => match self.find(key) {
                 Ok(place) => place.saturating_add(1),
@@ -184,34 +146,25 @@ impl<K: Sample> Plain<K> {
         }
     }
 
-    /// A cursor moves to the pair beside its key, where there is one.
-    pub fn step(&mut self, number: usize, end: End) -> Result<Answered<K>, AllocError> {
-        let Some(key) = self.held.get(number) else {
-            return Ok(Reply::NoCursor);
+    // A cursor moves to the pair beside its key, where there is one.
+    fn step(&mut self, number: usize, end: End) -> Answered {
+        let Some(key) = self.held.get(number).copied() else {
+            return Reply::NoCursor;
         };
-        let place = self.beside(key, end);
-        let found = self.pair_at(place)?;
-        if let Some((key, _)) = &found {
-            self.move_to(number, key)?;
-        }
-        Ok(Reply::Pair(found))
-    }
-
-    fn move_to(&mut self, number: usize, key: &K) -> Result<(), AllocError> {
-        let key = key.clone()?;
-        if let Some(cursor) = self.held.get_mut(number) {
+        let found = self.pair_at(self.beside(key, end));
+        if let (Some((key, _)), Some(cursor)) = (found, self.held.get_mut(number)) {
             *cursor = key;
         }
-        Ok(())
+        Reply::Pair(found)
     }
 
-    /// What the ends of a word take of the pairs between two keys.
-    pub fn range(
+    // What the ends of a word take of the pairs between two keys.
+    fn range(
         &self,
-        lo: Option<&K>,
-        hi: Option<&K>,
+        lo: Option<u64>,
+        hi: Option<u64>,
         word: &[End],
-    ) -> Result<Vec<Option<(K, u64)>>, AllocError> {
+    ) -> Result<Answered, AllocError> {
         let start = match lo {
             Some(lo) => self.rank(lo),
             None => 0,
@@ -223,13 +176,8 @@ impl<K: Sample> Plain<K> {
         self.walk(start, end, word)
     }
 
-    /// What the ends of a word take of the pairs from one place up to another.
-    pub fn walk(
-        &self,
-        start: usize,
-        end: usize,
-        word: &[End],
-    ) -> Result<Vec<Option<(K, u64)>>, AllocError> {
+    // What the ends of a word take of the pairs from one place up to another.
+    fn walk(&self, start: usize, end: usize, word: &[End]) -> Result<Answered, AllocError> {
         let mut taken = Vec::new(*self.pairs.allocator());
         let mut front = start;
         let mut back = end.min(self.pairs.len());
@@ -247,76 +195,77 @@ impl<K: Sample> Plain<K> {
                     }
                 }
             }
-            taken.push(self.pair_at(place)?)?;
+            taken.push(self.pair_at(place))?;
         }
-        Ok(taken)
+        Ok(Reply::Walked(taken))
     }
 
-    /// Whether a pair is the one at a place, or both are none.
-    pub fn has(&self, place: usize, pair: Option<(&K, &u64)>) -> bool {
-        match (pair, self.pairs.get(place)) {
-            (Some((key, value)), Some((wanted, number))) => key == wanted && value == number,
-            (None, None) => true,
-            _ => false,
+    // What a command of a cursor, or of an iterator, is answered.
+    fn answer_walk(&mut self, asked: &Asked) -> Result<Answered, AllocError> {
+        match asked {
+            Command::Cursor(key) => self.hold(*key),
+            Command::CursorFirst => self.hold_at(self.pair_at(0)),
+            Command::CursorLast => self.hold_at(self.last()),
+            Command::Next(number) => Ok(self.step(*number, End::Front)),
+            Command::Prev(number) => Ok(self.step(*number, End::Back)),
+            Command::Exists(number) => Ok(match self.held.get(*number) {
+                Some(key) => Reply::Done(self.find(*key).is_ok()),
+                None => Reply::NoCursor,
+            }),
+            Command::Value(number) => Ok(match self.held.get(*number) {
+                Some(key) => Reply::Value(self.get(*key)),
+                None => Reply::NoCursor,
+            }),
+            Command::Walk(word) => self.walk(0, usize::MAX, word),
+            Command::Range(lo, hi, word) => self.range(*lo, *hi, word),
+            Command::RangeAt(place, count, word) => {
+                self.walk(*place, place.saturating_add(*count), word)
+            }
+            _ => Ok(Reply::Full),
         }
-    }
-
-    /// The same of a pair that is owned.
-    pub fn has_own(&self, place: usize, pair: Option<(K, u64)>) -> bool {
-        let Some((key, value)) = pair else {
-            return place >= self.pairs.len();
-        };
-        match self.pairs.get(place) {
-            Some((wanted, number)) => key == *wanted && value == *number,
-            None => false,
-        }
-    }
-
-    // Adds a copy of the pair at a place, with a number added to its value.
-    fn add_copies(
-        &self,
-        copies: &mut Vec<(K, u64)>,
-        place: usize,
-        others: u64,
-    ) -> Result<(), AllocError> {
-        if let Some((key, value)) = self.pairs.get(place) {
-            copies.push((key.clone()?, value.wrapping_add(others)))?;
-        }
-        Ok(())
     }
 
     /// Each pair, after one of the same key with another value.
-    pub fn doubled(&self) -> Result<Vec<(K, u64)>, AllocError> {
+    pub fn doubled(&self) -> Result<Vec<(u64, u64)>, AllocError> {
         let mut copies = Vec::new(*self.pairs.allocator());
-        for place in 0..self.pairs.len() {
-            self.add_copies(&mut copies, place, 1)?;
-            self.add_copies(&mut copies, place, 0)?;
+        for (key, value) in &self.pairs {
+            copies.push((*key, value.wrapping_add(1)))?;
+            copies.push((*key, *value))?;
         }
         Ok(copies)
     }
 
     /// The pairs from the last to the first, and then from the first to the last.
-    pub fn both_ways(&self) -> Result<Vec<(K, u64)>, AllocError> {
+    pub fn both_ways(&self) -> Result<Vec<(u64, u64)>, AllocError> {
         let mut copies = Vec::new(*self.pairs.allocator());
-        let mut place = self.pairs.len();
-        for _ in 0..self.pairs.len() {
-            place = place.saturating_sub(1);
-            self.add_copies(&mut copies, place, 0)?;
+        for pair in self.pairs.iter().rev() {
+            copies.push(*pair)?;
         }
-        for place in 0..self.pairs.len() {
-            self.add_copies(&mut copies, place, 0)?;
+        for pair in &self.pairs {
+            copies.push(*pair)?;
         }
         Ok(copies)
     }
 
-    /// All keys but each third.
-    pub fn most_keys(&self) -> Result<Vec<K>, AllocError> {
-        let mut keys = Vec::new(*self.pairs.allocator());
-        for (place, (key, _)) in self.pairs.iter().enumerate() {
-            if place % 3 != 0 {
-                keys.push(key.clone()?)?;
+    /// What a command is answered.
+    pub fn answer(&mut self, asked: &Asked) -> Result<Answered, AllocError> {
+        Ok(match asked {
+            Command::Insert(key, value) => Reply::Value(self.put(*key, *value)?),
+            Command::Remove(key) => Reply::Value(self.take(*key)),
+            Command::RemoveAt(place) => Reply::Pair(self.take_at(*place)),
+            Command::Clear => {
+                self.pairs.clear();
+                Reply::Done(true)
             }
-        }
-        Ok(keys)
+            Command::Get(key) => Reply::Value(self.get(*key)),
+            Command::Set(key, value) => Reply::Done(self.set(*key, *value).is_some()),
+            Command::SetAt(place, value) => Reply::Done(self.set_at(*place, *value).is_some()),
+            Command::First => Reply::Pair(self.pair_at(0)),
+            Command::Last => Reply::Pair(self.last()),
+            Command::Len => Reply::Number(self.len()),
+            Command::At(place) => Reply::Pair(self.pair_at(*place)),
+            Command::Rank(key) => Reply::Rank(self.find(*key)),
+            _ => self.answer_walk(asked)?,
+        })
     }
 }

@@ -1,10 +1,12 @@
 //! Trees of known pairs, and what each call on them has to answer.
 
+use crate::drawing::{Kinds, Talk};
 use crate::forgetful::Forgetful;
+use crate::holds::runs;
 use bptree_visits_tests::visitors::Says;
 use bptree_visits_tests::walks::{is_counted, is_well_shaped};
 use std::alloc::{AllocError, Global};
-use sweep_bptree::script::{Command, End, Reply, run};
+use sweep_bptree::script::{Command, End, Reply};
 use sweep_bptree::tree::count::Count;
 use sweep_bptree::tree::visit::DescendError;
 use sweep_bptree::tree::{BPlusTree, InnerNodeId, LeafNodeId, NodeId, NodeStore, in_load_order};
@@ -20,48 +22,151 @@ pub fn loaded<S: NodeStore>(
     BPlusTree::bulk_load(alloc, pairs)
 }
 
-// The pairs (i, 10 i) for i below a number, loaded at once.
-fn tens<S: NodeStore<K = u64, V = u64>>(
-    alloc: Global,
-    len: u64,
-) -> Result<BPlusTree<S>, AllocError> {
-    let mut pairs = Vec::new(alloc);
-    for key in 0..len {
-        pairs.push((key, key.wrapping_mul(10)))?;
+/// A tree of numbers, by its calls.
+pub trait Known: Drop {
+    fn begin(alloc: Global) -> Result<Self, AllocError>;
+
+    fn load(alloc: Global, pairs: Vec<(u64, u64)>) -> Result<Self, AllocError>;
+
+    fn find(&self, key: u64) -> Option<u64>;
+
+    /// The value, and how many keys were compared.
+    fn find_counted(&self, key: u64) -> (Option<u64>, usize);
+
+    /// Gives a number as the remembered leaf's.
+    fn hint(&self, number: usize);
+
+    fn has_leaf(&self, number: usize) -> bool;
+
+    fn has_inner(&self, number: usize) -> bool;
+
+    fn levels(&self) -> usize;
+
+    /// The number of keys of the root, 0 of a leaf.
+    fn root_len(&self) -> usize;
+
+    fn visit(&self, says: Says) -> Result<Option<usize>, DescendError>;
+
+    fn put(&mut self, key: u64, value: u64) -> Result<Option<u64>, AllocError>;
+
+    fn take(&mut self, key: u64) -> Result<Option<u64>, AllocError>;
+
+    fn count(&self) -> usize;
+
+    /// Whether a walk over all nodes finds them as they have to be.
+    fn is_well(&self) -> Result<bool, AllocError>;
+
+    fn answers(&mut self, alloc: Global, talk: Talk) -> Result<bool, AllocError>;
+}
+
+impl<S: NodeStore<K = u64, V = u64, Argument = Count>> Known for BPlusTree<S> {
+    fn begin(alloc: Global) -> Result<Self, AllocError> {
+        BPlusTree::new(S::empty(alloc))
     }
-    loaded(alloc, pairs)
+
+    fn load(alloc: Global, pairs: Vec<(u64, u64)>) -> Result<Self, AllocError> {
+        loaded(alloc, pairs)
+    }
+
+    fn find(&self, key: u64) -> Option<u64> {
+        self.get(&key).copied()
+    }
+
+    fn find_counted(&self, key: u64) -> (Option<u64>, usize) {
+        let (value, compares) = self.get_counted(&key);
+        (value.copied(), compares)
+    }
+
+    fn hint(&self, number: usize) {
+        self.node_store().cache_leaf(LeafNodeId::from_usize(number));
+    }
+
+    fn has_leaf(&self, number: usize) -> bool {
+        let id = LeafNodeId::from_usize(number);
+        self.node_store().try_get_leaf(id).is_some()
+    }
+
+    fn has_inner(&self, number: usize) -> bool {
+        let id = InnerNodeId::from_usize(number);
+        self.node_store().try_get_inner(id).is_some()
+    }
+
+    fn levels(&self) -> usize {
+        self.height()
+    }
+
+    fn root_len(&self) -> usize {
+        let NodeId::Inner(root) = self.root_id() else {
+            return 0;
+        };
+        match self.node_store().try_get_inner(root) {
+            Some(node) => node.len(),
+            None => 0,
+        }
+    }
+
+    fn visit(&self, says: Says) -> Result<Option<usize>, DescendError> {
+        self.descend_visit(says)
+    }
+
+    fn put(&mut self, key: u64, value: u64) -> Result<Option<u64>, AllocError> {
+        match self.insert(key, value) {
+            Ok(old) => Ok(old),
+            Err(_) => Err(AllocError),
+        }
+    }
+
+    fn take(&mut self, key: u64) -> Result<Option<u64>, AllocError> {
+        self.remove(&key)
+    }
+
+    fn count(&self) -> usize {
+        self.len()
+    }
+
+    fn is_well(&self) -> Result<bool, AllocError> {
+        Ok(is_well_shaped(self)? && is_counted(self))
+    }
+
+    fn answers(&mut self, alloc: Global, talk: Talk) -> Result<bool, AllocError> {
+        runs(alloc, self, talk)
+    }
 }
 
-// Whether keys at the ends, in the middle and behind all are found, and others are not.
-fn finds<S: NodeStore<K = u64, V = u64>>(tree: &BPlusTree<S>) -> bool {
-    tree.get(&0) == Some(&0)
-        && tree.get(&4_999) == Some(&49_990)
-        && tree.get(&9_999) == Some(&99_990)
-        && tree.get(&10_000) == None
+// The pairs (i, 10 i) for i below ten thousand, loaded at once.
+fn tens<T: Known>(alloc: Global) -> Result<T, AllocError> {
+    let mut pairs = Vec::new(alloc);
+    for key in 0..10_000 {
+        pairs.push((key, key * 10))?;
+    }
+    T::load(alloc, pairs)
 }
 
-// Whether each look-up of a few is right once a number was given as the remembered leaf's: once, and then twice in turn.
-fn finds_after<S: NodeStore<K = u64, V = u64>>(tree: &BPlusTree<S>, number: usize) -> bool {
-    let id = LeafNodeId::from_usize(number);
+// What a look-up of the tens has to answer.
+fn ten(key: u64) -> Option<u64> {
+    if key < 10_000 { Some(key * 10) } else { None }
+}
+
+// Whether keys at the ends, in the middle and behind all are looked up right, once a number was given as the remembered
+// leaf's: once, and then twice in turn.
+fn finds_after<T: Known>(tree: &T, number: usize) -> bool {
     let mut well = true;
     for key in [0, 4_999, 9_999, 10_000] {
-        let wanted = if key < 10_000 { Some(key * 10) } else { None };
-        tree.node_store().cache_leaf(id);
-        well = tree.get(&key).copied() == wanted && well;
-        tree.node_store().cache_leaf(id);
-        tree.node_store().cache_leaf(id);
-        well = tree.get(&key).copied() == wanted && well;
+        tree.hint(number);
+        well = tree.find(key) == ten(key) && well;
+        tree.hint(number);
+        tree.hint(number);
+        well = tree.find(key) == ten(key) && well;
     }
     well
 }
 
 // Each leaf's number, an absent one and the greatest are given as the remembered leaf's.
-fn hints<S: NodeStore<K = u64, V = u64>>(tree: &BPlusTree<S>) -> bool {
-    let mut well = finds(tree);
+fn hints<T: Known>(tree: &T) -> bool {
+    let mut well = tree.find(4_999) == ten(4_999);
     let mut leaves: usize = 0;
     for number in 0..1_000 {
-        let id = LeafNodeId::from_usize(number);
-        if tree.node_store().try_get_leaf(id).is_some() {
+        if tree.has_leaf(number) {
             leaves = leaves.saturating_add(1);
             well = finds_after(tree, number) && well;
         }
@@ -69,104 +174,63 @@ fn hints<S: NodeStore<K = u64, V = u64>>(tree: &BPlusTree<S>) -> bool {
     well && leaves > 150 && finds_after(tree, 999) && finds_after(tree, usize::MAX)
 }
 
-// The number of keys of the root, 0 of a leaf.
-fn root_len<S: NodeStore<K = u64, V = u64>>(tree: &BPlusTree<S>) -> usize {
-    let NodeId::Inner(root) = tree.root_id() else {
-        return 0;
-    };
-    match tree.node_store().try_get_inner(root) {
-        Some(node) => node.len(),
-        None => 0,
-    }
-}
-
 // Visitors that name a child which is there, and others which are not.
-fn visitors<S: NodeStore<K = u64, V = u64>>(tree: &BPlusTree<S>) -> bool {
-    let last = root_len(tree);
-    let mut well = tree.height() == 2 && went_down(tree, last);
+fn visitors<T: Known>(tree: &T) -> bool {
+    let last = tree.root_len();
+    let mut well = tree.levels() == 2 && went_down(tree, last);
     for place in [last.saturating_add(1), 65, usize::MAX] {
-        let wanted = Err(DescendError::InvalidChild);
-        well = is_answered(tree, Says::Child(place), wanted) && well;
+        well = tree.visit(Says::Child(place)) == Err(DescendError::InvalidChild) && well;
     }
-    well && is_answered(tree, Says::Nothing, Ok(None))
-        && is_answered(tree, Says::Number(7), Ok(Some(7)))
-}
-
-fn is_answered<S: NodeStore<K = u64, V = u64>>(
-    tree: &BPlusTree<S>,
-    says: Says,
-    wanted: Result<Option<usize>, DescendError>,
-) -> bool {
-    tree.descend_visit(says) == wanted
+    well && tree.visit(Says::Nothing) == Ok(None) && tree.visit(Says::Number(7)) == Ok(Some(7))
 }
 
 // Whether a visitor that names a child of the root, and each time the same place, is asked about the node below it.
-fn went_down<S: NodeStore<K = u64, V = u64>>(tree: &BPlusTree<S>, place: usize) -> bool {
-    match tree.descend_visit(Says::Child(place)) {
-        Ok(Some(keys)) => 0 < keys && keys <= 64,
-        Ok(None) => false,
-        Err(_) => false,
-    }
+fn went_down<T: Known>(tree: &T, place: usize) -> bool {
+    matches!(tree.visit(Says::Child(place)), Ok(Some(keys)) if 0 < keys && keys <= 64)
 }
 
-// How many leaves and inner nodes stand under the first numbers.
-fn nodes<S: NodeStore>(tree: &BPlusTree<S>, numbers: usize) -> (usize, usize) {
-    let store = tree.node_store();
+// Whether no node but one leaf stands under the first numbers.
+fn is_one_leaf<T: Known>(tree: &T) -> bool {
     let mut leaves: usize = 0;
     let mut inners: usize = 0;
-    for number in 0..numbers {
-        if store.try_get_leaf(LeafNodeId::from_usize(number)).is_some() {
+    for number in 0..10_000 {
+        if tree.has_leaf(number) {
             leaves = leaves.saturating_add(1);
         }
-        if store
-            .try_get_inner(InnerNodeId::from_usize(number))
-            .is_some()
-        {
+        if tree.has_inner(number) {
             inners = inners.saturating_add(1);
         }
     }
-    (leaves, inners)
-}
-
-// Whether a walk over all nodes finds them as they have to be.
-fn is_well<S: NodeStore<Argument = Count>>(tree: &BPlusTree<S>) -> Result<bool, AllocError> {
-    Ok(is_well_shaped(tree)? && is_counted(tree))
+    leaves == 1 && inners == 0
 }
 
 // A hundred thousand pairs come. After each thousand all nodes are walked over.
-fn come<S: NodeStore<K = u64, V = u64, Argument = Count>>(
-    tree: &mut BPlusTree<S>,
-) -> Result<bool, AllocError> {
+fn come<T: Known>(tree: &mut T) -> Result<bool, AllocError> {
     let mut well = true;
     for turn in 0..100_000 {
-        well = tree.insert(turn * 7_919 % 100_000, turn).ok() == Some(None) && well;
+        well = tree.put(turn * 7_919 % 100_000, turn)?.is_none() && well;
         if turn % 1_000 == 999 {
-            well = is_well(tree)? && well;
+            well = tree.is_well()? && well;
         }
     }
-    Ok(well && tree.len() == 100_000 && (tree.height() == 2 || tree.height() == 3))
+    Ok(well && tree.count() == 100_000 && (tree.levels() == 2 || tree.levels() == 3))
 }
 
 // They leave in another order.
-fn leave<S: NodeStore<K = u64, V = u64, Argument = Count>>(
-    tree: &mut BPlusTree<S>,
-) -> Result<bool, AllocError> {
+fn leave<T: Known>(tree: &mut T) -> Result<bool, AllocError> {
     let mut well = true;
     for turn in 0..100_000 {
-        well = tree.remove(&(turn * 6_007 % 100_000))?.is_some() && well;
+        well = tree.take(turn * 6_007 % 100_000)?.is_some() && well;
         if turn % 1_000 == 999 {
-            well = is_well(tree)? && well;
+            well = tree.is_well()? && well;
         }
     }
-    Ok(well && tree.is_empty() && nodes(tree, 10_000) == (1, 0))
+    Ok(well && tree.count() == 0 && is_one_leaf(tree))
 }
 
-// Whether two held cursors' commands are answered so, on a tree with no pairs.
-fn holds_cursors<S: NodeStore<K = u64, V = u64, Argument = Count>>(
-    alloc: Global,
-    tree: &mut BPlusTree<S>,
-) -> Result<bool, AllocError> {
-    let commands = vec![in alloc;
+// The commands of two held cursors on a tree with no pairs, and what they are answered.
+fn of_cursors(alloc: Global) -> Result<Talk, AllocError> {
+    let asked = vec![in alloc;
         Command::Insert(1, 10),
         Command::Insert(2, 20),
         Command::Cursor(1),
@@ -190,54 +254,43 @@ fn holds_cursors<S: NodeStore<K = u64, V = u64, Argument = Count>>(
         Reply::NoCursor,
         Reply::Walked(vec![in alloc; Some((2, 20)), None]?),
     ]?;
-    let (replies, error) = run(alloc, tree, commands);
-    Ok(error.is_none() && crate::drawing::are_same(&replies, &wanted))
+    Ok(Talk {
+        kinds: Kinds::Tree,
+        asked,
+        wanted,
+    })
 }
 
 // Whether look-ups over a store that remembers no leaf make few comparisons.
-fn no_hint<S: NodeStore<K = u64, V = u64>>(tree: &BPlusTree<S>) -> bool {
-    let mut well = finds(tree) && tree.height() == 2;
+fn no_hint<T: Known>(tree: &T) -> bool {
+    let mut well = tree.levels() == 2;
     for key in 0..10_001 {
-        let (value, compares) = tree.get_counted(&key);
-        let wanted = if key < 10_000 { Some(key * 10) } else { None };
-        well = value.copied() == wanted && compares <= 21 && well;
+        let (value, compares) = tree.find_counted(key);
+        well = value == ten(key) && tree.find(key) == value && compares <= 21 && well;
     }
     well
 }
 
-// What a letter names of an empty tree.
-fn from_empty<S: NodeStore<K = u64, V = u64, Argument = Count>>(
-    alloc: Global,
-    letter: u8,
-) -> Result<bool, AllocError> {
-    let mut tree: BPlusTree<S> = BPlusTree::new(S::empty(alloc))?;
-    if letter == b'b' {
-        holds_cursors(alloc, &mut tree)
-    } else {
-        Ok(come(&mut tree)? && leave(&mut tree)?)
-    }
-}
-
-// What a letter names of a tree of ten thousand pairs.
-fn of_tens<S: NodeStore<K = u64, V = u64>>(alloc: Global, letter: u8) -> Result<bool, AllocError> {
-    let tree: BPlusTree<S> = tens(alloc, 10_000)?;
+// What a letter names of a tree.
+fn of_tree<T: Known>(alloc: Global, letter: u8) -> Result<bool, AllocError> {
+    let mut tree = T::begin(alloc)?;
+    let tens: T = tens(alloc)?;
     Ok(match letter {
-        b'a' => hints(&tree),
-        b'b' => no_hint(&tree),
-        _ => visitors(&tree),
+        b'a' => hints(&tens),
+        b'b' => no_hint(&tens) && tree.answers(alloc, of_cursors(alloc)?)?,
+        b'c' => visitors(&tens),
+        _ => come(&mut tree)? && leave(&mut tree)?,
     })
 }
 
-/// What a letter names of the trees of known pairs.
+/// What a letter names of the trees of known pairs: one of them over a store that remembers no leaf.
 pub fn known_pairs<S: NodeStore<K = u64, V = u64, Argument = Count>>(
     alloc: Global,
     letter: u8,
 ) -> Result<bool, AllocError> {
-    match letter {
-        b'b' => Ok(
-            of_tens::<Forgetful<S>>(alloc, letter)? && from_empty::<Forgetful<S>>(alloc, letter)?,
-        ),
-        b'd' => from_empty::<S>(alloc, letter),
-        _ => of_tens::<S>(alloc, letter),
+    if letter == b'b' {
+        of_tree::<BPlusTree<Forgetful<S>>>(alloc, letter)
+    } else {
+        of_tree::<BPlusTree<S>>(alloc, letter)
     }
 }

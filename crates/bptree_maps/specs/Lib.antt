@@ -1,4 +1,5 @@
 pub mod Keys
+pub mod Pages
 pub mod Rows
 pub mod Union
 pub mod Writing

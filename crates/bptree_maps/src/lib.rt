@@ -1,6 +1,8 @@
-//! The map and the set: an ordered map and an ordered set over a B+ tree of their own.
+//! The map and the set: an ordered map and an ordered set over a B+ tree of their own; and pages of a map by rank, through
+//! its contracts alone.
 #![tactic(auto)]
 
 mod gathering;
 pub mod map;
+pub mod page;
 pub mod set;

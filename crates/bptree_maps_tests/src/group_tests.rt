@@ -1,10 +1,12 @@
 //! Maps that keep groups of keys.
+use crate::maps;
+use crate::maps::{measures, put, take};
 use bptree_arguments::argument::{RankArgument, SearchArgument};
 use bptree_arguments::group::{GroupCount, Tuple2};
 use bptree_arguments::group_size::ExtractGroupSize;
 use bptree_arguments::visit::DescendVisit;
 use bptree_maps::map::{BPlusTreeMap, Iter};
-use bptree_pages::page::group_page;
+use bptree_maps::page::group_page;
 use std::alloc::{AllocError, Global};
 use std::test::Fail;
 
@@ -32,7 +34,15 @@ fn collect<A: Grouping>(
     alloc: Global,
     keys: &[Pair],
 ) -> Result<BPlusTreeMap<Pair, u64, A>, AllocError> {
-    BPlusTreeMap::from_iter(alloc, keys.iter().map(|key| (*key, key.1)))
+    let mut pairs = Vec::new(alloc);
+    for key in keys {
+        pairs.push((*key, key.1))?;
+    }
+    maps::collect(alloc, pairs)
+}
+
+fn quotient(number: u64, by: u64) -> u64 {
+    number.checked_div(by).unwrap_or(0)
 }
 
 // So many keys whose first part is their place by a number, and whose second is what is left.
@@ -41,14 +51,11 @@ fn collect_by<A: Grouping>(
     len: u64,
     size: u64,
 ) -> Result<BPlusTreeMap<Pair, u64, A>, AllocError> {
-    BPlusTreeMap::from_iter(
-        alloc,
-        (0..len).map(|i| {
-            let group = i.checked_div(size).unwrap_or(0);
-            let rest = i.checked_rem(size).unwrap_or(0);
-            ((group, rest), rest)
-        }),
-    )
+    let mut keys = Vec::new(alloc);
+    for place in 0..len {
+        keys.push((quotient(place, size), place.checked_rem(size).unwrap_or(0)))?;
+    }
+    collect(alloc, &keys)
 }
 
 // Whether so many groups are there.
@@ -193,24 +200,11 @@ fn are_sized<A: Grouping, W: DescendVisit<Pair, u64, A, Result = usize>>(
 // One group of so many keys that two levels of nodes stand above its leaves.
 fn is_one_large_group<A: Grouping>(alloc: Global) -> Result<bool, AllocError> {
     let map: BPlusTreeMap<Pair, u64, A> = collect_by(alloc, 4161, 4161)?;
-    Ok(
-        map.len() == 4161
-            && map.tree().height() == 2
-            && has_rank(&map, (0, 4160), true, 4160)
-            && has_rank(&map, (0, 2112), true, 2112),
-    )
-}
-
-fn put<A: Grouping>(map: &mut BPlusTreeMap<Pair, u64, A>, key: Pair, value: u64) -> bool {
-    matches!(map.insert(key, value), Ok(None))
-}
-
-// Removes a key that is there.
-fn take<A: Grouping>(map: &mut BPlusTreeMap<Pair, u64, A>, key: Pair, value: u64) -> bool {
-    match map.remove(&key) {
-        Ok(Some(old)) => old == value,
-        _ => false,
+    let mut all = measures(&map, 4161, 2);
+    for place in [4160, 2112] {
+        all = has_rank(&map, (0, place), true, place as usize) && all;
     }
+    Ok(all)
 }
 
 // One pair comes and goes, and no group is left; then two pairs are one group.

@@ -1,8 +1,14 @@
-//! Tests of maps and sets, and of visits.
+//! Tests of trees, of maps and of sets, and callers of these and of visits.
 #![tactic(auto)]
 
 #[cfg(test)]
 mod callers;
+#[cfg(test)]
+mod counted;
+#[cfg(test)]
+mod counted_tests;
+#[cfg(test)]
+mod cursors;
 #[cfg(test)]
 mod firsts;
 #[cfg(test)]
@@ -10,8 +16,18 @@ mod group_tests;
 #[cfg(test)]
 mod map_tests;
 #[cfg(test)]
+mod maps;
+#[cfg(test)]
 mod page_tests;
+#[cfg(test)]
+mod places;
 #[cfg(test)]
 mod set_tests;
 #[cfg(test)]
-mod visit_tests;
+mod shapes;
+#[cfg(test)]
+mod tested;
+#[cfg(test)]
+mod tree_tests;
+#[cfg(test)]
+mod trees;

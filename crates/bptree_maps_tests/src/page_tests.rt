@@ -1,40 +1,40 @@
 //! Pages of a map of ten pairs.
+use crate::maps::{Map, collect, gives};
 use bptree_arguments::count::Count;
-use bptree_maps::map::BPlusTreeMap;
-use bptree_pages::page::{page, page_of, pages};
+use bptree_maps::page::{page, page_of, pages};
 use std::alloc::{AllocError, Global};
 use std::test::Fail;
 
-type Counted = BPlusTreeMap<u64, u64, Count>;
-
 // The keys below a number with their squares.
-fn squares(alloc: Global, len: u64) -> Result<Counted, AllocError> {
-    BPlusTreeMap::from_iter(alloc, (0..len).map(|key| (key, key.wrapping_mul(key))))
+fn squares(alloc: Global, len: u64) -> Result<Map<Count>, AllocError> {
+    let mut pairs = Vec::new(alloc);
+    for key in 0..len {
+        pairs.push((key, key.wrapping_mul(key)))?;
+    }
+    collect(alloc, pairs)
 }
 
-// Whether a page of four has these keys, with their squares, and no more.
-fn shows(map: &Counted, p: usize, keys: &[u64]) -> Result<bool, AllocError> {
-    let mut pairs = page(map, p, 4)?;
-    let mut all = pairs.len() == keys.len();
-    for key in keys {
-        all = all
-            && matches!(pairs.next(), Some((k, v)) if *k == *key && *v == key.wrapping_mul(*key));
+// Whether a page of four has so many pairs, which begin with these keys.
+fn shows(map: &Map<Count>, p: usize, steps: &[(bool, u64)]) -> bool {
+    match page(map, p, 4) {
+        Ok(pairs) => gives(pairs, steps.len(), steps),
+        Err(_) => false,
     }
-    Ok(all && pairs.next().is_none() && pairs.next_back().is_none())
+}
+
+// Whether a key stands on a page of four, or would.
+fn stands_on(map: &Map<Count>, key: u64, wanted: Result<usize, usize>) -> bool {
+    page_of(map, &key, 4) == Ok(wanted)
 }
 
 fn shows_ten(alloc: Global) -> Result<bool, AllocError> {
     let map = squares(alloc, 10)?;
-    Ok(
-        pages(&map, 4) == 3
-            && shows(&map, 0, &[0, 1, 2, 3])?
-            && shows(&map, 2, &[8, 9])?
-            && shows(&map, 3, &[])?
-            && shows(&map, 4_611_686_018_427_387_904, &[])?
-            && page_of(&map, &5, 4)? == Ok(1)
-            && page_of(&map, &10, 4)? == Err(2)
-            && pages(&squares(alloc, 0)?, 4) == 0,
-    )
+    let none = squares(alloc, 0)?;
+    let mut all = pages(&map, 4) == 3 && pages(&none, 4) == 0;
+    all = shows(&map, 0, &[(true, 0), (true, 1), (true, 2), (true, 3)]) && all;
+    all = shows(&map, 2, &[(true, 8), (true, 9)]) && shows(&map, 3, &[]) && all;
+    all = shows(&map, 4_611_686_018_427_387_904, &[]) && all;
+    Ok(all && stands_on(&map, 5, Ok(1)) && stands_on(&map, 10, Err(2)))
 }
 
 #[test]

@@ -7,3 +7,4 @@ mod numbers;
 mod pairs;
 mod paths;
 mod searches;
+pub mod stores;

@@ -1,5 +1,5 @@
-//! Inner nodes: worked splits and merges, each call once, and what a dropped node drops.
-ghost use Rattle.std.specs.Prelude.{◌≡◌, ◌<◌, ◌≤◌, ◌+◌, length, vec_len, IfOk};
+//! Inner nodes: worked splits and merges, and what a dropped node drops.
+ghost use Rattle.std.specs.Prelude.{◌<◌, length, IfOk};
 ghost use Rattle.bptree_nodes.specs.Inner.{HasKeys};
 
 use bptree_keys::node_id::{LeafNodeId, NodeId};
@@ -159,27 +159,6 @@ fn splits_behind_the_middle(rt: HostRuntime) -> Result<(), Fail> {
     Ok(())
 }
 
-// Whether a split at the slot that is joined again leaves the node as it was.
-fn joins_a_split(alloc: Global, slot: usize) -> Result<bool, AllocError> {
-    let Some((mut left, up, right)) = split_of_tens(alloc, slot, 5)? else {
-        return Ok(false);
-    };
-    if left.len() != 32 || right.len() != 32 || slot > 64 {
-        return Ok(false);
-    }
-    let taken = left.join_split(slot, up, right);
-    let whole = node_of_tens(alloc)?;
-    Ok(taken == (5, leaf(100), 100) && shows(&left, whole.keys(), whole.arguments()))
-}
-
-#[test]
-fn takes_a_split_back(rt: HostRuntime) -> Result<(), Fail> {
-    for slot in [0, 31, 32, 33, 64] {
-        assert!(rt; joins_a_split(rt.alloc(), slot)?);
-    }
-    Ok(())
-}
-
 // A parent of three keys loses the second, which goes between the two children that it parted.
 fn merges(alloc: Global) -> Result<bool, AllocError> {
     let keys = vec![in alloc; 10, 30, 50]?;
@@ -202,117 +181,6 @@ fn merges(alloc: Global) -> Result<bool, AllocError> {
 #[test]
 fn merges_two_children_of_a_node(rt: HostRuntime) -> Result<(), Fail> {
     assert!(rt; merges(rt.alloc())?);
-    Ok(())
-}
-
-// A node from what the vectors give in turn.
-fn node_from_iter(
-    alloc: Global,
-    keys: Vec<usize>,
-    children: Vec<NodeId>,
-    arguments: Vec<usize>,
-) -> Result<Box<InnerNode<usize, usize>>, AllocError>
-    requires keys { vec_len keys ≤ 64 }
-    requires children { vec_len children ≡ vec_len keys + 1 }
-    requires arguments { vec_len arguments ≡ vec_len keys + 1 }
-    ensures keys { IfOk result (λ b. b.value.keys ≡ keys.items) }
-    ensures children { IfOk result (λ b. b.value.children ≡ children.items) }
-    ensures arguments { IfOk result (λ b. b.value.arguments ≡ arguments.items) }
-{
-    let node = InnerNode::new_from_iter(alloc, keys, children, arguments)?;
-    Ok(node)
-}
-
-// Entries at both ends and inside, and a key and an argument that are replaced.
-fn changes(alloc: Global) -> Result<bool, AllocError> {
-    let keys = vec![in alloc; 10, 30]?;
-    let children = vec![in alloc; leaf(0), leaf(1), leaf(3)]?;
-    let mut node = node_from_iter(alloc, keys, children, vec![in alloc; 0, 1, 3]?)?;
-    node.insert_at(1, 20, leaf(2), 2);
-    node.push(40, leaf(4), 4);
-    node.push_front(0, leaf(9), 9);
-    let replaced = (
-        node.set_key(2, 25),
-        node.set_argument(1, 7),
-        node.set_argument(1, 0),
-    );
-    let places = (node.locate_child(&24), node.locate_child(&25));
-    Ok(
-        replaced == (20, 0, 7)
-            && places == ((2, leaf(1)), (3, leaf(2)))
-            && shows(&node, &[0, 10, 25, 30, 40], &[9, 0, 1, 2, 3, 4]),
-    )
-}
-
-// Entries that leave at both ends and inside.
-fn empties(alloc: Global) -> Result<bool, AllocError> {
-    let keys = vec![in alloc; 0, 10, 25, 30, 40]?;
-    let mut node = node_over(alloc, keys, multiples(alloc, 1, 0, 5)?)?;
-    if node.len() != 5 {
-        return Ok(false);
-    }
-    let room = InnerNode::empty(alloc)?;
-    let (between, right) = node.split_off(4, room);
-    let ends = (node.pop(), node.pop_front());
-    let inside = node.remove_at(0);
-    Ok(
-        between == 30
-            && ends == ((25, leaf(3), 3), (0, leaf(0), 0))
-            && inside == (10, leaf(2), 2)
-            && shows(&right, &[40], &[4, 5])
-            && node.len() == 0
-            && !node.able_to_lend(),
-    )
-}
-
-#[test]
-fn changes_a_node_at_its_ends_and_inside(rt: HostRuntime) -> Result<(), Fail> {
-    assert!(rt; changes(rt.alloc())? && empties(rt.alloc())?);
-    Ok(())
-}
-
-// A child and the key before it go to the next node and come back, and all of the next node likewise.
-fn shares(alloc: Global) -> Result<bool, AllocError> {
-    let keys = vec![in alloc; 10, 20]?;
-    let mut left = node_over(alloc, keys, multiples(alloc, 1, 0, 2)?)?;
-    let mut right = node_over(alloc, vec![in alloc; 40]?, multiples(alloc, 1, 3, 4)?)?;
-    if left.len() != 2 || right.len() != 1 {
-        return Ok(false);
-    }
-    let up = left.lend_last(30, &mut right);
-    let is_lent = up == 20 && shows(&left, &[10], &[0, 1]) && shows(&right, &[30, 40], &[2, 3, 4]);
-    let down = left.lend_first(up, &mut right);
-    left.take_over(down, &mut right);
-    let is_taken = shows(&left, &[10, 20, 30, 40], &[0, 1, 2, 3, 4]);
-    let between = left.hand_over(3, &mut right);
-    Ok(is_lent && is_taken && between == 30 && shows(&right, &[40], &[3, 4]))
-}
-
-#[test]
-fn shares_children_with_the_next_node(rt: HostRuntime) -> Result<(), Fail> {
-    assert!(rt; shares(rt.alloc())?);
-    Ok(())
-}
-
-// A key of a clone stays where the node gets another.
-fn clones(alloc: Global) -> Result<bool, AllocError> {
-    let mut keys = Vec::new(alloc);
-    keys.push(String::from_str(alloc, "between")?)?;
-    let children = vec![in alloc; leaf(1), leaf(2)]?;
-    let mut node = InnerNode::new(alloc, keys, children, vec![in alloc; 1u64, 2]?)?;
-    let copy = node.clone()?;
-    let between = node.set_key(0, String::from_str(alloc, "other")?);
-    Ok(
-        between.as_str() == "between"
-            && copy.keys()[0].as_str() == "between"
-            && copy.arguments() == [1, 2].as_slice()
-            && copy.child_id(1) == leaf(2),
-    )
-}
-
-#[test]
-fn clones_a_node(rt: HostRuntime) -> Result<(), Fail> {
-    assert!(rt; clones(rt.alloc())?);
     Ok(())
 }
 

@@ -1,4 +1,4 @@
-//! Tests of the numbers, the leaves and the inner nodes of a B+ tree.
+//! Tests of the numbers, the leaves and the inner nodes of a B+ tree, and of the stores of nodes.
 #![tactic(auto)]
 
 #[cfg(test)]
@@ -9,3 +9,5 @@ mod inner_tests;
 mod leaf_tests;
 #[cfg(test)]
 mod number_tests;
+#[cfg(test)]
+mod store_tests;

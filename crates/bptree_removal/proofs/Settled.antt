@@ -12,7 +12,7 @@ use Rattle.bptree_keys.specs.declared.node_id.NodeId.TheVariants as kind
 use Rattle.bptree_shape.specs.Edit.{SameLinks}
 use Rattle.bptree_shape.specs.Order.{Chain}
 use Rattle.bptree_shape.specs.Shape.{inner_keys, inner_children, pairs_at, leaves_at, inner_count, stands, root_least, IsTree, IsWellShaped}
-use Rattle.bptree_removal.specs.Trim.{IsLoose}
+use Rattle.bptree_rebalancing.specs.Trim.{IsLoose}
 use Rattle.bptree_shape.proofs.Agreeing.{stands_le}
 use Rattle.bptree_shape.proofs.Frame.{Same, same}
 use Rattle.bptree_insertion.proofs.Mended.{each_counted, same_links, linked_same}

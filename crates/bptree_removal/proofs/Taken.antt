@@ -20,26 +20,15 @@ use Rattle.bptree_keys.specs.declared.node_id.NodeId.TheVariants as kind
 use Rattle.bptree_insertion.specs.Climb.{Climb, Risen, StaysFew}
 use Rattle.bptree_shape.specs.Edit.{CanReach, Stays, Edits}
 use Rattle.bptree_shape.specs.Outcome.{Done}
-use Rattle.bptree_shape.specs.Shape.{leaf_pairs, pairs_at, root_least, IsWellShaped}
-use Rattle.bptree_removal.specs.Trim.{IsThere, IsLoose, Leaves}
+use Rattle.bptree_shape.specs.Shape.{leaf_pairs, pairs_at}
+use Rattle.bptree_removal.specs.Removal.{IsThere, Leaves}
 use Rattle.bptree_insertion.proofs.Climbing.{not_held}
 use Rattle.bptree_insertion.proofs.Placed.{none_is}
+use Rattle.bptree_rebalancing.proofs.Loose.{loose_of}
 use Rattle.bptree_removal.proofs.RemovedLeaf.{del_is_local, leaf_removed}
 use Rattle.bptree_insertion.proofs.Rooted.{reach_of, whole_done}
 use Rattle.bptree_shape.proofs.Ways.{way_can}
-use Rattle.bptree_shape.proofs.Widen.{tree_less}
 use Rattle.bptree_shape.proofs.ListReads.{read_below}
-
-pub loose_of : {K V A : Type 0} (cmp : K → K → Ordering) (is_summary : A → List K → Type 0) (slots : Slots (Inner K A) (Leaf K V)) (h : ℕ) (root : NodeId) → IsWellShaped cmp is_summary slots h root → IsLoose cmp is_summary slots h root
-loose_of cmp is_summary slots h root w = record {
-  tree = tree_less cmp slots (root_least h) 0 h root _ _ (omega arith) w.tree;
-  leaves = w.leaves;
-  inners = w.inners;
-  no_leaf_held = w.no_leaf_held;
-  no_inner_held = w.no_inner_held;
-  summed = w.summed;
-  linked = w.linked;
-}
 
 module _ {K V A : Type 0} {cmp : K → K → Ordering} (total : IsTotalOrder cmp) (is_summary : A → List K → Type 0) (old : Slots (Inner K A) (Leaf K V)) (path : List (InnerNodeId × ℕ × NodeId)) (leaf : LeafNodeId) (slot : ℕ) (k : K)
     (there : IsThere cmp is_summary old path leaf slot k) where

@@ -19,10 +19,11 @@ use Rattle.bptree_insertion.specs.Climb.{least_at, Climbs, Risen}
 use Rattle.bptree_insertion.specs.LeafChange.{SumsUpLeaf}
 use Rattle.bptree_shape.specs.Path.{Way}
 use Rattle.bptree_shape.specs.Shape.{leaf_pairs}
-use Rattle.bptree_removal.specs.Trim.{IsThere, Leaves, ShortLeaf, Trims}
+use Rattle.bptree_rebalancing.specs.Trim.{ShortLeaf, Trims}
+use Rattle.bptree_removal.specs.Removal.{IsThere, Leaves}
 use Rattle.bptree_insertion.proofs.Climbing.{least_some}
 use Rattle.bptree_insertion.proofs.Placed.{node_of}
-use Rattle.bptree_removal.proofs.Seated.{seat_of}
+use Rattle.bptree_rebalancing.proofs.Seated.{seat_of}
 use Rattle.bptree_removal.proofs.Taken as taken
 use Rattle.bptree_shape.proofs.ListReads.{read_below}
 

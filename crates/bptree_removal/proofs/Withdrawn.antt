@@ -18,7 +18,7 @@ use Rattle.bptree_keys.specs.declared.node_id.NodeId.{NodeId}
 use Rattle.bptree_shape.specs.ByArgument.{IsSelectedAt, IsWithdrawn, GoesOn}
 use Rattle.bptree_shape.specs.Leaves.{pairs_of}
 use Rattle.bptree_shape.specs.Shape.{leaf_pairs, pairs_at, root_least, IsWellShaped}
-use Rattle.bptree_removal.specs.Trim.{IsThere, Leaves}
+use Rattle.bptree_removal.specs.Removal.{IsThere, Leaves}
 use Rattle.bptree_shape.proofs.Ordered.{by_cases}
 use Rattle.bptree_shape.proofs.Walk.{tree_ascends}
 use Rattle.bptree_shape.proofs.ListReads.{read_some}

@@ -1,5 +1,1 @@
-pub mod Help
-pub mod Mend
-pub mod Share
-pub mod Shared
-pub mod Trim
+pub mod Removal

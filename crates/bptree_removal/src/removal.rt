@@ -1,32 +1,26 @@
 //! Removal from a tree that stands in a store.
-ghost use Rattle.std.specs.Prelude.{◌≡◌, ℕ, ◌<◌, ◌≤◌, ◌+◌, ◌^◌, false, List, ◌∷◌, ◌++◌, IfOk, OnErr, IsTrue, Some, length, slice_get, remove, MatchOption, [], Ok, None};
+ghost use Rattle.std.specs.Prelude.{◌≡◌, ◌<◌, ◌≤◌, ◌^◌, false, IfOk, OnErr, Some, length, slice_get, remove, MatchOption, [], Ok, None};
 ghost use Rattle.std.specs.Map.{keys_of};
 ghost use Rattle.bptree_keys.specs.Contents.{has};
-ghost use Rattle.bptree_keys.specs.declared.node_id.NodeId.TheVariants as kind;
 ghost use Rattle.bptree_nodes.specs.Inner.{Inner};
 ghost use Rattle.bptree_nodes.specs.Leaf.{Leaf};
 ghost use Rattle.bptree_nodes.specs.Slot.{Slots, Present, IsPresent, UpdatesLeaf};
 ghost use Rattle.bptree_shape.specs.ByArgument.{IsWithdrawn};
-ghost use Rattle.bptree_insertion.specs.Climb.{Climbs, Risen};
-ghost use Rattle.bptree_removal.specs.Help.{Helped, Helps, child_size, AllInner, AllLeaves};
 ghost use Rattle.bptree_insertion.specs.LeafChange.{SumsUpLeaf};
-ghost use Rattle.bptree_shape.specs.Shape.{leaf_pairs, inner_keys, inner_children, pairs_at, IsWellShaped};
-ghost use Rattle.bptree_insertion.specs.Sums.{PlaceAt};
-ghost use Rattle.bptree_removal.specs.Trim.{ClimbsShort, Sunk, ShortLeaf, Trims, IsThere, Leaves, IsLoose, IsRemoved};
+ghost use Rattle.bptree_shape.specs.Shape.{leaf_pairs, pairs_at, IsWellShaped};
+ghost use Rattle.bptree_rebalancing.specs.Trim.{ShortLeaf, IsLoose, Trims};
+ghost use Rattle.bptree_removal.specs.Removal.{IsThere, Leaves, IsRemoved};
 
-use crate::mending::{
-    join_inners_at, join_leaves_at, lend_inners_at, lend_leaves_at, part_inners_at, part_leaves_at,
-    unlend_inners_at, unlend_leaves_at,
-};
-use crate::sharing::Lender;
-use crate::statistics::Statistic;
 use bptree_arguments::argument::{Argument, SearchArgument};
 use bptree_insertion::ascent::ascend;
 use bptree_insertion::insertion::mend;
 use bptree_keys::entry_ref::VisitStack;
 use bptree_keys::node_id::{InnerNodeId, LeafNodeId, NodeId};
-use bptree_nodes::inner_node::INNER_MINIMUM;
-use bptree_nodes::leaf_node::LEAF_MINIMUM;
+use bptree_rebalancing::mending::{
+    join_leaves_at, lend_leaves_at, part_leaves_at, unlend_leaves_at,
+};
+use bptree_rebalancing::shortage::{ascend_short, leaf_helper, leaves_at};
+use bptree_rebalancing::statistics::Statistic;
 use bptree_shape::by_argument::find_path_by_argument;
 use bptree_shape::descent::find_path;
 use bptree_stores::node_stores::NodeStore;
@@ -39,209 +33,6 @@ pub struct Removed<V, A> {
     pub root: NodeId,
     pub height: usize,
     pub summary: A,
-}
-
-// The slot of the separator between a short child and the neighbour that helps it, and which of the two lends, where one
-// can. `lent` is whether the neighbour before it lends, and `after` how many the one behind it has, or 0 where none stands.
-fn helper(place: usize, lent: bool, after: usize) -> (usize, Option<Lender>)
-    requires { IsTrue lent → 0 < place }
-    ensures { Helped place lent after result.0 result.1 }
-{
-    if lent {
-        return (place - 1, Some(Lender::Left));
-    }
-    if after > LEAF_MINIMUM {
-        return (place, Some(Lender::Right));
-    }
-    if place > 0 {
-        return (place - 1, None);
-    }
-    (0, None)
-}
-
-// How many pairs the leaf at a place has, where one stands there.
-fn leaf_len<S: NodeStore>(store: &S, id: InnerNodeId, place: usize) -> usize
-    requires present { IsPresent ((S.slots store.now).inner id.0) }
-    requires children { AllLeaves (S.slots store.now) (inner_children ((S.slots store.now).inner id.0)) }
-    requires long { length (inner_children ((S.slots store.now).inner id.0)) ≡ length (inner_keys ((S.slots store.now).inner id.0)) + 1 }
-    ensures { result ≡ child_size (S.slots store.now) (inner_children ((S.slots store.now).inner id.0)) place }
-{
-    let node = store.get_inner(id);
-    if place > node.len() {
-        return 0;
-    }
-    match node.child_id(place) {
-        NodeId::Leaf(leaf) => store.get_leaf(leaf).len(),
-        NodeId::Inner(_) => 0,
-    }
-}
-
-// How many keys the inner node at a place has, where one stands there.
-fn inner_len<S: NodeStore>(store: &S, id: InnerNodeId, place: usize) -> usize
-    requires present { IsPresent ((S.slots store.now).inner id.0) }
-    requires children { AllInner (S.slots store.now) (inner_children ((S.slots store.now).inner id.0)) }
-    requires long { length (inner_children ((S.slots store.now).inner id.0)) ≡ length (inner_keys ((S.slots store.now).inner id.0)) + 1 }
-    ensures { result ≡ child_size (S.slots store.now) (inner_children ((S.slots store.now).inner id.0)) place }
-{
-    let node = store.get_inner(id);
-    if place > node.len() {
-        return 0;
-    }
-    match node.child_id(place) {
-        NodeId::Inner(inner) => store.get_inner(inner).len(),
-        NodeId::Leaf(_) => 0,
-    }
-}
-
-fn leaf_helper<S: NodeStore>(store: &S, id: InnerNodeId, place: usize) -> (usize, Option<Lender>)
-    requires present { IsPresent ((S.slots store.now).inner id.0) }
-    requires children { AllLeaves (S.slots store.now) (inner_children ((S.slots store.now).inner id.0)) }
-    requires long { length (inner_children ((S.slots store.now).inner id.0)) ≡ length (inner_keys ((S.slots store.now).inner id.0)) + 1 }
-    requires place { place < length (inner_children ((S.slots store.now).inner id.0)) }
-    requires fits { length (inner_children ((S.slots store.now).inner id.0)) ≤ 65 }
-    ensures { Helps (child_size (S.slots store.now) (inner_children ((S.slots store.now).inner id.0))) place result.0 result.1 }
-{
-    let after = leaf_len(store, id, place + 1);
-    if place == 0 {
-        return helper(place, false, after);
-    }
-    let before = leaf_len(store, id, place - 1);
-    helper(place, before > LEAF_MINIMUM && before > after, after)
-}
-
-fn inner_helper<S: NodeStore>(store: &S, id: InnerNodeId, place: usize) -> (usize, Option<Lender>)
-    requires present { IsPresent ((S.slots store.now).inner id.0) }
-    requires children { AllInner (S.slots store.now) (inner_children ((S.slots store.now).inner id.0)) }
-    requires long { length (inner_children ((S.slots store.now).inner id.0)) ≡ length (inner_keys ((S.slots store.now).inner id.0)) + 1 }
-    requires place { place < length (inner_children ((S.slots store.now).inner id.0)) }
-    requires fits { length (inner_children ((S.slots store.now).inner id.0)) ≤ 65 }
-    ensures { Helps (child_size (S.slots store.now) (inner_children ((S.slots store.now).inner id.0))) place result.0 result.1 }
-{
-    let after = inner_len(store, id, place + 1);
-    if place == 0 {
-        return helper(place, false, after);
-    }
-    let before = inner_len(store, id, place - 1);
-    helper(place, before > INNER_MINIMUM, after)
-}
-
-// Carries a node's new summary up the path above it.
-fn rise<S: NodeStore>(
-    store: &mut S,
-    path: &mut VisitStack,
-    summary: S::Argument,
-) -> Result<S::Argument, AllocError>
-    requires { Climbs S.K.cmp S.Argument.is_summary (S.slots store.old) path.old summary }
-    ensures rises { (c : Climbs S.K.cmp S.Argument.is_summary (S.slots store.old) path.old summary) → IfOk result (λ top. Risen c.climb (S.slots store.new) top) }
-    ensures refused { OnErr result (S.slots store.new ≡ S.slots store.old) }
-{
-    match ascend(store, path, summary) {
-        Ok(top) => Ok(top),
-        Err(_) => Err(AllocError),
-    }
-}
-
-// Carries a node's new summary up the path above it, where the node may be short of one key: then a neighbour lends it a
-// child, or the two become one, and the node above may be short in turn. It answers a summary of all keys.
-pub fn ascend_short<S: NodeStore>(
-    store: &mut S,
-    path: &mut VisitStack,
-    id: InnerNodeId,
-    summary: S::Argument,
-    statistic: &mut Statistic,
-) -> Result<S::Argument, AllocError>
-    requires { ClimbsShort S.K.cmp S.Argument.is_summary (S.slots store.old) path.old id summary }
-    ensures rises { (c : ClimbsShort S.K.cmp S.Argument.is_summary (S.slots store.old) path.old id summary) → IfOk result (λ top. Sunk c.climb (S.slots store.new) top) }
-    ensures refused { OnErr result (S.slots store.new ≡ S.slots store.old) }
-{
-    if store.get_inner(id).len() >= INNER_MINIMUM {
-        return rise(store, path, summary);
-    }
-    let Some((parent, place, _)) = path.pop() else {
-        return Ok(summary);
-    };
-    let (slot, lender) = inner_helper(store, parent, place);
-    let (left, right) = inners_at(store, parent, slot);
-    match lender {
-        Some(lender) => {
-            let (above, sides) = lend_inners_at(store, parent, slot, lender, left, right)?;
-            match rise(store, path, above) {
-                Ok(top) => {
-                    statistic.count_inner(Some(lender), false);
-                    Ok(top)
-                }
-                Err(_) => {
-                    unlend_inners_at(store, parent, slot, lender, sides, left, right);
-                    Err(AllocError)
-                }
-            }
-        }
-        None => {
-            let kept = store.get_inner(left).len();
-            let (above, sides, emptied) = join_inners_at(store, parent, slot, left, right)?;
-            match ascend_short(store, path, parent, above, statistic) {
-                Ok(top) => {
-                    store.release_inner(right);
-                    statistic.count_inner(None, slot < place);
-                    Ok(top)
-                }
-                Err(refusal) => {
-                    part_inners_at(store, parent, slot, sides, left, kept, right, emptied);
-                    Err(refusal)
-                }
-            }
-        }
-    }
-}
-
-// The inner node at a place of a node.
-fn inner_at<S: NodeStore>(store: &S, id: InnerNodeId, place: usize) -> InnerNodeId
-    requires present { IsPresent ((S.slots store.now).inner id.0) }
-    requires children { AllInner (S.slots store.now) (inner_children ((S.slots store.now).inner id.0)) }
-    requires place { place < length (inner_children ((S.slots store.now).inner id.0)) }
-    ensures { slice_get (inner_children ((S.slots store.now).inner id.0)) place ≡ Some (kind.Inner result) }
-{
-    match store.get_inner(id).child_id(place) {
-        NodeId::Inner(child) => child,
-        NodeId::Leaf(_) => unreachable!(),
-    }
-}
-
-// The two inner nodes on both sides of a separator.
-fn inners_at<S: NodeStore>(store: &S, id: InnerNodeId, slot: usize) -> (InnerNodeId, InnerNodeId)
-    requires present { IsPresent ((S.slots store.now).inner id.0) }
-    requires children { AllInner (S.slots store.now) (inner_children ((S.slots store.now).inner id.0)) }
-    requires fits { length (inner_children ((S.slots store.now).inner id.0)) ≤ 65 }
-    requires slot { slot + 1 < length (inner_children ((S.slots store.now).inner id.0)) }
-    ensures left { slice_get (inner_children ((S.slots store.now).inner id.0)) slot ≡ Some (kind.Inner result.0) }
-    ensures right { slice_get (inner_children ((S.slots store.now).inner id.0)) (slot + 1) ≡ Some (kind.Inner result.1) }
-{
-    (inner_at(store, id, slot), inner_at(store, id, slot + 1))
-}
-
-// The leaf at a place of a node.
-fn leaf_at<S: NodeStore>(store: &S, id: InnerNodeId, place: usize) -> LeafNodeId
-    requires present { IsPresent ((S.slots store.now).inner id.0) }
-    requires children { AllLeaves (S.slots store.now) (inner_children ((S.slots store.now).inner id.0)) }
-    requires place { place < length (inner_children ((S.slots store.now).inner id.0)) }
-    ensures { slice_get (inner_children ((S.slots store.now).inner id.0)) place ≡ Some (kind.Leaf result) }
-{
-    match store.get_inner(id).child_id(place) {
-        NodeId::Leaf(child) => child,
-        NodeId::Inner(_) => unreachable!(),
-    }
-}
-
-// The two leaves on both sides of a separator.
-fn leaves_at<S: NodeStore>(store: &S, id: InnerNodeId, slot: usize) -> (LeafNodeId, LeafNodeId)
-    requires present { IsPresent ((S.slots store.now).inner id.0) }
-    requires children { AllLeaves (S.slots store.now) (inner_children ((S.slots store.now).inner id.0)) }
-    requires fits { length (inner_children ((S.slots store.now).inner id.0)) ≤ 65 }
-    requires slot { slot + 1 < length (inner_children ((S.slots store.now).inner id.0)) }
-    ensures left { slice_get (inner_children ((S.slots store.now).inner id.0)) slot ≡ Some (kind.Leaf result.0) }
-    ensures right { slice_get (inner_children ((S.slots store.now).inner id.0)) (slot + 1) ≡ Some (kind.Leaf result.1) }
-{
-    (leaf_at(store, id, slot), leaf_at(store, id, slot + 1))
 }
 
 // Mends a leaf that is short of one pair, at a place of a node: a neighbour lends it one, or the two become one. It answers

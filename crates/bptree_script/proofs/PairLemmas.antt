@@ -1,7 +1,7 @@
 -- The text of all pairs, pair by pair.
 use Rattle.std.proofs.Common.{◌≡◌, ℕ, zero, suc, List, [], ◌∷◌, ◌++◌, map, Bool, true, false, refl, sym, ap, append-nil}
 use Rattle.std.specs.List.{join_with_byte}
-use Rattle.bptree_pages.specs.Pages.{page}
+use Rattle.bptree_maps.specs.Pages.{page}
 use Rattle.bptree_script.specs.Answers.{pair_text, item_text, pairs_text, page_text}
 
 -- the pairs that are left of a list

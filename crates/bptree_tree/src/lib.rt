@@ -6,7 +6,7 @@ pub mod cursor;
 pub mod tree;
 
 pub use bptree_iteration::iterator;
-pub use bptree_removal::statistics::Statistic;
+pub use bptree_rebalancing::statistics::Statistic;
 pub use cursor::Cursor;
 pub use tree::BPlusTree;
 

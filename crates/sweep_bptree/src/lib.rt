@@ -5,9 +5,8 @@ pub mod argument;
 pub mod script;
 pub mod tree;
 
-pub use bptree_maps::{map, set};
+pub use bptree_maps::{map, page, set};
 pub use bptree_merging::merge_iter;
-pub use bptree_pages::page;
 pub use map::BPlusTreeMap;
 pub use set::BPlusTreeSet;
 pub use tree::{BPlusTree, CloneStore, Key, NodeStore, NodeStoreVec};

@@ -110,23 +110,6 @@ pub fn neighbours_and_back<R: Read, W: Write>(
     serve(alloc, reader, writer)
 }
 
-// An input alone says what is answered, whoever reads and writes.
-pub fn answers_alike<R: Read, S: Read, W: Write, X: Write>(
-    alloc: Global,
-    reader: &mut R,
-    other_reader: &mut S,
-    writer: &mut W,
-    other_writer: &mut X,
-) -> Result<(), ServeError>
-    requires known { IsSome (R.remaining reader.old) }
-    requires same { S.remaining other_reader.old ≡ R.remaining reader.old }
-    ensures { OnOk result ((written : List ℕ) × Appends (W.contents writer.old) (W.contents writer.new) written
-        × Appends (X.contents other_writer.old) (X.contents other_writer.new) written) }
-{
-    serve(alloc, reader, writer)?;
-    serve(alloc, other_reader, other_writer)
-}
-
 // However serving ends early, what was written is a beginning of what the whole input is answered.
 pub fn writes_a_beginning<R: Read, W: Write>(
     alloc: Global,

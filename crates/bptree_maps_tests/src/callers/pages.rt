@@ -12,7 +12,7 @@ use bptree_arguments::count::Count;
 use bptree_arguments::group::FromRef;
 use bptree_keys::key::Key;
 use bptree_maps::map::BPlusTreeMap;
-use bptree_pages::page::{group_page, laws_of_pages, page, page_of, pages};
+use bptree_maps::page::{group_page, laws_of_pages, page, page_of, pages};
 use std::alloc::AllocError;
 
 // The page behind the last one is empty.

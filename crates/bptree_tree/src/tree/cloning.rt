@@ -7,7 +7,7 @@ ghost use Rattle.bptree_tree.specs.Whole.{IsWhole};
 use crate::tree::BPlusTree;
 use bptree_arguments::argument::CloneArgument;
 use bptree_keys::entry_ref::VisitStack;
-use bptree_removal::statistics::Statistic;
+use bptree_rebalancing::statistics::Statistic;
 use bptree_stores::node_stores::CloneStore;
 use std::alloc::AllocError;
 

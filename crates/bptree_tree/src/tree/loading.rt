@@ -8,7 +8,7 @@ use crate::tree::BPlusTree;
 use bptree_building::building::{Built, build};
 use bptree_keys::entry_ref::VisitStack;
 use bptree_loading::loading::keep_last_of_each_run;
-use bptree_removal::statistics::Statistic;
+use bptree_rebalancing::statistics::Statistic;
 use bptree_stores::node_stores::NodeStore;
 use std::alloc::{AllocError, Global};
 

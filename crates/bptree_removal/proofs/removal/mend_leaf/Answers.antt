@@ -1,7 +1,7 @@
 use Rattle.std.proofs.Common.{◌∙◌, length, sym, ap, arith}
 use Rattle.bptree_shape.specs.Shape.{leaf_pairs}
-use Rattle.bptree_removal.proofs.LeafSpot as spot
-use Rattle.bptree_removal.proofs.ClimbingLeaf as climb
+use Rattle.bptree_rebalancing.proofs.LeafSpot as spot
+use Rattle.bptree_rebalancing.proofs.ClimbingLeaf as climb
 use Rattle.bptree_insertion.proofs.Placed.{next_seen}
 use Rattle.bptree_removal.proofs.removal.mend_leaf.Goals as goal
 

@@ -1,6 +1,6 @@
 use Rattle.std.proofs.Common.{◌∙◌, ap, sym, subst, arith}
 use Rattle.bptree_shape.specs.Shape.{pairs_at}
-use Rattle.bptree_removal.specs.Trim.{IsLoose}
+use Rattle.bptree_rebalancing.specs.Trim.{IsLoose}
 use Rattle.bptree_removal.proofs.Settled.{settled_at}
 use Rattle.bptree_removal.proofs.removal.settle.Goals as goal
 

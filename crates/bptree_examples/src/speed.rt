@@ -1,0 +1,469 @@
+//! Times of the calls of a tree: for each call and round the number of pairs, the tree's kind, the call, the time of one in
+//! hundredths of a nanosecond, and a sum of what was answered.
+
+use std::alloc::{AllocError, Global};
+use std::time::Instant;
+use sweep_bptree::tree::count::Count;
+use sweep_bptree::tree::group::{GroupCount, Tuple2};
+use sweep_bptree::tree::{
+    Argument, BPlusTree, Iter, NodeStore, NodeStoreVec, RankArgument, SearchArgument, in_load_order,
+};
+
+type Pair = (u64, u64);
+
+// A tree of numbers, with summaries.
+type Tree<A> = BPlusTree<NodeStoreVec<u64, u64, A>>;
+
+// Numbers in no order: each is made of the one before by shifts.
+fn next_number(state: u64) -> u64 {
+    let mut next = state;
+    next ^= next << 13;
+    next ^= next >> 7;
+    next ^= next << 17;
+    next
+}
+
+// Odd numbers, of which hardly two are equal.
+fn odd_numbers(alloc: Global, many: usize) -> Result<Vec<u64>, AllocError> {
+    let mut numbers = Vec::with_capacity(alloc, many)?;
+    let mut state = 0x9e37_79b9_7f4a_7c15;
+    for _ in 0..many {
+        state = next_number(state);
+        numbers.push(state | 1)?;
+    }
+    Ok(numbers)
+}
+
+// The same numbers in another order.
+fn shuffled(alloc: Global, numbers: &[u64]) -> Result<Vec<u64>, AllocError> {
+    let mut others = numbers.to_vec(alloc)?;
+    let mut state = 0x2545_f491_4f6c_dd1d;
+    let many = others.len();
+    for i in 1..many {
+        state = next_number(state);
+        let place = (state % (i as u64 + 1)) as usize;
+        if place < others.len() && i < others.len() {
+            others.swap(i, place);
+        }
+    }
+    Ok(others)
+}
+
+// The time since the start, told for one of the calls.
+fn tell(rt: &HostRuntime, kind: &str, call: &str, start: Option<Instant>, calls: usize, sum: u64) {
+    let Some(start) = start else {
+        return;
+    };
+    if let Ok(spent) = start.elapsed(rt) {
+        let each = spent.as_nanos() * 100 / (calls as u128 + 1);
+        let _ = println!(rt; "{calls} {kind} {call} {each} {sum}");
+    }
+}
+
+fn now(rt: &HostRuntime) -> Option<Instant> {
+    Instant::now(rt).ok()
+}
+
+// Each key with itself as its value.
+fn insert_all<S: NodeStore<K = u64, V = u64>>(
+    rt: &HostRuntime,
+    kind: &str,
+    call: &str,
+    tree: &mut BPlusTree<S>,
+    keys: &[u64],
+) -> Result<(), AllocError> {
+    let start = now(rt);
+    let mut found = 0u64;
+    for key in keys {
+        match tree.insert(*key, *key) {
+            Ok(None) => {}
+            Ok(Some(_)) => found = found.wrapping_add(1),
+            Err(_) => return Err(AllocError),
+        }
+    }
+    tell(rt, kind, call, start, keys.len(), found);
+    Ok(())
+}
+
+fn get_all<S: NodeStore<K = u64, V = u64>>(
+    rt: &HostRuntime,
+    kind: &str,
+    call: &str,
+    tree: &BPlusTree<S>,
+    keys: &[u64],
+    mask: u64,
+) {
+    let start = now(rt);
+    let mut sum = 0u64;
+    for key in keys {
+        if let Some(value) = tree.get(&(*key & mask)) {
+            sum = sum.wrapping_add(*value);
+        }
+    }
+    tell(rt, kind, call, start, keys.len(), sum);
+}
+
+#[inline(always)]
+fn add_keys<A: Argument<u64>>(before: u64, pairs: Iter<'_, NodeStoreVec<u64, u64, A>>) -> u64 {
+    let mut sum = before;
+    for (key, _) in pairs {
+        sum = sum.wrapping_add(*key);
+    }
+    sum
+}
+
+fn step_through<A: Argument<u64>>(rt: &HostRuntime, kind: &str, call: &str, tree: &Tree<A>) {
+    let start = now(rt);
+    let sum = add_keys(0, tree.iter());
+    tell(rt, kind, call, start, tree.len(), sum);
+}
+
+fn remove_all<S: NodeStore<K = u64, V = u64>>(
+    rt: &HostRuntime,
+    kind: &str,
+    tree: &mut BPlusTree<S>,
+    keys: &[u64],
+) -> Result<(), AllocError> {
+    let start = now(rt);
+    let mut sum = 0u64;
+    for key in keys {
+        if let Some(value) = tree.remove(key)? {
+            sum = sum.wrapping_add(value);
+        }
+    }
+    tell(rt, kind, "remove", start, keys.len(), sum);
+    Ok(())
+}
+
+// A cursor goes from the first key to the last.
+fn walk_through<S: NodeStore<K = u64, V = u64>>(
+    rt: &HostRuntime,
+    kind: &str,
+    tree: &BPlusTree<S>,
+) -> Result<(), AllocError> {
+    let start = now(rt);
+    let mut sum = 0u64;
+    let mut at = tree.cursor_first()?;
+    for _ in 0..tree.len() {
+        let Some(cursor) = at else {
+            break;
+        };
+        sum = sum.wrapping_add(*cursor.key());
+        at = cursor.next(tree)?;
+    }
+    tell(rt, kind, "cursor", start, tree.len(), sum);
+    Ok(())
+}
+
+fn drain<S: NodeStore<K = u64, V = u64>>(rt: &HostRuntime, kind: &str, tree: BPlusTree<S>) {
+    let many = tree.len();
+    let start = now(rt);
+    let mut sum = 0u64;
+    for (key, _) in tree.into_iter() {
+        sum = sum.wrapping_add(key);
+    }
+    tell(rt, kind, "drain", start, many, sum);
+}
+
+fn pairs_of(alloc: Global, keys: &[u64]) -> Result<Vec<Pair>, AllocError> {
+    let mut pairs = Vec::with_capacity(alloc, keys.len())?;
+    for key in keys {
+        pairs.push((*key, *key))?;
+    }
+    Ok(pairs)
+}
+
+fn inserted<S: NodeStore<K = u64, V = u64>>(
+    rt: &HostRuntime,
+    kind: &str,
+    call: &str,
+    keys: &[u64],
+) -> Result<BPlusTree<S>, AllocError> {
+    let mut tree = BPlusTree::new(S::empty(rt.alloc()))?;
+    insert_all(rt, kind, call, &mut tree, keys)?;
+    Ok(tree)
+}
+
+fn load_all<S: NodeStore<K = u64, V = u64>>(
+    rt: &HostRuntime,
+    kind: &str,
+    sorted: &[u64],
+) -> Result<BPlusTree<S>, AllocError> {
+    let pairs = pairs_of(rt.alloc(), sorted)?;
+    if !in_load_order(&pairs) {
+        return Err(AllocError);
+    }
+    let start = now(rt);
+    let tree: BPlusTree<S> = BPlusTree::bulk_load(rt.alloc(), pairs)?;
+    tell(rt, kind, "load", start, sorted.len(), tree.len() as u64);
+    Ok(tree)
+}
+
+// One tree of ascending keys, filled by insertions, and another that is loaded at once and walked.
+fn loaded<A: Argument<u64>>(
+    rt: &HostRuntime,
+    kind: &str,
+    sorted: &[u64],
+) -> Result<(), AllocError> {
+    let _upward: Tree<A> = inserted(rt, kind, "upward", sorted)?;
+    let tree: Tree<A> = load_all(rt, kind, sorted)?;
+    walk_through(rt, kind, &tree)?;
+    step_through(rt, kind, "full", &tree);
+    drain(rt, kind, tree);
+    Ok(())
+}
+
+// The keys name places, and are ranked.
+fn place_all<S: NodeStore<K = u64, V = u64>>(
+    rt: &HostRuntime,
+    tree: &BPlusTree<S>,
+    keys: &[u64],
+) -> Result<(), AllocError>
+where
+    S::Argument: SearchArgument<u64, Query = usize>,
+{
+    let start = now(rt);
+    let mut sum = 0u64;
+    let many = keys.len() as u64 + 1;
+    for key in keys {
+        if let Some((found, _)) = tree.get_by_argument((*key % many) as usize)? {
+            sum = sum.wrapping_add(*found);
+        }
+    }
+    tell(rt, "count", "at", start, keys.len(), sum);
+    Ok(())
+}
+
+fn rank_all<S: NodeStore<K = u64, V = u64>>(
+    rt: &HostRuntime,
+    tree: &BPlusTree<S>,
+    keys: &[u64],
+) -> Result<(), AllocError>
+where
+    S::Argument: RankArgument<u64, Rank = usize>,
+{
+    let start = now(rt);
+    let mut sum = 0u64;
+    for key in keys {
+        if let Ok(rank) = tree.rank_by_argument(key)? {
+            sum = sum.wrapping_add(rank as u64);
+        }
+    }
+    tell(rt, "count", "rank", start, keys.len(), sum);
+    Ok(())
+}
+
+// Ten pairs from each place on, by the keys there and ten pairs further.
+fn range_all<A: Argument<u64>>(rt: &HostRuntime, tree: &Tree<A>, sorted: &[u64], places: &[u64]) {
+    let start = now(rt);
+    let mut sum = 0u64;
+    for place in places {
+        let place = *place as usize;
+        let lo = sorted.get(place);
+        let hi = sorted.get(place.saturating_add(10));
+        if lo.is_some() && hi.is_some() {
+            sum = add_keys(sum, tree.range(lo, hi));
+        }
+    }
+    tell(rt, "count", "range", start, places.len(), sum);
+}
+
+// Twenty pairs from each place on.
+fn page_all<A: SearchArgument<u64, Query = usize>>(
+    rt: &HostRuntime,
+    tree: &Tree<A>,
+    places: &[u64],
+) -> Result<(), AllocError> {
+    let start = now(rt);
+    let mut sum = 0u64;
+    for place in places {
+        sum = add_keys(sum, tree.range_by_argument(*place as usize, 20)?);
+    }
+    tell(rt, "count", "page", start, places.len(), sum);
+    Ok(())
+}
+
+// The same keys in three orders, and all numbers below their number.
+#[derive(Clone, Copy)]
+struct Numbers<'a> {
+    keys: &'a [u64],
+    others: &'a [u64],
+    sorted: &'a [u64],
+    places: &'a [u64],
+}
+
+// A tree that is filled and read.
+fn filled<A: Argument<u64>>(
+    rt: &HostRuntime,
+    kind: &str,
+    numbers: &Numbers<'_>,
+) -> Result<Tree<A>, AllocError> {
+    let tree = inserted(rt, kind, "insert", numbers.keys)?;
+    get_all(rt, kind, "get", &tree, numbers.others, u64::MAX);
+    get_all(rt, kind, "absent", &tree, numbers.others, u64::MAX - 1);
+    get_all(rt, kind, "inorder", &tree, numbers.sorted, u64::MAX);
+    step_through(rt, kind, "step", &tree);
+    Ok(tree)
+}
+
+fn plain<A: Argument<u64>>(rt: &HostRuntime, numbers: &Numbers<'_>) -> Result<(), AllocError> {
+    let mut tree: Tree<A> = filled(rt, "plain", numbers)?;
+    remove_all(rt, "plain", &mut tree, numbers.others)
+}
+
+// Places and ranks, and parts of a tree, each of ten or of twenty pairs.
+fn placed<A: SearchArgument<u64, Query = usize> + RankArgument<u64, Rank = usize>>(
+    rt: &HostRuntime,
+    tree: &Tree<A>,
+    numbers: &Numbers<'_>,
+) -> Result<(), AllocError> {
+    place_all(rt, tree, numbers.others)?;
+    rank_all(rt, tree, numbers.others)?;
+    range_all(rt, tree, numbers.sorted, numbers.places);
+    page_all(rt, tree, numbers.places)
+}
+
+fn counted<A: SearchArgument<u64, Query = usize> + RankArgument<u64, Rank = usize>>(
+    rt: &HostRuntime,
+    numbers: &Numbers<'_>,
+) -> Result<(), AllocError> {
+    let mut tree: Tree<A> = filled(rt, "count", numbers)?;
+    placed(rt, &tree, numbers)?;
+    remove_all(rt, "count", &mut tree, numbers.others)
+}
+
+fn put<S: NodeStore>(tree: &mut BPlusTree<S>, key: S::K, value: S::V) -> Result<(), AllocError> {
+    match tree.insert(key, value) {
+        Ok(_) => Ok(()),
+        Err(_) => Err(AllocError),
+    }
+}
+
+// Keys in groups of 500.
+fn insert_in_groups<S: NodeStore<K = Pair, V = u64>>(
+    tree: &mut BPlusTree<S>,
+    numbers: &[u64],
+) -> Result<(), AllocError> {
+    for number in numbers {
+        put(tree, (*number / 500, *number % 500), *number)?;
+    }
+    Ok(())
+}
+
+fn get_in_groups<S: NodeStore<K = Pair, V = u64>>(
+    rt: &HostRuntime,
+    tree: &BPlusTree<S>,
+    numbers: &[u64],
+) {
+    let start = now(rt);
+    let mut sum = 0u64;
+    for number in numbers {
+        if let Some(value) = tree.get(&(*number / 500, *number % 500)) {
+            sum = sum.wrapping_add(*value);
+        }
+    }
+    tell(rt, "groups", "get", start, numbers.len(), sum);
+}
+
+fn place_in_groups<S: NodeStore<K = Pair, V = u64>>(
+    rt: &HostRuntime,
+    tree: &BPlusTree<S>,
+    numbers: &[u64],
+) -> Result<(), AllocError>
+where
+    S::Argument: SearchArgument<Pair, Query = (Tuple2<u64>, usize)>,
+{
+    let start = now(rt);
+    let mut sum = 0u64;
+    for number in numbers {
+        let place = (*number % 500) as usize;
+        if let Some((_, value)) = tree.get_by_argument((Tuple2(*number / 500), place))? {
+            sum = sum.wrapping_add(*value);
+        }
+    }
+    tell(rt, "groups", "at", start, numbers.len(), sum);
+    Ok(())
+}
+
+fn rank_in_groups<S: NodeStore<K = Pair, V = u64>>(
+    rt: &HostRuntime,
+    tree: &BPlusTree<S>,
+    numbers: &[u64],
+) -> Result<(), AllocError>
+where
+    S::Argument: RankArgument<Pair, Rank = Option<(Tuple2<u64>, usize)>>,
+{
+    let start = now(rt);
+    let mut sum = 0u64;
+    for number in numbers {
+        if let Ok(Some((_, rank))) = tree.rank_by_argument(&(*number / 500, *number % 500))? {
+            sum = sum.wrapping_add(rank as u64);
+        }
+    }
+    tell(rt, "groups", "rank", start, numbers.len(), sum);
+    Ok(())
+}
+
+// The numbers are all those below their number, in two orders.
+fn grouped<S: NodeStore<K = Pair, V = u64>>(
+    rt: &HostRuntime,
+    numbers: &[u64],
+    others: &[u64],
+) -> Result<(), AllocError>
+where
+    S::Argument: SearchArgument<Pair, Query = (Tuple2<u64>, usize)>,
+    S::Argument: RankArgument<Pair, Rank = Option<(Tuple2<u64>, usize)>>,
+{
+    let mut tree: BPlusTree<S> = BPlusTree::new(S::empty(rt.alloc()))?;
+    insert_in_groups(&mut tree, numbers)?;
+    get_in_groups(rt, &tree, others);
+    place_in_groups(rt, &tree, others)?;
+    rank_in_groups(rt, &tree, others)
+}
+
+fn numbers_below(alloc: Global, many: usize) -> Result<Vec<u64>, AllocError> {
+    let mut numbers = Vec::with_capacity(alloc, many)?;
+    for number in 0..many {
+        numbers.push(number as u64)?;
+    }
+    Ok(numbers)
+}
+
+// All calls on each of the trees.
+fn round(rt: &HostRuntime, numbers: &Numbers<'_>, again: &[u64]) -> Result<(), AllocError> {
+    grouped::<NodeStoreVec<Pair, u64, GroupCount<Tuple2<u64>>>>(rt, numbers.places, again)?;
+    plain::<()>(rt, numbers)?;
+    counted::<Count>(rt, numbers)?;
+    loaded::<()>(rt, "plain", numbers.sorted)?;
+    loaded::<Count>(rt, "count", numbers.sorted)
+}
+
+fn rounds(rt: &HostRuntime, pairs: usize, rounds: usize) -> Result<(), AllocError> {
+    let keys = odd_numbers(rt.alloc(), pairs)?;
+    let others = shuffled(rt.alloc(), &keys)?;
+    let mut sorted = keys.to_vec(rt.alloc())?;
+    sorted.sort_unstable();
+    let places = shuffled(rt.alloc(), &numbers_below(rt.alloc(), pairs)?)?;
+    let again = shuffled(rt.alloc(), &places)?;
+    let numbers = Numbers {
+        keys: &keys,
+        others: &others,
+        sorted: &sorted,
+        places: &places,
+    };
+    for _ in 0..rounds {
+        round(rt, &numbers, &again)?;
+    }
+    Ok(())
+}
+
+/// Takes the times of so many pairs in so many rounds, as a line has them, and answers whether that went well.
+pub fn run(rt: &HostRuntime, line: &str) -> bool {
+    let Some((pairs, times)) = line.split_once(' ') else {
+        return false;
+    };
+    let (Ok(pairs), Ok(times)) = (pairs.parse::<usize>(), times.parse::<usize>()) else {
+        return false;
+    };
+    rounds(rt, pairs, times).is_ok()
+}

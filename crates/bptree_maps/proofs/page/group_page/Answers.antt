@@ -1,0 +1,14 @@
+use Rattle.std.proofs.Common.{◌∙◌, ◌<◌, ◌^◌, length, arith}
+use Rattle.std.specs.Ordering.{is_eq}
+use Rattle.std.proofs.lemmas.Result.{IfOk-weaker}
+use Rattle.bptree_arguments.specs.Groups.{of_group}
+use Rattle.bptree_maps.proofs.PageLemmas.{part_is_page, filter_fits}
+use Rattle.bptree_maps.proofs.page.group_page.Goals as goal
+
+pub returns-clause-rest : goal.returns-clause-rest
+returns-clause-rest g c =
+    let group_of = g.G.FromRef.group_of in
+    let fits : length c.args.map.now < 2 ^ 64 = omega (arith, c.len-len.ensures.value, c.len-len.type_inv) in
+    let pairs = of_group g.G.Ord.cmp group_of c.args.group.now c.args.map.now in
+    let few = filter_fits (λ pair. is_eq (g.G.Ord.cmp (group_of pair.0) c.args.group.now)) c.args.map.now fits in
+    IfOk-weaker c.group_part.result _ _ (λ found is. is ∙ part_is_page pairs c.args.p c.args.s _ c.saturating_mul.ensures few) c.group_part.ensures.rest

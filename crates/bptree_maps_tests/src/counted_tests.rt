@@ -1,0 +1,349 @@
+//! Trees that are loaded of many pairs at once, of keys and values that are counted: the sizes of their nodes, the comparisons
+//! of look-ups, and what is dropped.
+use crate::counted::{CountedKey, CountedValue, Counts, Made};
+use crate::tested::{Loaded, Numbered, Walked};
+use bptree_arguments::argument::CloneArgument;
+use bptree_stores::node_store_vec::NodeStoreVec;
+use bptree_stores::node_stores::CloneStore;
+use bptree_tree::BPlusTree;
+use std::alloc::{AllocError, Global};
+use std::cell::Cell;
+use std::rc::Rc;
+use std::test::Fail;
+
+fn no_counts(alloc: Global) -> Result<Rc<Counts>, AllocError> {
+    let counts = Counts {
+        compared: Cell::new(0),
+        dropped: Cell::new(0),
+    };
+    Ok(Rc::new(alloc, counts)?)
+}
+
+// So many pairs in runs of equal keys, whose values are ten times the key and then one more each.
+fn pairs_in_runs<K: Made, V: Made>(
+    alloc: Global,
+    counts: &Rc<Counts>,
+    len: u64,
+    run: u64,
+) -> Result<Vec<(K, V)>, AllocError> {
+    let run = run.max(1);
+    let mut pairs = Vec::new(alloc);
+    for place in 0..len {
+        let number = place / run;
+        let key = K::made(counts, number)?;
+        let value = V::made(counts, number.wrapping_mul(10).wrapping_add(place % run))?;
+        pairs.push((key, value))?;
+    }
+    Ok(pairs)
+}
+
+fn load<T: Loaded>(alloc: Global, counts: &Rc<Counts>, len: u64, run: u64) -> Result<T, AllocError>
+where
+    T::Key: Made,
+    T::Value: Made,
+{
+    T::load(alloc, pairs_in_runs(alloc, counts, len, run)?)
+}
+
+// Whether the leaves are so many full ones and then those of these sizes.
+fn has_line<T: Loaded>(tree: &T, full: usize, last: &[usize]) -> Result<bool, AllocError> {
+    let (leaves, is_well) = tree.leaves()?;
+    let mut all = is_well && leaves.len() == full.saturating_add(last.len());
+    for (place, (_, _, len)) in leaves.iter().enumerate() {
+        let wanted = if place < full {
+            64
+        } else {
+            last.get(place - full).copied().unwrap_or(0)
+        };
+        all = all && *len == wanted;
+    }
+    Ok(all)
+}
+
+// Whether the nodes below the root have so many children. Where none are named, no inner nodes stand there.
+fn has_nodes<T: Loaded>(tree: &T, wanted: &[usize]) -> Result<bool, AllocError> {
+    if wanted.is_empty() {
+        return Ok(tree.levels() < 2);
+    }
+    let children = tree.children()?;
+    let mut all = tree.levels() == 2 && children.len() == wanted.len();
+    for (found, count) in children.iter().zip(wanted) {
+        all = all && *found == *count;
+    }
+    Ok(all)
+}
+
+// How many pairs there are and how long the runs of equal keys; then the number of full leaves, the sizes of the others, and how
+// many children the nodes below the root have.
+type Row = (u64, u64, usize, &'static [usize], &'static [usize]);
+
+const ROWS: [Row; 9] = [
+    (0, 1, 0, &[0], &[]),
+    (8, 2, 0, &[4], &[]),
+    (65, 1, 0, &[33, 32], &[]),
+    (79, 1, 0, &[40, 39], &[]),
+    (80, 1, 1, &[16], &[]),
+    (10_000, 1, 156, &[16], &[65, 65, 27]),
+    (4161, 1, 64, &[33, 32], &[33, 33]),
+    (5184, 1, 81, &[], &[41, 40]),
+    (5248, 1, 82, &[], &[65, 17]),
+];
+
+fn is_loaded<T: Loaded>(tree: &T, row: &Row) -> Result<bool, AllocError> {
+    let (len, run, full, last, nodes) = *row;
+    Ok(
+        tree.holds(len / run.max(1), run.saturating_sub(1))
+            && has_line(tree, full, last)?
+            && has_nodes(tree, nodes)?,
+    )
+}
+
+fn row_is_loaded<T: Loaded>(
+    alloc: Global,
+    counts: &Rc<Counts>,
+    row: &Row,
+) -> Result<bool, AllocError>
+where
+    T::Key: Made,
+    T::Value: Made,
+{
+    let tree: T = load(alloc, counts, row.0, row.1)?;
+    is_loaded(&tree, row)
+}
+
+fn all_rows_are_loaded<T: Loaded>(alloc: Global) -> Result<bool, AllocError>
+where
+    T::Key: Made,
+    T::Value: Made,
+{
+    let counts = no_counts(alloc)?;
+    let mut all = true;
+    for row in &ROWS {
+        all = row_is_loaded::<T>(alloc, &counts, row)? && all;
+    }
+    Ok(all)
+}
+
+// Whether a look-up finds what is there, answers as many comparisons as the keys counted, and all three look-ups make no more
+// than so many.
+fn is_looked_up<T: Loaded>(tree: &mut T, counts: &Counts, key: &T::Key, most: u64) -> bool
+where
+    T::Key: Made,
+{
+    let wanted = if key.number() < tree.number_of_pairs() as u64 {
+        Some(key.number().wrapping_mul(10))
+    } else {
+        None
+    };
+    counts.compared.set(0);
+    let (value, told) = tree.read_counted(key);
+    let mut all = value == wanted && told as u64 == counts.compared.get();
+    all = counts.compared.get() <= most && all;
+    counts.compared.set(0);
+    all = tree.read(key) == wanted && counts.compared.get() <= most && all;
+    counts.compared.set(0);
+    tree.read_in_place(key) == wanted && counts.compared.get() <= most && all
+}
+
+// The same of each key of a tree and the next after them, upward and downward.
+fn all_are_looked_up<T: Loaded>(
+    tree: &mut T,
+    counts: &Rc<Counts>,
+    most: u64,
+) -> Result<bool, AllocError>
+where
+    T::Key: Made,
+{
+    let len = tree.number_of_pairs() as u64;
+    let mut all = true;
+    for number in 0..len.saturating_add(1) {
+        let upward = T::Key::made(counts, number)?;
+        all = is_looked_up(tree, counts, &upward, most) && all;
+    }
+    for number in 0..len.saturating_add(1) {
+        let downward = T::Key::made(counts, len.saturating_sub(number))?;
+        all = is_looked_up(tree, counts, &downward, most) && all;
+    }
+    Ok(all)
+}
+
+fn comparisons_are_told<T: Loaded>(alloc: Global, len: u64, most: u64) -> Result<bool, AllocError>
+where
+    T::Key: Made,
+    T::Value: Made,
+{
+    let counts = no_counts(alloc)?;
+    let mut tree: T = load(alloc, &counts, len, 1)?;
+    all_are_looked_up(&mut tree, &counts, most)
+}
+
+// Puts the pairs from one number up to another.
+fn put_from<T: Loaded>(
+    tree: &mut T,
+    counts: &Rc<Counts>,
+    first: u64,
+    end: u64,
+) -> Result<bool, AllocError>
+where
+    T::Key: Made,
+    T::Value: Made,
+{
+    let mut all = true;
+    for number in first..end {
+        let key = T::Key::made(counts, number)?;
+        let value = T::Value::made(counts, number.wrapping_mul(10))?;
+        all = tree.put(key, value) && all;
+    }
+    Ok(all)
+}
+
+// Removes the pairs below a number.
+fn take_below<T: Loaded>(tree: &mut T, counts: &Rc<Counts>, end: u64) -> Result<bool, AllocError>
+where
+    T::Key: Made,
+{
+    let mut all = true;
+    for number in 0..end {
+        let key = T::Key::made(counts, number)?;
+        all = tree.take(&key)? == Some(number.wrapping_mul(10)) && all;
+    }
+    Ok(all)
+}
+
+// Whether a clone of a tree has the same pairs, and loses half of them alone. It is dropped at the end.
+fn clone_goes_its_own_way<T: Loaded>(
+    tree: &T,
+    counts: &Rc<Counts>,
+    len: u64,
+) -> Result<bool, AllocError>
+where
+    T::Key: Made,
+{
+    let mut copy = tree.copy()?;
+    let same = copy.holds(len, 0) && copy.leaves()?.1 && counts.dropped.get() == 0;
+    let half = len / 2;
+    let taken = take_below(&mut copy, counts, half)? && copy.number_of_pairs() as u64 == len - half;
+    Ok(same && taken && tree.holds(len, 0))
+}
+
+// Half of the pairs are loaded, and the others are put; a clone comes and goes; then all pairs leave.
+fn comes_and_goes<T: Loaded>(
+    alloc: Global,
+    counts: &Rc<Counts>,
+    len: u64,
+) -> Result<bool, AllocError>
+where
+    T::Key: Made,
+    T::Value: Made,
+{
+    let mut tree: T = load(alloc, counts, len / 2, 1)?;
+    let mut all = put_from(&mut tree, counts, len / 2, len)?;
+    all = all && clone_goes_its_own_way(&tree, counts, len)? && counts.dropped.get() == len;
+    Ok(all && take_below(&mut tree, counts, len)? && tree.number_of_pairs() == 0)
+}
+
+fn is_pair(found: Option<(u64, u64)>, number: u64) -> bool {
+    found == Some((number, number.wrapping_mul(10)))
+}
+
+// Whether so many pairs come from the front, as many from the back, and are dropped as they come. What is left is dropped at the
+// end.
+fn come_from_both_ends<P: Walked>(mut pairs: P, counts: &Counts, from_each_end: u64) -> bool {
+    let mut back = pairs.left() as u64;
+    let mut all = true;
+    for front in 0..from_each_end {
+        all = all && pairs.left() as u64 == back.saturating_sub(front);
+        back = back.saturating_sub(1);
+        all = is_pair(pairs.front(), front) && is_pair(pairs.back(), back) && all;
+    }
+    all && counts.dropped.get() == from_each_end.wrapping_mul(2)
+}
+
+fn owned_pairs_come<T: Loaded>(
+    alloc: Global,
+    counts: &Rc<Counts>,
+    len: u64,
+    from_each_end: u64,
+) -> Result<bool, AllocError>
+where
+    T::Key: Made,
+    T::Value: Made,
+{
+    let tree: T = load(alloc, counts, len, 1)?;
+    let is_whole = tree.number_of_pairs() as u64 == len;
+    Ok(come_from_both_ends(tree.into_pairs(), counts, from_each_end) && is_whole)
+}
+
+// Whether each value was dropped once, and no key and no value is left.
+fn are_dropped_once<T: Loaded>(alloc: Global) -> Result<bool, AllocError>
+where
+    T::Key: Made,
+    T::Value: Made,
+{
+    let counts = no_counts(alloc)?;
+    let mut all = comes_and_goes::<T>(alloc, &counts, 16_000)?;
+    all = all && counts.dropped.get() == 32_000 && Rc::strong_count(&counts) == 1;
+    for (len, from_each_end) in [(10, 0), (300, 1), (300, 150)] {
+        counts.dropped.set(0);
+        all = owned_pairs_come::<T>(alloc, &counts, len, from_each_end)? && all;
+        all = all && counts.dropped.get() == len && Rc::strong_count(&counts) == 1;
+    }
+    Ok(all)
+}
+
+// What is asked of trees: the sizes of their nodes, the comparisons of look-ups in one of so many pairs, which are no more than
+// so many, or what is dropped.
+#[derive(Drop)]
+enum Asked {
+    Sizes,
+    Comparisons(u64, u64),
+    Drops,
+}
+
+fn answer<T: Loaded>(alloc: Global, asked: Asked) -> Result<bool, AllocError>
+where
+    T::Key: Made,
+    T::Value: Made,
+{
+    match asked {
+        Asked::Sizes => all_rows_are_loaded::<T>(alloc),
+        Asked::Comparisons(len, most) => comparisons_are_told::<T>(alloc, len, most),
+        Asked::Drops => are_dropped_once::<T>(alloc),
+    }
+}
+
+// Trees over any store answer it. A function that names a tree over a store of a known type is dearer to prove.
+fn tree_answers<S: CloneStore<K = CountedKey, V = CountedValue>>(
+    alloc: Global,
+    asked: Asked,
+) -> Result<bool, AllocError>
+where
+    S::Argument: CloneArgument<CountedKey>,
+{
+    answer::<BPlusTree<S>>(alloc, asked)
+}
+
+fn answers(alloc: Global, asked: Asked) -> Result<bool, AllocError> {
+    tree_answers::<NodeStoreVec<CountedKey, CountedValue>>(alloc, asked)
+}
+
+#[test]
+fn nodes_are_as_full_as_they_can_be(rt: HostRuntime) -> Result<(), Fail> {
+    assert!(rt; answers(rt.alloc(), Asked::Sizes)?);
+    Ok(())
+}
+
+// An empty tree compares nothing. One of 10,000 pairs has three levels, with 7 comparisons each, and 2 are made of the
+// remembered leaf.
+#[test]
+fn look_ups_tell_their_comparisons(rt: HostRuntime) -> Result<(), Fail> {
+    assert!(rt; answers(rt.alloc(), Asked::Comparisons(0, 0))?);
+    assert!(rt; answers(rt.alloc(), Asked::Comparisons(10_000, 23))?);
+    Ok(())
+}
+
+#[test]
+fn pairs_are_dropped_once(rt: HostRuntime) -> Result<(), Fail> {
+    assert!(rt; answers(rt.alloc(), Asked::Drops)?);
+    Ok(())
+}

@@ -1,0 +1,472 @@
+-- A leaf that was short of a pair was helped by its neighbour, and the edit is carried to the nodes above.
+use Rattle.std.proofs.Common.{◌≡◌, ℕ, suc, ◌+◌, ◌<◌, ◌≤◌, ◌^◌, inl, inr, ◌⊎◌, true, cond, List, [], ◌∷◌, ◌++◌, length, get_or, take, drop, refl, sym, ap, subst, ◌∙◌, arith, add-one, append_assoc, Option, Some, None, IfSome, eqb, slice_get}
+use Rattle.std.specs.declared.cmp.Ordering.{Ordering}
+use Rattle.std.specs.Cmp.{IsTotalOrder}
+use Rattle.std.specs.Map.{keys_of}
+use Rattle.std.proofs.lemmas.Bool.{cases_eq, eq-eqb}
+use Rattle.std.proofs.lemmas.Bool.Decides.{eqb_tells}
+use Rattle.std.proofs.lemmas.List.Edits.{length-insert}
+use Rattle.bptree_nodes.specs.Inner.{Inner}
+use Rattle.bptree_nodes.specs.Leaf.{Leaf}
+use Rattle.bptree_nodes.specs.Slot.{Slot, Slots, Free, Held, Present, IsPresent, UpdatesLeaf}
+use Rattle.bptree_keys.specs.Contents.{IsAscending}
+use Rattle.bptree_keys.specs.declared.node_id.InnerNodeId.{InnerNodeId}
+use Rattle.bptree_keys.specs.declared.node_id.LeafNodeId.{LeafNodeId}
+use Rattle.bptree_keys.specs.declared.node_id.NodeId.{NodeId}
+use Rattle.bptree_keys.specs.declared.node_id.NodeId.TheVariants as kind
+use Rattle.bptree_insertion.specs.Change.{Mends}
+use Rattle.bptree_insertion.specs.Climb.{is_held, HeldAre, least_at, Climbs, Risen}
+use Rattle.bptree_shape.specs.Edit.{CanReach, Turn, Stays, Loses, SameLinks, Edits}
+use Rattle.bptree_rebalancing.specs.Help.{Helps, child_size}
+use Rattle.bptree_insertion.specs.LeafChange.{SumsUpLeaf}
+use Rattle.bptree_rebalancing.specs.Mend.{MendsPair}
+use Rattle.bptree_shape.specs.Order.{flat}
+use Rattle.bptree_shape.specs.Outcome.{Done, Split}
+use Rattle.bptree_shape.specs.Shape.{inner_children, leaf_pairs, leaf_prev, leaf_next, pairs_at, leaves_at, leaf_count, inner_count, stands, root_least, AreLinked, IsTree}
+use Rattle.bptree_rebalancing.specs.Share.{HasEntry}
+use Rattle.bptree_rebalancing.specs.Shared.{LendsLeavesAt, JoinsLeavesAt}
+use Rattle.bptree_insertion.specs.Sums.{SumsUpAt, with_split}
+use Rattle.bptree_rebalancing.specs.Trim.{ClimbsShort, Sunk, ShortLeaf, Trims}
+use Rattle.bptree_rebalancing.specs.declared.sharing.Joint.{Joint}
+use Rattle.bptree_rebalancing.specs.declared.sharing.Lender.{Lender}
+use Rattle.bptree_shape.proofs.Agreeing.{stands_le}
+use Rattle.bptree_insertion.proofs.Climbing.{told_up, least_most, not_held, held_is}
+use Rattle.bptree_shape.proofs.Frame.{Same, same}
+use Rattle.bptree_rebalancing.proofs.Helping.{inserted_is, before_is, most_so}
+use Rattle.bptree_shape.proofs.Hinted.{count_of, count_leaves, first_or, linked_next}
+use Rattle.bptree_rebalancing.proofs.LeafSpot as spot
+use Rattle.bptree_insertion.proofs.Mended.{reads_same, mended_pairs, mended_inner, mended_held, one_at, other_leaf, linked_closed}
+use Rattle.bptree_rebalancing.proofs.MendLeaf as mend
+use Rattle.bptree_rebalancing.proofs.Pair as pair
+use Rattle.bptree_insertion.proofs.Rooted.{whole_done, present_leaf}
+use Rattle.bptree_rebalancing.proofs.Seated.{seat_size}
+use Rattle.bptree_rebalancing.proofs.Loose.{loose_of}
+use Rattle.bptree_insertion.proofs.Undone.{same_node}
+use Rattle.bptree_shape.proofs.Ways.{LastStep}
+use Rattle.bptree_shape.proofs.Widen.{tree_less}
+
+module _ {K V A : Type 0} {cmp : K → K → Ordering} (total' : IsTotalOrder cmp) (is_summary : A → List K → Type 0) (now after : Slots (Inner K A) (Leaf K V)) (path : List (InnerNodeId × ℕ × NodeId)) (number : InnerNodeId) (i : ℕ)
+    (c : ShortLeaf cmp is_summary now path number i) (slot : ℕ) (left right : LeafNodeId) (beside : (i ≡ slot) ⊎ (i ≡ suc slot)) where
+  abbrev pub step : LastStep cmp c.climb.old c.climb.k c.climb.top c.climb.root path number i c.climb.height c.climb.id
+  step = spot.step total' is_summary now path number i c
+
+  abbrev pub node : Inner K A
+  node = step.node
+
+  pub at : CanReach cmp c.climb.old (suc c.climb.height) (kind.Inner number) c.climb.k
+  at = spot.at total' is_summary now path number i c
+
+  module _ (read_left : slice_get node.children slot ≡ Some (kind.Leaf left)) (read_right : slice_get node.children (slot + 1) ≡ Some (kind.Leaf right)) (joint : Joint K A) where
+    left_there : IsPresent (now.leaf left.0)
+    left_there = (spot.full_at total' is_summary now path number i c slot left read_left).0
+
+    right_there : IsPresent (now.leaf right.0)
+    right_there = (spot.full_at total' is_summary now path number i c (slot + 1) right read_right).0
+
+    left_was : IsPresent (c.climb.old.leaf left.0)
+    left_was = spot.there_was total' is_summary now path number i c left left_there
+
+    right_was : IsPresent (c.climb.old.leaf right.0)
+    right_was = spot.there_was total' is_summary now path number i c right right_there
+
+    links_left : SameLinks c.climb.old now left
+    links_left = spot.links_now total' is_summary now path number i c left left_was
+
+    links_right : SameLinks c.climb.old now right
+    links_right = spot.links_now total' is_summary now path number i c right right_was
+
+    -- an entry of the node between the two
+    module _ (bare : Inner K A) (given : NodeId) (entry' : HasEntry node bare slot joint.separator given joint.right) where
+      below : slot < length bare.children
+      below = omega (arith, entry'.place.within, entry'.place.children)
+
+      given_is : given ≡ kind.Leaf right
+      given_is = inserted_is bare.children (slot + 1) given (kind.Leaf right) (omega (arith, below)) (ap (λ (n : Inner K A). slice_get n.children (slot + 1)) (sym entry'.is) ∙ read_right)
+
+      entry : HasEntry node bare slot joint.separator (kind.Leaf right) joint.right
+      entry = subst (λ x. HasEntry node bare slot joint.separator x joint.right) given_is entry'
+
+      left_is : get_or bare.children slot c.climb.id ≡ kind.Leaf left
+      left_is = before_is bare.children slot given (kind.Leaf left) c.climb.id below (rw add-one at (ap (λ (n : Inner K A). slice_get n.children slot) (sym entry'.is)) ∙ read_left)
+
+      -- the same at the height of a leaf, and of the left one
+      to_low : (P : ℕ → NodeId → Type 0) → P c.climb.height (get_or bare.children slot c.climb.id) → P 0 (kind.Leaf left)
+      to_low P x = subst (P 0) left_is (subst (λ n. P n (get_or bare.children slot c.climb.id)) c.low x)
+
+      from_low : (P : ℕ → NodeId → Type 0) → P 0 (kind.Leaf left) → P c.climb.height (get_or bare.children slot c.climb.id)
+      from_low P x = subst (λ n. P n (get_or bare.children slot c.climb.id)) (sym c.low) (subst (P 0) (sym left_is) x)
+
+      abbrev before : List LeafNodeId
+      before = flat (leaves_at c.climb.old c.climb.height) (take slot bare.children)
+
+      abbrev behind : List LeafNodeId
+      behind = flat (leaves_at c.climb.old c.climb.height) (drop (suc slot) bare.children)
+
+      was_order : flat (leaves_at c.climb.old c.climb.height) node.children ≡ before ++ left ∷ (right ∷ behind)
+      was_order =
+          spot.same_order total' is_summary now path number i c
+          ∙ (pair.order_parted total' is_summary c.climb.edit c.climb.kept c.climb.old now after c.climb.height number c.climb.k node i c.climb.id c.climb.leaf c.climb.turn c.climb.local at step.is step.leads step.read c.enough c.climb.edits bare slot joint.separator (kind.Leaf right) joint.right entry beside
+          ∙ ap (λ x. before ++ (x ++ behind)) (from_low (λ m x. leaves_at now m x ++ leaves_at now m (kind.Leaf right) ≡ left ∷ right ∷ []) refl))
+
+      pub next_is : leaf_next (now.leaf left.0) ≡ Some right
+      next_is = spot.next_of total' is_summary now path number i c left right before behind was_order left_there
+
+    -- what the node above is then told
+    pub told_above : (kept : ℕ) (leaf' : LeafNodeId) (turn' : Turn) → Edits cmp is_summary c.climb.edit kept c.climb.old after (suc c.climb.height) (kind.Inner number) c.climb.k leaf' turn' Done → (above : A) → SumsUpAt cmp is_summary (after.inner number.0) above
+        → is_summary above (keys_of (pairs_at after (suc c.climb.height) (kind.Inner number)))
+    told_above kept leaf' turn' e above sums =
+        told_up total' is_summary after 0 c.climb.height number at.low at.high above (e.tree 0 at.low at.high (omega arith) (tree_less cmp c.climb.old at.least 0 (suc c.climb.height) (kind.Inner number) at.low at.high (omega arith) at.tree) at.fits)
+        (e.summed (spot.summed total' is_summary now path number i c)) (subst (λ l. length l < 2 ^ 64) (sym e.pairs) (spot.few total' is_summary now path number i c)) sums
+
+    -- the two became one
+    module _ (emptied : Leaf K V) (j : JoinsLeavesAt cmp is_summary slot now after number left right joint emptied) where
+      abbrev pub jb : Inner K A
+      jb = j.shares.bare
+
+      abbrev pub jg : NodeId
+      jg = j.shares.child
+
+      pub je : HasEntry node jb slot joint.separator jg joint.right
+      je = subst (λ n. HasEntry n jb slot joint.separator jg joint.right) (sym (same_node (now.inner number.0) node j.node (spot.here total' is_summary now path number i c) j.at_node)) j.shares.entry
+
+      j_mends : MendsPair cmp is_summary now after c.climb.height number.0 (get_or jb.children slot c.climb.id) joint.separator (kind.Leaf right) Done
+      j_mends =
+          from_low jb jg je (λ m x. MendsPair cmp is_summary now after m number.0 x joint.separator (kind.Leaf right) Done)
+          (mend.leaves_joined total' is_summary now after number.0 left right j.one j.other j.one' joint.separator j.at_left j.at_right j.is_left j.inners j.leaves j.apart emptied j.is_right j.shares.leaves j.fits)
+
+      j_told : is_summary j.shares.joins.both (keys_of (pairs_at after c.climb.height (get_or jb.children slot c.climb.id)))
+      j_told =
+          let t = pair.pair_tree total' is_summary c.climb.edit c.climb.kept c.climb.old now after c.climb.height number c.climb.k node i c.climb.id c.climb.leaf c.climb.turn c.climb.local at step.is step.leads step.read c.enough c.climb.edits jb slot joint.separator (kind.Leaf right) joint.right (entry jb jg je) beside Done j_mends in
+          let low = to_low jb jg je (λ m x. IsTree cmp after 16 m x t.0 t.1) t.2 in
+          let so : (16 ≤ length j.one'.pairs) × IsAscending cmp j.one'.pairs = subst (λ (x : Slot (Leaf K V)). (16 ≤ length (leaf_pairs x)) × IsAscending cmp (leaf_pairs x)) j.is_left (low.3, low.2) in
+          from_low jb jg je (λ m x. is_summary j.shares.joins.both (keys_of (pairs_at after m x)))
+          (subst (λ (x : Slot (Leaf K V)). is_summary j.shares.joins.both (keys_of (leaf_pairs x))) (sym j.is_left) (j.shares.joins.told_both (omega (arith, so.0)) so.1))
+
+      pub j_edits : Edits cmp is_summary c.climb.edit (length jb.keys) c.climb.old after (suc c.climb.height) (kind.Inner number) c.climb.k left (Loses right) Done
+      j_edits =
+          pair.node_joined total' is_summary c.climb.edit c.climb.kept c.climb.old now after c.climb.height number c.climb.k node i c.climb.id c.climb.leaf c.climb.turn c.climb.local at step.is step.leads step.read c.enough c.climb.edits jb slot joint.separator (kind.Leaf right) joint.right (entry jb jg je) beside j.shares.joins.both j_mends (j.is_node ∙ ap Present j.shares.joins.is) j_told (length jb.keys) (omega arith) left (Loses right)
+          (record {
+            order = record {
+              before = before jb jg je;
+              after = behind jb jg je;
+              was = was_order jb jg je;
+              is = pair.order_after total' is_summary c.climb.edit c.climb.kept c.climb.old now after c.climb.height number c.climb.k node i c.climb.id c.climb.leaf c.climb.turn c.climb.local at step.is step.leads step.read c.enough c.climb.edits jb slot joint.separator (kind.Leaf right) joint.right (entry jb jg je) beside Done j_mends
+                  ∙ ap (λ x. before jb jg je ++ (x ++ behind jb jg je)) (from_low jb jg je (λ m x. leaves_at after m x ≡ left ∷ []) refl);
+            };
+            links = (
+              ap leaf_prev j.is_left ∙ (ap (λ (x : Leaf K V). x.prev) j.shares.leaves.left_is ∙ (ap leaf_prev (sym j.at_left) ∙ links_left.0)),
+              ap leaf_next j.is_left ∙ (ap (λ (x : Leaf K V). x.next) j.shares.leaves.left_is ∙ (ap leaf_next (sym j.at_right) ∙ links_right.1)),
+            );
+            untouched = λ x l r some. rw (j.leaves x.0 l r) (spot.links_now total' is_summary now path number i c x some, spot.there_now total' is_summary now path number i c x some);
+          })
+
+      pub j_held : HeldAre c.climb.held_inner (λ n. cond (eqb right.0 n) true (c.climb.held_leaf n)) after
+      j_held = record {
+        inners = λ n.
+            elim (cases_eq n number.0) [
+              | inl q ↦ (rw q (ap is_held j.is_node ∙ (sym (ap is_held j.at_node) ∙ c.climb.free.inners number.0)))
+              | inr far ↦ ap is_held (j.inners n far) ∙ c.climb.free.inners n
+            ];
+        leaves = λ n.
+            elim (eqb_tells right.0 n) [
+              | inl q ↦ (rw q.0 (ap (λ m. is_held (after.leaf m)) (sym q.1) ∙ ap is_held j.is_right))
+              | inr far ↦ (rw far.0 (elim (cases_eq n left.0) [
+                | inl q ↦ (rw q (ap is_held j.is_left ∙ (sym (ap is_held j.at_left) ∙ c.climb.free.leaves left.0)))
+                | inr l ↦ ap is_held (j.leaves n l (λ z. far.1 (sym z))) ∙ c.climb.free.leaves n
+              ]))
+            ];
+      }
+
+      abbrev pub joined_climbs : (above : A) → SumsUpAt cmp is_summary (after.inner number.0) above → ClimbsShort cmp is_summary after path number above
+      joined_climbs above sums = record {
+        climb = record {
+          old = c.climb.old;
+          edit = c.climb.edit;
+          k = c.climb.k;
+          leaf = left;
+          turn = Loses right;
+          kept = length jb.keys;
+          held_inner = c.climb.held_inner;
+          held_leaf = λ n. cond (eqb right.0 n) true (c.climb.held_leaf n);
+          top = c.climb.top;
+          root = c.climb.root;
+          height = suc c.climb.height;
+          id = kind.Inner number;
+          shape = c.climb.shape;
+          few = c.climb.few;
+          local = c.climb.local;
+          way = step.way;
+          edits = j_edits;
+          free = j_held;
+        };
+        here = refl;
+        enough = omega (arith, seat_size cmp c.climb.old c.climb.k (least_at c.climb.top path) c.climb.height number node step.is (spot.seat total' is_summary now path number i c), ap (λ (n : Inner K A). length n.keys) je.is, length-insert jb.keys slot joint.separator je.place.within);
+        told = told_above (length jb.keys) left (Loses right) j_edits above sums;
+      }
+
+      -- the number of the leaf that is gone is let go, and the links are mended
+      module _ (above : A) (sums : SumsUpAt cmp is_summary (after.inner number.0) above) (new : Slots (Inner K A) (Leaf K V)) (top : A) (sunk : Sunk (joined_climbs above sums).climb new top) where
+        pub still_held : new.leaf right.0 ≡ Held
+        still_held = held_is (new.leaf right.0) (sunk.free.leaves right.0 ∙ rw (eq-eqb right.0 right.0 refl) refl)
+
+        abbrev edits : Edits cmp is_summary c.climb.edit 0 c.climb.old new c.climb.top c.climb.root c.climb.k left (Loses right) Done
+        edits = sunk.edits
+
+        abbrev first : List LeafNodeId
+        first = edits.order.before
+
+        abbrev later : List LeafNodeId
+        later = edits.order.after
+
+        was_whole : leaves_at c.climb.old c.climb.top c.climb.root ≡ first ++ left ∷ (right ∷ later)
+        was_whole = edits.order.was
+
+        links : AreLinked c.climb.old None (first ++ left ∷ (right ∷ later)) None
+        links = subst (λ ids. AreLinked c.climb.old None ids None) was_whole c.climb.shape.linked
+
+        unique : (n : ℕ) → count_of (first ++ left ∷ (right ∷ later)) n ≤ 1
+        unique n = omega (arith, ap (λ ids. count_of ids n) was_whole, count_leaves c.climb.old c.climb.top c.climb.root n, c.climb.shape.leaves n, stands_le (c.climb.old.leaf n))
+
+        present : (n : ℕ) → 1 ≤ count_of (first ++ left ∷ (right ∷ later)) n → IsPresent (c.climb.old.leaf n)
+        present n some = present_leaf cmp is_summary c.climb.old c.climb.top c.climb.root c.climb.shape n (omega (arith, some, ap (λ ids. count_of ids n) was_whole))
+
+        module _ (mid : Slots (Inner K A) (Leaf K V)) (frees : UpdatesLeaf new mid right.0 Free) (next : Option LeafNodeId) (seen : leaf_next (now.leaf right.0) ≡ next) where
+          next_first : next ≡ first_or None later
+          next_first =
+              sym seen
+              ∙ (links_right.1
+              ∙ linked_next c.climb.old None (first ++ left ∷ []) right later None (subst (λ ids. AreLinked c.climb.old None ids None) (sym (append_assoc first (left ∷ []) (right ∷ later))) links))
+
+          untouched : (x : LeafNodeId) → (x.0 ≡ left.0 → ⊥) → (x.0 ≡ right.0 → ⊥) → IsPresent (c.climb.old.leaf x.0) → SameLinks c.climb.old mid x
+          untouched x l r some = rw (frees.leaf.others x.0 r) (edits.untouched x l r some).0
+
+          there : (ids : List LeafNodeId) → later ≡ ids → IfSome (first_or None ids) (λ y. IsPresent (mid.leaf y.0))
+          there [] e = tt
+          there (y ∷ ys) e =
+              let o = other_leaf c.climb.old mid mid first left right later untouched unique present y (omega (arith, one_at y.0 y.0 refl, ap (λ ids. count_of ids y.0) e)) in
+              rw (frees.leaf.others y.0 o.1) (edits.untouched y o.0 o.1 o.2).1
+
+          pub next_there : IfSome next (λ y. IsPresent (mid.leaf y.0))
+          next_there = subst (λ o. IfSome o (λ y. IsPresent (mid.leaf y.0))) (sym next_first) (there later refl)
+
+          module _ (final : Slots (Inner K A) (Leaf K V)) (mends : Mends mid final next left) where
+            mid_inner : (n : ℕ) → mid.inner n ≡ new.inner n
+            mid_inner n = ap (λ (f : ℕ → Slot (Inner K A)). f n) frees.inner
+
+            counts : (n : ℕ) → leaf_count new c.climb.top c.climb.root n ≡ stands (new.leaf n)
+            counts n = omega (arith, c.climb.shape.leaves n, edits.leaves n)
+
+            inner_counts : (n : ℕ) → inner_count new c.climb.top c.climb.root n ≡ stands (new.inner n)
+            inner_counts n = omega (arith, c.climb.shape.inners n, edits.inners n)
+
+            none_there : stands (new.leaf right.0) ≡ 0
+            none_there = ap stands still_held
+
+            mid_stands : (n : ℕ) → stands (mid.leaf n) ≡ stands (new.leaf n)
+            mid_stands n = elim (cases_eq n right.0) [ inl q ↦ (rw q (ap stands frees.leaf.changed ∙ sym none_there)) | inr far ↦ ap stands (frees.leaf.others n far) ]
+
+            freed : Same cmp is_summary new mid c.climb.top c.climb.root
+            freed = same cmp is_summary new mid c.climb.top c.climb.root (
+              (λ n some. frees.leaf.others n (λ q. let z : stands (new.leaf n) ≡ 0 = ap (λ m. stands (new.leaf m)) q ∙ none_there in omega (arith, some, counts n, z))),
+              (λ n some. mid_inner n),
+            )
+
+            mended : Same cmp is_summary mid final c.climb.top c.climb.root
+            mended = reads_same cmp is_summary mid final (mended_pairs mid final left next mends) c.climb.top c.climb.root (λ n some. mended_inner mid final left next mends n)
+
+            free_leaf : (n : ℕ) → final.leaf n ≡ Held → ⊥
+            free_leaf n held =
+                let h = mended_held mid final left next mends n held in
+                elim (eqb_tells right.0 n) [
+                  | inl q ↦ (let z : Free ≡ Held = sym frees.leaf.changed ∙ (ap mid.leaf q.1 ∙ h) in cc)
+                  | inr far ↦ not_held (new.leaf n) (sunk.free.leaves n ∙ rw far.0 (c.none_held n).1) (sym (frees.leaf.others n (λ z. far.1 (sym z))) ∙ h)
+                ]
+
+            linked : AreLinked final None (first ++ left ∷ later) None
+            linked =
+                linked_closed c.climb.old mid final first left right later untouched (rw (frees.leaf.others left.0 j.apart) edits.links) unique present
+                (subst (λ o. Mends mid final o left) next_first mends) links
+
+            pub trims_joined : Trims c.climb final top
+            trims_joined = record {
+              loose = record {
+                tree = mended.tree 0 None None (freed.tree 0 None None (edits.tree 0 None None (omega arith) (tree_less cmp c.climb.old (root_least c.climb.top) 0 c.climb.top c.climb.root None None (omega arith) c.climb.shape.tree) (tt, tt)));
+                leaves = λ n. omega (arith, mended.leaves n, freed.leaves n, counts n, mid_stands n, (mended_pairs mid final left next mends n).stands);
+                inners = λ n. omega (arith, mended.inners n, freed.inners n, inner_counts n, ap stands (mid_inner n), ap stands (mended_inner mid final left next mends n));
+                no_leaf_held = free_leaf;
+                no_inner_held = λ n held. not_held (new.inner n) (sunk.free.inners n ∙ (c.none_held n).0) (sym (mid_inner n) ∙ (sym (mended_inner mid final left next mends n) ∙ held));
+                summed = mended.summed (freed.summed (edits.summed c.climb.shape.summed));
+                linked = subst (λ ids. AreLinked final None ids None) (sym (mended.order ∙ (freed.order ∙ edits.order.is))) linked;
+              };
+              pairs = mended.pairs ∙ (freed.pairs ∙ edits.pairs);
+              told = subst (λ l. is_summary top (keys_of l)) (sym (mended.pairs ∙ freed.pairs)) sunk.told;
+            }
+
+    -- the one lent a pair to the other
+    module _ (lender : Lender) (l : LendsLeavesAt cmp is_summary slot now after number lender left right joint) (least : (16 ≤ length l.one'.pairs) × (16 ≤ length l.other'.pairs)) where
+      abbrev pub lb : Inner K A
+      lb = l.shares.bare
+
+      abbrev pub lg : NodeId
+      lg = l.shares.child
+
+      abbrev up : K
+      up = l.shares.lends.separator
+
+      pub le : HasEntry node lb slot joint.separator lg joint.right
+      le = subst (λ n. HasEntry n lb slot joint.separator lg joint.right) (sym (same_node (now.inner number.0) node l.node (spot.here total' is_summary now path number i c) l.at_node)) l.shares.entry
+
+      l_mends : MendsPair cmp is_summary now after c.climb.height number.0 (get_or lb.children slot c.climb.id) joint.separator (kind.Leaf right) (Split up (kind.Leaf right))
+      l_mends =
+          from_low lb lg le (λ m x. MendsPair cmp is_summary now after m number.0 x joint.separator (kind.Leaf right) (Split up (kind.Leaf right)))
+          (mend.leaves_lent total' is_summary now after number.0 left right l.one l.other l.one' joint.separator l.at_left l.at_right l.is_left l.inners l.leaves l.apart lender l.other' up l.is_right l.shares.moves l.shares.lends.separates least
+          (most_so lender (length l.one.pairs) (length l.other.pairs) (length l.one'.pairs) (length l.other'.pairs) l.can l.shares.moves.sizes))
+
+      sums_leaf : (x : LeafNodeId) (node' : Leaf K V) (lo hi : Option K) (b : A) → after.leaf x.0 ≡ Present node' → IsTree cmp after 16 0 (kind.Leaf x) lo hi → SumsUpLeaf cmp is_summary node'.pairs b → is_summary b (keys_of (pairs_at after 0 (kind.Leaf x)))
+      sums_leaf x node' lo hi b is t sums =
+          let so : (16 ≤ length node'.pairs) × IsAscending cmp node'.pairs = subst (λ (y : Slot (Leaf K V)). (16 ≤ length (leaf_pairs y)) × IsAscending cmp (leaf_pairs y)) is (t.3, t.2) in
+          subst (λ (y : Slot (Leaf K V)). is_summary b (keys_of (leaf_pairs y))) (sym is) (sums (omega (arith, so.0)) so.1)
+
+      l_told : is_summary l.shares.lends.left (keys_of (pairs_at after c.climb.height (get_or lb.children slot c.climb.id))) × is_summary l.shares.lends.right (keys_of (pairs_at after c.climb.height (kind.Leaf right)))
+      l_told =
+          let t = pair.pair_tree total' is_summary c.climb.edit c.climb.kept c.climb.old now after c.climb.height number c.climb.k node i c.climb.id c.climb.leaf c.climb.turn c.climb.local at step.is step.leads step.read c.enough c.climb.edits lb slot joint.separator (kind.Leaf right) joint.right (entry lb lg le) beside (Split up (kind.Leaf right)) l_mends in
+          let left_tree = to_low lb lg le (λ m x. IsTree cmp after 16 m x t.0 (Some up)) t.2.0 in
+          let right_tree = subst (λ m. IsTree cmp after 16 m (kind.Leaf right) (Some up) t.1) c.low t.2.2 in (
+            from_low lb lg le (λ m x. is_summary l.shares.lends.left (keys_of (pairs_at after m x))) (sums_leaf left l.one' t.0 (Some up) l.shares.lends.left l.is_left left_tree l.shares.lends.told_left),
+            subst (λ m. is_summary l.shares.lends.right (keys_of (pairs_at after m (kind.Leaf right)))) (sym c.low) (sums_leaf right l.other' (Some up) t.1 l.shares.lends.right l.is_right right_tree l.shares.lends.told_right),
+          )
+
+      links_after : (x : LeafNodeId) → IsPresent (c.climb.old.leaf x.0) → SameLinks c.climb.old after x × IsPresent (after.leaf x.0)
+      links_after x some =
+          elim (cases_eq x.0 left.0) [
+            | inl q ↦ (rw q (
+              (
+                ap leaf_prev l.is_left ∙ (ap (λ (y : Leaf K V). y.prev) l.shares.moves.left_links ∙ (ap leaf_prev (sym l.at_left) ∙ links_left.0)),
+                ap leaf_next l.is_left ∙ (ap (λ (y : Leaf K V). y.next) l.shares.moves.left_links ∙ (ap leaf_next (sym l.at_left) ∙ links_left.1)),
+              ),
+              rw l.is_left tt,
+            ))
+            | inr far ↦ elim (cases_eq x.0 right.0) [
+              | inl q ↦ (rw q (
+                (
+                  ap leaf_prev l.is_right ∙ (ap (λ (y : Leaf K V). y.prev) l.shares.moves.right_links ∙ (ap leaf_prev (sym l.at_right) ∙ links_right.0)),
+                  ap leaf_next l.is_right ∙ (ap (λ (y : Leaf K V). y.next) l.shares.moves.right_links ∙ (ap leaf_next (sym l.at_right) ∙ links_right.1)),
+                ),
+                rw l.is_right tt,
+              ))
+              | inr r ↦ (rw (l.leaves x.0 far r) (spot.links_now total' is_summary now path number i c x some, spot.there_now total' is_summary now path number i c x some))
+            ]
+          ]
+
+      pub l_edits : Edits cmp is_summary c.climb.edit 16 c.climb.old after (suc c.climb.height) (kind.Inner number) c.climb.k left Stays Done
+      l_edits =
+          pair.node_lent total' is_summary c.climb.edit c.climb.kept c.climb.old now after c.climb.height number c.climb.k node i c.climb.id c.climb.leaf c.climb.turn c.climb.local at step.is step.leads step.read c.enough c.climb.edits lb slot joint.separator (kind.Leaf right) joint.right (entry lb lg le) beside l.shares.lends.left l.shares.lends.right up l_mends
+          (l.is_node ∙ ap Present (l.shares.lends.is ∙ ap (λ x. with_split lb slot l.shares.lends.left up x l.shares.lends.right) (given_is lb lg le))) l_told.0 l_told.1 16 left Stays
+          (record {
+            order = record {
+              before = before lb lg le;
+              after = right ∷ behind lb lg le;
+              was = was_order lb lg le;
+              is = pair.order_after_two total' is_summary c.climb.edit c.climb.kept c.climb.old now after c.climb.height number c.climb.k node i c.climb.id c.climb.leaf c.climb.turn c.climb.local at step.is step.leads step.read c.enough c.climb.edits lb slot joint.separator (kind.Leaf right) joint.right (entry lb lg le) beside (Split up (kind.Leaf right)) l_mends
+                  ∙ ap (λ x. before lb lg le ++ (x ++ behind lb lg le)) (from_low lb lg le (λ m x. leaves_at after m x ++ leaves_at after m (kind.Leaf right) ≡ left ∷ right ∷ []) refl);
+            };
+            links = (links_after left left_was).0;
+            untouched = λ x far spares some. links_after x some;
+          })
+
+      pub l_held : HeldAre c.climb.held_inner c.climb.held_leaf after
+      l_held = record {
+        inners = λ n.
+            elim (cases_eq n number.0) [
+              | inl q ↦ (rw q (ap is_held l.is_node ∙ (sym (ap is_held l.at_node) ∙ c.climb.free.inners number.0)))
+              | inr far ↦ ap is_held (l.inners n far) ∙ c.climb.free.inners n
+            ];
+        leaves = λ n.
+            elim (cases_eq n left.0) [
+              | inl q ↦ (rw q (ap is_held l.is_left ∙ (sym (ap is_held l.at_left) ∙ c.climb.free.leaves left.0)))
+              | inr x ↦ elim (cases_eq n right.0) [
+                | inl q ↦ (rw q (ap is_held l.is_right ∙ (sym (ap is_held l.at_right) ∙ c.climb.free.leaves right.0)))
+                | inr y ↦ ap is_held (l.leaves n x y) ∙ c.climb.free.leaves n
+              ]
+            ];
+      }
+
+      abbrev pub lent_climbs : (above : A) → SumsUpAt cmp is_summary (after.inner number.0) above → Climbs cmp is_summary after path above
+      lent_climbs above sums = record {
+        climb = record {
+          old = c.climb.old;
+          edit = c.climb.edit;
+          k = c.climb.k;
+          leaf = left;
+          turn = Stays;
+          kept = 16;
+          held_inner = c.climb.held_inner;
+          held_leaf = c.climb.held_leaf;
+          top = c.climb.top;
+          root = c.climb.root;
+          height = suc c.climb.height;
+          id = kind.Inner number;
+          shape = c.climb.shape;
+          few = c.climb.few;
+          local = c.climb.local;
+          way = step.way;
+          edits = l_edits;
+          free = l_held;
+        };
+        enough = least_most c.climb.top path;
+        told = told_above 16 left Stays l_edits above sums;
+      }
+
+      pub trims_lent : (above : A) (sums : SumsUpAt cmp is_summary (after.inner number.0) above) (new : Slots (Inner K A) (Leaf K V)) (top : A) → Risen (lent_climbs above sums).climb new top → Trims c.climb new top
+      trims_lent above sums new top r = record {
+        loose = loose_of cmp is_summary new c.climb.top c.climb.root
+            (whole_done cmp is_summary c.climb.edit c.climb.old new c.climb.top c.climb.root c.climb.k left c.climb.shape (λ n. not_held (new.leaf n) (r.free.leaves n ∙ (c.none_held n).1)) (λ n. not_held (new.inner n) (r.free.inners n ∙ (c.none_held n).0)) r.edits);
+        pairs = r.edits.pairs;
+        told = r.told;
+      }
+
+-- The same of what stands under the node's number.
+module _ {K V A : Type 0} {cmp : K → K → Ordering} (total' : IsTotalOrder cmp) {is_summary : A → List K → Type 0} {now : Slots (Inner K A) (Leaf K V)} {path : List (InnerNodeId × ℕ × NodeId)} {number : InnerNodeId} {i : ℕ}
+    (c : ShortLeaf cmp is_summary now path number i) (slot : ℕ) (helper : Option Lender) (helps : Helps (child_size now (inner_children (now.inner number.0))) i slot helper) (left right : LeafNodeId)
+    (read_left : slice_get (inner_children (now.inner number.0)) slot ≡ Some (kind.Leaf left)) (read_right : slice_get (inner_children (now.inner number.0)) (slot + 1) ≡ Some (kind.Leaf right)) where
+  pub beside_so : (i ≡ slot) ⊎ (i ≡ suc slot)
+  beside_so = spot.beside_there total' c slot helper helps
+
+  pub left_so : slice_get (spot.node total' is_summary now path number i c).children slot ≡ Some (kind.Leaf left)
+  left_so = spot.left_so total' c slot left right read_left read_right
+
+  pub right_so : slice_get (spot.node total' is_summary now path number i c).children (slot + 1) ≡ Some (kind.Leaf right)
+  right_so = spot.right_so total' c slot left right read_left read_right
+
+  -- where the two became one
+  module _ {after : Slots (Inner K A) (Leaf K V)} (joint : Joint K A) (emptied : Leaf K V) (j : JoinsLeavesAt cmp is_summary slot now after number left right joint emptied) (above : A) (sums : SumsUpAt cmp is_summary (after.inner number.0) above) where
+    abbrev pub joined : ClimbsShort cmp is_summary after path number above
+    joined = joined_climbs total' is_summary now after path number i c slot left right beside_so left_so right_so joint emptied j above sums
+
+    -- what undoes that finds the link that was there
+    pub link_so : leaf_next (now.leaf left.0) ≡ Some right
+    link_so = next_is total' is_summary now after path number i c slot left right beside_so left_so right_so joint j.shares.bare j.shares.child (je total' is_summary now after path number i c slot left right beside_so left_so right_so joint emptied j)
+
+    module _ (new : Slots (Inner K A) (Leaf K V)) (top : A) (sunk : Sunk joined.climb new top) where
+      pub held_so : new.leaf right.0 ≡ Held
+      held_so = still_held total' is_summary now after path number i c slot left right beside_so left_so right_so joint emptied j above sums new top sunk
+
+      module _ (mid : Slots (Inner K A) (Leaf K V)) (frees : UpdatesLeaf new mid right.0 Free) (next : Option LeafNodeId) (seen : leaf_next (now.leaf right.0) ≡ next) where
+        pub next_so : IfSome next (λ y. IsPresent (mid.leaf y.0))
+        next_so = next_there total' is_summary now after path number i c slot left right beside_so left_so right_so joint emptied j above sums new top sunk mid frees next seen
+
+        pub joined_trims : (final : Slots (Inner K A) (Leaf K V)) → Mends mid final next left → Trims c.climb final top
+        joined_trims final mends = trims_joined total' is_summary now after path number i c slot left right beside_so left_so right_so joint emptied j above sums new top sunk mid frees next seen final mends
+
+  -- where the one lent a pair to the other
+  module _ {after : Slots (Inner K A) (Leaf K V)} (joint : Joint K A) (lender : Lender) (same : helper ≡ Some lender) (l : LendsLeavesAt cmp is_summary slot now after number lender left right joint) (above : A) (sums : SumsUpAt cmp is_summary (after.inner number.0) above) where
+    pub least_so : (16 ≤ length l.one'.pairs) × (16 ≤ length l.other'.pairs)
+    least_so =
+        spot.enough_there total' c slot left right read_left read_right lender (length l.one'.pairs) (length l.other'.pairs) (subst (λ x. Helps (child_size now (inner_children (now.inner number.0))) i slot x) same helps)
+        (rw (l.at_left, l.at_right) l.shares.moves.sizes)
+
+    abbrev pub lent : Climbs cmp is_summary after path above
+    lent = lent_climbs total' is_summary now after path number i c slot left right beside_so left_so right_so joint lender l least_so above sums
+
+    pub lent_trims : (new : Slots (Inner K A) (Leaf K V)) (top : A) → Risen lent.climb new top → Trims c.climb new top
+    lent_trims new top r = trims_lent total' is_summary now after path number i c slot left right beside_so left_so right_so joint lender l least_so above sums new top r

@@ -1,0 +1,13 @@
+pub mod ClimbingLeaf
+pub mod ClimbingShort
+pub mod Helping
+pub mod LeafSpot
+pub mod Loose
+pub mod MendInner
+pub mod MendLeaf
+pub mod Pair
+pub mod Seated
+pub mod Shares
+pub mod ShortNode
+pub mod Shortened
+pub mod Triples

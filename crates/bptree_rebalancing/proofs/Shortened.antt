@@ -1,0 +1,243 @@
+-- What two inner nodes that were mended in a store make of a climb, and how a climb ends.
+use Rattle.std.proofs.Common.{◌≡◌, ℕ, suc, ◌+◌, ◌<◌, ◌≤◌, inl, inr, ◌⊎◌, true, false, cond, List, [], ◌∷◌, ◌++◌, length, refl, sym, ap, subst, ◌∙◌, arith, Option, Some, eqb, slice_get}
+use Rattle.std.specs.declared.cmp.Ordering.{Ordering}
+use Rattle.std.specs.Cmp.{IsTotalOrder}
+use Rattle.std.specs.Map.{keys_of}
+use Rattle.std.proofs.lemmas.Bool.{cases_eq, eq-eqb}
+use Rattle.std.proofs.lemmas.Bool.Decides.{eqb_tells}
+use Rattle.bptree_nodes.specs.Inner.{Inner}
+use Rattle.bptree_nodes.specs.Leaf.{Leaf}
+use Rattle.bptree_nodes.specs.Slot.{Slot, Slots, Free, Held, Present, IsPresent, UpdatesInner}
+use Rattle.bptree_keys.specs.declared.node_id.InnerNodeId.{InnerNodeId}
+use Rattle.bptree_keys.specs.declared.node_id.LeafNodeId.{LeafNodeId}
+use Rattle.bptree_keys.specs.declared.node_id.NodeId.{NodeId}
+use Rattle.bptree_keys.specs.declared.node_id.NodeId.TheVariants as kind
+use Rattle.bptree_insertion.specs.Climb.{is_held, HeldAre, Climbs, Risen}
+use Rattle.bptree_shape.specs.Edit.{Turn, Edits}
+use Rattle.bptree_rebalancing.specs.Help.{Helps, child_size}
+use Rattle.bptree_rebalancing.specs.Mend.{MendsPair}
+use Rattle.bptree_shape.specs.Outcome.{Done, Split}
+use Rattle.bptree_shape.specs.Shape.{inner_children, inner_keys, pairs_at, leaves_at, inner_count, stands, root_least, IsWellShaped}
+use Rattle.bptree_rebalancing.specs.Share.{HasEntry}
+use Rattle.bptree_rebalancing.specs.Shared.{LendsInnersAt, JoinsInnersAt}
+use Rattle.bptree_insertion.specs.Sums.{SumsUpAt, with_split}
+use Rattle.bptree_rebalancing.specs.Trim.{ClimbsShort, Sunk}
+use Rattle.bptree_rebalancing.specs.declared.sharing.Lender.{Lender}
+use Rattle.bptree_rebalancing.specs.declared.sharing.Sides.{Sides}
+use Rattle.bptree_insertion.proofs.Climbing.{edits_less, held_is}
+use Rattle.bptree_rebalancing.proofs.ClimbingShort as short
+use Rattle.bptree_shape.proofs.Frame.{Same, same}
+use Rattle.bptree_insertion.proofs.Lift.{links_moved}
+use Rattle.bptree_rebalancing.proofs.MendInner as mend
+use Rattle.bptree_rebalancing.proofs.ShortNode as spot
+use Rattle.bptree_insertion.proofs.Undone.{same_node}
+
+-- an edit is what it was once a held number that it does not reach is let go
+pub edits_released : {K V A : Type 0} {cmp : K → K → Ordering} (is_summary : A → List K → Type 0) (edit : List (K × V) → List (K × V)) (kept : ℕ) (old new final : Slots (Inner K A) (Leaf K V)) (h : ℕ) (root : NodeId) (k : K) (leaf : LeafNodeId) (turn : Turn) (right : InnerNodeId)
+    → IsWellShaped cmp is_summary old h root → new.inner right.0 ≡ Held → UpdatesInner new final right.0 Free → Edits cmp is_summary edit kept old new h root k leaf turn Done → Edits cmp is_summary edit kept old final h root k leaf turn Done
+edits_released {K} {V} {A} {cmp} is_summary edit kept old new final h root k leaf turn right shape held frees e = record {
+  tree = λ least lo hi low t w. there.tree least lo hi (e.tree least lo hi low t w);
+  pairs = there.pairs ∙ e.pairs;
+  leaves = λ n. omega (arith, there.leaves n, e.leaves n, leaf_stands n);
+  inners = λ n. omega (arith, there.inners n, e.inners n, inner_stands n);
+  other_leaves = λ n none some. leaf_at n ∙ e.other_leaves n none some;
+  other_inners = λ n none some. frees.inner.others n (λ q. gone n q (e.other_inners n none some) some) ∙ e.other_inners n none some;
+  order = record { before = e.order.before; after = e.order.after; was = e.order.was; is = there.order ∙ e.order.is };
+  links = links_moved old new final leaf turn leaf_at e.links;
+  untouched = λ x other spares some. rw (leaf_at x.0) (e.untouched x other spares some);
+  summed = λ s. there.summed (e.summed s);
+}
+  where
+    leaf_at : (n : ℕ) → final.leaf n ≡ new.leaf n
+    leaf_at n = ap (λ (f : ℕ → Slot (Leaf K V)). f n) frees.leaf
+
+    leaf_stands : (n : ℕ) → stands (final.leaf n) ≡ stands (new.leaf n)
+    leaf_stands n = ap stands (leaf_at n)
+
+    inner_stands : (n : ℕ) → stands (final.inner n) ≡ stands (new.inner n)
+    inner_stands n = elim (cases_eq n right.0) [ inl q ↦ (rw (q, frees.inner.changed, held) refl) | inr far ↦ ap stands (frees.inner.others n far) ]
+
+    gone : (n : ℕ) → n ≡ right.0 → new.inner n ≡ old.inner n → IsPresent (old.inner n) → ⊥
+    gone n q same' some = subst (λ (s : Slot (Inner K A)). IsPresent s) (sym same' ∙ (ap new.inner q ∙ held)) some
+
+    unreached : (n : ℕ) → 1 ≤ inner_count new h root n → n ≡ right.0 → ⊥
+    unreached n some q = let z : stands (new.inner n) ≡ 0 = ap (λ m. stands (new.inner m)) q ∙ ap stands held in omega (arith, some, z, e.inners n, shape.inners n)
+
+    there : Same cmp is_summary new final h root
+    there = same cmp is_summary new final h root ((λ n some. leaf_at n), (λ n some. frees.inner.others n (unreached n some)))
+
+module _ {K V A : Type 0} {cmp : K → K → Ordering} (total : IsTotalOrder cmp) (is_summary : A → List K → Type 0) (now after : Slots (Inner K A) (Leaf K V)) (path : List (InnerNodeId × ℕ × NodeId)) (nid : InnerNodeId) (a : A)
+    (c : ClimbsShort cmp is_summary now path nid a) (rest : List (InnerNodeId × ℕ × NodeId)) (number : InnerNodeId) (i : ℕ) (child : NodeId) (e : path ≡ rest ++ (number, i, child) ∷ [])
+    (slot : ℕ) (left right : InnerNodeId) (beside : (i ≡ slot) ⊎ (i ≡ suc slot)) where
+  abbrev pub node : Inner K A
+  node = (short.step total is_summary now after path nid a c rest number i child e).node
+
+  module _ (read_left : slice_get node.children slot ≡ Some (kind.Inner left)) (read_right : slice_get node.children (slot + 1) ≡ Some (kind.Inner right)) (sides : Sides A) where
+    -- two that became one
+    module _ (emptied : Inner K A) (j : JoinsInnersAt cmp is_summary slot now after number left right sides emptied) where
+      pub j_same : node ≡ j.node
+      j_same = same_node (now.inner number.0) node j.node (short.node_stands total is_summary now after path nid a c rest number i child e) j.at_node
+
+      pub j_entry : HasEntry node j.shares.bare slot j.shares.separator j.shares.child sides.right
+      j_entry = subst (λ n. HasEntry n j.shares.bare slot j.shares.separator j.shares.child sides.right) (sym j_same) j.shares.entry
+
+      abbrev pub j_high : (m : ℕ) × (c.climb.height ≡ suc m)
+      j_high = short.high total is_summary now after path nid a c rest number i child e
+
+      pub j_mends : MendsPair cmp is_summary now after c.climb.height number.0 (kind.Inner left) j.shares.separator (kind.Inner right) Done
+      j_mends =
+          subst (λ n. MendsPair cmp is_summary now after n number.0 (kind.Inner left) j.shares.separator (kind.Inner right) Done) (sym j_high.1)
+          (mend.inners_joined total is_summary now after j_high.0 number left right j.one j.other j.one' j.shares.separator j.at_left j.at_right j.is_left j.inners j.leaf j.apart
+          (short.own_high total is_summary now after path nid a c rest number i child e slot left right j.shares.bare j.shares.child j.shares.separator sides.right j_entry beside read_left read_right) emptied j.is_right j.shares.nodes j.fits)
+
+      pub j_order : leaves_at after c.climb.height (kind.Inner left) ≡ leaves_at now c.climb.height (kind.Inner left) ++ leaves_at now c.climb.height (kind.Inner right)
+      j_order =
+          subst (λ n. leaves_at after n (kind.Inner left) ≡ leaves_at now n (kind.Inner left) ++ leaves_at now n (kind.Inner right)) (sym j_high.1)
+          (mend.order_joined total is_summary now after j_high.0 number left right j.one j.other j.one' j.shares.separator j.at_left j.at_right j.is_left j.inners j.leaf j.apart
+          (short.own_high total is_summary now after path nid a c rest number i child e slot left right j.shares.bare j.shares.child j.shares.separator sides.right j_entry beside read_left read_right) emptied j.is_right j.shares.nodes j.fits)
+
+      pub j_held : HeldAre (λ n. cond (eqb right.0 n) true (c.climb.held_inner n)) c.climb.held_leaf after
+      j_held = record {
+        inners = λ n.
+            elim (eqb_tells right.0 n) [
+              | inl q ↦ (rw q.0 (ap (λ m. is_held (after.inner m)) (sym q.1) ∙ ap is_held j.is_right))
+              | inr far ↦ (rw far.0 (elim (cases_eq n number.0) [
+                | inl q ↦ (rw q (ap is_held j.is_node ∙ (sym (ap is_held j.at_node) ∙ c.climb.free.inners number.0)))
+                | inr apart ↦ elim (cases_eq n left.0) [
+                  | inl q ↦ (rw q (ap is_held j.is_left ∙ (sym (ap is_held j.at_left) ∙ c.climb.free.inners left.0)))
+                  | inr l ↦ ap is_held (j.inners n apart l (λ z. far.1 (sym z))) ∙ c.climb.free.inners n
+                ]
+              ]))
+            ];
+        leaves = λ n. ap (λ (f : ℕ → Slot (Leaf K V)). is_held (f n)) j.leaf ∙ c.climb.free.leaves n;
+      }
+
+      abbrev pub joined_climbs : (above : A) → SumsUpAt cmp is_summary (after.inner number.0) above → ClimbsShort cmp is_summary after rest number above
+      joined_climbs above sums =
+          short.climbs_joined total is_summary now after path nid a c rest number i child e slot left right j.shares.bare j.shares.child j.shares.separator sides.right j_entry beside read_left read_right j.leaf
+          j.shares.joins.both j_mends j_order (j.is_node ∙ ap Present j.shares.joins.is)
+          (short.told_joined total is_summary now after path nid a c rest number i child e slot left right j.shares.bare j.shares.child j.shares.separator sides.right j_entry beside read_left read_right j.leaf j.shares.joins.both j_mends (rw j.is_left j.shares.joins.told_both)) j_held above sums
+
+      -- and the number of the one that is gone is let go
+      module _ (above : A) (sums : SumsUpAt cmp is_summary (after.inner number.0) above) (new : Slots (Inner K A) (Leaf K V)) (top : A) (sunk : Sunk (joined_climbs above sums).climb new top) where
+        pub still_held : new.inner right.0 ≡ Held
+        still_held = held_is (new.inner right.0) (sunk.free.inners right.0 ∙ rw (eq-eqb right.0 right.0 refl) refl)
+
+        pub sunk_joined : (final : Slots (Inner K A) (Leaf K V)) → c.climb.held_inner right.0 ≡ false → UpdatesInner new final right.0 Free → Sunk c.climb final top
+        sunk_joined final was_not frees =
+            let edits = edits_released is_summary c.climb.edit 0 c.climb.old new final c.climb.top c.climb.root c.climb.k c.climb.leaf c.climb.turn right c.climb.shape still_held frees sunk.edits in
+            record {
+              edits = edits;
+              free = record {
+                inners = λ n.
+                    elim (eqb_tells right.0 n) [
+                      | inl q ↦ (ap (λ m. is_held (final.inner m)) (sym q.1) ∙ (ap is_held frees.inner.changed ∙ (sym was_not ∙ ap c.climb.held_inner q.1)))
+                      | inr far ↦ ap is_held (frees.inner.others n (λ z. far.1 (sym z))) ∙ (sunk.free.inners n ∙ rw far.0 refl)
+                    ];
+                leaves = λ n. ap (λ (f : ℕ → Slot (Leaf K V)). is_held (f n)) frees.leaf ∙ sunk.free.leaves n;
+              };
+              told = subst (λ l. is_summary top (keys_of l)) (sunk.edits.pairs ∙ sym edits.pairs) sunk.told;
+            }
+
+        pub right_was_not : c.climb.held_inner right.0 ≡ false
+        right_was_not = sym (c.climb.free.inners right.0) ∙ ap is_held j.at_right
+
+    -- two of which one lent to the other
+    module _ (lender : Lender) (l : LendsInnersAt cmp is_summary slot now after number lender left right sides) (least : (16 ≤ length l.one'.keys) × (16 ≤ length l.other'.keys)) where
+      pub l_same : node ≡ l.node
+      l_same = same_node (now.inner number.0) node l.node (short.node_stands total is_summary now after path nid a c rest number i child e) l.at_node
+
+      pub l_entry : HasEntry node l.shares.bare slot l.shares.separator l.shares.child sides.right
+      l_entry = subst (λ n. HasEntry n l.shares.bare slot l.shares.separator l.shares.child sides.right) (sym l_same) l.shares.entry
+
+      abbrev pub l_high : (m : ℕ) × (c.climb.height ≡ suc m)
+      l_high = short.high total is_summary now after path nid a c rest number i child e
+
+      pub l_given : l.shares.child ≡ kind.Inner right
+      l_given = short.given_is total is_summary now after path nid a c rest number i child e slot left right l.shares.bare l.shares.child l.shares.separator sides.right l_entry beside read_left read_right
+
+      pub l_mends : MendsPair cmp is_summary now after c.climb.height number.0 (kind.Inner left) l.shares.separator (kind.Inner right) (Split l.shares.up (kind.Inner right))
+      l_mends =
+          subst (λ n. MendsPair cmp is_summary now after n number.0 (kind.Inner left) l.shares.separator (kind.Inner right) (Split l.shares.up (kind.Inner right))) (sym l_high.1)
+          (mend.inners_lent total is_summary now after l_high.0 number left right l.one l.other l.one' l.shares.separator l.at_left l.at_right l.is_left l.inners l.leaf l.apart
+          (short.own_high total is_summary now after path nid a c rest number i child e slot left right l.shares.bare l.shares.child l.shares.separator sides.right l_entry beside read_left read_right) lender l.other' l.shares.up l.is_right l.shares.moves least)
+
+      pub l_order : leaves_at after c.climb.height (kind.Inner left) ++ leaves_at after c.climb.height (kind.Inner right) ≡ leaves_at now c.climb.height (kind.Inner left) ++ leaves_at now c.climb.height (kind.Inner right)
+      l_order =
+          subst (λ n. leaves_at after n (kind.Inner left) ++ leaves_at after n (kind.Inner right) ≡ leaves_at now n (kind.Inner left) ++ leaves_at now n (kind.Inner right)) (sym l_high.1)
+          (mend.order_lent total is_summary now after l_high.0 number left right l.one l.other l.one' l.shares.separator l.at_left l.at_right l.is_left l.inners l.leaf l.apart
+          (short.own_high total is_summary now after path nid a c rest number i child e slot left right l.shares.bare l.shares.child l.shares.separator sides.right l_entry beside read_left read_right) lender l.other' l.shares.up l.is_right l.shares.moves least)
+
+      pub l_held : HeldAre c.climb.held_inner c.climb.held_leaf after
+      l_held = record {
+        inners = λ n.
+            elim (cases_eq n number.0) [
+              | inl q ↦ (rw q (ap is_held l.is_node ∙ (sym (ap is_held l.at_node) ∙ c.climb.free.inners number.0)))
+              | inr far ↦ elim (cases_eq n left.0) [
+                | inl q ↦ (rw q (ap is_held l.is_left ∙ (sym (ap is_held l.at_left) ∙ c.climb.free.inners left.0)))
+                | inr x ↦ elim (cases_eq n right.0) [
+                  | inl q ↦ (rw q (ap is_held l.is_right ∙ (sym (ap is_held l.at_right) ∙ c.climb.free.inners right.0)))
+                  | inr y ↦ ap is_held (l.inners n far x y) ∙ c.climb.free.inners n
+                ]
+              ]
+            ];
+        leaves = λ n. ap (λ (f : ℕ → Slot (Leaf K V)). is_held (f n)) l.leaf ∙ c.climb.free.leaves n;
+      }
+
+      pub l_told : is_summary l.shares.lends.left (keys_of (pairs_at after c.climb.height (kind.Inner left))) × is_summary l.shares.lends.right (keys_of (pairs_at after c.climb.height (kind.Inner right)))
+      l_told =
+          short.told_lent total is_summary now after path nid a c rest number i child e slot left right l.shares.bare l.shares.child l.shares.separator sides.right l_entry beside read_left read_right l.leaf
+          l.shares.lends.left l.shares.lends.right l.shares.up l_mends (rw l.is_left l.shares.lends.told_left) (rw l.is_right l.shares.lends.told_right)
+
+      abbrev pub lent_climbs : (above : A) → SumsUpAt cmp is_summary (after.inner number.0) above → Climbs cmp is_summary after rest above
+      lent_climbs above sums =
+          short.climbs_lent total is_summary now after path nid a c rest number i child e slot left right l.shares.bare l.shares.child l.shares.separator sides.right l_entry beside read_left read_right l.leaf
+          l.shares.lends.left l.shares.lends.right l.shares.up l_mends l_order
+          (l.is_node ∙ ap Present (l.shares.lends.is ∙ (ap (λ x. with_split l.shares.bare slot l.shares.lends.left x l.shares.child l.shares.lends.right) l.shares.lends.separates ∙ ap (λ x. with_split l.shares.bare slot l.shares.lends.left l.shares.up x l.shares.lends.right) l_given))) l_told.0 l_told.1 l_held above sums
+
+      pub sunk_lent : (above : A) (sums : SumsUpAt cmp is_summary (after.inner number.0) above) (new : Slots (Inner K A) (Leaf K V)) (top : A) → Risen (lent_climbs above sums).climb new top → Sunk c.climb new top
+      sunk_lent above sums new top r = record {
+        edits = edits_less is_summary c.climb.edit (root_least c.climb.top) 0 c.climb.old new c.climb.top c.climb.root c.climb.k c.climb.leaf c.climb.turn Done (omega arith) r.edits;
+        free = r.free;
+        told = r.told;
+      }
+
+-- The same of what stands under the number of the node above.
+module _ {K V A : Type 0} {cmp : K → K → Ordering} (total : IsTotalOrder cmp) {is_summary : A → List K → Type 0} {now : Slots (Inner K A) (Leaf K V)} {path : List (InnerNodeId × ℕ × NodeId)} {nid : InnerNodeId} {a : A}
+    (c : ClimbsShort cmp is_summary now path nid a) (rest : List (InnerNodeId × ℕ × NodeId)) (number : InnerNodeId) (i : ℕ) (child : NodeId) (e : path ≡ rest ++ (number, i, child) ∷ [])
+    (slot : ℕ) (helper : Option Lender) (helps : Helps (child_size now (inner_children (now.inner number.0))) i slot helper) (left right : InnerNodeId)
+    (read_left : slice_get (inner_children (now.inner number.0)) slot ≡ Some (kind.Inner left)) (read_right : slice_get (inner_children (now.inner number.0)) (slot + 1) ≡ Some (kind.Inner right)) where
+  pub beside_so : (i ≡ slot) ⊎ (i ≡ suc slot)
+  beside_so = spot.beside_there total c rest number i child e slot helper helps
+
+  pub left_so : slice_get (short.step total is_summary now now path nid a c rest number i child e).node.children slot ≡ Some (kind.Inner left)
+  left_so = spot.left_so total c rest number i child e slot helper helps left right read_left read_right
+
+  pub right_so : slice_get (short.step total is_summary now now path nid a c rest number i child e).node.children (slot + 1) ≡ Some (kind.Inner right)
+  right_so = spot.right_so total c rest number i child e slot helper helps left right read_left read_right
+
+  module _ {after : Slots (Inner K A) (Leaf K V)} (sides : Sides A) where
+    -- where the two became one
+    module _ (emptied : Inner K A) (j : JoinsInnersAt cmp is_summary slot now after number left right sides emptied) (above : A) (sums : SumsUpAt cmp is_summary (after.inner number.0) above) where
+      abbrev pub joined : ClimbsShort cmp is_summary after rest number above
+      joined = joined_climbs total is_summary now after path nid a c rest number i child e slot left right beside_so left_so right_so sides emptied j above sums
+
+      module _ (new : Slots (Inner K A) (Leaf K V)) (top : A) (sunk : Sunk joined.climb new top) where
+        pub held_so : new.inner right.0 ≡ Held
+        held_so = still_held total is_summary now after path nid a c rest number i child e slot left right beside_so left_so right_so sides emptied j above sums new top sunk
+
+        pub joined_sinks : (final : Slots (Inner K A) (Leaf K V)) → UpdatesInner new final right.0 Free → Sunk c.climb final top
+        joined_sinks final frees =
+            sunk_joined total is_summary now after path nid a c rest number i child e slot left right beside_so left_so right_so sides emptied j above sums new top sunk final
+            (right_was_not total is_summary now after path nid a c rest number i child e slot left right beside_so left_so right_so sides emptied j above sums new top sunk) frees
+
+    -- where the one lent a child to the other
+    module _ (lacks : length (inner_keys (now.inner nid.0)) < 16) (lender : Lender) (same : helper ≡ Some lender) (l : LendsInnersAt cmp is_summary slot now after number lender left right sides) (above : A) (sums : SumsUpAt cmp is_summary (after.inner number.0) above) where
+      pub least_so : (16 ≤ length l.one'.keys) × (16 ≤ length l.other'.keys)
+      least_so = spot.enough_there total c rest number i child e slot helper helps left right read_left read_right lacks lender (length l.one'.keys) (length l.other'.keys) same (rw (l.at_left, l.at_right) l.shares.moves.sizes)
+
+      abbrev pub lent : Climbs cmp is_summary after rest above
+      lent = lent_climbs total is_summary now after path nid a c rest number i child e slot left right beside_so left_so right_so sides lender l least_so above sums
+
+      pub lent_sinks : (new : Slots (Inner K A) (Leaf K V)) (top : A) → Risen lent.climb new top → Sunk c.climb new top
+      lent_sinks new top r = sunk_lent total is_summary now after path nid a c rest number i child e slot left right beside_so left_so right_so sides lender l least_so above sums new top r

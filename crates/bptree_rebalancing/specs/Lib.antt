@@ -1,0 +1,5 @@
+pub mod Help
+pub mod Mend
+pub mod Share
+pub mod Shared
+pub mod Trim

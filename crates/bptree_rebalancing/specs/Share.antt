@@ -1,0 +1,73 @@
+-- Two neighbours under one node share what they have, or become one.
+use Rattle.std.specs.Prelude.{◌≡◌, ℕ, ◌+◌, ◌<◌, ◌≤◌, [], ◌∷◌, ◌++◌, length, slice_get, Some}
+use Rattle.std.specs.declared.cmp.Ordering.{Ordering}
+use Rattle.bptree_nodes.specs.Inner.{Inner, Fits, with_entry, joined}
+use Rattle.bptree_nodes.specs.Leaf.{Leaf}
+use Rattle.bptree_keys.specs.declared.node_id.NodeId.{NodeId}
+use Rattle.bptree_insertion.specs.Sums.{HasPlace, with_summary, with_split}
+use Rattle.bptree_rebalancing.specs.declared.sharing.Lender.{Lender}
+use Rattle.bptree_rebalancing.specs.declared.sharing.Lender.TheVariants.{Left, Right}
+
+abbrev pub other_of : Lender → Lender
+other_of Left = Right
+other_of Right = Left
+
+-- the lender has one, and its neighbour has room
+abbrev pub CanLend : Lender → ℕ → ℕ → Type 0
+CanLend Left a b = (0 < a) × (a ≤ 64) × (b < 64)
+CanLend Right a b = (0 < b) × (b ≤ 64) × (a < 64)
+
+-- one goes from the lender to its neighbour
+abbrev pub Moves : Lender → ℕ → ℕ → ℕ → ℕ → Type 0
+Moves Left a b c d = (c + 1 ≡ a) × (d ≡ b + 1)
+Moves Right a b c d = (c ≡ a + 1) × (d + 1 ≡ b)
+
+module _ {K V : Type 0} where
+  -- one pair of two leaves, of which one follows the other, goes over
+  pub record MovesPair (lender : Lender) (left right left' right' : Leaf K V) : Type 0 where
+    pub left_links : left' ≡ record left { pairs = left'.pairs }
+    pub right_links : right' ≡ record right { pairs = right'.pairs }
+    pub pairs : left'.pairs ++ right'.pairs ≡ left.pairs ++ right.pairs
+    pub sizes : Moves lender (length left.pairs) (length right.pairs) (length left'.pairs) (length right'.pairs)
+
+  -- the left leaf takes all of the right one, and its link to the next
+  pub record JoinsLeaf (left right left' right' : Leaf K V) : Type 0 where
+    pub left_is : left' ≡ record left { pairs = left.pairs ++ right.pairs; next = right.next }
+    pub right_is : right' ≡ record right { pairs = [] }
+
+module _ {K A : Type 0} where
+  -- one child goes over, and another key stands between the two
+  pub record MovesChild (lender : Lender) (left : Inner K A) (s : K) (right left' : Inner K A) (s' : K) (right' : Inner K A) : Type 0 where
+    pub keys : left'.keys ++ s' ∷ right'.keys ≡ left.keys ++ s ∷ right.keys
+    pub children : left'.children ++ right'.children ≡ left.children ++ right.children
+    pub arguments : left'.arguments ++ right'.arguments ≡ left.arguments ++ right.arguments
+    pub sizes : Moves lender (length left.keys) (length right.keys) (length left'.keys) (length right'.keys)
+    pub left_fits : Fits left' × Fits left
+    pub right_fits : Fits right' × Fits right
+
+  pub record JoinsInner (left : Inner K A) (s : K) (right left' right' : Inner K A) : Type 0 where
+    pub left_is : left' ≡ joined left s right
+    pub right_is : right' ≡ record { keys = []; children = []; arguments = [] }
+
+  -- a node has an entry at a slot, and is another node without it
+  pub record HasEntry (node bare : Inner K A) (slot : ℕ) (s : K) (child : NodeId) (a : A) : Type 0 where
+    pub place : HasPlace bare slot
+    pub is : node ≡ with_entry bare slot s child a
+
+  -- a node takes new summaries of a child and of one to its right, behind a separator
+  pub record Lends (cmp : K → K → Ordering) (bare : Inner K A) (slot : ℕ) (child : NodeId) (left_told : A → Type 0) (parts : K → Type 0) (right_told : A → Type 0) (new : Inner K A) (before : A) : Type 0 where
+    pub left : A
+    pub separator : K
+    pub right : A
+    pub is : new ≡ with_split bare slot left separator child right
+    pub summary : slice_get bare.arguments slot ≡ Some before
+    pub told_left : left_told left
+    pub separates : parts separator
+    pub told_right : right_told right
+
+  -- a node takes a new summary of a child
+  pub record Joins (bare : Inner K A) (slot : ℕ) (told : A → Type 0) (new : Inner K A) (before : A) : Type 0 where
+    pub both : A
+    pub is : new ≡ with_summary bare slot both
+    pub summary : slice_get bare.arguments slot ≡ Some before
+    pub told_both : told both

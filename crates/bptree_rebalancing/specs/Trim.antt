@@ -1,0 +1,53 @@
+-- A tree that loses a pair, on its way up a path and as a whole.
+use Rattle.std.specs.Prelude.{◌≡◌, ℕ, ◌+◌, ◌≤◌, false, List, [], ◌∷◌, ◌++◌, length, None}
+use Rattle.std.specs.declared.cmp.Ordering.{Ordering}
+use Rattle.std.specs.Map.{keys_of}
+use Rattle.bptree_nodes.specs.Inner.{Inner}
+use Rattle.bptree_nodes.specs.Leaf.{Leaf}
+use Rattle.bptree_nodes.specs.Slot.{Slots, Held}
+use Rattle.bptree_keys.specs.declared.node_id.InnerNodeId.{InnerNodeId}
+use Rattle.bptree_keys.specs.declared.node_id.NodeId.{NodeId}
+use Rattle.bptree_keys.specs.declared.node_id.NodeId.TheVariants as kind
+use Rattle.bptree_insertion.specs.Climb.{HeldAre, least_at, Climb}
+use Rattle.bptree_shape.specs.Edit.{Stays, Edits}
+use Rattle.bptree_shape.specs.Outcome.{Outcome, Done}
+use Rattle.bptree_shape.specs.Shape.{pairs_at, leaves_at, leaf_count, inner_count, stands, AreLinked, IsSummed, IsTree}
+
+-- an edit was carried to a node that may be short of one key
+pub record ClimbsShort {K V A : Type 0} (cmp : K → K → Ordering) (is_summary : A → List K → Type 0) (now : Slots (Inner K A) (Leaf K V)) (path : List (InnerNodeId × ℕ × NodeId)) (id : InnerNodeId) (a : A) : Type 0 where
+  pub climb : Climb cmp is_summary now path Done
+  pub here : climb.id ≡ kind.Inner id
+  pub enough : least_at climb.top path ≤ climb.kept + 1
+  pub told : is_summary a (keys_of (pairs_at now climb.height climb.id))
+
+-- it is one of the whole tree, whose root may have lost its last key
+pub record Sunk {K V A : Type 0} {cmp : K → K → Ordering} {is_summary : A → List K → Type 0} {now : Slots (Inner K A) (Leaf K V)} {path : List (InnerNodeId × ℕ × NodeId)} {outcome : Outcome K} (c : Climb cmp is_summary now path outcome) (new : Slots (Inner K A) (Leaf K V)) (a : A) : Type 0 where
+  pub edits : Edits cmp is_summary c.edit 0 c.old new c.top c.root c.k c.leaf c.turn Done
+  pub free : HeldAre c.held_inner c.held_leaf new
+  pub told : is_summary a (keys_of (pairs_at new c.top c.root))
+
+-- a pair was taken out of the leaf at the end of a path, which is short of one, and no number is held
+pub record ShortLeaf {K V A : Type 0} (cmp : K → K → Ordering) (is_summary : A → List K → Type 0) (now : Slots (Inner K A) (Leaf K V)) (path : List (InnerNodeId × ℕ × NodeId)) (id : InnerNodeId) (place : ℕ) : Type 0 where
+  pub child : NodeId
+  pub climb : Climb cmp is_summary now (path ++ (id, place, child) ∷ []) Done
+  pub low : climb.height ≡ 0
+  pub enough : 15 ≤ climb.kept
+  pub short : length (pairs_at now climb.height climb.id) ≡ 15
+  pub stays : climb.turn ≡ Stays
+  pub none_held : (n : ℕ) → (climb.held_inner n ≡ false) × (climb.held_leaf n ≡ false)
+
+-- all that a right tree is, but that the root may have no key
+pub record IsLoose {K V A : Type 0} (cmp : K → K → Ordering) (is_summary : A → List K → Type 0) (slots : Slots (Inner K A) (Leaf K V)) (height : ℕ) (root : NodeId) : Type 0 where
+  pub tree : IsTree cmp slots 0 height root None None
+  pub leaves : (n : ℕ) → leaf_count slots height root n ≡ stands (slots.leaf n)
+  pub inners : (n : ℕ) → inner_count slots height root n ≡ stands (slots.inner n)
+  pub no_leaf_held : (n : ℕ) → slots.leaf n ≡ Held → ⊥
+  pub no_inner_held : (n : ℕ) → slots.inner n ≡ Held → ⊥
+  pub summed : IsSummed slots is_summary height root
+  pub linked : AreLinked slots None (leaves_at slots height root) None
+
+-- the whole tree was edited, and its root may have no key
+pub record Trims {K V A : Type 0} {cmp : K → K → Ordering} {is_summary : A → List K → Type 0} {now : Slots (Inner K A) (Leaf K V)} {path : List (InnerNodeId × ℕ × NodeId)} {outcome : Outcome K} (c : Climb cmp is_summary now path outcome) (new : Slots (Inner K A) (Leaf K V)) (a : A) : Type 0 where
+  pub loose : IsLoose cmp is_summary new c.top c.root
+  pub pairs : pairs_at new c.top c.root ≡ c.edit (pairs_at c.old c.top c.root)
+  pub told : is_summary a (keys_of (pairs_at new c.top c.root))

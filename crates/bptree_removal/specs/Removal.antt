@@ -1,0 +1,39 @@
+-- A pair that leaves a whole tree.
+use Rattle.std.specs.Prelude.{◌≡◌, ℕ, ◌<◌, ◌^◌, List, length, Some, slice_get}
+use Rattle.std.specs.declared.cmp.Ordering.{Ordering}
+use Rattle.std.specs.Map.{keys_of}
+use Rattle.bptree_keys.specs.Contents.{value, del}
+use Rattle.bptree_nodes.specs.Inner.{Inner}
+use Rattle.bptree_nodes.specs.Leaf.{Leaf}
+use Rattle.bptree_nodes.specs.LeafResults.{HasEqualAt}
+use Rattle.bptree_nodes.specs.Slot.{Slots}
+use Rattle.bptree_keys.specs.declared.node_id.InnerNodeId.{InnerNodeId}
+use Rattle.bptree_keys.specs.declared.node_id.LeafNodeId.{LeafNodeId}
+use Rattle.bptree_keys.specs.declared.node_id.NodeId.{NodeId}
+use Rattle.bptree_keys.specs.declared.node_id.NodeId.TheVariants as kind
+use Rattle.bptree_shape.specs.Path.{Way}
+use Rattle.bptree_shape.specs.Shape.{leaf_pairs, pairs_at, IsWellShaped}
+use Rattle.bptree_rebalancing.specs.Trim.{IsLoose}
+
+-- a key stands at a slot of the leaf at the end of a path
+pub record IsThere {K V A : Type 0} (cmp : K → K → Ordering) (is_summary : A → List K → Type 0) (slots : Slots (Inner K A) (Leaf K V)) (path : List (InnerNodeId × ℕ × NodeId)) (leaf : LeafNodeId) (slot : ℕ) (k : K) : Type 0 where
+  pub top : ℕ
+  pub root : NodeId
+  pub shape : IsWellShaped cmp is_summary slots top root
+  pub few : length (pairs_at slots top root) < 2 ^ 64
+  pub way : Way cmp slots k top root path 0 (kind.Leaf leaf)
+  pub found : HasEqualAt cmp (leaf_pairs (slots.leaf leaf.0)) k slot
+
+-- the pair at a slot of a leaf left a whole tree, whose root may have no key
+pub record Leaves {K V A : Type 0} (cmp : K → K → Ordering) (is_summary : A → List K → Type 0) (old new : Slots (Inner K A) (Leaf K V)) (height : ℕ) (root : NodeId) (leaf : LeafNodeId) (slot : ℕ) (k : K) (pair : K × V) (a : A) : Type 0 where
+  pub pair_was : slice_get (leaf_pairs (old.leaf leaf.0)) slot ≡ Some pair
+  pub loose : IsLoose cmp is_summary new height root
+  pub pairs : pairs_at new height root ≡ del cmp (pairs_at old height root) k
+  pub told : is_summary a (keys_of (pairs_at new height root))
+
+-- the pair with a key left a whole tree, and the tree that a root and a height then name is well shaped
+pub record IsRemoved {K V A : Type 0} (cmp : K → K → Ordering) (is_summary : A → List K → Type 0) (old new : Slots (Inner K A) (Leaf K V)) (height : ℕ) (root : NodeId) (k : K) (was : V) (top : NodeId) (top_height : ℕ) (a : A) : Type 0 where
+  pub there : value cmp (pairs_at old height root) k ≡ Some was
+  pub shape : IsWellShaped cmp is_summary new top_height top
+  pub pairs : pairs_at new top_height top ≡ del cmp (pairs_at old height root) k
+  pub told : is_summary a (keys_of (pairs_at new top_height top))
