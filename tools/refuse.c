@@ -1,6 +1,7 @@
-// Loaded ahead of the C library (LD_PRELOAD): refuses the one request for memory whose number, from 1, is REFUSE_AT, and
-// keeps how many requests there were, as one machine word, in the file that REFUSE_COUNT names. Requests are counted from
-// the program's first write up to its second.
+// Loaded ahead of the C library (LD_PRELOAD): refuses one request for memory in each scenario that the program carries out:
+// in the first the one whose number, from 1, is REFUSE_AT, in each further one the one behind it, and none where that is 0.
+// It keeps how many requests the last scenario made, as one machine word, in the file that REFUSE_COUNT names. Requests are
+// counted from the first write of a scenario up to its second; a write that ends with a line's end is its last.
 typedef unsigned long word;
 
 char *getenv(const char *);
@@ -15,7 +16,7 @@ void *__libc_calloc(word, word);
 void *__libc_realloc(void *, word);
 void *__libc_memalign(word, word);
 
-static int writes;
+static int writes; // of this scenario
 static word refused_at;
 static word own_count;
 static word *count = &own_count;
@@ -36,7 +37,12 @@ __attribute__((constructor)) static void begin(void) {
 static int is_refused(void) { return writes == 1 && ++*count == refused_at; }
 
 long write(int file, const void *from, word size) {
-    if (writes < 2) writes++;
+    if (!writes) *count = 0;
+    writes++;
+    if (size && ((const char *)from)[size - 1] == '\n') {
+        writes = 0;
+        if (refused_at) refused_at++;
+    }
     return __write(file, from, size);
 }
 

@@ -15,8 +15,8 @@ use Rattle.bptree_shape.specs.Shape.{pairs_at, IsSummed, IsTree}
 use Rattle.bptree_shape.proofs.Frame.{Same}
 use Rattle.bptree_shape.proofs.NodePieces.{child_keys}
 use Rattle.bptree_shape.proofs.Ordered.{ascending_after}
-use Rattle.bptree_insertion.specs.Change.{StartsAt}
-use Rattle.bptree_insertion.proofs.LeafEdit.{all_both, below_start, from_start, start_between}
+use Rattle.bptree_ascent.specs.Change.{StartsAt}
+use Rattle.bptree_ascent.proofs.LeafEdit.{all_both, below_start, from_start, start_between}
 use Rattle.bptree_building.specs.Layer.{roots, firsts, summaries, IsSeated}
 use Rattle.bptree_building.specs.declared.subtree.Subtree.{Subtree}
 

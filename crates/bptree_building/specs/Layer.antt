@@ -10,7 +10,7 @@ use Rattle.bptree_nodes.specs.Leaf.{Leaf}
 use Rattle.bptree_nodes.specs.Slot.{Slots, Held, IsPresent}
 use Rattle.bptree_shape.specs.Order.{flat, total, Within}
 use Rattle.bptree_shape.specs.Shape.{pairs_at, leaves_at, leaf_count, inner_count, stands, AreLinked, IsSummed, IsTree, IsWellShaped, root_least}
-use Rattle.bptree_insertion.specs.Change.{StartsAt}
+use Rattle.bptree_ascent.specs.Change.{StartsAt}
 use Rattle.bptree_building.specs.declared.subtree.Subtree.{Subtree}
 
 module _ {K A : Type 0} where

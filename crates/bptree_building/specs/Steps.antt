@@ -11,7 +11,7 @@ use Rattle.bptree_keys.specs.declared.node_id.NodeId.TheVariants as kind
 use Rattle.bptree_nodes.specs.Inner.{Inner}
 use Rattle.bptree_nodes.specs.Leaf.{Leaf}
 use Rattle.bptree_nodes.specs.Slot.{Slots, Free, Present, UpdatesInner}
-use Rattle.bptree_insertion.specs.Change.{StartsAt}
+use Rattle.bptree_ascent.specs.Change.{StartsAt}
 use Rattle.bptree_building.specs.Layer.{roots, firsts, summaries}
 use Rattle.bptree_building.specs.declared.subtree.Subtree.{Subtree}
 

@@ -3,7 +3,7 @@ ghost use Rattle.std.specs.Prelude.{◌≡◌, ◌+◌, ◌<◌, ◌≤◌, ◌+
 ghost use Rattle.std.specs.Vec.Iter.{into_iter_items, into_iter_len};
 ghost use Rattle.bptree_keys.specs.Contents.{IsAscending};
 ghost use Rattle.bptree_nodes.specs.Slot.{Held, IsEmpty};
-ghost use Rattle.bptree_insertion.specs.Change.{StartsAt};
+ghost use Rattle.bptree_ascent.specs.Change.{StartsAt};
 ghost use Rattle.bptree_building.specs.Layer.{IsLayer, IsSpreading};
 ghost use Rattle.bptree_building.specs.Steps.{IsFilled};
 

@@ -1,14 +1,2 @@
-pub mod Alike
-pub mod AnySummary
-pub mod Climbing
-pub mod ClimbingTwo
-pub mod LeafEdit
-pub mod LeafPlaces
-pub mod Lent
-pub mod Lift
-pub mod Mended
-pub mod NodeChanges
 pub mod Placed
-pub mod Rooted
-pub mod Undone
 pub mod Upserted

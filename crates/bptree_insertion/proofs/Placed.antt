@@ -16,21 +16,21 @@ use Rattle.bptree_keys.specs.declared.node_id.NodeId.{NodeId}
 use Rattle.bptree_keys.specs.declared.node_id.NodeId.TheVariants as kind
 use Rattle.bptree_keys.proofs.Found.{inserted}
 use Rattle.bptree_keys.proofs.Updates.{length_put}
-use Rattle.bptree_insertion.specs.Change.{SplitsLeaf, Mends}
-use Rattle.bptree_insertion.specs.Climb.{StaysFew, is_held, Climb, Climbs, ClimbsTwo, Risen, Reaches}
+use Rattle.bptree_ascent.specs.Change.{SplitsLeaf, Mends}
+use Rattle.bptree_ascent.specs.Climb.{StaysFew, is_held, Climb, Climbs, ClimbsTwo, Risen, Reaches}
 use Rattle.bptree_shape.specs.Edit.{CanReach, Stays, Gains, Edits}
-use Rattle.bptree_insertion.specs.LeafChange.{HasSlotAt, SumsUpLeaf, Adds, AreHalves, DividesLeaf}
+use Rattle.bptree_ascent.specs.LeafChange.{HasSlotAt, SumsUpLeaf, Adds, AreHalves, DividesLeaf}
 use Rattle.bptree_shape.specs.Outcome.{Outcome, Done, Split}
 use Rattle.bptree_insertion.specs.Puts.{IsDue, IsPlaced, IsPlacedUpTo}
 use Rattle.bptree_shape.specs.Shape.{leaf_pairs, leaf_next, pairs_at, leaves_at, root_least, AreLinked, IsWellShaped}
-use Rattle.bptree_insertion.specs.declared.node_changes.Division.{Division}
-use Rattle.bptree_insertion.proofs.Climbing.{least_most, not_held}
+use Rattle.bptree_ascent.specs.declared.node_changes.Division.{Division}
+use Rattle.bptree_ascent.proofs.Climbing.{least_most, not_held}
 use Rattle.bptree_shape.proofs.Hinted.{total-append, count_of, first_or, linked_next}
-use Rattle.bptree_insertion.proofs.LeafEdit.{put_is_local, leaf_edited, leaf_split}
-use Rattle.bptree_insertion.proofs.Mended.{one_at}
+use Rattle.bptree_ascent.proofs.LeafEdit.{put_is_local, leaf_edited, leaf_split}
+use Rattle.bptree_ascent.proofs.Mended.{one_at}
 use Rattle.bptree_shape.proofs.Ordered.{ascending_after}
 use Rattle.bptree_shape.proofs.Spot.{ascending_before}
-use Rattle.bptree_insertion.proofs.Rooted.{reach_of, present_leaf, whole_done, split_unlinked_pairs, whole_grown, grown_pairs, whole_split, split_pairs}
+use Rattle.bptree_ascent.proofs.Rooted.{reach_of, present_leaf, whole_done, split_unlinked_pairs, whole_grown, grown_pairs, whole_split, split_pairs}
 use Rattle.bptree_shape.proofs.Ways.{way_can}
 
 pub node_of : {N : Type 0} (s : Slot N) → IsPresent s → (node : N) × (s ≡ Present node)

@@ -17,7 +17,7 @@ use Rattle.bptree_nodes.proofs.LeafContents.{value_at_place}
 use Rattle.bptree_shape.specs.Leaves.{IsLeafFor}
 use Rattle.bptree_insertion.specs.Puts.{IsReplaced, IsPlaced, IsPlacedUpTo, risen}
 use Rattle.bptree_shape.specs.Shape.{pairs_at, root_least, IsWellShaped}
-use Rattle.bptree_insertion.proofs.Lent.{set_shape, set_keys, lent_pairs}
+use Rattle.bptree_ascent.proofs.Lent.{set_shape, set_keys, lent_pairs}
 use Rattle.bptree_shape.proofs.Spot.{value_in_leaf, leaf_ascends}
 use Rattle.bptree_shape.proofs.Walk.{tree_ascends}
 

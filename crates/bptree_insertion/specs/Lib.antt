@@ -1,7 +1,1 @@
-pub mod Change
-pub mod Climb
-pub mod LeafChange
-pub mod Lending
-pub mod NodeTree
 pub mod Puts
-pub mod Sums

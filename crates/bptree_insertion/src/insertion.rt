@@ -6,14 +6,14 @@ ghost use Rattle.bptree_keys.specs.declared.node_id.NodeId.TheVariants as kind;
 ghost use Rattle.bptree_nodes.specs.Leaf.{Leaf, split_place, set_value_at};
 ghost use Rattle.bptree_nodes.specs.Inner.{Inner};
 ghost use Rattle.bptree_nodes.specs.Slot.{Slots, Present, IsPresent, UpdatesLeaf};
-ghost use Rattle.bptree_insertion.specs.Change.{StartsAt, Mends};
-ghost use Rattle.bptree_insertion.specs.LeafChange.{Adds, DividesLeaf, SumsUpLeaf, HasSlotAt, AreHalves};
+ghost use Rattle.bptree_ascent.specs.Change.{StartsAt, Mends};
+ghost use Rattle.bptree_ascent.specs.LeafChange.{Adds, DividesLeaf, SumsUpLeaf, HasSlotAt, AreHalves};
 ghost use Rattle.bptree_insertion.specs.Puts.{IsDue, IsPlaced, IsPlacedUpTo, IsPut, risen};
 ghost use Rattle.bptree_shape.specs.Shape.{leaf_pairs, pairs_at, IsWellShaped};
 
-use crate::ascent::{ascend, ascend_split};
-use crate::node_changes::Division;
 use bptree_arguments::argument::Argument;
+use bptree_ascent::ascent::{ascend, ascend_split};
+use bptree_ascent::node_changes::Division;
 use bptree_keys::entry_ref::VisitStack;
 use bptree_keys::key::Key;
 use bptree_keys::node_id::{InnerNodeId, LeafNodeId, NodeId};

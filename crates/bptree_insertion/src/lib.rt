@@ -1,6 +1,4 @@
-//! Insertion into a tree that stands in a store, and an edit of a leaf carried up a path, with what undoes each step.
+//! Insertion into a tree that stands in a store.
 #![tactic(auto)]
 
-pub mod ascent;
 pub mod insertion;
-pub mod node_changes;

@@ -9,10 +9,10 @@ ghost use Rattle.std.specs.Map.Iter.{ShowsInOrder, TakesFirst, TakesLast, deref_
 ghost use Rattle.std.specs.Option.{option_map, option_copied, option_copied_mut};
 ghost use Rattle.bptree_arguments.specs.Groups.{of_group};
 ghost use Rattle.bptree_arguments.specs.Visits.{answered, IsAllowedError};
-ghost use Rattle.bptree_insertion.specs.Lending.{written};
+ghost use Rattle.bptree_ascent.specs.Lending.{written};
 ghost use Rattle.bptree_keys.specs.Contents.{IsAscending, has, value, put, del, gather};
 ghost use Rattle.bptree_keys.specs.Ranges.{between, part};
-ghost use Rattle.bptree_shape.specs.ByArgument.{IsPartSelected, IsSelected, IsTaken};
+ghost use Rattle.bptree_ways.specs.ByArgument.{IsPartSelected, IsSelected, IsTaken};
 ghost use Rattle.bptree_tree.specs.Refusal.{pair_of};
 ghost use Rattle.bptree_maps.specs.contracts.map.BPlusTreeMap.{the_row};
 ghost use Rattle.bptree_maps.specs.Rows.{inner_row};

@@ -9,10 +9,10 @@ ghost use Rattle.bptree_shape.specs.Shape.{pairs_at, IsWellShaped};
 
 use bptree_arguments::argument::SearchArgument;
 use bptree_keys::node_id::{LeafNodeId, NodeId};
-use bptree_shape::by_argument::find_by_argument;
 use bptree_shape::descent::{first_leaf, last_leaf};
 use bptree_shape::reading::leaf_for;
 use bptree_stores::node_stores::NodeStore;
+use bptree_ways::by_argument::find_by_argument;
 use std::alloc::AllocError;
 use std::cmp::Ordering;
 

@@ -14,34 +14,34 @@ use Rattle.bptree_keys.specs.declared.node_id.InnerNodeId.{InnerNodeId}
 use Rattle.bptree_keys.specs.declared.node_id.LeafNodeId.{LeafNodeId}
 use Rattle.bptree_keys.specs.declared.node_id.NodeId.{NodeId}
 use Rattle.bptree_keys.specs.declared.node_id.NodeId.TheVariants as kind
-use Rattle.bptree_insertion.specs.Change.{Mends}
-use Rattle.bptree_insertion.specs.Climb.{is_held, HeldAre, least_at, Climbs, Risen}
+use Rattle.bptree_ascent.specs.Change.{Mends}
+use Rattle.bptree_ascent.specs.Climb.{is_held, HeldAre, least_at, Climbs, Risen}
 use Rattle.bptree_shape.specs.Edit.{CanReach, Turn, Stays, Loses, SameLinks, Edits}
 use Rattle.bptree_rebalancing.specs.Help.{Helps, child_size}
-use Rattle.bptree_insertion.specs.LeafChange.{SumsUpLeaf}
+use Rattle.bptree_ascent.specs.LeafChange.{SumsUpLeaf}
 use Rattle.bptree_rebalancing.specs.Mend.{MendsPair}
 use Rattle.bptree_shape.specs.Order.{flat}
 use Rattle.bptree_shape.specs.Outcome.{Done, Split}
 use Rattle.bptree_shape.specs.Shape.{inner_children, leaf_pairs, leaf_prev, leaf_next, pairs_at, leaves_at, leaf_count, inner_count, stands, root_least, AreLinked, IsTree}
 use Rattle.bptree_rebalancing.specs.Share.{HasEntry}
 use Rattle.bptree_rebalancing.specs.Shared.{LendsLeavesAt, JoinsLeavesAt}
-use Rattle.bptree_insertion.specs.Sums.{SumsUpAt, with_split}
+use Rattle.bptree_ascent.specs.Sums.{SumsUpAt, with_split}
 use Rattle.bptree_rebalancing.specs.Trim.{ClimbsShort, Sunk, ShortLeaf, Trims}
 use Rattle.bptree_rebalancing.specs.declared.sharing.Joint.{Joint}
 use Rattle.bptree_rebalancing.specs.declared.sharing.Lender.{Lender}
 use Rattle.bptree_shape.proofs.Agreeing.{stands_le}
-use Rattle.bptree_insertion.proofs.Climbing.{told_up, least_most, not_held, held_is}
+use Rattle.bptree_ascent.proofs.Climbing.{told_up, least_most, not_held, held_is}
 use Rattle.bptree_shape.proofs.Frame.{Same, same}
 use Rattle.bptree_rebalancing.proofs.Helping.{inserted_is, before_is, most_so}
 use Rattle.bptree_shape.proofs.Hinted.{count_of, count_leaves, first_or, linked_next}
 use Rattle.bptree_rebalancing.proofs.LeafSpot as spot
-use Rattle.bptree_insertion.proofs.Mended.{reads_same, mended_pairs, mended_inner, mended_held, one_at, other_leaf, linked_closed}
+use Rattle.bptree_ascent.proofs.Mended.{reads_same, mended_pairs, mended_inner, mended_held, one_at, other_leaf, linked_closed}
 use Rattle.bptree_rebalancing.proofs.MendLeaf as mend
 use Rattle.bptree_rebalancing.proofs.Pair as pair
-use Rattle.bptree_insertion.proofs.Rooted.{whole_done, present_leaf}
+use Rattle.bptree_ascent.proofs.Rooted.{whole_done, present_leaf}
 use Rattle.bptree_rebalancing.proofs.Seated.{seat_size}
 use Rattle.bptree_rebalancing.proofs.Loose.{loose_of}
-use Rattle.bptree_insertion.proofs.Undone.{same_node}
+use Rattle.bptree_ascent.proofs.Undone.{same_node}
 use Rattle.bptree_shape.proofs.Ways.{LastStep}
 use Rattle.bptree_shape.proofs.Widen.{tree_less}
 

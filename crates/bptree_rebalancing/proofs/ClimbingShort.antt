@@ -12,17 +12,17 @@ use Rattle.bptree_nodes.specs.Slot.{Slot, Slots, Present}
 use Rattle.bptree_keys.specs.declared.node_id.InnerNodeId.{InnerNodeId}
 use Rattle.bptree_keys.specs.declared.node_id.NodeId.{NodeId}
 use Rattle.bptree_keys.specs.declared.node_id.NodeId.TheVariants as kind
-use Rattle.bptree_insertion.specs.Climb.{HeldAre, least_at, Climb, Climbs}
+use Rattle.bptree_ascent.specs.Climb.{HeldAre, least_at, Climb, Climbs}
 use Rattle.bptree_shape.specs.Edit.{CanReach, Extends, Edits}
 use Rattle.bptree_rebalancing.specs.Mend.{MendsPair}
 use Rattle.bptree_shape.specs.Order.{flat}
 use Rattle.bptree_shape.specs.Outcome.{Done, Split}
 use Rattle.bptree_shape.specs.Shape.{pairs_at, leaves_at, inner_count, stands, IsSummed, IsTree}
 use Rattle.bptree_rebalancing.specs.Share.{HasEntry}
-use Rattle.bptree_insertion.specs.Sums.{SumsUpAt, with_summary, with_split}
+use Rattle.bptree_ascent.specs.Sums.{SumsUpAt, with_summary, with_split}
 use Rattle.bptree_rebalancing.specs.Trim.{ClimbsShort}
-use Rattle.bptree_insertion.proofs.Climbing.{told_up, last, can, summed_there, stays, few_there, least_most, least_some}
-use Rattle.bptree_insertion.proofs.Lift.{links_moved}
+use Rattle.bptree_ascent.proofs.Climbing.{told_up, last, can, summed_there, stays, few_there, least_most, least_some}
+use Rattle.bptree_ascent.proofs.Lift.{links_moved}
 use Rattle.bptree_rebalancing.proofs.Pair as pair
 use Rattle.bptree_rebalancing.proofs.Seated.{Seat, seat_of, seat_size, inner_high}
 use Rattle.bptree_rebalancing.proofs.Helping.{inserted_is}

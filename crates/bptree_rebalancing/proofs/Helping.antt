@@ -7,7 +7,7 @@ use Rattle.bptree_nodes.specs.Leaf.{Leaf}
 use Rattle.bptree_nodes.specs.Slot.{Slots}
 use Rattle.bptree_keys.specs.declared.node_id.InnerNodeId.{InnerNodeId}
 use Rattle.bptree_keys.specs.declared.node_id.NodeId.{NodeId}
-use Rattle.bptree_insertion.specs.Climb.{least_at}
+use Rattle.bptree_ascent.specs.Climb.{least_at}
 use Rattle.bptree_rebalancing.specs.Help.{Helps, node_size, child_size}
 use Rattle.bptree_shape.specs.Order.{total, Chain}
 use Rattle.bptree_shape.specs.Path.{Way}

@@ -14,7 +14,7 @@ use Rattle.bptree_keys.specs.declared.node_id.LeafNodeId.{LeafNodeId}
 use Rattle.bptree_keys.specs.declared.node_id.NodeId.{NodeId}
 use Rattle.bptree_keys.specs.declared.node_id.NodeId.TheVariants as kind
 use Rattle.bptree_keys.proofs.PieceLemmas.{AllByRecursion-weaker}
-use Rattle.bptree_insertion.specs.Climb.{least_at}
+use Rattle.bptree_ascent.specs.Climb.{least_at}
 use Rattle.bptree_shape.specs.Edit.{CanReach, Spares, SameLinks, LinksAt, Extends}
 use Rattle.bptree_rebalancing.specs.Help.{Helps, node_size, child_size, IsLeafAt, AllLeaves}
 use Rattle.bptree_shape.specs.Order.{flat, Chain}
@@ -22,11 +22,11 @@ use Rattle.bptree_shape.specs.Outcome.{Done}
 use Rattle.bptree_shape.specs.Path.{Way}
 use Rattle.bptree_shape.specs.Shape.{leaf_pairs, leaf_next, inner_keys, inner_children, pairs_at, leaves_at, leaf_count, stands, AreLinked, IsSummed, IsTree}
 use Rattle.bptree_rebalancing.specs.Share.{CanLend, Moves}
-use Rattle.bptree_insertion.specs.Sums.{HasPlace, PlaceAt}
+use Rattle.bptree_ascent.specs.Sums.{HasPlace, PlaceAt}
 use Rattle.bptree_rebalancing.specs.Trim.{ShortLeaf}
 use Rattle.bptree_rebalancing.specs.declared.sharing.Lender.{Lender}
 use Rattle.bptree_shape.proofs.Agreeing.{stands_le, present_if_stands, stands_if_present}
-use Rattle.bptree_insertion.proofs.Climbing.{last, can, summed_there, stays, has_place, most, few_there}
+use Rattle.bptree_ascent.proofs.Climbing.{last, can, summed_there, stays, has_place, most, few_there}
 use Rattle.bptree_rebalancing.proofs.Helping as help
 use Rattle.bptree_shape.proofs.Hinted.{linked_next}
 use Rattle.bptree_rebalancing.proofs.Seated.{Seat, seat_of, seat_size}

@@ -23,7 +23,7 @@ use Rattle.bptree_rebalancing.specs.declared.sharing.Lender.{Lender}
 use Rattle.bptree_shape.proofs.Agreeing.{stands_le, flat_same, total_same, map_same, each_keeps, Chain-so}
 use Rattle.bptree_shape.proofs.Frame.{Same, all_same}
 use Rattle.bptree_shape.proofs.Hinted.{total-append}
-use Rattle.bptree_insertion.proofs.Lift.{chain_cut}
+use Rattle.bptree_ascent.proofs.Lift.{chain_cut}
 use Rattle.bptree_shape.proofs.Ordered.{AtMost-up}
 use Rattle.bptree_shape.proofs.Walk.{flat-append}
 

@@ -14,14 +14,14 @@ use Rattle.bptree_nodes.specs.Leaf.{Leaf}
 use Rattle.bptree_nodes.specs.Slot.{Slot, Slots, Held, Present, IsPresent}
 use Rattle.bptree_keys.specs.declared.node_id.LeafNodeId.{LeafNodeId}
 use Rattle.bptree_keys.specs.declared.node_id.NodeId.TheVariants as kind
-use Rattle.bptree_insertion.specs.Change.{StartsAt}
+use Rattle.bptree_ascent.specs.Change.{StartsAt}
 use Rattle.bptree_rebalancing.specs.Mend.{MendsPair}
 use Rattle.bptree_shape.specs.Order.{AtLeast, Under, Within, Between}
 use Rattle.bptree_shape.specs.Outcome.{Done, Split}
 use Rattle.bptree_shape.specs.Shape.{leaf_pairs, leaf_count, stands, IsTree}
 use Rattle.bptree_rebalancing.specs.Share.{MovesPair, JoinsLeaf}
 use Rattle.bptree_rebalancing.specs.declared.sharing.Lender.{Lender}
-use Rattle.bptree_insertion.proofs.LeafEdit.{all_both, below_start, from_start, start_between}
+use Rattle.bptree_ascent.proofs.LeafEdit.{all_both, below_start, from_start, start_between}
 use Rattle.bptree_shape.proofs.Ordered.{AtLeast-up, Under-less, ascending_joined, ascending_after}
 use Rattle.bptree_shape.proofs.Spot.{ascending_before}
 

@@ -23,7 +23,7 @@ use Rattle.bptree_shape.specs.Order.{flat, total, Within, Between, Chain, Leads}
 use Rattle.bptree_shape.specs.Outcome.{Outcome, Done, Split}
 use Rattle.bptree_shape.specs.Shape.{inner_keys, inner_children, pairs_at, leaves_at, leaf_count, inner_count, stands, IsTree, IsSummed}
 use Rattle.bptree_rebalancing.specs.Share.{HasEntry}
-use Rattle.bptree_insertion.specs.Sums.{with_summary, with_split}
+use Rattle.bptree_ascent.specs.Sums.{with_summary, with_split}
 use Rattle.bptree_shape.proofs.Agreeing.{stands_le, present_if_stands, Chain-so}
 use Rattle.bptree_shape.proofs.Frame.{EachBut, in_total, but_so, Same, all_same, same}
 use Rattle.bptree_shape.proofs.Ordered.{AtMost-up, AtLeast-up, less_then_up}

@@ -8,7 +8,7 @@ use Rattle.bptree_nodes.specs.Slot.{Slot, Slots, Present}
 use Rattle.bptree_keys.specs.declared.node_id.InnerNodeId.{InnerNodeId}
 use Rattle.bptree_keys.specs.declared.node_id.NodeId.{NodeId}
 use Rattle.bptree_keys.specs.declared.node_id.NodeId.TheVariants as kind
-use Rattle.bptree_insertion.specs.Climb.{least_at}
+use Rattle.bptree_ascent.specs.Climb.{least_at}
 use Rattle.bptree_shape.specs.Order.{Within, Chain}
 use Rattle.bptree_shape.specs.Path.{Way}
 use Rattle.bptree_shape.specs.Shape.{inner_keys, inner_children, root_least, IsTree, IsWellShaped}

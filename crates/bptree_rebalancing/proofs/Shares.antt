@@ -8,13 +8,13 @@ use Rattle.bptree_keys.specs.declared.node_id.NodeId.{NodeId}
 use Rattle.bptree_nodes.specs.Inner.{Inner, with_entry, without_entry, first_children, later_children}
 use Rattle.bptree_nodes.specs.Leaf.{Leaf}
 use Rattle.bptree_rebalancing.specs.Share.{other_of, CanLend, Moves, MovesPair, MovesChild, JoinsLeaf, JoinsInner, HasEntry, Lends, Joins}
-use Rattle.bptree_insertion.specs.Sums.{HasPlace}
-use Rattle.bptree_insertion.specs.declared.node_changes.Division.{Division}
+use Rattle.bptree_ascent.specs.Sums.{HasPlace}
+use Rattle.bptree_ascent.specs.declared.node_changes.Division.{Division}
 use Rattle.bptree_rebalancing.specs.declared.sharing.Lender.{Lender}
 use Rattle.bptree_rebalancing.specs.declared.sharing.Lender.TheVariants.{Left, Right}
 use Rattle.bptree_rebalancing.proofs.Helping.{inserted_is}
 use Rattle.bptree_shape.proofs.ListReads.{read_below}
-use Rattle.bptree_insertion.proofs.NodeChanges.{entry_back, sum_back, place_below}
+use Rattle.bptree_ascent.proofs.NodeChanges.{entry_back, sum_back, place_below}
 
 module _ {X : Type 0} where
   -- what was removed is inserted again

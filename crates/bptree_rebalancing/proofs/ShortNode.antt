@@ -12,7 +12,7 @@ use Rattle.bptree_keys.specs.declared.node_id.InnerNodeId.{InnerNodeId}
 use Rattle.bptree_keys.specs.declared.node_id.NodeId.{NodeId}
 use Rattle.bptree_keys.specs.declared.node_id.NodeId.TheVariants as kind
 use Rattle.bptree_keys.proofs.PieceLemmas.{AllByRecursion-weaker}
-use Rattle.bptree_insertion.specs.Climb.{least_at, Climbs, Risen}
+use Rattle.bptree_ascent.specs.Climb.{least_at, Climbs, Risen}
 use Rattle.bptree_shape.specs.Edit.{Edits}
 use Rattle.bptree_shape.specs.Outcome.{Done}
 use Rattle.bptree_rebalancing.specs.Help.{Helps, node_size, child_size, IsInnerAt, AllInner}
@@ -20,11 +20,11 @@ use Rattle.bptree_shape.specs.Order.{Chain}
 use Rattle.bptree_shape.specs.Path.{Way}
 use Rattle.bptree_shape.specs.Shape.{inner_keys, inner_children, pairs_at, inner_count, stands, root_least, IsTree}
 use Rattle.bptree_rebalancing.specs.Share.{CanLend, Moves, HasEntry}
-use Rattle.bptree_insertion.specs.Sums.{HasPlace, PlaceAt}
+use Rattle.bptree_ascent.specs.Sums.{HasPlace, PlaceAt}
 use Rattle.bptree_rebalancing.specs.Trim.{ClimbsShort, Sunk}
 use Rattle.bptree_rebalancing.specs.declared.sharing.Lender.{Lender}
 use Rattle.bptree_shape.proofs.Agreeing.{stands_le}
-use Rattle.bptree_insertion.proofs.Climbing.{has_place, most, least_most, edits_less}
+use Rattle.bptree_ascent.proofs.Climbing.{has_place, most, least_most, edits_less}
 use Rattle.bptree_rebalancing.proofs.ClimbingShort as short
 use Rattle.bptree_rebalancing.proofs.Helping as help
 use Rattle.bptree_rebalancing.proofs.Helping.{size_read, chain_all, key_of, lends_so, enough_so, fits_so}

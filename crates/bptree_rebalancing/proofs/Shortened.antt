@@ -12,7 +12,7 @@ use Rattle.bptree_keys.specs.declared.node_id.InnerNodeId.{InnerNodeId}
 use Rattle.bptree_keys.specs.declared.node_id.LeafNodeId.{LeafNodeId}
 use Rattle.bptree_keys.specs.declared.node_id.NodeId.{NodeId}
 use Rattle.bptree_keys.specs.declared.node_id.NodeId.TheVariants as kind
-use Rattle.bptree_insertion.specs.Climb.{is_held, HeldAre, Climbs, Risen}
+use Rattle.bptree_ascent.specs.Climb.{is_held, HeldAre, Climbs, Risen}
 use Rattle.bptree_shape.specs.Edit.{Turn, Edits}
 use Rattle.bptree_rebalancing.specs.Help.{Helps, child_size}
 use Rattle.bptree_rebalancing.specs.Mend.{MendsPair}
@@ -20,17 +20,17 @@ use Rattle.bptree_shape.specs.Outcome.{Done, Split}
 use Rattle.bptree_shape.specs.Shape.{inner_children, inner_keys, pairs_at, leaves_at, inner_count, stands, root_least, IsWellShaped}
 use Rattle.bptree_rebalancing.specs.Share.{HasEntry}
 use Rattle.bptree_rebalancing.specs.Shared.{LendsInnersAt, JoinsInnersAt}
-use Rattle.bptree_insertion.specs.Sums.{SumsUpAt, with_split}
+use Rattle.bptree_ascent.specs.Sums.{SumsUpAt, with_split}
 use Rattle.bptree_rebalancing.specs.Trim.{ClimbsShort, Sunk}
 use Rattle.bptree_rebalancing.specs.declared.sharing.Lender.{Lender}
 use Rattle.bptree_rebalancing.specs.declared.sharing.Sides.{Sides}
-use Rattle.bptree_insertion.proofs.Climbing.{edits_less, held_is}
+use Rattle.bptree_ascent.proofs.Climbing.{edits_less, held_is}
 use Rattle.bptree_rebalancing.proofs.ClimbingShort as short
 use Rattle.bptree_shape.proofs.Frame.{Same, same}
-use Rattle.bptree_insertion.proofs.Lift.{links_moved}
+use Rattle.bptree_ascent.proofs.Lift.{links_moved}
 use Rattle.bptree_rebalancing.proofs.MendInner as mend
 use Rattle.bptree_rebalancing.proofs.ShortNode as spot
-use Rattle.bptree_insertion.proofs.Undone.{same_node}
+use Rattle.bptree_ascent.proofs.Undone.{same_node}
 
 -- an edit is what it was once a held number that it does not reach is let go
 pub edits_released : {K V A : Type 0} {cmp : K → K → Ordering} (is_summary : A → List K → Type 0) (edit : List (K × V) → List (K × V)) (kept : ℕ) (old new final : Slots (Inner K A) (Leaf K V)) (h : ℕ) (root : NodeId) (k : K) (leaf : LeafNodeId) (turn : Turn) (right : InnerNodeId)

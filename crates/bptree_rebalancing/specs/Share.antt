@@ -4,7 +4,7 @@ use Rattle.std.specs.declared.cmp.Ordering.{Ordering}
 use Rattle.bptree_nodes.specs.Inner.{Inner, Fits, with_entry, joined}
 use Rattle.bptree_nodes.specs.Leaf.{Leaf}
 use Rattle.bptree_keys.specs.declared.node_id.NodeId.{NodeId}
-use Rattle.bptree_insertion.specs.Sums.{HasPlace, with_summary, with_split}
+use Rattle.bptree_ascent.specs.Sums.{HasPlace, with_summary, with_split}
 use Rattle.bptree_rebalancing.specs.declared.sharing.Lender.{Lender}
 use Rattle.bptree_rebalancing.specs.declared.sharing.Lender.TheVariants.{Left, Right}
 

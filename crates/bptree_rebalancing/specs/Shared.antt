@@ -7,10 +7,10 @@ use Rattle.bptree_nodes.specs.Slot.{Slots, Held, Present}
 use Rattle.bptree_keys.specs.declared.node_id.InnerNodeId.{InnerNodeId}
 use Rattle.bptree_keys.specs.declared.node_id.LeafNodeId.{LeafNodeId}
 use Rattle.bptree_keys.specs.declared.node_id.NodeId.{NodeId}
-use Rattle.bptree_insertion.specs.Change.{StartsAt}
-use Rattle.bptree_insertion.specs.LeafChange.{SumsUpLeaf}
+use Rattle.bptree_ascent.specs.Change.{StartsAt}
+use Rattle.bptree_ascent.specs.LeafChange.{SumsUpLeaf}
 use Rattle.bptree_rebalancing.specs.Share.{CanLend, MovesPair, JoinsLeaf, MovesChild, JoinsInner, HasEntry, Lends, Joins}
-use Rattle.bptree_insertion.specs.Sums.{SumsUp}
+use Rattle.bptree_ascent.specs.Sums.{SumsUp}
 use Rattle.bptree_rebalancing.specs.declared.sharing.Joint.{Joint}
 use Rattle.bptree_rebalancing.specs.declared.sharing.Lender.{Lender}
 use Rattle.bptree_rebalancing.specs.declared.sharing.Sides.{Sides}

@@ -8,7 +8,7 @@ use Rattle.bptree_nodes.specs.Slot.{Slots, Held}
 use Rattle.bptree_keys.specs.declared.node_id.InnerNodeId.{InnerNodeId}
 use Rattle.bptree_keys.specs.declared.node_id.NodeId.{NodeId}
 use Rattle.bptree_keys.specs.declared.node_id.NodeId.TheVariants as kind
-use Rattle.bptree_insertion.specs.Climb.{HeldAre, least_at, Climb}
+use Rattle.bptree_ascent.specs.Climb.{HeldAre, least_at, Climb}
 use Rattle.bptree_shape.specs.Edit.{Stays, Edits}
 use Rattle.bptree_shape.specs.Outcome.{Outcome, Done}
 use Rattle.bptree_shape.specs.Shape.{pairs_at, leaves_at, leaf_count, inner_count, stands, AreLinked, IsSummed, IsTree}

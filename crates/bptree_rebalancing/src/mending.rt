@@ -8,7 +8,7 @@ ghost use Rattle.bptree_shape.specs.Shape.{leaf_pairs, leaf_next, inner_keys, in
 ghost use Rattle.bptree_keys.specs.declared.node_id.NodeId.TheVariants as kind;
 ghost use Rattle.bptree_rebalancing.specs.Share.{CanLend};
 ghost use Rattle.bptree_rebalancing.specs.Shared.{LendsLeavesAt, JoinsLeavesAt, LendsInnersAt, JoinsInnersAt};
-ghost use Rattle.bptree_insertion.specs.Sums.{PlaceAt, SumsUpAt};
+ghost use Rattle.bptree_ascent.specs.Sums.{PlaceAt, SumsUpAt};
 
 use crate::sharing::{
     Joint, Lender, Sides, join_inners, join_leaves, lend_inners, lend_leaves, part_inners,

@@ -3,14 +3,14 @@
 ghost use Rattle.std.specs.Prelude.{◌≡◌, ◌<◌, ◌≤◌, ◌+◌, [], length, Some, IfOk, OnErr, IfErr, slice_get};
 ghost use Rattle.bptree_nodes.specs.Inner.{Inner};
 ghost use Rattle.bptree_nodes.specs.Leaf.{Leaf};
-ghost use Rattle.bptree_insertion.specs.Change.{StartsAt};
+ghost use Rattle.bptree_ascent.specs.Change.{StartsAt};
 ghost use Rattle.bptree_rebalancing.specs.Share.{other_of, CanLend, MovesPair, MovesChild, Lends, Joins};
 ghost use Rattle.bptree_rebalancing.specs.Shared.{LendsLeaves, JoinsLeaves, LendsInners, JoinsInners};
-ghost use Rattle.bptree_insertion.specs.Sums.{HasPlace, SumsUp};
-ghost use Rattle.bptree_insertion.specs.LeafChange.{SumsUpLeaf};
+ghost use Rattle.bptree_ascent.specs.Sums.{HasPlace, SumsUp};
+ghost use Rattle.bptree_ascent.specs.LeafChange.{SumsUpLeaf};
 
 use bptree_arguments::argument::Argument;
-use bptree_insertion::node_changes::{Division, Resummed, resum, take_entry};
+use bptree_ascent::node_changes::{Division, Resummed, resum, take_entry};
 use bptree_keys::key::Key;
 use bptree_keys::node_id::{LeafNodeId, NodeId};
 use bptree_nodes::inner_node::InnerNode;

@@ -3,7 +3,7 @@
 ghost use Rattle.std.specs.Prelude.{◌≡◌, ◌<◌, ◌≤◌, ◌+◌, IfOk, OnErr, IsTrue, Some, length, slice_get};
 ghost use Rattle.bptree_keys.specs.declared.node_id.NodeId.TheVariants as kind;
 ghost use Rattle.bptree_nodes.specs.Slot.{IsPresent};
-ghost use Rattle.bptree_insertion.specs.Climb.{Climbs, Risen};
+ghost use Rattle.bptree_ascent.specs.Climb.{Climbs, Risen};
 ghost use Rattle.bptree_rebalancing.specs.Help.{Helped, Helps, child_size, AllInner, AllLeaves};
 ghost use Rattle.bptree_shape.specs.Shape.{inner_keys, inner_children};
 ghost use Rattle.bptree_rebalancing.specs.Trim.{ClimbsShort, Sunk};
@@ -11,7 +11,7 @@ ghost use Rattle.bptree_rebalancing.specs.Trim.{ClimbsShort, Sunk};
 use crate::mending::{join_inners_at, lend_inners_at, part_inners_at, unlend_inners_at};
 use crate::sharing::Lender;
 use crate::statistics::Statistic;
-use bptree_insertion::ascent::ascend;
+use bptree_ascent::ascent::ascend;
 use bptree_keys::entry_ref::VisitStack;
 use bptree_keys::node_id::{InnerNodeId, LeafNodeId, NodeId};
 use bptree_nodes::inner_node::INNER_MINIMUM;

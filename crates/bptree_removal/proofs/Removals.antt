@@ -19,7 +19,7 @@ use Rattle.bptree_nodes.specs.Slot.{Slot, Slots, Present, UpdatesLeaf}
 use Rattle.bptree_keys.specs.declared.node_id.LeafNodeId.{LeafNodeId}
 use Rattle.bptree_rebalancing.proofs.Shares.{insert_removed}
 use Rattle.bptree_rebalancing.proofs.Triples.{slots_same}
-use Rattle.bptree_insertion.proofs.Undone.{same_node}
+use Rattle.bptree_ascent.proofs.Undone.{same_node}
 
 pub leaf_again : {K V A : Type 0} (was now new : Slots (Inner K A) (Leaf K V)) (id : LeafNodeId) (slot : ℕ) (node from back : Leaf K V) (pair : K × V) → was.leaf id.0 ≡ Present node → slice_get node.pairs slot ≡ Some pair
     → UpdatesLeaf was now id.0 (Present (record node { pairs = remove node.pairs slot })) → now.leaf id.0 ≡ Present from → back ≡ record from { pairs = insert from.pairs slot pair } → UpdatesLeaf now new id.0 (Present back) → new ≡ was

@@ -16,7 +16,7 @@ use Rattle.bptree_shape.specs.Edit.{IsLocal, Stays, Edits}
 use Rattle.bptree_shape.specs.Order.{Within}
 use Rattle.bptree_shape.specs.Outcome.{Done}
 use Rattle.bptree_shape.specs.Shape.{leaf_pairs, leaf_count, stands}
-use Rattle.bptree_insertion.proofs.LeafEdit.{all_kept}
+use Rattle.bptree_ascent.proofs.LeafEdit.{all_kept}
 
 -- a pair that is taken out looks no further than between the smaller and the greater keys
 pub del_is_local : {K V : Type 0} (cmp : K → K → Ordering) (k : K) → IsLocal {V = V} cmp k (λ l. del cmp l k)

@@ -15,7 +15,7 @@ use Rattle.bptree_shape.specs.Shape.{inner_keys, inner_children, pairs_at, leave
 use Rattle.bptree_rebalancing.specs.Trim.{IsLoose}
 use Rattle.bptree_shape.proofs.Agreeing.{stands_le}
 use Rattle.bptree_shape.proofs.Frame.{Same, same}
-use Rattle.bptree_insertion.proofs.Mended.{each_counted, same_links, linked_same}
+use Rattle.bptree_ascent.proofs.Mended.{each_counted, same_links, linked_same}
 use Rattle.bptree_shape.proofs.Widen.{tree_less}
 
 only_child : {K C : Type 0} (cmp : K → K → Ordering) (P : C → Option K → Option K → Type 0) (ks : List K) (cs : List C) (c : C) (lo hi : Option K) → length ks ≡ 0 → slice_get cs 0 ≡ Some c → Chain cmp P ks cs lo hi → (cs ≡ c ∷ []) × P c lo hi

@@ -17,16 +17,16 @@ use Rattle.bptree_keys.specs.declared.node_id.InnerNodeId.{InnerNodeId}
 use Rattle.bptree_keys.specs.declared.node_id.LeafNodeId.{LeafNodeId}
 use Rattle.bptree_keys.specs.declared.node_id.NodeId.{NodeId}
 use Rattle.bptree_keys.specs.declared.node_id.NodeId.TheVariants as kind
-use Rattle.bptree_insertion.specs.Climb.{Climb, Risen, StaysFew}
+use Rattle.bptree_ascent.specs.Climb.{Climb, Risen, StaysFew}
 use Rattle.bptree_shape.specs.Edit.{CanReach, Stays, Edits}
 use Rattle.bptree_shape.specs.Outcome.{Done}
 use Rattle.bptree_shape.specs.Shape.{leaf_pairs, pairs_at}
 use Rattle.bptree_removal.specs.Removal.{IsThere, Leaves}
-use Rattle.bptree_insertion.proofs.Climbing.{not_held}
+use Rattle.bptree_ascent.proofs.Climbing.{not_held}
 use Rattle.bptree_insertion.proofs.Placed.{none_is}
 use Rattle.bptree_rebalancing.proofs.Loose.{loose_of}
 use Rattle.bptree_removal.proofs.RemovedLeaf.{del_is_local, leaf_removed}
-use Rattle.bptree_insertion.proofs.Rooted.{reach_of, whole_done}
+use Rattle.bptree_ascent.proofs.Rooted.{reach_of, whole_done}
 use Rattle.bptree_shape.proofs.Ways.{way_can}
 use Rattle.bptree_shape.proofs.ListReads.{read_below}
 

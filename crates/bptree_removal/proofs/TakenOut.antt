@@ -15,13 +15,13 @@ use Rattle.bptree_keys.specs.declared.node_id.InnerNodeId.{InnerNodeId}
 use Rattle.bptree_keys.specs.declared.node_id.LeafNodeId.{LeafNodeId}
 use Rattle.bptree_keys.specs.declared.node_id.NodeId.{NodeId}
 use Rattle.bptree_keys.specs.declared.node_id.NodeId.TheVariants as kind
-use Rattle.bptree_insertion.specs.Climb.{least_at, Climbs, Risen}
-use Rattle.bptree_insertion.specs.LeafChange.{SumsUpLeaf}
+use Rattle.bptree_ascent.specs.Climb.{least_at, Climbs, Risen}
+use Rattle.bptree_ascent.specs.LeafChange.{SumsUpLeaf}
 use Rattle.bptree_shape.specs.Path.{Way}
 use Rattle.bptree_shape.specs.Shape.{leaf_pairs}
 use Rattle.bptree_rebalancing.specs.Trim.{ShortLeaf, Trims}
 use Rattle.bptree_removal.specs.Removal.{IsThere, Leaves}
-use Rattle.bptree_insertion.proofs.Climbing.{least_some}
+use Rattle.bptree_ascent.proofs.Climbing.{least_some}
 use Rattle.bptree_insertion.proofs.Placed.{node_of}
 use Rattle.bptree_rebalancing.proofs.Seated.{seat_of}
 use Rattle.bptree_removal.proofs.Taken as taken

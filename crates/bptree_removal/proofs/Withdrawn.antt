@@ -15,14 +15,14 @@ use Rattle.bptree_nodes.specs.Slot.{Slots}
 use Rattle.bptree_keys.specs.declared.node_id.InnerNodeId.{InnerNodeId}
 use Rattle.bptree_keys.specs.declared.node_id.LeafNodeId.{LeafNodeId}
 use Rattle.bptree_keys.specs.declared.node_id.NodeId.{NodeId}
-use Rattle.bptree_shape.specs.ByArgument.{IsSelectedAt, IsWithdrawn, GoesOn}
+use Rattle.bptree_ways.specs.ByArgument.{IsSelectedAt, IsWithdrawn, GoesOn}
 use Rattle.bptree_shape.specs.Leaves.{pairs_of}
 use Rattle.bptree_shape.specs.Shape.{leaf_pairs, pairs_at, root_least, IsWellShaped}
 use Rattle.bptree_removal.specs.Removal.{IsThere, Leaves}
 use Rattle.bptree_shape.proofs.Ordered.{by_cases}
 use Rattle.bptree_shape.proofs.Walk.{tree_ascends}
 use Rattle.bptree_shape.proofs.ListReads.{read_some}
-use Rattle.bptree_shape.proofs.Selected.{place_read}
+use Rattle.bptree_ways.proofs.Selected.{place_read}
 
 -- a key equals itself
 pub alike : {K : Type 0} {cmp : K → K → Ordering} → IsTotalOrder cmp → (k : K) → cmp k k ≡ Equal

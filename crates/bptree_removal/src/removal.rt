@@ -5,14 +5,14 @@ ghost use Rattle.bptree_keys.specs.Contents.{has};
 ghost use Rattle.bptree_nodes.specs.Inner.{Inner};
 ghost use Rattle.bptree_nodes.specs.Leaf.{Leaf};
 ghost use Rattle.bptree_nodes.specs.Slot.{Slots, Present, IsPresent, UpdatesLeaf};
-ghost use Rattle.bptree_shape.specs.ByArgument.{IsWithdrawn};
-ghost use Rattle.bptree_insertion.specs.LeafChange.{SumsUpLeaf};
+ghost use Rattle.bptree_ways.specs.ByArgument.{IsWithdrawn};
+ghost use Rattle.bptree_ascent.specs.LeafChange.{SumsUpLeaf};
 ghost use Rattle.bptree_shape.specs.Shape.{leaf_pairs, pairs_at, IsWellShaped};
 ghost use Rattle.bptree_rebalancing.specs.Trim.{ShortLeaf, IsLoose, Trims};
 ghost use Rattle.bptree_removal.specs.Removal.{IsThere, Leaves, IsRemoved};
 
 use bptree_arguments::argument::{Argument, SearchArgument};
-use bptree_insertion::ascent::ascend;
+use bptree_ascent::ascent::ascend;
 use bptree_insertion::insertion::mend;
 use bptree_keys::entry_ref::VisitStack;
 use bptree_keys::node_id::{InnerNodeId, LeafNodeId, NodeId};
@@ -21,9 +21,9 @@ use bptree_rebalancing::mending::{
 };
 use bptree_rebalancing::shortage::{ascend_short, leaf_helper, leaves_at};
 use bptree_rebalancing::statistics::Statistic;
-use bptree_shape::by_argument::find_path_by_argument;
 use bptree_shape::descent::find_path;
 use bptree_stores::node_stores::NodeStore;
+use bptree_ways::by_argument::find_path_by_argument;
 use std::alloc::AllocError;
 
 /// A value, or a pair, that left a tree, with the root, the height, and a summary of all keys.

@@ -1,5 +1,4 @@
 pub mod Agreeing
-pub mod Beside
 pub mod Between
 pub mod Down
 pub mod Ends
@@ -8,11 +7,7 @@ pub mod Hinted
 pub mod ListReads
 pub mod NodePieces
 pub mod Ordered
-pub mod Selected
-pub mod Slots
 pub mod Spot
-pub mod Summed
-pub mod Visited
 pub mod Walk
 pub mod Ways
 pub mod Widen

@@ -1,7 +1,5 @@
-pub mod ByArgument
 pub mod Edit
 pub mod Leaves
-pub mod Neighbours
 pub mod Order
 pub mod Outcome
 pub mod Path

@@ -24,7 +24,7 @@ use Rattle.bptree_keys.specs.declared.node_id.NodeId.TheVariants as kind
 use Rattle.bptree_shape.specs.Order.{flat, AtLeast, Under, AtMost, Within, Chain}
 use Rattle.bptree_shape.specs.Shape.{leaf_pairs, leaf_prev, leaf_next, inner_keys, inner_children, inner_arguments, pairs_at, leaves_at, leaf_count, inner_count, stands, AreLinked, IsSummed, IsTree, IsWellShaped, root_least}
 use Rattle.bptree_shape.proofs.Agreeing.{present_if_stands, stands_if_present, flat_same, total_same, each_keeps}
-use Rattle.bptree_insertion.proofs.Alike.{every}
+use Rattle.bptree_ascent.proofs.Alike.{every}
 
 zip_weaker : {X Y : Type 0} (P Q : X → Y → Type 0) → ((x : X) (y : Y) → P x y → Q x y) → (xs : List X) (ys : List Y) → AllZip P xs ys → AllZip Q xs ys
 zip_weaker P Q so [] [] all = tt

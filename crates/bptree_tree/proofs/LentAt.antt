@@ -9,7 +9,7 @@ use Rattle.bptree_keys.specs.declared.node_id.LeafNodeId.{LeafNodeId}
 use Rattle.bptree_keys.specs.declared.node_id.NodeId.{NodeId}
 use Rattle.bptree_shape.specs.Leaves.{pairs_of, StandsIn}
 use Rattle.bptree_shape.specs.Shape.{leaf_pairs, pairs_at, IsWellShaped}
-use Rattle.bptree_insertion.proofs.Lent.{set_parts}
+use Rattle.bptree_ascent.proofs.Lent.{set_parts}
 use Rattle.bptree_shape.proofs.Spot.{parts_of_read}
 
 set_past : {K V : Type 0} (xs ys : List (K × V)) (i : ℕ) (v : V) → set_value_at (xs ++ ys) (length xs + i) v ≡ xs ++ set_value_at ys i v

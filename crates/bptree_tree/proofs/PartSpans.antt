@@ -16,7 +16,7 @@ use Rattle.bptree_ranges.specs.declared.ranges.Part.{Part}
 use Rattle.bptree_shape.specs.Leaves.{pairs_of}
 use Rattle.bptree_ranges.specs.Ranges.{start, IsPart}
 use Rattle.bptree_shape.specs.Shape.{leaf_pairs, leaf_prev, leaf_next, pairs_at, AreLinked, IsWellShaped}
-use Rattle.bptree_shape.proofs.Beside.{HasPair, others_have}
+use Rattle.bptree_ways.proofs.Beside.{HasPair, others_have}
 use Rattle.bptree_ranges.proofs.Ranged.{sides, start_is, reached, comes_before}
 use Rattle.bptree_shape.proofs.Ordered.{ascending_after}
 use Rattle.bptree_shape.proofs.Spot.{parts_of, ascending_before}

@@ -5,7 +5,7 @@ use Rattle.std.specs.Map.{keys_of}
 use Rattle.bptree_nodes.specs.Inner.{Inner}
 use Rattle.bptree_nodes.specs.Leaf.{Leaf}
 use Rattle.bptree_nodes.specs.Slot.{Slots}
-use Rattle.bptree_insertion.specs.NodeTree.{NodeTree}
+use Rattle.bptree_ascent.specs.NodeTree.{NodeTree}
 use Rattle.bptree_shape.specs.Shape.{pairs_at, IsWellShaped}
 
 -- the nodes of its store are those of one right tree of its height and root, the contents are the pairs of that tree, and

@@ -5,7 +5,7 @@ use Rattle.bptree_keys.specs.declared.node_id.LeafNodeId.{LeafNodeId}
 use Rattle.bptree_nodes.specs.Inner.{Inner}
 use Rattle.bptree_nodes.specs.Leaf.{Leaf, set_value_at}
 use Rattle.bptree_nodes.specs.Slot.{Slots, Present}
-use Rattle.bptree_insertion.specs.NodeTree.{NodeTree}
+use Rattle.bptree_ascent.specs.NodeTree.{NodeTree}
 use Rattle.bptree_shape.specs.Leaves.{pairs_of, StandsIn}
 
 module _ {Q S K V A : Type 0} (selects : Q → List K → Option ℕ → Type 0) (slots : S → Slots (Inner K A) (Leaf K V)) (with_leaf : S → ℕ → Leaf K V → S) (query : Q) (old : NodeTree S K V A) (was w : V) (new : NodeTree S K V A) where

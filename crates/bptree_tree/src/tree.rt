@@ -49,7 +49,7 @@ impl<S: NodeStore> Model for BPlusTree<S> {
     ghost use Rattle.std.specs.Prelude.{◌≡◌, length};
     ghost use Rattle.std.specs.Map.{keys_of};
     ghost use Rattle.bptree_shape.specs.Shape.{pairs_at, IsWellShaped};
-    ghost use Rattle.bptree_insertion.specs.NodeTree.{NodeTree};
+    ghost use Rattle.bptree_ascent.specs.NodeTree.{NodeTree};
 
     ghost Value = { NodeTree S S.K S.V S.Argument };
 
@@ -256,7 +256,7 @@ impl<S: NodeStore> BPlusTree<S> {
     ghost use Rattle.std.specs.Borrow.{LendsIf, sem};
     ghost use Rattle.std.specs.Option.{option_copied_mut};
     ghost use Rattle.bptree_keys.specs.Contents.{value};
-    ghost use Rattle.bptree_insertion.specs.Lending.{tree_written};
+    ghost use Rattle.bptree_ascent.specs.Lending.{tree_written};
     ghost use Rattle.bptree_tree.specs.contracts.tree.BPlusTree.{the_row};
 
     /// The value at a key equal to `k`, for writing.

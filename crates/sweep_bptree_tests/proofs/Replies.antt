@@ -11,7 +11,7 @@ use Rattle.bptree_arguments.specs.CountLaws.{SelectsPlace, count_below}
 use Rattle.bptree_keys.specs.Contents.{has, value, put}
 use Rattle.bptree_keys.specs.Ranges.{between}
 use Rattle.bptree_nodes.specs.Leaf.{set_value_at}
-use Rattle.bptree_insertion.specs.Lending.{written}
+use Rattle.bptree_ascent.specs.Lending.{written}
 use Rattle.bptree_script.proofs.PlaceLemmas.{selected_is}
 use Rattle.bptree_script.specs.Steps.{TreeStep, IsCopyOf}
 use Rattle.bptree_script.specs.declared.commands.Command.TheVariants.{Insert, Get, Set, SetAt, Len, At, Range, Rank as RankOf}

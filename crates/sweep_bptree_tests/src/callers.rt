@@ -14,7 +14,7 @@ ghost use Rattle.sweep_bptree.specs.Served.{StoppedBy};
 ghost use Rattle.bptree_script.specs.Steps.{Step};
 ghost use Rattle.sweep_bptree.specs.declared.script.session.Stop.TheVariants.{Reader, Writer};
 ghost use Rattle.bptree_nodes.specs.Leaf.{set_value_at};
-ghost use Rattle.bptree_insertion.specs.Lending.{written};
+ghost use Rattle.bptree_ascent.specs.Lending.{written};
 
 use std::alloc::{AllocError, Global};
 use std::io::{Read, Write};

@@ -8,8 +8,9 @@ ghost use Rattle.bptree_tree.specs.Cursor.{cursor_key, StandsAt};
 use crate::cursor::Cursor;
 use crate::tree::BPlusTree;
 use bptree_keys::node_id::LeafNodeId;
-use bptree_shape::{neighbours, reading};
+use bptree_shape::reading;
 use bptree_stores::node_stores::NodeStore;
+use bptree_ways::neighbours;
 use std::alloc::AllocError;
 
 impl<S: NodeStore> BPlusTree<S> {

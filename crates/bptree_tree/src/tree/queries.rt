@@ -4,14 +4,14 @@ ghost use Rattle.std.specs.Map.{keys_of};
 ghost use Rattle.std.specs.Option.{option_map};
 ghost use Rattle.bptree_arguments.specs.Visits.{answered, IsAllowedError};
 ghost use Rattle.bptree_keys.specs.Contents.{has};
-ghost use Rattle.bptree_shape.specs.ByArgument.{IsSelected};
+ghost use Rattle.bptree_ways.specs.ByArgument.{IsSelected};
 
 use crate::SelectError;
 use crate::tree::BPlusTree;
 use bptree_arguments::argument::{RankArgument, SearchArgument};
 use bptree_arguments::visit::{DescendError, DescendVisit};
-use bptree_shape::{by_argument, visiting};
 use bptree_stores::node_stores::NodeStore;
+use bptree_ways::{by_argument, visiting};
 use std::alloc::AllocError;
 
 impl<S: NodeStore> BPlusTree<S> {

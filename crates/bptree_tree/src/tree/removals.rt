@@ -1,7 +1,7 @@
 //! Removals by the summaries of keys, and of all pairs.
 ghost use Rattle.std.specs.Prelude.{◌≡◌, [], None, Ok, IfOk, OnErr, MatchOption};
 ghost use Rattle.bptree_keys.specs.Contents.{del};
-ghost use Rattle.bptree_shape.specs.ByArgument.{IsTaken};
+ghost use Rattle.bptree_ways.specs.ByArgument.{IsTaken};
 ghost use Rattle.bptree_tree.specs.Whole.{IsWhole, IsUntouched};
 
 use crate::tree::BPlusTree;

@@ -1,5 +1,5 @@
 use Rattle.std.proofs.lemmas.Cmp.{tied_back}
-use Rattle.bptree_insertion.proofs.LeafPlaces.{if_ok, starts_from}
+use Rattle.bptree_ascent.proofs.LeafPlaces.{if_ok, starts_from}
 use Rattle.bptree_building.proofs.leaf_layer.first_key.Goals as goal
 
 pub returns : goal.returns

@@ -1,4 +1,4 @@
-use Rattle.bptree_insertion.proofs.Undone.{leaf_unwritten, pair_back}
+use Rattle.bptree_ascent.proofs.Undone.{leaf_unwritten, pair_back}
 use Rattle.bptree_insertion.proofs.insertion.add_at.Goals as goal
 
 pub returns-in-Err-clause-refused : goal.returns-in-Err-clause-refused

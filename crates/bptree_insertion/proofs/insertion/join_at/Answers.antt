@@ -1,4 +1,4 @@
-use Rattle.bptree_insertion.proofs.Undone.{leaves_joined}
+use Rattle.bptree_ascent.proofs.Undone.{leaves_joined}
 use Rattle.bptree_insertion.proofs.insertion.join_at.Goals as goal
 
 pub returns : goal.returns

@@ -1,4 +1,4 @@
-use Rattle.bptree_insertion.proofs.Undone.{leaf_taken_back}
+use Rattle.bptree_ascent.proofs.Undone.{leaf_taken_back}
 use Rattle.bptree_insertion.proofs.insertion.take_back.Goals as goal
 
 pub returns : goal.returns

@@ -2,7 +2,7 @@ use Rattle.std.proofs.Common.{◌+◌, length, refl, arith, None, Some}
 use Rattle.bptree_ranges.specs.Ranges.{start}
 use Rattle.bptree_shape.specs.Shape.{pairs_at}
 use Rattle.bptree_ranges.proofs.Ranged.{first_place, selected_place}
-use Rattle.bptree_shape.proofs.Summed.{whole_subtree}
+use Rattle.bptree_ways.proofs.Summed.{whole_subtree}
 use Rattle.bptree_ranges.proofs.ranges.part_by_argument.Goals as goal
 
 pub find_by_argument-requires : goal.find_by_argument-requires

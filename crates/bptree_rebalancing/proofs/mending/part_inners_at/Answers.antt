@@ -1,7 +1,7 @@
 use Rattle.std.proofs.Common.{sym, ap, ◌∙◌}
 use Rattle.bptree_nodes.specs.Slot.{Present}
 use Rattle.bptree_rebalancing.proofs.Triples.{inner_put_back}
-use Rattle.bptree_insertion.proofs.Undone.{same_node}
+use Rattle.bptree_ascent.proofs.Undone.{same_node}
 use Rattle.bptree_rebalancing.proofs.mending.part_inners_at.Goals as goal
 
 pub returns : goal.returns

@@ -3,7 +3,7 @@ use Rattle.std.proofs.Common.{ℕ}
 use Rattle.bptree_nodes.specs.Leaf.{Leaf}
 use Rattle.bptree_nodes.specs.Slot.{Slot, Present}
 use Rattle.bptree_rebalancing.proofs.Triples.{leaf_put_back}
-use Rattle.bptree_insertion.proofs.Undone.{same_node}
+use Rattle.bptree_ascent.proofs.Undone.{same_node}
 use Rattle.bptree_rebalancing.proofs.mending.part_leaves_at.Goals as goal
 
 pub part_leaves-requires-clause-kept : goal.part_leaves-requires-clause-kept

@@ -1,6 +1,6 @@
 use Rattle.std.proofs.Common.{sym, ap, ◌∙◌}
 use Rattle.bptree_rebalancing.proofs.Triples.{left_was, right_was, all_back}
-use Rattle.bptree_insertion.proofs.Undone.{same_node}
+use Rattle.bptree_ascent.proofs.Undone.{same_node}
 use Rattle.bptree_nodes.specs.Slot.{Present}
 use Rattle.bptree_rebalancing.proofs.mending.unlend_leaves_at.Goals as goal
 

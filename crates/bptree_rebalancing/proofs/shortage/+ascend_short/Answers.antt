@@ -1,7 +1,7 @@
 use Rattle.std.proofs.Common.{◌<◌, ◌≤◌, ◌∷◌, [], length, length-append, arith, ap, sym}
 use mathlib.Core.Bool.{true≢false}
 use Rattle.bptree_shape.specs.Shape.{inner_keys}
-use Rattle.bptree_insertion.proofs.Climbing.{empty_path}
+use Rattle.bptree_ascent.proofs.Climbing.{empty_path}
 use Rattle.bptree_rebalancing.proofs.ShortNode as sn
 use Rattle.bptree_rebalancing.proofs.Shortened as sh
 use Rattle.bptree_rebalancing.proofs.Triples.{ok_so}

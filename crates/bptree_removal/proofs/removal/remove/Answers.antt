@@ -3,7 +3,7 @@ use mathlib.Core.Bool.{true≢false}
 use Rattle.std.specs.Map.{keys_of}
 use Rattle.bptree_nodes.proofs.LeafContents.{value_at_place}
 use Rattle.bptree_removal.proofs.Removals.{value_read, found_there}
-use Rattle.bptree_insertion.proofs.Rooted.{low_tree}
+use Rattle.bptree_ascent.proofs.Rooted.{low_tree}
 use Rattle.bptree_insertion.proofs.Upserted.{node_ascends, value_there, absent_there}
 use Rattle.bptree_removal.proofs.removal.remove.Goals as goal
 

@@ -1,7 +1,7 @@
 use Rattle.std.proofs.Common.{Some, arith, ap, length, refl}
-use Rattle.bptree_shape.specs.ByArgument.{IsSelectedAt}
-use Rattle.bptree_insertion.proofs.Rooted.{low_tree}
-use Rattle.bptree_shape.proofs.Summed.{whole_subtree}
+use Rattle.bptree_ways.specs.ByArgument.{IsSelectedAt}
+use Rattle.bptree_ascent.proofs.Rooted.{low_tree}
+use Rattle.bptree_ways.proofs.Summed.{whole_subtree}
 use Rattle.bptree_removal.proofs.Withdrawn.{found_pair, is_there, withdrawn}
 use Rattle.bptree_removal.proofs.removal.remove_by_argument.Goals as goal
 

@@ -3,7 +3,7 @@ use Rattle.bptree_keys.specs.Contents.{value}
 use Rattle.bptree_shape.specs.Shape.{root_least}
 use Rattle.bptree_shape.proofs.Spot.{value_in_leaf, leaf_ascends}
 use Rattle.bptree_shape.proofs.Walk.{tree_ascends}
-use Rattle.bptree_insertion.specs.NodeTree.{NodeTree}
+use Rattle.bptree_ascent.specs.NodeTree.{NodeTree}
 use Rattle.bptree_tree.proofs.tree.BPlusTree.get_cursor.Goals as goal
 
 pub returns : goal.returns

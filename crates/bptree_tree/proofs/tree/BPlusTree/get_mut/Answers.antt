@@ -7,7 +7,7 @@ use Rattle.bptree_nodes.specs.LeafResults.{HasEqualAt}
 use Rattle.bptree_nodes.specs.Slot.{Slot, Present}
 use Rattle.bptree_nodes.proofs.LeafContents.{value_at_place}
 use Rattle.bptree_shape.specs.Shape.{root_least, pairs_at}
-use Rattle.bptree_insertion.proofs.Lent.{set_shape, set_keys, set_length, lent_pairs, lent_store, none_if_absent}
+use Rattle.bptree_ascent.proofs.Lent.{set_shape, set_keys, set_length, lent_pairs, lent_store, none_if_absent}
 use Rattle.bptree_shape.proofs.Spot.{value_in_leaf, leaf_ascends}
 use Rattle.bptree_shape.proofs.Walk.{tree_ascends}
 use Rattle.bptree_tree.proofs.tree.BPlusTree.get_mut.Goals as goal

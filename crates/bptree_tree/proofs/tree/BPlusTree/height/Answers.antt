@@ -1,5 +1,5 @@
 use Rattle.std.proofs.Common.{arith}
-use Rattle.bptree_insertion.proofs.Rooted.{low_tree}
+use Rattle.bptree_ascent.proofs.Rooted.{low_tree}
 use Rattle.bptree_tree.proofs.Heights.{high_long}
 use Rattle.bptree_tree.proofs.tree.BPlusTree.height.Goals as goal
 

@@ -5,7 +5,7 @@ use Rattle.bptree_keys.proofs.Equal.{has_where_value}
 use Rattle.bptree_keys.proofs.Parted.{del_gap}
 use Rattle.bptree_keys.proofs.Updates.{length_del}
 use Rattle.bptree_shape.specs.Shape.{root_least, pairs_at}
-use Rattle.bptree_insertion.proofs.Lent.{none_if_absent}
+use Rattle.bptree_ascent.proofs.Lent.{none_if_absent}
 use Rattle.bptree_shape.proofs.Walk.{tree_ascends}
 use Rattle.bptree_tree.proofs.tree.BPlusTree.remove.Goals as goal
 

@@ -1,4 +1,0 @@
-pub mod Children
-pub mod Groups
-pub mod GroupItems
-pub mod StepLemmas

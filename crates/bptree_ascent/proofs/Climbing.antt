@@ -1,0 +1,220 @@
+-- An edit is carried from a node to the one above it.
+use Rattle.std.proofs.Common.{◌≡◌, ℕ, zero, suc, ◌<◌, Bool, true, false, ◌≤◌, ◌^◌, inl, inr, List, [], ◌∷◌, ◌++◌, length, map, refl, sym, ap, subst, ◌∙◌, arith, Option, Some, slice_get}
+use Rattle.std.specs.declared.cmp.Ordering.{Ordering}
+use Rattle.std.specs.Cmp.{IsTotalOrder}
+use Rattle.std.specs.List.{AllZip}
+use Rattle.std.specs.Map.{keys_of}
+use Rattle.std.proofs.lemmas.Bool.{cases_eq}
+use Rattle.std.proofs.lemmas.List.{length-map}
+use mathlib.Core.Bool.{true≢false}
+use Rattle.bptree_nodes.specs.Inner.{Inner}
+use Rattle.bptree_nodes.specs.Leaf.{Leaf}
+use Rattle.bptree_keys.specs.Pieces.{ArePieces, flatten}
+use Rattle.bptree_nodes.specs.Slot.{Slot, Slots, Free, Held, Present, IsPresent, Updates}
+use Rattle.bptree_keys.specs.declared.node_id.InnerNodeId.{InnerNodeId}
+use Rattle.bptree_keys.specs.declared.node_id.LeafNodeId.{LeafNodeId}
+use Rattle.bptree_keys.specs.declared.node_id.NodeId.{NodeId}
+use Rattle.bptree_keys.specs.declared.node_id.NodeId.TheVariants as kind
+use Rattle.bptree_keys.proofs.PieceLemmas.{AllZip-length}
+use Rattle.bptree_ascent.specs.Change.{Keeps}
+use Rattle.bptree_ascent.specs.Climb.{is_held, HeldAre, least_at, Climb, Climbs, Risen}
+use Rattle.bptree_shape.specs.Edit.{CanReach, Turn, Edits}
+use Rattle.bptree_shape.specs.Outcome.{Outcome, Done}
+use Rattle.bptree_shape.specs.Path.{Way}
+use Rattle.bptree_shape.specs.Shape.{inner_children, inner_arguments, pairs_at, root_least, IsSummed, IsTree}
+use Rattle.bptree_ascent.specs.Sums.{SumsUpAt, HasPlace, with_summary}
+use Rattle.bptree_ascent.proofs.Lift.{node_keeps}
+use Rattle.bptree_ascent.proofs.NodeChanges.{set_long}
+use Rattle.bptree_shape.proofs.NodePieces.{child_keys, node_keys_flat, node_pieces, node_summaries}
+use Rattle.bptree_ascent.proofs.Rooted.{reach_of}
+use Rattle.bptree_shape.proofs.Walk.{tree_ascends}
+use Rattle.bptree_shape.proofs.Ways.{LastStep, way_last, way_can, way_few, way_summed}
+use Rattle.bptree_shape.proofs.Widen.{tree_less, node_sizes, node_stays}
+
+-- what a node answers for its pieces
+sums_at : {K A : Type 0} (cmp : K → K → Ordering) (is_summary : A → List K → Type 0) (slot : Slot (Inner K A)) (a : A) → SumsUpAt cmp is_summary slot a → (pieces : List (List K)) → ArePieces cmp pieces → AllZip is_summary (inner_arguments slot) pieces
+    → is_summary a (flatten pieces)
+sums_at cmp is_summary Free a sums pieces are zip = absurd sums
+sums_at cmp is_summary Held a sums pieces are zip = absurd sums
+sums_at cmp is_summary (Present node) a sums pieces are zip = sums pieces are zip
+
+pub least_most : {X : Type 0} (top : ℕ) (path : List X) → least_at top path ≤ 16
+least_most zero [] = omega arith
+least_most (suc h) [] = omega arith
+least_most top (x ∷ xs) = omega arith
+
+pub least_some : {X : Type 0} (top : ℕ) (rest : List X) (x : X) → least_at top (rest ++ x ∷ []) ≡ 16
+least_some top [] x = refl
+least_some top (y ∷ ys) x = refl
+
+-- an inner node that is written anew leaves the same numbers held
+pub held_kept : {K V A : Type 0} (held_inner held_leaf : ℕ → Bool) (now after : Slots (Inner K A) (Leaf K V)) (number : InnerNodeId) (was is : Inner K A) → now.inner number.0 ≡ Present was → Updates now.inner after.inner number.0 (Present is) → after.leaf ≡ now.leaf
+    → HeldAre held_inner held_leaf now → HeldAre held_inner held_leaf after
+held_kept {K = K} {V = V} held_inner held_leaf now after number was is here sets leaf free = record {
+  inners = λ n.
+      elim (cases_eq n number.0) [
+        | inl same ↦ (rw (same, sets.changed) (sym (ap is_held here) ∙ free.inners number.0))
+        | inr other ↦ ap is_held (sets.others n other) ∙ free.inners n
+      ];
+  leaves = λ n. ap (λ (f : ℕ → Slot (Leaf K V)). is_held (f n)) leaf ∙ free.leaves n;
+}
+
+pub not_held : {N : Type 0} (slot : Slot N) → is_held slot ≡ false → slot ≡ Held → ⊥
+not_held Free none e = absurd (let z : Free ≡ Held = e in cc)
+not_held Held none e = absurd (true≢false none)
+not_held (Present node) none e = absurd (let z : Present node ≡ Held = e in cc)
+
+pub held_is : {N : Type 0} (s : Slot N) → is_held s ≡ true → s ≡ Held
+held_is Free q = absurd (true≢false (sym q))
+held_is Held q = refl
+held_is (Present x) q = absurd (true≢false (sym q))
+
+-- where fewer keys or pairs have to stay
+pub edits_less : {K V A : Type 0} {cmp : K → K → Ordering} (is_summary : A → List K → Type 0) (edit : List (K × V) → List (K × V)) (kept less : ℕ) (old new : Slots (Inner K A) (Leaf K V)) (h : ℕ) (id : NodeId) (k : K) (leaf : LeafNodeId) (turn : Turn) (outcome : Outcome K)
+    → less ≤ kept → Edits cmp is_summary edit kept old new h id k leaf turn outcome → Edits cmp is_summary edit less old new h id k leaf turn outcome
+edits_less is_summary edit kept less old new h id k leaf turn outcome low e = record {
+  tree = λ least lo hi under t w. e.tree least lo hi (omega arith) t w;
+  pairs = e.pairs;
+  leaves = e.leaves;
+  inners = e.inners;
+  other_leaves = e.other_leaves;
+  other_inners = e.other_inners;
+  order = e.order;
+  links = e.links;
+  untouched = e.untouched;
+  summed = e.summed;
+}
+
+pub empty_path : {X : Type 0} (xs : List X) → (0 < length xs → ⊥) → xs ≡ []
+empty_path [] none = refl
+empty_path (x ∷ xs) none = absurd (none (omega arith))
+
+module _ {K V A : Type 0} {cmp : K → K → Ordering} (total : IsTotalOrder cmp) (is_summary : A → List K → Type 0) where
+  -- a node that is a tree, with right summaries, is summarised by what it answers
+  pub told_up : (slots : Slots (Inner K A) (Leaf K V)) (least h : ℕ) (id : InnerNodeId) (lo hi : Option K) (a : A) → IsTree cmp slots least (suc h) (kind.Inner id) lo hi → IsSummed slots is_summary (suc h) (kind.Inner id)
+      → length (pairs_at slots (suc h) (kind.Inner id)) < 2 ^ 64 → SumsUpAt cmp is_summary (slots.inner id.0) a → is_summary a (keys_of (pairs_at slots (suc h) (kind.Inner id)))
+  told_up slots least h id lo hi a tree summed few sums =
+      subst (λ keys. is_summary a keys) (sym (node_keys_flat total slots least h id lo hi tree))
+      (sums_at cmp is_summary (slots.inner id.0) a sums (child_keys slots h (inner_children (slots.inner id.0))) (node_pieces total slots least h id lo hi tree few) (node_summaries total slots least h id lo hi tree is_summary summed))
+
+  module _ (now : Slots (Inner K A) (Leaf K V)) (path : List (InnerNodeId × ℕ × NodeId)) (outcome : Outcome K) (c : Climb cmp is_summary now path outcome)
+      (rest : List (InnerNodeId × ℕ × NodeId)) (number : InnerNodeId) (i : ℕ) (child : NodeId) (e : path ≡ rest ++ (number, i, child) ∷ []) where
+    pub last : LastStep cmp c.old c.k c.top c.root rest number i c.height c.id
+    last = way_last cmp c.old c.k rest number i child c.top c.root c.height c.id (subst (λ p. Way cmp c.old c.k c.top c.root p c.height c.id) e c.way)
+
+    reach : CanReach cmp c.old c.top c.root c.k
+    reach = reach_of cmp is_summary c.old c.top c.root c.k c.shape
+
+    pub can : CanReach cmp c.old (suc c.height) (kind.Inner number) c.k
+    can = way_can cmp c.old c.k rest c.top c.root (suc c.height) (kind.Inner number) last.way reach
+
+    pub summed_there : IsSummed c.old is_summary (suc c.height) (kind.Inner number)
+    summed_there = way_summed cmp c.old c.k is_summary rest c.top c.root (suc c.height) (kind.Inner number) last.way reach c.shape.summed
+
+    -- the node was not changed yet
+    pub stays : now.inner number.0 ≡ Present last.node
+    stays = node_stays total is_summary c.edit c.kept c.old now c.height number c.k last.node i c.id c.leaf c.turn c.local can last.is last.leads last.read outcome c.edits
+
+    pub has_place : HasPlace last.node i
+    has_place =
+        let sizes = node_sizes c.old c.height number c.k last.node i c.id can last.is last.leads in
+        let zip = subst (λ (s : Slot (Inner K A)). AllZip is_summary (inner_arguments s) (map (λ d. keys_of (pairs_at c.old c.height d)) (inner_children s))) last.is summed_there.0 in
+        record {
+          within = sizes.0;
+          children = sizes.1;
+          arguments = AllZip-length is_summary last.node.arguments (map (λ d. keys_of (pairs_at c.old c.height d)) last.node.children) zip ∙ length-map last.node.children (λ d. keys_of (pairs_at c.old c.height d));
+        }
+
+    pub most : length last.node.keys ≤ 64
+    most = (node_sizes c.old c.height number c.k last.node i c.id can last.is last.leads).2
+
+    pub few_there : length (c.edit (pairs_at c.old (suc c.height) (kind.Inner number))) < 2 ^ 64
+    few_there =
+        c.few (pairs_at c.old (suc c.height) (kind.Inner number)) (tree_ascends total c.old can.least (suc c.height) (kind.Inner number) can.low can.high can.tree)
+        (way_few cmp c.old c.k rest c.top c.root (suc c.height) (kind.Inner number) last.way)
+
+    pub present : IsPresent (now.inner number.0)
+    present = rw stays tt
+
+    pub enough_for : least_at c.top path ≤ c.kept → 16 ≤ c.kept
+    enough_for enough = let h : least_at c.top (rest ++ (number, i, child) ∷ []) ≤ c.kept = subst (λ p. least_at c.top p ≤ c.kept) e enough in omega (arith, h, least_some c.top rest (number, i, child))
+
+  -- a node keeps its children, and takes a new summary
+  module _ (now after : Slots (Inner K A) (Leaf K V)) (path : List (InnerNodeId × ℕ × NodeId)) (a : A) (c : Climbs cmp is_summary now path a)
+      (rest : List (InnerNodeId × ℕ × NodeId)) (number : InnerNodeId) (i : ℕ) (child : NodeId) (e : path ≡ rest ++ (number, i, child) ∷ []) where
+    pub argument_place : i < length (inner_arguments (now.inner number.0))
+    argument_place = let h = has_place now path Done c.climb rest number i child e in rw (stays now path Done c.climb rest number i child e) (omega (arith, h.within, h.children, h.arguments))
+
+    module _ (old : A) (keep : (was : Inner K A) → now.inner number.0 ≡ Present was → Keeps now after number i a was × (slice_get was.arguments i ≡ Some old)) where
+      pub kept_there : Keeps now after number i a (last now path Done c.climb rest number i child e).node × (slice_get (last now path Done c.climb rest number i child e).node.arguments i ≡ Some old)
+      kept_there = keep (last now path Done c.climb rest number i child e).node (stays now path Done c.climb rest number i child e)
+
+      pub keeps : Keeps now after number i a (last now path Done c.climb rest number i child e).node
+      keeps = kept_there.0
+
+      -- what holds of each node that it may have been
+      pub when_kept : {R : Type 0} → ((was : Inner K A) → now.inner number.0 ≡ Present was → slice_get was.arguments i ≡ Some old → Keeps now after number i a was → R) → R
+      when_kept f = f (last now path Done c.climb rest number i child e).node (stays now path Done c.climb rest number i child e) kept_there.1 keeps
+
+      pub held_same : HeldAre c.climb.held_inner c.climb.held_leaf after
+      held_same =
+          held_kept c.climb.held_inner c.climb.held_leaf now after number (last now path Done c.climb rest number i child e).node (with_summary (last now path Done c.climb rest number i child e).node i a) (stays now path Done c.climb rest number i child e)
+          keeps.sets keeps.leaf c.climb.free
+
+      abbrev pub climb_keeps : Climb cmp is_summary after rest Done
+      climb_keeps =
+          let d = c.climb in
+          let s = last now path Done d rest number i child e in
+          record {
+            old = d.old;
+            edit = d.edit;
+            k = d.k;
+            leaf = d.leaf;
+            turn = d.turn;
+            kept = 16;
+            held_inner = d.held_inner;
+            held_leaf = d.held_leaf;
+            top = d.top;
+            root = d.root;
+            height = suc d.height;
+            id = kind.Inner number;
+            shape = d.shape;
+            few = d.few;
+            local = d.local;
+            way = s.way;
+            edits = node_keeps total is_summary d.edit d.kept d.old now after d.height number d.k s.node i d.id d.leaf d.turn d.local (can now path Done d rest number i child e) s.is s.leads s.read 16 (enough_for now path Done d rest number i child e c.enough) d.edits a c.told keeps;
+            free = held_same;
+          }
+
+      abbrev pub climbs_keeps : (above : A) → SumsUpAt cmp is_summary (after.inner number.0) above → Climbs cmp is_summary after rest above
+      climbs_keeps above sums =
+          let d = c.climb in
+          let up = climb_keeps in
+          let at = can now path Done d rest number i child e in
+          record {
+            climb = up;
+            enough = least_most up.top rest;
+            told = told_up after 0 d.height number at.low at.high above (up.edits.tree 0 at.low at.high (omega arith) (tree_less cmp d.old at.least 0 (suc d.height) (kind.Inner number) at.low at.high (omega arith) at.tree) at.fits) (up.edits.summed (summed_there now path Done d rest number i child e))
+                (subst (λ l. length l < 2 ^ 64) (sym up.edits.pairs) (few_there now path Done d rest number i child e)) sums;
+          }
+
+      pub risen_keeps : (above : A) (sums : SumsUpAt cmp is_summary (after.inner number.0) above) (new : Slots (Inner K A) (Leaf K V)) (top : A) → ((up : Climbs cmp is_summary after rest above) → Risen up.climb new top) → Risen c.climb new top
+      risen_keeps above sums new top rises = let r = rises (climbs_keeps above sums) in record { edits = r.edits; free = r.free; told = r.told }
+
+      pub place_after : i < length (inner_arguments (after.inner number.0))
+      place_after =
+          let s = last now path Done c.climb rest number i child e in
+          let h = has_place now path Done c.climb rest number i child e in
+          rw keeps.sets.changed (omega (arith, h.within, h.children, h.arguments, set_long s.node.arguments i a))
+
+  -- with no node above, the edit is one of the whole tree
+  pub risen_here : (now : Slots (Inner K A) (Leaf K V)) (path : List (InnerNodeId × ℕ × NodeId)) (a : A) (c : Climbs cmp is_summary now path a) → path ≡ [] → Risen c.climb now a
+  risen_here now path a c e =
+      let d = c.climb in
+      let way : (d.top ≡ d.height) × (d.root ≡ d.id) = subst (λ p. Way cmp d.old d.k d.top d.root p d.height d.id) e d.way in
+      record {
+        edits = edits_less is_summary d.edit d.kept (root_least d.top) d.old now d.top d.root d.k d.leaf d.turn Done (subst (λ p. least_at d.top p ≤ d.kept) e c.enough)
+            (subst (λ n. Edits cmp is_summary d.edit d.kept d.old now n d.root d.k d.leaf d.turn Done) (sym way.0) (subst (λ x. Edits cmp is_summary d.edit d.kept d.old now d.height x d.k d.leaf d.turn Done) (sym way.1) d.edits));
+        free = d.free;
+        told = subst (λ n. is_summary a (keys_of (pairs_at now n d.root))) (sym way.0) (subst (λ x. is_summary a (keys_of (pairs_at now d.height x))) (sym way.1) c.told);
+      }

@@ -1,0 +1,68 @@
+-- Changes of a node's summaries and entries, and what undoes them.
+use Rattle.std.proofs.Common.{◌≡◌, ℕ, zero, suc, ◌<◌, ◌≤◌, List, [], ◌∷◌, ◌++◌, length, refl, sym, ap, ◌∙◌, arith, add-one, Some, slice_get, slice_set}
+use Rattle.std.specs.List.{insert}
+use Rattle.bptree_nodes.specs.Inner.{Inner}
+use Rattle.bptree_keys.specs.declared.node_id.NodeId.{NodeId}
+use Rattle.bptree_ascent.specs.Sums.{with_summary, with_split, HasPlace, IsCut}
+use Rattle.bptree_ascent.specs.declared.node_changes.Division.{Division}
+
+module _ {X : Type 0} where
+  pub set_back : (xs : List X) (i : ℕ) (a b : X) → slice_get xs i ≡ Some b → slice_set (slice_set xs i a) i b ≡ xs
+  set_back [] i a b e = cc
+  set_back (x ∷ xs) zero a b e = let same : x ≡ b = cc in ap (λ y. y ∷ xs) (sym same)
+  set_back (x ∷ xs) (suc i) a b e = ap (λ ys. x ∷ ys) (set_back xs i a b e)
+
+  pub get_set : (xs : List X) (i : ℕ) (a : X) → i < length xs → slice_get (slice_set xs i a) i ≡ Some a
+  get_set [] i a below = absurd (omega arith)
+  get_set (x ∷ xs) zero a below = refl
+  get_set (x ∷ xs) (suc i) a below = get_set xs i a (omega arith)
+
+  pub set_long : (xs : List X) (i : ℕ) (a : X) → length (slice_set xs i a) ≡ length xs
+  set_long [] i a = refl
+  set_long (x ∷ xs) zero a = refl
+  set_long (x ∷ xs) (suc i) a = ap suc (set_long xs i a)
+
+some_same : {X : Type 0} (a b : X) → Some a ≡ Some b → a ≡ b
+some_same a b e = cc
+
+module _ {K A : Type 0} where
+  -- the old summary is put back, and the new one comes out
+  pub sum_back : (was mid new : Inner K A) (place : ℕ) (a old out : A) → mid ≡ with_summary was place a → place < length was.arguments → slice_get was.arguments place ≡ Some old
+      → slice_get mid.arguments place ≡ Some out → new ≡ record mid { arguments = slice_set mid.arguments place old } → (new ≡ was) × (out ≡ a)
+  sum_back was mid new place a old out is below read got set = (
+    set ∙ rw is (ap (λ xs. record was { arguments = xs }) (set_back was.arguments place a old read)),
+    some_same out a (sym got ∙ (ap (λ (n : Inner K A). slice_get n.arguments place) is ∙ get_set was.arguments place a below)),
+  )
+
+  pub place_below : (was : Inner K A) (place : ℕ) → HasPlace was place → place < length was.arguments
+  place_below was place h = omega (arith, h.within, h.children, h.arguments)
+
+  -- an entry is taken out again, and the old summary of the child before it is put back
+  pub entry_back : (was whole mid new : Inner K A) (place : ℕ) (old out right : A) (s : K) (n : NodeId) (d : Division K A) → HasPlace was place → slice_get was.arguments place ≡ Some old
+      → whole ≡ with_split was place d.left d.separator d.node d.right
+      → ((w : Inner K A) (key : K) (child : NodeId) (a : A) → whole.keys ≡ insert w.keys place key → whole.children ≡ insert w.children (suc place) child → whole.arguments ≡ insert w.arguments (suc place) a
+      → place ≤ length w.keys → suc place ≤ length w.children → suc place ≤ length w.arguments → (mid ≡ w) × (◌≡◌ {A = K × NodeId × A} (s, n, right) (key, child, a)))
+      → slice_get mid.arguments place ≡ Some out → new ≡ record mid { arguments = slice_set mid.arguments place old }
+      → (new ≡ was) × (◌≡◌ {A = Division K A} (record { left = out; separator = s; node = n; right = right }) d)
+  entry_back was whole mid new place old out right s n d h read is undoes got set =
+      let w = with_summary was place d.left in
+      let long = set_long was.arguments place d.left in
+      let taken = undoes w d.separator d.node d.right (ap (λ (x : Inner K A). x.keys) is) (ap (λ (x : Inner K A). x.children) is ∙ rw add-one refl) (ap (λ (x : Inner K A). x.arguments) is ∙ rw add-one refl)
+      h.within (omega (arith, h.within, h.children)) (omega (arith, long, h.within, h.children, h.arguments)) in
+      let back = sum_back was mid new place d.left old out taken.0 (place_below was place h) read got set in
+      (back.0, (let parts = taken.1 in rw (back.1, ap (λ (t : K × NodeId × A). t.0) parts, ap (λ (t : K × NodeId × A). t.1) parts, ap (λ (t : K × NodeId × A). t.2) parts) refl))
+
+  -- two parts of a full node become one again
+  pub cut_back : (was left part mid new : Inner K A) (place : ℕ) (old out right : A) (up s : K) (n : NodeId) (d : Division K A) → HasPlace was place → length was.keys ≡ 64 → slice_get was.arguments place ≡ Some old
+      → IsCut (with_split was place d.left d.separator d.node d.right) left up part
+      → ((w : Inner K A) (key : K) (child : NodeId) (a : A) → left.keys ++ (up ∷ part.keys) ≡ insert w.keys place key → left.children ++ part.children ≡ insert w.children (suc place) child
+      → left.arguments ++ part.arguments ≡ insert w.arguments (suc place) a → length w.keys ≡ 64 → length w.children ≡ 65 → length w.arguments ≡ 65 → (mid ≡ w) × (◌≡◌ {A = K × NodeId × A} (s, n, right) (key, child, a)))
+      → slice_get mid.arguments place ≡ Some out → new ≡ record mid { arguments = slice_set mid.arguments place old }
+      → (new ≡ was) × (◌≡◌ {A = Division K A} (record { left = out; separator = s; node = n; right = right }) d)
+  cut_back was left part mid new place old out right up s n d h full read cut undoes got set =
+      let w = with_summary was place d.left in
+      let long = set_long was.arguments place d.left in
+      let taken = undoes w d.separator d.node d.right cut.keys (cut.children ∙ rw add-one refl) (cut.arguments ∙ rw add-one refl)
+      full (omega (arith, full, h.children)) (omega (arith, long, full, h.children, h.arguments)) in
+      let back = sum_back was mid new place d.left old out taken.0 (place_below was place h) read got set in
+      (back.0, (let parts = taken.1 in rw (back.1, ap (λ (t : K × NodeId × A). t.0) parts, ap (λ (t : K × NodeId × A). t.1) parts, ap (λ (t : K × NodeId × A). t.2) parts) refl))

@@ -1,0 +1,239 @@
+-- The whole tree: that it can be reached, how high it may be, and that it is well shaped after an edit.
+use Rattle.std.proofs.Common.{◌≡◌, ℕ, zero, suc, ◌+◌, ◌*◌, ◌^◌, ◌<◌, ◌≤◌, inl, inr, cond, List, [], ◌∷◌, ◌++◌, length, refl, sym, ap, subst, ◌∙◌, arith, Option, Some, None, eqb, append-nil, length-append}
+use Rattle.std.specs.declared.cmp.Ordering.{Ordering}
+use Rattle.std.specs.Map.{keys_of}
+use Rattle.std.proofs.Math.Nat.{mul-le-mul_left, pow-le-pow_right}
+use Rattle.std.proofs.lemmas.Bool.{cases_lt}
+use Rattle.std.proofs.lemmas.Bool.Decides.{eqb_tells}
+use Rattle.bptree_nodes.specs.Inner.{Inner}
+use Rattle.bptree_nodes.specs.Leaf.{Leaf}
+use Rattle.bptree_nodes.specs.Slot.{Slot, Slots, Held, IsPresent}
+use Rattle.bptree_keys.specs.declared.node_id.InnerNodeId.{InnerNodeId}
+use Rattle.bptree_keys.specs.declared.node_id.LeafNodeId.{LeafNodeId}
+use Rattle.bptree_keys.specs.declared.node_id.NodeId.{NodeId}
+use Rattle.bptree_keys.specs.declared.node_id.NodeId.TheVariants as kind
+use Rattle.bptree_ascent.specs.Change.{Roots, Mends}
+use Rattle.bptree_shape.specs.Edit.{CanReach, Turn, Stays, Gains, fresh_of, SameLinks, LinksAt, Edits}
+use Rattle.bptree_shape.specs.Order.{flat, Chain}
+use Rattle.bptree_shape.specs.Shape.{leaf_next, inner_keys, inner_children, pairs_at, leaves_at, leaf_count, inner_count, stands, AreLinked, IsSummed, IsTree, IsWellShaped, root_least}
+use Rattle.bptree_shape.specs.Outcome.{Done, Split}
+use Rattle.bptree_shape.proofs.Hinted.{count_of, count_leaves, first_or, linked_next}
+use Rattle.bptree_shape.proofs.Agreeing.{stands_le, present_if_stands, stands_if_absent}
+use Rattle.bptree_shape.proofs.Frame.{Same}
+use Rattle.bptree_ascent.proofs.Mended.{KeepsPairs, reads_same, linked_same, each_counted, linked_mended, mended_pairs, mended_inner, mended_held}
+
+module _ {C K V : Type 0} (cmp : K → K → Ordering) (f : C → List (K × V)) (P : C → Option K → Option K → Type 0) (b : ℕ) (each : (c : C) (lo hi : Option K) → P c lo hi → b ≤ length (f c)) where
+  chain_long : (ks : List K) (cs : List C) (lo hi : Option K) → Chain cmp P ks cs lo hi → b + b * length ks ≤ length (flat f cs)
+  chain_long ks [] lo hi h = absurd h
+  chain_long [] (c ∷ []) lo hi h = omega (arith, each c lo hi h, length-append (f c) [])
+  chain_long [] (c ∷ d ∷ cs) lo hi h = absurd h
+  chain_long (k ∷ ks) (c ∷ cs) lo hi h = omega (arith, each c lo (Some k) h.0, chain_long ks cs (Some k) hi h.2, length-append (f c) (flat f cs))
+
+module _ {K V A : Type 0} (cmp : K → K → Ordering) (slots : Slots (Inner K A) (Leaf K V)) where
+  -- a tree below a root has at least 16 * 17 ^ h pairs
+  pub tree_long : (h : ℕ) (id : NodeId) (lo hi : Option K) → IsTree cmp slots 16 h id lo hi → 16 * 17 ^ h ≤ length (pairs_at slots h id)
+  tree_long zero (kind.Leaf id) lo hi t = omega (arith, t.3)
+  tree_long zero (kind.Inner id) lo hi t = absurd t
+  tree_long (suc h) (kind.Leaf id) lo hi t = absurd t
+  tree_long (suc h) (kind.Inner id) lo hi t =
+      let b = 16 * 17 ^ h in
+      let c = chain_long cmp (pairs_at slots h) (IsTree cmp slots 16 h) b (λ c x y u. tree_long h c x y u) (inner_keys (slots.inner id.0)) (inner_children (slots.inner id.0)) lo hi t.1 in
+      let d : b * 16 ≤ b * length (inner_keys (slots.inner id.0)) = mul-le-mul_left b t.2 in
+      omega (arith, c, d)
+
+module _ {K V A : Type 0} (cmp : K → K → Ordering) (is_summary : A → List K → Type 0) (slots : Slots (Inner K A) (Leaf K V)) where
+  -- and a root above others twice as many as one of them
+  pub root_long : (h : ℕ) (root : NodeId) → IsWellShaped cmp is_summary slots (suc h) root → 32 * 17 ^ h ≤ length (pairs_at slots (suc h) root)
+  root_long h (kind.Leaf id) w = absurd w.tree
+  root_long h (kind.Inner id) w =
+      let b = 16 * 17 ^ h in
+      let c = chain_long cmp (pairs_at slots h) (IsTree cmp slots 16 h) b (λ c x y u. tree_long cmp slots h c x y u) (inner_keys (slots.inner id.0)) (inner_children (slots.inner id.0)) None None w.tree.1 in
+      let d : b * 1 ≤ b * length (inner_keys (slots.inner id.0)) = mul-le-mul_left b w.tree.2 in
+      omega (arith, c, d)
+
+  -- so no tree has more than 15 levels of inner nodes
+  pub low_tree : (h : ℕ) (root : NodeId) → IsWellShaped cmp is_summary slots h root → length (pairs_at slots h root) < 2 ^ 64 → h ≤ 15
+  low_tree zero root w few = omega arith
+  low_tree (suc h) root w few =
+      elim (cases_lt h 15) [
+        | inl low ↦ omega arith
+        | inr high ↦ absurd (let p : 17 ^ 15 ≤ 17 ^ h = pow-le-pow_right (omega arith) high in omega (arith, root_long h root w))
+      ]
+
+  -- each key can be reached from the root
+  pub reach_of : (h : ℕ) (root : NodeId) (k : K) → IsWellShaped cmp is_summary slots h root → CanReach cmp slots h root k
+  reach_of h root k w = record {
+    least = root_least h;
+    low = None;
+    high = None;
+    tree = w.tree;
+    fits = (tt, tt);
+    owns = record { leaves = λ n. omega (arith, w.leaves n); inners = λ n. omega (arith, w.inners n) };
+  }
+
+  -- a leaf that is reached is present
+  pub present_leaf : (h : ℕ) (root : NodeId) → IsWellShaped cmp is_summary slots h root → (n : ℕ) → 1 ≤ count_of (leaves_at slots h root) n → IsPresent (slots.leaf n)
+  present_leaf h root w n some = present_if_stands (slots.leaf n) (omega (arith, some, w.leaves n, count_leaves slots h root n))
+
+  -- all of a tree's shape but its links
+  pub record IsUnlinked (h : ℕ) (root : NodeId) : Type 0 where
+    pub tree : IsTree cmp slots (root_least h) h root None None
+    pub leaves : (n : ℕ) → leaf_count slots h root n ≡ stands (slots.leaf n)
+    pub inners : (n : ℕ) → inner_count slots h root n ≡ stands (slots.inner n)
+    pub no_leaf_held : (n : ℕ) → slots.leaf n ≡ Held → ⊥
+    pub no_inner_held : (n : ℕ) → slots.inner n ≡ Held → ⊥
+    pub summed : IsSummed slots is_summary h root
+
+module _ {K V A : Type 0} (cmp : K → K → Ordering) (is_summary : A → List K → Type 0) (edit : List (K × V) → List (K × V)) (old new : Slots (Inner K A) (Leaf K V)) (h : ℕ) (root : NodeId) (k : K) (leaf : LeafNodeId)
+    (shape : IsWellShaped cmp is_summary old h root) (no_leaf_held : (n : ℕ) → new.leaf n ≡ Held → ⊥) (no_inner_held : (n : ℕ) → new.inner n ≡ Held → ⊥) where
+  -- an edit after which the top node stands as before
+  pub done_unlinked : (turn : Turn) → Edits cmp is_summary edit (root_least h) old new h root k leaf turn Done → IsUnlinked cmp is_summary new h root
+  done_unlinked turn edits = record {
+    tree = edits.tree (root_least h) None None (omega arith) shape.tree (tt, tt);
+    leaves = λ n. omega (arith, shape.leaves n, edits.leaves n);
+    inners = λ n. omega (arith, shape.inners n, edits.inners n);
+    no_leaf_held = no_leaf_held;
+    no_inner_held = no_inner_held;
+    summed = edits.summed shape.summed;
+  }
+
+  -- an edit in the leaves that are there
+  pub whole_done : Edits cmp is_summary edit (root_least h) old new h root k leaf Stays Done → IsWellShaped cmp is_summary new h root
+  whole_done edits =
+      let tree = done_unlinked Stays edits in
+      let order : leaves_at new h root ≡ leaves_at old h root = edits.order.is ∙ sym edits.order.was in
+      record {
+        tree = tree.tree;
+        leaves = tree.leaves;
+        inners = tree.inners;
+        no_leaf_held = no_leaf_held;
+        no_inner_held = no_inner_held;
+        summed = tree.summed;
+        linked = rw order (linked_same old new None (leaves_at old h root) None (each_counted (SameLinks old new) (leaves_at old h root) (λ l some. stays l (present_leaf cmp is_summary old h root shape l.0 some))) shape.linked);
+      }
+    where
+      stays : (l : LeafNodeId) → IsPresent (old.leaf l.0) → SameLinks old new l
+      stays l there =
+          elim (eqb_tells l.0 leaf.0) [
+            | inl same ↦ rw same.1 edits.links
+            | inr other ↦ (edits.untouched l other.1 tt there).0
+          ]
+
+  -- an edit after which a new root stands above the old one and a node to its right
+  module _ (after : Slots (Inner K A) (Leaf K V)) (turn : Turn) (l : A) (s : K) (right : NodeId) (r : A) (id : InnerNodeId)
+      (edits : Edits cmp is_summary edit (root_least h) old new h root k leaf turn (Split s right)) (roots : Roots new after id root l s right r) where
+    kept : (n : ℕ) → KeepsPairs (new.leaf n) (after.leaf n)
+    kept n = rw roots.leaf (record { pairs = refl; stands = refl })
+
+    not_new : (n : ℕ) → 1 ≤ inner_count new h root n + inner_count new h right n → after.inner n ≡ new.inner n
+    not_new n some = roots.sets.others n (λ q. let z : stands (new.inner n) ≡ 0 = rw q (stands_if_absent (new.inner id.0) roots.absent) in omega (arith, some, z, edits.inners n, shape.inners n))
+
+    at_left : Same cmp is_summary new after h root
+    at_left = reads_same cmp is_summary new after kept h root (λ n some. not_new n (omega (arith, some)))
+
+    at_right : Same cmp is_summary new after h right
+    at_right = reads_same cmp is_summary new after kept h right (λ n some. not_new n (omega (arith, some)))
+
+    one_more : (n : ℕ) → stands (after.inner n) ≡ stands (new.inner n) + cond (eqb id.0 n) 1 0
+    one_more n =
+        elim (eqb_tells id.0 n) [
+          | inl same ↦ (rw (same.0, ← same.1, roots.sets.changed) (omega (arith, stands_if_absent (new.inner id.0) roots.absent)))
+          | inr other ↦ (rw (other.0, roots.sets.others n (λ q. other.1 (sym q))) (omega arith))
+        ]
+
+    held_inner : (n : ℕ) → after.inner n ≡ Held → ⊥
+    held_inner n held =
+        elim (eqb_tells n id.0) [
+          | inl same ↦ (let e = sym roots.sets.changed ∙ (ap after.inner (sym same.1) ∙ held) in cc)
+          | inr other ↦ no_inner_held n (sym (roots.sets.others n other.1) ∙ held)
+        ]
+
+    pub split_unlinked : is_summary l (keys_of (pairs_at new h root)) → is_summary r (keys_of (pairs_at new h right)) → IsUnlinked cmp is_summary after (suc h) (kind.Inner id)
+    split_unlinked left_told right_told =
+        let t = edits.tree (root_least h) None None (omega arith) shape.tree (tt, tt) in
+        let sums = edits.summed shape.summed in
+        record {
+          tree = rw roots.sets.changed (tt, (at_left.tree 16 None (Some s) t.0, t.1, at_right.tree 16 (Some s) None t.2), omega arith, omega arith);
+          leaves = λ n. rw (roots.sets.changed, roots.leaf) (omega (arith, shape.leaves n, edits.leaves n, at_left.leaves n, at_right.leaves n));
+          inners = λ n. rw roots.sets.changed (omega (arith, shape.inners n, edits.inners n, at_left.inners n, at_right.inners n, one_more n));
+          no_leaf_held = λ n held. no_leaf_held n (ap (λ (f : ℕ → Slot (Leaf K V)). f n) (sym roots.leaf) ∙ held);
+          no_inner_held = held_inner;
+          summed = rw roots.sets.changed ((rw at_left.pairs left_told, (rw at_right.pairs right_told, tt)), (at_left.summed sums.0, (at_right.summed sums.1, tt)));
+        }
+
+    pub split_unlinked_order : leaves_at after (suc h) (kind.Inner id) ≡ edits.order.before ++ leaf ∷ (fresh_of turn ++ edits.order.after)
+    split_unlinked_order = rw (roots.sets.changed, append-nil, at_left.order, at_right.order) edits.order.is
+
+    pub split_unlinked_pairs : pairs_at after (suc h) (kind.Inner id) ≡ edit (pairs_at old h root)
+    split_unlinked_pairs = rw (roots.sets.changed, append-nil, at_left.pairs, at_right.pairs) edits.pairs
+
+-- the links of a whole tree are mended behind a new leaf
+module _ {K V A : Type 0} (cmp : K → K → Ordering) (is_summary : A → List K → Type 0) (old mid final : Slots (Inner K A) (Leaf K V)) (h : ℕ) (root : NodeId) (leaf fresh : LeafNodeId) (before after : List LeafNodeId)
+    (shape : IsWellShaped cmp is_summary old h root) (was : leaves_at old h root ≡ before ++ leaf ∷ after) (at : LinksAt old mid leaf (Gains fresh))
+    (untouched : (x : LeafNodeId) → (x.0 ≡ leaf.0 → ⊥) → IsPresent (old.leaf x.0) → SameLinks old mid x) (mends : Mends mid final (leaf_next (old.leaf leaf.0)) fresh) where
+  mended_same : (height : ℕ) (top : NodeId) → Same cmp is_summary mid final height top
+  mended_same height top = reads_same cmp is_summary mid final (mended_pairs mid final fresh (leaf_next (old.leaf leaf.0)) mends) height top (λ n some. mended_inner mid final fresh (leaf_next (old.leaf leaf.0)) mends n)
+
+  pub mended_contents : (height : ℕ) (top : NodeId) → pairs_at final height top ≡ pairs_at mid height top
+  mended_contents height top = (mended_same height top).pairs
+
+  module _ (height : ℕ) (top : NodeId) (tree : IsUnlinked cmp is_summary mid height top) (is : leaves_at mid height top ≡ before ++ leaf ∷ (fresh ∷ after)) where
+    links : AreLinked old None (before ++ leaf ∷ after) None
+    links = subst (λ ids. AreLinked old None ids None) was shape.linked
+
+    unique : (n : ℕ) → count_of (before ++ leaf ∷ fresh ∷ after) n ≤ 1
+    unique n = omega (arith, ap (λ ids. count_of ids n) is, count_leaves mid height top n, tree.leaves n, stands_le (mid.leaf n))
+
+    present : (n : ℕ) → 1 ≤ count_of (before ++ leaf ∷ after) n → IsPresent (old.leaf n)
+    present n some = present_leaf cmp is_summary old h root shape n (omega (arith, some, ap (λ ids. count_of ids n) was))
+
+    next_is : leaf_next (old.leaf leaf.0) ≡ first_or None after
+    next_is = linked_next old None before leaf after None links
+
+    pub whole_inserted : IsWellShaped cmp is_summary final height top
+    whole_inserted =
+        let next = leaf_next (old.leaf leaf.0) in
+        let same = mended_same height top in
+        record {
+          tree = same.tree (root_least height) None None tree.tree;
+          leaves = λ n. same.leaves n ∙ (tree.leaves n ∙ sym (mended_pairs mid final fresh next mends n).stands);
+          inners = λ n. same.inners n ∙ (tree.inners n ∙ ap stands (sym (mended_inner mid final fresh next mends n)));
+          no_leaf_held = λ n held. tree.no_leaf_held n (mended_held mid final fresh next mends n held);
+          no_inner_held = λ n held. tree.no_inner_held n (sym (mended_inner mid final fresh next mends n) ∙ held);
+          summed = same.summed tree.summed;
+          linked = rw (same.order, is) (linked_mended old mid final before leaf fresh untouched at after unique present (subst (λ o. Mends mid final o fresh) next_is mends) links);
+        }
+
+-- a leaf was split, and the links were mended behind the new one
+module _ {K V A : Type 0} (cmp : K → K → Ordering) (is_summary : A → List K → Type 0) (edit : List (K × V) → List (K × V)) (old new : Slots (Inner K A) (Leaf K V)) (h : ℕ) (root : NodeId) (k : K) (leaf fresh : LeafNodeId)
+    (shape : IsWellShaped cmp is_summary old h root) (no_leaf_held : (n : ℕ) → new.leaf n ≡ Held → ⊥) (no_inner_held : (n : ℕ) → new.inner n ≡ Held → ⊥) where
+  -- below a root that stands as before
+  module _ (final : Slots (Inner K A) (Leaf K V)) (edits : Edits cmp is_summary edit (root_least h) old new h root k leaf (Gains fresh) Done) (mends : Mends new final (leaf_next (old.leaf leaf.0)) fresh) where
+    pub whole_grown : IsWellShaped cmp is_summary final h root
+    whole_grown =
+        whole_inserted cmp is_summary old new final h root leaf fresh edits.order.before edits.order.after shape edits.order.was edits.links (λ x other there. (edits.untouched x other tt there).0) mends h root
+        (done_unlinked cmp is_summary edit old new h root k leaf shape no_leaf_held no_inner_held (Gains fresh) edits) edits.order.is
+
+    pub grown_pairs : pairs_at final h root ≡ edit (pairs_at old h root)
+    grown_pairs =
+        mended_contents cmp is_summary old new final h root leaf fresh edits.order.before edits.order.after shape edits.order.was edits.links (λ x other there. (edits.untouched x other tt there).0) mends h root ∙ edits.pairs
+
+  -- below a new root
+  module _ (after final : Slots (Inner K A) (Leaf K V)) (l : A) (s : K) (right : NodeId) (r : A) (id : InnerNodeId) (edits : Edits cmp is_summary edit (root_least h) old new h root k leaf (Gains fresh) (Split s right))
+      (roots : Roots new after id root l s right r) (mends : Mends after final (leaf_next (old.leaf leaf.0)) fresh) where
+    links_after : LinksAt old after leaf (Gains fresh)
+    links_after = rw roots.leaf edits.links
+
+    untouched_after : (x : LeafNodeId) → (x.0 ≡ leaf.0 → ⊥) → IsPresent (old.leaf x.0) → SameLinks old after x
+    untouched_after x other there = rw roots.leaf ((edits.untouched x other tt there).0)
+
+    pub whole_split : is_summary l (keys_of (pairs_at new h root)) → is_summary r (keys_of (pairs_at new h right)) → IsWellShaped cmp is_summary final (suc h) (kind.Inner id)
+    whole_split left_told right_told =
+        whole_inserted cmp is_summary old after final h root leaf fresh edits.order.before edits.order.after shape edits.order.was links_after untouched_after mends (suc h) (kind.Inner id)
+        (split_unlinked cmp is_summary edit old new h root k leaf shape no_leaf_held no_inner_held after (Gains fresh) l s right r id edits roots left_told right_told)
+        (split_unlinked_order cmp is_summary edit old new h root k leaf shape no_leaf_held no_inner_held after (Gains fresh) l s right r id edits roots)
+
+    pub split_pairs : pairs_at final (suc h) (kind.Inner id) ≡ edit (pairs_at old h root)
+    split_pairs =
+        mended_contents cmp is_summary old after final h root leaf fresh edits.order.before edits.order.after shape edits.order.was links_after untouched_after mends (suc h) (kind.Inner id)
+        ∙ split_unlinked_pairs cmp is_summary edit old new h root k leaf shape no_leaf_held no_inner_held after (Gains fresh) l s right r id edits roots

@@ -1,0 +1,106 @@
+-- A change of a store's slots is undone.
+use Rattle.std.proofs.Common.{◌≡◌, ℕ, ◌<◌, ◌≤◌, List, ◌++◌, inl, inr, length, refl, sym, ap, ◌∙◌, arith, Some, slice_get, slice_set}
+use Rattle.std.specs.declared.cmp.Ordering.{Ordering}
+use Rattle.std.specs.List.{insert, remove}
+use Rattle.std.proofs.lemmas.Bool.{cases_eq}
+use Rattle.bptree_nodes.specs.Inner.{Inner}
+use Rattle.bptree_nodes.specs.Leaf.{Leaf}
+use Rattle.bptree_nodes.specs.Slot.{Slot, Slots, Free, Held, Present, UpdatesInner, UpdatesLeaf}
+use Rattle.bptree_keys.specs.declared.node_id.InnerNodeId.{InnerNodeId}
+use Rattle.bptree_keys.specs.declared.node_id.LeafNodeId.{LeafNodeId}
+use Rattle.bptree_nodes.proofs.Inverses.{taken_back}
+use Rattle.bptree_ascent.specs.Change.{Keeps}
+use Rattle.bptree_ascent.specs.LeafChange.{Adds, DividesLeaf}
+use Rattle.bptree_ascent.specs.Sums.{with_summary}
+use Rattle.bptree_ascent.specs.declared.node_changes.Division.{Division}
+use Rattle.bptree_ascent.proofs.NodeChanges.{sum_back, set_long}
+
+pub same_node : {N : Type 0} (slot : Slot N) (a b : N) → slot ≡ Present a → slot ≡ Present b → a ≡ b
+same_node slot a b e f = let z : Present a ≡ Present b = sym e ∙ f in cc
+
+-- a node is put back as it was
+pub restored : {K V A : Type 0} (was now mid new : Slots (Inner K A) (Leaf K V)) (id : InnerNodeId) (place : ℕ) (node from put : Inner K A) (a old out : A) → was.inner id.0 ≡ Present node → slice_get node.arguments place ≡ Some old
+    → Keeps was now id place a node → now.inner id.0 ≡ Present from → UpdatesInner now mid id.0 Held → place < length from.arguments → slice_get from.arguments place ≡ Some out
+    → put ≡ record from { arguments = slice_set from.arguments place old } → UpdatesInner mid new id.0 (Present put) → (new ≡ was) × (out ≡ a)
+restored {K} {V} {A} was now mid new id place node from put a old out here read keeps there taken below got set back =
+    (λ i. record { inner = λ n. each n i; leaf = (back.leaf ∙ (taken.leaf ∙ keeps.leaf)) i }, undone.1)
+  where
+    is : from ≡ with_summary node place a
+    is = same_node (now.inner id.0) from (with_summary node place a) there keeps.sets.changed
+
+    undone : (put ≡ node) × (out ≡ a)
+    undone = sum_back node from put place a old out is (omega (arith, below, set_long node.arguments place a, ap (λ (x : Inner K A). length x.arguments) is)) read got set
+
+    each : (n : ℕ) → new.inner n ≡ was.inner n
+    each n =
+        elim (cases_eq n id.0) [
+          | inl same ↦ (rw same (back.inner.changed ∙ (ap Present undone.0 ∙ sym here)))
+          | inr other ↦ back.inner.others n other ∙ (taken.inner.others n other ∙ keeps.sets.others n other)
+        ]
+
+-- a pair that was put into a leaf is taken out again
+pub pair_back : {K V : Type 0} (from put back : Leaf K V) (slot : ℕ) (pair out : K × V) → put ≡ record from { pairs = insert from.pairs slot pair } → slot ≤ length from.pairs → slice_get put.pairs slot ≡ Some out → back ≡ record put { pairs = remove put.pairs slot }
+    → (back ≡ from) × (out ≡ pair)
+pair_back {K} {V} from put back slot pair out is within got set =
+    let taken = taken_back from.pairs put.pairs (remove put.pairs slot) slot pair out (ap (λ (l : Leaf K V). l.pairs) is) within got refl in (
+      set ∙ (ap (λ ps. record put { pairs = ps }) taken.0 ∙ ap (λ (l : Leaf K V). record l { pairs = from.pairs }) is),
+      taken.1,
+    )
+
+pub leaf_taken_back : {K V A : Type 0} (was now mid new : Slots (Inner K A) (Leaf K V)) (id : LeafNodeId) (slot : ℕ) (node from back : Leaf K V) (pair out : K × V) → was.leaf id.0 ≡ Present node → slot ≤ length node.pairs → Adds was now id slot pair node
+    → now.leaf id.0 ≡ Present from → UpdatesLeaf now mid id.0 Held → slice_get from.pairs slot ≡ Some out → back ≡ record from { pairs = remove from.pairs slot } → UpdatesLeaf mid new id.0 (Present back) → (new ≡ was) × (out ≡ pair)
+leaf_taken_back {K} {V} {A} was now mid new id slot node from back pair out here within adds there taken got set put =
+    (λ i. record { inner = (put.inner ∙ (taken.inner ∙ adds.inner)) i; leaf = λ n. each n i }, undone.1)
+  where
+    is : from ≡ record node { pairs = insert node.pairs slot pair }
+    is = same_node (now.leaf id.0) from (record node { pairs = insert node.pairs slot pair }) there adds.leaf.changed
+
+    undone : (back ≡ node) × (out ≡ pair)
+    undone = pair_back node from back slot pair out is within got set
+
+    each : (n : ℕ) → new.leaf n ≡ was.leaf n
+    each n =
+        elim (cases_eq n id.0) [
+          | inl at ↦ (rw at (put.leaf.changed ∙ (ap Present undone.0 ∙ sym here)))
+          | inr other ↦ put.leaf.others n other ∙ (taken.leaf.others n other ∙ adds.leaf.others n other)
+        ]
+
+-- two leaves that one was split into become one again
+module _ {K V A : Type 0} (cmp : K → K → Ordering) (was now first second third new : Slots (Inner K A) (Leaf K V)) (id fresh : LeafNodeId) (slot : ℕ) (node from part back : Leaf K V) (pair out : K × V) (division : Division K A)
+    (here : was.leaf id.0 ≡ Present node) (within : slot ≤ length node.pairs) (divides : DividesLeaf cmp was now id slot pair node division fresh)
+    (there : now.leaf id.0 ≡ Present from) (behind : first.leaf fresh.0 ≡ Present part) (taken : UpdatesLeaf now first id.0 Held) (took : UpdatesLeaf first second fresh.0 Held)
+    (put : UpdatesLeaf second third id.0 (Present back)) (freed : UpdatesLeaf third new fresh.0 Free) where
+  apart : id.0 ≡ fresh.0 → ⊥
+  apart same = let z : Present node ≡ Free = sym here ∙ (ap was.leaf same ∙ divides.free) in cc
+
+  left_is : from ≡ record node { pairs = divides.left; next = Some fresh }
+  left_is = same_node (now.leaf id.0) from (record node { pairs = divides.left; next = Some fresh }) there divides.at_left
+
+  right_is : part ≡ record { pairs = divides.right; prev = Some id; next = node.next }
+  right_is = same_node (now.leaf fresh.0) part (record { pairs = divides.right; prev = Some id; next = node.next }) (sym (taken.leaf.others fresh.0 (λ same. apart (sym same))) ∙ behind) divides.at_right
+
+  pub leaves_joined : ((w : List (K × V)) (item : K × V) → from.pairs ++ part.pairs ≡ insert w slot item → slot ≤ length w → (back.pairs ≡ w) × (out ≡ item)) → back.prev ≡ from.prev → back.next ≡ part.next → (new ≡ was) × (out ≡ pair)
+  leaves_joined undoes prev next = (λ i. record { inner = (freed.inner ∙ (put.inner ∙ (took.inner ∙ (taken.inner ∙ divides.inner)))) i; leaf = λ n. each n i }, undone.1)
+    where
+      undone : (back.pairs ≡ node.pairs) × (out ≡ pair)
+      undone = undoes node.pairs pair (rw (left_is, right_is) divides.parts) within
+
+      is : back ≡ node
+      is = λ i. record { pairs = undone.0 i; prev = (prev ∙ ap (λ (l : Leaf K V). l.prev) left_is) i; next = (next ∙ ap (λ (l : Leaf K V). l.next) right_is) i }
+
+      each : (n : ℕ) → new.leaf n ≡ was.leaf n
+      each n =
+          elim (cases_eq n fresh.0) [
+            | inl at ↦ (rw at (freed.leaf.changed ∙ sym divides.free))
+            | inr far ↦ elim (cases_eq n id.0) [
+              | inl at ↦ (freed.leaf.others n far ∙ rw at (put.leaf.changed ∙ (ap Present is ∙ sym here)))
+              | inr other ↦ freed.leaf.others n far ∙ (put.leaf.others n other ∙ (took.leaf.others n far ∙ (taken.leaf.others n other ∙ divides.others n other far)))
+            ]
+          ]
+
+-- a leaf that is written as it was changes no slot
+pub leaf_unwritten : {K V A : Type 0} (old new : Slots (Inner K A) (Leaf K V)) (id : LeafNodeId) (from back : Leaf K V) → old.leaf id.0 ≡ Present from → UpdatesLeaf old new id.0 (Present back) → back ≡ from → new ≡ old
+leaf_unwritten {K} {V} {A} old new id from back here put same = λ i. record { inner = put.inner i; leaf = λ n. each n i }
+  where
+    each : (n : ℕ) → new.leaf n ≡ old.leaf n
+    each n = elim (cases_eq n id.0) [ inl at ↦ (rw at (put.leaf.changed ∙ (ap Present same ∙ sym here))) | inr other ↦ put.leaf.others n other ]

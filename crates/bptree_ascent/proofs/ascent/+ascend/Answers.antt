@@ -1,0 +1,42 @@
+use Rattle.std.proofs.Common.{◌∷◌, [], length, length-append, arith, ap, sym}
+use mathlib.Core.Bool.{true≢false}
+use Rattle.bptree_shape.specs.Outcome.{Done}
+use Rattle.bptree_ascent.proofs.AnySummary.{risen_untouched}
+use Rattle.bptree_ascent.proofs.Climbing.{empty_path, present, argument_place, climbs_keeps, risen_keeps, place_after, when_kept, risen_here}
+use Rattle.bptree_ascent.proofs.ascent.+ascend.Goals as goal
+
+pub returns-then-is_zst-clause-rises : goal.returns-then-is_zst-clause-rises
+returns-then-is_zst-clause-rises g t c climbs =
+    risen_untouched g.met.S.K.Ord.total g.S.Argument.Argument.is_summary (c.is_zst.ensures.any c.if-is_zst.true) (g.S.NodeStore.slots c.args.store.now) c.args.path.now c.args.summary climbs
+
+pub returns-in_default-clause-rises : goal.returns-in_default-clause-rises
+returns-in_default-clause-rises g t c climbs =
+    risen_here g.met.S.K.Ord.total g.S.Argument.Argument.is_summary (g.S.NodeStore.slots c.args.store.now) c.args.path.now c.args.summary climbs (empty_path c.args.path.now (λ some. true≢false (sym (c.in_default.ensures.variant.1 some))))
+
+pub resum_at-requires-clause-present : goal.resum_at-requires-clause-present
+resum_at-requires-clause-present g t c = present g.met.S.K.Ord.total g.S.Argument.Argument.is_summary (g.S.NodeStore.slots c.args.store.now) c.args.path.now Done c.requires.climb c.pop.new.self c.in-Some.id c.in-Some.place c.in-Some.field-0-2 c.in-Some.ensures.some
+
+pub resum_at-requires-clause-place : goal.resum_at-requires-clause-place
+resum_at-requires-clause-place g t c = argument_place g.met.S.K.Ord.total g.S.Argument.Argument.is_summary (g.S.NodeStore.slots c.args.store.now) (g.S.NodeStore.slots c.args.store.now) c.args.path.now c.args.summary c.requires c.pop.new.self c.in-Some.id c.in-Some.place c.in-Some.field-0-2 c.in-Some.ensures.some
+
+pub ascend-requires : goal.ascend-requires
+ascend-requires g t c κs within = (
+  omega (arith, ap length c.in-Some.ensures.some, length-append c.pop.new.self ((c.in-Some.id, c.in-Some.place, c.in-Some.field-0-2) ∷ [])),
+  (within.0, (within.1.0, (within.1.1.0, (within.1.1.1, climbs_keeps g.met.S.K.Ord.total g.S.Argument.Argument.is_summary (g.S.NodeStore.slots c.args.store.now) (g.S.NodeStore.slots c.resum_at.new.store) c.args.path.now c.args.summary c.requires c.pop.new.self c.in-Some.id c.in-Some.place c.in-Some.field-0-2 c.in-Some.ensures.some c.in_ok-above.field-0.old c.in_ok-above.ensures.keeps c.in_ok-above.field-0.above c.in_ok-above.ensures.sums)))),
+)
+
+pub restore_at-requires-clause-place : goal.restore_at-requires-clause-place
+restore_at-requires-clause-place g t c = rw c.in-Err.ensures.refused (place_after g.met.S.K.Ord.total g.S.Argument.Argument.is_summary (g.S.NodeStore.slots c.args.store.now) (g.S.NodeStore.slots c.resum_at.new.store) c.args.path.now c.args.summary c.requires c.pop.new.self c.in-Some.id c.in-Some.place c.in-Some.field-0-2 c.in-Some.ensures.some c.in_ok-above.field-0.old c.in_ok-above.ensures.keeps)
+
+pub returns-in-Ok-clause-rises : goal.returns-in-Ok-clause-rises
+returns-in-Ok-clause-rises g t c climbs =
+    risen_keeps g.met.S.K.Ord.total g.S.Argument.Argument.is_summary (g.S.NodeStore.slots c.args.store.now) (g.S.NodeStore.slots c.resum_at.new.store) c.args.path.now c.args.summary climbs c.pop.new.self c.in-Some.id c.in-Some.place c.in-Some.field-0-2 c.in-Some.ensures.some c.in_ok-above.field-0.old c.in_ok-above.ensures.keeps c.in_ok-above.field-0.above c.in_ok-above.ensures.sums
+    (g.S.NodeStore.slots c.ascend.new.store) c.in-Ok.top c.in-Ok.ensures.rises
+
+pub returns-in-Err-clause-refused : goal.returns-in-Err-clause-refused
+returns-in-Err-clause-refused g t c = (when_kept g.met.S.K.Ord.total g.S.Argument.Argument.is_summary (g.S.NodeStore.slots c.args.store.now) (g.S.NodeStore.slots c.resum_at.new.store) c.args.path.now c.args.summary c.requires c.pop.new.self c.in-Some.id c.in-Some.place c.in-Some.field-0-2 c.in-Some.ensures.some c.in_ok-above.field-0.old c.in_ok-above.ensures.keeps
+    (λ was here read keeps. c.restore_at.ensures.undoes (g.S.NodeStore.slots c.args.store.now) was c.args.summary here read (rw c.in-Err.ensures.refused keeps))).0
+
+pub returns-in-Err-clause-handed_back : goal.returns-in-Err-clause-handed_back
+returns-in-Err-clause-handed_back g t c = (when_kept g.met.S.K.Ord.total g.S.Argument.Argument.is_summary (g.S.NodeStore.slots c.args.store.now) (g.S.NodeStore.slots c.resum_at.new.store) c.args.path.now c.args.summary c.requires c.pop.new.self c.in-Some.id c.in-Some.place c.in-Some.field-0-2 c.in-Some.ensures.some c.in_ok-above.field-0.old c.in_ok-above.ensures.keeps
+    (λ was here read keeps. c.restore_at.ensures.undoes (g.S.NodeStore.slots c.args.store.now) was c.args.summary here read (rw c.in-Err.ensures.refused keeps))).1

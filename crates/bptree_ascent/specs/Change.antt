@@ -1,0 +1,82 @@
+-- What a change of nodes does to the slots of a store.
+use Rattle.std.specs.Prelude.{◌≡◌, ℕ, suc, ◌+◌, ◌≤◌, ◌<◌, List, [], ◌∷◌, ◌++◌, length, slice_set, Option, Some, None}
+use Rattle.std.specs.declared.cmp.Ordering.{Ordering}
+use Rattle.std.specs.declared.cmp.Ordering.TheVariants.{Equal}
+use Rattle.std.specs.List.{insert}
+use Rattle.bptree_nodes.specs.Inner.{Inner}
+use Rattle.bptree_nodes.specs.Leaf.{Leaf}
+use Rattle.bptree_nodes.specs.Slot.{Slots, Present, IsPresent, Updates, UpdatesLeaf}
+use Rattle.bptree_keys.specs.declared.node_id.InnerNodeId.{InnerNodeId}
+use Rattle.bptree_keys.specs.declared.node_id.LeafNodeId.{LeafNodeId}
+use Rattle.bptree_keys.specs.declared.node_id.NodeId.{NodeId}
+use Rattle.bptree_ascent.specs.Sums.{with_summary}
+
+-- pairs whose first key is a separator
+abbrev pub StartsAt : {K V : Type 0} → (K → K → Ordering) → K → List (K × V) → Type 0
+StartsAt cmp separator [] = ⊥
+StartsAt cmp separator (p ∷ ps) = cmp separator p.0 ≡ Equal
+
+module _ {K V A : Type 0} (old new : Slots (Inner K A) (Leaf K V)) where
+  -- a node keeps its children, and takes a new summary of one
+  pub record Keeps (id : InnerNodeId) (place : ℕ) (a : A) (was : Inner K A) : Type 0 where
+    pub sets : Updates old.inner new.inner id.0 (Present (with_summary was place a))
+    pub leaf : new.leaf ≡ old.leaf
+
+  -- a child was split: its new summary, a separator and the child behind it go into a node that has room
+  pub record Links (id : InnerNodeId) (place : ℕ) (l : A) (separator : K) (child : NodeId) (r : A) (was : Inner K A) : Type 0 where
+    pub is : Inner K A
+    pub sets : Updates old.inner new.inner id.0 (Present is)
+    pub leaf : new.leaf ≡ old.leaf
+    pub keys : is.keys ≡ insert was.keys place separator
+    pub children : is.children ≡ insert was.children (suc place) child
+    pub arguments : is.arguments ≡ insert (slice_set was.arguments place l) (suc place) r
+    pub room : length was.keys < 64
+
+  -- they go into a full node, which is split
+  pub record Splits (id : InnerNodeId) (place : ℕ) (l : A) (separator : K) (child : NodeId) (r : A) (was : Inner K A) (up : K) (number : InnerNodeId) : Type 0 where
+    pub left : Inner K A
+    pub right : Inner K A
+    pub absent : IsPresent (old.inner number.0) → ⊥
+    pub at_left : new.inner id.0 ≡ Present left
+    pub at_right : new.inner number.0 ≡ Present right
+    pub others : (n : ℕ) → (n ≡ id.0 → ⊥) → (n ≡ number.0 → ⊥) → new.inner n ≡ old.inner n
+    pub leaf : new.leaf ≡ old.leaf
+    pub keys : left.keys ++ (up ∷ right.keys) ≡ insert was.keys place separator
+    pub children : left.children ++ right.children ≡ insert was.children (suc place) child
+    pub arguments : left.arguments ++ right.arguments ≡ insert (slice_set was.arguments place l) (suc place) r
+    pub left_children : length left.children ≡ length left.keys + 1
+    pub left_arguments : length left.arguments ≡ length left.children
+    pub left_least : 16 ≤ length left.keys
+    pub left_most : length left.keys ≤ 64
+    pub right_least : 16 ≤ length right.keys
+    pub right_most : length right.keys ≤ 64
+
+  -- a new node stands above two others
+  pub record Roots (id : InnerNodeId) (left : NodeId) (l : A) (separator : K) (right : NodeId) (r : A) : Type 0 where
+    pub absent : IsPresent (old.inner id.0) → ⊥
+    pub sets : Updates old.inner new.inner id.0 (Present (record { keys = separator ∷ []; children = left ∷ right ∷ []; arguments = l ∷ r ∷ [] }))
+    pub leaf : new.leaf ≡ old.leaf
+
+  -- the pairs of a full leaf, with one more, are shared between it and a new leaf behind it
+  pub record SplitsLeaf (leaf fresh : LeafNodeId) (was : Leaf K V) (now left right : List (K × V)) : Type 0 where
+    pub absent : IsPresent (old.leaf fresh.0) → ⊥
+    pub at_left : new.leaf leaf.0 ≡ Present (record was { pairs = left; next = Some fresh })
+    pub at_right : new.leaf fresh.0 ≡ Present (record { pairs = right; prev = Some leaf; next = was.next })
+    pub others : (n : ℕ) → (n ≡ leaf.0 → ⊥) → (n ≡ fresh.0 → ⊥) → new.leaf n ≡ old.leaf n
+    pub inner : new.inner ≡ old.inner
+    pub parts : left ++ right ≡ now
+    pub left_least : 16 ≤ length left
+    pub left_most : length left ≤ 64
+    pub right_least : 16 ≤ length right
+    pub right_most : length right ≤ 64
+
+  -- a leaf now names another as the one before it
+  pub record Names (leaf prev : LeafNodeId) : Type 0 where
+    pub was : Leaf K V
+    pub here : old.leaf leaf.0 ≡ Present was
+    pub sets : UpdatesLeaf old new leaf.0 (Present (record was { prev = Some prev }))
+
+  -- the leaf that a link names, where it names one, has a new leaf before it
+  abbrev pub Mends : Option LeafNodeId → LeafNodeId → Type 0
+  Mends None fresh = new ≡ old
+  Mends (Some leaf) fresh = Names leaf fresh

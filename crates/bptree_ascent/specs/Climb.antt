@@ -1,0 +1,95 @@
+-- An edit below a node of a path, and what it becomes at the root.
+use Rattle.std.specs.Prelude.{◌≡◌, ℕ, suc, ◌<◌, ◌≤◌, ◌^◌, Bool, true, false, List, [], ◌∷◌, length, Option, Some, None}
+use Rattle.std.specs.declared.cmp.Ordering.{Ordering}
+use Rattle.std.specs.Map.{keys_of}
+use Rattle.bptree_keys.specs.Contents.{IsAscending}
+use Rattle.bptree_nodes.specs.Inner.{Inner}
+use Rattle.bptree_nodes.specs.Leaf.{Leaf}
+use Rattle.bptree_nodes.specs.Slot.{Slot, Slots, Free, Held, Present}
+use Rattle.bptree_keys.specs.declared.node_id.InnerNodeId.{InnerNodeId}
+use Rattle.bptree_keys.specs.declared.node_id.LeafNodeId.{LeafNodeId}
+use Rattle.bptree_keys.specs.declared.node_id.NodeId.{NodeId}
+use Rattle.bptree_keys.specs.declared.node_id.NodeId.TheVariants as kind
+use Rattle.bptree_ascent.specs.Change.{Roots}
+use Rattle.bptree_shape.specs.Edit.{IsLocal, Turn, Edits}
+use Rattle.bptree_shape.specs.Outcome.{Outcome, Done, Split}
+use Rattle.bptree_shape.specs.Path.{Way}
+use Rattle.bptree_shape.specs.Shape.{pairs_at, root_least, IsWellShaped}
+use Rattle.bptree_ascent.specs.declared.node_changes.Division.{Division}
+
+-- whether a number is held
+abbrev pub is_held : {N : Type 0} → Slot N → Bool
+is_held Free = false
+is_held Held = true
+is_held (Present node) = false
+
+-- which numbers are held
+pub record HeldAre {I L : Type 0} (inner leaf : ℕ → Bool) (slots : Slots I L) : Type 0 where
+  pub inners : (n : ℕ) → is_held (slots.inner n) ≡ inner n
+  pub leaves : (n : ℕ) → is_held (slots.leaf n) ≡ leaf n
+
+-- an edit of no more ascending pairs than some makes fewer than 2 to the power of 64
+abbrev pub StaysFew : {K V : Type 0} → (K → K → Ordering) → (List (K × V) → List (K × V)) → ℕ → Type 0
+StaysFew {K} {V} cmp edit most = (l : List (K × V)) → IsAscending cmp l → length l ≤ most → length (edit l) < 2 ^ 64
+
+-- the least number of keys or pairs at the end of a path
+abbrev pub least_at : {X : Type 0} → ℕ → List X → ℕ
+least_at top [] = root_least top
+least_at top (x ∷ xs) = 16
+
+-- A whole tree was edited below the last node of a path, and no node of the path was changed yet.
+pub record Climb {K V A : Type 0} (cmp : K → K → Ordering) (is_summary : A → List K → Type 0) (now : Slots (Inner K A) (Leaf K V)) (path : List (InnerNodeId × ℕ × NodeId)) (outcome : Outcome K) : Type 0 where
+  pub old : Slots (Inner K A) (Leaf K V)
+  pub edit : List (K × V) → List (K × V)
+  pub k : K
+  pub leaf : LeafNodeId
+  pub turn : Turn
+  pub kept : ℕ
+  pub held_inner : ℕ → Bool
+  pub held_leaf : ℕ → Bool
+  pub top : ℕ
+  pub root : NodeId
+  pub height : ℕ
+  pub id : NodeId
+  pub shape : IsWellShaped cmp is_summary old top root
+  pub few : StaysFew cmp edit (length (pairs_at old top root))
+  pub local : IsLocal cmp k edit
+  pub way : Way cmp old k top root path height id
+  pub edits : Edits cmp is_summary edit kept old now height id k leaf turn outcome
+  pub free : HeldAre held_inner held_leaf now
+
+-- with the new summary of the node, or of the two that it became
+pub record Climbs {K V A : Type 0} (cmp : K → K → Ordering) (is_summary : A → List K → Type 0) (now : Slots (Inner K A) (Leaf K V)) (path : List (InnerNodeId × ℕ × NodeId)) (a : A) : Type 0 where
+  pub climb : Climb cmp is_summary now path Done
+  pub enough : least_at climb.top path ≤ climb.kept
+  pub told : is_summary a (keys_of (pairs_at now climb.height climb.id))
+
+pub record ClimbsTwo {K V A : Type 0} (cmp : K → K → Ordering) (is_summary : A → List K → Type 0) (now : Slots (Inner K A) (Leaf K V)) (path : List (InnerNodeId × ℕ × NodeId)) (division : Division K A) : Type 0 where
+  pub climb : Climb cmp is_summary now path (Split division.separator division.node)
+  pub enough : least_at climb.top path ≤ climb.kept
+  pub none_held : (n : ℕ) → (climb.held_inner n ≡ false) × (climb.held_leaf n ≡ false)
+  pub left : is_summary division.left (keys_of (pairs_at now climb.height climb.id))
+  pub right : is_summary division.right (keys_of (pairs_at now climb.height division.node))
+
+module _ {K V A : Type 0} {cmp : K → K → Ordering} {is_summary : A → List K → Type 0} {now : Slots (Inner K A) (Leaf K V)} {path : List (InnerNodeId × ℕ × NodeId)} {outcome : Outcome K}
+    (c : Climb cmp is_summary now path outcome) (new : Slots (Inner K A) (Leaf K V)) where
+  -- the edit is one of the whole tree, below the root that it had
+  pub record Risen (a : A) : Type 0 where
+    pub edits : Edits cmp is_summary c.edit (root_least c.top) c.old new c.top c.root c.k c.leaf c.turn Done
+    pub free : HeldAre c.held_inner c.held_leaf new
+    pub told : is_summary a (keys_of (pairs_at new c.top c.root))
+
+  -- it split the root, and a new one stands above
+  pub record RisenByOne (id : InnerNodeId) (a : A) : Type 0 where
+    pub mid : Slots (Inner K A) (Leaf K V)
+    pub division : Division K A
+    pub edits : Edits cmp is_summary c.edit (root_least c.top) c.old mid c.top c.root c.k c.leaf c.turn (Split division.separator division.node)
+    pub left : is_summary division.left (keys_of (pairs_at mid c.top c.root))
+    pub right : is_summary division.right (keys_of (pairs_at mid c.top division.node))
+    pub roots : Roots mid new id c.root division.left division.separator division.node division.right
+    pub free : HeldAre c.held_inner c.held_leaf mid
+    pub told : is_summary a (keys_of (pairs_at new (suc c.top) (kind.Inner id)))
+
+  abbrev pub Reaches : Option InnerNodeId → A → Type 0
+  Reaches None a = Risen a
+  Reaches (Some id) a = RisenByOne id a

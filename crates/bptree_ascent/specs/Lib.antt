@@ -1,0 +1,6 @@
+pub mod Change
+pub mod Climb
+pub mod LeafChange
+pub mod Lending
+pub mod NodeTree
+pub mod Sums

@@ -1,0 +1,76 @@
+-- Summaries of the keys below a node, and the changes of a node that takes new ones.
+use Rattle.std.specs.Prelude.{◌≡◌, ℕ, ◌+◌, ◌<◌, ◌≤◌, ◌++◌, ◌∷◌, List, Some, length, slice_get, slice_set}
+use Rattle.std.specs.declared.cmp.Ordering.{Ordering}
+use Rattle.std.specs.List.{AllZip}
+use Rattle.bptree_nodes.specs.Inner.{Inner, HasKeys, with_entry}
+use Rattle.bptree_keys.specs.Pieces.{ArePieces, flatten}
+use Rattle.bptree_nodes.specs.Leaf.{Leaf}
+use Rattle.bptree_nodes.specs.Slot.{Slot, Slots, Free, Held, Present, Updates}
+use Rattle.bptree_keys.specs.declared.node_id.InnerNodeId.{InnerNodeId}
+use Rattle.bptree_keys.specs.declared.node_id.NodeId.{NodeId}
+use Rattle.bptree_ascent.specs.declared.node_changes.Division.{Division}
+
+module _ {K A : Type 0} where
+  -- the value is a summary of all keys below the node, where the node's are summaries of its children's
+  abbrev pub SumsUp : (K → K → Ordering) → (A → List K → Type 0) → Inner K A → A → Type 0
+  SumsUp cmp is_summary node a = (pieces : List (List K)) → ArePieces cmp pieces → AllZip is_summary node.arguments pieces → is_summary a (flatten pieces)
+
+  -- with another summary at a place
+  abbrev pub with_summary : Inner K A → ℕ → A → Inner K A
+  with_summary node place a = record node { arguments = slice_set node.arguments place a }
+
+  -- with another summary of a child that was split, and the child to its right behind a separator
+  abbrev pub with_split : Inner K A → ℕ → A → K → NodeId → A → Inner K A
+  with_split node place left separator right a = with_entry (with_summary node place left) place separator right a
+
+  -- at most 64 keys, with one child and one summary more, and the place of a child
+  pub record HasPlace (node : Inner K A) (place : ℕ) : Type 0 where
+    pub within : place ≤ length node.keys
+    pub children : length node.children ≡ length node.keys + 1
+    pub arguments : length node.arguments ≡ length node.children
+
+  -- a whole is cut into two nodes of 32 keys, with a key between
+  pub record IsCut (whole left : Inner K A) (up : K) (right : Inner K A) : Type 0 where
+    pub keys : left.keys ++ (up ∷ right.keys) ≡ whole.keys
+    pub children : left.children ++ right.children ≡ whole.children
+    pub arguments : left.arguments ++ right.arguments ≡ whole.arguments
+    pub left_size : HasKeys 32 left
+    pub right_size : HasKeys 32 right
+
+module _ {K A : Type 0} where
+  -- the same of what stands under a number; where no node stands, nothing
+  abbrev pub SumsUpAt : (K → K → Ordering) → (A → List K → Type 0) → Slot (Inner K A) → A → Type 0
+  SumsUpAt cmp is_summary Free a = ⊥
+  SumsUpAt cmp is_summary Held a = ⊥
+  SumsUpAt cmp is_summary (Present node) a = SumsUp cmp is_summary node a
+
+  abbrev pub PlaceAt : Slot (Inner K A) → ℕ → Type 0
+  PlaceAt Free place = ⊥
+  PlaceAt Held place = ⊥
+  PlaceAt (Present node) place = HasPlace node place
+
+  abbrev pub HasKeysAt : ℕ → Slot (Inner K A) → Type 0
+  HasKeysAt n Free = ⊥
+  HasKeysAt n Held = ⊥
+  HasKeysAt n (Present node) = HasKeys n node
+
+module _ {K V A : Type 0} (old new : Slots (Inner K A) (Leaf K V)) (id : InnerNodeId) (place : ℕ) (division : Division K A) (was : Inner K A) where
+  -- a node took the child to the right of one that was split, whose summary was another
+  pub record IsLinked (before : A) : Type 0 where
+    pub sets : Updates old.inner new.inner id.0 (Present (with_split was place division.left division.separator division.node division.right))
+    pub leaf : new.leaf ≡ old.leaf
+    pub summary : slice_get was.arguments place ≡ Some before
+    pub room : length was.keys < 64
+
+  -- it was full, and was split in turn
+  pub record IsSplit (up : K) (fresh : InnerNodeId) (before : A) : Type 0 where
+    pub left : Inner K A
+    pub right : Inner K A
+    pub free : old.inner fresh.0 ≡ Free
+    pub at_left : new.inner id.0 ≡ Present left
+    pub at_right : new.inner fresh.0 ≡ Present right
+    pub others : (n : ℕ) → (n ≡ id.0 → ⊥) → (n ≡ fresh.0 → ⊥) → new.inner n ≡ old.inner n
+    pub leaf : new.leaf ≡ old.leaf
+    pub cut : IsCut (with_split was place division.left division.separator division.node division.right) left up right
+    pub summary : slice_get was.arguments place ≡ Some before
+    pub full : length was.keys ≡ 64

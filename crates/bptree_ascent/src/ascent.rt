@@ -1,0 +1,281 @@
+//! A changed child's summary, or the node that it was split into, carried up a path to the root. What can't be had on
+//! the way is refused, and then every node of the path is again what it was.
+ghost use Rattle.std.specs.Prelude.{◌≡◌, ◌+◌, ◌<◌, ◌≤◌, List, ◌∷◌, [], length, slice_get, Some, IfOk, IfErr, OnErr};
+ghost use Rattle.bptree_nodes.specs.Inner.{Inner, HasKeys};
+ghost use Rattle.bptree_nodes.specs.Leaf.{Leaf};
+ghost use Rattle.bptree_nodes.specs.Slot.{Slots, Free, Present, IsPresent};
+ghost use Rattle.bptree_keys.specs.declared.node_id.NodeId.{NodeId};
+ghost use Rattle.bptree_keys.specs.declared.node_id.NodeId.TheVariants as kind;
+ghost use Rattle.bptree_ascent.specs.Change.{Keeps, Links, Splits, Roots};
+ghost use Rattle.bptree_ascent.specs.Climb.{Climbs, ClimbsTwo, Risen, Reaches};
+ghost use Rattle.bptree_ascent.specs.Sums.{SumsUp, HasPlace, SumsUpAt, PlaceAt, HasKeysAt, IsLinked, IsSplit};
+ghost use Rattle.bptree_shape.specs.Shape.{inner_keys, inner_arguments};
+
+use crate::node_changes::{
+    Division, Parts, Resummed, give_entry, join_parts, resum, take_and_part, take_entry,
+};
+use bptree_arguments::argument::Argument;
+use bptree_keys::entry_ref::VisitStack;
+use bptree_keys::node_id::{InnerNodeId, NodeId};
+use bptree_nodes::inner_node::InnerNode;
+use bptree_stores::node_stores::NodeStore;
+
+// Puts a child's new summary into its node. It answers the node's summary and the child's old one.
+fn resum_at<S: NodeStore>(
+    store: &mut S,
+    id: InnerNodeId,
+    place: usize,
+    summary: S::Argument,
+) -> Result<Resummed<S::Argument>, S::Argument>
+    requires present { IsPresent ((S.slots store.old).inner id.0) }
+    requires place { place < length (inner_arguments ((S.slots store.old).inner id.0)) }
+    ensures keeps { (was : Inner S.K S.Argument) → (S.slots store.old).inner id.0 ≡ Present was → IfOk result (λ sums. Keeps (S.slots store.old) (S.slots store.new) id place summary was × (slice_get was.arguments place ≡ Some sums.old)) }
+    ensures sums { IfOk result (λ sums. SumsUpAt S.K.cmp S.Argument.is_summary ((S.slots store.new).inner id.0) sums.above) }
+    ensures refused { OnErr result (S.slots store.new ≡ S.slots store.old) }
+    ensures handed_back { IfErr result (λ back. back ≡ summary) }
+{
+    let mut node = store.take_inner(id);
+    let asked = resum(&mut node, place, summary);
+    store.put_back_inner(id, node);
+    asked
+}
+
+// Undoes what `resum_at` did.
+fn restore_at<S: NodeStore>(
+    store: &mut S,
+    id: InnerNodeId,
+    place: usize,
+    old: S::Argument,
+) -> S::Argument
+    requires present { IsPresent ((S.slots store.old).inner id.0) }
+    requires place { place < length (inner_arguments ((S.slots store.old).inner id.0)) }
+    ensures undoes { (was : Slots (Inner S.K S.Argument) (Leaf S.K S.V)) (node : Inner S.K S.Argument) (summary : S.Argument) → was.inner id.0 ≡ Present node → slice_get node.arguments place ≡ Some old → Keeps was (S.slots store.old) id place summary node → (S.slots store.new ≡ was) × (result ≡ summary) }
+{
+    let mut node = store.take_inner(id);
+    let summary = node.set_argument(place, old);
+    store.put_back_inner(id, node);
+    summary
+}
+
+/// Carries a node's new summary up the path above it. It answers that of the root. Refused, it hands the summary back.
+/// Where every value is a summary of every list, no node is touched.
+pub fn ascend<S: NodeStore>(
+    store: &mut S,
+    path: &mut VisitStack,
+    summary: S::Argument,
+) -> Result<S::Argument, S::Argument>
+    requires { Climbs S.K.cmp S.Argument.is_summary (S.slots store.old) path.old summary }
+    ensures rises { (c : Climbs S.K.cmp S.Argument.is_summary (S.slots store.old) path.old summary) → IfOk result (λ top. Risen c.climb (S.slots store.new) top) }
+    ensures refused { OnErr result (S.slots store.new ≡ S.slots store.old) }
+    ensures handed_back { IfErr result (λ back. back ≡ summary) }
+{
+    if S::Argument::is_zst() {
+        return Ok(summary);
+    }
+    let Some((id, place, _)) = path.pop() else {
+        return Ok(summary);
+    };
+    let Resummed { above, old } = resum_at(store, id, place, summary)?;
+    match ascend(store, path, above) {
+        Ok(top) => Ok(top),
+        Err(_) => Err(restore_at(store, id, place, old)),
+    }
+}
+
+// Puts the node to the right of a child that was split into its node, which has room.
+fn link_at<S: NodeStore>(
+    store: &mut S,
+    id: InnerNodeId,
+    place: usize,
+    division: Division<S::K, S::Argument>,
+) -> Result<Resummed<S::Argument>, Division<S::K, S::Argument>>
+    requires place { PlaceAt ((S.slots store.old).inner id.0) place }
+    requires room { length (inner_keys ((S.slots store.old).inner id.0)) < 64 }
+    ensures links { (was : Inner S.K S.Argument) → (S.slots store.old).inner id.0 ≡ Present was → IfOk result (λ sums. IsLinked (S.slots store.old) (S.slots store.new) id place division was sums.old) }
+    ensures sums { IfOk result (λ sums. SumsUpAt S.K.cmp S.Argument.is_summary ((S.slots store.new).inner id.0) sums.above) }
+    ensures refused { OnErr result (S.slots store.new ≡ S.slots store.old) }
+    ensures handed_back { IfErr result (λ back. back ≡ division) }
+{
+    let mut node = store.take_inner(id);
+    let asked = take_entry(&mut node, place, division);
+    store.put_back_inner(id, node);
+    asked
+}
+
+// Undoes what `link_at` did.
+fn unlink_at<S: NodeStore>(
+    store: &mut S,
+    id: InnerNodeId,
+    place: usize,
+    old: S::Argument,
+) -> Division<S::K, S::Argument>
+    requires place { PlaceAt ((S.slots store.old).inner id.0) (place + 1) }
+    ensures undoes { (was : Slots (Inner S.K S.Argument) (Leaf S.K S.V)) (node : Inner S.K S.Argument) (division : Division S.K S.Argument) → was.inner id.0 ≡ Present node → HasPlace node place → IsLinked was (S.slots store.old) id place division node old → (S.slots store.new ≡ was) × (result ≡ division) }
+{
+    let mut node = store.take_inner(id);
+    let division = give_entry(&mut node, place, old);
+    store.put_back_inner(id, node);
+    division
+}
+
+// Puts the node to the right of a child that was split into its node, which is full and is split in turn. It answers what
+// the node above has to take, and the child's old summary.
+fn part_at<S: NodeStore>(
+    store: &mut S,
+    id: InnerNodeId,
+    place: usize,
+    division: Division<S::K, S::Argument>,
+) -> Result<Parts<S::K, S::Argument, InnerNodeId>, Division<S::K, S::Argument>>
+    requires place { PlaceAt ((S.slots store.old).inner id.0) place }
+    requires full { length (inner_keys ((S.slots store.old).inner id.0)) ≡ 64 }
+    ensures splits { (was : Inner S.K S.Argument) → (S.slots store.old).inner id.0 ≡ Present was → IfOk result (λ done. IsSplit (S.slots store.old) (S.slots store.new) id place division was done.up done.node done.old) }
+    ensures left { IfOk result (λ done. SumsUpAt S.K.cmp S.Argument.is_summary ((S.slots store.new).inner id.0) done.left) }
+    ensures right { IfOk result (λ done. SumsUpAt S.K.cmp S.Argument.is_summary ((S.slots store.new).inner done.node.0) done.right) }
+    ensures refused { OnErr result (S.slots store.new ≡ S.slots store.old) }
+    ensures handed_back { IfErr result (λ back. back ≡ division) }
+{
+    let Ok(room) = InnerNode::empty(store.allocator()) else {
+        return Err(division);
+    };
+    let Ok(fresh) = store.reserve_inner() else {
+        return Err(division);
+    };
+    let mut node = store.take_inner(id);
+    let asked = take_and_part(&mut node, place, division, room);
+    store.put_back_inner(id, node);
+    match asked {
+        Ok(parts) => {
+            let Parts {
+                left,
+                up,
+                node: part,
+                right,
+                old,
+            } = parts;
+            store.put_back_inner(fresh, part);
+            Ok(Parts {
+                left,
+                up,
+                node: fresh,
+                right,
+                old,
+            })
+        }
+        Err(division) => {
+            store.release_inner(fresh);
+            Err(division)
+        }
+    }
+}
+
+// Undoes what `part_at` did.
+fn unpart_at<S: NodeStore>(
+    store: &mut S,
+    id: InnerNodeId,
+    place: usize,
+    up: S::K,
+    fresh: InnerNodeId,
+    old: S::Argument,
+) -> Division<S::K, S::Argument>
+    requires left { HasKeysAt 32 ((S.slots store.old).inner id.0) }
+    requires right { HasKeysAt 32 ((S.slots store.old).inner fresh.0) }
+    requires apart { id.0 ≡ fresh.0 → ⊥ }
+    requires place { place ≤ 64 }
+    ensures undoes { (was : Slots (Inner S.K S.Argument) (Leaf S.K S.V)) (node : Inner S.K S.Argument) (division : Division S.K S.Argument) → was.inner id.0 ≡ Present node → HasPlace node place → length node.keys ≡ 64 → IsSplit was (S.slots store.old) id place division node up fresh old → (S.slots store.new ≡ was) × (result ≡ division) }
+{
+    let mut node = store.take_inner(id);
+    let part = store.take_inner(fresh);
+    let division = join_parts(&mut node, place, up, part, old);
+    store.put_back_inner(id, node);
+    store.release_inner(fresh);
+    division
+}
+
+// A new root above the old one and the node to its right.
+fn grow_root<S: NodeStore>(
+    store: &mut S,
+    root: NodeId,
+    division: Division<S::K, S::Argument>,
+) -> Result<(InnerNodeId, S::Argument), Division<S::K, S::Argument>>
+    ensures roots { IfOk result (λ done. Roots (S.slots store.old) (S.slots store.new) done.0 root division.left division.separator division.node division.right) }
+    ensures free { IfOk result (λ done. (S.slots store.old).inner done.0.0 ≡ Free) }
+    ensures sums { IfOk result (λ done. SumsUpAt S.K.cmp S.Argument.is_summary ((S.slots store.new).inner done.0.0) done.1) }
+    ensures refused { OnErr result (S.slots store.new ≡ S.slots store.old) }
+    ensures handed_back { IfErr result (λ back. back ≡ division) }
+{
+    let Ok(mut node) = InnerNode::empty(store.allocator()) else {
+        return Err(division);
+    };
+    let Ok(id) = store.reserve_inner() else {
+        return Err(division);
+    };
+    let Division {
+        left,
+        separator,
+        node: child,
+        right,
+    } = division;
+    node.adopt(root, left);
+    node.push(separator, child, right);
+    match S::Argument::from_inner(node.keys(), node.arguments()) {
+        Ok(above) => {
+            store.put_back_inner(id, node);
+            Ok((id, above))
+        }
+        Err(_) => {
+            store.release_inner(id);
+            let (separator, child, right) = node.pop();
+            let left = node.set_argument(0, S::Argument::default());
+            Err(Division {
+                left,
+                separator,
+                node: child,
+                right,
+            })
+        }
+    }
+}
+
+/// Carries the node that a node was split into up the path above it. It answers the number of a new root, where the root
+/// was split too, and the root's summary. It takes memory for one node on each level that is split. Refused, it hands
+/// back what it was given.
+pub fn ascend_split<S: NodeStore>(
+    store: &mut S,
+    path: &mut VisitStack,
+    root: NodeId,
+    division: Division<S::K, S::Argument>,
+) -> Result<(Option<InnerNodeId>, S::Argument), Division<S::K, S::Argument>>
+    requires climbs { ClimbsTwo S.K.cmp S.Argument.is_summary (S.slots store.old) path.old division }
+    ensures rises { (c : ClimbsTwo S.K.cmp S.Argument.is_summary (S.slots store.old) path.old division) → c.climb.root ≡ root → IfOk result (λ top. Reaches c.climb (S.slots store.new) top.0 top.1) }
+    ensures refused { OnErr result (S.slots store.new ≡ S.slots store.old) }
+    ensures handed_back { IfErr result (λ back. back ≡ division) }
+{
+    let Some((id, place, _)) = path.pop() else {
+        let (top, above) = grow_root(store, root, division)?;
+        return Ok((Some(top), above));
+    };
+    if !store.get_inner(id).is_full() {
+        let Resummed { above, old } = link_at(store, id, place, division)?;
+        return match ascend(store, path, above) {
+            Ok(top) => Ok((None, top)),
+            Err(_) => Err(unlink_at(store, id, place, old)),
+        };
+    }
+    let Parts {
+        left,
+        up,
+        node: fresh,
+        right,
+        old,
+    } = part_at(store, id, place, division)?;
+    let above = Division {
+        left,
+        separator: up,
+        node: NodeId::Inner(fresh),
+        right,
+    };
+    match ascend_split(store, path, root, above) {
+        Ok(top) => Ok(top),
+        Err(above) => Err(unpart_at(store, id, place, above.separator, fresh, old)),
+    }
+}

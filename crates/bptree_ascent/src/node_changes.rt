@@ -1,0 +1,171 @@
+//! An inner node that takes new summaries of its children, and is asked for its own. Each change can be undone.
+ghost use Rattle.std.specs.Prelude.{◌≡◌, ◌<◌, ◌≤◌, ◌+◌, List, [], length, slice_get, Some, IfOk, IfErr, OnErr};
+ghost use Rattle.bptree_nodes.specs.Inner.{Inner, HasKeys};
+ghost use Rattle.bptree_ascent.specs.Sums.{SumsUp, with_summary, with_split, HasPlace, IsCut};
+
+use bptree_arguments::argument::Argument;
+use bptree_keys::key::Key;
+use bptree_keys::node_id::NodeId;
+use bptree_nodes::inner_node::InnerNode;
+
+/// A node that was split: a summary of what it has left, and a key before the node to its right, with that one's summary.
+#[derive(Drop)]
+pub struct Division<K, A> {
+    pub left: A,
+    pub separator: K,
+    pub node: NodeId,
+    pub right: A,
+}
+
+/// A node's summary after one of its children changed, and that child's old one.
+#[derive(Drop)]
+pub struct Resummed<A> {
+    pub above: A,
+    pub old: A,
+}
+
+/// An inner node that was split, with the part to its right, itself or by its number, and the summary that was in the
+/// child's place.
+#[derive(Drop)]
+pub struct Parts<K, A, N> {
+    pub left: A,
+    pub up: K,
+    pub node: N,
+    pub right: A,
+    pub old: A,
+}
+
+/// Puts a child's new summary in its place. It answers the node's summary and the child's old one; refused, it hands the
+/// new one back and leaves the node as it was.
+pub fn resum<K: Key, A: Argument<K>>(
+    node: &mut InnerNode<K, A>,
+    place: usize,
+    summary: A,
+) -> Result<Resummed<A>, A>
+    requires place { place < length node.old.arguments }
+    ensures after { IfOk result (λ sums. node.new ≡ with_summary node.old place summary) }
+    ensures old { IfOk result (λ sums. slice_get node.old.arguments place ≡ Some sums.old) }
+    ensures sums { IfOk result (λ sums. SumsUp K.cmp A.is_summary node.new sums.above) }
+    ensures refused { OnErr result (node.new ≡ node.old) }
+    ensures handed_back { IfErr result (λ back. back ≡ summary) }
+{
+    let old = node.set_argument(place, summary);
+    match A::from_inner(node.keys(), node.arguments()) {
+        Ok(above) => Ok(Resummed { above, old }),
+        Err(_) => Err(node.set_argument(place, old)),
+    }
+}
+
+/// Takes the node to the right of a child that was split, where there is room. It answers the node's summary and the
+/// child's old one; refused, it hands all back and leaves the node as it was.
+pub fn take_entry<K: Key, A: Argument<K>>(
+    node: &mut InnerNode<K, A>,
+    place: usize,
+    division: Division<K, A>,
+) -> Result<Resummed<A>, Division<K, A>>
+    requires place { HasPlace node.old place }
+    requires room { length node.old.keys < 64 }
+    ensures after { IfOk result (λ sums. node.new ≡ with_split node.old place division.left division.separator division.node division.right) }
+    ensures old { IfOk result (λ sums. slice_get node.old.arguments place ≡ Some sums.old) }
+    ensures sums { IfOk result (λ sums. SumsUp K.cmp A.is_summary node.new sums.above) }
+    ensures refused { OnErr result (node.new ≡ node.old) }
+    ensures handed_back { IfErr result (λ back. back ≡ division) }
+{
+    let Division {
+        left,
+        separator,
+        node: child,
+        right,
+    } = division;
+    let old = node.set_argument(place, left);
+    node.insert_at(place, separator, child, right);
+    match A::from_inner(node.keys(), node.arguments()) {
+        Ok(above) => Ok(Resummed { above, old }),
+        Err(_) => Err(give_entry(node, place, old)),
+    }
+}
+
+/// Undoes what `take_entry` did.
+pub fn give_entry<K: Key, A: Argument<K>>(
+    node: &mut InnerNode<K, A>,
+    place: usize,
+    old: A,
+) -> Division<K, A>
+    requires place { place < length node.old.keys }
+    requires children { length node.old.children ≡ length node.old.keys + 1 }
+    requires arguments { length node.old.arguments ≡ length node.old.children }
+    ensures undoes { (was : Inner K A) (division : Division K A) → HasPlace was place → slice_get was.arguments place ≡ Some old → node.old ≡ with_split was place division.left division.separator division.node division.right → (node.new ≡ was) × (result ≡ division) }
+{
+    let (separator, child, right) = node.remove_at(place);
+    let left = node.set_argument(place, old);
+    Division {
+        left,
+        separator,
+        node: child,
+        right,
+    }
+}
+
+/// Takes the node to the right of a child that was split into a full node, which is split in turn. Refused, it hands all
+/// back and leaves the node as it was.
+pub fn take_and_part<K: Key, A: Argument<K>>(
+    node: &mut InnerNode<K, A>,
+    place: usize,
+    division: Division<K, A>,
+    room: Box<InnerNode<K, A>>,
+) -> Result<Parts<K, A, Box<InnerNode<K, A>>>, Division<K, A>>
+    requires place { HasPlace node.old place }
+    requires full { length node.old.keys ≡ 64 }
+    requires shell { room.value.children ≡ [] }
+    ensures after { IfOk result (λ parts. IsCut (with_split node.old place division.left division.separator division.node division.right) node.new parts.up parts.node.value) }
+    ensures old { IfOk result (λ parts. slice_get node.old.arguments place ≡ Some parts.old) }
+    ensures left { IfOk result (λ parts. SumsUp K.cmp A.is_summary node.new parts.left) }
+    ensures right { IfOk result (λ parts. SumsUp K.cmp A.is_summary parts.node.value parts.right) }
+    ensures refused { OnErr result (node.new ≡ node.old) }
+    ensures handed_back { IfErr result (λ back. back ≡ division) }
+{
+    let Division {
+        left,
+        separator,
+        node: child,
+        right,
+    } = division;
+    let old = node.set_argument(place, left);
+    let (up, part) = node.split(place, separator, child, right, room);
+    let Ok(left) = A::from_inner(node.keys(), node.arguments()) else {
+        return Err(join_parts(node, place, up, part, old));
+    };
+    let Ok(right) = A::from_inner(part.keys(), part.arguments()) else {
+        return Err(join_parts(node, place, up, part, old));
+    };
+    Ok(Parts {
+        left,
+        up,
+        node: part,
+        right,
+        old,
+    })
+}
+
+/// Undoes what `take_and_part` did.
+pub fn join_parts<K: Key, A: Argument<K>>(
+    node: &mut InnerNode<K, A>,
+    place: usize,
+    up: K,
+    part: Box<InnerNode<K, A>>,
+    old: A,
+) -> Division<K, A>
+    requires left { HasKeys 32 node.old }
+    requires right { HasKeys 32 part.value }
+    requires place { place ≤ 64 }
+    ensures undoes { (was : Inner K A) (division : Division K A) → HasPlace was place → length was.keys ≡ 64 → slice_get was.arguments place ≡ Some old → IsCut (with_split was place division.left division.separator division.node division.right) node.old up part.value → (node.new ≡ was) × (result ≡ division) }
+{
+    let (separator, child, right) = node.join_split(place, up, part);
+    let left = node.set_argument(place, old);
+    Division {
+        left,
+        separator,
+        node: child,
+        right,
+    }
+}

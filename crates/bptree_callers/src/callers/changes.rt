@@ -1,0 +1,127 @@
+//! Callers that put and remove pairs, and write values.
+ghost use Rattle.std.specs.Prelude.{◌≡◌, ◌≢◌, ◌<◌, ◌-◌, ◌+◌, ◌^◌, ◌++◌, ◌∷◌, [], length, true, false, if◌then◌else◌, IfOk, OnErr, IfSome, OnOk, IsTrue, Some, None, slice_get};
+ghost use Rattle.bptree_keys.specs.Contents.{has, value as value_of, put, del, pairs_below, pairs_above};
+ghost use Rattle.bptree_ascent.specs.Lending.{written};
+
+use bptree_stores::node_stores::NodeStore;
+use bptree_tree::{BPlusTree, InsertError};
+use std::alloc::AllocError;
+
+// A key that is there is never refused: it takes the value, and the one before comes back.
+fn replaces<S: NodeStore>(tree: &mut BPlusTree<S>, k: S::K, v: S::V) -> S::V
+    requires { has S.K.cmp tree.old.contents k ≡ true }
+    ensures old { value_of S.K.cmp tree.old.contents k ≡ Some result }
+    ensures new { tree.new.contents ≡ written S.K.cmp k tree.old.contents v }
+{
+    match tree.insert(k, v) {
+        Ok(Some(old)) => old,
+        Ok(None) => unreachable!(),
+        Err(_) => unreachable!(),
+    }
+}
+
+// A key that is not there has no value before, and its pair comes between the smaller and the greater keys.
+fn adds<S: NodeStore>(tree: &mut BPlusTree<S>, k: S::K, v: S::V) -> bool
+    requires { has S.K.cmp tree.old.contents k ≡ false }
+    ensures added { IsTrue result → tree.new.contents ≡ pairs_below S.K.cmp tree.old.contents k ++ (k, v) ∷ pairs_above S.K.cmp tree.old.contents k }
+    ensures refused { result ≡ false → (tree.new.contents ≡ tree.old.contents) × (S.slots tree.new.store ≡ S.slots tree.old.store) }
+{
+    match tree.insert(k, v) {
+        Ok(None) => true,
+        Ok(Some(_)) => unreachable!(),
+        Err(_) => false,
+    }
+}
+
+// A tree of as many pairs as can be counted is full for a new key, and hands the pair back.
+fn is_full<S: NodeStore>(tree: &mut BPlusTree<S>, k: S::K, v: S::V) -> (S::K, S::V)
+    requires full { length tree.old.contents ≡ 2 ^ 64 - 1 }
+    requires new { has S.K.cmp tree.old.contents k ≡ false }
+    ensures pair { result ≡ (k, v) }
+    ensures contents { tree.new.contents ≡ tree.old.contents }
+{
+    match tree.insert(k, v) {
+        Err(InsertError::Full(k, v)) => (k, v),
+        _ => unreachable!(),
+    }
+}
+
+// One of fewer pairs is never full, and hands a pair back for want of memory alone. Then it is as before.
+fn has_room<S: NodeStore>(tree: &mut BPlusTree<S>, k: S::K, v: S::V) -> Option<(S::K, S::V)>
+    requires { length tree.old.contents < 2 ^ 64 - 1 }
+    ensures pair { IfSome result (λ pair. pair ≡ (k, v)) }
+    ensures contents { IfSome result (λ _. tree.new.contents ≡ tree.old.contents) }
+    ensures slots { IfSome result (λ _. S.slots tree.new.store ≡ S.slots tree.old.store) }
+    ensures root { IfSome result (λ _. (tree.new.root ≡ tree.old.root) × (tree.new.height ≡ tree.old.height) × (tree.new.root_argument ≡ tree.old.root_argument)) }
+{
+    match tree.insert(k, v) {
+        Ok(_) => None,
+        Err(InsertError::OutOfMemory(k, v)) => Some((k, v)),
+        Err(InsertError::Full(_, _)) => unreachable!(),
+    }
+}
+
+// A key that is not there leaves nothing to do, and nothing is refused.
+fn removes_nothing<S: NodeStore>(tree: &mut BPlusTree<S>, k: &S::K)
+    requires { has S.K.cmp tree.old.contents k.now ≡ false }
+    ensures contents { tree.new.contents ≡ del S.K.cmp tree.old.contents k.now }
+    ensures slots { S.slots tree.new.store ≡ S.slots tree.old.store }
+{
+    match tree.remove(k) {
+        Ok(None) => {}
+        _ => unreachable!(),
+    }
+}
+
+// One that is there leaves with its value, or nothing changes.
+fn removes<S: NodeStore>(tree: &mut BPlusTree<S>, k: &S::K) -> Option<S::V>
+    requires { has S.K.cmp tree.old.contents k.now ≡ true }
+    ensures value { IfSome result (λ value. value_of S.K.cmp tree.old.contents k.now ≡ Some value) }
+    ensures contents { IfSome result (λ _. tree.new.contents ≡ del S.K.cmp tree.old.contents k.now) }
+    ensures refused { result ≡ None → (tree.new.contents ≡ tree.old.contents) × (S.slots tree.new.store ≡ S.slots tree.old.store) × (tree.new.root ≡ tree.old.root) × (tree.new.height ≡ tree.old.height) × (tree.new.root_argument ≡ tree.old.root_argument) }
+{
+    match tree.remove(k) {
+        Ok(Some(value)) => Some(value),
+        Ok(None) => unreachable!(),
+        Err(_) => None,
+    }
+}
+
+// A tree that was cleared has no pairs. A refusal changes nothing.
+fn clears<S: NodeStore>(tree: &mut BPlusTree<S>) -> Result<(bool, usize), AllocError>
+    ensures empty { IfOk result (λ says. says ≡ (true, 0)) }
+    ensures contents { OnErr result (tree.new.contents ≡ tree.old.contents) }
+    ensures slots { OnErr result (S.slots tree.new.store ≡ S.slots tree.old.store) }
+    ensures root { OnErr result ((tree.new.root ≡ tree.old.root) × (tree.new.height ≡ tree.old.height) × (tree.new.root_argument ≡ tree.old.root_argument)) }
+{
+    tree.clear()?;
+    Ok((tree.is_empty(), tree.len()))
+}
+
+// A value is written just where the key is, and nothing else is changed.
+fn writes<S: NodeStore>(tree: &mut BPlusTree<S>, k: &S::K, v: S::V) -> bool
+    ensures there { result ≡ has S.K.cmp tree.old.contents k.now }
+    ensures written { IsTrue result → tree.new.contents ≡ written S.K.cmp k.now tree.old.contents v }
+    ensures absent { result ≡ false → tree.new ≡ tree.old }
+    ensures shape { (tree.new.root ≡ tree.old.root) × (tree.new.height ≡ tree.old.height) × (tree.new.root_argument ≡ tree.old.root_argument) }
+{
+    match tree.get_mut(k) {
+        Some(there) => {
+            *there = v;
+            true
+        }
+        None => false,
+    }
+}
+
+// A value that is only read in its place stays.
+fn reads_in_place<S: NodeStore>(tree: &mut BPlusTree<S>, k: &S::K) -> Option<S::V>
+where
+    S::V: Copy,
+    ensures { result ≡ value_of S.K.cmp tree.old.contents k.now }
+{
+    match tree.get_mut(k) {
+        Some(there) => Some(*there),
+        None => None,
+    }
+}

@@ -1,0 +1,329 @@
+//! Callers of maps.
+ghost use Rattle.std.specs.Prelude.{◌≡◌, ◌<◌, ◌≤◌, ◌-◌, ◌+◌, ◌*◌, ◌^◌, ◌∷◌, [], ℕ, length, min, true, false, slice_get, remove, if◌then◌else◌, IfOk, IfErr, OnErr, OnOk, IfSome, IsTrue, Some, None};
+ghost use Rattle.std.specs.Map.{keys_of};
+ghost use Rattle.std.specs.Ordering.{nat_cmp};
+ghost use Rattle.std.specs.Option.{option_copied, option_map};
+ghost use Rattle.bptree_arguments.specs.CountLaws.{count_below};
+ghost use Rattle.bptree_arguments.specs.Visits.{answered};
+ghost use Rattle.bptree_ascent.specs.Lending.{written};
+ghost use Rattle.bptree_keys.specs.Contents.{IsAscending, has, value as value_of, put, del, gather};
+ghost use Rattle.bptree_keys.specs.Ranges.{between};
+ghost use Rattle.bptree_nodes.specs.Leaf.{set_value_at};
+
+use bptree_arguments::argument::{Argument, RankArgument, SearchArgument};
+use bptree_arguments::count::Count;
+use bptree_arguments::visit::{DescendError, DescendVisit};
+use bptree_keys::key::Key;
+use bptree_maps::map::BPlusTreeMap;
+use bptree_stores::node_store_vec::NodeStoreVec;
+use bptree_tree::{BPlusTree, InsertError, SelectError};
+use std::alloc::{AllocError, Global};
+
+// A new map has no pairs, and says so, whichever way it is made.
+fn starts_empty<K: Key, V: Drop, A: Argument<K>>(
+    alloc: Global,
+    k: &K,
+) -> Result<(bool, usize, bool), AllocError>
+    ensures { IfOk result (λ says. says ≡ (true, 0, false)) }
+{
+    let map = BPlusTreeMap::<K, V, A>::new(alloc)?;
+    Ok((map.is_empty(), map.len(), map.get(k).is_some()))
+}
+
+fn starts_empty_by_default<K: Key, V: Drop, A: Argument<K>>(
+    alloc: Global,
+) -> Result<bool, AllocError>
+    ensures { IfOk result (λ says. says ≡ true) }
+{
+    Ok(BPlusTreeMap::<K, V, A>::default(alloc)?.is_empty())
+}
+
+// A look-up makes at most seven comparisons on each level, of which there are few, and two of the remembered leaf.
+fn counts_a_look_up<'a, K: Key, V: Drop, A: Argument<K>>(
+    map: &'a BPlusTreeMap<K, V, A>,
+    k: &K,
+) -> (Option<&'a V>, usize)
+    ensures value { option_copied result.0 ≡ value_of K.cmp map.now k.now }
+    ensures count { (h : ℕ) × (h ≤ 15) × (0 < h → 32 * 17 ^ (h - 1) ≤ length map.now) × (result.1 ≤ 7 * (h + 1) + 2) }
+    ensures most { result.1 ≤ 114 }
+{
+    map.get_counted(k)
+}
+
+// Of pairs in any order the last of each key is held.
+fn gathers<K: Key, V: Drop, A: Argument<K>>(
+    alloc: Global,
+    pairs: Vec<(K, V)>,
+) -> Result<BPlusTreeMap<K, V, A>, AllocError>
+    ensures { IfOk result (λ map. map ≡ gather K.cmp pairs.items) }
+{
+    BPlusTreeMap::from_iter(alloc, pairs)
+}
+
+// What is given out by a map is taken in again as it was.
+fn is_gathered_again<K: Key, V: Copy + Drop, A: Argument<K>>(
+    alloc: Global,
+    map: &BPlusTreeMap<K, V, A>,
+) -> Result<BPlusTreeMap<K, V, A>, AllocError>
+where
+    K: Copy,
+    ensures { IfOk result (λ copy. copy ≡ gather K.cmp map.now) }
+{
+    BPlusTreeMap::from_iter(alloc, map.iter().map(|(k, v)| (*k, *v)))
+}
+
+// The number of pairs, whose keys ascend.
+fn counts_ascending_pairs<K: Key, V: Drop, A: Argument<K>>(map: &BPlusTreeMap<K, V, A>) -> usize
+    ensures { IsAscending K.cmp map.now × (length map.now ≡ result) }
+{
+    map.len()
+}
+
+// A key is found just where one equals it.
+fn finds_just_what_is_there<K: Key, V: Drop, A: Argument<K>>(
+    map: &BPlusTreeMap<K, V, A>,
+    k: &K,
+) -> bool
+    ensures { result ≡ has K.cmp map.now k.now }
+{
+    map.get(k).is_some()
+}
+
+// A key that is there is never refused: it takes the value, and the one before comes back.
+fn replaces<K: Key, V: Drop, A: Argument<K>>(map: &mut BPlusTreeMap<K, V, A>, k: K, v: V) -> V
+    requires { has K.cmp map.old k ≡ true }
+    ensures old { value_of K.cmp map.old k ≡ Some result }
+    ensures new { map.new ≡ written K.cmp k map.old v }
+{
+    match map.insert(k, v) {
+        Ok(Some(old)) => old,
+        Ok(None) => unreachable!(),
+        Err(_) => unreachable!(),
+    }
+}
+
+// A map of fewer pairs than can be counted is never full, and hands a pair back for want of memory alone. Then it is as it was.
+fn adds<K: Key, V: Drop, A: Argument<K>>(
+    map: &mut BPlusTreeMap<K, V, A>,
+    k: K,
+    v: V,
+) -> Option<(K, V)>
+    requires { length map.old < 2 ^ 64 - 1 }
+    ensures added { result ≡ None → map.new ≡ put K.cmp map.old k v }
+    ensures pair { IfSome result (λ pair. pair ≡ (k, v)) }
+    ensures refused { IfSome result (λ _. map.new ≡ map.old) }
+{
+    match map.insert(k, v) {
+        Ok(_) => None,
+        Err(InsertError::OutOfMemory(k, v)) => Some((k, v)),
+        Err(InsertError::Full(_, _)) => unreachable!(),
+    }
+}
+
+// One of as many pairs as can be counted is full for a new key.
+fn is_full<K: Key, V: Drop, A: Argument<K>>(map: &mut BPlusTreeMap<K, V, A>, k: K, v: V) -> (K, V)
+    requires full { length map.old ≡ 2 ^ 64 - 1 }
+    requires new { has K.cmp map.old k ≡ false }
+    ensures pair { result ≡ (k, v) }
+    ensures pairs { map.new ≡ map.old }
+{
+    match map.insert(k, v) {
+        Err(InsertError::Full(k, v)) => (k, v),
+        _ => unreachable!(),
+    }
+}
+
+// A value is written just where the key is, and nothing else is changed.
+fn writes<K: Key, V: Drop, A: Argument<K>>(map: &mut BPlusTreeMap<K, V, A>, k: &K, v: V) -> bool
+    ensures there { result ≡ has K.cmp map.old k.now }
+    ensures written { IsTrue result → map.new ≡ written K.cmp k.now map.old v }
+    ensures absent { result ≡ false → map.new ≡ map.old }
+{
+    match map.get_mut(k) {
+        Some(there) => {
+            *there = v;
+            true
+        }
+        None => false,
+    }
+}
+
+// A key that is not there leaves nothing to do, and nothing is refused.
+fn removes_nothing<K: Key, V: Drop, A: Argument<K>>(map: &mut BPlusTreeMap<K, V, A>, k: &K)
+    requires { has K.cmp map.old k.now ≡ false }
+    ensures { map.new ≡ del K.cmp map.old k.now }
+{
+    match map.remove(k) {
+        Ok(None) => {}
+        _ => unreachable!(),
+    }
+}
+
+// One that is there leaves with its value, or nothing changes.
+fn removes<K: Key, V: Drop, A: Argument<K>>(map: &mut BPlusTreeMap<K, V, A>, k: &K) -> Option<V>
+    requires { has K.cmp map.old k.now ≡ true }
+    ensures value { IfSome result (λ value. value_of K.cmp map.old k.now ≡ Some value) }
+    ensures pairs { IfSome result (λ _. map.new ≡ del K.cmp map.old k.now) }
+    ensures refused { result ≡ None → map.new ≡ map.old }
+{
+    match map.remove(k) {
+        Ok(Some(value)) => Some(value),
+        Ok(None) => unreachable!(),
+        Err(_) => None,
+    }
+}
+
+// The first pair comes from the front, and the last from the back.
+fn begins_with_the_first<K: Key, V: Drop, A: Argument<K>>(
+    map: &BPlusTreeMap<K, V, A>,
+) -> (Option<(&K, &V)>, Option<(&K, &V)>, usize)
+    requires { 1 < length map.now }
+    ensures front { option_map (λ pair. (pair.0.now, pair.1.now)) result.0 ≡ slice_get map.now 0 }
+    ensures back { option_map (λ pair. (pair.0.now, pair.1.now)) result.1 ≡ slice_get map.now (length map.now - 1) }
+    ensures left { result.2 ≡ length map.now - 2 }
+{
+    let mut pairs = map.iter();
+    let first = pairs.next();
+    let last = pairs.next_back();
+    (first, last, pairs.len())
+}
+
+// An iterator says just how many pairs are left.
+fn says_how_many_are_left<K: Key, V: Drop, A: Argument<K>>(
+    map: &BPlusTreeMap<K, V, A>,
+) -> (usize, Option<usize>)
+    ensures { result ≡ (length map.now, Some (length map.now)) }
+{
+    map.iter().size_hint()
+}
+
+// It tells how many pairs are below a key, and the last of them comes from the back.
+fn gives_the_last_below<'a, K: Key, V: Drop, A: Argument<K>>(
+    map: &'a BPlusTreeMap<K, V, A>,
+    hi: &K,
+) -> (usize, Option<(&'a K, &'a V)>)
+    ensures len { result.0 ≡ length (between K.cmp map.now None (Some hi.now)) }
+    ensures last { option_map (λ pair. (pair.0.now, pair.1.now)) result.1 ≡ slice_get (between K.cmp map.now None (Some hi.now)) (result.0 - 1) }
+{
+    let mut pairs = map.range(None, Some(hi));
+    let len = pairs.len();
+    (len, pairs.next_back())
+}
+
+// The summary of all keys is a count where the argument is one.
+fn counts_all_keys(map: &BPlusTreeMap<u64, u64, Count>) -> usize
+    ensures { result ≡ length map.now }
+{
+    map.root_argument().count()
+}
+
+// By a count the pair at a place is found, and none past the end.
+fn finds_the_pair_at_a_place(
+    map: &BPlusTreeMap<u64, u64, Count>,
+    place: usize,
+) -> Result<Option<(&u64, &u64)>, AllocError>
+    ensures { IfOk result (λ found. option_map (λ pair. (pair.0.now, pair.1.now)) found ≡ slice_get map.now place) }
+{
+    map.get_by_argument(place)
+}
+
+// By a count so many pairs are given from a place on, or those that are left there.
+fn counts_the_pairs_from_a_place(
+    map: &BPlusTreeMap<u64, u64, Count>,
+    place: usize,
+    n: usize,
+) -> Result<usize, AllocError>
+    ensures { IfOk result (λ len. len ≡ min n (length map.now - place)) }
+{
+    Ok(map.range_by_argument(place, n)?.len())
+}
+
+// By a count the rank of a key is how many keys are smaller, and tells whether the key is there.
+fn ranks_by_the_smaller_keys(
+    map: &BPlusTreeMap<u64, u64, Count>,
+    k: &u64,
+) -> Result<(bool, usize), AllocError>
+    ensures { IfOk result (λ rank. rank ≡ (has nat_cmp map.now k.now, count_below nat_cmp k.now (keys_of map.now))) }
+{
+    match map.rank_by_argument(k)? {
+        Ok(rank) => Ok((true, rank)),
+        Err(rank) => Ok((false, rank)),
+    }
+}
+
+// The pair at a place that there is leaves, and those behind it move up.
+fn takes_the_pair_at_a_place(
+    map: &mut BPlusTreeMap<u64, u64, Count>,
+    place: usize,
+) -> Result<(u64, u64), AllocError>
+    requires { place < length map.old }
+    ensures pair { IfOk result (λ pair. slice_get map.old place ≡ Some pair) }
+    ensures others { OnOk result (map.new ≡ remove map.old place) }
+    ensures refused { OnErr result (map.new ≡ map.old) }
+{
+    match map.remove_by_argument(place)? {
+        Some(pair) => Ok(pair),
+        None => unreachable!(),
+    }
+}
+
+// A value is written at an allowed place, and no key changes. Where the query is refused, nothing does.
+fn writes_by_a_query<K: Key, V: Drop, A: SearchArgument<K>>(
+    map: &mut BPlusTreeMap<K, V, A>,
+    query: A::Query,
+    v: V,
+) -> Result<(), SelectError>
+    ensures written { OnOk result ((i : ℕ) × A.selects query (keys_of map.old) (Some i) × (map.new ≡ set_value_at map.old i v)) }
+    ensures refused { OnErr result (map.new ≡ map.old) }
+    ensures absent { IfErr result (λ error. error ≡ SelectError.NotFound → A.selects query (keys_of map.old) None) }
+{
+    match map.get_mut_by_argument(query) {
+        Ok(there) => {
+            *there = v;
+            Ok(())
+        }
+        Err(error) => Err(error),
+    }
+}
+
+// What a visitor answers, it may answer.
+fn is_visited<K: Key, V: Drop, A: Argument<K>, W: DescendVisit<K, V, A>>(
+    map: &BPlusTreeMap<K, V, A>,
+    visitor: W,
+) -> Result<Option<W::Result>, DescendError>
+    ensures { IfOk result (λ answer. W.answers visitor map.now (answered answer)) }
+{
+    map.descend_visit(visitor)
+}
+
+// The tree inside has as many pairs, and finds what the map finds.
+fn has_the_pairs_of_its_tree<K: Key, V: Copy + Drop, A: Argument<K>>(
+    map: &BPlusTreeMap<K, V, A>,
+    k: &K,
+) -> (Option<V>, Option<V>)
+    ensures { result.0 ≡ result.1 }
+{
+    (map.get(k).copied(), map.tree().get(k).copied())
+}
+
+fn change<K: Key, V: Drop, A: Argument<K>>(
+    tree: &mut BPlusTree<NodeStoreVec<K, V, A>>,
+    k: K,
+    v: V,
+) -> bool
+    ensures put { IsTrue result → tree.new.contents ≡ put K.cmp tree.old.contents k v }
+    ensures refused { result ≡ false → tree.new.contents ≡ tree.old.contents }
+{
+    tree.insert(k, v).is_ok()
+}
+
+// What is put into the tree inside is in the map.
+fn puts_into_its_tree<K: Key, V: Drop, A: Argument<K>>(
+    map: &mut BPlusTreeMap<K, V, A>,
+    k: K,
+    v: V,
+) -> bool
+    ensures { IsTrue result → map.new ≡ put K.cmp map.old k v }
+{
+    change(map.tree_mut(), k, v)
+}

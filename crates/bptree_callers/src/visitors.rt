@@ -1,0 +1,67 @@
+//! Visitors.
+ghost use Rattle.std.specs.Prelude.{⊤};
+ghost use Rattle.bptree_callers.specs.Depths.{IsDepth};
+
+use bptree_arguments::argument::Argument;
+use bptree_arguments::visit::{DescendVisit, DescendVisitResult};
+use bptree_keys::key::Key;
+use std::alloc::AllocError;
+
+/// Counts the nodes on the way to the first leaf. Any number from 1 on is allowed.
+#[derive(Drop)]
+pub struct GetTreeDepth(usize);
+
+impl GetTreeDepth {
+    pub fn new() -> Self {
+        GetTreeDepth(0)
+    }
+}
+
+impl<K: Key, V, A: Argument<K>> DescendVisit<K, V, A> for GetTreeDepth {
+    type Result = usize;
+
+    ghost answers = { λ _ _ answer. IsDepth answer };
+
+    fn visit_inner(
+        &mut self,
+        _keys: &[K],
+        _arguments: &[A],
+    ) -> Result<DescendVisitResult<usize>, AllocError> {
+        self.0 = self.0.saturating_add(1);
+        Ok(DescendVisitResult::GoDown(0))
+    }
+
+    fn visit_leaf(&mut self, _keys: &[K], _values: &[V]) -> Result<Option<usize>, AllocError> {
+        Ok(Some(self.0.saturating_add(1)))
+    }
+}
+
+/// Says the same at each inner node, and at a leaf how many keys it has. Every answer is allowed.
+#[derive(Drop)]
+pub enum Says {
+    Child(usize),
+    Nothing,
+    Number(usize),
+}
+
+impl<K: Key, V, A: Argument<K>> DescendVisit<K, V, A> for Says {
+    type Result = usize;
+
+    ghost answers = { λ _ _ _. ⊤ };
+
+    fn visit_inner(
+        &mut self,
+        _keys: &[K],
+        _arguments: &[A],
+    ) -> Result<DescendVisitResult<usize>, AllocError> {
+        Ok(match self {
+            Says::Child(place) => DescendVisitResult::GoDown(*place),
+            Says::Nothing => DescendVisitResult::Cancel,
+            Says::Number(number) => DescendVisitResult::Complete(*number),
+        })
+    }
+
+    fn visit_leaf(&mut self, keys: &[K], _values: &[V]) -> Result<Option<usize>, AllocError> {
+        Ok(Some(keys.len()))
+    }
+}

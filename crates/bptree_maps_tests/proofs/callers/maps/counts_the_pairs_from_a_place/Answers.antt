@@ -1,6 +1,0 @@
-use Rattle.std.proofs.Common.{◌∙◌}
-use Rattle.bptree_maps_tests.proofs.PartLemmas.{part_len}
-use Rattle.bptree_maps_tests.proofs.callers.maps.counts_the_pairs_from_a_place.Goals as goal
-
-pub returns : goal.returns
-returns c = c.len.ensures.value ∙ part_len c.args.map.now c.args.place c.args.n _ c.in_ok-range_by_argument.ensures.rest

@@ -1,0 +1,5 @@
+pub mod Children
+pub mod Ends
+pub mod GroupItems
+pub mod Groups
+pub mod StepLemmas

@@ -1,0 +1,18 @@
+use Rattle.std.proofs.Common.{◌<◌, ◌^◌, [], ◌∷◌, ◌++◌, length, append-nil}
+use Rattle.std.specs.List.Sorted.{IsStrictlySortedBy}
+use Rattle.bptree_arguments.specs.Ranks.{AllBelow}
+use Rattle.bptree_parts_tests.proofs.callers.arguments.ranks_behind_one_leaf.Goals as goal
+
+pub returns-clause-ranked : goal.returns-clause-ranked
+returns-clause-ranked g c =
+    let k = c.args.k.now in
+    let before = c.args.before.now in
+    let keys = c.args.keys.now in
+    let sorted : IsStrictlySortedBy g.K.Ord.cmp (before ++ []) = rw (append-nil before) c.requires.before in
+    let below : AllBelow g.K.Ord.cmp k (before ++ []) = rw (append-nil before) c.requires.below in
+    let few : length (before ++ []) < 2 ^ 64 = rw (append-nil before) c.requires.before_fits in
+    let start = c.initial_value.ensures.stands k in
+    let stands = c.in_ok-rank.ensures.carries [] (before ∷ []) (c.requires.nonempty, tt) c.requires.summaries sorted below few start in
+    let all_sorted : IsStrictlySortedBy g.K.Ord.cmp (before ++ (keys ++ [])) = rw (append-nil keys) c.requires.ascending in
+    let all_fit : length (before ++ (keys ++ [])) < 2 ^ 64 = rw (append-nil keys) c.requires.fits in
+    rw (append-nil keys) at (c.in_ok-answer.ensures.ranked before [] all_sorted c.requires.below tt all_fit (rw (append-nil before) at stands))

@@ -1,0 +1,18 @@
+//! Callers that are proved: what each ensures follows from the contracts of the functions that it calls.
+
+mod arguments;
+mod contents;
+mod counts;
+mod dedup;
+mod group_answers;
+mod groups;
+mod inner;
+mod leaf;
+mod loading;
+mod merging;
+mod numbers;
+mod pairs;
+mod paths;
+mod requests;
+mod searches;
+pub mod stores;

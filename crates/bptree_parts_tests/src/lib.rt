@@ -1,0 +1,24 @@
+//! Tests of what a B+ tree is made of: its numbers, its nodes and their stores, summaries, loading and merging; and callers of
+//! these and of requests.
+#![tactic(auto)]
+
+#[cfg(test)]
+mod callers;
+#[cfg(test)]
+mod count_tests;
+#[cfg(test)]
+mod group_answer_tests;
+#[cfg(test)]
+mod group_tests;
+#[cfg(test)]
+mod inner_tests;
+#[cfg(test)]
+mod leaf_tests;
+#[cfg(test)]
+mod loading_tests;
+#[cfg(test)]
+mod merge_tests;
+#[cfg(test)]
+mod number_tests;
+#[cfg(test)]
+mod store_tests;

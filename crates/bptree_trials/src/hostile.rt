@@ -1,0 +1,51 @@
+//! Hostile use: odd keys, false hints, foreign visitors, and calls in no order beside a plain list.
+
+mod calls;
+mod dice;
+mod drawing;
+mod forgetful;
+mod holds;
+mod plain;
+mod rounds;
+mod rows;
+
+use crate::hostile::rounds::Counted;
+use std::alloc::{AllocError, Global};
+
+// What a byte names: a tree of known pairs, or calls in no order. There a capital letter stands for many keys, of which few
+// come twice.
+fn name_of(letter: u8) -> &'static str {
+    match letter {
+        b'a' => "false hints",
+        b'b' => "no hint",
+        b'c' => "visitors out of range",
+        b'd' => "a hundred thousand pairs",
+        b't' | b'T' => "trees of numbers",
+        b's' | b'S' => "trees of strings",
+        b'm' | b'M' => "a map of numbers",
+        b'w' | b'W' => "a map of strings",
+        b'k' | b'K' => "a set of numbers",
+        b'l' | b'L' => "a set of strings",
+        _ => "nothing",
+    }
+}
+
+// Whether what a byte names went well.
+fn carry_out(alloc: Global, letter: u8, seed: u64) -> Result<bool, AllocError> {
+    match letter {
+        b'a' | b'b' | b'c' | b'd' => rows::known_pairs::<Counted<u64>>(alloc, letter),
+        b't' | b'T' | b'm' | b'M' | b'k' | b'K' => rounds::no_order::<u64>(alloc, letter, seed),
+        b's' | b'S' | b'w' | b'W' | b'l' | b'L' => rounds::no_order::<String>(alloc, letter, seed),
+        _ => Ok(false),
+    }
+}
+
+/// Carries out what a byte names, and prints how it went, which is the answer.
+pub fn is_well(rt: &HostRuntime, letter: u8, seed: u64) -> bool {
+    let (name, well) = match carry_out(rt.alloc(), letter, seed) {
+        Ok(well) => (name_of(letter), well),
+        Err(_) => ("out of memory", false),
+    };
+    let word = if well { "ok" } else { "failed" };
+    println!(rt; "{name}: {word}").is_ok() && well
+}

@@ -1,0 +1,192 @@
+//! The calls of maps and sets, by numbers.
+
+use crate::hostile::dice::Sample;
+use crate::hostile::drawing::{Talk, is_same, numbers, own_numbers};
+use crate::hostile::holds::number;
+use crate::hostile::plain::{Answered, Asked};
+use std::alloc::{AllocError, Global};
+use sweep_bptree::script::{Command, Reply};
+use sweep_bptree::tree::count::Count;
+use sweep_bptree::tree::{RankArgument, SearchArgument};
+use sweep_bptree::{BPlusTreeMap, BPlusTreeSet};
+
+/// The calls of a map and of a set. The keys of a set have the value 0.
+pub trait Calls {
+    fn put(&mut self, alloc: Global, key: u64, value: u64) -> Result<Option<u64>, AllocError>;
+
+    fn take(&mut self, alloc: Global, key: u64) -> Result<Option<u64>, AllocError>;
+
+    fn value(&self, alloc: Global, key: u64) -> Result<Option<u64>, AllocError>;
+
+    fn count(&self) -> usize;
+
+    /// What other commands are answered.
+    fn others(&mut self, alloc: Global, asked: &Asked) -> Result<Answered, AllocError>;
+}
+
+/// The calls of a map by a place, and those that write a value.
+pub trait Places {
+    fn take_at(&mut self, place: usize) -> Result<Option<(u64, u64)>, AllocError>;
+
+    fn write(&mut self, alloc: Global, key: u64, value: u64) -> Result<bool, AllocError>;
+
+    fn write_at(&mut self, place: usize, value: u64) -> bool;
+
+    fn at(&self, place: usize) -> Result<Option<(u64, u64)>, AllocError>;
+
+    fn rank(&self, alloc: Global, key: u64) -> Result<Result<usize, usize>, AllocError>;
+}
+
+/// A summary that tells a number of keys.
+pub trait Counts {
+    fn told(&self) -> usize;
+}
+
+impl Counts for Count {
+    fn told(&self) -> usize {
+        self.count()
+    }
+}
+
+// What a command is answered.
+fn answer<C: Calls>(alloc: Global, calls: &mut C, asked: &Asked) -> Result<Answered, AllocError> {
+    Ok(match asked {
+        Command::Insert(key, value) => Reply::Value(calls.put(alloc, *key, *value)?),
+        Command::Remove(key) => Reply::Value(calls.take(alloc, *key)?),
+        Command::Get(key) => Reply::Value(calls.value(alloc, *key)?),
+        Command::Len => Reply::Number(calls.count()),
+        _ => calls.others(alloc, asked)?,
+    })
+}
+
+// What a command by a place is answered, or one that writes a value.
+fn answer_at<P: Places>(
+    alloc: Global,
+    places: &mut P,
+    asked: &Asked,
+) -> Result<Answered, AllocError> {
+    Ok(match asked {
+        Command::RemoveAt(place) => Reply::Pair(places.take_at(*place)?),
+        Command::Set(key, value) => Reply::Done(places.write(alloc, *key, *value)?),
+        Command::SetAt(place, value) => Reply::Done(places.write_at(*place, *value)),
+        Command::At(place) => Reply::Pair(places.at(*place)?),
+        Command::Rank(key) => Reply::Rank(places.rank(alloc, *key)?),
+        _ => Reply::NoCursor,
+    })
+}
+
+/// Whether the commands are answered, by one call each, as they have to be.
+pub fn carry_out<C: Calls>(alloc: Global, calls: &mut C, talk: &Talk) -> Result<bool, AllocError> {
+    let mut well = talk.asked.len() == talk.wanted.len();
+    for (asked, wanted) in talk.asked.iter().zip(&talk.wanted) {
+        well = is_same(&answer(alloc, calls, asked)?, wanted) && well;
+    }
+    Ok(well)
+}
+
+impl<K: Sample, A> Places for BPlusTreeMap<K, u64, A>
+where
+    A: SearchArgument<K, Query = usize> + RankArgument<K, Rank = usize>,
+{
+    fn take_at(&mut self, place: usize) -> Result<Option<(u64, u64)>, AllocError> {
+        Ok(own_numbers(&self.remove_by_argument(place)?))
+    }
+
+    fn write(&mut self, alloc: Global, key: u64, value: u64) -> Result<bool, AllocError> {
+        let key = K::sample(alloc, key)?;
+        Ok(match self.get_mut(&key) {
+            Some(written) => {
+                *written = value;
+                true
+            }
+            None => false,
+        })
+    }
+
+    fn write_at(&mut self, place: usize, value: u64) -> bool {
+        match self.get_mut_by_argument(place) {
+            Ok(written) => {
+                *written = value;
+                true
+            }
+            Err(_) => false,
+        }
+    }
+
+    fn at(&self, place: usize) -> Result<Option<(u64, u64)>, AllocError> {
+        Ok(numbers(self.get_by_argument(place)?))
+    }
+
+    fn rank(&self, alloc: Global, key: u64) -> Result<Result<usize, usize>, AllocError> {
+        self.rank_by_argument(&K::sample(alloc, key)?)
+    }
+}
+
+impl<K: Sample, A> Calls for BPlusTreeMap<K, u64, A>
+where
+    A: SearchArgument<K, Query = usize> + RankArgument<K, Rank = usize> + Counts,
+{
+    fn put(&mut self, alloc: Global, key: u64, value: u64) -> Result<Option<u64>, AllocError> {
+        match self.insert(K::sample(alloc, key)?, value) {
+            Ok(old) => Ok(old),
+            Err(_) => Err(AllocError),
+        }
+    }
+
+    fn take(&mut self, alloc: Global, key: u64) -> Result<Option<u64>, AllocError> {
+        self.remove(&K::sample(alloc, key)?)
+    }
+
+    fn value(&self, alloc: Global, key: u64) -> Result<Option<u64>, AllocError> {
+        Ok(self.get(&K::sample(alloc, key)?).copied())
+    }
+
+    // None of a list is so long, if its summary tells another number.
+    fn count(&self) -> usize {
+        if self.root_argument().told() == self.len() {
+            self.len()
+        } else {
+            usize::MAX
+        }
+    }
+
+    fn others(&mut self, alloc: Global, asked: &Asked) -> Result<Answered, AllocError> {
+        answer_at(alloc, self, asked)
+    }
+}
+
+impl<K: Sample> Calls for BPlusTreeSet<K> {
+    fn put(&mut self, alloc: Global, key: u64, _value: u64) -> Result<Option<u64>, AllocError> {
+        match self.insert(K::sample(alloc, key)?) {
+            Ok(true) => Ok(None),
+            Ok(false) => Ok(Some(0)),
+            Err(_) => Err(AllocError),
+        }
+    }
+
+    fn take(&mut self, alloc: Global, key: u64) -> Result<Option<u64>, AllocError> {
+        let was_there = self.remove(&K::sample(alloc, key)?)?;
+        Ok(if was_there { Some(0) } else { None })
+    }
+
+    fn value(&self, alloc: Global, key: u64) -> Result<Option<u64>, AllocError> {
+        let is_there = self.contains(&K::sample(alloc, key)?);
+        Ok(if is_there { Some(0) } else { None })
+    }
+
+    fn count(&self) -> usize {
+        self.len()
+    }
+
+    // The least key, or the greatest.
+    fn others(&mut self, _alloc: Global, asked: &Asked) -> Result<Answered, AllocError> {
+        let key = match asked {
+            Command::First => number(self.first()),
+            _ => number(self.last()),
+        };
+        Ok(Reply::Pair(match key {
+            Some(key) => Some((key, 0)),
+            None => None,
+        }))
+    }
+}

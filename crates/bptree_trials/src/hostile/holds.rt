@@ -1,0 +1,268 @@
+//! Trees, maps and sets, each asked by lists of commands on numbers.
+
+use crate::hostile::calls::{Counts, carry_out};
+use crate::hostile::dice::Sample;
+use crate::hostile::drawing::{Kinds, Talk, are_same, numbers, own_numbers};
+use crate::hostile::plain::{Asked, Plain};
+use crate::hostile::rows::loaded;
+use std::alloc::{AllocError, Global};
+use std::mem;
+use sweep_bptree::script::{Command, run};
+use sweep_bptree::tree::{BPlusTree, CloneArgument, NodeStore, RankArgument, SearchArgument};
+use sweep_bptree::{BPlusTreeMap, BPlusTreeSet, CloneStore};
+
+/// What holds pairs, and is empty at first. Each call answers false where a reply or what is held is not as the list has it.
+pub trait Holds: Drop {
+    fn begin(alloc: Global) -> Result<Self, AllocError>;
+
+    /// What is asked in a turn.
+    fn kinds(turn: u64) -> Kinds;
+
+    /// Whether the commands are answered as they have to be.
+    fn answers(&mut self, alloc: Global, talk: Talk) -> Result<bool, AllocError>;
+
+    /// Now and then another one with the same pairs goes on in its place.
+    fn renews(&mut self, alloc: Global, plain: &Plain, turn: u64) -> Result<bool, AllocError>;
+
+    /// Whether the pairs are those of the list.
+    fn shows(&self, alloc: Global, plain: &Plain) -> Result<bool, AllocError>;
+}
+
+// The key that a number makes, if there is one.
+fn some_key<K: Sample>(alloc: Global, number: &Option<u64>) -> Result<Option<K>, AllocError> {
+    match number {
+        Some(number) => Ok(Some(K::sample(alloc, *number)?)),
+        None => Ok(None),
+    }
+}
+
+// The command on keys that are made of the numbers.
+fn on_keys<K: Sample>(alloc: Global, asked: Asked) -> Result<Command<K, u64, usize>, AllocError> {
+    Ok(match asked {
+        Command::Insert(key, value) => Command::Insert(K::sample(alloc, key)?, value),
+        Command::Remove(key) => Command::Remove(K::sample(alloc, key)?),
+        Command::RemoveAt(place) => Command::RemoveAt(place),
+        Command::Clear => Command::Clear,
+        Command::Get(key) => Command::Get(K::sample(alloc, key)?),
+        Command::Set(key, value) => Command::Set(K::sample(alloc, key)?, value),
+        Command::SetAt(place, value) => Command::SetAt(place, value),
+        Command::First => Command::First,
+        Command::Last => Command::Last,
+        Command::Len => Command::Len,
+        Command::At(place) => Command::At(place),
+        Command::Rank(key) => Command::Rank(K::sample(alloc, key)?),
+        Command::Cursor(key) => Command::Cursor(K::sample(alloc, key)?),
+        Command::CursorFirst => Command::CursorFirst,
+        Command::CursorLast => Command::CursorLast,
+        Command::Next(number) => Command::Next(number),
+        Command::Prev(number) => Command::Prev(number),
+        Command::Exists(number) => Command::Exists(number),
+        Command::Value(number) => Command::Value(number),
+        Command::Walk(word) => Command::Walk(word),
+        Command::Range(lo, hi, word) => {
+            Command::Range(some_key(alloc, &lo)?, some_key(alloc, &hi)?, word)
+        }
+        Command::RangeAt(place, count, word) => Command::RangeAt(place, count, word),
+    })
+}
+
+fn all_on_keys<K: Sample>(
+    alloc: Global,
+    asked: Vec<Asked>,
+) -> Result<Vec<Command<K, u64, usize>>, AllocError> {
+    let mut commands = Vec::new(alloc);
+    for command in asked {
+        commands.push(on_keys(alloc, command)?)?;
+    }
+    Ok(commands)
+}
+
+// Pairs whose keys are made of the numbers.
+fn pairs_on_keys<K: Sample>(
+    alloc: Global,
+    numbers: &[(u64, u64)],
+) -> Result<Vec<(K, u64)>, AllocError> {
+    let mut pairs = Vec::new(alloc);
+    for (key, value) in numbers {
+        pairs.push((K::sample(alloc, *key)?, *value))?;
+    }
+    Ok(pairs)
+}
+
+/// A run of commands on a tree.
+pub fn runs<S: NodeStore<V = u64>>(
+    alloc: Global,
+    tree: &mut BPlusTree<S>,
+    talk: Talk,
+) -> Result<bool, AllocError>
+where
+    S::K: Sample,
+    S::Argument: SearchArgument<S::K, Query = usize> + RankArgument<S::K, Rank = usize>,
+{
+    let commands = all_on_keys(alloc, talk.asked)?;
+    let (replies, error) = run(alloc, tree, commands);
+    Ok(error.is_none() && are_same(&replies, &talk.wanted))
+}
+
+// Whether a tree has the pairs of a list: two are taken from the front for each from the back.
+fn has_all<S: NodeStore<V = u64>>(tree: &BPlusTree<S>, plain: &Plain) -> bool
+where
+    S::K: Sample,
+{
+    let mut pairs = tree.iter();
+    let mut front: usize = 0;
+    let mut back = plain.len();
+    let mut well = pairs.len() == back && tree.len() == back;
+    for turn in 0..plain.len() {
+        if turn % 3 == 2 {
+            back = back.saturating_sub(1);
+            well = plain.pair_at(back) == numbers(pairs.next_back()) && well;
+        } else {
+            well = plain.pair_at(front) == numbers(pairs.next()) && well;
+            front = front.saturating_add(1);
+        }
+    }
+    well && pairs.next().is_none() && pairs.next_back().is_none()
+}
+
+// The pairs of a tree that is given away, from the back.
+fn gives_back<S: NodeStore<V = u64>>(tree: BPlusTree<S>, plain: &Plain) -> bool
+where
+    S::K: Sample,
+{
+    let mut pairs = tree.into_iter();
+    let mut left = plain.len();
+    let mut well = pairs.len() == left;
+    for _ in 0..plain.len() {
+        left = left.saturating_sub(1);
+        well = plain.pair_at(left) == own_numbers(&pairs.next_back()) && well;
+    }
+    pairs.next().is_none() && well
+}
+
+impl<S: CloneStore<V = u64>> Holds for BPlusTree<S>
+where
+    S::K: Sample,
+    S::Argument: SearchArgument<S::K, Query = usize>
+        + RankArgument<S::K, Rank = usize>
+        + CloneArgument<S::K>,
+{
+    fn begin(alloc: Global) -> Result<Self, AllocError> {
+        BPlusTree::new(S::empty(alloc))
+    }
+
+    fn kinds(_turn: u64) -> Kinds {
+        Kinds::Tree
+    }
+
+    fn answers(&mut self, alloc: Global, talk: Talk) -> Result<bool, AllocError> {
+        runs(alloc, self, talk)
+    }
+
+    // It is a clone, or one that is loaded with what the list holds, each pair after one of the same key with another value.
+    fn renews(&mut self, alloc: Global, plain: &Plain, turn: u64) -> Result<bool, AllocError> {
+        let next = match turn % 5 {
+            0 => self.clone()?,
+            1 => loaded(alloc, pairs_on_keys(alloc, &plain.doubled()?)?)?,
+            _ => return Ok(true),
+        };
+        let before = mem::replace(self, next);
+        Ok(gives_back(before, plain))
+    }
+
+    fn shows(&self, _alloc: Global, plain: &Plain) -> Result<bool, AllocError> {
+        Ok(has_all(self, plain))
+    }
+}
+
+impl<K: Sample, A> Holds for BPlusTreeMap<K, u64, A>
+where
+    A: SearchArgument<K, Query = usize> + RankArgument<K, Rank = usize> + Counts,
+{
+    fn begin(alloc: Global) -> Result<Self, AllocError> {
+        BPlusTreeMap::new(alloc)
+    }
+
+    fn kinds(turn: u64) -> Kinds {
+        if turn % 5 == 4 {
+            Kinds::Tree
+        } else {
+            Kinds::Map
+        }
+    }
+
+    // Some turns are runs on its tree.
+    fn answers(&mut self, alloc: Global, talk: Talk) -> Result<bool, AllocError> {
+        match talk.kinds {
+            Kinds::Tree => runs(alloc, self.tree_mut(), talk),
+            _ => carry_out(alloc, self, &talk),
+        }
+    }
+
+    // It is collected from what the list holds, twice, in two orders.
+    fn renews(&mut self, alloc: Global, plain: &Plain, turn: u64) -> Result<bool, AllocError> {
+        if turn % 7 == 0 {
+            let pairs = pairs_on_keys(alloc, &plain.both_ways()?)?;
+            *self = BPlusTreeMap::from_iter(alloc, pairs)?;
+        }
+        Ok(true)
+    }
+
+    fn shows(&self, _alloc: Global, plain: &Plain) -> Result<bool, AllocError> {
+        let mut pairs = self.iter();
+        let mut well = pairs.len() == plain.len();
+        for place in 0..plain.len() {
+            well = plain.pair_at(place) == numbers(pairs.next()) && well;
+        }
+        Ok(well && pairs.next().is_none() && has_all(self.tree(), plain))
+    }
+}
+
+// Keys that are made of those of a list, but each third.
+fn most_keys<K: Sample>(alloc: Global, plain: &Plain) -> Result<Vec<K>, AllocError> {
+    let mut keys = Vec::new(alloc);
+    for place in 0..plain.len() {
+        if let Some(key) = plain.key_at(place)
+            && place % 3 != 0
+        {
+            keys.push(K::sample(alloc, key)?)?;
+        }
+    }
+    Ok(keys)
+}
+
+// The number of a key.
+pub fn number<K: Sample>(key: Option<&K>) -> Option<u64> {
+    Some(key?.number())
+}
+
+impl<K: Sample> Holds for BPlusTreeSet<K> {
+    fn begin(alloc: Global) -> Result<Self, AllocError> {
+        BPlusTreeSet::new(alloc)
+    }
+
+    fn kinds(_turn: u64) -> Kinds {
+        Kinds::Set
+    }
+
+    fn answers(&mut self, alloc: Global, talk: Talk) -> Result<bool, AllocError> {
+        carry_out(alloc, self, &talk)
+    }
+
+    fn renews(&mut self, _alloc: Global, _plain: &Plain, _turn: u64) -> Result<bool, AllocError> {
+        Ok(true)
+    }
+
+    // Also once its keys are put together with all of them but some.
+    fn shows(&self, alloc: Global, plain: &Plain) -> Result<bool, AllocError> {
+        let other = BPlusTreeSet::from_iter(alloc, most_keys(alloc, plain)?)?;
+        let mut keys = self.iter();
+        let mut union = self.union(&other);
+        let mut well = keys.len() == plain.len();
+        for place in 0..plain.len() {
+            well = number(keys.next()) == plain.key_at(place) && well;
+            well = number(union.next()) == plain.key_at(place) && well;
+        }
+        Ok(well && keys.next().is_none() && union.next().is_none())
+    }
+}

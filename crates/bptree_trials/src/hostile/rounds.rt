@@ -1,0 +1,56 @@
+//! Trees, maps and sets beside a plain list, by calls in no order.
+
+use crate::hostile::dice::Sample;
+use crate::hostile::drawing::Drawing;
+use crate::hostile::holds::Holds;
+use std::alloc::{AllocError, Global};
+use sweep_bptree::tree::BPlusTree;
+use sweep_bptree::tree::count::Count;
+use sweep_bptree::{BPlusTreeMap, BPlusTreeSet, NodeStoreVec};
+
+/// The number of calls of a round.
+pub const CALLS: u64 = 20_000;
+
+// The number of commands of a turn.
+const RUN: u64 = 400;
+
+// More pairs are put than are taken in six turns of ten, and fewer in the others.
+fn turns<H: Holds>(
+    alloc: Global,
+    holder: &mut H,
+    drawing: &mut Drawing,
+    turn: u64,
+) -> Result<bool, AllocError> {
+    drawing.put_of_ten(if turn % 10 < 6 { 7 } else { 3 });
+    let talk = drawing.talk(H::kinds(turn), RUN)?;
+    let mut well = holder.answers(alloc, talk)?;
+    well = holder.renews(alloc, &drawing.plain, turn)? && well;
+    Ok(holder.shows(alloc, &drawing.plain)? && well)
+}
+
+fn round<H: Holds>(alloc: Global, seed: u64, end: u64) -> Result<bool, AllocError> {
+    let mut drawing = Drawing::new(alloc, seed, end);
+    let mut holder: H = H::begin(alloc)?;
+    let mut well = true;
+    for turn in 0..CALLS / RUN {
+        well = turns(alloc, &mut holder, &mut drawing, turn)? && well;
+    }
+    Ok(well)
+}
+
+/// A store of the library's.
+pub type Counted<K> = NodeStoreVec<K, u64, Count>;
+
+/// What a letter names of the calls in no order, with keys of one type: a capital letter stands for many keys.
+pub fn no_order<K: Sample>(alloc: Global, letter: u8, seed: u64) -> Result<bool, AllocError> {
+    let end = if letter.is_ascii_uppercase() {
+        u64::MAX
+    } else {
+        300
+    };
+    match letter {
+        b't' | b'T' | b's' | b'S' => round::<BPlusTree<Counted<K>>>(alloc, seed, end),
+        b'm' | b'M' | b'w' | b'W' => round::<BPlusTreeMap<K, u64, Count>>(alloc, seed, end),
+        _ => round::<BPlusTreeSet<K>>(alloc, seed, end),
+    }
+}

@@ -1,0 +1,92 @@
+//! Calls that can be refused memory: scenarios that make calls, and make a refused one again once what it left was looked at.
+//! Each tells how many calls were refused too.
+
+mod collections;
+mod commands;
+mod digest;
+mod groups;
+mod parts;
+mod plans;
+mod quiet;
+mod sample;
+mod serving;
+mod trees;
+mod trial;
+
+use crate::refusals::commands::{Asked, Commanded};
+use crate::refusals::groups::Grouped;
+use crate::refusals::parts::{InnerGiven, InnerParts, LeafParts, Made, Numbered, Roomy};
+use crate::refusals::plans::{Plan, plan_of};
+use crate::refusals::quiet::{Readings, SetReadings};
+use crate::refusals::sample::{Group, Sample};
+use crate::refusals::trial::Trial;
+use sweep_bptree::tree::count::Count;
+use sweep_bptree::tree::group::{GroupCount, Tuple2};
+use sweep_bptree::{BPlusTree, BPlusTreeMap, BPlusTreeSet, NodeStoreVec};
+
+type Pair = (String, u64);
+
+// A scenario on trees.
+fn on_trees<K: Sample, A: Asked<K>>(trial: &mut Trial, letter: u8, plan: &Plan) {
+    match letter {
+        b'k' => trial.carry_out::<Commanded<NodeStoreVec<K, u64, A>>>(plan),
+        b'l' => trial.carry_out::<Readings<NodeStoreVec<K, u64, A>>>(plan),
+        b'm' => trial.carry_out::<Numbered<NodeStoreVec<K, u64, A>>>(plan),
+        b'n' | b'o' => trial.carry_out::<BPlusTreeMap<K, u64, A>>(plan),
+        b'p' => trial.carry_out::<Made<Roomy<K, A>>>(plan),
+        _ => trial.carry_out::<BPlusTree<NodeStoreVec<K, u64, A>>>(plan),
+    }
+}
+
+// A scenario on keys with no summaries.
+fn on_keys<K: Sample>(trial: &mut Trial, letter: u8, plan: &Plan) {
+    match letter {
+        b'q' => trial.carry_out::<Made<LeafParts<K>>>(plan),
+        b'r' => trial.carry_out::<Made<InnerParts<K>>>(plan),
+        b's' => trial.carry_out::<BPlusTree<NodeStoreVec<K, u64>>>(plan),
+        b't' | b'u' => trial.carry_out::<BPlusTreeSet<K>>(plan),
+        _ => trial.carry_out::<SetReadings<K>>(plan),
+    }
+}
+
+// A scenario on a map that is asked for a group.
+fn on_asked<K: Sample, G: Group<K>>(trial: &mut Trial, plan: &Plan) {
+    trial.carry_out::<Grouped<K, G>>(plan);
+}
+
+// A scenario on numbers.
+fn on_numbers(trial: &mut Trial, letter: u8, plan: &Plan) {
+    match letter {
+        b'a'..=b'p' => on_trees::<u64, Count>(trial, letter, plan),
+        b'w' => trial.carry_out::<Made<InnerGiven>>(plan),
+        _ => on_keys::<u64>(trial, letter, plan),
+    }
+}
+
+// A scenario on pairs in groups.
+fn on_groups(trial: &mut Trial, letter: u8, plan: &Plan) {
+    match letter {
+        b'a'..=b'p' => on_trees::<Pair, GroupCount<Tuple2<String>>>(trial, letter, plan),
+        b'x' => on_asked::<Pair, Tuple2<String>>(trial, plan),
+        _ => on_keys::<Pair>(trial, letter, plan),
+    }
+}
+
+// A byte that names no scenario is not as it should be.
+fn carry_out(trial: &mut Trial, byte: u8) {
+    let letter = byte.to_ascii_lowercase();
+    match (plan_of(letter, byte != letter), byte) {
+        (Some(plan), b'a'..=b'z') => on_numbers(trial, letter, &plan),
+        (Some(plan), _) => on_groups(trial, letter, &plan),
+        (None, b'1') => serving::few_lines(trial),
+        (None, b'2') => serving::many_lines(trial),
+        (None, _) => trial.check(false),
+    }
+}
+
+/// Carries out what a byte names, and prints how it went, which is the answer.
+pub fn is_well(rt: &HostRuntime, byte: u8) -> bool {
+    let mut trial = Trial::new(rt);
+    carry_out(&mut trial, byte);
+    trial.tell()
+}

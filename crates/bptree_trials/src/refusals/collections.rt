@@ -1,0 +1,99 @@
+//! Maps and sets that are changed.
+
+use crate::refusals::digest::{Digest, Told, digest_of};
+use crate::refusals::plans::Call;
+use crate::refusals::sample::{Sample, keys_of, pairs_of};
+use crate::refusals::trees::{is_put, is_sample, is_tidy_tree};
+use crate::refusals::trial::Subject;
+use std::alloc::{AllocError, Global};
+use sweep_bptree::tree::{Argument, InsertError};
+use sweep_bptree::{BPlusTreeMap, BPlusTreeSet};
+
+// Pairs and keys of items come in no order, and each key comes twice.
+impl<K: Sample, A: Argument<K> + Told> Subject for BPlusTreeMap<K, u64, A> {
+    fn made(alloc: Global, many: u64) -> Result<BPlusTreeMap<K, u64, A>, AllocError> {
+        if many == 0 {
+            BPlusTreeMap::new(alloc)
+        } else {
+            BPlusTreeMap::from_iter(alloc, pairs_of(alloc, many, false)?)
+        }
+    }
+
+    fn answers(&mut self, alloc: Global, call: Call) -> Result<bool, AllocError> {
+        match call {
+            Call::Put(number, value, old) => {
+                let key = K::sample(alloc, number)?;
+                is_put(self.insert(key, value), (number, value), old)
+            }
+            Call::Remove(number, old) => {
+                let key = K::sample(alloc, number)?;
+                Ok(self.remove(&key)? == old)
+            }
+            _ => Ok(false),
+        }
+    }
+
+    fn told(&self) -> (u64, usize) {
+        let tree = self.tree();
+        (digest_of(tree), tree.len())
+    }
+
+    fn is_tidy(self) -> bool {
+        is_tidy_tree(self.tree())
+    }
+}
+
+// Whether the insertion of a key is answered as it is to be. A refusal hands the key back.
+fn is_put_key<K: Sample>(
+    answer: Result<bool, InsertError<K, ()>>,
+    number: u64,
+    is_new: bool,
+) -> Result<bool, AllocError> {
+    match answer {
+        Ok(found) => Ok(found == is_new),
+        Err(InsertError::OutOfMemory(key, ())) => {
+            if is_sample(&key, number) {
+                Err(AllocError)
+            } else {
+                Ok(false)
+            }
+        }
+        Err(InsertError::Full(_key, ())) => Ok(false),
+    }
+}
+
+impl<K: Sample> Subject for BPlusTreeSet<K> {
+    fn made(alloc: Global, many: u64) -> Result<BPlusTreeSet<K>, AllocError> {
+        if many == 0 {
+            BPlusTreeSet::new(alloc)
+        } else {
+            BPlusTreeSet::from_iter(alloc, keys_of(alloc, many, false)?)
+        }
+    }
+
+    fn answers(&mut self, alloc: Global, call: Call) -> Result<bool, AllocError> {
+        match call {
+            Call::Put(number, _, old) => {
+                let key = K::sample(alloc, number)?;
+                is_put_key(self.insert(key), number, old.is_none())
+            }
+            Call::Remove(number, old) => {
+                let key = K::sample(alloc, number)?;
+                Ok(self.remove(&key)? == old.is_some())
+            }
+            Call::Clear => {
+                self.clear()?;
+                Ok(self.is_empty())
+            }
+            _ => Ok(false),
+        }
+    }
+
+    fn told(&self) -> (u64, usize) {
+        let mut digest = Digest::new();
+        for key in self.iter() {
+            key.tell(&mut digest);
+        }
+        (digest.value(), self.len())
+    }
+}

@@ -1,0 +1,112 @@
+//! Inputs that are served, by a reader and a writer that take no memory.
+
+use crate::refusals::trial::Trial;
+use std::io;
+use std::io::{Read, Write};
+use sweep_bptree::script::{ServeError, serve};
+
+/// Bytes that are read, as many as there is room for.
+#[derive(Drop)]
+struct Source<'a>(&'a [u8]);
+
+impl Read for Source<'_> {
+    fn read(&mut self, buf: &mut [u8]) -> io::Result<usize> {
+        let count = self.0.len().min(buf.len());
+        let (now, rest) = self.0.split_at(count);
+        buf[..count].copy_from_slice(now);
+        self.0 = rest;
+        Ok(count)
+    }
+}
+
+/// The bytes that were written, at most so many as there is room for.
+#[derive(Drop)]
+struct Sink {
+    bytes: [u8; 4096],
+    count: usize,
+}
+
+impl Sink {
+    fn new() -> Sink {
+        Sink {
+            bytes: [0; 4096],
+            count: 0,
+        }
+    }
+
+    fn written(&self) -> &[u8] {
+        &self.bytes[..self.count.min(4096)]
+    }
+}
+
+impl Write for Sink {
+    fn write(&mut self, buf: &[u8]) -> io::Result<usize> {
+        let start = self.count.min(4096);
+        let count = buf.len().min(4096 - start);
+        self.bytes[start..start + count].copy_from_slice(&buf[..count]);
+        self.count = start + count;
+        Ok(count)
+    }
+
+    fn flush(&mut self) -> io::Result<()> {
+        Ok(())
+    }
+}
+
+const INPUT: &str =
+    "put 2 20\nput 1 10\nput 2 21\nrank 2\nrank 3\nat 0\nnext 1\ndel 1\nall\nget 01x\n";
+
+const OUTPUT: &str = "new\nnew\nold 20\nin 1\nout 2\n1 10\n2 21\ngone 10\n2 21\nbad\n";
+
+// Whether these are whole lines of the others, from the first on.
+fn begins(written: &[u8], output: &[u8]) -> bool {
+    output.starts_with(written) && (written.is_empty() || written.last() == Some(&b'\n'))
+}
+
+// Whether an input is answered so, and where it is refused by the first lines of that.
+fn answers(trial: &mut Trial, input: &[u8], output: &[u8]) -> bool {
+    let mut sink = Sink::new();
+    match serve(trial.allocator(), &mut Source(input), &mut sink) {
+        Ok(()) => sink.written() == output,
+        Err(ServeError::Io) => false,
+        Err(ServeError::OutOfMemory) => {
+            trial.count();
+            let mut again = Sink::new();
+            begins(sink.written(), output)
+                && serve(trial.allocator(), &mut Source(input), &mut again) == Ok(())
+                && again.written() == output
+        }
+    }
+}
+
+/// Ten lines.
+pub fn few_lines(trial: &mut Trial) {
+    trial.begin("lines of each kind");
+    let is_well = answers(trial, INPUT.as_bytes(), OUTPUT.as_bytes());
+    trial.check(is_well);
+    trial.end();
+}
+
+// The line at a place of many, which puts a pair.
+fn put_line(place: usize) -> [u8; 10] {
+    let mut line = *b"put 1000 7";
+    line[5] = b'0' + (place / 100 % 10) as u8;
+    line[6] = b'0' + (place / 10 % 10) as u8;
+    line[7] = b'0' + (place % 10) as u8;
+    line
+}
+
+/// Lines that put 300 new pairs.
+pub fn many_lines(trial: &mut Trial) {
+    let mut input = [b'\n'; 3300];
+    let mut output = [b'\n'; 1200];
+    for place in 0..300 {
+        let line = put_line(place);
+        input[place * 11..place * 11 + 10].copy_from_slice(&line);
+        output[place * 4..place * 4 + 3].copy_from_slice(b"new");
+    }
+    trial.begin("lines that put");
+    let is_well = answers(trial, &input, &output);
+    trial.check(is_well);
+    trial.end();
+}

@@ -1,0 +1,134 @@
+//! Scenarios: something is made and called, and what is refused is made or called again.
+
+use crate::refusals::plans::{Call, Plan, TURNS};
+use std::alloc::{AllocError, Global};
+
+/// What a scenario is about.
+pub trait Subject: Drop + Sized {
+    /// One with so many pairs or keys.
+    fn made(alloc: Global, many: u64) -> Result<Self, AllocError>;
+
+    /// Whether a call is answered as it is to be. An error stands for a refusal.
+    fn answers(&mut self, alloc: Global, call: Call) -> Result<bool, AllocError>;
+
+    /// The whole of it as one number, and how many pairs or keys it has.
+    fn told(&self) -> (u64, usize);
+
+    /// Whether its store holds no number but those of its nodes.
+    fn is_tidy(self) -> bool {
+        true
+    }
+}
+
+/// How a scenario went.
+#[derive(Drop)]
+pub struct Trial<'a> {
+    rt: &'a HostRuntime,
+    refused: u64,
+    is_well: bool,
+    has_begun: bool,
+}
+
+impl<'a> Trial<'a> {
+    pub fn new(rt: &'a HostRuntime) -> Trial<'a> {
+        Trial {
+            rt,
+            refused: 0,
+            is_well: true,
+            has_begun: false,
+        }
+    }
+
+    pub fn allocator(&self) -> Global {
+        self.rt.alloc()
+    }
+
+    pub fn count(&mut self) {
+        self.refused = self.refused.wrapping_add(1);
+    }
+
+    pub fn check(&mut self, is_well: bool) {
+        self.is_well = self.is_well && is_well;
+    }
+
+    /// Prints the name of a scenario. The first line that is written is the sign from which on requests are refused: so what
+    /// a scenario makes ready before it is never refused.
+    pub fn begin(&mut self, name: &str) {
+        self.has_begun = true;
+        let is_said = print!(self.rt; "{name}").is_ok();
+        self.check(is_said);
+    }
+
+    /// Prints a colon. The second line that is written is the sign from which on nothing is refused.
+    pub fn end(&mut self) {
+        let is_said = print!(self.rt; ":").is_ok();
+        self.check(is_said);
+    }
+
+    /// Prints whether all was as it should be, which is the answer, and how many calls were refused.
+    pub fn tell(self) -> bool {
+        let word = if self.is_well { "ok" } else { "failed" };
+        let refused = self.refused;
+        println!(self.rt; " {word}, {refused} refused").is_ok() && self.is_well
+    }
+
+    fn make<T: Subject>(&mut self, many: u64) -> Result<T, AllocError> {
+        match T::made(self.allocator(), many) {
+            Ok(subject) => Ok(subject),
+            Err(_) => {
+                self.count();
+                T::made(self.allocator(), many)
+            }
+        }
+    }
+
+    // A refused call must leave all as it was, and is made again.
+    fn call<T: Subject>(&mut self, subject: &mut T, call: Call) {
+        let before = if self.has_begun {
+            subject.told()
+        } else {
+            (0, 0)
+        };
+        let is_well = match subject.answers(self.allocator(), call) {
+            Ok(is_well) => is_well,
+            Err(_) => {
+                self.count();
+                subject.told() == before && subject.answers(self.allocator(), call) == Ok(true)
+            }
+        };
+        self.check(is_well);
+    }
+
+    /// Carries out a scenario. What is made after a refusal has to be the same as where nothing is refused.
+    pub fn carry_out<T: Subject>(&mut self, plan: &Plan) {
+        let name = plan.name;
+        if plan.begins.is_none() {
+            self.begin(name);
+        }
+        let Ok(mut subject) = self.make::<T>(plan.many) else {
+            self.check(false);
+            return;
+        };
+        let made = subject.told();
+        for turn in 0..TURNS {
+            if plan.begins == Some(turn) {
+                self.begin(name);
+            }
+            let Some(call) = plan.call_at(turn) else {
+                break;
+            };
+            self.call(&mut subject, call);
+        }
+        self.end();
+        let (_, len) = subject.told();
+        let is_long = plan.least <= len && len <= plan.most;
+        self.check(is_long && subject.is_tidy());
+        if plan.begins.is_none() {
+            let is_same = match T::made(self.allocator(), plan.many) {
+                Ok(again) => again.told() == made,
+                Err(_) => false,
+            };
+            self.check(is_same);
+        }
+    }
+}

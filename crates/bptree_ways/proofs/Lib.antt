@@ -1,0 +1,5 @@
+pub mod Beside
+pub mod Selected
+pub mod Slots
+pub mod Summed
+pub mod Visited

@@ -1,0 +1,2 @@
+pub mod ByArgument
+pub mod Neighbours
