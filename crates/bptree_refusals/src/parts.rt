@@ -2,10 +2,10 @@
 
 ghost use Rattle.std.specs.Prelude.{◌≡◌, ◌≤◌, ◌+◌, vec_len};
 
-use crate::refusals::digest::{Digest, Told, holds_none, tell_inner, tell_leaf, told_store};
-use crate::refusals::plans::Call;
-use crate::refusals::sample::Sample;
-use crate::refusals::trial::Subject;
+use crate::digest::{Digest, Told, holds_none, tell_inner, tell_leaf, told_store};
+use crate::plans::Call;
+use crate::sample::Sample;
+use crate::trial::Subject;
 use std::alloc::{AllocError, Global};
 use std::marker::PhantomData;
 use sweep_bptree::tree::{

@@ -1,8 +1,8 @@
 //! Trees, maps and sets beside a plain list, by calls in no order.
 
-use crate::hostile::dice::Sample;
-use crate::hostile::drawing::Drawing;
-use crate::hostile::holds::Holds;
+use crate::dice::Sample;
+use crate::drawing::Drawing;
+use crate::holds::Holds;
 use std::alloc::{AllocError, Global};
 use sweep_bptree::tree::BPlusTree;
 use sweep_bptree::tree::count::Count;

@@ -1,6 +1,6 @@
 //! Scenarios: something is made and called, and what is refused is made or called again.
 
-use crate::refusals::plans::{Call, Plan, TURNS};
+use crate::plans::{Call, Plan, TURNS};
 use std::alloc::{AllocError, Global};
 
 /// What a scenario is about.
@@ -26,7 +26,6 @@ pub struct Trial<'a> {
     rt: &'a HostRuntime,
     refused: u64,
     is_well: bool,
-    has_begun: bool,
 }
 
 impl<'a> Trial<'a> {
@@ -35,7 +34,6 @@ impl<'a> Trial<'a> {
             rt,
             refused: 0,
             is_well: true,
-            has_begun: false,
         }
     }
 
@@ -54,7 +52,6 @@ impl<'a> Trial<'a> {
     /// Prints the name of a scenario. The first line that is written is the sign from which on requests are refused: so what
     /// a scenario makes ready before it is never refused.
     pub fn begin(&mut self, name: &str) {
-        self.has_begun = true;
         let is_said = print!(self.rt; "{name}").is_ok();
         self.check(is_said);
     }
@@ -82,18 +79,14 @@ impl<'a> Trial<'a> {
         }
     }
 
-    // A refused call must leave all as it was, and is made again.
-    fn call<T: Subject>(&mut self, subject: &mut T, call: Call) {
-        let before = if self.has_begun {
-            subject.told()
-        } else {
-            (0, 0)
-        };
+    // A refused call must leave all as the calls before its turn made it, and is made again.
+    fn call<T: Subject>(&mut self, subject: &mut T, plan: &Plan, turn: u64, call: Call) {
         let is_well = match subject.answers(self.allocator(), call) {
             Ok(is_well) => is_well,
             Err(_) => {
                 self.count();
-                subject.told() == before && subject.answers(self.allocator(), call) == Ok(true)
+                let before = told_before::<T>(self.allocator(), plan, turn);
+                Ok(subject.told()) == before && subject.answers(self.allocator(), call) == Ok(true)
             }
         };
         self.check(is_well);
@@ -117,7 +110,7 @@ impl<'a> Trial<'a> {
             let Some(call) = plan.call_at(turn) else {
                 break;
             };
-            self.call(&mut subject, call);
+            self.call(&mut subject, plan, turn, call);
         }
         self.end();
         let (_, len) = subject.told();
@@ -131,4 +124,19 @@ impl<'a> Trial<'a> {
             self.check(is_same);
         }
     }
+}
+
+// What another tells that is made and called in the same way up to a turn.
+fn told_before<T: Subject>(
+    alloc: Global,
+    plan: &Plan,
+    end: u64,
+) -> Result<(u64, usize), AllocError> {
+    let mut subject = T::made(alloc, plan.many)?;
+    for turn in 0..end {
+        if let Some(call) = plan.call_at(turn) {
+            subject.answers(alloc, call)?;
+        }
+    }
+    Ok(subject.told())
 }

@@ -1,9 +1,9 @@
 //! Lists of commands on a tree, whose replies have to be those that a tree gives where nothing is refused.
 
-use crate::refusals::digest::{Digest, Told};
-use crate::refusals::plans::{Call, LISTS};
-use crate::refusals::sample::{Group, Sample};
-use crate::refusals::trial::Subject;
+use crate::digest::{Digest, Told};
+use crate::plans::{Call, LISTS};
+use crate::sample::{Group, Sample};
+use crate::trial::Subject;
 use std::alloc::{AllocError, Global};
 use sweep_bptree::script::{Command, CommandOn, End, Reply, run};
 use sweep_bptree::tree::count::Count;

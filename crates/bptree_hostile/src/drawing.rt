@@ -1,7 +1,7 @@
 //! Commands in no order, each with the reply that a plain list gives.
 
-use crate::hostile::dice::{Dice, Sample};
-use crate::hostile::plain::{Answered, Asked, Plain};
+use crate::dice::{Dice, Sample};
+use crate::plain::{Answered, Asked, Plain};
 use std::alloc::{AllocError, Global};
 use sweep_bptree::script::{Command, End, Reply};
 

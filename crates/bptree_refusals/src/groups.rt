@@ -1,8 +1,8 @@
 //! Maps that are asked for groups, and pages of these.
 
-use crate::refusals::plans::Call;
-use crate::refusals::sample::{Group, Sample, pairs_of};
-use crate::refusals::trial::Subject;
+use crate::plans::Call;
+use crate::sample::{Group, Sample, pairs_of};
+use crate::trial::Subject;
 use std::alloc::{AllocError, Global};
 use sweep_bptree::BPlusTreeMap;
 use sweep_bptree::page::group_page;

@@ -1,6 +1,6 @@
 //! Keys that are made for numbers, and ascend with them.
 
-use crate::refusals::digest::{Digest, Told, tell_text};
+use crate::digest::{Digest, Told, tell_text};
 use std::alloc::{AllocError, Global};
 use sweep_bptree::tree::group::{FromRef, Tuple2};
 use sweep_bptree::tree::{InsertError, Key};

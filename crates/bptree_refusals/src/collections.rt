@@ -1,10 +1,10 @@
 //! Maps and sets that are changed.
 
-use crate::refusals::digest::{Digest, Told, digest_of};
-use crate::refusals::plans::Call;
-use crate::refusals::sample::{Sample, keys_of, pairs_of};
-use crate::refusals::trees::{is_put, is_sample, is_tidy_tree};
-use crate::refusals::trial::Subject;
+use crate::digest::{Digest, Told, digest_of};
+use crate::plans::Call;
+use crate::sample::{Sample, keys_of, pairs_of};
+use crate::trees::{is_put, is_sample, is_tidy_tree};
+use crate::trial::Subject;
 use std::alloc::{AllocError, Global};
 use sweep_bptree::tree::{Argument, InsertError};
 use sweep_bptree::{BPlusTreeMap, BPlusTreeSet};

@@ -1,10 +1,10 @@
 //! Trees, maps and sets, each asked by lists of commands on numbers.
 
-use crate::hostile::calls::{Counts, carry_out};
-use crate::hostile::dice::Sample;
-use crate::hostile::drawing::{Kinds, Talk, are_same, numbers, own_numbers};
-use crate::hostile::plain::{Asked, Plain};
-use crate::hostile::rows::loaded;
+use crate::calls::{Counts, carry_out};
+use crate::dice::Sample;
+use crate::drawing::{Kinds, Talk, are_same, numbers, own_numbers};
+use crate::plain::{Asked, Plain};
+use crate::rows::loaded;
 use std::alloc::{AllocError, Global};
 use std::mem;
 use sweep_bptree::script::{Command, run};

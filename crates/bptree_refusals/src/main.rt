@@ -1,5 +1,7 @@
-//! Calls that can be refused memory: scenarios that make calls, and make a refused one again once what it left was looked at.
-//! Each tells how many calls were refused too.
+//! Calls that can be refused memory. Each byte of standard input names a scenario, which makes calls, and makes a refused one
+//! again once what it left was looked at. For each it prints its name, whether all was as it should be, and how many
+//! calls were refused.
+#![tactic(auto)]
 
 mod collections;
 mod commands;
@@ -13,13 +15,15 @@ mod serving;
 mod trees;
 mod trial;
 
-use crate::refusals::commands::{Asked, Commanded};
-use crate::refusals::groups::Grouped;
-use crate::refusals::parts::{InnerGiven, InnerParts, LeafParts, Made, Numbered, Roomy};
-use crate::refusals::plans::{Plan, plan_of};
-use crate::refusals::quiet::{Readings, SetReadings};
-use crate::refusals::sample::{Group, Sample};
-use crate::refusals::trial::Trial;
+use crate::commands::{Asked, Commanded};
+use crate::groups::Grouped;
+use crate::parts::{InnerGiven, InnerParts, LeafParts, Made, Numbered, Roomy};
+use crate::plans::{Plan, plan_of};
+use crate::quiet::{Readings, SetReadings};
+use crate::sample::{Group, Sample};
+use crate::trial::Trial;
+use std::io::Read;
+use std::process::ExitCode;
 use sweep_bptree::tree::count::Count;
 use sweep_bptree::tree::group::{GroupCount, Tuple2};
 use sweep_bptree::{BPlusTree, BPlusTreeMap, BPlusTreeSet, NodeStoreVec};
@@ -84,9 +88,23 @@ fn carry_out(trial: &mut Trial, byte: u8) {
     }
 }
 
-/// Carries out what a byte names, and prints how it went, which is the answer.
-pub fn is_well(rt: &HostRuntime, byte: u8) -> bool {
-    let mut trial = Trial::new(rt);
-    carry_out(&mut trial, byte);
-    trial.tell()
+fn main(rt: HostRuntime) -> ExitCode {
+    let mut letters = [0u8; 64];
+    let Ok(count) = rt.stdin().read(&mut letters) else {
+        return ExitCode::FAILURE;
+    };
+    let mut all = true;
+    for letter in &letters[..count] {
+        if *letter == b'\n' {
+            continue;
+        }
+        let mut trial = Trial::new(&rt);
+        carry_out(&mut trial, *letter);
+        all = trial.tell() && all;
+    }
+    if all {
+        ExitCode::SUCCESS
+    } else {
+        ExitCode::FAILURE
+    }
 }

@@ -1,4 +1,6 @@
-//! Hostile use: odd keys, false hints, foreign visitors, and calls in no order beside a plain list.
+//! Hostile use: odd keys, false hints, foreign visitors, and calls in no order beside a plain list. Each byte of standard
+//! input names what is to be done, and for each its name is printed, and whether all was as it should be.
+#![tactic(auto)]
 
 mod calls;
 mod dice;
@@ -9,8 +11,10 @@ mod plain;
 mod rounds;
 mod rows;
 
-use crate::hostile::rounds::Counted;
+use crate::rounds::Counted;
 use std::alloc::{AllocError, Global};
+use std::io::Read;
+use std::process::ExitCode;
 
 // What a byte names: a tree of known pairs, or calls in no order. There a capital letter stands for many keys, of which few
 // come twice.
@@ -40,12 +44,26 @@ fn carry_out(alloc: Global, letter: u8, seed: u64) -> Result<bool, AllocError> {
     }
 }
 
-/// Carries out what a byte names, and prints how it went, which is the answer.
-pub fn is_well(rt: &HostRuntime, letter: u8, seed: u64) -> bool {
-    let (name, well) = match carry_out(rt.alloc(), letter, seed) {
-        Ok(well) => (name_of(letter), well),
-        Err(_) => ("out of memory", false),
+fn main(rt: HostRuntime) -> ExitCode {
+    let mut letters = [0u8; 4096];
+    let Ok(count) = rt.stdin().read(&mut letters) else {
+        return ExitCode::FAILURE;
     };
-    let word = if well { "ok" } else { "failed" };
-    println!(rt; "{name}: {word}").is_ok() && well
+    let mut all = true;
+    for (seed, letter) in letters[..count].iter().enumerate() {
+        if *letter == b'\n' {
+            continue;
+        }
+        let (name, well) = match carry_out(rt.alloc(), *letter, seed as u64) {
+            Ok(well) => (name_of(*letter), well),
+            Err(_) => ("out of memory", false),
+        };
+        let word = if well { "ok" } else { "failed" };
+        all = println!(rt; "{name}: {word}").is_ok() && well && all;
+    }
+    if all {
+        ExitCode::SUCCESS
+    } else {
+        ExitCode::FAILURE
+    }
 }

@@ -1,9 +1,9 @@
 //! Trees that are loaded, changed and walked.
 
-use crate::refusals::digest::{Digest, Told, digest_of, holds_none, told_store, word_of};
-use crate::refusals::plans::Call;
-use crate::refusals::sample::{Sample, pairs_of};
-use crate::refusals::trial::Subject;
+use crate::digest::{Digest, Told, digest_of, holds_none, told_store, word_of};
+use crate::plans::Call;
+use crate::sample::{Sample, pairs_of};
+use crate::trial::Subject;
 use std::alloc::{AllocError, Global};
 use sweep_bptree::script::End;
 use sweep_bptree::tree::{

@@ -1,10 +1,10 @@
 //! Calls that take no memory.
 
-use crate::refusals::digest::{Told, digest_of};
-use crate::refusals::plans::Call;
-use crate::refusals::sample::{Sample, keys_of};
-use crate::refusals::trees::last_of;
-use crate::refusals::trial::Subject;
+use crate::digest::{Told, digest_of};
+use crate::plans::Call;
+use crate::sample::{Sample, keys_of};
+use crate::trees::last_of;
+use crate::trial::Subject;
 use std::alloc::{AllocError, Global};
 use sweep_bptree::BPlusTreeSet;
 use sweep_bptree::tree::{BPlusTree, CloneArgument, CloneStore, Cursor, NodeStore};

@@ -1,9 +1,9 @@
 //! The calls of maps and sets, by numbers.
 
-use crate::hostile::dice::Sample;
-use crate::hostile::drawing::{Talk, is_same, numbers, own_numbers};
-use crate::hostile::holds::number;
-use crate::hostile::plain::{Answered, Asked};
+use crate::dice::Sample;
+use crate::drawing::{Talk, is_same, numbers, own_numbers};
+use crate::holds::number;
+use crate::plain::{Answered, Asked};
 use std::alloc::{AllocError, Global};
 use sweep_bptree::script::{Command, Reply};
 use sweep_bptree::tree::count::Count;

@@ -1,8 +1,8 @@
 //! Trees of known pairs, and what each call on them has to answer.
 
-use crate::hostile::drawing::{Kinds, Talk};
-use crate::hostile::forgetful::Forgetful;
-use crate::hostile::holds::runs;
+use crate::drawing::{Kinds, Talk};
+use crate::forgetful::Forgetful;
+use crate::holds::runs;
 use bptree_callers::visitors::Says;
 use bptree_callers::walks::{is_counted, is_well_shaped};
 use std::alloc::{AllocError, Global};

@@ -1,6 +1,6 @@
 use Rattle.std.proofs.Common.{arith}
 use Rattle.bptree_nodes.proofs.Iterables.{given_by_vec}
-use Rattle.bptree_trials.proofs.refusals.parts.node_of_given.Goals as goal
+use Rattle.bptree_refusals.proofs.parts.node_of_given.Goals as goal
 
 pub new_from_iter-requires-clause-counts : goal.new_from_iter-requires-clause-counts
 new_from_iter-requires-clause-counts c = λ ks cs xs keys children arguments.

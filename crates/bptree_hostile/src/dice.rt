@@ -51,7 +51,7 @@ impl Sample for String {
         format!(in alloc; "{number:020}")
     }
 
-    // Another text makes another number, if it is no sample.
+    // Each sample has its own; a text that is no sample may have that of one.
     fn number(&self) -> u64 {
         let mut number: u64 = 0;
         for byte in self.as_bytes() {

@@ -1,6 +1,6 @@
 //! Inputs that are served, by a reader and a writer that take no memory.
 
-use crate::refusals::trial::Trial;
+use crate::trial::Trial;
 use std::io;
 use std::io::{Read, Write};
 use sweep_bptree::script::{ServeError, serve};
