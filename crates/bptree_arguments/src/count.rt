@@ -24,9 +24,33 @@ impl Count {
     }
 }
 
-/// The counts added to a number, or the greatest `usize` where that is less: a step is one addition, and the first sum that
-/// doesn't fit ends it.
+// As many numbers, each below `SMALL`, add up to less than two to the power of 64: here a start, and fewer counts.
+const FEW: usize = 128;
+
+// The least number that isn't small.
+const SMALL: usize = 1 << 57;
+
+/// The counts added to a number, or the greatest `usize` where that is less. The counts of a node are added without a look at
+/// each sum, and so some at a time, where the bits of all of them tell that they are small; else one after another.
 fn total_of(start: usize, arguments: &[Count]) -> usize
+    ensures { result ≡ min (start + sum_by (λ b. b.0) arguments.now) (2 ^ 64 - 1) }
+{
+    if arguments.len() < FEW {
+        let mut total = start;
+        let mut bits = start;
+        for argument in arguments {
+            total = total.wrapping_add(argument.0);
+            bits |= argument.0;
+        }
+        if bits < SMALL {
+            return total;
+        }
+    }
+    capped_total_of(start, arguments)
+}
+
+// The same for counts of any size: a step is one addition, and the first sum that doesn't fit ends it.
+fn capped_total_of(start: usize, arguments: &[Count]) -> usize
     ensures { result ≡ min (start + sum_by (λ b. b.0) arguments.now) (2 ^ 64 - 1) }
 {
     let mut total = start;
