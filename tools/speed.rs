@@ -54,6 +54,7 @@ fn main() {
         let others = shuffled(&keys);
         let mut sorted = keys.clone();
         sorted.sort_unstable();
+        let places = shuffled(&(0..keys.len() as u64).collect::<Vec<u64>>());
         for _ in 0..rounds.parse().unwrap() {
             let mut map = BTreeMap::new();
             let start = Instant::now();
@@ -79,6 +80,25 @@ fn main() {
                 sum = sum.wrapping_add(*key);
             }
             tell("step", start, keys.len(), sum);
+            let start = Instant::now();
+            let mut sum = 0u64;
+            for key in &others {
+                if let Some((next, _)) = map.range((*key & (u64::MAX - 1))..).next() {
+                    sum = sum.wrapping_add(*next);
+                }
+            }
+            tell("lower", start, keys.len(), sum);
+            let start = Instant::now();
+            let mut sum = 0u64;
+            for place in &places {
+                let place = *place as usize;
+                if let (Some(lo), Some(hi)) = (sorted.get(place), sorted.get(place + 10)) {
+                    for (key, _) in map.range(*lo..*hi) {
+                        sum = sum.wrapping_add(*key);
+                    }
+                }
+            }
+            tell("range", start, places.len(), sum);
             let start = Instant::now();
             let mut sum = 0u64;
             for key in &others {

@@ -5,5 +5,6 @@ pub mod GroupOrderLemmas
 pub mod GroupRankLemmas
 pub mod GroupSelectLemmas
 pub mod GroupSizeLemmas
+pub mod GroupWholeLemmas
 pub mod RankLemmas
 pub mod VisitLemmas

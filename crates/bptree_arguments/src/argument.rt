@@ -1,5 +1,5 @@
 //! Summaries of keys.
-ghost use Rattle.std.specs.Prelude.{◌≡◌, ◌<◌, ◌≤◌, ◌^◌, ℕ, List, [], ◌++◌, length, true, is_ok, Option, IfOk, IsTrue, MatchResult, ⊤};
+ghost use Rattle.std.specs.Prelude.{◌≡◌, ◌<◌, ◌≤◌, ◌^◌, ℕ, List, [], ◌++◌, length, true, is_ok, Option, IfOk, IfSome, IsTrue, MatchResult, ⊤};
 ghost use Rattle.std.specs.declared.cmp.Ordering.TheVariants.{Equal};
 ghost use Rattle.std.specs.List.{AllZip};
 ghost use Rattle.std.specs.List.Sorted.{IsStrictlySortedBy};
@@ -30,6 +30,13 @@ pub trait Argument<K: Key>: Clone + Default + Drop {
     /// need not be a key. It fails only where memory is refused.
     fn from_inner(keys: &[K], arguments: &[Self]) -> Result<Self, AllocError>
         ensures summary { IfOk result (λ a. (pieces : List (List K)) → ArePieces K.cmp pieces → AllZip is_summary arguments.now pieces → is_summary a (flatten pieces)) };
+
+    /// How many keys the summary stands for, where it tells that. By default it doesn't.
+    fn key_count(&self) -> Option<usize>
+        ensures told { (keys : List K) → is_summary self.now keys → IfSome result (λ n. n ≡ length keys) }
+    {
+        None
+    }
 
     ghost default_is_summary: { (a : Self) → Self.is_default a → is_summary a [] };
 }

@@ -1,5 +1,5 @@
 //! Counts of keys: a tree that keeps them finds a key by its place, and ranks a key among all.
-ghost use Rattle.std.specs.Prelude.{◌≡◌, ◌<◌, ◌≤◌, ◌+◌, ◌-◌, ◌^◌, ◌++◌, List, length, min, is_ok, IfOk, IfErr, MatchResult};
+ghost use Rattle.std.specs.Prelude.{◌≡◌, ◌<◌, ◌≤◌, ◌+◌, ◌-◌, ◌^◌, ◌++◌, List, length, min, is_ok, Some, IfOk, IfErr, IfSome, MatchResult};
 ghost use Rattle.std.specs.List.{sum_by, AllZip};
 ghost use Rattle.std.specs.List.Sorted.{IsStrictlySortedBy};
 ghost use Rattle.std.proofs.Common.{rules};
@@ -32,7 +32,7 @@ const SMALL: usize = 1 << 57;
 
 /// The counts added to a number, or the greatest `usize` where that is less. The counts of a node are added without a look at
 /// each sum, and so some at a time, where the bits of all of them tell that they are small; else one after another.
-fn total_of(start: usize, arguments: &[Count]) -> usize
+pub fn total_of(start: usize, arguments: &[Count]) -> usize
     ensures { result ≡ min (start + sum_by (λ b. b.0) arguments.now) (2 ^ 64 - 1) }
 {
     if arguments.len() < FEW {
@@ -81,6 +81,14 @@ impl<K: Key> Argument<K> for Count {
         ensures capped { IfOk result (λ a. a.0 ≡ min (sum_by (λ b. b.0) arguments.now) (2 ^ 64 - 1)) }
     {
         Ok(Count(total_of(0, arguments)))
+    }
+
+    /// The count, in constant time.
+    fn key_count(&self) -> Option<usize>
+        ensures told { (keys : List K) → self.now.0 ≡ length keys → IfSome result (λ n. n ≡ length keys) }
+        ensures all { result ≡ Some self.now.0 }
+    {
+        Some(self.0)
     }
 
     ghost default_is_summary = { λ _ h. Prim.search rules };

@@ -305,6 +305,16 @@ impl<K: Key, G: FromRef<K> + Key> Argument<K> for GroupCount<G> {
         }
     }
 
+    /// The size of the only group, or 0 where there is none, in constant time. Of several groups it tells nothing, since
+    /// those between the least and the greatest have no sizes here.
+    fn key_count(&self) -> Option<usize> {
+        match self {
+            GroupCount::Zero => Some(0),
+            GroupCount::One(_, size) => Some(*size),
+            GroupCount::Multiple { .. } => None,
+        }
+    }
+
     ghost use Rattle.std.proofs.Common.{rules};
 
     ghost default_is_summary = { λ a h. Prim.search rules };

@@ -34,10 +34,7 @@ fn resum_at<S: NodeStore>(
     ensures refused { OnErr result (S.slots store.new ≡ S.slots store.old) }
     ensures handed_back { IfErr result (λ back. back ≡ summary) }
 {
-    let mut node = store.take_inner(id);
-    let asked = resum(&mut node, place, summary);
-    store.put_back_inner(id, node);
-    asked
+    resum(store.get_mut_inner(id), place, summary)
 }
 
 // Undoes what `resum_at` did.

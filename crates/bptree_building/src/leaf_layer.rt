@@ -42,8 +42,7 @@ fn take_pairs<K: Drop, V: Drop>(
 {
     'fill: while leaf.len() < count {
         let (key, value) = items.next().unwrap();
-        let end = leaf.len();
-        leaf.insert_at(end, key, value);
+        leaf.push(key, value);
     }
 }
 

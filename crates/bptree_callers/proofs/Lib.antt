@@ -1,3 +1,4 @@
 pub mod GatherLemmas
 pub mod PartLemmas
+pub mod Passing
 pub mod Sizes

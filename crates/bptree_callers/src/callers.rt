@@ -7,6 +7,7 @@ mod cursors;
 mod iteration;
 mod loading;
 mod maps;
+mod nodes;
 mod owning;
 mod pages;
 mod queries;

@@ -3,4 +3,5 @@ pub mod DateSums
 pub mod DateVisits
 pub mod EntryChanges
 pub mod GroupItems
+pub mod SaleSums
 pub mod YearTold

@@ -2,3 +2,4 @@ pub mod Calendar
 pub mod Dates
 pub mod Depths
 pub mod Items
+pub mod Sales

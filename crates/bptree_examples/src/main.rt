@@ -40,7 +40,8 @@ fn tell_all(rt: &HostRuntime) -> io::Result<()> {
     tell(rt, "ranks, players", uses::leaderboard::run(alloc))?;
     tell(rt, "segments beside", uses::sweep_line::run(alloc))?;
     tell(rt, "items", uses::grouped_index::run(alloc))?;
-    tell(rt, "rows by value", uses::secondary_index::run(alloc))
+    tell(rt, "rows by value", uses::secondary_index::run(alloc))?;
+    tell(rt, "takings", uses::takings::run(alloc))
 }
 
 fn main(rt: HostRuntime) -> ExitCode {

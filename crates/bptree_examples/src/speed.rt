@@ -194,7 +194,7 @@ fn load_all<S: NodeStore<K = u64, V = u64>>(
         return Err(AllocError);
     }
     let start = now(rt);
-    let tree: BPlusTree<S> = BPlusTree::bulk_load(rt.alloc(), pairs)?;
+    let tree: BPlusTree<S> = BPlusTree::bulk_load(pairs)?;
     tell(rt, kind, "load", start, sorted.len(), tree.len() as u64);
     Ok(tree)
 }
@@ -253,6 +253,19 @@ where
     Ok(())
 }
 
+// The first pair that is not below each key, whose lowest bit is left out.
+fn lower_all<A: Argument<u64>>(rt: &HostRuntime, kind: &str, tree: &Tree<A>, keys: &[u64]) {
+    let start = now(rt);
+    let mut sum = 0u64;
+    for key in keys {
+        let lo = *key & (u64::MAX - 1);
+        if let Some((next, _)) = tree.range(Some(&lo), None).next() {
+            sum = sum.wrapping_add(*next);
+        }
+    }
+    tell(rt, kind, "lower", start, keys.len(), sum);
+}
+
 // Ten pairs from each place on, by the keys there and ten pairs further.
 fn range_all<A: Argument<u64>>(rt: &HostRuntime, tree: &Tree<A>, sorted: &[u64], places: &[u64]) {
     let start = now(rt);
@@ -283,6 +296,37 @@ fn page_all<A: SearchArgument<u64, Query = usize>>(
     Ok(())
 }
 
+/// A summary that can be told as a number.
+trait Tells {
+    fn number(&self) -> u64;
+}
+
+impl Tells for Count {
+    fn number(&self) -> u64 {
+        self.count() as u64
+    }
+}
+
+// A summary of half of the keys, from each place of the first half on.
+fn sum_all<A: Argument<u64> + Tells>(
+    rt: &HostRuntime,
+    tree: &Tree<A>,
+    sorted: &[u64],
+    places: &[u64],
+) -> Result<(), AllocError> {
+    let start = now(rt);
+    let half = sorted.len() / 2;
+    let mut sum = 0u64;
+    for place in places {
+        let from = *place as usize / 2;
+        let lo = sorted.get(from);
+        let hi = sorted.get(from.saturating_add(half));
+        sum = sum.wrapping_add(tree.range_argument(lo, hi)?.number());
+    }
+    tell(rt, "count", "sum", start, places.len(), sum);
+    Ok(())
+}
+
 // The same keys in three orders, and all numbers below their number.
 #[derive(Clone, Copy)]
 struct Numbers<'a> {
@@ -303,6 +347,7 @@ fn filled<A: Argument<u64>>(
     get_all(rt, kind, "absent", &tree, numbers.others, u64::MAX - 1);
     get_all(rt, kind, "inorder", &tree, numbers.sorted, u64::MAX);
     step_through(rt, kind, "step", &tree);
+    lower_all(rt, kind, &tree, numbers.others);
     Ok(tree)
 }
 
@@ -312,7 +357,7 @@ fn plain<A: Argument<u64>>(rt: &HostRuntime, numbers: &Numbers<'_>) -> Result<()
 }
 
 // Places and ranks, and parts of a tree, each of ten or of twenty pairs.
-fn placed<A: SearchArgument<u64, Query = usize> + RankArgument<u64, Rank = usize>>(
+fn placed<A: SearchArgument<u64, Query = usize> + RankArgument<u64, Rank = usize> + Tells>(
     rt: &HostRuntime,
     tree: &Tree<A>,
     numbers: &Numbers<'_>,
@@ -320,10 +365,11 @@ fn placed<A: SearchArgument<u64, Query = usize> + RankArgument<u64, Rank = usize
     place_all(rt, tree, numbers.others)?;
     rank_all(rt, tree, numbers.others)?;
     range_all(rt, tree, numbers.sorted, numbers.places);
-    page_all(rt, tree, numbers.places)
+    page_all(rt, tree, numbers.places)?;
+    sum_all(rt, tree, numbers.sorted, numbers.places)
 }
 
-fn counted<A: SearchArgument<u64, Query = usize> + RankArgument<u64, Rank = usize>>(
+fn counted<A: SearchArgument<u64, Query = usize> + RankArgument<u64, Rank = usize> + Tells>(
     rt: &HostRuntime,
     numbers: &Numbers<'_>,
 ) -> Result<(), AllocError> {
@@ -404,6 +450,25 @@ where
     Ok(())
 }
 
+// The first pair of a page of twenty, from each place of each group on.
+fn page_in_groups<S: NodeStore<K = Pair, V = u64>>(
+    rt: &HostRuntime,
+    tree: &BPlusTree<S>,
+    numbers: &[u64],
+) -> Result<(), AllocError> {
+    let start = now(rt);
+    let mut sum = 0u64;
+    for number in numbers {
+        let group = Tuple2(*number / 500);
+        let place = (*number % 500) as usize;
+        if let Some((_, value)) = tree.group_part(&group, place, 20)?.next() {
+            sum = sum.wrapping_add(*value);
+        }
+    }
+    tell(rt, "groups", "page", start, numbers.len(), sum);
+    Ok(())
+}
+
 // The numbers are all those below their number, in two orders.
 fn grouped<S: NodeStore<K = Pair, V = u64>>(
     rt: &HostRuntime,
@@ -418,7 +483,8 @@ where
     insert_in_groups(&mut tree, numbers)?;
     get_in_groups(rt, &tree, others);
     place_in_groups(rt, &tree, others)?;
-    rank_in_groups(rt, &tree, others)
+    rank_in_groups(rt, &tree, others)?;
+    page_in_groups(rt, &tree, others)
 }
 
 fn numbers_below(alloc: Global, many: usize) -> Result<Vec<u64>, AllocError> {

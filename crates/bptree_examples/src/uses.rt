@@ -4,3 +4,4 @@ pub mod grouped_index;
 pub mod leaderboard;
 pub mod secondary_index;
 pub mod sweep_line;
+pub mod takings;

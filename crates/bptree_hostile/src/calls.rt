@@ -7,7 +7,6 @@ use crate::plain::{Answered, Asked};
 use std::alloc::{AllocError, Global};
 use sweep_bptree::script::{Command, Reply};
 use sweep_bptree::tree::count::Count;
-use sweep_bptree::tree::{RankArgument, SearchArgument};
 use sweep_bptree::{BPlusTreeMap, BPlusTreeSet};
 
 /// The calls of a map and of a set. The keys of a set have the value 0.
@@ -35,17 +34,6 @@ pub trait Places {
     fn at(&self, place: usize) -> Result<Option<(u64, u64)>, AllocError>;
 
     fn rank(&self, alloc: Global, key: u64) -> Result<Result<usize, usize>, AllocError>;
-}
-
-/// A summary that tells a number of keys.
-pub trait Counts {
-    fn told(&self) -> usize;
-}
-
-impl Counts for Count {
-    fn told(&self) -> usize {
-        self.count()
-    }
 }
 
 // What a command is answered.
@@ -84,11 +72,39 @@ pub fn carry_out<C: Calls>(alloc: Global, calls: &mut C, talk: &Talk) -> Result<
     Ok(well)
 }
 
-impl<K: Sample, A> Places for BPlusTreeMap<K, u64, A>
-where
-    A: SearchArgument<K, Query = usize> + RankArgument<K, Rank = usize>,
-{
+// Whether the counts of the keys below a key and from it on are right, where so many are below it.
+fn is_counted<K: Sample>(
+    map: &BPlusTreeMap<K, u64, Count>,
+    key: &K,
+    below: usize,
+) -> Result<bool, AllocError> {
+    let from = map.len().saturating_sub(below);
+    let by_counts = map.range_len(None, Some(key)) == below
+        && map.range_len(Some(key), None) == from;
+    let low = map.range_argument(None, Some(key))?.count();
+    let high = map.range_argument(Some(key), None)?.count();
+    Ok(by_counts && low == below && high == from && map.range_len(Some(key), Some(key)) == 0)
+}
+
+// The same of the keys from a place on, and of those before it.
+fn is_counted_at<K: Sample>(
+    map: &BPlusTreeMap<K, u64, Count>,
+    place: usize,
+) -> Result<bool, AllocError> {
+    let before = map.part_argument(0, place)?.count();
+    let from = map.part_argument(place, usize::MAX)?.count();
+    Ok(before == place.min(map.len()) && from == map.len().saturating_sub(place))
+}
+
+// No map has it.
+const WRONG: Option<(u64, u64)> = Some((u64::MAX, u64::MAX));
+
+impl<K: Sample> Places for BPlusTreeMap<K, u64, Count> {
+    // The first pair by a call of its own.
     fn take_at(&mut self, place: usize) -> Result<Option<(u64, u64)>, AllocError> {
+        if place == 0 {
+            return Ok(own_numbers(&self.pop_first()?));
+        }
         Ok(own_numbers(&self.remove_by_argument(place)?))
     }
 
@@ -113,19 +129,33 @@ where
         }
     }
 
+    // And the counts of both sides of the place.
     fn at(&self, place: usize) -> Result<Option<(u64, u64)>, AllocError> {
-        Ok(numbers(self.get_by_argument(place)?))
+        let pair = numbers(self.get_by_argument(place)?);
+        Ok(if is_counted_at(self, place)? {
+            pair
+        } else {
+            WRONG
+        })
     }
 
+    // And the counts of both sides of the key, by which no key has the greatest rank.
     fn rank(&self, alloc: Global, key: u64) -> Result<Result<usize, usize>, AllocError> {
-        self.rank_by_argument(&K::sample(alloc, key)?)
+        let key = K::sample(alloc, key)?;
+        let rank = self.rank_by_argument(&key)?;
+        let below = match &rank {
+            Ok(below) => *below,
+            Err(below) => *below,
+        };
+        Ok(if is_counted(self, &key, below)? {
+            rank
+        } else {
+            Err(usize::MAX)
+        })
     }
 }
 
-impl<K: Sample, A> Calls for BPlusTreeMap<K, u64, A>
-where
-    A: SearchArgument<K, Query = usize> + RankArgument<K, Rank = usize> + Counts,
-{
+impl<K: Sample> Calls for BPlusTreeMap<K, u64, Count> {
     fn put(&mut self, alloc: Global, key: u64, value: u64) -> Result<Option<u64>, AllocError> {
         match self.insert(K::sample(alloc, key)?, value) {
             Ok(old) => Ok(old),
@@ -143,7 +173,7 @@ where
 
     // None of a list is so long, if its summary tells another number.
     fn count(&self) -> usize {
-        if self.root_argument().told() == self.len() {
+        if self.root_argument().count() == self.len() {
             self.len()
         } else {
             usize::MAX

@@ -1,6 +1,6 @@
 //! Trees, maps and sets, each asked by lists of commands on numbers.
 
-use crate::calls::{Counts, carry_out};
+use crate::calls::carry_out;
 use crate::dice::Sample;
 use crate::drawing::{Kinds, Talk, are_same, numbers, own_numbers};
 use crate::plain::{Asked, Plain};
@@ -8,7 +8,8 @@ use crate::rows::loaded;
 use std::alloc::{AllocError, Global};
 use std::mem;
 use sweep_bptree::script::{Command, run};
-use sweep_bptree::tree::{BPlusTree, CloneArgument, NodeStore, RankArgument, SearchArgument};
+use sweep_bptree::tree::count::Count;
+use sweep_bptree::tree::{BPlusTree, CloneArgument, Iter, NodeStore, RankArgument, SearchArgument};
 use sweep_bptree::{BPlusTreeMap, BPlusTreeSet, CloneStore};
 
 /// What holds pairs, and is empty at first. Each call answers false where a reply or what is held is not as the list has it.
@@ -125,6 +126,80 @@ where
     well && pairs.next().is_none() && pairs.next_back().is_none()
 }
 
+// Whether pairs are those of a list from one place up to another: one is taken from the back, two from the front, and the rest
+// of a clone. How many are left is asked at each turn.
+fn is_part<S: NodeStore<V = u64>>(
+    pairs: Iter<'_, S>,
+    plain: &Plain,
+    from: usize,
+    to: usize,
+) -> Result<bool, AllocError>
+where
+    S::K: Sample,
+{
+    let mut pairs = pairs;
+    let mut front = from;
+    let mut back = to;
+    let mut well = pairs.len() == back.saturating_sub(front);
+    if front < back {
+        back = back.saturating_sub(1);
+        well = plain.pair_at(back) == numbers(pairs.next_back()) && well;
+    }
+    for _ in 0..2 {
+        if front < back {
+            well = plain.pair_at(front) == numbers(pairs.next()) && well;
+            front = front.saturating_add(1);
+        }
+    }
+    let left = back.saturating_sub(front);
+    let mut rest = pairs.clone()?;
+    well = pairs.len() == left && rest.size_hint() == (left, Some(left)) && well;
+    for place in front..back {
+        well = plain.pair_at(place) == numbers(rest.next()) && well;
+    }
+    Ok(well && rest.next().is_none() && rest.next_back().is_none() && pairs.len() == left)
+}
+
+// Whether a tree has the parts of a list: with open ends, empty ones, one of one key, and one whose ends fall.
+fn has_parts<S: NodeStore<V = u64>>(
+    alloc: Global,
+    tree: &BPlusTree<S>,
+    plain: &Plain,
+) -> Result<bool, AllocError>
+where
+    S::K: Sample,
+    S::Argument: SearchArgument<S::K, Query = usize>,
+{
+    let len = plain.len();
+    let third = len / 3;
+    let late = len.saturating_sub(third);
+    let places = [
+        (0, len),
+        (third, len),
+        (0, third),
+        (third, late),
+        (late, late),
+        (third, third.saturating_add(1)),
+        (late, third),
+    ];
+    let mut well = true;
+    for (from, to) in places {
+        // No key stands at the end, so none can begin there.
+        if from == 0 || from < len {
+            let end = to.min(len).max(from);
+            let lo = if from == 0 { None } else { plain.key_at(from) };
+            let lo: Option<S::K> = some_key(alloc, &lo)?;
+            let hi: Option<S::K> = some_key(alloc, &plain.key_at(to))?;
+            well = is_part(tree.range(lo.as_ref(), hi.as_ref()), plain, from, end)? && well;
+            let few = end.saturating_sub(from);
+            well = is_part(tree.range_by_argument(from, few)?, plain, from, end)? && well;
+            let rest = tree.range_by_argument(from, usize::MAX)?;
+            well = is_part(rest, plain, from, len.max(from))? && well;
+        }
+    }
+    Ok(well)
+}
+
 // The pairs of a tree that is given away, from the back.
 fn gives_back<S: NodeStore<V = u64>>(tree: BPlusTree<S>, plain: &Plain) -> bool
 where
@@ -163,22 +238,19 @@ where
     fn renews(&mut self, alloc: Global, plain: &Plain, turn: u64) -> Result<bool, AllocError> {
         let next = match turn % 5 {
             0 => self.clone()?,
-            1 => loaded(alloc, pairs_on_keys(alloc, &plain.doubled()?)?)?,
+            1 => loaded(pairs_on_keys(alloc, &plain.doubled()?)?)?,
             _ => return Ok(true),
         };
         let before = mem::replace(self, next);
         Ok(gives_back(before, plain))
     }
 
-    fn shows(&self, _alloc: Global, plain: &Plain) -> Result<bool, AllocError> {
-        Ok(has_all(self, plain))
+    fn shows(&self, alloc: Global, plain: &Plain) -> Result<bool, AllocError> {
+        Ok(has_all(self, plain) && has_parts(alloc, self, plain)?)
     }
 }
 
-impl<K: Sample, A> Holds for BPlusTreeMap<K, u64, A>
-where
-    A: SearchArgument<K, Query = usize> + RankArgument<K, Rank = usize> + Counts,
-{
+impl<K: Sample> Holds for BPlusTreeMap<K, u64, Count> {
     fn begin(alloc: Global) -> Result<Self, AllocError> {
         BPlusTreeMap::new(alloc)
     }
@@ -214,6 +286,9 @@ where
         for place in 0..plain.len() {
             well = plain.pair_at(place) == numbers(pairs.next()) && well;
         }
+        let last = plain.len().saturating_sub(1);
+        well = plain.pair_at(0) == numbers(self.first()) && well;
+        well = plain.pair_at(last) == numbers(self.last()) && well;
         Ok(well && pairs.next().is_none() && has_all(self.tree(), plain))
     }
 }
@@ -253,16 +328,21 @@ impl<K: Sample> Holds for BPlusTreeSet<K> {
         Ok(true)
     }
 
-    // Also once its keys are put together with all of them but some.
+    // Also once its keys are put together with all of them but some, and those that the others leave.
     fn shows(&self, alloc: Global, plain: &Plain) -> Result<bool, AllocError> {
         let other = BPlusTreeSet::from_iter(alloc, most_keys(alloc, plain)?)?;
         let mut keys = self.iter();
         let mut union = self.union(&other);
+        let mut left = self.difference(&other);
         let mut well = keys.len() == plain.len();
         for place in 0..plain.len() {
             well = number(keys.next()) == plain.key_at(place) && well;
             well = number(union.next()) == plain.key_at(place) && well;
+            if place % 3 == 0 {
+                well = number(left.next()) == plain.key_at(place) && well;
+            }
         }
-        Ok(well && keys.next().is_none() && union.next().is_none())
+        let is_over = keys.next().is_none() && union.next().is_none() && left.next().is_none();
+        Ok(well && is_over)
     }
 }

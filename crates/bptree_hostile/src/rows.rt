@@ -12,21 +12,18 @@ use sweep_bptree::tree::visit::DescendError;
 use sweep_bptree::tree::{BPlusTree, InnerNodeId, LeafNodeId, NodeId, NodeStore, in_load_order};
 
 /// A tree that is loaded at once with pairs in the order of their keys.
-pub fn loaded<S: NodeStore>(
-    alloc: Global,
-    pairs: Vec<(S::K, S::V)>,
-) -> Result<BPlusTree<S>, AllocError> {
+pub fn loaded<S: NodeStore>(pairs: Vec<(S::K, S::V)>) -> Result<BPlusTree<S>, AllocError> {
     if !in_load_order(&pairs) {
         return Err(AllocError);
     }
-    BPlusTree::bulk_load(alloc, pairs)
+    BPlusTree::bulk_load(pairs)
 }
 
 /// A tree of numbers, by its calls.
 pub trait Known: Drop {
     fn begin(alloc: Global) -> Result<Self, AllocError>;
 
-    fn load(alloc: Global, pairs: Vec<(u64, u64)>) -> Result<Self, AllocError>;
+    fn load(pairs: Vec<(u64, u64)>) -> Result<Self, AllocError>;
 
     fn find(&self, key: u64) -> Option<u64>;
 
@@ -64,8 +61,8 @@ impl<S: NodeStore<K = u64, V = u64, Argument = Count>> Known for BPlusTree<S> {
         BPlusTree::new(S::empty(alloc))
     }
 
-    fn load(alloc: Global, pairs: Vec<(u64, u64)>) -> Result<Self, AllocError> {
-        loaded(alloc, pairs)
+    fn load(pairs: Vec<(u64, u64)>) -> Result<Self, AllocError> {
+        loaded(pairs)
     }
 
     fn find(&self, key: u64) -> Option<u64> {
@@ -139,7 +136,7 @@ fn tens<T: Known>(alloc: Global) -> Result<T, AllocError> {
     for key in 0..10_000 {
         pairs.push((key, key * 10))?;
     }
-    T::load(alloc, pairs)
+    T::load(pairs)
 }
 
 // What a look-up of the tens has to answer.

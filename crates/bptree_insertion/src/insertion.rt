@@ -259,10 +259,7 @@ fn replace_at<S: NodeStore>(store: &mut S, id: LeafNodeId, slot: usize, v: S::V)
     ensures sets { (was : Leaf S.K S.V) → (S.slots store.old).leaf id.0 ≡ Present was → UpdatesLeaf (S.slots store.old) (S.slots store.new) id.0 (Present (record was { pairs = set_value_at was.pairs slot v })) }
     ensures old { slice_get (values_of (leaf_pairs ((S.slots store.old).leaf id.0))) slot ≡ Some result }
 {
-    let mut leaf = store.take_leaf(id);
-    let was = leaf.replace_value(slot, v);
-    store.assign_leaf(id, leaf);
-    was
+    store.get_mut_leaf(id).replace_value(slot, v)
 }
 
 // The root and the height, with a new root where there is one.

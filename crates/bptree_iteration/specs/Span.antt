@@ -1,10 +1,27 @@
 -- Leaves that follow one another by their links, and the pairs between two places in them.
-use Rattle.std.specs.Prelude.{◌≡◌, ℕ, zero, suc, ◌+◌, ◌<◌, ◌≤◌, ◌≢◌, IsSome, List, [], ◌∷◌, ◌++◌, length, take, drop, Option, Some, None}
+use Rattle.std.specs.Prelude.{◌≡◌, ◌==◌, ℕ, zero, suc, ◌+◌, ◌-◌, ◌<◌, ◌≤◌, ◌≢◌, ⊤, cond, IsSome, List, [], ◌∷◌, ◌++◌, length, slice_get, take, drop, Option, Some, None}
 use Rattle.std.specs.Option.{option_map_or}
+use Rattle.bptree_iteration.specs.declared.part.Extent.{Extent}
+use Rattle.bptree_iteration.specs.declared.part.Extent.TheVariants.{Exact, Open, Cut}
 use Rattle.bptree_keys.specs.declared.node_id.LeafNodeId.{LeafNodeId}
 use Rattle.bptree_nodes.specs.Inner.{Inner}
 use Rattle.bptree_nodes.specs.Leaf.{Leaf}
 use Rattle.bptree_nodes.specs.Slot.{Slot, Slots, Free, Held, Present}
+
+-- of these leaves the last one alone is `back`
+abbrev pub AreApart : LeafNodeId → List LeafNodeId → LeafNodeId → Type 0
+AreApart front [] back = ⊤
+AreApart front (id ∷ ids) back = (front ≢ back) × AreApart id ids back
+
+-- what `limit` says of so many pairs: how many they are, that they are no more, or nothing
+abbrev pub Tells : Extent → ℕ → ℕ → Type 0
+Tells Exact limit n = n ≡ limit
+Tells Open limit n = n ≤ limit
+Tells Cut limit n = ⊤
+
+-- the pairs of a leaf go up to this place: the place of the back, where that is in this leaf, or else its end
+abbrev pub IsEndIn : {K V : Type 0} → LeafNodeId → LeafNodeId → ℕ → Leaf K V → ℕ → Type 0
+IsEndIn front back to leaf end = (front ≡ back → end ≡ to) × (front ≢ back → end ≡ length leaf.pairs)
 
 module _ {K V : Type 0} (leaves : LeafNodeId → Option (Leaf K V)) where
   -- From place `from` of the leaf `front`, along the leaves `ids` after it, up to place `to` of the
@@ -33,36 +50,55 @@ module _ {K V : Type 0} (leaves : LeafNodeId → Option (Leaf K V)) where
   abbrev pub pairs_left : LeafNodeId → ℕ → ℕ → List (K × V)
   pairs_left front from len = take len (pairs_from (len + 2) front from)
 
-  -- an iterator between these two places has `len` pairs left
-  pub record IsBetween (front : LeafNodeId) (from : ℕ) (back : LeafNodeId) (to len : ℕ) : Type 0 where
+  -- the pairs of a leaf from one place up to another
+  abbrev pub pairs_within : Option (Leaf K V) → ℕ → ℕ → List (K × V)
+  pairs_within None from to = []
+  pairs_within (Some leaf) from to = drop from (take to leaf.pairs)
+
+  -- the pairs of so many leaves, from place `from` of the leaf `front` on, and up to place `to` of the leaf `back`
+  abbrev pub pairs_upto : ℕ → LeafNodeId → ℕ → LeafNodeId → ℕ → List (K × V)
+  pairs_upto zero front from back to = []
+  pairs_upto (suc count) front from back to = cond (front.0 == back.0) (pairs_within (leaves front) from to) (pairs_of (λ id place. pairs_upto count id place back to) (leaves front) from)
+
+  -- the first `limit` pairs between two places, or all where there are fewer: no leaf but the first and the last is without
+  -- one
+  abbrev pub first_between : LeafNodeId → ℕ → LeafNodeId → ℕ → ℕ → List (K × V)
+  first_between front from back to limit = take limit (pairs_upto (limit + 1) front from back to)
+
+  -- between two places stand pairs, of which `limit` tells this
+  pub record IsBetween (front : LeafNodeId) (from : ℕ) (back : LeafNodeId) (to limit : ℕ) (extent : Extent) : Type 0 where
     pub ids : List LeafNodeId
-    pub span : IsSpan front from ids back to (pairs_left front from len)
-    pub counted : len ≡ length (pairs_left front from len)
+    pub pairs : List (K × V)
+    pub span : IsSpan front from ids back to pairs
+    pub apart : AreApart front ids back
+    pub tells : Tells extent limit (length pairs)
 
   -- a step from this place of a leaf on stays in a leaf
-  pub record CanGoOn (id : LeafNodeId) (offset : ℕ) : Type 0 where
+  pub record CanGoOn (id : LeafNodeId) (offset : ℕ) (back : LeafNodeId) : Type 0 where
     pub leaf : Leaf K V
     pub found : leaves id ≡ Some leaf
-    pub next : offset ≡ length leaf.pairs → (after : LeafNodeId) × (leaf.next ≡ Some after) × IsSome (leaves after)
+    pub next : id ≢ back → offset ≡ length leaf.pairs → (after : LeafNodeId) × (leaf.next ≡ Some after) × IsSome (leaves after)
 
-  -- The place is the one at hand, or where that is the end of its leaf, the start of the next one.
-  pub record IsFrontPlace (id : LeafNodeId) (offset : ℕ) (id' : LeafNodeId) (offset' : ℕ) : Type 0 where
+  -- The place is the one at hand, or where that is the end of a leaf before the last, the start of the next one.
+  pub record IsFrontPlace (id : LeafNodeId) (offset : ℕ) (back id' : LeafNodeId) (offset' : ℕ) : Type 0 where
     pub leaf : Leaf K V
     pub found : leaves id ≡ Some leaf
-    pub over : offset ≡ length leaf.pairs → (leaf.next ≡ Some id') × (offset' ≡ 0)
+    pub over : id ≢ back → offset ≡ length leaf.pairs → (leaf.next ≡ Some id') × (offset' ≡ 0)
+    pub last : id ≡ back → (id' ≡ id) × (offset' ≡ offset)
     pub here : offset ≢ length leaf.pairs → (id' ≡ id) × (offset' ≡ offset)
 
   -- a step back from this place of a leaf stays in a leaf
-  pub record CanGoBack (id : LeafNodeId) (offset : ℕ) : Type 0 where
+  pub record CanGoBack (id : LeafNodeId) (offset : ℕ) (front : LeafNodeId) : Type 0 where
     pub leaf : Leaf K V
     pub found : leaves id ≡ Some leaf
-    pub prev : offset ≡ 0 → (before : LeafNodeId) × (leaf.prev ≡ Some before) × IsSome (leaves before)
+    pub prev : id ≢ front → offset ≡ 0 → (before : LeafNodeId) × (leaf.prev ≡ Some before) × IsSome (leaves before)
 
-  -- The place is the one at hand, or where that is the start of its leaf, the end of the one before.
-  pub record IsBackPlace (id : LeafNodeId) (offset : ℕ) (id' : LeafNodeId) (offset' : ℕ) : Type 0 where
+  -- The place is the one at hand, or where that is the start of a leaf behind the first, the end of the one before.
+  pub record IsBackPlace (id : LeafNodeId) (offset : ℕ) (front id' : LeafNodeId) (offset' : ℕ) : Type 0 where
     pub leaf : Leaf K V
     pub found : leaves id ≡ Some leaf
-    pub over : offset ≡ 0 → (leaf.prev ≡ Some id') × (before : Leaf K V) × (leaves id' ≡ Some before) × (offset' ≡ length before.pairs)
+    pub over : id ≢ front → offset ≡ 0 → (leaf.prev ≡ Some id') × (before : Leaf K V) × (leaves id' ≡ Some before) × (offset' ≡ length before.pairs)
+    pub first : id ≡ front → (id' ≡ id) × (offset' ≡ offset)
     pub here : offset ≢ 0 → (id' ≡ id) × (offset' ≡ offset)
 
 -- the leaf that stands under a number, if one does

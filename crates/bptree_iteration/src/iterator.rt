@@ -1,10 +1,12 @@
 //! The pairs of a tree, one by one from both ends, along the links of its leaves.
-ghost use Rattle.std.specs.Prelude.{◌≡◌, IsSome, Some, length, IfSome, ⊤};
+ghost use Rattle.std.specs.Prelude.{◌≡◌, ◌<◌, ◌≤◌, ◌≢◌, IsSome, IsTrue, Some, [], length, IfSome, true, false, ⊤};
 ghost use Rattle.std.specs.Iterator.{at_most, item_count, UpTo};
 ghost use Rattle.std.specs.Iterator.SizeHint.{IsWithinCount};
 ghost use Rattle.std.specs.Map.Iter.{TakesFirst, TakesLast, deref_pair};
-ghost use Rattle.bptree_iteration.specs.Span.{leaves_of, pairs_left, IsBetween, CanGoOn, IsFrontPlace, CanGoBack, IsBackPlace};
+ghost use Rattle.bptree_iteration.specs.Span.{leaves_of, first_between, IsBetween, IsEndIn, CanGoOn, IsFrontPlace, CanGoBack, IsBackPlace};
+ghost use Rattle.bptree_iteration.specs.declared.part.Extent.TheVariants as extents;
 
+pub use crate::part::{Extent, Part};
 use bptree_keys::node_id::LeafNodeId;
 use bptree_nodes::leaf_node::LeafNode;
 use bptree_stores::node_stores::NodeStore;
@@ -20,48 +22,49 @@ pub struct Iter<'a, S: NodeStore> {
     // length.
     front: LeafNodeId,
     from: usize,
+    // The place in that leaf up to which its pairs are between the two ends.
+    end: usize,
     // The leaf under the number `front`, so that a step within it asks nothing of the store.
     leaf: &'a LeafNode<S::K, S::V>,
-    // The leaf of the last pair and the place after it, or the leaf after it and 0.
+    // The leaf of the last pair and the place after it, or the leaf after it and 0; where `extent` is `Cut`, a place
+    // that may be behind it.
     back: LeafNodeId,
     to: usize,
-    len: usize,
+    // No more pairs than these are left.
+    limit: usize,
+    extent: Extent,
     // The items are borrowed for 'a.
     marker: PhantomData<&'a (S::K, S::V)>,
 }
 
 impl<'a, S: NodeStore> Model for Iter<'a, S> {
     ghost use Rattle.std.specs.Prelude.{◌≡◌, List, Some};
-    ghost use Rattle.bptree_iteration.specs.Span.{leaves_of, pairs_left, IsBetween};
+    ghost use Rattle.bptree_iteration.specs.Span.{leaves_of, first_between, IsBetween, IsEndIn};
 
     ghost Value = { List (S.K × S.V) };
 
-    ghost view = { λ it. pairs_left (leaves_of (S.slots it.store.now)) it.front it.from it.len };
+    ghost view = { λ it. first_between (leaves_of (S.slots it.store.now)) it.front it.from it.back it.to it.limit };
 
-    ghost invariant = { λ it. IsBetween (leaves_of (S.slots it.store.now)) it.front it.from it.back it.to it.len × (leaves_of (S.slots it.store.now) it.front ≡ Some it.leaf.now) };
+    ghost invariant = { λ it. IsBetween (leaves_of (S.slots it.store.now)) it.front it.from it.back it.to it.limit it.extent × (leaves_of (S.slots it.store.now) it.front ≡ Some it.leaf.now) × IsEndIn it.front it.back it.to it.leaf.now it.end };
 }
 
 impl<'a, S: NodeStore> Iter<'a, S> {
-    /// From place `from` of the leaf `front` up to place `to` of the leaf `back`, between which `len` pairs stand.
-    pub fn new(
-        store: &'a S,
-        front: LeafNodeId,
-        from: usize,
-        back: LeafNodeId,
-        to: usize,
-        len: usize,
-    ) -> Self
-        requires { IsBetween (leaves_of (S.slots store.now)) front from back to len }
-        ensures { result ≡ pairs_left (leaves_of (S.slots store.now)) front from len }
+    /// The pairs of a part. It steps through no leaf.
+    pub fn new(store: &'a S, part: Part) -> Self
+        requires { IsBetween (leaves_of (S.slots store.now)) part.front part.from part.back part.to part.limit part.extent }
+        ensures { result ≡ first_between (leaves_of (S.slots store.now)) part.front part.from part.back part.to part.limit }
     {
+        let leaf = leaf_at(store, part.front);
         Iter {
             store,
-            front,
-            from,
-            leaf: leaf_at(store, front),
-            back,
-            to,
-            len,
+            front: part.front,
+            from: part.from,
+            end: end_in(part.front, leaf, part.back, part.to),
+            leaf,
+            back: part.back,
+            to: part.to,
+            limit: part.limit,
+            extent: part.extent,
             marker: PhantomData,
         }
     }
@@ -74,39 +77,151 @@ fn leaf_at<S: NodeStore>(store: &S, id: LeafNodeId) -> &LeafNode<S::K, S::V>
     store.get_leaf(id)
 }
 
-// The leaf that the front place goes on to, and the place of the next pair there: where the place at hand is the end of its
-// leaf, the start of the next.
+// The place in the first leaf up to which its pairs are between the two ends: its end, where it is not the last leaf too.
+fn end_in<K: Drop, V: Drop>(
+    front: LeafNodeId,
+    leaf: &LeafNode<K, V>,
+    back: LeafNodeId,
+    to: usize,
+) -> usize
+    ensures { IsEndIn front back to leaf.now result }
+{
+    if front.as_usize() == back.as_usize() {
+        to
+    } else {
+        leaf.len()
+    }
+}
+
+// The leaf that the front place goes on to, the place of the next pair there, and where the leaf's pairs end: where the place
+// at hand is the end of a leaf before the last one, the start of the next.
 fn front_place<'a, S: NodeStore>(
     store: &'a S,
     id: LeafNodeId,
     leaf: &'a LeafNode<S::K, S::V>,
     offset: usize,
-) -> (LeafNodeId, &'a LeafNode<S::K, S::V>, usize)
-    requires goes_on { CanGoOn (leaves_of (S.slots store.now)) id offset }
+    end: usize,
+    back: LeafNodeId,
+    to: usize,
+) -> (LeafNodeId, &'a LeafNode<S::K, S::V>, usize, usize)
+    requires goes_on { CanGoOn (leaves_of (S.slots store.now)) id offset back }
     requires at { leaves_of (S.slots store.now) id ≡ Some leaf.now }
-    ensures place { IsFrontPlace (leaves_of (S.slots store.now)) id offset result.0 result.2 }
+    requires end { IsEndIn id back to leaf.now end }
+    ensures place { IsFrontPlace (leaves_of (S.slots store.now)) id offset back result.0 result.2 }
     ensures leaf { leaves_of (S.slots store.now) result.0 ≡ Some result.1.now }
+    ensures end { IsEndIn result.0 back to result.1.now result.3 }
 {
-    if offset == leaf.len() {
-        let next = leaf.next().unwrap();
-        (next, leaf_at(store, next), 0)
+    if offset != end || id.as_usize() == back.as_usize() {
+        return (id, leaf, offset, end);
+    }
+    let next = leaf.next().unwrap();
+    let after = leaf_at(store, next);
+    (next, after, 0, end_in(next, after, back, to))
+}
+
+// The place behind the last pair: where the place at hand is the start of a leaf behind the first one, the end of the one
+// before.
+fn back_place<S: NodeStore>(
+    store: &S,
+    id: LeafNodeId,
+    offset: usize,
+    front: LeafNodeId,
+) -> (LeafNodeId, usize)
+    requires { CanGoBack (leaves_of (S.slots store.now)) id offset front }
+    ensures { IsBackPlace (leaves_of (S.slots store.now)) id offset front result.0 result.1 }
+{
+    if offset != 0 || id.as_usize() == front.as_usize() {
+        return (id, offset);
+    }
+    let before = leaf_at(store, id).prev().unwrap();
+    (before, leaf_at(store, before).len())
+}
+
+// Whether a pair stands between two places: a leaf that is not the last one has one behind the front place.
+fn are_apart(front: LeafNodeId, from: usize, back: LeafNodeId, to: usize) -> bool
+    ensures some { result ≡ true → front ≡ back → from < to }
+    ensures none { result ≡ false → (front ≡ back) × (to ≤ from) }
+{
+    front.as_usize() != back.as_usize() || from < to
+}
+
+// Where the first `limit` of the pairs between two places end, or all where there are fewer, and how many they are.
+//
+// A step for each leaf up to that place.
+fn end_of_first<S: NodeStore>(
+    store: &S,
+    front: LeafNodeId,
+    from: usize,
+    back: LeafNodeId,
+    to: usize,
+    limit: usize,
+) -> (LeafNodeId, usize, usize)
+    requires { IsBetween (leaves_of (S.slots store.now)) front from back to limit extents.Cut }
+    ensures between { IsBetween (leaves_of (S.slots store.now)) front from result.0 result.1 result.2 extents.Exact }
+    ensures same { first_between (leaves_of (S.slots store.now)) front from result.0 result.1 result.2 ≡ first_between (leaves_of (S.slots store.now)) front from back to limit }
+{
+    let mut at = front;
+    let mut passed = from;
+    let mut left = limit;
+    'leaves: while at.as_usize() != back.as_usize() {
+        let leaf = leaf_at(store, at);
+        let here = leaf.len() - passed;
+        if left <= here {
+            return (at, passed + left, limit);
+        }
+        left -= here;
+        at = leaf.next().unwrap();
+        passed = 0;
+    }
+    let here = to - passed;
+    if left <= here {
+        (at, passed + left, limit)
     } else {
-        (id, leaf, offset)
+        (back, to, limit - left + here)
     }
 }
 
-// The place behind the last pair: where the place at hand is the start of its leaf, the end of the one
-// before.
-fn back_place<S: NodeStore>(store: &S, id: LeafNodeId, offset: usize) -> (LeafNodeId, usize)
-    requires { CanGoBack (leaves_of (S.slots store.now)) id offset }
-    ensures { IsBackPlace (leaves_of (S.slots store.now)) id offset result.0 result.1 }
+// How many pairs are left. Where that is not known, a step for each leaf between the two places.
+fn count_left<S: NodeStore>(
+    store: &S,
+    front: LeafNodeId,
+    from: usize,
+    back: LeafNodeId,
+    to: usize,
+    limit: usize,
+    extent: Extent,
+) -> usize
+    requires { IsBetween (leaves_of (S.slots store.now)) front from back to limit extent }
+    ensures { result ≡ length (first_between (leaves_of (S.slots store.now)) front from back to limit) }
 {
-    let leaf = leaf_at(store, id);
-    if offset == 0 {
-        let before = leaf.prev().unwrap();
-        (before, leaf_at(store, before).len())
-    } else {
-        (id, offset)
+    match extent {
+        Extent::Exact => limit,
+        Extent::Open | Extent::Cut => end_of_first(store, front, from, back, to, limit).2,
+    }
+}
+
+// Where the pairs end that are left, with what is known of how many they are: where the end is not known, a step for each of
+// their leaves.
+fn known_end<S: NodeStore>(
+    store: &S,
+    front: LeafNodeId,
+    from: usize,
+    back: LeafNodeId,
+    to: usize,
+    limit: usize,
+    extent: Extent,
+) -> (LeafNodeId, usize, usize, Extent)
+    requires { IsBetween (leaves_of (S.slots store.now)) front from back to limit extent }
+    ensures between { IsBetween (leaves_of (S.slots store.now)) front from result.0 result.1 result.2 result.3 }
+    ensures same { first_between (leaves_of (S.slots store.now)) front from result.0 result.1 result.2 ≡ first_between (leaves_of (S.slots store.now)) front from back to limit }
+    ensures known { result.3 ≢ extents.Cut }
+{
+    match extent {
+        Extent::Cut => {
+            let (end, upto, count) = end_of_first(store, front, from, back, to, limit);
+            (end, upto, count, Extent::Exact)
+        }
+        Extent::Exact | Extent::Open => (back, to, limit, extent),
     }
 }
 
@@ -118,24 +233,40 @@ impl<'a, S: NodeStore> Iterator for Iter<'a, S> {
     ghost remaining = { item_count (λ left. left) };
 
     fn next(&mut self) -> Option<(&'a S::K, &'a S::V)> {
-        if self.len == 0 {
+        if self.limit == 0 {
             return None;
         }
-        let (front, leaf, from) = front_place(self.store, self.front, self.leaf, self.from);
+        let (front, leaf, from, end) = front_place(
+            self.store, self.front, self.leaf, self.from, self.end, self.back, self.to,
+        );
+        if from == end {
+            return None;
+        }
         let pair = leaf.data_at(from);
         self.front = front;
         self.leaf = leaf;
         self.from = from + 1;
-        self.len -= 1;
+        self.end = end;
+        self.limit -= 1;
         Some(pair)
     }
 
+    /// Where it is not known how many pairs are left, a step for each leaf that is left.
     fn size_hint(&self) -> (usize, Option<usize>)
         ensures lower { IsWithinCount result.0 (at_most (length self.now)) }
         ensures upper { IfSome result.1 (UpTo (at_most (length self.now))) }
         ensures exact { result ≡ (length self.now, Some (length self.now)) }
     {
-        (self.len, Some(self.len))
+        let len = count_left(
+            self.store,
+            self.front,
+            self.from,
+            self.back,
+            self.to,
+            self.limit,
+            self.extent,
+        );
+        (len, Some(len))
     }
 }
 
@@ -143,21 +274,44 @@ impl<'a, S: NodeStore> DoubleEndedIterator for Iter<'a, S> {
     ghost next_back_gives = { TakesLast deref_pair };
 
     fn next_back(&mut self) -> Option<(&'a S::K, &'a S::V)> {
-        if self.len == 0 {
+        if self.limit == 0 {
             return None;
         }
-        let (back, to) = back_place(self.store, self.back, self.to);
+        let (end, upto, limit, extent) = known_end(
+            self.store,
+            self.front,
+            self.from,
+            self.back,
+            self.to,
+            self.limit,
+            self.extent,
+        );
+        let (back, to) = back_place(self.store, end, upto, self.front);
+        if !are_apart(self.front, self.from, back, to) {
+            return None;
+        }
         let pair = leaf_at(self.store, back).data_at(to - 1);
         self.back = back;
         self.to = to - 1;
-        self.len -= 1;
+        self.end = end_in(self.front, self.leaf, back, to - 1);
+        self.limit = limit - 1;
+        self.extent = extent;
         Some(pair)
     }
 }
 
 impl<'a, S: NodeStore> ExactSizeIterator for Iter<'a, S> {
+    /// Where it is not known how many pairs are left, a step for each leaf that is left.
     fn len(&self) -> usize {
-        self.len
+        count_left(
+            self.store,
+            self.front,
+            self.from,
+            self.back,
+            self.to,
+            self.limit,
+            self.extent,
+        )
     }
 }
 
@@ -173,10 +327,12 @@ impl<'a, S: NodeStore> Clone for Iter<'a, S> {
             store: self.store,
             front: self.front,
             from: self.from,
+            end: self.end,
             leaf: self.leaf,
             back: self.back,
             to: self.to,
-            len: self.len,
+            limit: self.limit,
+            extent: self.extent,
             marker: PhantomData,
         })
     }

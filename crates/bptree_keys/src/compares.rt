@@ -7,6 +7,10 @@ ghost use Rattle.bptree_keys.specs.Locate.{locate};
 
 use std::cmp::Ordering;
 use std::marker::Model;
+use std::mem::size_of_val;
+
+// The most bytes of a key that is searched for without branches.
+const LONG: usize = 16;
 
 /// How many comparisons were made. The count stops at the greatest `usize`.
 #[derive(Drop)]
@@ -79,6 +83,39 @@ fn search<K: Ord>(keys: &[K], key: &K, compares: &mut Compares) -> Result<usize,
     }
 }
 
+/// The same, with a branch on each comparison, so that the next key can be fetched before a comparison is done: for keys that
+/// are long, or whose bytes stand elsewhere, as a string's.
+#[inline]
+fn search_by_branches<K: Ord>(keys: &[K], key: &K, compares: &mut Compares) -> Result<usize, usize>
+    requires { length keys.now ≤ 64 }
+    ensures in_range { IsSearchInRange result (length keys.now) }
+    ensures position { IsBinarySearchResult (λ y. K.cmp y key.now) keys.now result }
+    ensures counts_on { compares.old ≤ compares.new }
+    ensures count { compares.new ≤ compares.old + 7 }
+{
+    if keys.is_empty() {
+        return Err(0);
+    }
+    let mut base = 0usize;
+    let mut width = 64usize;
+    'widths: while width > 1 {
+        let half = width / 2;
+        if half < keys.len() - base {
+            match compares.compare(&keys[base + half], key) {
+                Ordering::Less => base += half,
+                Ordering::Equal => return Ok(base + half),
+                Ordering::Greater => {}
+            }
+        }
+        width -= half;
+    }
+    match compares.compare(&keys[base], key) {
+        Ordering::Less => Err(base + 1),
+        Ordering::Equal => Ok(base),
+        Ordering::Greater => Err(base),
+    }
+}
+
 /// The place of `key` among ascending `keys`, or how many are smaller.
 #[inline]
 pub fn locate_counted<K: Ord>(keys: &[K], key: &K, compares: &mut Compares) -> Result<usize, usize>
@@ -89,6 +126,9 @@ pub fn locate_counted<K: Ord>(keys: &[K], key: &K, compares: &mut Compares) -> R
     ensures counts_on { compares.old ≤ compares.new }
     ensures count { compares.new ≤ compares.old + 7 }
 {
+    if size_of_val(key) > LONG {
+        return search_by_branches(keys, key, compares);
+    }
     search(keys, key, compares)
 }
 

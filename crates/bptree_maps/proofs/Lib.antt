@@ -1,3 +1,5 @@
+pub mod DifferenceLemmas
 pub mod KeyLemmas
 pub mod PageLemmas
+pub mod PopLemmas
 pub mod UnionLemmas

@@ -26,3 +26,7 @@ module _ {K : Type 0} (cmp : K → K → Ordering) where
   -- the keys that are not below lo, where lo is given, and are below hi, where hi is given
   abbrev pub keys_between : List K → Option K → Option K → List K
   keys_between keys lo hi = filter (λ key. not (falls_short cmp lo key) && stays_below cmp hi key) keys
+
+  -- the keys of a list that no key of another equals
+  abbrev pub keys_without : List K → List K → List K
+  keys_without keys others = filter (λ key. not (holds others key)) keys

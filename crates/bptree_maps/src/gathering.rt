@@ -7,15 +7,14 @@ use bptree_keys::key::Key;
 use bptree_loading::loading::sort_for_load;
 use bptree_stores::node_store_vec::NodeStoreVec;
 use bptree_tree::BPlusTree;
-use std::alloc::{AllocError, Global};
+use std::alloc::AllocError;
 
 // Sorts the pairs by their keys, equal ones in the order that they came in, and loads them: of each key the last pair stays.
 pub(crate) fn gather_tree<K: Key, V: Drop, A: Argument<K>>(
-    alloc: Global,
     mut pairs: Vec<(K, V)>,
 ) -> Result<BPlusTree<NodeStoreVec<K, V, A>>, AllocError>
     ensures { IfOk result (λ tree. tree.contents ≡ gather K.cmp pairs.items) }
 {
     sort_for_load(&mut pairs)?;
-    BPlusTree::bulk_load(alloc, pairs)
+    BPlusTree::bulk_load(pairs)
 }

@@ -5,13 +5,17 @@ ghost use Rattle.std.specs.Map.{keys_of, values_of};
 ghost use Rattle.std.specs.Iterator.{Drains, IsFinite, at_most, item_count, UpTo};
 ghost use Rattle.std.specs.Iterator.Runs.{WholeRun};
 ghost use Rattle.std.specs.Iterator.SizeHint.{IsWithinCount};
-ghost use Rattle.std.specs.Map.Iter.{ShowsInOrder, TakesFirst, TakesLast, deref_pair};
+ghost use Rattle.std.specs.List.{AllZip};
+ghost use Rattle.std.specs.Map.Iter.{ShowsInOrder, GivesInOrder, GivesInReverse, TakesFirst, TakesLast, deref_pair};
 ghost use Rattle.std.specs.Option.{option_map, option_copied, option_copied_mut};
+ghost use Rattle.std.specs.declared.cmp.Ordering.TheVariants.{Equal};
 ghost use Rattle.bptree_arguments.specs.Groups.{of_group};
 ghost use Rattle.bptree_arguments.specs.Visits.{answered, IsAllowedError};
 ghost use Rattle.bptree_ascent.specs.Lending.{written};
 ghost use Rattle.bptree_keys.specs.Contents.{IsAscending, has, value, put, del, gather};
 ghost use Rattle.bptree_keys.specs.Ranges.{between, part};
+ghost use Rattle.bptree_maps.specs.Popping.{IsPopped};
+ghost use Rattle.bptree_ranges.specs.Summaries.{IsPartSummary};
 ghost use Rattle.bptree_ways.specs.ByArgument.{IsPartSelected, IsSelected, IsTaken};
 ghost use Rattle.bptree_tree.specs.Refusal.{pair_of};
 ghost use Rattle.bptree_maps.specs.contracts.map.BPlusTreeMap.{the_row};
@@ -19,12 +23,13 @@ ghost use Rattle.bptree_maps.specs.Rows.{inner_row};
 ghost use Rattle.bptree_maps.specs.Writing.{WritesAt};
 
 use crate::gathering::gather_tree;
-use bptree_arguments::argument::{Argument, RankArgument, SearchArgument};
+use bptree_arguments::argument::{Argument, CloneArgument, RankArgument, SearchArgument};
+use bptree_arguments::count::Count;
 use bptree_arguments::group::FromRef;
 use bptree_arguments::visit::{DescendError, DescendVisit};
 use bptree_keys::key::Key;
 use bptree_stores::node_store_vec::NodeStoreVec;
-use bptree_tree::{BPlusTree, InsertError, SelectError, iterator};
+use bptree_tree::{BPlusTree, InsertError, SelectError, iterator, tree};
 use std::alloc::{AllocError, Global};
 use std::iter::{ExactSizeIterator, FusedIterator};
 use std::marker::Model;
@@ -74,7 +79,7 @@ impl<K: Key, V: Drop, A: Argument<K>> BPlusTreeMap<K, V, A> {
     {
         let given: Vec<(K, V)> = pairs.into_iter().collect(alloc)?;
         Ok(BPlusTreeMap {
-            inner: gather_tree(alloc, given)?,
+            inner: gather_tree(given)?,
         })
     }
 
@@ -139,6 +144,47 @@ impl<K: Key, V: Drop, A: Argument<K>> BPlusTreeMap<K, V, A> {
         ensures err { OnErr result (self.new ≡ self.old) }
     {
         self.inner.remove(k)
+    }
+
+    /// The pair with the least key.
+    pub fn first(&self) -> Option<(&K, &V)>
+        ensures { option_map (λ pair. (pair.0.now, pair.1.now)) result ≡ slice_get self.now 0 }
+    {
+        self.inner.first()
+    }
+
+    /// The pair with the greatest key.
+    pub fn last(&self) -> Option<(&K, &V)>
+        ensures { option_map (λ pair. (pair.0.now, pair.1.now)) result ≡ slice_get self.now (length self.now - 1) }
+    {
+        self.inner.last()
+    }
+
+    /// Removes the pair with the least key, and hands it back with a clone of that key: none of an empty map.
+    ///
+    /// Where the clone, or the removal, is refused, nothing has changed.
+    pub fn pop_first(&mut self) -> Result<Option<(K, V)>, AllocError>
+        ensures ok { IfOk result (IsPopped K.cmp self.old self.new) }
+        ensures err { OnErr result (self.new ≡ self.old) }
+    {
+        // Read, so that the keys are known to ascend.
+        let _len = self.len();
+        let Some((first, _)) = self.first() else {
+            return Ok(None);
+        };
+        let key = first.clone()?;
+        match self.remove(&key)? {
+            Some(value) => Ok(Some((key, value))),
+            None => Ok(None),
+        }
+    }
+
+    /// Removes all pairs. The new leaf takes memory; where that is refused, nothing has changed.
+    pub fn clear(&mut self) -> Result<(), AllocError>
+        ensures ok { IfOk result (λ _. self.new ≡ []) }
+        ensures err { OnErr result (self.new ≡ self.old) }
+    {
+        self.inner.clear()
     }
 
     /// A summary of all keys; of no keys what `Default` makes.
@@ -228,10 +274,21 @@ impl<K: Key, V: Drop, A: Argument<K>> BPlusTreeMap<K, V, A> {
         }
     }
 
+    /// The pairs in the order of their keys, each with its value. It takes no memory, and neither do its steps.
+    pub fn into_iter(self) -> IntoIter<K, V, A>
+        ensures rest { result ≡ self }
+        ensures ascending { IsAscending K.cmp self }
+        ensures runs { GivesInOrder (K × V) }
+        ensures runs_back { GivesInReverse (K × V) }
+    {
+        self.inner.into_iter()
+    }
+
     /// The pairs whose key is not below `lo` and is below `hi`, where they are given, in the order of their keys. It takes no
     /// memory, and neither do its steps.
     ///
-    /// Each end that is given is searched for once, and the leaves between are stepped through, to tell how many pairs there are.
+    /// Each end that is given is searched for once. How many pairs there are is told when it is asked, by a step for each leaf
+    /// between.
     pub fn range<'b>(&self, lo: Option<&'b K>, hi: Option<&'b K>) -> Iter<'_, K, V, A>
         ensures rest { result ≡ between K.cmp self.now (option_copied lo.entry) (option_copied hi.entry) }
         ensures ascending { IsAscending K.cmp result }
@@ -242,11 +299,35 @@ impl<K: Key, V: Drop, A: Argument<K>> BPlusTreeMap<K, V, A> {
         }
     }
 
+    /// A summary of the keys that are not below `lo` and are below `hi`, where they are given; of no keys what `Default` makes.
+    ///
+    /// It takes a way down for each end that is given, however many pairs stand between: the summaries of the children
+    /// between the ways are summed up. It fails only where the argument does, or where room for two summaries is refused.
+    pub fn range_argument<'b>(&self, lo: Option<&'b K>, hi: Option<&'b K>) -> Result<A, AllocError>
+        ensures { IfOk result (λ summary. A.is_summary summary (keys_of (between K.cmp self.now (option_copied lo.entry) (option_copied hi.entry)))) }
+    {
+        self.inner.range_argument(lo, hi)
+    }
+
+    /// A summary of the keys from a place that is allowed for one query on, up to a place that is allowed for another: where
+    /// there is none for the second, up to the end; of no keys where there is none for the first.
+    pub fn part_argument(
+        &self,
+        from: <A as SearchArgument<K>>::Query,
+        to: <A as SearchArgument<K>>::Query,
+    ) -> Result<A, AllocError>
+    where
+        A: SearchArgument<K>,
+        ensures { IfOk result (IsPartSummary A.is_summary A.selects from to (keys_of self.now)) }
+    {
+        self.inner.part_argument(from, to)
+    }
+
     /// The first `n` pairs, or all where there are fewer, from a place on that is allowed for the query, in the order of
     /// their keys; none where none is. It takes no memory but what the argument takes, and its steps take none.
     ///
-    /// The query is asked once on each level, and the leaves of the part are stepped through, to tell how many pairs there
-    /// are.
+    /// The query is asked once on each level. How many pairs there are is told when it is asked, by a step for each leaf of the
+    /// part.
     pub fn range_by_argument(
         &self,
         query: <A as SearchArgument<K>>::Query,
@@ -267,7 +348,8 @@ impl<K: Key, V: Drop, A: Argument<K>> BPlusTreeMap<K, V, A> {
     /// keys take, and its steps take none.
     ///
     /// No summary is asked: the group is searched for by the groups of at most 7 keys or separators a node, once for its
-    /// beginning and once for its end. Then its leaves are stepped through, to tell how many pairs there are.
+    /// beginning and once for its end. How many pairs there are is told when it is asked,
+    /// by a step for each leaf of it.
     pub fn group_range<G: FromRef<K> + Key>(
         &self,
         group: &G,
@@ -282,7 +364,8 @@ impl<K: Key, V: Drop, A: Argument<K>> BPlusTreeMap<K, V, A> {
     }
 
     /// The first `n` pairs of a group, or all where there are fewer, without its first `i`. What it takes is the same as of
-    /// `group_range`, and so is what it costs, with a step more for each leaf of the group up to the last of the pairs.
+    /// `group_range`, and so is what it costs, with a look at the summaries of the children before the first pair, where these tell
+    /// how many keys they stand for. Where they don't, the pairs left out are walked over.
     pub fn group_part<G: FromRef<K> + Key>(
         &self,
         group: &G,
@@ -313,6 +396,46 @@ impl<K: Key, V: Drop, A: Argument<K>> BPlusTreeMap<K, V, A> {
         &mut self.inner
     }
 }
+
+impl<K: Key, V: Drop> BPlusTreeMap<K, V, Count> {
+    /// How many keys are not below `lo` and are below `hi`, where they are given. It takes a way down for each end that is
+    /// given, however many pairs stand between, and is never refused.
+    pub fn range_len<'b>(&self, lo: Option<&'b K>, hi: Option<&'b K>) -> usize
+        ensures { result ≡ length (between K.cmp self.now (option_copied lo.entry) (option_copied hi.entry)) }
+    {
+        self.inner.range_len(lo, hi)
+    }
+}
+
+impl<K: Key, V: Clone + Drop, A: CloneArgument<K>> BPlusTreeMap<K, V, A> {
+    /// A map of its own: equal keys in the same order, and each value what its own clone answers.
+    ///
+    /// Each key, value and summary is cloned once. It is refused where a request for memory is, or where one of these
+    /// clones is; what was cloned till then is dropped.
+    pub fn clone(&self) -> Result<Self, AllocError>
+        ensures { IfOk result (λ copy. AllZip
+            (λ p q. (K.cmp p.0 q.0 ≡ Equal) × V.is_clone p.1 q.1) self.now copy) }
+    {
+        Ok(BPlusTreeMap {
+            inner: self.inner.clone()?,
+        })
+    }
+}
+
+impl<K: Key, V: Drop, A: Argument<K>> IntoIterator for BPlusTreeMap<K, V, A> {
+    type Item = (K, V);
+
+    type IntoIter = IntoIter<K, V, A>;
+
+    ghost into_iter_gives = { λ map pairs. (pairs ≡ map) × IsAscending K.cmp map × GivesInOrder (K × V) × GivesInReverse (K × V) };
+
+    fn into_iter(self) -> IntoIter<K, V, A> {
+        self.inner.into_iter()
+    }
+}
+
+/// The pairs of an owned map that are left, in the order of their keys: those of its tree.
+pub type IntoIter<K, V, A> = tree::IntoIter<NodeStoreVec<K, V, A>>;
 
 /// The pairs of a map that are left, in the order of their keys. No step takes memory.
 #[derive(Drop)]

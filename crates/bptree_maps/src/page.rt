@@ -16,7 +16,7 @@ use std::alloc::AllocError;
 
 /// The pairs of a page of `s`: the first page is 0, and a page past the last one has none.
 ///
-/// One way down by the counts, and the leaves of the page are stepped through. It takes no memory, and neither do the steps.
+/// One way down by the counts, and one to the last leaf. It takes no memory, and neither do the steps.
 pub fn page<K: Key, V: Drop>(
     map: &BPlusTreeMap<K, V, Count>,
     p: usize,
@@ -34,7 +34,8 @@ pub fn page<K: Key, V: Drop>(
 
 /// The pairs of a page of `s` of one group: the first page of the group is 0, and a page past its last one has none.
 ///
-/// The group is searched for by the groups of keys, as `group_range` does, and its leaves are stepped through. It takes no memory
+/// The group is searched for by the groups of keys, as `group_range` does, and the pages before by the summaries, where these
+/// tell how many keys they stand for; else the pairs before are walked over. It takes no memory
 /// but what the groups of keys take, and the steps take none.
 pub fn group_page<'a, K: Key, V: Drop, A: Argument<K>, G: FromRef<K> + Key>(
     map: &'a BPlusTreeMap<K, V, A>,

@@ -5,8 +5,9 @@ ghost use Rattle.std.specs.List.Sorted.{IsStrictlySortedBy};
 ghost use Rattle.std.specs.Map.Iter.{ShowsInOrder, GivesInOrder, GivesInReverse, deref};
 ghost use Rattle.std.specs.Option.{option_copied};
 ghost use Rattle.bptree_tree.specs.Refusal.{pair_of};
-ghost use Rattle.bptree_maps.specs.Keys.{holds, with_key, without_key, gathered, keys_between};
+ghost use Rattle.bptree_maps.specs.Keys.{holds, with_key, without_key, gathered, keys_between, keys_without};
 
+mod difference;
 mod iter;
 mod laws;
 mod union;
@@ -15,6 +16,7 @@ use crate::gathering::gather_tree;
 use bptree_keys::key::Key;
 use bptree_stores::node_store_vec::NodeStoreVec;
 use bptree_tree::{BPlusTree, InsertError};
+pub use difference::Difference;
 pub use iter::{IntoIter, Iter};
 pub use laws::laws_of_keys;
 use std::alloc::{AllocError, Global};
@@ -66,7 +68,7 @@ impl<K: Key> BPlusTreeSet<K> {
             pairs.push((k, ()))?;
         }
         Ok(BPlusTreeSet {
-            tree: gather_tree(alloc, pairs)?,
+            tree: gather_tree(pairs)?,
         })
     }
 
@@ -162,7 +164,8 @@ impl<K: Key> BPlusTreeSet<K> {
     /// The keys that are not below `lo` and are below `hi`, where they are given, in their order. It takes no memory, and
     /// neither do its steps.
     ///
-    /// Each end that is given is searched for once, and the leaves between are stepped through, to tell how many keys there are.
+    /// Each end that is given is searched for once. How many keys there are is told when it is asked, by a step for each leaf
+    /// between.
     pub fn range<'b>(&self, lo: Option<&'b K>, hi: Option<&'b K>) -> Iter<'_, K>
         ensures rest { result ≡ keys_between K.cmp self.now (option_copied lo.entry) (option_copied hi.entry) }
         ensures ascending { IsStrictlySortedBy K.cmp result }
@@ -186,6 +189,14 @@ impl<K: Key> BPlusTreeSet<K> {
         ensures { result ≡ (self.now, other.now) }
     {
         Union::new(self.iter(), other.iter())
+    }
+
+    /// The keys of this set that no key of the other equals, in their order. It takes no memory, and neither do its steps: each
+    /// looks keys up in the other set until one is not there.
+    pub fn difference<'a>(&'a self, other: &'a Self) -> Difference<'a, K>
+        ensures { result ≡ keys_without K.cmp self.now other.now }
+    {
+        Difference::new(self.iter(), other)
     }
 }
 

@@ -30,7 +30,7 @@ use Rattle.bptree_shape.specs.Shape.{leaf_pairs, pairs_at, leaves_at, IsTree, Is
 use Rattle.bptree_shape.proofs.Between.{Falls, cut, none_pass}
 use Rattle.bptree_shape.proofs.Down.{inner_at, node_children, pairs_of_all, stands_above}
 use Rattle.bptree_shape.proofs.Ordered.{by_cases, not_less_back}
-use Rattle.bptree_ranges.proofs.Ranged.{size_of, start_is}
+use Rattle.bptree_ranges.proofs.Ranged.{filter_fewer, size_of, start_is}
 use Rattle.bptree_shape.proofs.Spot.{parts_of_read}
 use Rattle.bptree_shape.proofs.Walk.{flat-append, chain_inside, tree_inside}
 
@@ -47,12 +47,12 @@ module _ {X Y : Type 0} (P : Y → Type 0) (f : X → Y) where
   made_from (suc n) [] all = tt
   made_from (suc n) (x ∷ xs) all = made_from n xs all
 
-every_pass : {X : Type 0} (test : X → Bool) (l : List X) → AllByRecursion (λ x. test x ≡ true) l → filter test l ≡ l
+pub every_pass : {X : Type 0} (test : X → Bool) (l : List X) → AllByRecursion (λ x. test x ≡ true) l → filter test l ≡ l
 every_pass test [] all = refl
 every_pass test (x ∷ l) all = rw all.0 (ap (λ more. x ∷ more) (every_pass test l all.1))
 
 -- where the first n keys pass and no others do, n pairs pass
-count_of_first : {K V : Type 0} (test : K → Bool) (l : List (K × V)) (n : ℕ) → n ≤ length l → AllByRecursion (λ k. test k ≡ true) (take n (keys_of l)) → AllByRecursion (λ k. test k ≡ false) (drop n (keys_of l)) → length (filter (λ (p : K × V). test p.0) l) ≡ n
+pub count_of_first : {K V : Type 0} (test : K → Bool) (l : List (K × V)) (n : ℕ) → n ≤ length l → AllByRecursion (λ k. test k ≡ true) (take n (keys_of l)) → AllByRecursion (λ k. test k ≡ false) (drop n (keys_of l)) → length (filter (λ (p : K × V). test p.0) l) ≡ n
 count_of_first test [] n within pass fail = omega (arith, within)
 count_of_first test (p ∷ l) zero within pass fail = rw fail.0 (count_of_first test l zero (omega arith) tt fail.1)
 count_of_first test (p ∷ l) (suc n) within pass fail = rw pass.0 (ap suc (count_of_first test l n (omega (arith, within)) pass.1 fail))
@@ -78,7 +78,7 @@ module _ {K : Type 0} {cmp : K → K → Ordering} (total : IsTotalOrder cmp) (t
 
   module _ {C V : Type 0} (f : C → List (K × V)) (P : C → Option K → Option K → Type 0) (inside : (c : C) (lo hi : Option K) → P c lo hi → AllByRecursion (λ p. Within cmp lo hi p.0) (f c)) where
     -- where the first i separators pass and no others do, so do the keys of the children before child i, and none behind it
-    chain_passes : (ks : List K) (cs : List C) (lo hi : Option K) (i : ℕ) → Chain cmp P ks cs lo hi → i ≤ length ks → AllByRecursion (λ k. test k ≡ true) (take i ks) → AllByRecursion (λ (p : K × V). test p.0 ≡ true) (flat f (take i cs))
+    pub chain_passes : (ks : List K) (cs : List C) (lo hi : Option K) (i : ℕ) → Chain cmp P ks cs lo hi → i ≤ length ks → AllByRecursion (λ k. test k ≡ true) (take i ks) → AllByRecursion (λ (p : K × V). test p.0 ≡ true) (flat f (take i cs))
     chain_passes ks [] lo hi i h within all = absurd h
     chain_passes [] (c ∷ []) lo hi zero h within all = tt
     chain_passes [] (c ∷ []) lo hi (suc i) h within all = absurd (omega (arith, within))
@@ -89,7 +89,7 @@ module _ {K : Type 0} {cmp : K → K → Ordering} (total : IsTotalOrder cmp) (t
         (AllByRecursion-weaker _ _ (λ p w. falls p.0 s (ap is_gt w.1) all.0) (f c) (inside c lo (Some s) h.0))
         (chain_passes ss cs (Some s) hi i h.2 (omega (arith, within)) all.1)
 
-    chain_fails : (ks : List K) (cs : List C) (lo hi : Option K) (i : ℕ) → Chain cmp P ks cs lo hi → i ≤ length ks → AllByRecursion (λ k. test k ≡ false) (drop i ks) → AllByRecursion (λ (p : K × V). test p.0 ≡ false) (flat f (drop (suc i) cs))
+    pub chain_fails : (ks : List K) (cs : List C) (lo hi : Option K) (i : ℕ) → Chain cmp P ks cs lo hi → i ≤ length ks → AllByRecursion (λ k. test k ≡ false) (drop i ks) → AllByRecursion (λ (p : K × V). test p.0 ≡ false) (flat f (drop (suc i) cs))
     chain_fails ks [] lo hi i h within all = absurd h
     chain_fails [] (c ∷ []) lo hi zero h within all = tt
     chain_fails [] (c ∷ []) lo hi (suc i) h within all = absurd (omega (arith, within))
@@ -176,3 +176,12 @@ module _ {K G : Type 0} {cmp : K → K → Ordering} {R : G → G → Ordering} 
 
   pub failed : (end : Bool) (keys : List K) (n : ℕ) → IsBorderOf R g end (map group_of keys) n → AllByRecursion (λ k. is_key_before end k ≡ false) (drop n keys)
   failed end keys n border = made_from (λ x. is_before end (R x g) ≡ false) group_of n keys border.from_there
+
+before_begins : (r : Ordering) → is_before false r ≡ true → is_before true r ≡ true
+before_begins Less e = refl
+before_begins Equal e = absurd (true≢false (sym e))
+before_begins Greater e = absurd (true≢false (sym e))
+
+-- a group does not end before it begins
+pub group_rises : {K V G : Type 0} (R : G → G → Ordering) (group_of : K → G) (g : G) (l : List (K × V)) → length (filter (λ (p : K × V). is_before false (R (group_of p.0) g)) l) ≤ length (filter (λ (p : K × V). is_before true (R (group_of p.0) g)) l)
+group_rises {K} {V} R group_of g l = filter_fewer (λ (p : K × V). is_before false (R (group_of p.0) g)) (λ (p : K × V). is_before true (R (group_of p.0) g)) l (λ p. before_begins (R (group_of p.0) g))

@@ -1,2 +1,7 @@
 pub mod Bordered
+pub mod Counts
+pub mod GroupPlaces
+pub mod Passing
 pub mod Ranged
+pub mod Runs
+pub mod Sums

@@ -1,6 +1,7 @@
 -- Places in the leaves of a tree: how many pairs stand before them, and which leaf comes after which.
-use Rattle.std.proofs.Common.{◌≡◌, ℕ, zero, suc, ◌+◌, ◌-◌, ◌<◌, ◌≤◌, ◌⊎◌, inl, inr, Bool, true, false, not, cond, eqb, List, [], ◌∷◌, ◌++◌, length, refl, sym, ap, subst, ◌∙◌, arith, Option, Some, None, Result, take, drop, min, append_assoc, length-append, length-drop}
+use Rattle.std.proofs.Common.{◌≡◌, ℕ, zero, suc, ◌+◌, ◌-◌, ◌<◌, ◌≤◌, ◌⊎◌, inl, inr, Bool, true, false, not, cond, eqb, List, [], ◌∷◌, ◌++◌, length, refl, sym, ap, subst, ◌∙◌, arith, Option, Some, None, Result, take, drop, filter, min, append_assoc, length-append, length-drop}
 use Rattle.std.proofs.Common.{drop-drop}
+use Rattle.std.proofs.Math.Nat.{eq-or-lt_of_le}
 use Rattle.std.proofs.Math.Seq.{take-nil}
 use Rattle.std.proofs.lemmas.List.{drop-take, drop_all, length-take, length-take-le, take_min}
 use Rattle.std.specs.Cmp.{IsTotalOrder}
@@ -22,7 +23,7 @@ use Rattle.bptree_keys.proofs.Around.{pairs_below_around}
 use Rattle.bptree_keys.proofs.PieceLemmas.{AllByRecursion-right}
 use Rattle.bptree_ways.specs.ByArgument.{IsSelectedAt}
 use Rattle.bptree_shape.specs.Leaves.{pairs_of, StandsIn, IsFirstLeaf, IsLastLeaf, IsLeafFor}
-use Rattle.bptree_ranges.specs.Ranges.{ahead, start, IsPlaceOn}
+use Rattle.bptree_ranges.specs.Ranges.{ahead, start, empty_at, IsPart, IsPlaceOn, IsSettled}
 use Rattle.bptree_shape.specs.Shape.{leaf_pairs, leaf_next, leaves_at, pairs_at, stands, AreLinked, IsWellShaped, root_least}
 use Rattle.bptree_ways.proofs.Beside.{HasPair, others_have, found_at, below_upto, place_within}
 use Rattle.bptree_shape.proofs.Hinted.{count_of, count_leaves, first_or, linked_next, total-append}
@@ -70,21 +71,6 @@ ahead_is (x ∷ before) leaf after once =
 
     twice : eqb x.0 leaf.0 ≡ true → ⊥
     twice e = omega (arith, rw e at once, itself, total-append (λ (l : LeafNodeId). cond (eqb l.0 leaf.0) 1 0) before (leaf ∷ after))
-
--- two numbers of leaves that compare unequal, and two that compare equal
-pub unlike : (a b : LeafNodeId) (r : Bool) → r ≡ not (eqb a.0 b.0) → r ≡ true → a ≡ b → ⊥
-unlike a b r e t same =
-    elim (eqb_tells a.0 b.0) [
-      | inl is ↦ true≢false (sym t ∙ (e ∙ ap not is.0))
-      | inr other ↦ other.1 (ap (λ (x : LeafNodeId). x.0) same)
-    ]
-
-pub alike : (a b : LeafNodeId) (r : Bool) → r ≡ not (eqb a.0 b.0) → r ≡ false → a ≡ b
-alike a b r e f =
-    elim (eqb_tells a.0 b.0) [
-      | inl is ↦ (λ i. record { 0 = is.1 i })
-      | inr other ↦ absurd (true≢false (sym (ap not other.0) ∙ (sym e ∙ f)))
-    ]
 
 stands_le : {N : Type 0} (s : Slot N) → stands s ≤ 1
 stands_le Free = omega arith
@@ -155,6 +141,7 @@ module _ {K V A : Type 0} {cmp : K → K → Ordering} (is_summary : A → List 
     pub later : length (ahead next.0 (leaves_at slots h root)) ≡ length (ahead leaf.0 (leaves_at slots h root)) + 1
     pub more : length (ahead next.0 (leaves_at slots h root)) < length (leaves_at slots h root)
     pub some : 0 < size leaf
+    pub full : 0 < size next
 
   links : (leaf : LeafNodeId) (in' : StandsIn slots h root leaf) → AreLinked slots None (in'.before ++ leaf ∷ in'.after) None
   links leaf in' = subst (λ ids. AreLinked slots None ids None) in'.leaves shape.linked
@@ -182,6 +169,7 @@ module _ {K V A : Type 0} {cmp : K → K → Ordering} (is_summary : A → List 
         later = omega (arith, ap length (ahead_of leaf in'), ap length (ahead_of next in2), length-append in'.before (leaf ∷ []));
         more = omega (arith, ap length in2.leaves, ap length (ahead_of next in2), length-append in2.before (next ∷ ys));
         some = before.first;
+        full = before.last;
       }
 
   pub next_of : (leaf next : LeafNodeId) (node : Leaf K V) → StandsIn slots h root leaf → slots.leaf leaf.0 ≡ Present node → node.next ≡ Some next → NextLeaf leaf next
@@ -201,71 +189,21 @@ module _ {K V A : Type 0} {cmp : K → K → Ordering} (is_summary : A → List 
   pub size_of : (leaf : LeafNodeId) (node : Leaf K V) → slots.leaf leaf.0 ≡ Present node → size leaf ≡ length node.pairs
   size_of leaf node here = ap (λ s. length (leaf_pairs s)) here
 
-  -- a count of the pairs between two places begins
-  pub count_begins : (front back : LeafNodeId) (from to : ℕ) → IsPlaceOn slots h root front from → IsPlaceOn slots h root back to → (start slots h root front ≤ start slots h root back) ⊎ (start slots h root back + to ≤ start slots h root front + from)
-  count_begins front back from to one other =
-      elim (order front back one.stands other.stands) [
-        | inl same ↦ inl (rw same (omega arith))
-        | inr rest ↦ (elim rest [
-          | inl first ↦ inl (omega (arith, first.from))
-          | inr last ↦ inr (omega (arith, last.from, other.within))
-        ])
+  -- of two places at pairs, or at the end of all, one is behind the other, or they are one
+  pub rises_between : (one other : LeafNodeId × ℕ) (i j : ℕ) → IsSettled slots h root i one → IsSettled slots h root j other → i ≤ j → (start slots h root one.0 + one.1 < start slots h root other.0 + other.1) ⊎ ((other.0 ≡ one.0) × (other.1 ≡ one.1))
+  rises_between one other i j a b le =
+      elim (eq-or-lt_of_le le) as (λ _. (start slots h root one.0 + one.1 < start slots h root other.0 + other.1) ⊎ ((other.0 ≡ one.0) × (other.1 ≡ one.1))) [
+        | inr lt ↦ (let lt' : i < j = lt in inl (omega (arith, lt', a.same, b.same)))
+        | inl eq ↦
+            (elim (order one.0 other.0 a.on.stands b.on.stands) as (λ _. (start slots h root one.0 + one.1 < start slots h root other.0 + other.1) ⊎ ((other.0 ≡ one.0) × (other.1 ≡ one.1))) [
+              | inl same ↦ (let at = ap (start slots h root) same in inr (sym same, omega (arith, eq, a.same, b.same, at)))
+              | inr rest ↦
+                  (elim rest as (λ _. (start slots h root one.0 + one.1 < start slots h root other.0 + other.1) ⊎ ((other.0 ≡ one.0) × (other.1 ≡ one.1))) [
+                    | inl first ↦ (let here = a.pair (omega (arith, first.from, first.last, reached other.0 b.on.stands, a.same, a.on.within)) in absurd (omega (arith, here, first.from, eq, a.same, b.same)))
+                    | inr last ↦ (let there = b.pair (omega (arith, last.from, last.last, reached one.0 a.on.stands, b.same, b.on.within)) in absurd (omega (arith, there, last.from, eq, a.same, b.same)))
+                  ])
+            ])
       ]
-
-  module _ (front back at : LeafNodeId) (from to passed count : ℕ) (leaf : Leaf K V) (other : IsPlaceOn slots h root back to) (place : IsPlaceOn slots h root at passed) (so_far : start slots h root at + passed ≡ (start slots h root front + from) + count)
-      (not_past : (start slots h root at ≤ start slots h root back) ⊎ (start slots h root back + to ≤ start slots h root front + from)) (here : slots.leaf at.0 ≡ Present leaf) where
-    -- it has come to the last leaf, and that is another
-    pub count_misses : leaf.next ≡ None → (at ≡ back → ⊥) → 0 ≡ (start slots h root back + to) - (start slots h root front + from)
-    count_misses none apart =
-        let all = last_of at leaf place.stands here none in
-        elim not_past [
-          | inl up ↦ (elim (order at back place.stands other.stands) [
-            | inl same ↦ absurd (apart same)
-            | inr rest ↦ (elim rest [
-              | inl first ↦ absurd (omega (arith, first.from, first.last, all, reached back other.stands))
-              | inr last ↦ absurd (omega (arith, last.from, last.first, up))
-            ])
-          ])
-          | inr past ↦ omega (arith, past)
-        ]
-
-    -- it goes on to the next leaf
-    pub count_goes_on : (next : LeafNodeId) → leaf.next ≡ Some next → (at ≡ back → ⊥) → (start slots h root next ≤ start slots h root back) ⊎ (start slots h root back + to ≤ start slots h root front + from)
-    count_goes_on next is apart =
-        let n = next_of at next leaf place.stands here is in
-        elim not_past [
-          | inl up ↦ (elim (order at back place.stands other.stands) [
-            | inl same ↦ absurd (apart same)
-            | inr rest ↦ (elim rest [
-              | inl first ↦ inl (omega (arith, first.from, n.from))
-              | inr last ↦ absurd (omega (arith, last.from, last.first, up))
-            ])
-          ])
-          | inr past ↦ inr past
-        ]
-
-    pub count_more : (next : LeafNodeId) → leaf.next ≡ Some next → start slots h root next + 0 ≡ (start slots h root front + from) + (count + (length leaf.pairs - passed))
-    count_more next is =
-        let n = next_of at next leaf place.stands here is in
-        omega (arith, n.from, so_far, place.within, size_of at leaf here)
-
-    pub count_fits : count + (length leaf.pairs - passed) ≤ length (pairs_at slots h root)
-    count_fits = omega (arith, so_far, place.within, size_of at leaf here, reached at place.stands)
-
-  -- it is at its end
-  pub count_ends : (front back at : LeafNodeId) (from to passed count rest : ℕ) → IsPlaceOn slots h root back to → IsPlaceOn slots h root at passed → start slots h root at + passed ≡ (start slots h root front + from) + count → (0 < count → passed ≡ 0) → at ≡ back → rest ≡ to - passed
-      → (count + rest ≤ length (pairs_at slots h root)) × (count + rest ≡ (start slots h root back + to) - (start slots h root front + from))
-  count_ends front back at from to passed count rest other place so_far fresh same is =
-      by_count count refl
-    where
-      by_count : (n : ℕ) → n ≡ count → (count + rest ≤ length (pairs_at slots h root)) × (count + rest ≡ (start slots h root back + to) - (start slots h root front + from))
-      by_count zero e =
-          let one : start slots h root at ≡ start slots h root back = ap (start slots h root) same in
-          (omega (arith, one, reached back other.stands, other.within, so_far, is, e), omega (arith, one, so_far, is, e))
-      by_count (suc n) e =
-          let one : start slots h root at ≡ start slots h root back = ap (start slots h root) same in
-          let none = fresh (omega (arith, e)) in
-          (omega (arith, one, reached back other.stands, other.within, so_far, is, none), omega (arith, one, so_far, is, none))
 
   -- the first place of all, and the one behind the last pair
   pub first_place : (leaf : LeafNodeId) → IsFirstLeaf slots h root leaf → IsPlaceOn slots h root leaf 0 × (start slots h root leaf + 0 ≡ 0)
@@ -310,7 +248,7 @@ pub part_cut : {X : Type 0} (l : List X) (i n m : ℕ) → m ≡ min n (length l
 part_cut l i n m e = sym (take_min n (drop i l)) ∙ ap (λ k. take k (drop i l)) (ap (min n) (length-drop i l) ∙ sym e)
 
 -- the first of the first, of two numbers the less
-take_of_take : {X : Type 0} (n k : ℕ) (l : List X) → take n (take k l) ≡ take (min n k) l
+pub take_of_take : {X : Type 0} (n k : ℕ) (l : List X) → take n (take k l) ≡ take (min n k) l
 take_of_take zero k l = let on : min zero k ≡ zero = omega arith in sym (ap (λ j. take j l) on)
 take_of_take (suc n) zero l = let on : min (suc n) zero ≡ zero = omega arith in sym (ap (λ j. take j l) on)
 take_of_take (suc n) (suc k) [] = sym (take-nil (min (suc n) (suc k)))
@@ -324,6 +262,23 @@ part_of_part l s m i n more =
     let on : m ≡ i + (m - i) = omega (arith, more) in
     ap (λ k. take n (drop i (take k (drop s l)))) on ∙ ap (take n) (drop-take i (m - i) (drop s l)) ∙ take_of_take n (m - i) (drop i (drop s l)) ∙ ap (take (min n (m - i))) (drop-drop i s l)
 
--- a part behind all of a part
-pub part_behind : {X : Type 0} (l : List X) (s m i n : ℕ) → m ≤ i → part (part l s m) i n ≡ []
-part_behind l s m i n less = ap (take n) (drop_all i (take m (drop s l)) (omega (arith, length-take m (drop s l), less))) ∙ take-nil n
+-- a part behind the end
+pub part_past : {X : Type 0} (l : List X) (i n : ℕ) → length l ≤ i → part l i n ≡ []
+part_past l i n less = ap (take n) (drop_all i l less) ∙ take-nil n
+
+-- a part without a pair
+pub empty_part : {K V A : Type 0} (slots : Slots (Inner K A) (Leaf K V)) (h : ℕ) (root : NodeId) (at : LeafNodeId × ℕ) → IsPlaceOn slots h root at.0 at.1 → IsPart slots h root (empty_at at) []
+empty_part slots h root at on =
+    let none : min 0 ((start slots h root at.0 + at.1) - (start slots h root at.0 + at.1)) ≡ 0 = omega arith in
+    record { front = on; back = on; rises = inr (refl, refl); tells = omega arith; pairs = sym (ap (part (pairs_at slots h root) (start slots h root at.0 + at.1)) none) }
+
+-- fewer members pass a narrower test
+pub filter_fewer : {X : Type 0} (p q : X → Bool) (xs : List X) → ((x : X) → p x ≡ true → q x ≡ true) → length (filter p xs) ≤ length (filter q xs)
+filter_fewer p q [] h = omega arith
+filter_fewer p q (x ∷ xs) h = by_tests (filter_fewer p q xs h) (p x) (q x) refl refl
+  where
+    by_tests : length (filter p xs) ≤ length (filter q xs) → (a b : Bool) → p x ≡ a → q x ≡ b → length (filter p (x ∷ xs)) ≤ length (filter q (x ∷ xs))
+    by_tests more true true e f = rw (e, f) (omega (arith, more))
+    by_tests more true false e f = absurd (true≢false (sym (h x e) ∙ f))
+    by_tests more false true e f = rw (e, f) (omega (arith, more))
+    by_tests more false false e f = rw (e, f) more

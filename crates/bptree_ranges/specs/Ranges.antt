@@ -1,12 +1,14 @@
 -- Places in the leaves of a tree, and the part of its contents between two of them.
-use Rattle.std.specs.Prelude.{◌≡◌, ℕ, ◌+◌, ◌≤◌, ◌==◌, cond, List, [], ◌∷◌, length}
+use Rattle.std.specs.Prelude.{◌≡◌, ℕ, ◌+◌, ◌-◌, ◌<◌, ◌≤◌, ◌==◌, ◌⊎◌, cond, min, List, [], ◌∷◌, length}
+use Rattle.bptree_iteration.specs.Span.{Tells}
+use Rattle.bptree_iteration.specs.declared.part.Extent.TheVariants.{Exact}
+use Rattle.bptree_iteration.specs.declared.part.Part.{Part}
 use Rattle.bptree_keys.specs.Ranges.{part}
 use Rattle.bptree_keys.specs.declared.node_id.LeafNodeId.{LeafNodeId}
 use Rattle.bptree_keys.specs.declared.node_id.NodeId.{NodeId}
 use Rattle.bptree_nodes.specs.Inner.{Inner}
 use Rattle.bptree_nodes.specs.Leaf.{Leaf}
 use Rattle.bptree_nodes.specs.Slot.{Slots}
-use Rattle.bptree_ranges.specs.declared.ranges.Part.{Part}
 use Rattle.bptree_shape.specs.Leaves.{pairs_of, StandsIn}
 use Rattle.bptree_shape.specs.Shape.{leaf_pairs, leaves_at, pairs_at}
 
@@ -25,10 +27,24 @@ module _ {K V A : Type 0} (slots : Slots (Inner K A) (Leaf K V)) (h : ℕ) (root
     pub stands : StandsIn slots h root leaf
     pub within : offset ≤ length (leaf_pairs (slots.leaf leaf.0))
 
-  -- between its two places the part has these pairs
+  -- how many pairs stand before a place
+  abbrev pub place_on : LeafNodeId × ℕ → ℕ
+  place_on at = start at.0 + at.1
+
+  -- the same place as so many pairs before it say, at a pair, where it is not the end of all
+  pub record IsSettled (place : ℕ) (at : LeafNodeId × ℕ) : Type 0 where
+    pub on : IsPlaceOn at.0 at.1
+    pub same : place_on at ≡ place
+    pub pair : place < length (pairs_at slots h root) → at.1 < length (leaf_pairs (slots.leaf at.0.0))
+
+  -- The part has these pairs, between its two places: the second is behind the first, or they are one.
   pub record IsPart (p : Part) (xs : List (K × V)) : Type 0 where
     pub front : IsPlaceOn p.front p.from
     pub back : IsPlaceOn p.back p.to
-    pub apart : start p.front + p.from + p.len ≡ start p.back + p.to
-    pub none : p.len ≡ 0 → (p.back ≡ p.front) × (p.to ≡ p.from)
-    pub pairs : xs ≡ part (pairs_at slots h root) (start p.front + p.from) p.len
+    pub rises : (start p.front + p.from < start p.back + p.to) ⊎ ((p.back ≡ p.front) × (p.to ≡ p.from))
+    pub tells : Tells p.extent p.limit ((start p.back + p.to) - (start p.front + p.from))
+    pub pairs : xs ≡ part (pairs_at slots h root) (start p.front + p.from) (min p.limit ((start p.back + p.to) - (start p.front + p.from)))
+
+-- a part without a pair, at a place
+abbrev pub empty_at : LeafNodeId × ℕ → Part
+empty_at at = record { front = at.0; from = at.1; back = at.0; to = at.1; limit = 0; extent = Exact }

@@ -1,5 +1,5 @@
 //! The pairs of one group of keys, in a tree that stands in a store.
-ghost use Rattle.std.specs.Prelude.{◌≡◌, ◌+◌, ◌<◌, ◌^◌, IfOk, filter, length};
+ghost use Rattle.std.specs.Prelude.{◌≡◌, ◌+◌, ◌<◌, ◌≤◌, ◌^◌, IfOk, filter, length};
 ghost use Rattle.bptree_arguments.specs.GroupAnswers.{is_before};
 ghost use Rattle.bptree_arguments.specs.Groups.{of_group};
 ghost use Rattle.bptree_keys.specs.Ranges.{part};
@@ -7,36 +7,42 @@ ghost use Rattle.bptree_shape.specs.Leaves.{Stands, IsBorderLeaf};
 ghost use Rattle.bptree_ranges.specs.Ranges.{start, IsPart, IsPlaceOn};
 ghost use Rattle.bptree_shape.specs.Shape.{pairs_at, IsWellShaped};
 
-use crate::ranges::{Part, part_from, part_of_places, place_after};
+use crate::places::place_in_group;
+use crate::ranges::{no_part, part_of_places};
 use bptree_arguments::group::FromRef;
 use bptree_arguments::group_order::keys_before;
+use bptree_iteration::part::{Extent, Part};
 use bptree_keys::key::Key;
 use bptree_keys::node_id::{LeafNodeId, NodeId};
+use bptree_shape::descent::first_leaf;
 use bptree_stores::node_stores::NodeStore;
 use std::alloc::AllocError;
 
-/// The pairs whose key's group equals the group.
+/// The pairs whose key's group equals the group, of a tree of at most `len` pairs.
 ///
 /// Two descents, for where the group begins and where it ends, which make the groups of at most 7 keys or separators of each
-/// node; then a step for each leaf of the group. It fails only where one of these groups does.
+/// node. It fails only where one of these groups does.
 pub fn part_of_group<S: NodeStore, G: FromRef<S::K> + Key>(
     store: &S,
     root: NodeId,
     height: usize,
+    len: usize,
     group: &G,
 ) -> Result<Part, AllocError>
     requires shape { IsWellShaped S.K.cmp S.Argument.is_summary (S.slots store.now) height root }
-    requires fits { length (pairs_at (S.slots store.now) height root) < 2 ^ 64 }
+    requires fits { length (pairs_at (S.slots store.now) height root) ≤ len }
     ensures { IfOk result (λ found. IsPart (S.slots store.now) height root found (of_group G.cmp G.group_of group.now (pairs_at (S.slots store.now) height root))) }
 {
-    let (front, from) = place_of_group(store, root, height, group, false)?;
-    let (back, to) = place_of_group(store, root, height, group, true)?;
-    Ok(part_of_places(store, root, height, front, from, back, to))
+    let front = place_of_group(store, root, height, group, false)?;
+    let back = place_of_group(store, root, height, group, true)?;
+    Ok(part_of_places(store, root, height, front, back, len, Extent::Open))
 }
 
 /// So many pairs of a group, or all where there are fewer, without its first `i`.
 ///
-/// The same as `part_of_group`, and then a step for each leaf of the group up to the last of the pairs.
+/// Two descents, for where the pairs begin and where the group ends, which make the groups of at most 7 keys or separators of
+/// each node. Where the summaries tell how many keys they stand for, the pairs before the first one cost no step; else they
+/// are walked over.
 pub fn part_within_group<S: NodeStore, G: FromRef<S::K> + Key>(
     store: &S,
     root: NodeId,
@@ -49,17 +55,13 @@ pub fn part_within_group<S: NodeStore, G: FromRef<S::K> + Key>(
     requires fits { length (pairs_at (S.slots store.now) height root) < 2 ^ 64 }
     ensures { IfOk result (λ found. IsPart (S.slots store.now) height root found (part (of_group G.cmp G.group_of group.now (pairs_at (S.slots store.now) height root)) i n)) }
 {
-    let whole = part_of_group(store, root, height, group)?;
-    if whole.len <= i {
-        return Ok(Part {
-            back: whole.front,
-            to: whole.from,
-            len: 0,
-            ..whole
-        });
+    match place_in_group(store, root, height, group, i)? {
+        None => Ok(no_part((first_leaf(store, root, height), 0))),
+        Some(front) => {
+            let back = place_of_group(store, root, height, group, true)?;
+            Ok(part_of_places(store, root, height, front, back, n, Extent::Cut))
+        }
     }
-    let (front, from, _) = place_after(store, root, height, whole.front, whole.from, i);
-    Ok(part_from(store, root, height, front, from, n.min(whole.len - i)))
 }
 
 // Where a group ends, or else where it begins.

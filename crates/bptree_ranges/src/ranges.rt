@@ -1,13 +1,15 @@
 //! Parts of the contents of a tree that stands in a store, by the places where they begin and end.
-ghost use Rattle.std.specs.Prelude.{◌≡◌, ◌+◌, ◌-◌, ◌<◌, ◌^◌, ◌&&◌, ℕ, Option, IfOk, filter, false, length, min, not};
+ghost use Rattle.std.specs.Prelude.{◌≡◌, ◌+◌, ◌-◌, ◌<◌, ◌≤◌, ◌^◌, ◌&&◌, ℕ, Option, IfOk, filter, false, true, length, min, not};
 ghost use Rattle.std.specs.Map.{keys_of};
 ghost use Rattle.std.specs.Option.{option_copied};
 ghost use Rattle.bptree_keys.specs.Contents.{pairs_below};
 ghost use Rattle.bptree_keys.specs.Ranges.{between, falls_short, part, part_at, stays_below};
-ghost use Rattle.bptree_ranges.specs.Ranges.{start, IsPart, IsPlaceOn};
+ghost use Rattle.bptree_iteration.specs.Span.{Tells};
+ghost use Rattle.bptree_ranges.specs.Ranges.{start, place_on, empty_at, IsPart, IsPlaceOn, IsSettled};
 ghost use Rattle.bptree_shape.specs.Shape.{pairs_at, IsWellShaped};
 
 use bptree_arguments::argument::SearchArgument;
+use bptree_iteration::part::{Extent, Part};
 use bptree_keys::node_id::{LeafNodeId, NodeId};
 use bptree_shape::descent::{first_leaf, last_leaf};
 use bptree_shape::reading::leaf_for;
@@ -16,85 +18,98 @@ use bptree_ways::by_argument::find_by_argument;
 use std::alloc::AllocError;
 use std::cmp::Ordering;
 
-/// So many pairs between two places in leaves. A part without a pair begins and ends at one place.
-#[derive(Clone, Copy, Debug, Drop)]
-pub struct Part {
-    /// The leaf of the first pair and the pair's place, or the leaf before it and its length.
-    pub front: LeafNodeId,
-    pub from: usize,
-    /// The leaf of the last pair and the place after it, or the leaf after it and 0.
-    pub back: LeafNodeId,
-    pub to: usize,
-    pub len: usize,
-}
-
-/// The pairs whose key is not below `lo` and is below `hi`, where they are given.
+/// The pairs whose key is not below `lo` and is below `hi`, where they are given, of a tree of at most `len` pairs.
 ///
-/// One descent for each end; then a step for each leaf between them, which tells how many pairs there are. Where `lo` is not
-/// below `hi`, that is told by one comparison.
+/// One descent for each end, and no step from the one to the other. Where `lo` is not below `hi`, that is told by one
+/// comparison.
 pub fn part_between<S: NodeStore>(
     store: &S,
     root: NodeId,
     height: usize,
+    len: usize,
     lo: Option<&S::K>,
     hi: Option<&S::K>,
 ) -> Part
     requires shape { IsWellShaped S.K.cmp S.Argument.is_summary (S.slots store.now) height root }
-    requires fits { length (pairs_at (S.slots store.now) height root) < 2 ^ 64 }
+    requires fits { length (pairs_at (S.slots store.now) height root) ≤ len }
     ensures { IsPart (S.slots store.now) height root result (between S.K.cmp (pairs_at (S.slots store.now) height root) (option_copied lo.entry) (option_copied hi.entry)) }
 {
-    let (front, from) = front_of(store, root, height, lo);
+    let front = front_of(store, root, height, lo);
     if !are_apart(lo, hi) {
-        return Part {
-            front,
-            from,
-            back: front,
-            to: from,
-            len: 0,
-        };
+        return no_part(front);
     }
-    let (back, to) = back_of(store, root, height, hi);
-    part_of_places(store, root, height, front, from, back, to)
+    let back = back_of(store, root, height, hi);
+    part_of_places(store, root, height, front, back, len, Extent::Open)
 }
 
-/// The pairs between two places: none where the second is not behind the first.
+/// A part without a pair, at a place.
+pub(crate) fn no_part(at: (LeafNodeId, usize)) -> Part
+    ensures { result ≡ empty_at at }
+{
+    Part {
+        front: at.0,
+        from: at.1,
+        back: at.0,
+        to: at.1,
+        limit: 0,
+        extent: Extent::Exact,
+    }
+}
+
+/// The pairs between two places, of which the second is not before the first; or the first `limit` of them.
 pub(crate) fn part_of_places<S: NodeStore>(
     store: &S,
     root: NodeId,
     height: usize,
-    front: LeafNodeId,
-    from: usize,
-    back: LeafNodeId,
-    to: usize,
+    front: (LeafNodeId, usize),
+    back: (LeafNodeId, usize),
+    limit: usize,
+    extent: Extent,
 ) -> Part
     requires shape { IsWellShaped S.K.cmp S.Argument.is_summary (S.slots store.now) height root }
-    requires fits { length (pairs_at (S.slots store.now) height root) < 2 ^ 64 }
-    requires front { IsPlaceOn (S.slots store.now) height root front from }
-    requires back { IsPlaceOn (S.slots store.now) height root back to }
-    ensures { IsPart (S.slots store.now) height root result (part (pairs_at (S.slots store.now) height root) (start (S.slots store.now) height root front + from) ((start (S.slots store.now) height root back + to) - (start (S.slots store.now) height root front + from))) }
+    requires front { IsPlaceOn (S.slots store.now) height root front.0 front.1 }
+    requires back { IsPlaceOn (S.slots store.now) height root back.0 back.1 }
+    requires rises { place_on (S.slots store.now) height root front ≤ place_on (S.slots store.now) height root back }
+    requires tells { Tells extent limit (place_on (S.slots store.now) height root back - place_on (S.slots store.now) height root front) }
+    ensures { IsPart (S.slots store.now) height root result (part (pairs_at (S.slots store.now) height root) (place_on (S.slots store.now) height root front) (min limit (place_on (S.slots store.now) height root back - place_on (S.slots store.now) height root front))) }
 {
-    let len = count_between(store, root, height, front, from, back, to);
-    if len == 0 {
-        return Part {
-            front,
-            from,
-            back: front,
-            to: from,
-            len,
-        };
-    }
+    let front = settled(store, root, height, front);
+    let back = settled(store, root, height, back);
     Part {
-        front,
-        from,
-        back,
-        to,
-        len,
+        front: front.0,
+        from: front.1,
+        back: back.0,
+        to: back.1,
+        limit,
+        extent,
+    }
+}
+
+// The same place, at a pair: the end of a leaf is the start of the next one, where there is one.
+fn settled<S: NodeStore>(
+    store: &S,
+    root: NodeId,
+    height: usize,
+    at: (LeafNodeId, usize),
+) -> (LeafNodeId, usize)
+    requires shape { IsWellShaped S.K.cmp S.Argument.is_summary (S.slots store.now) height root }
+    requires place { IsPlaceOn (S.slots store.now) height root at.0 at.1 }
+    ensures { IsSettled (S.slots store.now) height root (place_on (S.slots store.now) height root at) result }
+{
+    let leaf = store.get_leaf(at.0);
+    if at.1 < leaf.len() {
+        return at;
+    }
+    match leaf.next() {
+        Some(next) => (next, 0),
+        None => at,
     }
 }
 
 // Whether some key can be between two ends.
 fn are_apart<K: Ord>(lo: Option<&K>, hi: Option<&K>) -> bool
-    ensures { result ≡ false → (k : K) → (not (falls_short K.cmp (option_copied lo.entry) k) && stays_below K.cmp (option_copied hi.entry) k) ≡ false }
+    ensures none { result ≡ false → (k : K) → (not (falls_short K.cmp (option_copied lo.entry) k) && stays_below K.cmp (option_copied hi.entry) k) ≡ false }
+    ensures some { result ≡ true → (k : K) → falls_short K.cmp (option_copied lo.entry) k ≡ true → stays_below K.cmp (option_copied hi.entry) k ≡ true }
 {
     match (lo, hi) {
         (Some(lo), Some(hi)) => match lo.cmp(hi) {
@@ -135,11 +150,18 @@ fn back_of<S: NodeStore>(
 {
     match hi {
         Some(hi) => place_of_key(store, root, height, hi),
-        None => {
-            let leaf = last_leaf(store, root, height);
-            (leaf, store.get_leaf(leaf).len())
-        }
+        None => end_of_all(store, root, height),
     }
+}
+
+// The place behind the last pair of all.
+fn end_of_all<S: NodeStore>(store: &S, root: NodeId, height: usize) -> (LeafNodeId, usize)
+    requires { IsWellShaped S.K.cmp S.Argument.is_summary (S.slots store.now) height root }
+    ensures place { IsPlaceOn (S.slots store.now) height root result.0 result.1 }
+    ensures end { place_on (S.slots store.now) height root result ≡ length (pairs_at (S.slots store.now) height root) }
+{
+    let leaf = last_leaf(store, root, height);
+    (leaf, store.get_leaf(leaf).len())
 }
 
 // The place behind the smaller keys.
@@ -160,40 +182,9 @@ fn place_of_key<S: NodeStore>(
     }
 }
 
-// How many pairs stand between two places, by the lengths of the leaves from the one to the other.
-fn count_between<S: NodeStore>(
-    store: &S,
-    root: NodeId,
-    height: usize,
-    front: LeafNodeId,
-    from: usize,
-    back: LeafNodeId,
-    to: usize,
-) -> usize
-    requires shape { IsWellShaped S.K.cmp S.Argument.is_summary (S.slots store.now) height root }
-    requires fits { length (pairs_at (S.slots store.now) height root) < 2 ^ 64 }
-    requires front { IsPlaceOn (S.slots store.now) height root front from }
-    requires back { IsPlaceOn (S.slots store.now) height root back to }
-    ensures { result ≡ (start (S.slots store.now) height root back + to) - (start (S.slots store.now) height root front + from) }
-{
-    let mut at = front;
-    let mut passed = from;
-    let mut count = 0usize;
-    'leaves: while at != back {
-        let leaf = store.get_leaf(at);
-        let Some(next) = leaf.next() else {
-            return 0;
-        };
-        count += leaf.len() - passed;
-        at = next;
-        passed = 0;
-    }
-    count + to.saturating_sub(passed)
-}
-
 /// The first `n` pairs, or all where there are fewer, from a place on that is allowed for the query; none where none is.
 ///
-/// One descent for the query; then a step for each leaf of the part.
+/// One descent for the query, and one to the last leaf.
 pub fn part_by_argument<S: NodeStore>(
     store: &S,
     root: NodeId,
@@ -208,17 +199,8 @@ where
     ensures { IfOk result (λ found. (o : Option ℕ) × S.Argument.selects query (keys_of (pairs_at (S.slots store.now) height root)) o × IsPart (S.slots store.now) height root found (part_at (pairs_at (S.slots store.now) height root) o n)) }
 {
     match find_by_argument(store, root, height, query)? {
-        None => {
-            let front = first_leaf(store, root, height);
-            Ok(Part {
-                front,
-                from: 0,
-                back: front,
-                to: 0,
-                len: 0,
-            })
-        }
-        Some((front, from)) => Ok(part_from(store, root, height, front, from, n)),
+        None => Ok(no_part((first_leaf(store, root, height), 0))),
+        Some(front) => Ok(part_from(store, root, height, front, n)),
     }
 }
 
@@ -227,62 +209,13 @@ pub(crate) fn part_from<S: NodeStore>(
     store: &S,
     root: NodeId,
     height: usize,
-    front: LeafNodeId,
-    from: usize,
+    front: (LeafNodeId, usize),
     n: usize,
 ) -> Part
     requires shape { IsWellShaped S.K.cmp S.Argument.is_summary (S.slots store.now) height root }
-    requires fits { length (pairs_at (S.slots store.now) height root) < 2 ^ 64 }
-    requires place { IsPlaceOn (S.slots store.now) height root front from }
-    ensures { IsPart (S.slots store.now) height root result (part (pairs_at (S.slots store.now) height root) (start (S.slots store.now) height root front + from) n) }
+    requires place { IsPlaceOn (S.slots store.now) height root front.0 front.1 }
+    ensures { IsPart (S.slots store.now) height root result (part (pairs_at (S.slots store.now) height root) (place_on (S.slots store.now) height root front) n) }
 {
-    let (back, to, len) = place_after(store, root, height, front, from, n);
-    if len == 0 {
-        return Part {
-            front,
-            from,
-            back: front,
-            to: from,
-            len,
-        };
-    }
-    Part {
-        front,
-        from,
-        back,
-        to,
-        len,
-    }
-}
-
-/// The place behind so many pairs from a place on, or behind the last of all where there are fewer, and how many there are.
-pub(crate) fn place_after<S: NodeStore>(
-    store: &S,
-    root: NodeId,
-    height: usize,
-    front: LeafNodeId,
-    from: usize,
-    n: usize,
-) -> (LeafNodeId, usize, usize)
-    requires shape { IsWellShaped S.K.cmp S.Argument.is_summary (S.slots store.now) height root }
-    requires fits { length (pairs_at (S.slots store.now) height root) < 2 ^ 64 }
-    requires place { IsPlaceOn (S.slots store.now) height root front from }
-    ensures place { IsPlaceOn (S.slots store.now) height root result.0 result.1 }
-    ensures apart { (start (S.slots store.now) height root front + from) + result.2 ≡ start (S.slots store.now) height root result.0 + result.1 }
-    ensures len { result.2 ≡ min n (length (pairs_at (S.slots store.now) height root) - (start (S.slots store.now) height root front + from)) }
-{
-    let mut at = front;
-    let mut passed = from;
-    let mut left = n;
-    let mut here = store.get_leaf(front).len() - from;
-    'leaves: while left > here {
-        let Some(next) = store.get_leaf(at).next() else {
-            return (at, passed + here, n - (left - here));
-        };
-        left -= here;
-        at = next;
-        passed = 0;
-        here = store.get_leaf(next).len();
-    }
-    (at, passed + left, n)
+    let back = end_of_all(store, root, height);
+    part_of_places(store, root, height, front, back, n, Extent::Cut)
 }

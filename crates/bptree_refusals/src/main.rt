@@ -12,6 +12,7 @@ mod plans;
 mod quiet;
 mod sample;
 mod serving;
+mod summed;
 mod trees;
 mod trial;
 
@@ -21,6 +22,7 @@ use crate::parts::{InnerGiven, InnerParts, LeafParts, Made, Numbered, Roomy};
 use crate::plans::{Plan, plan_of};
 use crate::quiet::{Readings, SetReadings};
 use crate::sample::{Group, Sample};
+use crate::summed::{Counted, Summed};
 use crate::trial::Trial;
 use std::io::Read;
 use std::process::ExitCode;
@@ -53,9 +55,12 @@ fn on_keys<K: Sample>(trial: &mut Trial, letter: u8, plan: &Plan) {
     }
 }
 
-// A scenario on a map that is asked for a group.
-fn on_asked<K: Sample, G: Group<K>>(trial: &mut Trial, plan: &Plan) {
-    trial.carry_out::<Grouped<K, G>>(plan);
+// A scenario on maps that are asked for groups.
+fn on_asked<K: Sample, G: Group<K>>(trial: &mut Trial, letter: u8, plan: &Plan) {
+    match letter {
+        b'x' => trial.carry_out::<Grouped<K, G>>(plan),
+        _ => trial.carry_out::<Summed<K, G>>(plan),
+    }
 }
 
 // A scenario on numbers.
@@ -63,6 +68,7 @@ fn on_numbers(trial: &mut Trial, letter: u8, plan: &Plan) {
     match letter {
         b'a'..=b'p' => on_trees::<u64, Count>(trial, letter, plan),
         b'w' => trial.carry_out::<Made<InnerGiven>>(plan),
+        b'y' => trial.carry_out::<Counted<u64>>(plan),
         _ => on_keys::<u64>(trial, letter, plan),
     }
 }
@@ -71,7 +77,7 @@ fn on_numbers(trial: &mut Trial, letter: u8, plan: &Plan) {
 fn on_groups(trial: &mut Trial, letter: u8, plan: &Plan) {
     match letter {
         b'a'..=b'p' => on_trees::<Pair, GroupCount<Tuple2<String>>>(trial, letter, plan),
-        b'x' => on_asked::<Pair, Tuple2<String>>(trial, plan),
+        b'x' | b'y' => on_asked::<Pair, Tuple2<String>>(trial, letter, plan),
         _ => on_keys::<Pair>(trial, letter, plan),
     }
 }

@@ -120,13 +120,14 @@ impl Plan {
             b'u' => halved(turn, true),
             b's' if turn < 2 => Some(Call::Own(turn.saturating_add(2))),
             b'v' | b'x' => own(turn, 4),
+            b'y' => own(turn, 21),
             _ => None,
         }
     }
 }
 
 // The names of the scenarios on numbers: that of a letter, small, stands at its place.
-const NUMBER_NAMES: [&str; 24] = [
+const NUMBER_NAMES: [&str; 25] = [
     "numbers, full leaf",
     "numbers, full root",
     "numbers, emptied",
@@ -151,10 +152,11 @@ const NUMBER_NAMES: [&str; 24] = [
     "sets of numbers, read, without memory",
     "inner node of vectors in turn",
     "groups, asked",
+    "numbers, counted, without memory",
 ];
 
 // The same on groups, whose letters are capital.
-const GROUP_NAMES: [&str; 24] = [
+const GROUP_NAMES: [&str; 25] = [
     "groups, full leaf",
     "groups, full root",
     "groups, emptied",
@@ -179,11 +181,12 @@ const GROUP_NAMES: [&str; 24] = [
     "sets of pairs, read, without memory",
     "inner node of vectors in turn",
     "groups, asked",
+    "groups, summed",
 ];
 
 // Of each letter how many pairs or keys there are at first, the turn from which on requests are refused, and how many there are
 // at the end, at least and at most.
-const ROWS: [(u64, Option<u64>, usize, usize); 24] = [
+const ROWS: [(u64, Option<u64>, usize, usize); 25] = [
     (0, None, 65, 65),
     (4160, Some(0), 4161, 4161),
     (65, None, 0, 0),
@@ -208,6 +211,7 @@ const ROWS: [(u64, Option<u64>, usize, usize); 24] = [
     (100, Some(0), 100, 100),
     (0, None, 0, 0),
     (400, Some(0), 400, 400),
+    (5000, Some(0), 5000, 5000),
 ];
 
 /// The plan of a letter, as it is called on groups or on numbers.

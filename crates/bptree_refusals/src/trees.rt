@@ -107,7 +107,7 @@ where
         }
         let pairs = pairs_of(alloc, many, true)?;
         if in_load_order(&pairs) {
-            BPlusTree::bulk_load(alloc, pairs)
+            BPlusTree::bulk_load(pairs)
         } else {
             Err(AllocError)
         }

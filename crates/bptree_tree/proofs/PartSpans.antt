@@ -1,6 +1,6 @@
 -- A part of a tree's contents stands between two places in its leaves.
-use Rattle.std.proofs.Common.{◌≡◌, ℕ, zero, suc, ◌+◌, ◌-◌, ◌<◌, ◌≤◌, inl, inr, List, [], ◌∷◌, ◌++◌, length, take, drop, refl, sym, ap, subst, ◌∙◌, arith, Option, Some, None, append_assoc, length-append, length-drop, take-append-drop}
-use Rattle.std.proofs.lemmas.List.{drop-append-le, length-take-le}
+use Rattle.std.proofs.Common.{◌≡◌, ℕ, zero, suc, ◌+◌, ◌-◌, ◌<◌, ◌≤◌, inl, inr, List, [], ◌∷◌, ◌++◌, length, take, drop, min, refl, sym, ap, subst, ◌∙◌, arith, Option, Some, None, append_assoc, length-append, length-drop, take-append-drop}
+use Rattle.std.proofs.lemmas.List.{drop-append-le, length-take-le, take_all}
 use Rattle.std.specs.declared.cmp.Ordering.{Ordering}
 use Rattle.std.specs.Cmp.{IsTotalOrder}
 use Rattle.std.specs.List.{AllByRecursion}
@@ -12,18 +12,20 @@ use Rattle.bptree_keys.specs.declared.node_id.NodeId.{NodeId}
 use Rattle.bptree_keys.specs.Contents.{IsAscending}
 use Rattle.bptree_keys.specs.Ranges.{part, part_at}
 use Rattle.bptree_keys.proofs.PieceLemmas.{AllByRecursion-right}
-use Rattle.bptree_ranges.specs.declared.ranges.Part.{Part}
-use Rattle.bptree_shape.specs.Leaves.{pairs_of}
-use Rattle.bptree_ranges.specs.Ranges.{start, IsPart}
-use Rattle.bptree_shape.specs.Shape.{leaf_pairs, leaf_prev, leaf_next, pairs_at, AreLinked, IsWellShaped}
+use Rattle.bptree_iteration.specs.declared.part.Part.{Part}
+use Rattle.bptree_iteration.specs.declared.part.Extent.TheVariants.{Exact}
+use Rattle.bptree_shape.specs.Leaves.{pairs_of, IsFirstLeaf, IsLastLeaf}
+use Rattle.bptree_ranges.specs.Ranges.{ahead, start, place_on, IsPart}
+use Rattle.bptree_shape.specs.Shape.{leaf_pairs, leaf_prev, leaf_next, leaves_at, pairs_at, AreLinked, IsWellShaped}
 use Rattle.bptree_ways.proofs.Beside.{HasPair, others_have}
-use Rattle.bptree_ranges.proofs.Ranged.{sides, start_is, reached, comes_before}
+use Rattle.bptree_ranges.proofs.Ranged.{sides, start_is, ahead_of, reached, comes_before, take_of_take}
 use Rattle.bptree_shape.proofs.Ordered.{ascending_after}
 use Rattle.bptree_shape.proofs.Spot.{parts_of, ascending_before}
 use Rattle.bptree_shape.proofs.Walk.{flat-append}
-use Rattle.bptree_iteration.specs.Span.{IsSpan, IsBetween, leaves_of, leaf_of, pairs_left}
-use Rattle.bptree_iteration.proofs.SpanLemmas.{IsBetween-span, pairs_left-span, take-part}
-use Rattle.bptree_tree.proofs.Spans.{some_of}
+use Rattle.bptree_iteration.specs.Span.{IsSpan, AreApart, IsBetween, Tells, leaves_of, leaf_of, first_between}
+use Rattle.bptree_iteration.proofs.SpanLemmas.{first_of_span, take-part}
+use Rattle.bptree_tree.proofs.Spans.{some_of, tree_span}
+use Rattle.std.proofs.lemmas.Bool.Decides.{eqb_tells}
 
 -- dropping what stands before, and taking over a seam
 drop_past : {X : Type 0} (xs ys : List X) (n : ℕ) → drop (length xs + n) (xs ++ ys) ≡ drop n ys
@@ -58,6 +60,26 @@ more_pieces before here mid last after from to n h g e =
     ∙ (ap (λ m. take m (drop from here ++ (mid ++ (last ++ after)))) n_is
     ∙ (take_past (drop from here) (mid ++ (last ++ after)) (length mid + to)
     ∙ ap (λ l. drop from here ++ l) (take_past mid (last ++ after) to ∙ ap (λ l. mid ++ l) (take_within last after to g))))
+
+-- the leaves ahead of one are others
+others_ahead : (leaf : LeafNodeId) (xs : List LeafNodeId) → AllByRecursion (λ (x : LeafNodeId). x ≡ leaf → ⊥) (ahead leaf.0 xs)
+others_ahead leaf [] = tt
+others_ahead leaf (x ∷ xs) =
+    elim (eqb_tells x.0 leaf.0) [
+      | inl same ↦ rw same.0 tt
+      | inr other ↦ rw other.0 (λ e. other.1 (ap (λ (y : LeafNodeId). y.0) e), others_ahead leaf xs)
+    ]
+
+apart_over : (x : LeafNodeId) (mid : List LeafNodeId) (back : LeafNodeId) → AllByRecursion (λ (y : LeafNodeId). y ≡ back → ⊥) (x ∷ mid) → AreApart x (mid ++ back ∷ []) back
+apart_over x [] back h = (h.0, tt)
+apart_over x (y ∷ mid) back h = (h.0, apart_over y mid back h.1)
+
+whole_apart : (first : LeafNodeId) (after before : List LeafNodeId) (last : LeafNodeId) → first ∷ after ≡ before ++ last ∷ [] → AllByRecursion (λ (y : LeafNodeId). y ≡ last → ⊥) before → AreApart first after last
+whole_apart first after [] last e all = let none : after ≡ [] = cc in rw none tt
+whole_apart first after (x ∷ before) last e all =
+    let same : x ≡ first = cc in
+    let rest : after ≡ before ++ last ∷ [] = cc in
+    rw rest (subst (λ y. AreApart y (before ++ last ∷ []) last) same (apart_over x before last all))
 
 module _ {K V A : Type 0} (slots : Slots (Inner K A) (Leaf K V)) where
   present_leaf : (s : Slot (Leaf K V)) → 0 < length (leaf_pairs s) → (leaf : Leaf K V) × (s ≡ Present leaf) × (0 < length leaf.pairs)
@@ -120,8 +142,22 @@ module _ {K V A : Type 0} {cmp : K → K → Ordering} (is_summary : A → List 
   abbrev size : LeafNodeId → ℕ
   size leaf = length (leaf_pairs (slots.leaf leaf.0))
 
+  -- how many pairs stand between the two places of a part, and which
+  abbrev wide : Part → ℕ
+  wide p = (start slots h root p.back + p.to) - (start slots h root p.front + p.from)
+
+  abbrev within : Part → List (K × V)
+  within p = part (pairs_at slots h root) (start slots h root p.front + p.from) (wide p)
+
+  up : (p : Part) (xs : List (K × V)) → IsPart slots h root p xs → start slots h root p.front + p.from + wide p ≡ start slots h root p.back + p.to
+  up p xs is =
+      elim is.rises [
+        | inl behind ↦ omega (arith, behind)
+        | inr same ↦ (let e = ap (start slots h root) same.0 in omega (arith, e, same.1))
+      ]
+
   -- a part that begins and ends in one leaf
-  one_leaf : (p : Part) (xs : List (K × V)) (is : IsPart slots h root p xs) → p.front ≡ p.back → IsSpan (leaves_of slots) p.front p.from [] p.back p.to xs
+  one_leaf : (p : Part) (xs : List (K × V)) (is : IsPart slots h root p xs) → p.front ≡ p.back → IsSpan (leaves_of slots) p.front p.from [] p.back p.to (within p)
   one_leaf p xs is same =
       let at = present_slot (slots.leaf p.front.0) is.front.stands.present in
       let e : start slots h root p.front ≡ start slots h root p.back = ap (start slots h root) same in
@@ -129,11 +165,11 @@ module _ {K V A : Type 0} {cmp : K → K → Ordering} (is_summary : A → List 
       let long : size p.front ≡ length at.0.pairs = ap (λ s. length (leaf_pairs s)) at.1 in
       let in' = is.front.stands in
       let i : start slots h root p.front ≡ length (pairs_of slots in'.before) = start_is is_summary slots h root shape p.front in' in
-      let xs_is : xs ≡ drop p.from (take p.to (leaf_pairs (slots.leaf p.front.0))) =
-      is.pairs ∙ (ap (λ l. part l (start slots h root p.front + p.from) p.len) (parts_of slots h root p.front in')
-      ∙ (ap (λ n. part (pairs_of slots in'.before ++ (leaf_pairs (slots.leaf p.front.0) ++ pairs_of slots in'.after)) (n + p.from) p.len) i
-      ∙ one_piece (pairs_of slots in'.before) (leaf_pairs (slots.leaf p.front.0)) (pairs_of slots in'.after) p.from p.to p.len (omega (arith, is.apart, e)) (omega (arith, is.back.within, s)) (omega (arith, is.apart, e)))) in
-      (at.0, ap leaf_of at.1, sym same, omega (arith, is.apart, e), omega (arith, is.back.within, s, long), xs_is ∙ ap (λ s. drop p.from (take p.to (leaf_pairs s))) at.1)
+      let xs_is : within p ≡ drop p.from (take p.to (leaf_pairs (slots.leaf p.front.0))) =
+      (ap (λ l. part l (start slots h root p.front + p.from) (wide p)) (parts_of slots h root p.front in')
+      ∙ (ap (λ n. part (pairs_of slots in'.before ++ (leaf_pairs (slots.leaf p.front.0) ++ pairs_of slots in'.after)) (n + p.from) (wide p)) i
+      ∙ one_piece (pairs_of slots in'.before) (leaf_pairs (slots.leaf p.front.0)) (pairs_of slots in'.after) p.from p.to (wide p) (omega (arith, up p xs is, e)) (omega (arith, is.back.within, s)) (omega (arith, up p xs is, e)))) in
+      (at.0, ap leaf_of at.1, sym same, omega (arith, up p xs is, e), omega (arith, is.back.within, s, long), xs_is ∙ ap (λ s. drop p.from (take p.to (leaf_pairs s))) at.1)
     where
       present_slot : (s : Slot (Leaf K V)) → IsPresent s → (leaf : Leaf K V) × (s ≡ Present leaf)
       present_slot Free h = absurd h
@@ -142,7 +178,7 @@ module _ {K V A : Type 0} {cmp : K → K → Ordering} (is_summary : A → List 
 
   -- one that goes over the ends of leaves
   more_leaves : (p : Part) (xs : List (K × V)) (is : IsPart slots h root p xs) (mid : List LeafNodeId) → is.front.stands.after ≡ mid ++ p.back ∷ is.back.stands.after → is.back.stands.before ≡ is.front.stands.before ++ p.front ∷ mid
-      → IsSpan (leaves_of slots) p.front p.from (mid ++ p.back ∷ []) p.back p.to xs
+      → IsSpan (leaves_of slots) p.front p.from (mid ++ p.back ∷ []) p.back p.to (within p)
   more_leaves p xs is mid e f =
       let in' = is.front.stands in
       let out = is.back.stands in
@@ -159,33 +195,55 @@ module _ {K V A : Type 0} {cmp : K → K → Ordering} (is_summary : A → List 
       ∙ omega (arith, length-append (pairs_of slots in'.before) (pairs_of slots (p.front ∷ mid)), length-append here (pairs_of slots mid)))) in
       let all : pairs_at slots h root ≡ pairs_of slots in'.before ++ (here ++ (pairs_of slots mid ++ (last ++ pairs_of slots out.after))) =
       parts_of slots h root p.front in' ∙ ap (λ l. pairs_of slots in'.before ++ (here ++ l)) (ap (pairs_of slots) e ∙ flat-append (λ (l : LeafNodeId). leaf_pairs (slots.leaf l.0)) mid (p.back ∷ out.after)) in
-      let xs_is : xs ≡ drop p.from here ++ (pairs_of slots mid ++ take p.to last) =
-      is.pairs ∙ (ap (λ l. part l (start slots h root p.front + p.from) p.len) all
-      ∙ (ap (λ n. part (pairs_of slots in'.before ++ (here ++ (pairs_of slots mid ++ (last ++ pairs_of slots out.after)))) (n + p.from) p.len) i
-      ∙ more_pieces (pairs_of slots in'.before) here (pairs_of slots mid) last (pairs_of slots out.after) p.from p.to p.len is.front.within is.back.within (omega (arith, is.apart, i, j)))) in
+      let xs_is : within p ≡ drop p.from here ++ (pairs_of slots mid ++ take p.to last) =
+      (ap (λ l. part l (start slots h root p.front + p.from) (wide p)) all
+      ∙ (ap (λ n. part (pairs_of slots in'.before ++ (here ++ (pairs_of slots mid ++ (last ++ pairs_of slots out.after)))) (n + p.from) (wide p)) i
+      ∙ more_pieces (pairs_of slots in'.before) here (pairs_of slots mid) last (pairs_of slots out.after) p.from p.to (wide p) is.front.within is.back.within (omega (arith, up p xs is, i, j)))) in
       subst (IsSpan (leaves_of slots) p.front p.from (mid ++ p.back ∷ []) p.back p.to) (sym xs_is) span
 
-  part_long : (p : Part) (xs : List (K × V)) (is : IsPart slots h root p xs) → p.len ≡ length xs
-  part_long p xs is =
+  others_between : (p : Part) (xs : List (K × V)) (is : IsPart slots h root p xs) (mid : List LeafNodeId) → is.back.stands.before ≡ is.front.stands.before ++ p.front ∷ mid → AreApart p.front (mid ++ p.back ∷ []) p.back
+  others_between p xs is mid f =
+      let all = subst (AllByRecursion (λ (y : LeafNodeId). y ≡ p.back → ⊥)) (ahead_of is_summary slots h root shape p.back is.back.stands ∙ f) (others_ahead p.back (leaves_at slots h root)) in
+      apart_over p.front mid p.back (AllByRecursion-right (λ (y : LeafNodeId). y ≡ p.back → ⊥) is.front.stands.before (p.front ∷ mid) all)
+
+  long_within : (p : Part) (xs : List (K × V)) (is : IsPart slots h root p xs) → wide p ≡ length (within p)
+  long_within p xs is =
       let all = reached is_summary slots h root shape p.back is.back.stands in
       let l = length-drop (start slots h root p.front + p.from) (pairs_at slots h root) in
-      sym (ap length is.pairs ∙ length-take-le p.len (drop (start slots h root p.front + p.from) (pairs_at slots h root)) (omega (arith, l, all, is.apart, is.back.within)))
+      sym (length-take-le (wide p) (drop (start slots h root p.front + p.from) (pairs_at slots h root)) (omega (arith, l, all, up p xs is, is.back.within)))
 
   -- what an iterator over the part asks, and shows
-  pub part_between_places : (p : Part) (xs : List (K × V)) → IsPart slots h root p xs → IsBetween (leaves_of slots) p.front p.from p.back p.to p.len × (pairs_left (leaves_of slots) p.front p.from p.len ≡ xs)
+  pub part_between_places : (p : Part) (xs : List (K × V)) → IsPart slots h root p xs → IsBetween (leaves_of slots) p.front p.from p.back p.to p.limit p.extent × (first_between (leaves_of slots) p.front p.from p.back p.to p.limit ≡ xs)
   part_between_places p xs is =
-      let long = part_long p xs is in
-      let so : (ids : List LeafNodeId) → IsSpan (leaves_of slots) p.front p.from ids p.back p.to xs → IsBetween (leaves_of slots) p.front p.from p.back p.to p.len × (pairs_left (leaves_of slots) p.front p.from p.len ≡ xs) =
-      (λ ids span. (IsBetween-span (leaves_of slots) p.front p.from ids p.back p.to xs p.len span long, pairs_left-span (leaves_of slots) p.front p.from ids p.back p.to xs p.len span long)) in
+      let tells = subst (Tells p.extent p.limit) (long_within p xs is) is.tells in
+      let cut : take p.limit (within p) ≡ xs = take_of_take p.limit (wide p) (drop (start slots h root p.front + p.from) (pairs_at slots h root)) ∙ sym is.pairs in
+      let so : (ids : List LeafNodeId) → IsSpan (leaves_of slots) p.front p.from ids p.back p.to (within p) → AreApart p.front ids p.back → IsBetween (leaves_of slots) p.front p.from p.back p.to p.limit p.extent × (first_between (leaves_of slots) p.front p.from p.back p.to p.limit ≡ xs) =
+      (λ ids span apart. (record { ids = ids; pairs = within p; span = span; apart = apart; tells = tells }, first_of_span (leaves_of slots) p.front p.from ids p.back p.to (within p) p.limit span apart ∙ cut)) in
       elim (sides p.front p.back is.front.stands.before is.front.stands.after is.back.stands.before is.back.stands.after (sym is.front.stands.leaves ∙ is.back.stands.leaves)) [
-        | inl same ↦ so [] (one_leaf p xs is same.1)
+        | inl same ↦ so [] (one_leaf p xs is same.1) tt
         | inr rest ↦ (elim rest [
-          | inl first ↦ so (first.0 ++ p.back ∷ []) (more_leaves p xs is first.0 first.2 first.1)
+          | inl first ↦ so (first.0 ++ p.back ∷ []) (more_leaves p xs is first.0 first.2 first.1) (others_between p xs is first.0 first.1)
           | inr last ↦
               (let before = comes_before is_summary slots h root shape p.back p.front is.back.stands is.front.stands last.0 last.1 last.2 in
-              so [] (one_leaf p xs is (sym (is.none (omega (arith, before.from, is.apart, is.back.within))).0)))
+              elim is.rises [
+                | inl behind ↦ absurd (omega (arith, behind, before.from, is.back.within))
+                | inr same ↦ so [] (one_leaf p xs is (sym same.0)) tt
+              ])
         ])
       ]
+
+  -- what an iterator over the whole asks, and shows
+  pub whole_between : (first last : LeafNodeId) (node : Leaf K V) (n : ℕ) → (f : IsFirstLeaf slots h root first) → (l : IsLastLeaf slots h root last) → slots.leaf last.0 ≡ Present node → n ≡ length (pairs_at slots h root)
+      → IsBetween (leaves_of slots) first 0 last (length node.pairs) n Exact × (first_between (leaves_of slots) first 0 last (length node.pairs) n ≡ pairs_at slots h root)
+  whole_between first last node n f l here counted =
+      let pairs = pairs_at slots h root in
+      let span = tree_span cmp is_summary slots h root first last node shape f l here in
+      let a : leaves_at slots h root ≡ first ∷ f.stands.after = f.stands.leaves ∙ ap (λ before. before ++ first ∷ f.stands.after) f.first in
+      let b : leaves_at slots h root ≡ l.stands.before ++ last ∷ [] = l.stands.leaves ∙ ap (λ after. l.stands.before ++ last ∷ after) l.last in
+      let all = subst (AllByRecursion (λ (y : LeafNodeId). y ≡ last → ⊥)) (ahead_of is_summary slots h root shape last l.stands) (others_ahead last (leaves_at slots h root)) in
+      let apart = whole_apart first f.stands.after l.stands.before last (sym a ∙ b) all in
+      let e = first_of_span (leaves_of slots) first 0 f.stands.after last (length node.pairs) pairs n span apart in
+      (record { ids = f.stands.after; pairs = pairs; span = span; apart = apart; tells = sym counted }, e ∙ take_all n pairs (omega (arith, counted)))
 
 -- a part of an ascending list ascends
 pub part_ascends : {K V : Type 0} {cmp : K → K → Ordering} (total : IsTotalOrder cmp) (l : List (K × V)) (i n : ℕ) → IsAscending cmp l → IsAscending cmp (part l i n)

@@ -6,7 +6,7 @@ ghost use Rattle.std.specs.Option.{option_map, option_copied};
 ghost use Rattle.bptree_keys.specs.Contents.{IsAscending, has, value, put, del};
 ghost use Rattle.bptree_nodes.specs.Slot.{IsEmpty};
 ghost use Rattle.bptree_tree.specs.Refusal.{pair_of};
-ghost use Rattle.bptree_shape.specs.Shape.{IsWellShaped};
+ghost use Rattle.bptree_shape.specs.Shape.{pairs_at, IsWellShaped};
 ghost use Rattle.bptree_tree.specs.Whole.{IsWhole, IsUntouched};
 
 mod cloning;
@@ -20,6 +20,7 @@ mod removals;
 use crate::InsertError;
 use bptree_insertion::insertion::{Put, is_full, upsert};
 use bptree_iteration::iterator::Iter;
+use bptree_iteration::part::{Extent, Part};
 use bptree_keys::compares::Compares;
 use bptree_keys::entry_ref::VisitStack;
 use bptree_keys::node_id::NodeId;
@@ -134,7 +135,15 @@ impl<S: NodeStore> BPlusTree<S> {
         let front = first_leaf(&self.store, self.root, self.height);
         let back = last_leaf(&self.store, self.root, self.height);
         let to = self.store.get_leaf(back).len();
-        Iter::new(&self.store, front, 0, back, to, self.len)
+        let part = Part {
+            front,
+            from: 0,
+            back,
+            to,
+            limit: self.len,
+            extent: Extent::Exact,
+        };
+        Iter::new(&self.store, part)
     }
 
     /// Puts `v` at `k`, and hands back the value that was there.
@@ -229,6 +238,7 @@ impl<S: NodeStore> BPlusTree<S> {
     pub fn node_store(&self) -> &S
         ensures value { result.now ≡ self.now.store }
         ensures shape { IsWellShaped S.K.cmp S.Argument.is_summary (S.slots self.now.store) self.now.height self.now.root }
+        ensures contents { self.now.contents ≡ pairs_at (S.slots self.now.store) self.now.height self.now.root }
     {
         &self.store
     }

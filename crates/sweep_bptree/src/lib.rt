@@ -9,4 +9,4 @@ pub use bptree_maps::{map, page, set};
 pub use bptree_merging::merge_iter;
 pub use map::BPlusTreeMap;
 pub use set::BPlusTreeSet;
-pub use tree::{BPlusTree, CloneStore, Key, NodeStore, NodeStoreVec};
+pub use tree::{BPlusTree, CloneStore, InsertError, Key, NodeStore, NodeStoreVec};

@@ -23,4 +23,4 @@ pub use bptree_stores::node_stores;
 pub use bptree_stores::node_stores::{CloneStore, NodeStore};
 pub use bptree_tree::iterator::Iter;
 pub use bptree_tree::tree::IntoIter;
-pub use bptree_tree::{BPlusTree, Cursor, InsertError, SelectError, cursor, iterator};
+pub use bptree_tree::{BPlusTree, Cursor, InsertError, SelectError, Statistic, cursor, iterator};

@@ -42,7 +42,7 @@ where
     T::Key: Made,
     T::Value: Made,
 {
-    T::load(alloc, pairs_in_runs(alloc, counts, len, run)?)
+    T::load(pairs_in_runs(alloc, counts, len, run)?)
 }
 
 // Whether the leaves are so many full ones and then those of these sizes.

@@ -1,7 +1,7 @@
 //! Maps that keep groups of keys.
 use crate::maps;
 use crate::maps::{measures, put, take};
-use bptree_arguments::argument::{RankArgument, SearchArgument};
+use bptree_arguments::argument::{CloneArgument, RankArgument, SearchArgument};
 use bptree_arguments::group::{GroupCount, Tuple2};
 use bptree_arguments::group_size::ExtractGroupSize;
 use bptree_arguments::visit::DescendVisit;
@@ -15,7 +15,8 @@ type Pair = (u64, u64);
 /// A summary of groups, which finds and ranks keys in them. The tests know no more of it: a map over `GroupCount` of
 /// `Tuple2` has more types than a proof of a caller follows.
 trait Grouping: SearchArgument<Pair, Query = (Tuple2<u64>, usize)>
-    + RankArgument<Pair, Rank = Option<(Tuple2<u64>, usize)>> {
+    + RankArgument<Pair, Rank = Option<(Tuple2<u64>, usize)>>
+    + CloneArgument<Pair> {
     fn number(&self) -> usize;
 }
 
@@ -166,7 +167,7 @@ fn are_ranked<A: Grouping>(alloc: Global) -> Result<bool, AllocError> {
     Ok(all)
 }
 
-// Groups 0 and 1 have 500 keys each, and group 2 has 50. The visitors are those of groups 0, 1, 2 and 7.
+// Groups 0 and 1 have 500 keys each, and group 2 has 50, in a clone too. The visitors are those of groups 0, 1, 2 and 7.
 fn are_sized<A: Grouping, W: DescendVisit<Pair, u64, A, Result = usize>>(
     alloc: Global,
     zero: W,
@@ -194,7 +195,10 @@ fn are_sized<A: Grouping, W: DescendVisit<Pair, u64, A, Result = usize>>(
     ] {
         all = all && has_page(&map, group, p, first, len)?;
     }
-    Ok(all && has_rank(&map, (1, 250), true, 250))
+    all = all && has_rank(&map, (1, 250), true, 250);
+    let copy = map.clone()?;
+    all = all && has_groups(&copy, 3) && has_place(&copy, 2, 49, 49);
+    Ok(all && has_rank(&copy, (1, 250), true, 250) && has_no_place(&copy, 2, 50))
 }
 
 // One group of so many keys that two levels of nodes stand above its leaves.

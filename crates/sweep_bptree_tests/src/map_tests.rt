@@ -2,7 +2,7 @@
 use crate::maps::{
     Map, collect, collect_times, gives, has, has_at, has_rank, measures, put, take, takes_at, write,
 };
-use bptree_arguments::argument::{Argument, RankArgument, SearchArgument};
+use bptree_arguments::argument::{Argument, CloneArgument, RankArgument, SearchArgument};
 use bptree_arguments::count::Count;
 use bptree_arguments::visit::DescendError;
 use bptree_callers::probe::Probe;
@@ -97,6 +97,19 @@ fn keeps_the_last_of_each_key<A: Argument<u64>>(alloc: Global) -> Result<bool, A
     )
 }
 
+// A clone keeps the pairs of a map that is cleared, and hands them over from both ends. The map, and one that is made by
+// default, then take a pair each.
+fn is_cloned_and_cleared<A: CloneArgument<u64>>(alloc: Global) -> Result<bool, AllocError> {
+    let mut map: Map<A> = collect_times(alloc, 3, 10)?;
+    let mut pairs = map.clone()?.into_iter();
+    map.clear()?;
+    let mut all = measures(&map, 0, 0) && pairs.next() == Some((0, 0));
+    all = pairs.next_back() == Some((2, 20)) && pairs.next() == Some((1, 10)) && all;
+    all = pairs.next().is_none() && put(&mut map, 5, 6) && has(&map, 5, Some(6)) && all;
+    let mut fresh: Map<A> = Map::default(alloc)?;
+    Ok(put(&mut fresh, 7, 8) && has(&fresh, 7, Some(8)) && has(&fresh, 5, None) && all)
+}
+
 // A query and a rank ask each of the two levels above the leaves once, and at last one leaf.
 fn asks_each_level_once<A: SearchArgument<u64, Query = usize> + RankArgument<u64, Rank = usize>>(
     alloc: Global,
@@ -156,6 +169,7 @@ fn collected_pairs_are_held(rt: HostRuntime) -> Result<(), Fail> {
     assert!(rt; removes_the_last_of_many::<Count>(rt.alloc())?);
     assert!(rt; goes_down_ten_thousand::<Count>(rt.alloc())?);
     assert!(rt; keeps_the_last_of_each_key::<Count>(rt.alloc())?);
+    assert!(rt; is_cloned_and_cleared::<Count>(rt.alloc())?);
     assert!(rt; asks_each_level_once::<Probe>(rt.alloc())?);
     assert!(rt; gives_parts_of_a_hundred::<Count>(rt.alloc())?);
     Ok(())

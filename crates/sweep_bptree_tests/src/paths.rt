@@ -2,7 +2,7 @@
 
 pub mod root {
     pub use sweep_bptree::{
-        BPlusTree, CloneStore, Key, NodeStore, NodeStoreVec, argument, script, tree,
+        BPlusTree, CloneStore, InsertError, Key, NodeStore, NodeStoreVec, argument, script, tree,
     };
 }
 
@@ -23,8 +23,8 @@ pub mod of_tree {
         Argument, BPlusTree, CloneStore, Compares, DescendError, DescendVisit, DescendVisitResult,
         EntryRef, EntryRefDetached, InnerMergeResult, InnerNode, InnerNodeId, InsertError, Iter,
         Key, LeafDeleteResult, LeafNode, LeafNodeId, LeafUpsertResult, NodeId, NodeStore,
-        NodeStoreVec, RankArgument, SearchArgument, SelectError, Tuple2, VisitStack, count, group,
-        in_load_order, visit,
+        NodeStoreVec, RankArgument, SearchArgument, SelectError, Statistic, Tuple2, VisitStack,
+        count, group, in_load_order, visit,
     };
 }
 

@@ -28,11 +28,20 @@ fn gives<K: Key>(first: &BPlusTreeSet<K>, second: &BPlusTreeSet<K>, wanted: &[K]
     keys.next().is_none() && keys.next().is_none() && all
 }
 
+// A set that is made by default takes each of the keys as a new one.
+fn takes_each<K: Key + Copy>(mut set: BPlusTreeSet<K>, keys: &[K]) -> bool {
+    let mut all = set.is_empty();
+    for key in keys {
+        all = matches!(set.insert(*key), Ok(true)) && set.contains(key) && all;
+    }
+    all && set.len() == keys.len()
+}
+
 // Before the first step there are two keys at least and three at most.
 fn joins_two_sets<K: Key + Copy>(alloc: Global, both: &[K]) -> Result<bool, AllocError> {
     let first = set_of(alloc, both, 1)?;
     let second = set_of(alloc, both, 2)?;
-    Ok(gives(&first, &second, both))
+    Ok(gives(&first, &second, both) && takes_each(BPlusTreeSet::default(alloc)?, both))
 }
 
 #[test]

@@ -122,7 +122,7 @@ pub trait Ranked: Tested<Key = u64, Value = u64> {
 pub trait Loaded: Tested {
     type Owned: Walked;
 
-    fn load(alloc: Global, pairs: Vec<(Self::Key, Self::Value)>) -> Result<Self, AllocError>;
+    fn load(pairs: Vec<(Self::Key, Self::Value)>) -> Result<Self, AllocError>;
 
     fn copy(&self) -> Result<Self, AllocError>;
 

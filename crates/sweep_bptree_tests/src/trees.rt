@@ -327,11 +327,11 @@ where
 {
     type Owned = IntoIter<S>;
 
-    fn load(alloc: Global, pairs: Vec<(S::K, S::V)>) -> Result<Self, AllocError> {
+    fn load(pairs: Vec<(S::K, S::V)>) -> Result<Self, AllocError> {
         if !in_load_order(&pairs) {
             return Err(AllocError);
         }
-        BPlusTree::bulk_load(alloc, pairs)
+        BPlusTree::bulk_load(pairs)
     }
 
     fn copy(&self) -> Result<Self, AllocError> {

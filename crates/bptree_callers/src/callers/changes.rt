@@ -99,7 +99,7 @@ fn clears<S: NodeStore>(tree: &mut BPlusTree<S>) -> Result<(bool, usize), AllocE
 }
 
 // A value is written just where the key is, and nothing else is changed.
-fn writes<S: NodeStore>(tree: &mut BPlusTree<S>, k: &S::K, v: S::V) -> bool
+pub(crate) fn writes<S: NodeStore>(tree: &mut BPlusTree<S>, k: &S::K, v: S::V) -> bool
     ensures there { result ≡ has S.K.cmp tree.old.contents k.now }
     ensures written { IsTrue result → tree.new.contents ≡ written S.K.cmp k.now tree.old.contents v }
     ensures absent { result ≡ false → tree.new ≡ tree.old }

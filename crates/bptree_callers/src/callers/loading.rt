@@ -9,7 +9,7 @@ use bptree_loading::cuts::first_of_layer;
 use bptree_loading::loading::laws_of_load;
 use bptree_stores::node_stores::NodeStore;
 use bptree_tree::BPlusTree;
-use std::alloc::{AllocError, Global};
+use std::alloc::AllocError;
 
 // As many as a leaf holds are one leaf, and one more is shared between two. So of 4161 pairs the last two leaves share the 65
 // behind 64 full ones.
@@ -51,47 +51,35 @@ fn children() -> (usize, usize, usize, usize, usize)
 }
 
 // No pairs are loaded as no pairs.
-fn loads_none<S: NodeStore>(
-    alloc: Global,
-    pairs: Vec<(S::K, S::V)>,
-) -> Result<BPlusTree<S>, AllocError>
+fn loads_none<S: NodeStore>(pairs: Vec<(S::K, S::V)>) -> Result<BPlusTree<S>, AllocError>
     requires { pairs.items ≡ [] }
     ensures { IfOk result (λ tree. tree.contents ≡ []) }
 {
-    BPlusTree::bulk_load(alloc, pairs)
+    BPlusTree::bulk_load(pairs)
 }
 
 // Pairs that ascend are loaded as they come.
-fn loads_all<S: NodeStore>(
-    alloc: Global,
-    pairs: Vec<(S::K, S::V)>,
-) -> Result<BPlusTree<S>, AllocError>
+fn loads_all<S: NodeStore>(pairs: Vec<(S::K, S::V)>) -> Result<BPlusTree<S>, AllocError>
     requires { IsAscending S.K.cmp pairs.items }
     ensures { IfOk result (λ tree. tree.contents ≡ pairs.items) }
 {
     laws_of_load::<S::K, S::V>();
-    BPlusTree::bulk_load(alloc, pairs)
+    BPlusTree::bulk_load(pairs)
 }
 
 // At each key stands the value of the last pair with an equal key.
-fn loads_the_last<S: NodeStore>(
-    alloc: Global,
-    pairs: Vec<(S::K, S::V)>,
-) -> Result<BPlusTree<S>, AllocError>
+fn loads_the_last<S: NodeStore>(pairs: Vec<(S::K, S::V)>) -> Result<BPlusTree<S>, AllocError>
     requires { IsInLoadOrder S.K.cmp pairs.items }
     ensures { IfOk result (λ tree. (k : S.K) → value S.K.cmp tree.contents k ≡ last_value S.K.cmp pairs.items k) }
 {
     laws_of_load::<S::K, S::V>();
-    BPlusTree::bulk_load(alloc, pairs)
+    BPlusTree::bulk_load(pairs)
 }
 
 // The root's argument is a summary of what was loaded.
-fn loads_with_a_summary<S: NodeStore>(
-    alloc: Global,
-    pairs: Vec<(S::K, S::V)>,
-) -> Result<BPlusTree<S>, AllocError>
+fn loads_with_a_summary<S: NodeStore>(pairs: Vec<(S::K, S::V)>) -> Result<BPlusTree<S>, AllocError>
     requires { IsInLoadOrder S.K.cmp pairs.items }
     ensures { IfOk result (λ tree. S.Argument.is_summary tree.root_argument (keys_of (load S.K.cmp pairs.items))) }
 {
-    BPlusTree::bulk_load(alloc, pairs)
+    BPlusTree::bulk_load(pairs)
 }

@@ -6,15 +6,15 @@ ghost use Rattle.std.specs.Option.{option_copied, option_map};
 ghost use Rattle.bptree_arguments.specs.CountLaws.{count_below};
 ghost use Rattle.bptree_arguments.specs.Visits.{answered};
 ghost use Rattle.bptree_ascent.specs.Lending.{written};
-ghost use Rattle.bptree_keys.specs.Contents.{IsAscending, has, value as value_of, put, del, gather};
+ghost use Rattle.bptree_keys.specs.Contents.{IsAscending, has, value as value_of, put, del, gather, pairs_below};
 ghost use Rattle.bptree_keys.specs.Ranges.{between};
 ghost use Rattle.bptree_nodes.specs.Leaf.{set_value_at};
 
-use bptree_arguments::argument::{Argument, RankArgument, SearchArgument};
+use bptree_arguments::argument::{Argument, CloneArgument, RankArgument, SearchArgument};
 use bptree_arguments::count::Count;
 use bptree_arguments::visit::{DescendError, DescendVisit};
 use bptree_keys::key::Key;
-use bptree_maps::map::BPlusTreeMap;
+use bptree_maps::map::{BPlusTreeMap, IntoIter};
 use bptree_stores::node_store_vec::NodeStoreVec;
 use bptree_tree::{BPlusTree, InsertError, SelectError};
 use std::alloc::{AllocError, Global};
@@ -173,6 +173,50 @@ fn removes<K: Key, V: Drop, A: Argument<K>>(map: &mut BPlusTreeMap<K, V, A>, k: 
     }
 }
 
+// A map that was cleared has no pairs. A refusal changes nothing.
+fn clears<K: Key, V: Drop, A: Argument<K>>(
+    map: &mut BPlusTreeMap<K, V, A>,
+) -> Result<(bool, usize), AllocError>
+    ensures empty { IfOk result (λ says. says ≡ (true, 0)) }
+    ensures refused { OnErr result (map.new ≡ map.old) }
+{
+    map.clear()?;
+    Ok((map.is_empty(), map.len()))
+}
+
+// A clone has a key exactly where the original does.
+fn has_the_same_keys<K: Key, V: Clone + Drop, A: CloneArgument<K>>(
+    map: &BPlusTreeMap<K, V, A>,
+) -> Result<BPlusTreeMap<K, V, A>, AllocError>
+    ensures { IfOk result (λ copy. (k : K) → has K.cmp copy k ≡ has K.cmp map.now k) }
+{
+    let copy = map.clone()?;
+    Ok(copy)
+}
+
+// It has as many pairs.
+fn counts_the_same<K: Key, V: Clone + Drop, A: CloneArgument<K>>(
+    map: &BPlusTreeMap<K, V, A>,
+) -> Result<usize, AllocError>
+    ensures { IfOk result (λ len. len ≡ length map.now) }
+{
+    Ok(map.clone()?.len())
+}
+
+// The pairs of an owned map, from both ends.
+fn hands_over_two<K: Key, V: Drop, A: Argument<K>>(
+    map: BPlusTreeMap<K, V, A>,
+) -> ((K, V), (K, V), usize)
+    requires { length map ≡ 2 }
+    ensures { (map ≡ result.0 ∷ result.1 ∷ []) × (result.2 ≡ 0) }
+{
+    let mut pairs: IntoIter<K, V, A> = map.into_iter();
+    match (pairs.next(), pairs.next_back()) {
+        (Some(first), Some(last)) => (first, last, pairs.len()),
+        _ => unreachable!(),
+    }
+}
+
 // The first pair comes from the front, and the last from the back.
 fn begins_with_the_first<K: Key, V: Drop, A: Argument<K>>(
     map: &BPlusTreeMap<K, V, A>,
@@ -326,4 +370,85 @@ fn puts_into_its_tree<K: Key, V: Drop, A: Argument<K>>(
     ensures { IsTrue result → map.new ≡ put K.cmp map.old k v }
 {
     change(map.tree_mut(), k, v)
+}
+
+// The first of two pairs, and the last.
+fn gives_both_ends<K: Key, V: Drop, A: Argument<K>>(
+    map: &BPlusTreeMap<K, V, A>,
+) -> (Option<(&K, &V)>, Option<(&K, &V)>)
+    ensures { (a b : K × V) → map.now ≡ a ∷ b ∷ [] → (option_map (λ pair. (pair.0.now, pair.1.now)) result.0 ≡ Some a) × (option_map (λ pair. (pair.0.now, pair.1.now)) result.1 ≡ Some b) }
+{
+    (map.first(), map.last())
+}
+
+// The first pair leaves with its value, and the others stay. Where that is refused, nothing changes.
+fn pops_the_first<K: Key, V: Drop, A: Argument<K>>(
+    map: &mut BPlusTreeMap<K, V, A>,
+) -> Result<V, AllocError>
+    requires { 0 < length map.old }
+    ensures popped { IfOk result (λ v. (k : K) × (map.old ≡ (k, v) ∷ map.new)) }
+    ensures refused { OnErr result (map.new ≡ map.old) }
+{
+    match map.pop_first()? {
+        Some((_, v)) => Ok(v),
+        None => unreachable!(),
+    }
+}
+
+// Where there is no pair, none leaves.
+fn pops_none<K: Key, V: Drop, A: Argument<K>>(
+    map: &mut BPlusTreeMap<K, V, A>,
+) -> Result<bool, AllocError>
+    requires { map.old ≡ [] }
+    ensures none { IfOk result (λ none. none ≡ true) }
+    ensures pairs { map.new ≡ [] }
+{
+    Ok(map.pop_first()?.is_none())
+}
+
+// The keys below a key are summed up, and those from it on.
+fn sums_up_both_sides<K: Key, V: Drop, A: Argument<K>>(
+    map: &BPlusTreeMap<K, V, A>,
+    k: &K,
+) -> Result<(A, A), AllocError>
+    ensures below { IfOk result (λ sums. A.is_summary sums.0 (keys_of (pairs_below K.cmp map.now k.now))) }
+    ensures from { IfOk result (λ sums. A.is_summary sums.1 (keys_of (between K.cmp map.now (Some k.now) None))) }
+{
+    let below = map.range_argument(None, Some(k))?;
+    let from = map.range_argument(Some(k), None)?;
+    Ok((below, from))
+}
+
+// By a count the summary is how many pairs are between two keys.
+fn counts_the_pairs_between<K: Key, V: Drop>(
+    map: &BPlusTreeMap<K, V, Count>,
+    lo: &K,
+    hi: &K,
+) -> Result<usize, AllocError>
+    ensures { IfOk result (λ n. n ≡ length (between K.cmp map.now (Some lo.now) (Some hi.now))) }
+{
+    Ok(map.range_argument(Some(lo), Some(hi))?.count())
+}
+
+// And how many there are from one place up to another.
+fn counts_the_pairs_of_a_part<K: Key, V: Drop>(
+    map: &BPlusTreeMap<K, V, Count>,
+    from: usize,
+    to: usize,
+) -> Result<usize, AllocError>
+    ensures { IfOk result (λ n. n ≡ min to (length map.now) - from) }
+{
+    Ok(map.part_argument(from, to)?.count())
+}
+
+// As many pairs are told as an iterator over them gives, and no call is refused.
+fn tells_how_many_it_gives<K: Key, V: Drop>(
+    map: &BPlusTreeMap<K, V, Count>,
+    lo: &K,
+    hi: &K,
+) -> (usize, usize)
+    ensures { result.0 ≡ result.1 }
+{
+    let told = map.range_len(Some(lo), Some(hi));
+    (told, map.range(Some(lo), Some(hi)).len())
 }

@@ -115,7 +115,7 @@ fn takes_nothing_past_the_end<S: NodeStore<K = u64, V = u64, Argument = Count>>(
 
 // A value is written at an allowed place, and no key changes. Where the query is refused, nothing does: what stands under
 // each number of the store, the root, the height and the root's summary are as they were.
-fn writes_by_a_query<S: NodeStore>(
+pub(crate) fn writes_by_a_query<S: NodeStore>(
     tree: &mut BPlusTree<S>,
     query: <S::Argument as SearchArgument<S::K>>::Query,
     v: S::V,

@@ -1,15 +1,18 @@
 //! Callers of parts of a tree.
-ghost use Rattle.std.specs.Prelude.{◌≡◌, ◌≤◌, length, slice_get, Some, IfOk, IfSome};
+ghost use Rattle.std.specs.Prelude.{◌≡◌, ◌≤◌, ◌-◌, length, min, slice_get, None, Some, IfOk, IfSome};
 ghost use Rattle.std.specs.declared.cmp.Ordering.TheVariants.{Equal};
 ghost use Rattle.std.specs.Map.{keys_of};
 ghost use Rattle.std.specs.Option.{option_map};
+ghost use Rattle.std.specs.Ordering.{nat_cmp};
 ghost use Rattle.bptree_arguments.specs.Groups.{group};
+ghost use Rattle.bptree_keys.specs.Contents.{pairs_below};
 ghost use Rattle.bptree_keys.specs.Ranges.{between, part};
 
 use bptree_arguments::argument::SearchArgument;
 use bptree_arguments::count::Count;
 use bptree_arguments::group::FromRef;
 use bptree_keys::key::Key;
+use bptree_stores::node_store_vec::NodeStoreVec;
 use bptree_stores::node_stores::NodeStore;
 use bptree_tree::BPlusTree;
 use bptree_tree::iterator::Iter;
@@ -64,4 +67,51 @@ fn gives_the_pairs_of_a_group<'a, S: NodeStore, G: FromRef<S::K> + Key>(
     let mut pairs = tree.group_range(g)?;
     let len = pairs.len();
     Ok((len, pairs.next()))
+}
+
+// The keys below a key are summed up, and those from it on.
+fn sums_up_both_sides<S: NodeStore>(
+    tree: &BPlusTree<S>,
+    k: &S::K,
+) -> Result<(S::Argument, S::Argument), AllocError>
+    ensures below { IfOk result (λ sums. S.Argument.is_summary sums.0 (keys_of (pairs_below S.K.cmp tree.now.contents k.now))) }
+    ensures from { IfOk result (λ sums. S.Argument.is_summary sums.1 (keys_of (between S.K.cmp tree.now.contents (Some k.now) None))) }
+{
+    let below = tree.range_argument(None, Some(k))?;
+    let from = tree.range_argument(Some(k), None)?;
+    Ok((below, from))
+}
+
+// By a count the summary is how many pairs are between two keys.
+fn counts_the_pairs_between<S: NodeStore<K = u64, V = u64, Argument = Count>>(
+    tree: &BPlusTree<S>,
+    lo: &u64,
+    hi: &u64,
+) -> Result<usize, AllocError>
+    ensures { IfOk result (λ n. n ≡ length (between nat_cmp tree.now.contents (Some lo.now) (Some hi.now))) }
+{
+    Ok(tree.range_argument(Some(lo), Some(hi))?.count())
+}
+
+// And how many there are from one place up to another.
+fn counts_the_pairs_of_a_part<S: NodeStore<K = u64, V = u64, Argument = Count>>(
+    tree: &BPlusTree<S>,
+    from: usize,
+    to: usize,
+) -> Result<usize, AllocError>
+    ensures { IfOk result (λ n. n ≡ min to (length tree.now.contents) - from) }
+{
+    Ok(tree.part_argument(from, to)?.count())
+}
+
+// As many pairs are told as an iterator over them gives, and no call is refused.
+fn tells_how_many_it_gives<K: Key, V: Drop>(
+    tree: &BPlusTree<NodeStoreVec<K, V, Count>>,
+    lo: &K,
+    hi: &K,
+) -> (usize, usize)
+    ensures { result.0 ≡ result.1 }
+{
+    let told = tree.range_len(Some(lo), Some(hi));
+    (told, tree.range(Some(lo), Some(hi)).len())
 }

@@ -1,10 +1,10 @@
 //! Callers of sets, of their iterators and of unions.
-ghost use Rattle.std.specs.Prelude.{◌≡◌, ◌+◌, ◌∷◌, ◌≤◌, [], List, ◌||◌, ◌&&◌, length, map, max, not, true, false, slice_get, IfOk, IsOk, IsTrue, Err, Ok, Some, None};
+ghost use Rattle.std.specs.Prelude.{◌≡◌, ◌+◌, ◌∷◌, ◌≤◌, [], List, ◌||◌, ◌&&◌, length, map, max, not, true, false, slice_get, IfOk, IfSome, IsOk, IsTrue, Err, Ok, Some, None};
 ghost use Rattle.std.specs.List.{find};
 ghost use Rattle.std.specs.Map.Iter.{TakesFirst, deref};
 ghost use Rattle.std.specs.Option.{option_copied, option_or};
 ghost use Rattle.std.specs.Ordering.{is_eq};
-ghost use Rattle.bptree_maps.specs.Keys.{holds, with_key, without_key, gathered, keys_between};
+ghost use Rattle.bptree_maps.specs.Keys.{holds, with_key, without_key, gathered, keys_between, keys_without};
 ghost use Rattle.bptree_maps.specs.Union.{union};
 
 use bptree_keys::key::Key;
@@ -201,6 +201,17 @@ fn clones_a_union<'a, K: Key>(keys: &Union<'a, K>) -> Union<'a, K>
         Ok(copy) => copy,
         Err(_) => unreachable!(),
     }
+}
+
+// The keys that the first set alone holds come in its order.
+fn gives_the_first_left<'a, K: Key>(
+    first: &'a BPlusTreeSet<K>,
+    second: &'a BPlusTreeSet<K>,
+) -> Option<&'a K>
+    ensures first { option_copied result ≡ slice_get (keys_without K.cmp first.now second.now) 0 }
+    ensures alone { IfSome result (λ key. holds K.cmp second.now key.now ≡ false) }
+{
+    first.difference(second).next()
 }
 
 // To tell whether a set holds a key, at most seven keys are compared on each of sixteen levels, and two of the remembered leaf.

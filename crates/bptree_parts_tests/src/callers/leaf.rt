@@ -277,6 +277,18 @@ fn takes_an_insertion_back<K: Drop, V: Drop>(
     leaf.delete_at(slot)
 }
 
+// A pair that is pushed stands behind all others, which stay.
+fn pushes_behind_all<K: Drop, V: Drop>(leaf: &mut LeafNode<K, V>, key: K, value: V) -> usize
+    requires { length leaf.old.pairs < 64 }
+    ensures there { slice_get leaf.new.pairs result ≡ Some (key, value) }
+    ensures others { take result leaf.new.pairs ≡ leaf.old.pairs }
+    ensures len { length leaf.new.pairs ≡ result + 1 }
+{
+    let place = leaf.len();
+    leaf.push(key, value);
+    place
+}
+
 // A leaf of more than 16 pairs gives up the one at a slot, and one of 16 stays.
 fn deletes_above_the_minimum<K: Drop, V: Drop>(
     leaf: &mut LeafNode<K, V>,

@@ -10,22 +10,22 @@ use bptree_keys::entry_ref::VisitStack;
 use bptree_loading::loading::keep_last_of_each_run;
 use bptree_rebalancing::statistics::Statistic;
 use bptree_stores::node_stores::NodeStore;
-use std::alloc::{AllocError, Global};
+use std::alloc::AllocError;
 
 impl<S: NodeStore> BPlusTree<S> {
-    /// A tree of pairs whose keys do not descend, in a store that takes memory from `alloc`. Of each run of pairs with equal
-    /// keys the last stays, and the others are dropped.
+    /// A tree of pairs whose keys do not descend, in a store that takes memory from the vector's allocator. Of each run of
+    /// pairs with equal keys the last stays, and the others are dropped.
     ///
     /// Each key is compared with the next, and nothing else is. Each pair is moved once into a leaf, and of each leaf one key
     /// is cloned. Each node is as full as it can be, but for the last two of a layer where the last would have too little:
     /// they share what is left. A refusal drops the pairs and what was built of them.
-    pub fn bulk_load(alloc: Global, mut pairs: Vec<(S::K, S::V)>) -> Result<Self, AllocError>
+    pub fn bulk_load(mut pairs: Vec<(S::K, S::V)>) -> Result<Self, AllocError>
         requires { IsInLoadOrder S.K.cmp pairs.items }
         ensures contents { IfOk result (λ tree. tree.contents ≡ load S.K.cmp pairs.items) }
         ensures whole { IfOk result (λ tree. IsWhole S.K.cmp S.Argument.is_summary (λ store. S.slots store) tree) }
     {
         keep_last_of_each_run(&mut pairs);
-        let mut store = S::empty(alloc);
+        let mut store = S::empty(*pairs.allocator());
         let len = pairs.len();
         if len == 0 {
             return BPlusTree::new(store);

@@ -1,15 +1,22 @@
 //! Reads of a tree by the summaries of its keys.
-ghost use Rattle.std.specs.Prelude.{◌≡◌, IfOk, IfErr, MatchResult, is_ok};
+ghost use Rattle.std.specs.Prelude.{◌≡◌, IfOk, IfErr, MatchResult, is_ok, length};
 ghost use Rattle.std.specs.Map.{keys_of};
-ghost use Rattle.std.specs.Option.{option_map};
+ghost use Rattle.std.specs.Option.{option_copied, option_map};
 ghost use Rattle.bptree_arguments.specs.Visits.{answered, IsAllowedError};
 ghost use Rattle.bptree_keys.specs.Contents.{has};
+ghost use Rattle.bptree_keys.specs.Ranges.{between};
+ghost use Rattle.bptree_ranges.specs.Summaries.{IsPartSummary};
 ghost use Rattle.bptree_ways.specs.ByArgument.{IsSelected};
 
 use crate::SelectError;
 use crate::tree::BPlusTree;
 use bptree_arguments::argument::{RankArgument, SearchArgument};
+use bptree_arguments::count::Count;
 use bptree_arguments::visit::{DescendError, DescendVisit};
+use bptree_keys::key::Key;
+use bptree_ranges::counting::len_between;
+use bptree_ranges::summaries::summary_between;
+use bptree_stores::node_store_vec::NodeStoreVec;
 use bptree_stores::node_stores::NodeStore;
 use bptree_ways::{by_argument, visiting};
 use std::alloc::AllocError;
@@ -55,6 +62,48 @@ impl<S: NodeStore> BPlusTree<S> {
         // Read, so that it is known to fit.
         let _len = self.len;
         by_argument::rank_by_argument(&self.store, self.root, self.height, k)
+    }
+
+    /// A summary of the keys that are not below `lo` and are below `hi`, where they are given; of no keys what `Default` makes.
+    ///
+    /// One way down to the node where the ways to the two ends part, and from there one for each end: on each level the
+    /// summaries of the children between the ways are summed up, and at last the keys of one leaf for each end. So it takes
+    /// the same however many pairs stand between. It fails only where the argument does, or where room for two summaries is
+    /// refused.
+    pub fn range_argument<'b>(
+        &self,
+        lo: Option<&'b S::K>,
+        hi: Option<&'b S::K>,
+    ) -> Result<S::Argument, AllocError>
+        ensures { IfOk result (λ summary. S.Argument.is_summary summary (keys_of (between S.K.cmp self.now.contents (option_copied lo.entry) (option_copied hi.entry)))) }
+    {
+        // Read, so that it is known to fit.
+        let _len = self.len;
+        summary_between(&self.store, self.root, self.height, lo, hi)
+    }
+
+    /// A summary of the keys from a place that is allowed for one query on, up to a place that is allowed for another: where
+    /// there is none for the second, up to the end; of no keys where there is none for the first.
+    ///
+    /// It costs a way down for each query, and then what `range_argument` does.
+    pub fn part_argument(
+        &self,
+        from: <S::Argument as SearchArgument<S::K>>::Query,
+        to: <S::Argument as SearchArgument<S::K>>::Query,
+    ) -> Result<S::Argument, AllocError>
+    where
+        S::Argument: SearchArgument<S::K>,
+        ensures { IfOk result (IsPartSummary S.Argument.is_summary S.Argument.selects from to (keys_of self.now.contents)) }
+    {
+        // Read, so that the keys are known to ascend.
+        let _len = self.len();
+        let Some((lo, _)) = self.get_by_argument(from)? else {
+            return Ok(Default::default());
+        };
+        match self.get_by_argument(to)? {
+            Some((hi, _)) => self.range_argument(Some(lo), Some(hi)),
+            None => self.range_argument(Some(lo), None),
+        }
     }
 
     /// What a visitor answers on its way down, or none where it ends without an answer. It takes no memory but what the
@@ -104,5 +153,17 @@ impl<S: NodeStore> BPlusTree<S> {
             Ok(None) => Err(SelectError::NotFound),
             Err(_) => Err(SelectError::OutOfMemory),
         }
+    }
+}
+
+impl<K: Key, V: Drop> BPlusTree<NodeStoreVec<K, V, Count>> {
+    /// How many keys are not below `lo` and are below `hi`, where they are given. It is never refused.
+    ///
+    /// One way down for each end that is given: on each level the counts of the children before the way are added up. So it
+    /// takes the same however many pairs stand between.
+    pub fn range_len<'b>(&self, lo: Option<&'b K>, hi: Option<&'b K>) -> usize
+        ensures { result ≡ length (between K.cmp self.now.contents (option_copied lo.entry) (option_copied hi.entry)) }
+    {
+        len_between(&self.store, self.root, self.height, self.len, lo, hi)
     }
 }

@@ -1,21 +1,50 @@
-use Rattle.std.proofs.Common.{◌≡◌, ◌∙◌, ◌+◌, ◌-◌, ◌<◌, min, ap, arith, subst, sym}
+use Rattle.std.proofs.Common.{◌≡◌, ◌∙◌, ◌+◌, ◌-◌, ◌<◌, ◌≤◌, length, min, ap, arith, drop, refl, subst, sym}
+use Rattle.std.proofs.lemmas.List.{length-take}
 use Rattle.bptree_arguments.specs.Groups.{of_group}
 use Rattle.bptree_keys.specs.Ranges.{part}
-use Rattle.bptree_ranges.specs.Ranges.{start, IsPart}
+use Rattle.bptree_ranges.specs.Places.{before_group}
+use Rattle.bptree_ranges.specs.Ranges.{place_on, IsPart}
 use Rattle.bptree_shape.specs.Shape.{pairs_at}
-use Rattle.bptree_ranges.proofs.Ranged.{part_of_part, reached}
+use Rattle.bptree_ranges.proofs.Bordered.{of_group_is}
+use Rattle.bptree_ranges.proofs.Ranged.{contents_ascend, empty_part, first_place, part_of_part, part_past}
 use Rattle.bptree_ranges.proofs.groups.part_within_group.Goals as goal
 
-pub returns : goal.returns
-returns g c =
+pub returns-in-None : goal.returns-in-None
+returns-in-None g c =
     let slots = g.S.NodeStore.slots c.args.store.now in
     let pairs = pairs_at slots c.args.height c.args.root in
-    let whole = c.in_ok-whole.whole in
-    let s = start slots c.args.height c.args.root whole.front + whole.from in
-    let m = whole.len in
-    let at = start slots c.args.height c.args.root c.place_after-from.result.0 + c.place_after-from.result.1 in
-    let ends = reached g.S.Argument.Argument.is_summary slots c.args.height c.args.root c.requires.shape whole.back c.in_ok-whole.ensures.back.stands in
-    let more : c.args.i < m = omega (arith, c.if-whole-i.false) in
-    let there : at ≡ s + c.args.i = omega (arith, c.place_after-from.ensures.apart, c.place_after-from.ensures.len, more, c.in_ok-whole.ensures.apart, c.in_ok-whole.ensures.back.within, ends) in
-    let few : c.min.result ≡ min c.args.n (m - c.args.i) = c.min.ensures in
-    subst (IsPart slots c.args.height c.args.root c.part_from.result) (ap (part pairs at) few ∙ ap (λ k. part pairs k (min c.args.n (m - c.args.i))) there ∙ sym (part_of_part pairs s m c.args.i c.args.n more) ∙ ap (λ l. part l c.args.i c.args.n) (sym c.in_ok-whole.ensures.pairs)) c.part_from.ensures
+    let at = (first_place g.S.Argument.Argument.is_summary slots c.args.height c.args.root c.requires.shape c.first_leaf.result c.first_leaf.ensures).0 in
+    let less = rw c.in-None.is at c.in_ok-place_in_group.ensures in
+    let none = part_past (of_group g.G.Ord.cmp g.G.FromRef.group_of c.args.group.now pairs) c.args.i c.args.n less in
+    subst (IsPart slots c.args.height c.args.root c.no_part.result) (sym none) (rw c.no_part.ensures (empty_part slots c.args.height c.args.root (c.first_leaf.result, 0) at))
+
+pub part_of_places-requires-clause-front : goal.part_of_places-requires-clause-front
+part_of_places-requires-clause-front g c =
+    (rw c.in-Some.is at c.in_ok-place_in_group.ensures).0
+
+pub part_of_places-requires-clause-rises : goal.part_of_places-requires-clause-rises
+part_of_places-requires-clause-rises g c =
+    let total = g.met.S.K.Ord.total in
+    let slots = g.S.NodeStore.slots c.args.store.now in
+    let pairs = pairs_at slots c.args.height c.args.root in
+    let there = rw c.in-Some.is at c.in_ok-place_in_group.ensures in
+    let b = before_group g.G.Ord.cmp g.G.FromRef.group_of c.args.group.now pairs in
+    let j = place_on slots c.args.height c.args.root c.in_ok-back-in-Some.back in
+    let is = of_group_is total g.met.G.Ord.total g.G.FromRef.group_of g.met.G.FromRef.keeps_order c.args.group.now pairs b j (contents_ascend g.S.Argument.Argument.is_summary slots c.args.height c.args.root c.requires.shape total) refl c.in_ok-back-in-Some.ensures.1 in
+    omega (arith, there.1, there.2, ap length is, length-take (j - b) (drop b pairs))
+
+pub returns-in_ok-back-in-Some : goal.returns-in_ok-back-in-Some
+returns-in_ok-back-in-Some g c =
+    let total = g.met.S.K.Ord.total in
+    let slots = g.S.NodeStore.slots c.args.store.now in
+    let pairs = pairs_at slots c.args.height c.args.root in
+    let there = rw c.in-Some.is at c.in_ok-place_in_group.ensures in
+    let b = before_group g.G.Ord.cmp g.G.FromRef.group_of c.args.group.now pairs in
+    let j = place_on slots c.args.height c.args.root c.in_ok-back-in-Some.back in
+    let at = place_on slots c.args.height c.args.root c.in-Some.front in
+    let is = of_group_is total g.met.G.Ord.total g.G.FromRef.group_of g.met.G.FromRef.keeps_order c.args.group.now pairs b j (contents_ascend g.S.Argument.Argument.is_summary slots c.args.height c.args.root c.requires.shape total) refl c.in_ok-back-in-Some.ensures.1 in
+    let more : c.args.i < j - b = omega (arith, there.2, ap length is, length-take (j - b) (drop b pairs)) in
+    let there' : at ≡ b + c.args.i = there.1 in
+    let rest : j - at ≡ (j - b) - c.args.i = omega (arith, there', more) in
+    subst (IsPart slots c.args.height c.args.root c.part_of_places.result)
+    (ap (λ m. part pairs at (min c.args.n m)) rest ∙ (ap (λ k. part pairs k (min c.args.n ((j - b) - c.args.i))) there' ∙ (sym (part_of_part pairs b (j - b) c.args.i c.args.n more) ∙ ap (λ l. part l c.args.i c.args.n) (sym is)))) c.part_of_places.ensures

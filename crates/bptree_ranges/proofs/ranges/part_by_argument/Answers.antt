@@ -1,7 +1,7 @@
-use Rattle.std.proofs.Common.{◌+◌, length, refl, arith, None, Some}
+use Rattle.std.proofs.Common.{◌+◌, inr, length, refl, arith, take, None, Some}
 use Rattle.bptree_ranges.specs.Ranges.{start}
 use Rattle.bptree_shape.specs.Shape.{pairs_at}
-use Rattle.bptree_ranges.proofs.Ranged.{first_place, selected_place}
+use Rattle.bptree_ranges.proofs.Ranged.{first_place, selected_place, empty_part}
 use Rattle.bptree_ways.proofs.Summed.{whole_subtree}
 use Rattle.bptree_ranges.proofs.ranges.part_by_argument.Goals as goal
 
@@ -13,14 +13,19 @@ find_by_argument-requires g c =
 pub returns-in-None : goal.returns-in-None
 returns-in-None g c =
     let slots = g.S.NodeStore.slots c.args.store.now in
-    let at = (first_place g.S.Argument.Argument.is_summary slots c.args.height c.args.root c.requires.shape c.first_leaf-front.result c.first_leaf-front.ensures).0 in (
+    let at = (first_place g.S.Argument.Argument.is_summary slots c.args.height c.args.root c.requires.shape c.first_leaf.result c.first_leaf.ensures).0 in (
       None,
       rw c.in-None.is at c.in_ok-find_by_argument.ensures,
-      record { front = at; back = at; apart = omega arith; none = λ e. (refl, refl); pairs = refl },
+      rw c.no_part.ensures (empty_part slots c.args.height c.args.root (c.first_leaf.result, 0) at),
     )
+
+pub part_from-requires-clause-place : goal.part_from-requires-clause-place
+part_from-requires-clause-place g c =
+    let slots = g.S.NodeStore.slots c.args.store.now in
+    (selected_place g.S.Argument.Argument.is_summary slots c.args.height c.args.root c.requires.shape g.S.Argument.SearchArgument.selects c.args.query c.in-Some.front.0 c.in-Some.front.1 (rw c.in-Some.is at c.in_ok-find_by_argument.ensures)).0
 
 pub returns-in-Some : goal.returns-in-Some
 returns-in-Some g c =
     let slots = g.S.NodeStore.slots c.args.store.now in
-    let at = selected_place g.S.Argument.Argument.is_summary slots c.args.height c.args.root c.requires.shape g.S.Argument.SearchArgument.selects c.args.query c.in-Some.front c.in-Some.from (rw c.in-Some.is at c.in_ok-find_by_argument.ensures) in
-    (Some (start slots c.args.height c.args.root c.in-Some.front + c.in-Some.from), at.1, c.part_from.ensures)
+    let at = selected_place g.S.Argument.Argument.is_summary slots c.args.height c.args.root c.requires.shape g.S.Argument.SearchArgument.selects c.args.query c.in-Some.front.0 c.in-Some.front.1 (rw c.in-Some.is at c.in_ok-find_by_argument.ensures) in
+    (Some (start slots c.args.height c.args.root c.in-Some.front.0 + c.in-Some.front.1), at.1, c.part_from.ensures)

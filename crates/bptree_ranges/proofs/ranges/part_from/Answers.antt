@@ -1,31 +1,19 @@
-use Rattle.std.proofs.Common.{◌+◌, arith, refl}
-use Rattle.bptree_ranges.specs.Ranges.{start}
+use Rattle.std.proofs.Common.{◌≡◌, ◌-◌, ◌+◌, ◌∙◌, ap, arith, length, min, refl, subst, sym}
+use Rattle.bptree_keys.specs.Ranges.{part}
+use Rattle.bptree_ranges.specs.Ranges.{place_on, IsPart}
 use Rattle.bptree_shape.specs.Shape.{pairs_at}
-use Rattle.bptree_ranges.proofs.Ranged.{part_cut}
+use Rattle.bptree_ranges.proofs.Ranged.{part_cut, reached}
 use Rattle.bptree_ranges.proofs.ranges.part_from.Goals as goal
 
-pub returns-then-len-eq0 : goal.returns-then-len-eq0
-returns-then-len-eq0 g c =
+pub part_of_places-requires-clause-rises : goal.part_of_places-requires-clause-rises
+part_of_places-requires-clause-rises g c =
     let slots = g.S.NodeStore.slots c.args.store.now in
-    let pairs = pairs_at slots c.args.height c.args.root in
-    let i = start slots c.args.height c.args.root c.args.front + c.args.from in
-    record {
-      front = c.requires.place;
-      back = c.requires.place;
-      apart = omega (arith, c.if-len-eq0.true);
-      none = λ e. (refl, refl);
-      pairs = part_cut pairs i c.args.n c.place_after-to.result.2 c.place_after-to.ensures.len;
-    }
+    omega (arith, c.end_of_all-back.ensures.end, c.requires.place.within, reached g.S.Argument.Argument.is_summary slots c.args.height c.args.root c.requires.shape c.args.front.0 c.requires.place.stands)
 
 pub returns : goal.returns
 returns g c =
     let slots = g.S.NodeStore.slots c.args.store.now in
     let pairs = pairs_at slots c.args.height c.args.root in
-    let i = start slots c.args.height c.args.root c.args.front + c.args.from in
-    record {
-      front = c.requires.place;
-      back = c.place_after-to.ensures.place;
-      apart = c.place_after-to.ensures.apart;
-      none = λ e. absurd (c.if-len-eq0.false e);
-      pairs = part_cut pairs i c.args.n c.place_after-to.result.2 c.place_after-to.ensures.len;
-    }
+    let i = place_on slots c.args.height c.args.root c.args.front in
+    subst (IsPart slots c.args.height c.args.root c.part_of_places.result)
+    (ap (λ m. part pairs i (min c.args.n (m - i))) c.end_of_all-back.ensures.end ∙ sym (part_cut pairs i c.args.n (min c.args.n (length pairs - i)) refl)) c.part_of_places.ensures

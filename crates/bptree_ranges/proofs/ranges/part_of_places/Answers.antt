@@ -1,31 +1,21 @@
-use Rattle.std.proofs.Common.{◌+◌, ap, arith, refl, sym}
+use Rattle.std.proofs.Common.{◌≡◌, ◌-◌, ap, ap₂, arith, min, subst, sym}
+use Rattle.bptree_iteration.specs.Span.{Tells}
 use Rattle.bptree_keys.specs.Ranges.{part}
-use Rattle.bptree_ranges.specs.Ranges.{start}
+use Rattle.bptree_ranges.specs.Ranges.{place_on}
 use Rattle.bptree_shape.specs.Shape.{pairs_at}
+use Rattle.bptree_ranges.proofs.Ranged.{rises_between}
 use Rattle.bptree_ranges.proofs.ranges.part_of_places.Goals as goal
-
-pub returns-then-len-eq0 : goal.returns-then-len-eq0
-returns-then-len-eq0 g c =
-    let slots = g.S.NodeStore.slots c.args.store.now in
-    let pairs = pairs_at slots c.args.height c.args.root in
-    let i = start slots c.args.height c.args.root c.args.front + c.args.from in
-    record {
-      front = c.requires.front;
-      back = c.requires.front;
-      apart = omega (arith, c.if-len-eq0.true);
-      none = λ e. (refl, refl);
-      pairs = ap (part pairs i) (sym c.count_between-len.ensures);
-    }
 
 pub returns : goal.returns
 returns g c =
     let slots = g.S.NodeStore.slots c.args.store.now in
-    let pairs = pairs_at slots c.args.height c.args.root in
-    let i = start slots c.args.height c.args.root c.args.front + c.args.from in
+    let one = c.settled-front.ensures in
+    let other = c.settled-back.ensures in
+    let apart = ap₂ ◌-◌ (sym other.same) (sym one.same) in
     record {
-      front = c.requires.front;
-      back = c.requires.back;
-      apart = omega (arith, c.count_between-len.ensures, c.if-len-eq0.false);
-      none = λ e. absurd (c.if-len-eq0.false e);
-      pairs = ap (part pairs i) (sym c.count_between-len.ensures);
+      front = one.on;
+      back = other.on;
+      rises = rises_between g.S.Argument.Argument.is_summary slots c.args.height c.args.root c.requires.shape c.settled-front.result c.settled-back.result (place_on slots c.args.height c.args.root c.args.front) (place_on slots c.args.height c.args.root c.args.back) one other c.requires.rises;
+      tells = subst (Tells c.args.extent c.args.limit) apart c.requires.tells;
+      pairs = ap₂ (part (pairs_at slots c.args.height c.args.root)) (sym one.same) (ap (min c.args.limit) apart);
     }

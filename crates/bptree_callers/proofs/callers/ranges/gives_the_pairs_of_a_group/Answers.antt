@@ -6,6 +6,7 @@ use Rattle.std.specs.Map.{keys_of}
 use Rattle.std.specs.Map.Iter.{TakesFirst, deref_pair}
 use Rattle.std.specs.Option.{IfSome}
 use Rattle.std.specs.Ordering.{is_eq}
+use Rattle.bptree_callers.proofs.Passing.{taken_passes}
 use Rattle.bptree_callers.proofs.callers.ranges.gives_the_pairs_of_a_group.Goals as goal
 
 -- as many pairs as keys pass a test of keys
@@ -18,24 +19,10 @@ passing {K} {V} test (p ∷ l) =
     by true e rest = rw e (ap suc rest)
     by false e rest = rw e rest
 
--- the first that passes passes
-first_passes : {X : Type 0} (test : X → Bool) (l : List X) (x : X) (t : List X) → filter test l ≡ x ∷ t → test x ≡ true
-first_passes test [] x t h = cc
-first_passes {X} test (y ∷ l) x t h =
-    by (test y) refl (first_passes test l x t)
-  where
-    by : (b : Bool) → test y ≡ b → (filter test l ≡ x ∷ t → test x ≡ true) → test x ≡ true
-    by true e rest = let here : y ∷ filter test l ≡ x ∷ t = rw e at h in let same : y ≡ x = cc in sym (ap test same) ∙ e
-    by false e rest = rest (rw e at h)
-
 equal_from : (r : Ordering) → is_eq r ≡ true → r ≡ Equal
 equal_from Less e = absurd (true≢false (sym e))
 equal_from Equal e = refl
 equal_from Greater e = absurd (true≢false (sym e))
-
-taken_passes : {A X : Type 0} (shows : A → X) (test : X → Bool) (P : X → Type 0) (turns : (x : X) → test x ≡ true → P x) (s t l : List X) (o : Option A) → TakesFirst shows s o t → s ≡ filter test l → IfSome o (λ a. P (shows a))
-taken_passes shows test P turns s t l None taken e = tt
-taken_passes shows test P turns s t l (Some a) taken e = turns (shows a) (first_passes test l (shows a) t (sym e ∙ taken))
 
 pub returns-clause-len : goal.returns-clause-len
 returns-clause-len g c =

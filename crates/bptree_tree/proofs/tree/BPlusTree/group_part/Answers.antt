@@ -33,7 +33,7 @@ returns-clause-ascending g c =
     let is = c.in_ok-part.ensures in
     let shown = c.new.ensures ∙ (part_between_places g.S.Argument.Argument.is_summary slots tree.height tree.root c.self.invariant.0 p (part (of_group g.G.Ord.cmp g.G.FromRef.group_of c.args.group.now pairs) c.args.i c.args.n) is).1 in
     let all = tree_ascends g.met.S.K.Ord.total slots (root_least tree.height) tree.height tree.root None None c.self.invariant.0.tree in
-    subst (IsAscending g.S.K.Ord.cmp) (sym (shown ∙ is.pairs)) (part_ascends g.met.S.K.Ord.total pairs (start slots tree.height tree.root p.front + p.from) p.len all)
+    subst (IsAscending g.S.K.Ord.cmp) (sym (shown ∙ is.pairs)) (part_ascends g.met.S.K.Ord.total pairs (start slots tree.height tree.root p.front + p.from) _ all)
 
 -- each step gives the first of what is left
 pub returns-in_err-part-clause-runs : goal.returns-in_err-part-clause-runs

@@ -30,7 +30,7 @@ returns-clause-ascending g c =
     let p = c.part_between-part.result in
     let shown = c.new.ensures ∙ (part_between_places g.S.Argument.Argument.is_summary slots tree.height tree.root c.self.invariant.0 p (between g.S.K.Ord.cmp pairs (option_copied c.args.lo) (option_copied c.args.hi)) c.part_between-part.ensures).1 in
     let all = tree_ascends g.met.S.K.Ord.total slots (root_least tree.height) tree.height tree.root None None c.self.invariant.0.tree in
-    subst (IsAscending g.S.K.Ord.cmp) (sym (shown ∙ c.part_between-part.ensures.pairs)) (part_ascends g.met.S.K.Ord.total pairs (start slots tree.height tree.root p.front + p.from) p.len all)
+    subst (IsAscending g.S.K.Ord.cmp) (sym (shown ∙ c.part_between-part.ensures.pairs)) (part_ascends g.met.S.K.Ord.total pairs (start slots tree.height tree.root p.front + p.from) _ all)
 
 -- each step gives the first of what is left
 pub returns-clause-runs : goal.returns-clause-runs

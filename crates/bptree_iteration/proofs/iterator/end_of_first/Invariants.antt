@@ -1,0 +1,12 @@
+use Rattle.std.proofs.Common.{◌+◌, min}
+use Rattle.bptree_iteration.specs.Span.{leaves_of}
+use Rattle.bptree_iteration.proofs.EndLemmas.{Walked}
+use Rattle.bptree_iteration.proofs.iterator.end_of_first.Given as goal
+
+abbrev pub invariant-leaves : goal.invariant-leaves
+invariant-leaves g l = record {
+  walked : Walked (leaves_of (g.S.NodeStore.slots l.fn.store)) l.fn.front l.fn.from l.fn.back l.fn.to l.fn.limit l.at l.passed l.left;
+}
+
+abbrev pub decreases-leaves : goal.decreases-leaves
+decreases-leaves g l = l.left + min l.passed 1

@@ -1,0 +1,16 @@
+use Rattle.std.proofs.Common.{◌+◌, ◌-◌, ◌≤◌, ◌<◌, length}
+use Rattle.bptree_keys.proofs.Steps.{Window, StepsLeft}
+use Rattle.bptree_keys.proofs.compares.search_by_branches.Given as goal
+
+abbrev pub invariant-widths : goal.invariant-widths
+invariant-widths g l = record {
+  positive : 0 < l.width;
+  in_range : l.base < length l.keys;
+  window : Window (λ y. g.K.Ord.cmp y l.key) l.keys l.base l.width;
+  from_there : l.fn.compares ≤ l.compares;
+  count : l.compares ≤ l.fn.compares + 6;
+  steps : StepsLeft l.width (l.fn.compares + 6 - l.compares);
+}
+
+abbrev pub decreases-widths : goal.decreases-widths
+decreases-widths g l = l.width

@@ -1,0 +1,88 @@
+//! How many keys stand between two ends, in a tree of counts.
+ghost use Rattle.std.specs.Prelude.{◌≡◌, filter, length};
+ghost use Rattle.std.specs.Option.{option_copied};
+ghost use Rattle.bptree_keys.specs.Contents.{pairs_below};
+ghost use Rattle.bptree_keys.specs.Ranges.{between, falls_short, stays_below};
+ghost use Rattle.bptree_ranges.specs.Counting.{CountsKeys};
+ghost use Rattle.bptree_shape.specs.Shape.{pairs_at};
+ghost use Rattle.bptree_ways.specs.ByArgument.{IsSubtree};
+
+use crate::summaries::slot_of;
+use bptree_arguments::count::{Count, total_of};
+use bptree_keys::node_id::NodeId;
+use bptree_stores::node_stores::NodeStore;
+
+/// How many keys are not below `lo` and are below `hi`, where they are given, in a tree of `len` pairs.
+///
+/// One descent for each end that is given: on each level the counts of the children before the way are added up.
+pub fn len_between<S: NodeStore<Argument = Count>>(
+    store: &S,
+    root: NodeId,
+    height: usize,
+    len: usize,
+    lo: Option<&S::K>,
+    hi: Option<&S::K>,
+) -> usize
+    requires subtree { IsSubtree S.K.cmp CountsKeys (S.slots store.now) height root }
+    requires all { len ≡ length (pairs_at (S.slots store.now) height root) }
+    ensures { result ≡ length (between S.K.cmp (pairs_at (S.slots store.now) height root) (option_copied lo.entry) (option_copied hi.entry)) }
+{
+    let from = count_before(store, root, height, lo);
+    let to = count_upto(store, root, height, len, hi);
+    to.saturating_sub(from)
+}
+
+// How many keys are below `lo`, where it is given.
+fn count_before<S: NodeStore<Argument = Count>>(
+    store: &S,
+    root: NodeId,
+    height: usize,
+    lo: Option<&S::K>,
+) -> usize
+    requires { IsSubtree S.K.cmp CountsKeys (S.slots store.now) height root }
+    ensures { result ≡ length (filter (λ pair. falls_short S.K.cmp (option_copied lo.entry) pair.0) (pairs_at (S.slots store.now) height root)) }
+{
+    match lo {
+        Some(lo) => count_smaller(store, root, height, lo),
+        None => 0,
+    }
+}
+
+// How many keys are below `hi`: where it is not given, all `len`.
+fn count_upto<S: NodeStore<Argument = Count>>(
+    store: &S,
+    root: NodeId,
+    height: usize,
+    len: usize,
+    hi: Option<&S::K>,
+) -> usize
+    requires subtree { IsSubtree S.K.cmp CountsKeys (S.slots store.now) height root }
+    requires all { len ≡ length (pairs_at (S.slots store.now) height root) }
+    ensures { result ≡ length (filter (λ pair. stays_below S.K.cmp (option_copied hi.entry) pair.0) (pairs_at (S.slots store.now) height root)) }
+{
+    match hi {
+        Some(hi) => count_smaller(store, root, height, hi),
+        None => len,
+    }
+}
+
+// How many keys below a node are smaller.
+fn count_smaller<S: NodeStore<Argument = Count>>(
+    store: &S,
+    id: NodeId,
+    height: usize,
+    key: &S::K,
+) -> usize
+    requires { IsSubtree S.K.cmp CountsKeys (S.slots store.now) height id }
+    ensures { result ≡ length (pairs_below S.K.cmp (pairs_at (S.slots store.now) height id) key.now) }
+{
+    match id {
+        NodeId::Leaf(leaf) => slot_of(store.get_leaf(leaf), key),
+        NodeId::Inner(inner) => {
+            let node = store.get_inner(inner);
+            let (place, child) = node.locate_child(key);
+            let smaller = count_smaller(store, child, height - 1, key);
+            total_of(smaller, &node.arguments()[..place])
+        }
+    }
+}

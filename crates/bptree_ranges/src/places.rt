@@ -1,0 +1,126 @@
+//! Places in a tree that stands in a store, by the summaries that tell how many keys they stand for.
+ghost use Rattle.std.specs.Prelude.{◌≡◌, ◌<◌, ◌≤◌, ◌^◌, IfOk, IfSome, List, length};
+ghost use Rattle.bptree_ranges.specs.Places.{before_entry, before_group, IsPlaceInGroup, IsSkipped};
+ghost use Rattle.bptree_shape.specs.Shape.{pairs_at, IsWellShaped};
+ghost use Rattle.bptree_ways.specs.ByArgument.{IsSubtree};
+
+use bptree_arguments::argument::Argument;
+use bptree_arguments::group::FromRef;
+use bptree_arguments::group_order::keys_before;
+use bptree_keys::key::Key;
+use bptree_keys::node_id::{LeafNodeId, NodeId};
+use bptree_stores::node_stores::NodeStore;
+use std::alloc::AllocError;
+
+/// Where a walk over so many pairs ends.
+#[derive(Clone, Copy, Drop)]
+pub(crate) enum Skipped {
+    /// The leaf and the slot of the pair behind them.
+    Found(LeafNodeId, usize),
+    /// There is no pair behind them; how many there are.
+    Short(usize),
+}
+
+/// The place of the pair behind the first `i` of a group, or none where the group has no more.
+///
+/// One descent for where the group begins, which makes the groups of at most 7 keys or separators of each node. On its way
+/// back it passes children by their summaries, where these tell how many keys they stand for, and goes down into one that
+/// has more. Where no summary tells, it goes down into each child on the way.
+pub(crate) fn place_in_group<S: NodeStore, G: FromRef<S::K> + Key>(
+    store: &S,
+    root: NodeId,
+    height: usize,
+    group: &G,
+    i: usize,
+) -> Result<Option<(LeafNodeId, usize)>, AllocError>
+    requires shape { IsWellShaped S.K.cmp S.Argument.is_summary (S.slots store.now) height root }
+    requires fits { length (pairs_at (S.slots store.now) height root) < 2 ^ 64 }
+    ensures { IfOk result (IsPlaceInGroup (S.slots store.now) G.cmp G.group_of group.now height root i) }
+{
+    match skip_from_group(store, root, height, group, i)? {
+        Skipped::Short(_) => Ok(None),
+        Skipped::Found(leaf, slot) => {
+            let end = keys_before(store.get_leaf(leaf).keys(), group, true)?;
+            if slot < end {
+                Ok(Some((leaf, slot)))
+            } else {
+                Ok(None)
+            }
+        }
+    }
+}
+
+// The place behind `i` pairs from where a group begins.
+fn skip_from_group<S: NodeStore, G: FromRef<S::K> + Key>(
+    store: &S,
+    id: NodeId,
+    height: usize,
+    group: &G,
+    i: usize,
+) -> Result<Skipped, AllocError>
+    requires { IsSubtree S.K.cmp S.Argument.is_summary (S.slots store.now) height id }
+    ensures { IfOk result (IsSkipped (S.slots store.now) height id (before_group G.cmp G.group_of group.now (pairs_at (S.slots store.now) height id)) i) }
+{
+    match id {
+        NodeId::Leaf(leaf) => {
+            let first = keys_before(store.get_leaf(leaf).keys(), group, false)?;
+            Ok(skip(store, id, height, first, i))
+        }
+        NodeId::Inner(inner) => {
+            let node = store.get_inner(inner);
+            let place = keys_before(node.keys(), group, false)?;
+            let child = node.child_id(place);
+            match skip_from_group(store, child, height - 1, group, i)? {
+                Skipped::Found(leaf, slot) => Ok(Skipped::Found(leaf, slot)),
+                Skipped::Short(count) => match skip(store, id, height, place + 1, i - count) {
+                    Skipped::Found(leaf, slot) => Ok(Skipped::Found(leaf, slot)),
+                    Skipped::Short(more) => Ok(Skipped::Short(count + more)),
+                },
+            }
+        }
+    }
+}
+
+// The place behind `i` pairs from a slot of a leaf on, or else from a child on. Each child whose summary tells that it has no
+// more keys is passed in one step.
+fn skip<S: NodeStore>(store: &S, id: NodeId, height: usize, first: usize, i: usize) -> Skipped
+    requires { IsSubtree S.K.cmp S.Argument.is_summary (S.slots store.now) height id }
+    ensures { IsSkipped (S.slots store.now) height id (before_entry (S.slots store.now) height id first) i result }
+{
+    match id {
+        NodeId::Leaf(leaf) => {
+            let len = store.get_leaf(leaf).len().saturating_sub(first);
+            if i < len {
+                Skipped::Found(leaf, first + i)
+            } else {
+                Skipped::Short(len)
+            }
+        }
+        NodeId::Inner(inner) => {
+            let node = store.get_inner(inner);
+            let arguments = node.arguments();
+            let mut rest = i;
+            for place in first..arguments.len() {
+                match count_within(&arguments[place], rest) {
+                    Some(count) => rest -= count,
+                    None => match skip(store, node.child_id(place), height - 1, 0, rest) {
+                        Skipped::Found(leaf, slot) => return Skipped::Found(leaf, slot),
+                        Skipped::Short(count) => rest -= count,
+                    },
+                }
+            }
+            Skipped::Short(i - rest)
+        }
+    }
+}
+
+// How many keys a summary stands for, where it tells that, and where they are no more than so many.
+fn count_within<K: Key, A: Argument<K>>(argument: &A, most: usize) -> Option<usize>
+    ensures within { IfSome result (λ n. n ≤ most) }
+    ensures told { (keys : List K) → A.is_summary argument.now keys → IfSome result (λ n. n ≡ length keys) }
+{
+    match argument.key_count() {
+        Some(count) if count <= most => Some(count),
+        _ => None,
+    }
+}

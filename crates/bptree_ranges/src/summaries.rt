@@ -1,0 +1,240 @@
+//! Summaries of the keys between two ends, in a tree that stands in a store.
+ghost use Rattle.std.specs.Prelude.{◌≡◌, ◌≤◌, None, Some, IfOk, filter, length};
+ghost use Rattle.std.specs.Map.{keys_of};
+ghost use Rattle.std.specs.Option.{option_copied};
+ghost use Rattle.std.specs.declared.cmp.Ordering.TheVariants.{Less};
+ghost use Rattle.bptree_keys.specs.Contents.{IsAscending, pairs_below};
+ghost use Rattle.bptree_keys.specs.Ranges.{between, falls_short, stays_below};
+ghost use Rattle.bptree_ranges.specs.Summaries.{SumsUpBoth, SumsUpRange, SumsUpSome};
+ghost use Rattle.bptree_shape.specs.Shape.{pairs_at};
+ghost use Rattle.bptree_ways.specs.ByArgument.{IsSubtree};
+
+use bptree_arguments::argument::Argument;
+use bptree_keys::key::Key;
+use bptree_keys::node_id::NodeId;
+use bptree_nodes::leaf_node::LeafNode;
+use bptree_stores::node_stores::NodeStore;
+use std::alloc::{AllocError, Global};
+use std::cmp::Ordering;
+
+/// A summary of the keys that are not below `lo` and are below `hi`, where they are given.
+///
+/// One descent to the node where the ways to both ends part, and from there one for each end: on each level the summaries of
+/// the children between the two ways are summed up, and at last the keys of one leaf for each end. It fails only where the
+/// argument does, or where room for two summaries is refused.
+pub fn summary_between<S: NodeStore>(
+    store: &S,
+    root: NodeId,
+    height: usize,
+    lo: Option<&S::K>,
+    hi: Option<&S::K>,
+) -> Result<S::Argument, AllocError>
+    requires { IsSubtree S.K.cmp S.Argument.is_summary (S.slots store.now) height root }
+    ensures { IfOk result (λ summary. S.Argument.is_summary summary (keys_of (between S.K.cmp (pairs_at (S.slots store.now) height root) (option_copied lo.entry) (option_copied hi.entry)))) }
+{
+    match some_between(store, root, height, lo, hi)? {
+        Some(summary) => Ok(summary),
+        None => Ok(Default::default()),
+    }
+}
+
+// The same where there is such a key, and none where there is none.
+fn some_between<S: NodeStore>(
+    store: &S,
+    root: NodeId,
+    height: usize,
+    lo: Option<&S::K>,
+    hi: Option<&S::K>,
+) -> Result<Option<S::Argument>, AllocError>
+    requires { IsSubtree S.K.cmp S.Argument.is_summary (S.slots store.now) height root }
+    ensures { IfOk result (SumsUpSome S.Argument.is_summary (keys_of (between S.K.cmp (pairs_at (S.slots store.now) height root) (option_copied lo.entry) (option_copied hi.entry)))) }
+{
+    match (lo, hi) {
+        (None, None) => summary_of_all(store, root, height),
+        (Some(lo), None) => summary_from(store, root, height, lo),
+        (None, Some(hi)) => summary_upto(store, root, height, hi),
+        (Some(lo), Some(hi)) => match lo.cmp(hi) {
+            Ordering::Less => summary_within(store, root, height, lo, hi),
+            Ordering::Equal | Ordering::Greater => Ok(None),
+        },
+    }
+}
+
+// The keys below a node.
+fn summary_of_all<S: NodeStore>(
+    store: &S,
+    id: NodeId,
+    height: usize,
+) -> Result<Option<S::Argument>, AllocError>
+    requires { IsSubtree S.K.cmp S.Argument.is_summary (S.slots store.now) height id }
+    ensures { IfOk result (SumsUpSome S.Argument.is_summary (keys_of (between S.K.cmp (pairs_at (S.slots store.now) height id) None None))) }
+{
+    match id {
+        NodeId::Leaf(leaf) => summary_in_leaf(store.get_leaf(leaf), None, None),
+        NodeId::Inner(inner) => {
+            let arguments = store.get_inner(inner).arguments();
+            sum_of_some(arguments, 0, arguments.len())
+        }
+    }
+}
+
+// The keys below a node that are not below `lo`.
+fn summary_from<S: NodeStore>(
+    store: &S,
+    id: NodeId,
+    height: usize,
+    lo: &S::K,
+) -> Result<Option<S::Argument>, AllocError>
+    requires { IsSubtree S.K.cmp S.Argument.is_summary (S.slots store.now) height id }
+    ensures { IfOk result (SumsUpSome S.Argument.is_summary (keys_of (between S.K.cmp (pairs_at (S.slots store.now) height id) (Some lo.now) None))) }
+{
+    match id {
+        NodeId::Leaf(leaf) => summary_in_leaf(store.get_leaf(leaf), Some(lo), None),
+        NodeId::Inner(inner) => {
+            let node = store.get_inner(inner);
+            let (place, child) = node.locate_child(lo);
+            let front = summary_from(store, child, height - 1, lo)?;
+            let arguments = node.arguments();
+            let back = sum_of_some(arguments, place + 1, arguments.len())?;
+            sum_of_both(store.allocator(), front, back)
+        }
+    }
+}
+
+// The keys below a node that are below `hi`.
+fn summary_upto<S: NodeStore>(
+    store: &S,
+    id: NodeId,
+    height: usize,
+    hi: &S::K,
+) -> Result<Option<S::Argument>, AllocError>
+    requires { IsSubtree S.K.cmp S.Argument.is_summary (S.slots store.now) height id }
+    ensures { IfOk result (SumsUpSome S.Argument.is_summary (keys_of (between S.K.cmp (pairs_at (S.slots store.now) height id) None (Some hi.now)))) }
+{
+    match id {
+        NodeId::Leaf(leaf) => summary_in_leaf(store.get_leaf(leaf), None, Some(hi)),
+        NodeId::Inner(inner) => {
+            let node = store.get_inner(inner);
+            let (place, child) = node.locate_child(hi);
+            let front = sum_of_some(node.arguments(), 0, place)?;
+            let back = summary_upto(store, child, height - 1, hi)?;
+            sum_of_both(store.allocator(), front, back)
+        }
+    }
+}
+
+// The keys below a node that are not below `lo` and are below `hi`.
+fn summary_within<S: NodeStore>(
+    store: &S,
+    id: NodeId,
+    height: usize,
+    lo: &S::K,
+    hi: &S::K,
+) -> Result<Option<S::Argument>, AllocError>
+    requires subtree { IsSubtree S.K.cmp S.Argument.is_summary (S.slots store.now) height id }
+    requires apart { S.K.cmp lo.now hi.now ≡ Less }
+    ensures { IfOk result (SumsUpSome S.Argument.is_summary (keys_of (between S.K.cmp (pairs_at (S.slots store.now) height id) (Some lo.now) (Some hi.now)))) }
+{
+    match id {
+        NodeId::Leaf(leaf) => summary_in_leaf(store.get_leaf(leaf), Some(lo), Some(hi)),
+        NodeId::Inner(inner) => {
+            let node = store.get_inner(inner);
+            let (from, first) = node.locate_child(lo);
+            let (to, last) = node.locate_child(hi);
+            if from == to {
+                return summary_within(store, first, height - 1, lo, hi);
+            }
+            let front = summary_from(store, first, height - 1, lo)?;
+            let middle = sum_of_some(node.arguments(), from + 1, to)?;
+            let back = summary_upto(store, last, height - 1, hi)?;
+            let rest = sum_of_both(store.allocator(), middle, back)?;
+            sum_of_both(store.allocator(), front, rest)
+        }
+    }
+}
+
+// The keys of a leaf that are not below `lo` and are below `hi`, where they are given.
+fn summary_in_leaf<'a, K: Key, V: Drop, A: Argument<K>>(
+    leaf: &'a LeafNode<K, V>,
+    lo: Option<&'a K>,
+    hi: Option<&'a K>,
+) -> Result<Option<A>, AllocError>
+    ensures { IfOk result (λ found. IsAscending K.cmp leaf.now.pairs → SumsUpSome A.is_summary (keys_of (between K.cmp leaf.now.pairs (option_copied lo.entry) (option_copied hi.entry))) found) }
+{
+    let from = start_in(leaf, lo);
+    let to = end_in(leaf, hi);
+    if to <= from {
+        return Ok(None);
+    }
+    Ok(Some(A::from_leaf(&leaf.keys()[from..to])?))
+}
+
+// How many keys of a leaf are below `lo`, where it is given.
+fn start_in<K: Key, V: Drop>(leaf: &LeafNode<K, V>, lo: Option<&K>) -> usize
+    ensures within { result ≤ length leaf.now.pairs }
+    ensures short { IsAscending K.cmp leaf.now.pairs → result ≡ length (filter (λ pair. falls_short K.cmp (option_copied lo.entry) pair.0) leaf.now.pairs) }
+{
+    match lo {
+        Some(lo) => slot_of(leaf, lo),
+        None => 0,
+    }
+}
+
+// How many keys of a leaf are below `hi`: where it is not given, all.
+fn end_in<K: Key, V: Drop>(leaf: &LeafNode<K, V>, hi: Option<&K>) -> usize
+    ensures within { result ≤ length leaf.now.pairs }
+    ensures below { IsAscending K.cmp leaf.now.pairs → result ≡ length (filter (λ pair. stays_below K.cmp (option_copied hi.entry) pair.0) leaf.now.pairs) }
+{
+    match hi {
+        Some(hi) => slot_of(leaf, hi),
+        None => leaf.len(),
+    }
+}
+
+// How many keys of a leaf are smaller.
+pub(crate) fn slot_of<K: Key, V: Drop>(leaf: &LeafNode<K, V>, key: &K) -> usize
+    ensures within { result ≤ length leaf.now.pairs }
+    ensures smaller { IsAscending K.cmp leaf.now.pairs → result ≡ length (pairs_below K.cmp leaf.now.pairs key.now) }
+{
+    match leaf.locate_slot(key) {
+        Ok(slot) => slot,
+        Err(slot) => slot,
+    }
+}
+
+// A summary of all keys below the children of a node from one place to another, by the children's summaries.
+//
+// The law of summaries holds whatever the separators are, so none are passed.
+fn sum_of_some<K: Key, A: Argument<K>>(
+    arguments: &[A],
+    from: usize,
+    to: usize,
+) -> Result<Option<A>, AllocError>
+    requires { to ≤ length arguments.now }
+    ensures { IfOk result (SumsUpRange A.is_summary K.cmp arguments.now from to) }
+{
+    if to <= from {
+        return Ok(None);
+    }
+    Ok(Some(A::from_inner(&[], &arguments[from..to])?))
+}
+
+// A summary of two lists of keys, one before the other. Where both have a key, room for two summaries is asked for.
+fn sum_of_both<K: Key, A: Argument<K>>(
+    alloc: Global,
+    first: Option<A>,
+    second: Option<A>,
+) -> Result<Option<A>, AllocError>
+    ensures { IfOk result (SumsUpBoth A.is_summary K.cmp first second) }
+{
+    match (first, second) {
+        (Some(one), Some(other)) => {
+            let mut both = Vec::with_capacity(alloc, 2)?;
+            both.push(one)?;
+            both.push(other)?;
+            Ok(Some(A::from_inner(&[], &both)?))
+        }
+        (Some(one), None) => Ok(Some(one)),
+        (None, other) => Ok(other),
+    }
+}
