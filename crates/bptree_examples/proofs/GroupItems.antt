@@ -19,7 +19,7 @@ use Rattle.bptree_ways.specs.ByArgument.{IsSelected}
 use Rattle.bptree_examples.specs.declared.uses.grouped_index.Group.{Group}
 use Rattle.bptree_examples.specs.declared.uses.grouped_index.Item.{Item}
 use Rattle.bptree_examples.specs.Items.{items_of}
-use Rattle.bptree_examples.proofs.YearTold.{told}
+use Rattle.bptree_examples.proofs.Told.{told}
 
 abbrev pub group_order : Group → Group → Ordering
 group_order x y = nat_cmp x.0 y.0

@@ -1,13 +1,10 @@
 -- What a visitor that has counted nothing answers of a year.
 use Rattle.std.proofs.Common.{◌≡◌, ℕ, ◌+◌, ◌-◌, ◌^◌, ◌<◌, min, nat_eq, List, length, Option, Some, None, ap, ◌∙◌, arith}
 use Rattle.std.proofs.lemmas.List.Sums.{length-filter, count_by-le-length}
-use Rattle.bptree_arguments.specs.Visits.{VisitAnswer, answered, invalid_child}
+use Rattle.bptree_arguments.specs.Visits.{answered}
 use Rattle.bptree_examples.specs.declared.date_statistic.Date.{Date}
 use Rattle.bptree_examples.specs.Dates.{in_year}
-
-abbrev pub told : {R : Type 0} → Option R → VisitAnswer R → Option R
-told d (answered answer) = answer
-told d invalid_child = d
+use Rattle.bptree_examples.proofs.Told.{told}
 
 pub year_told : (answer : Option ℕ) (year y counted : ℕ) (dates : List Date) → answered answer ≡ answered (Some (min (counted + in_year y dates) (2 ^ 64 - 1))) → y ≡ year → counted ≡ 0 → length dates < 2 ^ 64 → answer ≡ Some (in_year year dates)
 year_told answer year y counted dates e same zero fits =

@@ -41,6 +41,10 @@ impl<'a> Trial<'a> {
         self.rt.alloc()
     }
 
+    pub fn runtime(&self) -> &'a HostRuntime {
+        self.rt
+    }
+
     pub fn count(&mut self) {
         self.refused = self.refused.wrapping_add(1);
     }

@@ -38,13 +38,14 @@ pub fn new_index(alloc: Global, values: &[(u64, u64)]) -> Result<Index, AllocErr
     filled(alloc, &entries)
 }
 
-/// Puts a new entry, and removes an old one.
+/// Puts a new entry, and removes an old one. Where both are the same entry, it is put and stays.
 ///
 /// It needs `insert` and `remove`, each of which goes down one way. The new entry is put first, since that alone takes memory for
 /// nodes: where it is refused, the index is as it was. Where the old entry can't be removed, the new one is taken back; where that
 /// can't be done either, it stays.
 pub fn move_entry(index: &mut Index, old: Entry, new: Entry) -> Result<(), AllocError>
-    ensures moved { OnOk result (index.new ≡ del ⟦<Entry as Ord>⟧.cmp (put ⟦<Entry as Ord>⟧.cmp index.old new tt) old) }
+    ensures moved { OnOk result (old ≢ new → index.new ≡ del ⟦<Entry as Ord>⟧.cmp (put ⟦<Entry as Ord>⟧.cmp index.old new tt) old) }
+    ensures stayed { OnOk result (old ≡ new → index.new ≡ put ⟦<Entry as Ord>⟧.cmp index.old new tt) }
     ensures refused { OnErr result ((index.new ≡ index.old) ⊎ (index.new ≡ put ⟦<Entry as Ord>⟧.cmp index.old new tt)) }
 {
     // Read, so that it is known to ascend.
@@ -53,6 +54,9 @@ pub fn move_entry(index: &mut Index, old: Entry, new: Entry) -> Result<(), Alloc
         Ok(was) => was,
         Err(_) => return Err(AllocError),
     };
+    if old == new {
+        return Ok(());
+    }
     match index.remove(&old) {
         Ok(_) => Ok(()),
         Err(error) => {
