@@ -7,7 +7,7 @@ use Rattle.std.specs.List.{AllByRecursion, filter}
 use Rattle.std.proofs.lemmas.List.Elements.{filter-append}
 use Rattle.std.proofs.lemmas.List.Sums.{length-filter, count_by-le-length}
 use Rattle.bptree_arguments.specs.CountLaws.{count_below}
-use Rattle.bptree_arguments.specs.Ranks.{AllAbove, AllBelow, IsSlotOf, SplitsAt}
+use Rattle.bptree_arguments.specs.Ranks.{AllAbove, AllBelow, IsSlotIn, IsSlotOf, SplitsAt}
 use Rattle.bptree_keys.proofs.PieceLemmas.{AllByRecursion-append, AllByRecursion-weaker}
 
 -- a test that every element passes keeps the list, and one that none passes keeps nothing
@@ -49,6 +49,11 @@ module _ {K : Type 0} (cmp : K → K → Ordering) (k : K) where
       count_below-split (before ++ (keys ++ after)) (before ++ front) (x ∷ []) (back ++ after) (SplitsAt-within keys front (x ∷ []) back before after s low high) ∙ omega (arith, length-append before front, l)
   count_below-slot keys before after (Err i) (front, back, l, s) low high =
       count_below-split (before ++ (keys ++ after)) (before ++ front) [] (back ++ after) (SplitsAt-within keys front [] back before after s low high) ∙ omega (arith, length-append before front, l)
+
+  -- the place of a key is in range
+  pub IsSlotOf-in : (keys : List K) (slot : Result ℕ ℕ) → IsSlotOf cmp k keys slot → IsSlotIn keys slot
+  IsSlotOf-in keys (Ok i) (front, back, x, l, s) = omega (arith, l, ap length s.parts, length-append front (x ∷ back))
+  IsSlotOf-in keys (Err i) (front, back, l, s) = omega (arith, l, ap length s.parts, length-append front back)
 
   -- a count of keys fits where the list's length does
   pub count_below-le : (keys : List K) → count_below cmp k keys ≤ length keys

@@ -1,5 +1,5 @@
 -- Where a key stands, or would stand, among others.
-use Rattle.std.specs.Prelude.{◌≡◌, ℕ, List, [], ◌∷◌, ◌++◌, length, Result, Ok, Err}
+use Rattle.std.specs.Prelude.{◌≡◌, ℕ, ◌<◌, ◌≤◌, List, [], ◌∷◌, ◌++◌, length, Result, Ok, Err}
 use Rattle.std.specs.declared.cmp.Ordering.{Ordering}
 use Rattle.std.specs.declared.cmp.Ordering.TheVariants.{Less, Equal, Greater}
 use Rattle.std.specs.List.{AllByRecursion}
@@ -18,6 +18,11 @@ pub record SplitsAt {K : Type 0} (cmp : K → K → Ordering) (k : K) (keys fron
   pub below : AllBelow cmp k front
   pub equal : AllByRecursion (λ x. cmp x k ≡ Equal) middle
   pub above : AllAbove cmp k back
+
+-- a slot in range: `Ok` of a key's place, `Err` of a place where a key may stand
+abbrev pub IsSlotIn : {X : Type 0} → List X → Result ℕ ℕ → Type 0
+IsSlotIn xs (Ok i) = i < length xs
+IsSlotIn xs (Err i) = i ≤ length xs
 
 -- the place of k among strictly ascending keys, `Ok` where it is present, and else where it would stand
 abbrev pub IsSlotOf : {K : Type 0} → (K → K → Ordering) → K → List K → Result ℕ ℕ → Type 0

@@ -3,7 +3,7 @@ ghost use Rattle.std.specs.Prelude.{◌≡◌, ◌<◌, ◌≤◌, ◌^◌, ℕ,
 ghost use Rattle.std.specs.declared.cmp.Ordering.TheVariants.{Equal};
 ghost use Rattle.std.specs.List.{AllZip};
 ghost use Rattle.std.specs.List.Sorted.{IsStrictlySortedBy};
-ghost use Rattle.bptree_arguments.specs.Ranks.{AllAbove, AllBelow, IsSlotOf};
+ghost use Rattle.bptree_arguments.specs.Ranks.{AllAbove, AllBelow, IsSlotIn, IsSlotOf};
 ghost use Rattle.bptree_arguments.specs.Selection.{IsPlaceIn, LeadsTo};
 ghost use Rattle.bptree_keys.specs.Pieces.{AllNonEmpty, ArePieces, flatten};
 
@@ -52,7 +52,7 @@ pub trait SearchArgument<K: Key>: Argument<K> {
     /// A place among the keys of a leaf, which ascend, or none. It fails only where memory is refused.
     fn locate_in_leaf(query: Self::Query, keys: &[K]) -> Result<Option<usize>, AllocError>
         requires { length keys.now ≤ 64 }
-        ensures in_range { IfOk result (λ place. IsPlaceIn keys.now place) }
+        ensures in_range { IfOk result (λ place. IsStrictlySortedBy K.cmp keys.now → IsPlaceIn keys.now place) }
         ensures selected { IfOk result (λ place. IsStrictlySortedBy K.cmp keys.now → selects query keys.now place) };
 
     /// The child of an inner node to go on in, with the query that is asked there; or none, where no place is allowed
@@ -85,7 +85,8 @@ pub trait RankArgument<K: Key>: Argument<K> {
     fn fold_inner(k: &K, rank: Self::Rank, arguments: &[Self]) -> Result<Self::Rank, AllocError>
         ensures carries { IfOk result (λ next. (before : List K) (pieces : List (List K)) → AllNonEmpty pieces → AllZip Self.is_summary arguments.now pieces → IsStrictlySortedBy K.cmp (before ++ flatten pieces) → AllBelow K.cmp k.now (before ++ flatten pieces) → length (before ++ flatten pieces) < 2 ^ 64 → stands_for rank k.now before → stands_for next k.now (before ++ flatten pieces)) };
 
-    /// The rank of a key by its place in its leaf: `Ok` exactly where it is present. It fails only where memory is refused.
+    /// The rank of a key by a slot of its leaf, `Ok` exactly where the slot is. A rank for the key comes of the slot that is
+    /// its place there. It fails only where memory is refused.
     fn fold_leaf(
         k: &K,
         rank: Self::Rank,
@@ -93,9 +94,9 @@ pub trait RankArgument<K: Key>: Argument<K> {
         keys: &[K],
     ) -> Result<Result<Self::Rank, Self::Rank>, AllocError>
         requires few { length keys.now ≤ 64 }
-        requires placed { IsSlotOf K.cmp k.now keys.now slot }
+        requires slot { IsSlotIn keys.now slot }
         ensures variant { IfOk result (λ answer. is_ok answer ≡ is_ok slot) }
-        ensures ranked { IfOk result (λ answer. (before after : List K) → IsStrictlySortedBy K.cmp (before ++ (keys.now ++ after)) → AllBelow K.cmp k.now before → AllAbove K.cmp k.now after → length (before ++ (keys.now ++ after)) < 2 ^ 64 → stands_for rank k.now before → MatchResult answer (ranks k.now (before ++ (keys.now ++ after))) (ranks k.now (before ++ (keys.now ++ after)))) };
+        ensures ranked { IfOk result (λ answer. IsSlotOf K.cmp k.now keys.now slot → (before after : List K) → IsStrictlySortedBy K.cmp (before ++ (keys.now ++ after)) → AllBelow K.cmp k.now before → AllAbove K.cmp k.now after → length (before ++ (keys.now ++ after)) < 2 ^ 64 → stands_for rank k.now before → MatchResult answer (ranks k.now (before ++ (keys.now ++ after))) (ranks k.now (before ++ (keys.now ++ after)))) };
 }
 
 /// An argument whose summaries see keys up to equality: a clone of a summary is a summary of each list of keys that are equal

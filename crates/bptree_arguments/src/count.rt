@@ -4,7 +4,7 @@ ghost use Rattle.std.specs.List.{sum_by, AllZip};
 ghost use Rattle.std.specs.List.Sorted.{IsStrictlySortedBy};
 ghost use Rattle.std.proofs.Common.{rules};
 ghost use Rattle.bptree_arguments.specs.CountLaws.{SelectsPlace, count_below};
-ghost use Rattle.bptree_arguments.specs.Ranks.{AllAbove, AllBelow, IsSlotOf};
+ghost use Rattle.bptree_arguments.specs.Ranks.{AllAbove, AllBelow, IsSlotIn, IsSlotOf};
 ghost use Rattle.bptree_keys.specs.Pieces.{AllNonEmpty, ArePieces, flatten};
 
 use crate::argument::{Argument, CloneArgument, RankArgument, SearchArgument};
@@ -159,9 +159,9 @@ impl<K: Key> RankArgument<K> for Count {
         _keys: &[K],
     ) -> Result<Result<usize, usize>, AllocError>
         requires few { length _keys.now ≤ 64 }
-        requires placed { IsSlotOf K.cmp _k.now _keys.now slot }
+        requires slot { IsSlotIn _keys.now slot }
         ensures variant { IfOk result (λ answer. is_ok answer ≡ is_ok slot) }
-        ensures ranked { IfOk result (λ answer. (before after : List K) → IsStrictlySortedBy K.cmp (before ++ (_keys.now ++ after)) → AllBelow K.cmp _k.now before → AllAbove K.cmp _k.now after → length (before ++ (_keys.now ++ after)) < 2 ^ 64 → rank ≡ length before → MatchResult answer (λ r. r ≡ count_below K.cmp _k.now (before ++ (_keys.now ++ after))) (λ r. r ≡ count_below K.cmp _k.now (before ++ (_keys.now ++ after)))) }
+        ensures ranked { IfOk result (λ answer. IsSlotOf K.cmp _k.now _keys.now slot → (before after : List K) → IsStrictlySortedBy K.cmp (before ++ (_keys.now ++ after)) → AllBelow K.cmp _k.now before → AllAbove K.cmp _k.now after → length (before ++ (_keys.now ++ after)) < 2 ^ 64 → rank ≡ length before → MatchResult answer (λ r. r ≡ count_below K.cmp _k.now (before ++ (_keys.now ++ after))) (λ r. r ≡ count_below K.cmp _k.now (before ++ (_keys.now ++ after)))) }
 
         // The same of a key that is present, and of one that is not.
         ensures present { IfOk slot (λ i. IfOk result (λ answer. answer ≡ Ok (min (rank + i) (2 ^ 64 - 1)))) }

@@ -36,7 +36,7 @@ module _ {Q K V : Type 0} (selects : Q → List K → Option ℕ → Type 0) (qu
 
   -- the first n pairs from some allowed place on, or none where none is allowed
   abbrev pub IsPartSelected : List (K × V) → ℕ → List (K × V) → Type 0
-  IsPartSelected l n found = (o : Option ℕ) × selects query (keys_of l) o × (found ≡ part_at l o n)
+  IsPartSelected pairs n found = (place : Option ℕ) × IsPlaceIn pairs place × selects query (keys_of pairs) place × (found ≡ part_at pairs place n)
 
   -- the leaf and the slot of some allowed place of a tree, or none where none is allowed
   abbrev pub IsSelectedAt : {A : Type 0} → Slots (Inner K A) (Leaf K V) → ℕ → NodeId → Option (LeafNodeId × ℕ) → Type 0

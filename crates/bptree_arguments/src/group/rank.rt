@@ -4,7 +4,7 @@ ghost use Rattle.std.specs.List.{AllZip};
 ghost use Rattle.std.specs.List.Sorted.{IsStrictlySortedBy};
 ghost use Rattle.bptree_arguments.specs.GroupAnswers.{IsInGroup, IsRankInGroup, StandsInGroup, carried};
 ghost use Rattle.bptree_arguments.specs.Groups.{IsGroupSummary, group_size};
-ghost use Rattle.bptree_arguments.specs.Ranks.{AllAbove, AllBelow, IsSlotOf};
+ghost use Rattle.bptree_arguments.specs.Ranks.{AllAbove, AllBelow, IsSlotIn, IsSlotOf};
 ghost use Rattle.bptree_keys.specs.Pieces.{AllNonEmpty, flatten};
 
 use crate::argument::RankArgument;
@@ -96,9 +96,9 @@ impl<K: Key, G: FromRef<K> + Key> RankArgument<K> for GroupCount<G> {
         keys: &[K],
     ) -> Result<Result<Option<(G, usize)>, Option<(G, usize)>>, AllocError>
         requires few { length keys.now ≤ 64 }
-        requires placed { IsSlotOf K.cmp k.now keys.now slot }
+        requires slot { IsSlotIn keys.now slot }
         ensures variant { IfOk result (λ answer. is_ok answer ≡ is_ok slot) }
-        ensures ranked { IfOk result (λ answer. (before after : List K) → IsStrictlySortedBy K.cmp (before ++ (keys.now ++ after)) → AllBelow K.cmp k.now before → AllAbove K.cmp k.now after → length (before ++ (keys.now ++ after)) < 2 ^ 64 → StandsInGroup G.cmp G.group_of k.now before rank → MatchResult answer (IsRankInGroup G.cmp G.group_of k.now K.cmp (before ++ (keys.now ++ after))) (IsRankInGroup G.cmp G.group_of k.now K.cmp (before ++ (keys.now ++ after)))) }
+        ensures ranked { IfOk result (λ answer. IsSlotOf K.cmp k.now keys.now slot → (before after : List K) → IsStrictlySortedBy K.cmp (before ++ (keys.now ++ after)) → AllBelow K.cmp k.now before → AllAbove K.cmp k.now after → length (before ++ (keys.now ++ after)) < 2 ^ 64 → StandsInGroup G.cmp G.group_of k.now before rank → MatchResult answer (IsRankInGroup G.cmp G.group_of k.now K.cmp (before ++ (keys.now ++ after))) (IsRankInGroup G.cmp G.group_of k.now K.cmp (before ++ (keys.now ++ after)))) }
         ensures empty { keys.now ≡ [] → IfOk result (λ answer. MatchResult answer (λ _. ⊥) (IsInGroup G.cmp (G.group_of k.now) (carried G.cmp (G.group_of k.now) rank))) }
     {
         match slot {

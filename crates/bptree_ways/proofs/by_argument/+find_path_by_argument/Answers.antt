@@ -69,7 +69,7 @@ returns-in-Some-clause-selected g t c =
     let sorted = leaf_sorted total sum slots c.args.height c.in-Leaf.leaf c.get_leaf.result.now s c.get_leaf.ensures in
     rw c.in-Leaf.is
     (leaf_some total sum slots g.S.Argument.SearchArgument.selects c.args.query c.keys.result.now c.args.height c.in-Leaf.leaf c.get_leaf.result.now s c.get_leaf.ensures c.keys.ensures.value c.in-Some.slot
-    (rw c.in-Some.is at c.in_ok-locate_in_leaf-in-Leaf.ensures.in_range)
+    (rw c.in-Some.is at (c.in_ok-locate_in_leaf-in-Leaf.ensures.in_range (rw c.keys.ensures.value sorted)))
     (rw c.in-Some.is at (c.in_ok-locate_in_leaf-in-Leaf.ensures.selected (rw c.keys.ensures.value sorted))))
 
 pub returns-in-None-2-clause-selected : goal.returns-in-None-2-clause-selected

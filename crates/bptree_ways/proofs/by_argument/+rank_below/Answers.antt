@@ -2,7 +2,10 @@ use Rattle.std.proofs.Common.{arith, sym, ap, subst, ◌-◌, ◌∙◌, ◌≡�
 use Rattle.std.specs.Map.{keys_of}
 use Rattle.std.specs.Result.{is_ok}
 use Rattle.std.proofs.lemmas.Result.{IfOk-weaker}
+use Rattle.bptree_arguments.specs.Ranks.{IsSlotOf}
+use Rattle.bptree_arguments.proofs.RankLemmas.{IsSlotOf-in}
 use Rattle.bptree_keys.specs.Contents.{has}
+use Rattle.bptree_keys.specs.Locate.{locate}
 use Rattle.bptree_keys.specs.declared.node_id.NodeId.TheVariants.{Inner, Leaf}
 use Rattle.bptree_ways.specs.ByArgument.{IsSubtree, RanksAmong}
 use Rattle.bptree_shape.specs.Shape.{pairs_at}
@@ -11,15 +14,15 @@ use Rattle.bptree_ways.proofs.Slots.{slot_of, ok_where_has}
 use Rattle.bptree_ways.proofs.Summed.{child_subtree, leaf_whole, leaf_sorted, has_in_child, ranked_below}
 use Rattle.bptree_ways.proofs.by_argument.+rank_below.Goals as goal
 
-pub fold_leaf-requires-clause-placed : goal.fold_leaf-requires-clause-placed
-fold_leaf-requires-clause-placed g t c =
+pub fold_leaf-requires-clause-slot : goal.fold_leaf-requires-clause-slot
+fold_leaf-requires-clause-slot g t c =
     let total = g.met.S.K.Ord.total in
     let sum = g.S.Argument.Argument.is_summary in
     let slots = g.S.NodeStore.slots c.args.store.now in
     let node = c.get_leaf-node.result.now in
     let s : IsSubtree g.S.K.Ord.cmp sum slots c.args.height (Leaf c.in-Leaf.leaf) = rw c.in-Leaf.is at c.requires in
     let sorted = leaf_sorted total sum slots c.args.height c.in-Leaf.leaf node s c.get_leaf-node.ensures in
-    rw (c.keys.ensures.value, c.locate_slot-slot.ensures.ascending sorted) (slot_of total c.args.k.now (keys_of node.pairs) sorted)
+    rw (c.keys.ensures.value, c.locate_slot-slot.ensures.ascending sorted) (IsSlotOf-in g.S.K.Ord.cmp c.args.k.now (keys_of node.pairs) (locate g.S.K.Ord.cmp (keys_of node.pairs) c.args.k.now) (slot_of total c.args.k.now (keys_of node.pairs) sorted))
 
 pub locate_child-place-requires : goal.locate_child-place-requires
 locate_child-place-requires g t c =
@@ -66,9 +69,11 @@ returns-in-Leaf-clause-ranked g t c =
     let s : IsSubtree cmp sum slots c.args.height (Leaf c.in-Leaf.leaf) = rw c.in-Leaf.is at c.requires in
     let same : c.keys.result.now ≡ keys_of (pairs_at slots c.args.height (Leaf c.in-Leaf.leaf)) =
     c.keys.ensures.value ∙ ap keys_of (sym (leaf_whole total sum slots c.args.height c.in-Leaf.leaf node s c.get_leaf-node.ensures)) in
+    let sorted = leaf_sorted total sum slots c.args.height c.in-Leaf.leaf node s c.get_leaf-node.ensures in
+    let placed : IsSlotOf cmp c.args.k.now c.keys.result.now c.locate_slot-slot.result = rw (c.keys.ensures.value, c.locate_slot-slot.ensures.ascending sorted) (slot_of total c.args.k.now (keys_of node.pairs) sorted) in
     rw c.in-Leaf.is
-    (IfOk-weaker c.fold_leaf.result (RanksAmong cmp stands_for ranks c.args.k.now c.args.rank c.keys.result.now) (RanksAmong cmp stands_for ranks c.args.k.now c.args.rank (keys_of (pairs_at slots c.args.height (Leaf c.in-Leaf.leaf))))
-    (λ answer there. subst (λ keys. RanksAmong cmp stands_for ranks c.args.k.now c.args.rank keys answer) same there) c.fold_leaf.ensures.ranked)
+    (IfOk-weaker c.fold_leaf.result (λ answer. IsSlotOf cmp c.args.k.now c.keys.result.now c.locate_slot-slot.result → RanksAmong cmp stands_for ranks c.args.k.now c.args.rank c.keys.result.now answer) (RanksAmong cmp stands_for ranks c.args.k.now c.args.rank (keys_of (pairs_at slots c.args.height (Leaf c.in-Leaf.leaf))))
+    (λ answer there. subst (λ keys. RanksAmong cmp stands_for ranks c.args.k.now c.args.rank keys answer) same (there placed)) c.fold_leaf.ensures.ranked)
 
 pub returns-in-Leaf-clause-present : goal.returns-in-Leaf-clause-present
 returns-in-Leaf-clause-present g t c =
