@@ -243,6 +243,9 @@ module _ {K V A : Type 0} {cmp : K → K → Ordering} (is_summary : A → List 
     subst (λ (n : ℕ). selects query (keys_of (pairs_at slots h root)) (Some (n + slot))) (sym (start_is leaf in')) selected,
   )
 
+  pub selected_within : {Q : Type 0} (selects : Q → List K → Option ℕ → Type 0) (query : Q) (leaf : LeafNodeId) (slot : ℕ) → IsSelectedAt selects query slots h root (Some (leaf, slot)) → start slots h root leaf + slot < length (pairs_at slots h root)
+  selected_within selects query leaf slot (in', short, selected) = omega (arith, short, start_is leaf in', total_is leaf in')
+
 -- a part that asks for more than there is
 pub part_cut : {X : Type 0} (l : List X) (i n m : ℕ) → m ≡ min n (length l - i) → part l i n ≡ part l i m
 part_cut l i n m e = sym (take_min n (drop i l)) ∙ ap (λ k. take k (drop i l)) (ap (min n) (length-drop i l) ∙ sym e)

@@ -2,6 +2,7 @@
 ghost use Rattle.std.specs.Prelude.{◌≡◌, ◌+◌, ◌-◌, ◌<◌, ◌≤◌, ◌^◌, ◌&&◌, ℕ, Option, IfOk, filter, false, true, length, min, not};
 ghost use Rattle.std.specs.Map.{keys_of};
 ghost use Rattle.std.specs.Option.{option_copied};
+ghost use Rattle.bptree_arguments.specs.Selection.{IsPlaceIn};
 ghost use Rattle.bptree_keys.specs.Contents.{pairs_below};
 ghost use Rattle.bptree_keys.specs.Ranges.{between, falls_short, part, part_at, stays_below};
 ghost use Rattle.bptree_iteration.specs.Span.{Tells};
@@ -196,7 +197,7 @@ where
     S::Argument: SearchArgument<S::K>,
     requires shape { IsWellShaped S.K.cmp S.Argument.is_summary (S.slots store.now) height root }
     requires fits { length (pairs_at (S.slots store.now) height root) < 2 ^ 64 }
-    ensures { IfOk result (λ found. (o : Option ℕ) × S.Argument.selects query (keys_of (pairs_at (S.slots store.now) height root)) o × IsPart (S.slots store.now) height root found (part_at (pairs_at (S.slots store.now) height root) o n)) }
+    ensures { IfOk result (λ found. (o : Option ℕ) × IsPlaceIn (pairs_at (S.slots store.now) height root) o × S.Argument.selects query (keys_of (pairs_at (S.slots store.now) height root)) o × IsPart (S.slots store.now) height root found (part_at (pairs_at (S.slots store.now) height root) o n)) }
 {
     match find_by_argument(store, root, height, query)? {
         None => Ok(no_part((first_leaf(store, root, height), 0))),

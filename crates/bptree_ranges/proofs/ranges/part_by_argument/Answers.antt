@@ -1,7 +1,8 @@
 use Rattle.std.proofs.Common.{◌+◌, inr, length, refl, arith, take, None, Some}
 use Rattle.bptree_ranges.specs.Ranges.{start}
 use Rattle.bptree_shape.specs.Shape.{pairs_at}
-use Rattle.bptree_ranges.proofs.Ranged.{first_place, selected_place, empty_part}
+use Rattle.bptree_ranges.proofs.Ranged.{first_place, selected_place, selected_within, empty_part}
+use Rattle.bptree_ways.specs.ByArgument.{IsSelectedAt}
 use Rattle.bptree_ways.proofs.Summed.{whole_subtree}
 use Rattle.bptree_ranges.proofs.ranges.part_by_argument.Goals as goal
 
@@ -15,6 +16,7 @@ returns-in-None g c =
     let slots = g.S.NodeStore.slots c.args.store.now in
     let at = (first_place g.S.Argument.Argument.is_summary slots c.args.height c.args.root c.requires.shape c.first_leaf.result c.first_leaf.ensures).0 in (
       None,
+      tt,
       rw c.in-None.is at c.in_ok-find_by_argument.ensures,
       rw c.no_part.ensures (empty_part slots c.args.height c.args.root (c.first_leaf.result, 0) at),
     )
@@ -26,6 +28,14 @@ part_from-requires-clause-place g c =
 
 pub returns-in-Some : goal.returns-in-Some
 returns-in-Some g c =
+    let sum = g.S.Argument.Argument.is_summary in
     let slots = g.S.NodeStore.slots c.args.store.now in
-    let at = selected_place g.S.Argument.Argument.is_summary slots c.args.height c.args.root c.requires.shape g.S.Argument.SearchArgument.selects c.args.query c.in-Some.front.0 c.in-Some.front.1 (rw c.in-Some.is at c.in_ok-find_by_argument.ensures) in
-    (Some (start slots c.args.height c.args.root c.in-Some.front.0 + c.in-Some.front.1), at.1, c.part_from.ensures)
+    let selects = g.S.Argument.SearchArgument.selects in
+    let leaf = c.in-Some.front.0 in
+    let slot = c.in-Some.front.1 in
+    let found : IsSelectedAt selects c.args.query slots c.args.height c.args.root (Some (leaf, slot)) = rw c.in-Some.is at c.in_ok-find_by_argument.ensures in (
+      Some (start slots c.args.height c.args.root leaf + slot),
+      selected_within sum slots c.args.height c.args.root c.requires.shape selects c.args.query leaf slot found,
+      (selected_place sum slots c.args.height c.args.root c.requires.shape selects c.args.query leaf slot found).1,
+      c.part_from.ensures,
+    )
