@@ -1,6 +1,6 @@
 //! Ranks of keys in their groups, at concrete keys.
 ghost use Rattle.std.specs.Prelude.{◌≤◌, length};
-ghost use Rattle.bptree_arguments.specs.Ranks.{IsSlotOf};
+ghost use Rattle.bptree_arguments.specs.Ranks.{IsSlotIn};
 
 use bptree_arguments::argument::RankArgument;
 use bptree_arguments::group::{FromRef, GroupCount, Tuple2};
@@ -15,7 +15,7 @@ fn rank_of<K: Key, G: FromRef<K> + Key>(
     keys: &[K],
 ) -> Result<Result<Option<(G, usize)>, Option<(G, usize)>>, AllocError>
     requires few { length keys.now ≤ 64 }
-    requires placed { IsSlotOf K.cmp k.now keys.now slot }
+    requires slot { IsSlotIn keys.now slot }
 {
     let start = <GroupCount<G> as RankArgument<K>>::initial_value();
     <GroupCount<G> as RankArgument<K>>::fold_leaf(k, start, slot, keys)

@@ -2,7 +2,7 @@
 ghost use Rattle.std.specs.Prelude.{◌≡◌, ◌<◌, ◌≤◌, ◌+◌, ◌-◌, ◌^◌, ◌∷◌, [], Some, None, length, IfOk, IfErr};
 ghost use Rattle.std.specs.List.{AllZip};
 ghost use Rattle.std.specs.List.Sorted.{IsStrictlySortedBy};
-ghost use Rattle.bptree_arguments.specs.Ranks.{IsSlotOf};
+ghost use Rattle.bptree_arguments.specs.Ranks.{IsSlotIn};
 ghost use Rattle.bptree_keys.specs.Pieces.{ArePieces};
 
 use bptree_arguments::argument::{Argument, RankArgument, SearchArgument};
@@ -82,7 +82,7 @@ fn takes_in_two_counts<K: Key>(
     Ok((left.count(), right.count(), rank))
 }
 
-// In its leaf a key's place is added: `Ok` where it is present, `Err` where it is not.
+// A slot of a leaf is added, whether or not the key's place is there: `Ok` stays `Ok`, and `Err` stays `Err`.
 fn adds_the_place<K: Key>(
     k: &K,
     rank: usize,
@@ -90,7 +90,7 @@ fn adds_the_place<K: Key>(
     keys: &[K],
 ) -> Result<Result<usize, usize>, AllocError>
     requires few { length keys.now ≤ 64 }
-    requires placed { IsSlotOf K.cmp k.now keys.now slot }
+    requires slot { IsSlotIn keys.now slot }
     requires fits { rank + 64 < 2 ^ 64 }
     ensures present { IfOk slot (λ i. IfOk result (λ answer. answer ≡ Ok (rank + i))) }
     ensures absent { IfErr slot (λ i. IfOk result (λ answer. answer ≡ Err (rank + i))) }

@@ -2,8 +2,12 @@ use Rattle.std.proofs.Common.{◌<◌, ◌^◌, [], ◌∷◌, ◌++◌, length,
 use Rattle.std.specs.List.Sorted.{IsStrictlySortedBy}
 use Rattle.bptree_keys.proofs.PieceLemmas.{sorted_left}
 use Rattle.bptree_arguments.specs.Ranks.{AllBelow}
+use Rattle.bptree_arguments.proofs.RankLemmas.{IsSlotOf-in}
 use Rattle.bptree_parts_tests.proofs.GroupItems.{either_in_words}
 use Rattle.bptree_parts_tests.proofs.callers.group_answers.ranks_behind_a_leaf.Goals as goal
+
+pub fold_leaf-requires-clause-slot : goal.fold_leaf-requires-clause-slot
+fold_leaf-requires-clause-slot g c = IsSlotOf-in g.K.Ord.cmp c.args.k.now c.args.keys.now c.args.slot c.requires.placed
 
 pub returns : goal.returns
 returns g c =
@@ -16,4 +20,4 @@ returns g c =
     let stands = rw (append-nil before) at (c.in_ok-rank.ensures.carries [] (before ∷ []) (c.requires.nonempty, tt) c.requires.summaries sorted below few (c.initial_value-start.ensures.stands k)) in
     let all_sorted : IsStrictlySortedBy g.K.Ord.cmp (before ++ (keys ++ [])) = rw (append-nil keys) c.requires.ascending in
     let all_fit : length (before ++ (keys ++ [])) < 2 ^ 64 = rw (append-nil keys) c.requires.fits in
-    either_in_words g.K.Ord.cmp g.G.Ord.cmp g.G.FromRef.group_of k (before ++ keys) c.in_ok-answer.answer (rw (append-nil keys) at (c.in_ok-answer.ensures.ranked before [] all_sorted c.requires.below tt all_fit stands))
+    either_in_words g.K.Ord.cmp g.G.Ord.cmp g.G.FromRef.group_of k (before ++ keys) c.in_ok-answer.answer (rw (append-nil keys) at (c.in_ok-answer.ensures.ranked c.requires.placed before [] all_sorted c.requires.below tt all_fit stands))
