@@ -33,10 +33,10 @@ module _ {X : Type 0} (l : List X) (s : ℕ) where
 
 -- so many pairs from a place that is the page's, or the greatest number where that is less, are the page
 pub page_is : {K V : Type 0} (l : List (K × V)) (p s i : ℕ) (found : List (K × V)) → i ≡ min (p * s) (2 ^ 64 - 1) → length l < 2 ^ 64 → IsPartSelected SelectsPlace i l s found → found ≡ page l p s
-page_is l p s i found is fits (None, past, part) =
+page_is l p s i found is fits (None, no_place, past, part) =
     let beyond : length l ≤ i = rw (length-keys_of l) at past in
     part ∙ sym (past_end l s p (omega (arith, is, beyond, fits)))
-page_is l p s i found is fits (Some j, at, shown) =
+page_is l p s i found is fits (Some j, inside, at, shown) =
     let within : i < length l = rw (at.0, length-keys_of l) at at.1 in
     let place : j ≡ p * s = omega (arith, is, at.0, within, fits) in
     shown ∙ ap (λ k. part l k s) place

@@ -1,5 +1,5 @@
 //! Callers of parts of a tree.
-ghost use Rattle.std.specs.Prelude.{◌≡◌, ◌≤◌, ◌-◌, length, min, slice_get, None, Some, IfOk, IfSome};
+ghost use Rattle.std.specs.Prelude.{◌≡◌, ◌<◌, ◌≤◌, ◌-◌, length, min, slice_get, None, Some, IfOk, IfSome};
 ghost use Rattle.std.specs.declared.cmp.Ordering.TheVariants.{Equal};
 ghost use Rattle.std.specs.Map.{keys_of};
 ghost use Rattle.std.specs.Option.{option_map};
@@ -41,6 +41,20 @@ fn gives_no_more_than_asked<S: NodeStore>(
 where
     S::Argument: SearchArgument<S::K>,
     ensures { IfOk result (λ len. len ≤ n) }
+{
+    Ok(tree.range_by_argument(query, n)?.len())
+}
+
+// Where pairs are asked for, it gives none only where no place is allowed for the query: each place begins a part.
+fn gives_none_only_where_none_is_allowed<S: NodeStore>(
+    tree: &BPlusTree<S>,
+    query: <S::Argument as SearchArgument<S::K>>::Query,
+    n: usize,
+) -> Result<usize, AllocError>
+where
+    S::Argument: SearchArgument<S::K>,
+    requires { 0 < n }
+    ensures { IfOk result (λ len. len ≡ 0 → S.Argument.selects query (keys_of tree.now.contents) None) }
 {
     Ok(tree.range_by_argument(query, n)?.len())
 }

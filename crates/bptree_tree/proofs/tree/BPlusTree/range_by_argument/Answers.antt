@@ -14,7 +14,7 @@ new-requires g c =
     let slots = g.S.NodeStore.slots tree.store in
     let pairs = pairs_at slots tree.height tree.root in
     let found = c.in_ok-part.ensures in
-    (part_between_places g.S.Argument.Argument.is_summary slots tree.height tree.root c.self.invariant.0 c.in_ok-part.part (part_at pairs found.0 c.args.n) found.2).0
+    (part_between_places g.S.Argument.Argument.is_summary slots tree.height tree.root c.self.invariant.0 c.in_ok-part.part (part_at pairs found.0 c.args.n) found.3).0
 
 pub returns-clause-rest : goal.returns-clause-rest
 returns-clause-rest g c =
@@ -22,8 +22,8 @@ returns-clause-rest g c =
     let slots = g.S.NodeStore.slots tree.store in
     let pairs = pairs_at slots tree.height tree.root in
     let found = c.in_ok-part.ensures in
-    let shown = c.new.ensures ∙ (part_between_places g.S.Argument.Argument.is_summary slots tree.height tree.root c.self.invariant.0 c.in_ok-part.part (part_at pairs found.0 c.args.n) found.2).1 in
-    rw (← c.self.view_is) (found.0, found.1, shown)
+    let shown = c.new.ensures ∙ (part_between_places g.S.Argument.Argument.is_summary slots tree.height tree.root c.self.invariant.0 c.in_ok-part.part (part_at pairs found.0 c.args.n) found.3).1 in
+    rw (← c.self.view_is) (found.0, found.1, found.2, shown)
 
 pub returns-clause-ascending : goal.returns-clause-ascending
 returns-clause-ascending g c =
@@ -31,7 +31,7 @@ returns-clause-ascending g c =
     let slots = g.S.NodeStore.slots tree.store in
     let pairs = pairs_at slots tree.height tree.root in
     let found = c.in_ok-part.ensures in
-    let shown = c.new.ensures ∙ (part_between_places g.S.Argument.Argument.is_summary slots tree.height tree.root c.self.invariant.0 c.in_ok-part.part (part_at pairs found.0 c.args.n) found.2).1 in
+    let shown = c.new.ensures ∙ (part_between_places g.S.Argument.Argument.is_summary slots tree.height tree.root c.self.invariant.0 c.in_ok-part.part (part_at pairs found.0 c.args.n) found.3).1 in
     let all = tree_ascends g.met.S.K.Ord.total slots (root_least tree.height) tree.height tree.root None None c.self.invariant.0.tree in
     subst (IsAscending g.S.K.Ord.cmp) (sym shown) (part_at_ascends g.met.S.K.Ord.total pairs found.0 c.args.n all)
 
