@@ -1,3 +1,4 @@
+pub mod CloneSizes
 pub mod GatherLemmas
 pub mod PartLemmas
 pub mod Passing

@@ -1,7 +1,7 @@
 //! Callers of a clone.
-ghost use Rattle.std.specs.Prelude.{◌≡◌, length, true, IfOk};
+ghost use Rattle.std.specs.Prelude.{◌≡◌, ℕ, length, true, IfOk};
 ghost use Rattle.bptree_keys.specs.Contents.{has};
-ghost use Rattle.bptree_shape.specs.Shape.{IsWellShaped};
+ghost use Rattle.bptree_shape.specs.Shape.{IsWellShaped, leaf_pairs};
 
 use bptree_arguments::argument::CloneArgument;
 use bptree_keys::node_id::NodeId;
@@ -28,6 +28,19 @@ where
     ensures { IfOk result (λ len. len ≡ length tree.now.contents) }
 {
     Ok(tree.clone()?.len())
+}
+
+// Under each number it has a leaf of as many pairs.
+fn has_leaves_of_the_same_sizes<S: CloneStore>(
+    tree: &BPlusTree<S>,
+) -> Result<BPlusTree<S>, AllocError>
+where
+    S::V: Clone,
+    S::Argument: CloneArgument<S::K>,
+    ensures { IfOk result (λ copy. (number : ℕ) → length (leaf_pairs ((S.slots copy.store).leaf number)) ≡ length (leaf_pairs ((S.slots tree.now.store).leaf number))) }
+{
+    let copy = tree.clone()?;
+    Ok(copy)
 }
 
 // Its nodes are a whole tree, of the original's root and height.

@@ -26,3 +26,6 @@ returns-clause-contents g c =
 
 pub returns-clause-whole : goal.returns-clause-whole
 returns-clause-whole g c = let whole = invariant_of-result g c in record { shape = whole.0; contents = refl; summary = whole.2 }
+
+pub returns-clause-nodes : goal.returns-clause-nodes
+returns-clause-nodes g c = rw (← c.self.view_is) (g.met.S.CloneStore.clone_has_same_numbers c.self.inside.store c.in_ok-store.store c.in_ok-store.ensures.cases)
