@@ -10,11 +10,12 @@ use Rattle.std.specs.Borrow.{Bor}
 use Rattle.std.specs.Option.{is_some, option_copied}
 use Rattle.std.specs.Result.{IsErrAnd}
 use Rattle.std.specs.Ordering.{is_eq, is_gt, is_lt}
-use Rattle.bptree_keys.specs.Contents.{has, put, del, gather, pairs_below, pairs_above, value}
+use Rattle.bptree_keys.specs.Contents.{IsAscending, has, put, del, gather, pairs_below, pairs_above, value}
 use Rattle.bptree_keys.proofs.Equal.{has_where_value}
 use Rattle.bptree_keys.proofs.Laws.{put_ascending, gather_ascending}
 use Rattle.bptree_keys.proofs.Updates.{del_ascending, has_put, has_del, length_put, length_del}
 use Rattle.bptree_keys.specs.Ranges.{between, falls_short, stays_below}
+use Rattle.bptree_loading.proofs.OrderLemmas.{load_is_gather, load_same, ordered_if_ascending}
 use Rattle.bptree_maps.specs.Keys.{holds, with_key, without_key, gathered, keys_between}
 
 module _ {K V : Type 0} where
@@ -73,7 +74,16 @@ pub keys_pairs : {K : Type 0} (keys : List K) → keys_of (pairs_of keys) ≡ ke
 keys_pairs [] = refl
 keys_pairs (k ∷ keys) = ap (λ rest. k ∷ rest) (keys_pairs keys)
 
+-- what is gathered of pairs that ascend is what is loaded of them, all
+pub gather_same : {K V : Type 0} (cmp : K → K → Ordering) → IsTotalOrder cmp → (l : List (K × V)) → IsAscending cmp l → gather cmp l ≡ l
+gather_same cmp total l ascending = sym (load_is_gather cmp total l (ordered_if_ascending cmp total l ascending)) ∙ load_same cmp total l ascending
+
 module _ {K : Type 0} (cmp : K → K → Ordering) (total : IsTotalOrder cmp) where
+  pub gathered_same : (keys : List K) → IsStrictlySortedBy cmp keys → gathered cmp keys ≡ keys
+  gathered_same keys ascending =
+      let ascends : IsStrictlySortedBy cmp (keys_of (pairs_of keys)) = rw (keys_pairs keys) ascending in
+      ap (gathered cmp) (sym (keys_pairs keys)) ∙ sym (keys_gather cmp (pairs_of keys)) ∙ ap keys_of (gather_same cmp total (pairs_of keys) ascends) ∙ keys_pairs keys
+
   pub gathered_ascending : (keys : List K) → IsStrictlySortedBy cmp (gathered cmp keys)
   gathered_ascending keys = rw (← keys_pairs keys, ← keys_gather cmp (pairs_of keys)) (gather_ascending cmp total (pairs_of keys))
 

@@ -1,6 +1,6 @@
 //! A tree of pairs in any order.
-ghost use Rattle.std.specs.Prelude.{◌≡◌, IfOk};
-ghost use Rattle.bptree_keys.specs.Contents.{gather};
+ghost use Rattle.std.specs.Prelude.{◌≡◌, IfOk, List};
+ghost use Rattle.bptree_keys.specs.Contents.{IsAscending, gather};
 
 use bptree_arguments::argument::Argument;
 use bptree_keys::key::Key;
@@ -18,3 +18,9 @@ pub(crate) fn gather_tree<K: Key, V: Drop, A: Argument<K>>(
     sort_for_load(&mut pairs)?;
     BPlusTree::bulk_load(pairs)
 }
+
+/// What is gathered of pairs whose keys ascend is these pairs: so `from_iter` of what `into_iter` gives is the same list. It
+/// does nothing.
+pub fn law_of_from_iter<K: Key, V>()
+    ensures { (l : List (K × V)) → IsAscending K.cmp l → gather K.cmp l ≡ l }
+{}

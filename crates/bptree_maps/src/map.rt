@@ -23,6 +23,7 @@ ghost use Rattle.bptree_maps.specs.Rows.{inner_row};
 ghost use Rattle.bptree_maps.specs.Writing.{WritesAt};
 
 use crate::gathering::gather_tree;
+pub use crate::gathering::law_of_from_iter;
 use bptree_arguments::argument::{Argument, CloneArgument, RankArgument, SearchArgument};
 use bptree_arguments::count::Count;
 use bptree_arguments::group::FromRef;

@@ -1,11 +1,15 @@
 //! An ordered set.
 ghost use Rattle.std.specs.Prelude.{◌≡◌, ◌+◌, ◌-◌, ◌*◌, ◌^◌, ◌<◌, ◌≤◌, ℕ, [], false, not, length, slice_get, IfOk, IfErr, OnErr, Ok, Err, IsOk, IsTrue, ◌↔◌, List, ⊤};
+ghost use Rattle.std.specs.Borrow.{Lends, sem};
 ghost use Rattle.std.specs.Iterator.{DrainsIf, IsFinite};
 ghost use Rattle.std.specs.List.Sorted.{IsStrictlySortedBy};
+ghost use Rattle.std.specs.Map.{keys_of};
 ghost use Rattle.std.specs.Map.Iter.{ShowsInOrder, GivesInOrder, GivesInReverse, deref};
 ghost use Rattle.std.specs.Option.{option_copied};
 ghost use Rattle.bptree_tree.specs.Refusal.{pair_of};
 ghost use Rattle.bptree_maps.specs.Keys.{holds, with_key, without_key, gathered, keys_between, keys_without};
+ghost use Rattle.bptree_maps.specs.contracts.set.BPlusTreeSet.{the_row};
+ghost use Rattle.bptree_maps.specs.Rows.{inner_row_of_set};
 
 mod difference;
 mod iter;
@@ -197,6 +201,21 @@ impl<K: Key> BPlusTreeSet<K> {
         ensures { result ≡ keys_without K.cmp self.now other.now }
     {
         Difference::new(self.iter(), other)
+    }
+
+    /// The tree inside, whose keys are the set's.
+    pub fn tree(&self) -> &BPlusTree<NodeStoreVec<K, ()>>
+        ensures { keys_of result.now.contents ≡ self.now }
+    {
+        &self.tree
+    }
+
+    /// The tree inside, for writing: once it is given back, the set has the keys of what the tree's contents are then.
+    pub fn tree_mut(&mut self) -> &mut BPlusTree<NodeStoreVec<K, ()>>
+        ensures* writes_back { sem 𝓛 (Lends (the_row K.row K.Key.own K.Clone K.Ord.own K.Eq.own K.PartialEq K.PartialOrd.own) (inner_row_of_set K.row K.Key.own K.Clone K.Ord.own K.Eq.own K.PartialEq K.PartialOrd.own) self.entry result (λ tree. keys_of tree.contents)) }
+        ensures value { keys_of result.now.contents ≡ self.old }
+    {
+        &mut self.tree
     }
 }
 

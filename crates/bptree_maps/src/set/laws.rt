@@ -7,7 +7,8 @@ ghost use Rattle.bptree_maps.specs.Keys.{holds, with_key, without_key, gathered}
 use bptree_keys::key::Key;
 
 /// After a key was put in, it is held, and others as before; after one was removed, none equal to it is held, and others as
-/// before. Both leave an ascending list ascending, and what is gathered of any list is ascending. It does nothing.
+/// before. Both leave an ascending list ascending, and what is gathered of any list is ascending: of an ascending one that
+/// list, so that `from_iter` of what `into_iter` gives is the same. It does nothing.
 pub fn laws_of_keys<K: Key>()
     ensures with_order { (keys : List K) → (k : K) → IsStrictlySortedBy K.cmp keys → IsStrictlySortedBy K.cmp (with_key K.cmp keys k) }
     ensures with_holds { (keys : List K) → (k j : K) → IsStrictlySortedBy K.cmp keys → holds K.cmp (with_key K.cmp keys k) j ≡ is_eq (K.cmp k j) || holds K.cmp keys j }
@@ -16,4 +17,5 @@ pub fn laws_of_keys<K: Key>()
     ensures without_holds { (keys : List K) → (k j : K) → IsStrictlySortedBy K.cmp keys → holds K.cmp (without_key K.cmp keys k) j ≡ not (is_eq (K.cmp k j)) && holds K.cmp keys j }
     ensures without_len { (keys : List K) → (k : K) → IsStrictlySortedBy K.cmp keys → length (without_key K.cmp keys k) + (if holds K.cmp keys k then 1 else 0) ≡ length keys }
     ensures gathered { (keys : List K) → IsStrictlySortedBy K.cmp (gathered K.cmp keys) }
+    ensures same { (keys : List K) → IsStrictlySortedBy K.cmp keys → gathered K.cmp keys ≡ keys }
 {}

@@ -1,4 +1,4 @@
-use Rattle.bptree_maps.proofs.KeyLemmas.{with_ascending, with_holds, with_length, without_ascending, without_holds, without_length, gathered_ascending}
+use Rattle.bptree_maps.proofs.KeyLemmas.{with_ascending, with_holds, with_length, without_ascending, without_holds, without_length, gathered_ascending, gathered_same}
 use Rattle.bptree_maps.proofs.set.laws.laws_of_keys.Goals as goal
 
 pub returns-clause-with_order : goal.returns-clause-with_order
@@ -21,3 +21,6 @@ returns-clause-without_len g c = λ keys k ascending. without_length g.K.Ord.cmp
 
 pub returns-clause-gathered : goal.returns-clause-gathered
 returns-clause-gathered g c = λ keys. gathered_ascending g.K.Ord.cmp g.met.K.Ord.total keys
+
+pub returns-clause-same : goal.returns-clause-same
+returns-clause-same g c = λ keys ascending. gathered_same g.K.Ord.cmp g.met.K.Ord.total keys ascending
