@@ -9,7 +9,7 @@ use bptree_loading::cuts::first_of_layer;
 use bptree_loading::loading::laws_of_load;
 use bptree_stores::node_stores::NodeStore;
 use bptree_tree::BPlusTree;
-use std::alloc::AllocError;
+use std::alloc::{AllocError, Global};
 
 // As many as a leaf holds are one leaf, and one more is shared between two. So of 4161 pairs the last two leaves share the 65
 // behind 64 full ones.
@@ -65,6 +65,17 @@ fn loads_all<S: NodeStore>(pairs: Vec<(S::K, S::V)>) -> Result<BPlusTree<S>, All
 {
     laws_of_load::<S::K, S::V>();
     BPlusTree::bulk_load(pairs)
+}
+
+// What an owned tree gives out is loaded again: the list is the same.
+fn loads_what_was_given_out<S: NodeStore>(
+    alloc: Global,
+    tree: BPlusTree<S>,
+) -> Result<BPlusTree<S>, AllocError>
+    ensures { IfOk result (λ again. again.contents ≡ tree.contents) }
+{
+    let pairs: Vec<(S::K, S::V)> = tree.into_iter().collect(alloc)?;
+    loads_all(pairs)
 }
 
 // At each key stands the value of the last pair with an equal key.

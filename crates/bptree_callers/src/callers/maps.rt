@@ -14,7 +14,7 @@ use bptree_arguments::argument::{Argument, CloneArgument, RankArgument, SearchAr
 use bptree_arguments::count::Count;
 use bptree_arguments::visit::{DescendError, DescendVisit};
 use bptree_keys::key::Key;
-use bptree_maps::map::{BPlusTreeMap, IntoIter};
+use bptree_maps::map::{BPlusTreeMap, IntoIter, law_of_from_iter};
 use bptree_stores::node_store_vec::NodeStoreVec;
 use bptree_tree::{BPlusTree, InsertError, SelectError};
 use std::alloc::{AllocError, Global};
@@ -60,16 +60,29 @@ fn gathers<K: Key, V: Drop, A: Argument<K>>(
     BPlusTreeMap::from_iter(alloc, pairs)
 }
 
-// What is given out by a map is taken in again as it was.
+// What is given out by a map is taken in again: the list is the same.
 fn is_gathered_again<K: Key, V: Copy + Drop, A: Argument<K>>(
     alloc: Global,
     map: &BPlusTreeMap<K, V, A>,
 ) -> Result<BPlusTreeMap<K, V, A>, AllocError>
 where
     K: Copy,
-    ensures { IfOk result (λ copy. copy ≡ gather K.cmp map.now) }
+    ensures { IfOk result (λ copy. copy ≡ map.now) }
 {
+    law_of_from_iter::<K, V>();
+    let _len = map.len();
     BPlusTreeMap::from_iter(alloc, map.iter().map(|(k, v)| (*k, *v)))
+}
+
+// And so is a map that is handed over.
+fn is_the_same_again<K: Key, V: Drop, A: Argument<K>>(
+    alloc: Global,
+    map: BPlusTreeMap<K, V, A>,
+) -> Result<BPlusTreeMap<K, V, A>, AllocError>
+    ensures { IfOk result (λ again. again ≡ map) }
+{
+    law_of_from_iter::<K, V>();
+    BPlusTreeMap::from_iter(alloc, map)
 }
 
 // The number of pairs, whose keys ascend.

@@ -1,20 +1,24 @@
-//! Callers of the nodes that are lent: whatever changed the list before, they hold it.
-ghost use Rattle.std.specs.Prelude.{◌≡◌, ℕ, IsTrue, OnOk, Some};
+//! Callers of the nodes that are lent: whatever changed the list before, they hold it, and none is idle beside it.
+ghost use Rattle.std.specs.Prelude.{◌≡◌, ℕ, IfOk, IsTrue, OnOk, Some, length};
 ghost use Rattle.std.specs.Map.{keys_of};
 ghost use Rattle.bptree_ascent.specs.Lending.{written};
+ghost use Rattle.bptree_keys.specs.Contents.{put};
 ghost use Rattle.bptree_nodes.specs.Leaf.{set_value_at};
-ghost use Rattle.bptree_shape.specs.Shape.{pairs_at};
+ghost use Rattle.bptree_nodes.specs.Slot.{IsPresent};
+ghost use Rattle.bptree_shape.specs.Shape.{pairs_at, leaf_count, inner_count, leaf_pairs};
 ghost use Rattle.bptree_stores.specs.StoreSlabs.{slots};
 
 use crate::callers::changes::writes;
 use crate::callers::queries::writes_by_a_query;
+use crate::callers::reads::shows_its_nodes;
 use bptree_arguments::argument::{Argument, SearchArgument};
 use bptree_keys::key::Key;
-use bptree_keys::node_id::NodeId;
+use bptree_keys::node_id::{LeafNodeId, NodeId};
 use bptree_maps::map::BPlusTreeMap;
+use bptree_maps::set::BPlusTreeSet;
 use bptree_stores::node_store_vec::NodeStoreVec;
 use bptree_stores::node_stores::NodeStore;
-use bptree_tree::{BPlusTree, SelectError};
+use bptree_tree::{BPlusTree, InsertError, SelectError};
 
 // The nodes below the root, of its height, have the pairs of the list.
 fn lends_the_list<S: NodeStore>(tree: &BPlusTree<S>) -> (&S, NodeId, usize)
@@ -60,4 +64,46 @@ fn lends_the_pairs_of_a_map<K: Key, V: Drop, A: Argument<K>>(
     ensures { pairs_at (slots result.0.now) result.2 result.1 ≡ map.now }
 {
     lends_the_list(map.tree())
+}
+
+// Each node that stands in the store is reached from the root, and once: no tree keeps a list beside idle nodes.
+fn has_no_idle_node<S: NodeStore>(tree: &BPlusTree<S>) -> (&S, NodeId, usize)
+    ensures leaves { (n : ℕ) → IsPresent ((S.slots result.0.now).leaf n) → leaf_count (S.slots result.0.now) result.2 result.1 n ≡ 1 }
+    ensures inners { (n : ℕ) → IsPresent ((S.slots result.0.now).inner n) → inner_count (S.slots result.0.now) result.2 result.1 n ≡ 1 }
+{
+    shows_its_nodes(tree)
+}
+
+// Nor after a pair was put, or refused: the nodes have the list, and none is left idle.
+fn leaves_no_node_idle<S: NodeStore>(
+    tree: &mut BPlusTree<S>,
+    k: S::K,
+    v: S::V,
+) -> Result<Option<S::V>, InsertError<S::K, S::V>>
+    ensures leaves { (n : ℕ) → IsPresent ((S.slots tree.new.store).leaf n) → leaf_count (S.slots tree.new.store) tree.new.height tree.new.root n ≡ 1 }
+    ensures inners { (n : ℕ) → IsPresent ((S.slots tree.new.store).inner n) → inner_count (S.slots tree.new.store) tree.new.height tree.new.root n ≡ 1 }
+    ensures list { IfOk result (λ _. pairs_at (S.slots tree.new.store) tree.new.height tree.new.root ≡ put S.K.cmp tree.old.contents k v) }
+{
+    tree.insert(k, v)
+}
+
+// What a tree shows of its nodes: the root, the height, and how many pairs stand in the leaf of a number, none where there is
+// no leaf.
+type Shown = (NodeId, usize, usize);
+
+fn shows<S: NodeStore>(tree: &BPlusTree<S>, leaf: LeafNodeId) -> Shown
+    ensures { result ≡ (tree.now.root, tree.now.height, length (leaf_pairs ((S.slots tree.now.store).leaf leaf.0))) }
+{
+    let held = match tree.node_store().try_get_leaf(leaf) {
+        Some(node) => node.len(),
+        None => 0,
+    };
+    (tree.root_id(), tree.height(), held)
+}
+
+// The nodes of a set's tree have its keys.
+fn lends_the_keys_of_a_set<K: Key>(set: &BPlusTreeSet<K>) -> (&NodeStoreVec<K, ()>, NodeId, usize)
+    ensures { keys_of (pairs_at (slots result.0.now) result.2 result.1) ≡ set.now }
+{
+    lends_the_list(set.tree())
 }

@@ -105,7 +105,7 @@ fn counts_all_keys<S: NodeStore<K = u64, V = u64, Argument = Count>>(tree: &BPlu
 }
 
 // The nodes that the root and the height name are a whole tree.
-fn shows_its_nodes<S: NodeStore>(tree: &BPlusTree<S>) -> (&S, NodeId, usize)
+pub(crate) fn shows_its_nodes<S: NodeStore>(tree: &BPlusTree<S>) -> (&S, NodeId, usize)
     ensures { IsWellShaped S.K.cmp S.Argument.is_summary (S.slots result.0.now) result.2 result.1 }
 {
     (tree.node_store(), tree.root_id(), tree.height())
