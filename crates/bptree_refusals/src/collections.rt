@@ -3,6 +3,7 @@
 use crate::digest::{Digest, Told, digest_of};
 use crate::plans::Call;
 use crate::sample::{Sample, keys_of, pairs_of};
+use crate::shapes::{Shape, shape_of};
 use crate::trees::{is_put, is_sample, is_tidy_tree};
 use crate::trial::Subject;
 use std::alloc::{AllocError, Global};
@@ -38,8 +39,12 @@ impl<K: Sample, A: Argument<K> + Told> Subject for BPlusTreeMap<K, u64, A> {
         (digest_of(tree), tree.len())
     }
 
-    fn is_tidy(self) -> bool {
+    fn is_tidy(&self) -> bool {
         is_tidy_tree(self.tree())
+    }
+
+    fn shape(&self) -> Option<Shape> {
+        Some(shape_of(self.tree()))
     }
 }
 
@@ -89,10 +94,18 @@ impl<K: Sample> Subject for BPlusTreeSet<K> {
         }
     }
 
+    // The keys, and how many are compared to find each of them: that tells the places of a key in its nodes. All are looked up
+    // once before, so that the same leaf is remembered.
     fn told(&self) -> (u64, usize) {
         let mut digest = Digest::new();
         for key in self.iter() {
+            self.contains(key);
+        }
+        for key in self.iter() {
+            let (is_there, compares) = self.contains_counted(key);
             key.tell(&mut digest);
+            digest.add(is_there as u64);
+            digest.add(compares as u64);
         }
         (digest.value(), self.len())
     }

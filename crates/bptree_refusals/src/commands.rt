@@ -1,15 +1,16 @@
 //! Lists of commands on a tree, whose replies have to be those that a tree gives where nothing is refused.
 
 use crate::digest::{Digest, Told};
-use crate::plans::{Call, LISTS};
+use crate::plans::{Call, lists_of};
 use crate::sample::{Group, Sample};
+use crate::shapes::Shape;
 use crate::trial::Subject;
 use std::alloc::{AllocError, Global};
 use sweep_bptree::script::{Command, CommandOn, End, Reply, run};
 use sweep_bptree::tree::count::Count;
 use sweep_bptree::tree::group::{GroupCount, Tuple2};
 use sweep_bptree::tree::{
-    BPlusTree, CloneArgument, CloneStore, NodeStore, RankArgument, SearchArgument,
+    BPlusTree, CloneArgument, CloneStore, NodeStore, RankArgument, SearchArgument, in_load_order,
 };
 
 /// A summary that finds and ranks the keys of numbers.
@@ -100,55 +101,145 @@ fn drawn(seed: u64, of: u64) -> u64 {
     digest.value()
 }
 
+// How a tree is made, and what its lists do.
+#[derive(Clone, Copy, PartialEq)]
+enum Base {
+    /// It has no pairs at first, and few later.
+    Empty,
+    /// It has two leaves, which are emptied and filled again.
+    Low,
+    /// Its height is 2 and its leaves are full, so that each takes no pair before it is split.
+    Full,
+    /// Its height is 2, its leaves are as short as they can be, and each node above them has one child more than it needs.
+    Short,
+}
+
+impl Base {
+    fn of(many: u64) -> Base {
+        match many {
+            0 => Base::Empty,
+            100 => Base::Low,
+            4161 => Base::Full,
+            _ => Base::Short,
+        }
+    }
+
+    // The number of the key that is loaded at a place. Between two of them three others have room.
+    fn number_at(self, place: u64) -> u64 {
+        place.wrapping_mul(4)
+    }
+
+    // Keys that are drawn are below it.
+    fn bound(self) -> u64 {
+        match self {
+            Base::Empty | Base::Low => 400,
+            Base::Full | Base::Short => 16_900,
+        }
+    }
+
+    // Whether most changes of a turn put pairs.
+    fn grows(self, turn: u64) -> bool {
+        match self {
+            Base::Empty => turn < 200,
+            Base::Low => turn >= 120,
+            Base::Full => true,
+            Base::Short => false,
+        }
+    }
+
+    // Whether the list of a turn has one change.
+    fn is_change(self, turn: u64) -> bool {
+        match self {
+            Base::Empty => turn % 2 == 0,
+            _ => turn % 8 < 7,
+        }
+    }
+
+    // A key that most changes of a turn put or remove. Where the leaves are many, it is of the leaf whose turn it is.
+    fn number_of(self, turn: u64) -> u64 {
+        let word = drawn(turn, 1);
+        let leaf = match self {
+            Base::Empty | Base::Low => return word % 400,
+            Base::Full => turn % 33,
+            Base::Short => turn.wrapping_mul(6).wrapping_add(1) % 30,
+        };
+        let place = leaf.wrapping_mul(64).wrapping_add(word % 16);
+        let more = if self == Base::Full {
+            1 + word / 16 % 3
+        } else {
+            0
+        };
+        self.number_at(place).wrapping_add(more)
+    }
+}
+
 // A key that is drawn.
-fn key_of<K: Sample>(alloc: Global, seed: u64) -> Result<K, AllocError> {
-    K::sample(alloc, drawn(seed, 1) % 400)
+fn key_of<K: Sample>(alloc: Global, base: Base, seed: u64) -> Result<K, AllocError> {
+    K::sample(alloc, drawn(seed, 1) % base.bound().max(1))
 }
 
 // A place that is asked for.
-fn query_of<K: Sample, A: Asked<K>>(alloc: Global, seed: u64) -> Result<A::Query, AllocError> {
-    A::query(alloc, drawn(seed, 1) % 400, (drawn(seed, 2) % 80) as usize)
+fn query_of<K: Sample, A: Asked<K>>(
+    alloc: Global,
+    base: Base,
+    seed: u64,
+) -> Result<A::Query, AllocError> {
+    let place = (drawn(seed, 2) % 80) as usize;
+    A::query(alloc, drawn(seed, 1) % base.bound().max(1), place)
 }
 
-// A command that may change a tree: most put pairs at first, and most remove some later.
-fn change_of<S: NodeStore<V = u64>>(alloc: Global, turn: u64) -> Result<CommandOn<S>, AllocError>
+// A command that may change a tree: most put pairs while it grows, and most remove some later.
+fn change_of<S: NodeStore<V = u64>>(
+    alloc: Global,
+    base: Base,
+    turn: u64,
+) -> Result<CommandOn<S>, AllocError>
 where
     S::K: Sample,
     S::Argument: Asked<S::K>,
 {
     let word = drawn(turn, 0) % 64;
-    if turn < 600 && word < 42 {
-        return Ok(Command::Insert(key_of(alloc, turn)?, turn));
+    if word < 42 || base == Base::Short && word < 56 {
+        let key = S::K::sample(alloc, base.number_of(turn))?;
+        return Ok(match word {
+            _ if base.grows(turn) => Command::Insert(key, turn),
+            _ if base != Base::Low => Command::Remove(key),
+            _ => Command::RemoveAt(query_of::<S::K, S::Argument>(alloc, base, turn)?),
+        });
     }
     Ok(match word % 16 {
-        0..=4 => Command::Remove(key_of(alloc, turn)?),
-        5..=9 => Command::RemoveAt(query_of::<S::K, S::Argument>(alloc, turn)?),
-        10 | 11 => Command::Set(key_of(alloc, turn)?, turn),
-        12 | 13 => Command::SetAt(query_of::<S::K, S::Argument>(alloc, turn)?, turn),
-        15 if word == 63 => Command::Clear,
-        _ => Command::Insert(key_of(alloc, turn)?, turn),
+        0..=4 => Command::Remove(key_of(alloc, base, turn)?),
+        5..=9 => Command::RemoveAt(query_of::<S::K, S::Argument>(alloc, base, turn)?),
+        10 | 11 => Command::Set(key_of(alloc, base, turn)?, turn),
+        12 | 13 => Command::SetAt(query_of::<S::K, S::Argument>(alloc, base, turn)?, turn),
+        15 if word == 63 && base == Base::Empty => Command::Clear,
+        _ => Command::Insert(key_of(alloc, base, turn)?, turn),
     })
 }
 
 // A command that changes no tree.
-fn read_of<S: NodeStore<V = u64>>(alloc: Global, seed: u64) -> Result<CommandOn<S>, AllocError>
+fn read_of<S: NodeStore<V = u64>>(
+    alloc: Global,
+    base: Base,
+    seed: u64,
+) -> Result<CommandOn<S>, AllocError>
 where
     S::K: Sample,
     S::Argument: Asked<S::K>,
 {
     Ok(match drawn(seed, 0) % 9 {
-        0 => Command::Get(key_of(alloc, seed)?),
+        0 => Command::Get(key_of(alloc, base, seed)?),
         1 => Command::First,
         2 => Command::Last,
         3 => Command::Len,
-        4 => Command::At(query_of::<S::K, S::Argument>(alloc, seed)?),
-        5 => Command::Rank(key_of(alloc, seed)?),
+        4 => Command::At(query_of::<S::K, S::Argument>(alloc, base, seed)?),
+        5 => Command::Rank(key_of(alloc, base, seed)?),
         6 => {
-            let key = key_of(alloc, seed)?;
+            let key = key_of(alloc, base, seed)?;
             Command::Range(Some(key), None, vec![in alloc; End::Front]?)
         }
         7 => {
-            let query = query_of::<S::K, S::Argument>(alloc, seed)?;
+            let query = query_of::<S::K, S::Argument>(alloc, base, seed)?;
             Command::RangeAt(query, 3, vec![in alloc; End::Front]?)
         }
         _ => Command::Walk(vec![in alloc; End::Front, End::Back]?),
@@ -156,7 +247,11 @@ where
 }
 
 // A command that holds a cursor.
-fn hold_of<S: NodeStore<V = u64>>(alloc: Global, seed: u64) -> Result<CommandOn<S>, AllocError>
+fn hold_of<S: NodeStore<V = u64>>(
+    alloc: Global,
+    base: Base,
+    seed: u64,
+) -> Result<CommandOn<S>, AllocError>
 where
     S::K: Sample,
     S::Argument: Asked<S::K>,
@@ -164,7 +259,7 @@ where
     Ok(match drawn(seed, 0) % 4 {
         0 => Command::CursorFirst,
         1 => Command::CursorLast,
-        _ => Command::Cursor(key_of(alloc, seed)?),
+        _ => Command::Cursor(key_of(alloc, base, seed)?),
     })
 }
 
@@ -183,20 +278,24 @@ where
 }
 
 // The commands of a turn: one change, or else commands that change no tree, with those on one cursor.
-fn listed<S: NodeStore<V = u64>>(alloc: Global, turn: u64) -> Result<Vec<CommandOn<S>>, AllocError>
+fn listed<S: NodeStore<V = u64>>(
+    alloc: Global,
+    base: Base,
+    turn: u64,
+) -> Result<Vec<CommandOn<S>>, AllocError>
 where
     S::K: Sample,
     S::Argument: Asked<S::K>,
 {
     let mut commands = Vec::new(alloc);
-    if turn % 2 == 0 {
-        commands.push(change_of::<S>(alloc, turn)?)?;
+    if base.is_change(turn) {
+        commands.push(change_of::<S>(alloc, base, turn)?)?;
         return Ok(commands);
     }
-    commands.push(hold_of::<S>(alloc, turn)?)?;
+    commands.push(hold_of::<S>(alloc, base, turn)?)?;
     for more in 1..3u64 {
-        let seed = turn.wrapping_add(more.wrapping_mul(LISTS));
-        commands.push(read_of::<S>(alloc, seed)?)?;
+        let seed = turn.wrapping_add(more.wrapping_mul(400));
+        commands.push(read_of::<S>(alloc, base, seed)?)?;
         commands.push(move_of::<S>(seed))?;
     }
     Ok(commands)
@@ -206,13 +305,14 @@ where
 fn replies<S: NodeStore<V = u64>>(
     alloc: Global,
     tree: &mut BPlusTree<S>,
+    base: Base,
     turn: u64,
 ) -> Result<u64, AllocError>
 where
     S::K: Sample,
     S::Argument: Asked<S::K>,
 {
-    let (replies, error) = run(alloc, tree, listed::<S>(alloc, turn)?);
+    let (replies, error) = run(alloc, tree, listed::<S>(alloc, base, turn)?);
     if error.is_some() {
         return Err(AllocError);
     }
@@ -223,40 +323,86 @@ where
     Ok(digest.value())
 }
 
-/// A tree that is given lists of commands, with what was replied, and what another tree replied to all lists.
-#[derive(Drop)]
-pub struct Commanded<S: NodeStore> {
-    tree: BPlusTree<S>,
-    replied: Digest,
-    wanted: u64,
+// A tree of so many pairs. Where its leaves are to be short, three of four pairs leave again.
+fn tree_of<S: NodeStore<V = u64>>(alloc: Global, many: u64) -> Result<BPlusTree<S>, AllocError>
+where
+    S::K: Sample,
+{
+    let base = Base::of(many);
+    if base == Base::Empty {
+        return BPlusTree::new(S::empty(alloc));
+    }
+    let mut pairs = Vec::new(alloc);
+    for place in 0..many {
+        pairs.push((S::K::sample(alloc, base.number_at(place))?, place))?;
+    }
+    if !in_load_order(&pairs) {
+        return Err(AllocError);
+    }
+    let mut tree = BPlusTree::bulk_load(pairs)?;
+    if base == Base::Short {
+        shorten(alloc, &mut tree, base, many)?;
+    }
+    Ok(tree)
 }
 
-// What a new tree replies to all lists, with none refused.
-fn wanted<S: CloneStore<V = u64>>(alloc: Global) -> Result<u64, AllocError>
+// Of each leaf 16 pairs are kept; and then each second leaf is emptied, up to three of the 33 below each node.
+fn shorten<S: NodeStore<V = u64>>(
+    alloc: Global,
+    tree: &mut BPlusTree<S>,
+    base: Base,
+    many: u64,
+) -> Result<(), AllocError>
+where
+    S::K: Sample,
+{
+    for place in 0..many {
+        if place % 64 >= 16 {
+            tree.remove(&S::K::sample(alloc, base.number_at(place))?)?;
+        }
+    }
+    for place in 0..many {
+        let leaf = place / 64 % 33;
+        if place % 64 < 16 && leaf < 30 && leaf % 2 == 0 {
+            tree.remove(&S::K::sample(alloc, base.number_at(place))?)?;
+        }
+    }
+    Ok(())
+}
+
+/// A tree that is given lists of commands, with what was replied.
+#[derive(Drop)]
+pub struct Commanded<S: NodeStore> {
+    many: u64,
+    tree: BPlusTree<S>,
+    replied: Digest,
+}
+
+// What a tree of so many pairs replies to all lists, with none refused.
+fn wanted<S: NodeStore<V = u64>>(alloc: Global, many: u64) -> Result<u64, AllocError>
 where
     S::K: Sample,
     S::Argument: Asked<S::K>,
 {
-    let mut tree: BPlusTree<S> = BPlusTree::new(S::empty(alloc))?;
+    let mut tree: BPlusTree<S> = tree_of(alloc, many)?;
     let mut digest = Digest::new();
-    for turn in 0..LISTS {
-        digest.add(replies(alloc, &mut tree, turn)?);
+    for turn in 0..lists_of(many) {
+        digest.add(replies(alloc, &mut tree, Base::of(many), turn)?);
     }
     Ok(digest.value())
 }
 
-/// Lists of commands: 500 of one change each, and between them 500 of five commands that change nothing.
+/// Lists of one change each, and between them lists of five commands that change nothing.
 impl<S: CloneStore<V = u64>> Subject for Commanded<S>
 where
     S::K: Sample,
     S::Argument: Asked<S::K>,
 {
-    fn made(alloc: Global, _many: u64) -> Result<Commanded<S>, AllocError> {
-        let wanted = wanted::<S>(alloc)?;
+    fn made(alloc: Global, many: u64) -> Result<Commanded<S>, AllocError> {
         Ok(Commanded {
-            tree: BPlusTree::new(S::empty(alloc))?,
+            many,
+            tree: tree_of(alloc, many)?,
             replied: Digest::new(),
-            wanted,
         })
     }
 
@@ -264,16 +410,24 @@ where
         let Call::Own(turn) = call else {
             return Ok(false);
         };
-        let told = replies(alloc, &mut self.tree, turn)?;
+        let told = replies(alloc, &mut self.tree, Base::of(self.many), turn)?;
         self.replied.add(told);
-        Ok(turn.saturating_add(1) < LISTS || self.replied.value() == self.wanted)
+        Ok(true)
     }
 
     fn told(&self) -> (u64, usize) {
         self.tree.told()
     }
 
-    fn is_tidy(self) -> bool {
+    fn is_tidy(&self) -> bool {
         self.tree.is_tidy()
+    }
+
+    fn shape(&self) -> Option<Shape> {
+        self.tree.shape()
+    }
+
+    fn ends_well(&self, alloc: Global) -> bool {
+        wanted::<S>(alloc, self.many) == Ok(self.replied.value())
     }
 }

@@ -3,7 +3,7 @@
 use sweep_bptree::tree::count::Count;
 use sweep_bptree::tree::group::{GroupCount, Tuple2};
 use sweep_bptree::tree::{
-    BPlusTree, InnerNode, InnerNodeId, LeafNode, LeafNodeId, NodeId, NodeStore,
+    BPlusTree, InnerNode, InnerNodeId, LeafNode, LeafNodeId, NodeId, NodeStore, Statistic,
 };
 
 /// Made of words in their order: another word, or another order, makes another number.
@@ -174,7 +174,7 @@ pub fn tell_leaf<K: Told + Ord + Drop, V: Told + Drop>(leaf: &LeafNode<K, V>, di
 }
 
 /// The number of nodes of each kind that are looked for.
-const NUMBERS: usize = 160;
+pub const NUMBERS: usize = 4_400;
 
 /// A store's nodes under the first numbers: their keys, values, links, children and summaries.
 fn tell_store<S: NodeStore>(store: &S, digest: &mut Digest)
@@ -207,7 +207,18 @@ where
     digest.value()
 }
 
-/// A tree's length, height, root and summary, and its store's nodes.
+fn tell_statistic(mended: &Statistic, digest: &mut Digest) {
+    digest.add(mended.rotate_right_inner);
+    digest.add(mended.rotate_left_inner);
+    digest.add(mended.merge_with_left_inner);
+    digest.add(mended.merge_with_right_inner);
+    digest.add(mended.rotate_right_leaf);
+    digest.add(mended.rotate_left_leaf);
+    digest.add(mended.merge_with_left_leaf);
+    digest.add(mended.merge_with_right_leaf);
+}
+
+/// A tree's length, height, root, summary and statistic, and its store's nodes.
 pub fn digest_of<S: NodeStore>(tree: &BPlusTree<S>) -> u64
 where
     S::K: Told,
@@ -219,6 +230,7 @@ where
     digest.add(tree.height() as u64);
     tell_number(tree.root_id(), &mut digest);
     tree.root_argument().tell(&mut digest);
+    tell_statistic(tree.statistic(), &mut digest);
     tell_store(tree.node_store(), &mut digest);
     digest.value()
 }

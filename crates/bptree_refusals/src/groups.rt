@@ -26,8 +26,8 @@ impl<K: Sample, G: Group<K>> Subject for Grouped<K, G> {
                 Ok(size) => Ok(size == Some(170)),
                 Err(_) => Err(AllocError),
             },
-            Call::Own(1) => Ok(map.tree().group_range(&group)?.len() == 170),
-            Call::Own(2) => Ok(map.tree().group_part(&group, 20, 30)?.len() == 30),
+            Call::Own(1) => Ok(map.group_range(&group)?.len() == 170),
+            Call::Own(2) => Ok(map.group_part(&group, 20, 30)?.len() == 30),
             _ => Ok(group_page(map, &group, 8, 20)?.len() == 10),
         }
     }

@@ -1,24 +1,29 @@
-//! Calls that can be refused memory. Each byte of standard input names a scenario, which makes calls, and makes a refused one
-//! again once what it left was looked at. For each it prints its name, whether all was as it should be, and how many
-//! calls were refused.
+//! Calls that can be refused memory. Each letter of standard input, with a digit before it or none, names a scenario, which
+//! makes calls, and makes a refused one again once what it left was looked at. For each it prints its name, whether all was
+//! as it should be, and how many calls were refused.
 #![tactic(auto)]
 
 mod collections;
 mod commands;
 mod digest;
+mod dropped;
 mod groups;
 mod parts;
+mod places;
 mod plans;
 mod quiet;
 mod sample;
 mod serving;
+mod shapes;
 mod summed;
 mod trees;
 mod trial;
 
 use crate::commands::{Asked, Commanded};
+use crate::dropped::{Dropped, LoadedTree, Tallied};
 use crate::groups::Grouped;
-use crate::parts::{InnerGiven, InnerParts, LeafParts, Made, Numbered, Roomy};
+use crate::parts::{InnerGiven, InnerParts, LeafParts, Made, Numbered, Reserved, Roomy};
+use crate::places::Placed;
 use crate::plans::{Plan, plan_of};
 use crate::quiet::{Readings, SetReadings};
 use crate::sample::{Group, Sample};
@@ -35,6 +40,8 @@ type Pair = (String, u64);
 // A scenario on trees.
 fn on_trees<K: Sample, A: Asked<K>>(trial: &mut Trial, letter: u8, plan: &Plan) {
     match letter {
+        b'm' if plan.size > 0 => trial.carry_out::<Reserved<K, A>>(plan),
+        b'o' if plan.size > 0 => trial.carry_out::<Placed<K, A>>(plan),
         b'k' => trial.carry_out::<Commanded<NodeStoreVec<K, u64, A>>>(plan),
         b'l' => trial.carry_out::<Readings<NodeStoreVec<K, u64, A>>>(plan),
         b'm' => trial.carry_out::<Numbered<NodeStoreVec<K, u64, A>>>(plan),
@@ -63,9 +70,19 @@ fn on_asked<K: Sample, G: Group<K>>(trial: &mut Trial, letter: u8, plan: &Plan) 
     }
 }
 
+// A scenario on keys and values whose drops are counted.
+fn on_counted(trial: &mut Trial, letter: u8, plan: &Plan) {
+    match letter {
+        b'g' => trial.carry_out::<Made<Dropped<LoadedTree<NodeStoreVec<Tallied, Tallied>>>>>(plan),
+        b'n' => trial.carry_out::<Made<Dropped<BPlusTreeMap<Tallied, Tallied>>>>(plan),
+        _ => trial.carry_out::<Made<Dropped<BPlusTreeSet<Tallied>>>>(plan),
+    }
+}
+
 // A scenario on numbers.
 fn on_numbers(trial: &mut Trial, letter: u8, plan: &Plan) {
     match letter {
+        b'g' | b'n' | b't' if plan.size > 0 => on_counted(trial, letter, plan),
         b'a'..=b'p' => on_trees::<u64, Count>(trial, letter, plan),
         b'w' => trial.carry_out::<Made<InnerGiven>>(plan),
         b'y' => trial.carry_out::<Counted<u64>>(plan),
@@ -83,30 +100,33 @@ fn on_groups(trial: &mut Trial, letter: u8, plan: &Plan) {
 }
 
 // A byte that names no scenario is not as it should be.
-fn carry_out(trial: &mut Trial, byte: u8) {
+fn carry_out(trial: &mut Trial, byte: u8, size: u8) {
     let letter = byte.to_ascii_lowercase();
-    match (plan_of(letter, byte != letter), byte) {
+    match (plan_of(letter, size, byte != letter), byte) {
         (Some(plan), b'a'..=b'z') => on_numbers(trial, letter, &plan),
         (Some(plan), _) => on_groups(trial, letter, &plan),
-        (None, b'1') => serving::few_lines(trial),
-        (None, b'2') => serving::many_lines(trial),
+        (None, b'z') => serving::few_lines(trial),
+        (None, b'Z') => serving::many_lines(trial),
         (None, _) => trial.check(false),
     }
 }
 
 fn main(rt: HostRuntime) -> ExitCode {
-    let mut letters = [0u8; 64];
+    let mut letters = [0u8; 256];
     let Ok(count) = rt.stdin().read(&mut letters) else {
         return ExitCode::FAILURE;
     };
     let mut all = true;
+    let mut size = 0;
     for letter in &letters[..count] {
-        if *letter == b'\n' {
-            continue;
+        if letter.is_ascii_digit() {
+            size = letter.wrapping_sub(b'0');
+        } else if *letter != b'\n' {
+            let mut trial = Trial::new(&rt);
+            carry_out(&mut trial, *letter, size);
+            all = trial.tell() && all;
+            size = 0;
         }
-        let mut trial = Trial::new(&rt);
-        carry_out(&mut trial, *letter);
-        all = trial.tell() && all;
     }
     if all {
         ExitCode::SUCCESS

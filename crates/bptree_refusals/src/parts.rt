@@ -9,7 +9,8 @@ use crate::trial::Subject;
 use std::alloc::{AllocError, Global};
 use std::marker::PhantomData;
 use sweep_bptree::tree::{
-    Argument, InnerNode, LeafNode, LeafNodeId, NodeId, NodeStore, NodeStoreVec,
+    Argument, CloneArgument, CloneStore, InnerNode, LeafNode, LeafNodeId, NodeId, NodeStore,
+    NodeStoreVec,
 };
 
 /// What is made of memory, and tells one number.
@@ -118,15 +119,39 @@ impl<K: Sample, A: Argument<K>> Part for Roomy<K, A> {
     }
 }
 
+/// A store that has room for eight nodes of each kind.
+#[derive(Drop)]
+pub struct Reserved<K: Sample, A: Argument<K>>(NodeStoreVec<K, u64, A>);
+
+// Whether a number of each kind is held, and has no node.
+fn holds_two<S: NodeStore>(store: &mut S) -> Result<bool, AllocError> {
+    let leaf = store.reserve_leaf()?;
+    let inner = store.reserve_inner()?;
+    Ok(store.try_get_leaf(leaf).is_none() && store.try_get_inner(inner).is_none())
+}
+
+impl<K: Sample, A: Argument<K>> Subject for Reserved<K, A> {
+    fn made(alloc: Global, many: u64) -> Result<Reserved<K, A>, AllocError> {
+        Ok(Reserved(NodeStoreVec::with_capacity(alloc, many as usize)?))
+    }
+
+    fn answers(&mut self, _alloc: Global, _call: Call) -> Result<bool, AllocError> {
+        Ok(holds_two(&mut self.0)? && !self.0.is_empty())
+    }
+
+    fn told(&self) -> (u64, usize) {
+        (0, 8)
+    }
+}
+
 /// A store whose numbers are held, released and taken by nodes.
 #[derive(Drop)]
 pub struct Numbered<S>(S);
 
-impl<S: NodeStore> Subject for Numbered<S>
+impl<S: CloneStore<V = u64>> Subject for Numbered<S>
 where
     S::K: Told,
-    S::V: Told,
-    S::Argument: Told,
+    S::Argument: CloneArgument<S::K> + Told,
 {
     fn made(alloc: Global, _many: u64) -> Result<Numbered<S>, AllocError> {
         Ok(Numbered(S::empty(alloc)))
@@ -166,7 +191,10 @@ where
         (told_store(&self.0), 0)
     }
 
-    fn is_tidy(self) -> bool {
-        holds_none(self.0)
+    fn is_tidy(&self) -> bool {
+        match self.0.clone() {
+            Ok(store) => holds_none(store),
+            Err(_) => false,
+        }
     }
 }

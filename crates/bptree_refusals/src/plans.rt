@@ -21,6 +21,7 @@ pub enum Call {
 #[derive(Clone, Copy)]
 pub struct Plan {
     letter: u8,
+    pub size: u8,
     pub name: &'static str,
     /// How many pairs or keys it begins with.
     pub many: u64,
@@ -32,8 +33,15 @@ pub struct Plan {
     pub most: usize,
 }
 
-/// How many lists of commands there are.
-pub const LISTS: u64 = 400;
+/// How many lists of commands a tree is given: with no pairs at first, with 100, with 4161, or with 4224 of which few are kept.
+pub fn lists_of(many: u64) -> u64 {
+    match many {
+        0 => 400,
+        100 => 240,
+        4161 => 70,
+        _ => 32,
+    }
+}
 
 /// No scenario has as many turns.
 pub const TURNS: u64 = 4200;
@@ -96,6 +104,9 @@ fn high(turn: u64, after: u64, height: usize) -> Option<Call> {
 impl Plan {
     /// The call of a turn, or none where there is no more.
     pub fn call_at(&self, turn: u64) -> Option<Call> {
+        if self.size > 0 {
+            return self.call_of_larger(turn);
+        }
         match self.letter {
             b'a' => full_leaf(turn),
             b'b' => full_root(turn),
@@ -113,15 +124,39 @@ impl Plan {
             b'i' if turn == 0 => Some(Call::Clear),
             b'i' => high(turn, 1, 0),
             b'j' => own(turn, 2),
-            b'k' => own(turn, LISTS),
+            b'k' => own(turn, lists_of(self.many)),
             b'l' => own(turn, 6),
             b'm' => own(turn, 24),
             b'o' => halved(turn, false),
             b'u' => halved(turn, true),
             b's' if turn < 2 => Some(Call::Own(turn.saturating_add(2))),
             b'v' | b'x' => own(turn, 4),
-            b'y' => own(turn, 21),
+            b'y' => own(turn, 24),
             _ => None,
+        }
+    }
+
+    // The same of a scenario that has a digit.
+    fn call_of_larger(&self, turn: u64) -> Option<Call> {
+        match self.letter {
+            // 65 full nodes of 65 full leaves stand below a full root.
+            b'b' if turn == 0 => Some(Call::Put(self.many, 0, None)),
+            b'b' => high(turn, 1, 3),
+            // The last pair is removed, till a node above the leaves is mended.
+            b'e' if turn < self.last_turn() => Some(removed(self.many.saturating_sub(turn + 1))),
+            b'e' => high(turn, self.last_turn(), 3),
+            b'k' => own(turn, lists_of(self.many)),
+            b'm' => own(turn, 8),
+            b'o' => own(turn, 20),
+            _ => None,
+        }
+    }
+
+    // The turn behind the last removal.
+    fn last_turn(&self) -> u64 {
+        match self.begins {
+            Some(turn) => turn.saturating_add(3).min(TURNS),
+            None => 0,
         }
     }
 }
@@ -214,8 +249,103 @@ const ROWS: [(u64, Option<u64>, usize, usize); 25] = [
     (5000, Some(0), 5000, 5000),
 ];
 
-/// The plan of a letter, as it is called on groups or on numbers.
-pub fn plan_of(letter: u8, on_groups: bool) -> Option<Plan> {
+// A scenario on a larger tree, or by other calls: its letter and its digit, its names on numbers and on groups, and the rest.
+type Row = (
+    (u8, u8),
+    (&'static str, &'static str),
+    (u64, Option<u64>, usize, usize),
+);
+
+const LARGER: [Row; 11] = [
+    (
+        (b'b', 1),
+        ("numbers, full root, high", "groups, full root, high"),
+        (270_400, Some(0), 270_401, 270_401),
+    ),
+    (
+        (b'e', 1),
+        ("numbers, a loan, high", "groups, a loan, high"),
+        (270_401, Some(1057), 269_341, 269_341),
+    ),
+    (
+        (b'e', 2),
+        ("numbers, a merge, high", "groups, a merge, high"),
+        (270_401, Some(2081), 268_317, 268_317),
+    ),
+    (
+        (b'k', 1),
+        ("numbers, commands, low", "groups, commands, low"),
+        (100, Some(0), 1, 399),
+    ),
+    (
+        (b'k', 2),
+        ("numbers, commands upward", "groups, commands upward"),
+        (4161, Some(0), 4162, 4231),
+    ),
+    (
+        (b'k', 3),
+        ("numbers, commands downward", "groups, commands downward"),
+        (4224, Some(0), 540, 580),
+    ),
+    (
+        (b'm', 1),
+        (
+            "numbers, room for eight, without memory",
+            "groups, room for eight, without memory",
+        ),
+        (8, Some(0), 8, 8),
+    ),
+    (
+        (b'o', 1),
+        (
+            "numbers, map by places, without memory",
+            "groups, map by places",
+        ),
+        (400, Some(0), 392, 392),
+    ),
+    (
+        (b'g', 1),
+        ("counted pairs, loaded", "counted pairs, loaded"),
+        (0, None, 0, 0),
+    ),
+    (
+        (b'n', 1),
+        (
+            "counted pairs, map of items, with a hint",
+            "counted pairs, map of items, with a hint",
+        ),
+        (0, None, 0, 0),
+    ),
+    (
+        (b't', 1),
+        ("counted keys, set of items", "counted keys, set of items"),
+        (0, None, 0, 0),
+    ),
+];
+
+// The plan of a scenario that has a digit.
+fn larger(letter: u8, size: u8, on_groups: bool) -> Option<Plan> {
+    for (key, names, (many, begins, least, most)) in &LARGER {
+        if *key == (letter, size) {
+            return Some(Plan {
+                letter,
+                size,
+                name: if on_groups { names.1 } else { names.0 },
+                many: *many,
+                begins: *begins,
+                least: *least,
+                most: *most,
+            });
+        }
+    }
+    None
+}
+
+/// The plan of a letter and a digit, where that is not 0, as it is called on groups or on numbers.
+pub fn plan_of(letter: u8, size: u8, on_groups: bool) -> Option<Plan> {
+    if size > 0 {
+        return larger(letter, size, on_groups);
+    }
     let place = letter.checked_sub(b'a')? as usize;
     let names = if on_groups {
         &GROUP_NAMES
@@ -225,6 +355,7 @@ pub fn plan_of(letter: u8, on_groups: bool) -> Option<Plan> {
     let (many, begins, least, most) = *ROWS.get(place)?;
     Some(Plan {
         letter,
+        size,
         name: *names.get(place)?,
         many,
         begins,

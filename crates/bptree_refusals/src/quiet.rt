@@ -148,7 +148,7 @@ where
         self.tree.told()
     }
 
-    fn is_tidy(self) -> bool {
+    fn is_tidy(&self) -> bool {
         self.tree.is_tidy()
     }
 }
@@ -163,10 +163,13 @@ pub struct SetReadings<K: Sample> {
     gone: K,
 }
 
-// How many keys of two sets there are together, and how many the second hands over.
+// How many keys of two sets there are together, with those that one has alone, and how many the second hands over.
 fn counted<K: Sample>(one: &BPlusTreeSet<K>, other: BPlusTreeSet<K>) -> usize {
     let mut count: usize = 0;
     for _key in one.union(&other) {
+        count = count.saturating_add(1);
+    }
+    for _key in one.difference(&other) {
         count = count.saturating_add(1);
     }
     for _key in other {

@@ -5,6 +5,7 @@ use crate::sample::{Group, Sample, pairs_of};
 use crate::trial::Subject;
 use std::alloc::{AllocError, Global};
 use sweep_bptree::BPlusTreeMap;
+use sweep_bptree::page::{page, page_of, pages};
 use sweep_bptree::tree::Argument;
 use sweep_bptree::tree::count::Count;
 use sweep_bptree::tree::group::GroupCount;
@@ -126,6 +127,16 @@ fn pairs_between<'a, K: Sample>(
     map.range_len(lo, hi)
 }
 
+// How many pairs the fourth page of 20 has.
+fn pairs_of_page<K: Sample>(map: &BPlusTreeMap<K, u64, Count>) -> Result<usize, AllocError> {
+    Ok(page(map, 3, 20)?.len())
+}
+
+// The page of 20 on which a key stands.
+fn page_of_key<K: Sample>(map: &BPlusTreeMap<K, u64, Count>, key: &K) -> Result<usize, AllocError> {
+    Ok(page_of(map, key, 20)?.unwrap_or(usize::MAX))
+}
+
 impl<K: Sample> Subject for Counted<K> {
     fn made(alloc: Global, many: u64) -> Result<Counted<K>, AllocError> {
         Ok(Counted(Heights::made(alloc, many)?))
@@ -143,6 +154,9 @@ impl<K: Sample> Subject for Counted<K> {
             1 => (pairs_between(map, Some(&lo), None), (20, 380, 4980)),
             2 => (pairs_between(map, None, Some(&lo)), (20, 20, 20)),
             3 => (pairs_between(map, Some(&lo), Some(&hi)), (20, 380, 4880)),
+            5 => (pairs_of_page(map)?, (0, 20, 20)),
+            6 => (pages(map, 20), (2, 20, 250)),
+            7 => (page_of_key(map, &lo)?, (1, 1, 1)),
             _ => (pairs_between(map, Some(&hi), Some(&lo)), (0, 0, 0)),
         };
         Ok(self.0.are_three() && count == wanted(turn, numbers))

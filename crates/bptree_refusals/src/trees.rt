@@ -3,6 +3,7 @@
 use crate::digest::{Digest, Told, digest_of, holds_none, told_store, word_of};
 use crate::plans::Call;
 use crate::sample::{Sample, pairs_of};
+use crate::shapes::{Shape, shape_of};
 use crate::trial::Subject;
 use std::alloc::{AllocError, Global};
 use sweep_bptree::script::End;
@@ -46,9 +47,10 @@ fn steps<S: NodeStore>(tree: &BPlusTree<S>, from: End) -> Result<usize, AllocErr
     for _turn in 0..tree.len() {
         let Some(here) = &cursor else { break };
         count = count.saturating_add(1);
+        let copy = here.clone()?;
         cursor = match from {
-            End::Front => here.next(tree)?,
-            End::Back => here.prev(tree)?,
+            End::Front => copy.next(tree)?,
+            End::Back => copy.prev(tree)?,
         };
     }
     Ok(if cursor.is_none() { count } else { 0 })
@@ -143,7 +145,11 @@ where
         (digest_of(self), self.len())
     }
 
-    fn is_tidy(self) -> bool {
-        is_tidy_tree(&self)
+    fn is_tidy(&self) -> bool {
+        is_tidy_tree(self)
+    }
+
+    fn shape(&self) -> Option<Shape> {
+        Some(shape_of(self))
     }
 }

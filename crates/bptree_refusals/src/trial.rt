@@ -1,6 +1,7 @@
 //! Scenarios: something is made and called, and what is refused is made or called again.
 
 use crate::plans::{Call, Plan, TURNS};
+use crate::shapes::{Seen, Shape};
 use std::alloc::{AllocError, Global};
 
 /// What a scenario is about.
@@ -15,7 +16,17 @@ pub trait Subject: Drop + Sized {
     fn told(&self) -> (u64, usize);
 
     /// Whether its store holds no number but those of its nodes.
-    fn is_tidy(self) -> bool {
+    fn is_tidy(&self) -> bool {
+        true
+    }
+
+    /// How the nodes of its tree stand, where it has one that is told of.
+    fn shape(&self) -> Option<Shape> {
+        None
+    }
+
+    /// Whether all that was answered is what is answered where nothing is refused.
+    fn ends_well(&self, _alloc: Global) -> bool {
         true
     }
 }
@@ -26,6 +37,7 @@ pub struct Trial<'a> {
     rt: &'a HostRuntime,
     refused: u64,
     is_well: bool,
+    seen: Option<Seen>,
 }
 
 impl<'a> Trial<'a> {
@@ -34,6 +46,7 @@ impl<'a> Trial<'a> {
             rt,
             refused: 0,
             is_well: true,
+            seen: None,
         }
     }
 
@@ -66,11 +79,22 @@ impl<'a> Trial<'a> {
         self.check(is_said);
     }
 
-    /// Prints whether all was as it should be, which is the answer, and how many calls were refused.
+    /// Prints whether all was as it should be, which is the answer, and how many calls were refused. Behind that stands the
+    /// height of the tree that was refused, and what the same call does to its nodes when it is made again.
     pub fn tell(self) -> bool {
         let word = if self.is_well { "ok" } else { "failed" };
         let refused = self.refused;
-        println!(self.rt; " {word}, {refused} refused").is_ok() && self.is_well
+        let (height, leaves, inners, root) = match &self.seen {
+            Some(seen) => (
+                seen.height(),
+                seen.of_leaves(),
+                seen.of_inners(),
+                seen.of_root(),
+            ),
+            None => ("", "", "", ""),
+        };
+        let is_said = println!(self.rt; " {word}, {refused} refused{height}{leaves}{inners}{root}");
+        is_said.is_ok() && self.is_well
     }
 
     fn make<T: Subject>(&mut self, many: u64) -> Result<T, AllocError> {
@@ -83,17 +107,28 @@ impl<'a> Trial<'a> {
         }
     }
 
-    // A refused call must leave all as the calls before its turn made it, and is made again.
+    // A refused call must leave all as the calls before its turn made it, with no number held, and is made again.
     fn call<T: Subject>(&mut self, subject: &mut T, plan: &Plan, turn: u64, call: Call) {
         let is_well = match subject.answers(self.allocator(), call) {
             Ok(is_well) => is_well,
             Err(_) => {
                 self.count();
                 let before = told_before::<T>(self.allocator(), plan, turn);
-                Ok(subject.told()) == before && subject.answers(self.allocator(), call) == Ok(true)
+                let is_kept = Ok(subject.told()) == before && subject.is_tidy();
+                is_kept && self.call_again(subject, call)
             }
         };
         self.check(is_well);
+    }
+
+    // Whether a call that was refused is answered as it is to be when it is made again.
+    fn call_again<T: Subject>(&mut self, subject: &mut T, call: Call) -> bool {
+        let before = subject.shape();
+        let is_well = subject.answers(self.allocator(), call) == Ok(true);
+        if let (Some(before), Some(after)) = (before, subject.shape()) {
+            self.seen = Some(Seen { before, after });
+        }
+        is_well
     }
 
     /// Carries out a scenario. What is made after a refusal has to be the same as where nothing is refused.
@@ -119,7 +154,7 @@ impl<'a> Trial<'a> {
         self.end();
         let (_, len) = subject.told();
         let is_long = plan.least <= len && len <= plan.most;
-        self.check(is_long && subject.is_tidy());
+        self.check(is_long && subject.is_tidy() && subject.ends_well(self.allocator()));
         if plan.begins.is_none() {
             let is_same = match T::made(self.allocator(), plan.many) {
                 Ok(again) => again.told() == made,

@@ -1,0 +1,116 @@
+//! Maps that are asked for places and ranks, and lose pairs by a place or from the front.
+
+use crate::commands::Asked;
+use crate::digest::digest_of;
+use crate::plans::Call;
+use crate::sample::{Sample, pairs_of};
+use crate::shapes::{Shape, shape_of};
+use crate::trees::is_tidy_tree;
+use crate::trial::Subject;
+use std::alloc::{AllocError, Global};
+use sweep_bptree::BPlusTreeMap;
+use sweep_bptree::tree::SelectError;
+
+/// A map that loses its first pair in each round, and one from the middle.
+#[derive(Drop)]
+pub struct Placed<K: Sample, A: Asked<K>>(BPlusTreeMap<K, u64, A>);
+
+// Whether a map has the pair of a number at a place of the first group, and ranks its key.
+fn has_at<K: Sample, A: Asked<K>>(
+    alloc: Global,
+    map: &BPlusTreeMap<K, u64, A>,
+    place: usize,
+    number: u64,
+) -> Result<bool, AllocError> {
+    let query = A::query(alloc, 0, place)?;
+    let Some((key, value)) = map.get_by_argument(query)? else {
+        return Ok(false);
+    };
+    Ok(*value == number && map.rank_by_argument(key)?.is_ok())
+}
+
+// Writes the value of a number at a place of the first group, where it stands already.
+fn writes_at<K: Sample, A: Asked<K>>(
+    alloc: Global,
+    map: &mut BPlusTreeMap<K, u64, A>,
+    place: usize,
+    number: u64,
+) -> Result<bool, AllocError> {
+    let query = A::query(alloc, 0, place)?;
+    match map.get_mut_by_argument(query) {
+        Ok(value) => {
+            let is_there = *value == number;
+            *value = number;
+            Ok(is_there)
+        }
+        Err(SelectError::OutOfMemory) => Err(AllocError),
+        Err(SelectError::NotFound) => Ok(false),
+    }
+}
+
+// Whether three pairs from a place of the first group on have the values of a number and the next ones.
+fn has_three<K: Sample, A: Asked<K>>(
+    alloc: Global,
+    map: &BPlusTreeMap<K, u64, A>,
+    place: usize,
+    number: u64,
+) -> Result<bool, AllocError> {
+    let query = A::query(alloc, 0, place)?;
+    let mut pairs = map.range_by_argument(query, 3)?;
+    let mut all = pairs.len() == 3;
+    for more in 0..3u64 {
+        all = all
+            && match pairs.next() {
+                Some((_, value)) => *value == number.wrapping_add(more),
+                None => false,
+            };
+    }
+    Ok(all)
+}
+
+// Whether a pair has the value of a number.
+fn is_of<K: Drop>(pair: Option<(K, u64)>, number: u64) -> bool {
+    match pair {
+        Some((_, value)) => value == number,
+        None => false,
+    }
+}
+
+impl<K: Sample, A: Asked<K>> Subject for Placed<K, A> {
+    fn made(alloc: Global, many: u64) -> Result<Placed<K, A>, AllocError> {
+        let map = BPlusTreeMap::from_iter(alloc, pairs_of(alloc, many, true)?)?;
+        Ok(Placed(map))
+    }
+
+    // In each round the first pair has gone that was there before, and of the pairs from 100 on each second one.
+    fn answers(&mut self, alloc: Global, call: Call) -> Result<bool, AllocError> {
+        let Call::Own(turn) = call else {
+            return Ok(false);
+        };
+        let map = &mut self.0;
+        let round = turn / 5;
+        match turn % 5 {
+            0 => has_at(alloc, map, 5, round.wrapping_add(5)),
+            1 => writes_at(alloc, map, 7, round.wrapping_add(7)),
+            2 => has_three(alloc, map, 9, round.wrapping_add(9)),
+            3 => {
+                let query = A::query(alloc, 0, 100)?;
+                let number = round.wrapping_mul(2).wrapping_add(100);
+                Ok(is_of(map.remove_by_argument(query)?, number))
+            }
+            _ => Ok(is_of(map.pop_first()?, round)),
+        }
+    }
+
+    fn told(&self) -> (u64, usize) {
+        (digest_of(self.0.tree()), self.0.len())
+    }
+
+    fn is_tidy(&self) -> bool {
+        is_tidy_tree(self.0.tree())
+    }
+
+    fn shape(&self) -> Option<Shape> {
+        Some(shape_of(self.0.tree()))
+    }
+}

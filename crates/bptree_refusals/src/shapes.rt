@@ -1,0 +1,113 @@
+//! How the nodes of a tree stand, and what a call does to them.
+
+use crate::digest::NUMBERS;
+use sweep_bptree::tree::{BPlusTree, InnerNodeId, LeafNodeId, NodeStore};
+
+/// The height of a tree, the number of its nodes, and how often it was mended by rotations and by merges.
+#[derive(Clone, Copy)]
+pub struct Shape {
+    height: usize,
+    leaves: usize,
+    inners: usize,
+    rotated_leaves: u64,
+    rotated_inners: u64,
+    merged_leaves: u64,
+    merged_inners: u64,
+}
+
+/// The shape of a tree.
+pub fn shape_of<S: NodeStore>(tree: &BPlusTree<S>) -> Shape {
+    let store = tree.node_store();
+    let mut leaves: usize = 0;
+    let mut inners: usize = 0;
+    for number in 0..NUMBERS {
+        let is_leaf = store.try_get_leaf(LeafNodeId::from_usize(number)).is_some();
+        let is_inner = store
+            .try_get_inner(InnerNodeId::from_usize(number))
+            .is_some();
+        leaves = leaves.saturating_add(is_leaf as usize);
+        inners = inners.saturating_add(is_inner as usize);
+    }
+    let mended = tree.statistic();
+    Shape {
+        height: tree.height(),
+        leaves,
+        inners,
+        rotated_leaves: mended
+            .rotate_right_leaf
+            .saturating_add(mended.rotate_left_leaf),
+        rotated_inners: mended
+            .rotate_right_inner
+            .saturating_add(mended.rotate_left_inner),
+        merged_leaves: mended
+            .merge_with_left_leaf
+            .saturating_add(mended.merge_with_right_leaf),
+        merged_inners: mended
+            .merge_with_left_inner
+            .saturating_add(mended.merge_with_right_inner),
+    }
+}
+
+/// A call that was refused, and then was made again: how the nodes stood before and behind it.
+#[derive(Clone, Copy)]
+pub struct Seen {
+    pub before: Shape,
+    pub after: Shape,
+}
+
+impl Seen {
+    /// The height at which it was refused, as far as there is a digit for it.
+    pub fn height(&self) -> &'static str {
+        match self.before.height {
+            0 => ", height 0",
+            1 => ", height 1",
+            2 => ", height 2",
+            3 => ", height 3",
+            _ => ", higher",
+        }
+    }
+
+    /// What it does to the leaves.
+    pub fn of_leaves(&self) -> &'static str {
+        let Seen { before, after } = self;
+        if after.merged_leaves > before.merged_leaves {
+            ", leaf merge"
+        } else if after.rotated_leaves > before.rotated_leaves {
+            ", leaf rotation"
+        } else if after.leaves > before.leaves {
+            ", leaf split"
+        } else {
+            ""
+        }
+    }
+
+    /// What it does to the inner nodes.
+    pub fn of_inners(&self) -> &'static str {
+        let Seen { before, after } = self;
+        if after.merged_inners > before.merged_inners {
+            ", inner merge"
+        } else if after.rotated_inners > before.rotated_inners {
+            ", inner rotation"
+        } else if after.inners > before.inners.saturating_add(1) || self.is_split_alone() {
+            ", inner split"
+        } else {
+            ""
+        }
+    }
+
+    // Whether a node was split below a root that stays.
+    fn is_split_alone(&self) -> bool {
+        self.after.inners > self.before.inners && self.after.height == self.before.height
+    }
+
+    /// Whether the root is taken away, or a new one is put above it.
+    pub fn of_root(&self) -> &'static str {
+        if self.after.height < self.before.height {
+            ", root away"
+        } else if self.after.height > self.before.height {
+            ", new root"
+        } else {
+            ""
+        }
+    }
+}
