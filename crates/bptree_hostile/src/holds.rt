@@ -9,7 +9,9 @@ use std::alloc::{AllocError, Global};
 use std::mem;
 use sweep_bptree::script::{Command, run};
 use sweep_bptree::tree::count::Count;
-use sweep_bptree::tree::{BPlusTree, CloneArgument, Iter, NodeStore, RankArgument, SearchArgument};
+use sweep_bptree::tree::{
+    Argument, BPlusTree, CloneArgument, Iter, NodeStore, RankArgument, SearchArgument,
+};
 use sweep_bptree::{BPlusTreeMap, BPlusTreeSet, CloneStore};
 
 /// What holds pairs, and is empty at first. Each call answers false where a reply or what is held is not as the list has it.
