@@ -5,12 +5,11 @@ use std::io;
 use std::io::{Read, Write};
 use sweep_bptree::script::{ServeError, serve};
 
-/// Bytes that are read in two pieces, each as far as there is room. What it has to print comes before the second.
+/// Bytes that are read in two pieces, each as far as there is room.
 #[derive(Drop)]
 struct Source<'a> {
     first: &'a [u8],
     second: &'a [u8],
-    sign: Option<(&'a HostRuntime, &'a str)>,
 }
 
 impl<'a> Source<'a> {
@@ -18,7 +17,6 @@ impl<'a> Source<'a> {
         Source {
             first: bytes,
             second: &[],
-            sign: None,
         }
     }
 }
@@ -26,9 +24,6 @@ impl<'a> Source<'a> {
 impl Read for Source<'_> {
     fn read(&mut self, buf: &mut [u8]) -> io::Result<usize> {
         if self.first.is_empty() {
-            if let Some((rt, name)) = self.sign.take() {
-                print!(rt; "{name}")?;
-            }
             self.first = self.second;
             self.second = &[];
         }
@@ -40,18 +35,21 @@ impl Read for Source<'_> {
     }
 }
 
-/// The bytes that were written, at most so many as there is room for.
+/// The bytes that were written, at most so many as there is room for. Where it is told a runtime, it prints the name of the
+/// lines that put when it is written to: so what is answered at once before is never refused.
 #[derive(Drop)]
-struct Sink {
+struct Sink<'a> {
     bytes: [u8; 4096],
     count: usize,
+    sign: Option<&'a HostRuntime>,
 }
 
-impl Sink {
-    fn new() -> Sink {
+impl<'a> Sink<'a> {
+    fn new(sign: Option<&'a HostRuntime>) -> Sink<'a> {
         Sink {
             bytes: [0; 4096],
             count: 0,
+            sign,
         }
     }
 
@@ -60,8 +58,11 @@ impl Sink {
     }
 }
 
-impl Write for Sink {
+impl Write for Sink<'_> {
     fn write(&mut self, buf: &[u8]) -> io::Result<usize> {
+        if let Some(rt) = self.sign.take() {
+            print!(rt; "lines that put")?;
+        }
         let start = self.count.min(4096);
         let count = buf.len().min(4096 - start);
         self.bytes[start..start + count].copy_from_slice(&buf[..count]);
@@ -81,20 +82,21 @@ const OUTPUT: &str = "new\nnew\nold 20\nin 1\nout 2\n1 10\n2 21\ngone 10\n2 21\n
 
 // Whether an input is answered so. Where it is refused, so many of the answers must be there as a line may have before it
 // that takes memory.
-fn answers(
-    trial: &mut Trial,
+fn answers<'a>(
+    trial: &mut Trial<'a>,
+    sign: Option<&'a HostRuntime>,
     source: &mut Source<'_>,
     again: &mut Source<'_>,
     output: &[u8],
     may_be_refused: fn(usize) -> bool,
 ) -> bool {
-    let mut sink = Sink::new();
+    let mut sink = Sink::new(sign);
     match serve(trial.allocator(), source, &mut sink) {
         Ok(()) => sink.written() == output,
         Err(ServeError::Io) => false,
         Err(ServeError::OutOfMemory) => {
             trial.count();
-            let mut rest = Sink::new();
+            let mut rest = Sink::new(None);
             output.starts_with(sink.written())
                 && may_be_refused(sink.count)
                 && serve(trial.allocator(), again, &mut rest) == Ok(())
@@ -116,6 +118,7 @@ pub fn few_lines(trial: &mut Trial) {
     let mut again = Source::of(input);
     let is_well = answers(
         trial,
+        None,
         &mut source,
         &mut again,
         OUTPUT.as_bytes(),
@@ -150,13 +153,17 @@ pub fn many_lines(trial: &mut Trial) {
         output[place * 4..place * 4 + 3].copy_from_slice(b"new");
     }
     let (first, second) = input.split_at(770);
-    let mut source = Source {
-        first,
-        second,
-        sign: Some((trial.runtime(), "lines that put")),
-    };
+    let mut source = Source { first, second };
     let mut again = Source::of(&input);
-    let is_well = answers(trial, &mut source, &mut again, &output, is_before_split);
+    let sign = Some(trial.runtime());
+    let is_well = answers(
+        trial,
+        sign,
+        &mut source,
+        &mut again,
+        &output,
+        is_before_split,
+    );
     trial.check(is_well);
     trial.end();
 }
