@@ -54,10 +54,6 @@ impl<'a> Trial<'a> {
         self.rt.alloc()
     }
 
-    pub fn runtime(&self) -> &'a HostRuntime {
-        self.rt
-    }
-
     pub fn count(&mut self) {
         self.refused = self.refused.wrapping_add(1);
     }
