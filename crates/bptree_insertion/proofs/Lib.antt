@@ -1,2 +1,3 @@
+pub mod AtHand
 pub mod Placed
 pub mod Upserted

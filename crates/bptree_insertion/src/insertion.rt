@@ -9,6 +9,7 @@ ghost use Rattle.bptree_nodes.specs.Slot.{Slots, Present, IsPresent, UpdatesLeaf
 ghost use Rattle.bptree_ascent.specs.Change.{StartsAt, Mends};
 ghost use Rattle.bptree_ascent.specs.LeafChange.{Adds, DividesLeaf, SumsUpLeaf, HasSlotAt, AreHalves};
 ghost use Rattle.bptree_insertion.specs.Puts.{IsDue, IsPlaced, IsPlacedUpTo, IsPut, risen};
+ghost use Rattle.bptree_stores.specs.Hint.{HoldsKey};
 ghost use Rattle.bptree_shape.specs.Shape.{leaf_pairs, pairs_at, IsWellShaped};
 
 use bptree_arguments::argument::Argument;
@@ -281,11 +282,60 @@ pub fn is_full(len: usize) -> bool
     len == usize::MAX
 }
 
+// The remembered leaf, where it holds the key and has room, and where no node above it is told of a change: every value
+// is a summary of every list.
+#[inline(always)]
+fn leaf_at_hand<S: NodeStore>(store: &S, k: &S::K) -> Option<LeafNodeId>
+    ensures holds { IfSome result (λ leaf. HoldsKey S.K.cmp ((S.slots store.now).leaf leaf.0) k.now) }
+    ensures room { IfSome result (λ leaf. length (leaf_pairs ((S.slots store.now).leaf leaf.0)) < 64) }
+    ensures any { IfSome result (λ leaf. (a : S.Argument) (keys : List S.K) → S.Argument.is_summary a keys) }
+{
+    if !S::Argument::is_zst() {
+        return None;
+    }
+    let leaf = store.try_cache(k)?;
+    if store.get_leaf(leaf).is_full() {
+        return None;
+    }
+    Some(leaf)
+}
+
+// Puts a pair into a leaf that holds its key and has room, where every value is a summary of every list. No other node is
+// touched.
+fn put_at_hand<S: NodeStore>(
+    store: &mut S,
+    root: NodeId,
+    height: usize,
+    leaf: LeafNodeId,
+    k: S::K,
+    v: S::V,
+) -> Result<Put<S::V, S::Argument>, (S::K, S::V)>
+    requires shape { IsWellShaped S.K.cmp S.Argument.is_summary (S.slots store.old) height root }
+    requires room { has S.K.cmp (pairs_at (S.slots store.old) height root) k ≡ false → length (pairs_at (S.slots store.old) height root) + 1 < 2 ^ 64 }
+    requires holds { HoldsKey S.K.cmp ((S.slots store.old).leaf leaf.0) k }
+    requires few { length (leaf_pairs ((S.slots store.old).leaf leaf.0)) < 64 }
+    requires any { (a : S.Argument) (keys : List S.K) → S.Argument.is_summary a keys }
+    ensures put { IfOk result (IsPut S.K.cmp S.Argument.is_summary (S.slots store.old) (S.slots store.new) height root k v) }
+    ensures refused { OnErr result (S.slots store.new ≡ S.slots store.old) }
+    ensures handed_back { IfErr result (λ pair. pair ≡ (k, v)) }
+    ensures absent { OnErr result (has S.K.cmp (pairs_at (S.slots store.old) height root) k ≡ false) }
+{
+    let found = store.get_leaf(leaf).locate_slot(&k);
+    match found {
+        Ok(place) => Ok(Put::Replaced(replace_at(store, leaf, place, v))),
+        Err(slot) => match add_at(store, leaf, slot, k, v) {
+            Ok(summary) => Ok(Put::Added(root, height, summary)),
+            Err(pair) => Err(pair),
+        },
+    }
+}
+
 /// Puts a pair into a whole tree.
 ///
 /// An equal key stays, and its value alone is replaced. A new key's leaf, and each node above it, takes a new summary;
 /// each of them that is full is split. A refusal hands the pair back, and no slot has changed. What the path held before
-/// plays no part: it is lent, so that none need be made.
+/// plays no part: it is lent, so that none need be made. Where no summary is kept, the leaf is given to the store to
+/// remember, and a pair that belongs into the remembered leaf takes no way down, as long as that leaf has room.
 pub fn upsert<S: NodeStore>(
     store: &mut S,
     path: &mut VisitStack,
@@ -302,8 +352,14 @@ pub fn upsert<S: NodeStore>(
     ensures handed_back { IfErr result (λ pair. pair ≡ (k, v)) }
     ensures absent { OnErr result (has S.K.cmp (pairs_at (S.slots store.old) height root) k ≡ false) }
 {
+    if let Some(leaf) = leaf_at_hand(store, &k) {
+        return put_at_hand(store, root, height, leaf, k, v);
+    }
     path.clear();
     let leaf = find_path(store, root, height, &k, path);
+    if S::Argument::is_zst() {
+        store.cache_leaf(leaf);
+    }
     let found = store.get_leaf(leaf).locate_slot(&k);
     match found {
         Ok(slot) => Ok(Put::Replaced(replace_at(store, leaf, slot, v))),

@@ -102,7 +102,7 @@ module _ {K V A : Type 0} (slots : Slots (Inner K A) (Leaf K V)) where
   linked_next p (x ∷ []) leaf after q h = linked_next (Some x) [] leaf after q h.2
   linked_next p (x ∷ y ∷ ys) leaf after q h = linked_next (Some x) (y ∷ ys) leaf after q h.2
 
-both_true : (a b : Bool) → a && b ≡ true → (a ≡ true) × (b ≡ true)
+pub both_true : (a b : Bool) → a && b ≡ true → (a ≡ true) × (b ≡ true)
 both_true true b h = (refl, h)
 both_true false b h = absurd (true≢false (sym h))
 

@@ -7,6 +7,7 @@ pub mod Hinted
 pub mod ListReads
 pub mod NodePieces
 pub mod Ordered
+pub mod Remembered
 pub mod Spot
 pub mod Walk
 pub mod Ways
