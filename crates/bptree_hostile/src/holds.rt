@@ -9,7 +9,9 @@ use std::alloc::{AllocError, Global};
 use std::mem;
 use sweep_bptree::script::{Command, run};
 use sweep_bptree::tree::count::Count;
-use sweep_bptree::tree::{BPlusTree, CloneArgument, Iter, NodeStore, RankArgument, SearchArgument};
+use sweep_bptree::tree::{
+    Argument, BPlusTree, CloneArgument, Iter, NodeStore, RankArgument, SearchArgument,
+};
 use sweep_bptree::{BPlusTreeMap, BPlusTreeSet, CloneStore};
 
 /// What holds pairs, and is empty at first. Each call answers false where a reply or what is held is not as the list has it.
@@ -160,6 +162,22 @@ where
     Ok(well && rest.next().is_none() && rest.next_back().is_none() && pairs.len() == left)
 }
 
+// Whether the summaries of the keys from one place up to another, and up to the end, tell how many there are.
+fn is_summed<S: NodeStore<V = u64>>(
+    tree: &BPlusTree<S>,
+    from: usize,
+    to: usize,
+) -> Result<bool, AllocError>
+where
+    S::K: Sample,
+    S::Argument: SearchArgument<S::K, Query = usize>,
+{
+    let part = tree.part_argument(from, to)?;
+    let rest = tree.part_argument(from, usize::MAX)?;
+    let left = tree.len().saturating_sub(from);
+    Ok(part.key_count() == Some(to.saturating_sub(from)) && rest.key_count() == Some(left))
+}
+
 // Whether a tree has the parts of a list: with open ends, empty ones, one of one key, and one whose ends fall.
 fn has_parts<S: NodeStore<V = u64>>(
     alloc: Global,
@@ -195,6 +213,9 @@ where
             well = is_part(tree.range_by_argument(from, few)?, plain, from, end)? && well;
             let rest = tree.range_by_argument(from, usize::MAX)?;
             well = is_part(rest, plain, from, len.max(from))? && well;
+            let summary = tree.range_argument(lo.as_ref(), hi.as_ref())?;
+            well = summary.key_count() == Some(few) && well;
+            well = is_summed(tree, from, end)? && well;
         }
     }
     Ok(well)

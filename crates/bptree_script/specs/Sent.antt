@@ -29,11 +29,12 @@ CutsOff old new text = (new.writer ≡ old.writer) × AppendsBeginning old.writt
 abbrev pub SendsOrFails : {T : Type 0} → Sent → Sent → List ℕ → Result T ServeError → Type 0
 SendsOrFails old new text r = MatchResult r (λ _. Sends old new text) (λ e. (e ≡ Io) × CutsOff old new text)
 
--- all that was held was written, or the writer failed on the way
+-- all that was held was written; or the writer failed on the way, and it is held still
 abbrev pub Drains : {T : Type 0} → Sent → Sent → Result T ServeError → Type 0
 Drains old new r =
     (new.writer ≡ old.writer)
-    × MatchResult r (λ _. (new.held ≡ []) × Appends old.written new.written old.held) (λ e. (e ≡ Io) × AppendsBeginning old.written new.written old.held)
+    × MatchResult r (λ _. (new.held ≡ []) × Appends old.written new.written old.held)
+    (λ e. (e ≡ Io) × AppendsBeginning old.written new.written old.held × (new.held ≡ old.held))
 
 -- nothing more was written, and the writer flushed or not
 abbrev pub Flushes : {T : Type 0} → Sent → Sent → Result T ServeError → Type 0

@@ -44,7 +44,7 @@ piece_refused a b c pairs kept bytes n empty sent same rest = (same ∙ sent.0, 
 
 -- or could not be written
 pub piece_cut : {T : Type 0} → (a b c : Sent) (pairs : List (ℕ × ℕ)) (kept bytes : List ℕ) (n : ℕ) (e f : ServeError) (r : Result T ServeError)
-    → r ≡ Err f → f ≡ e → a.held ≡ [] → Sends a b (answers pairs (clipped_after kept (take n bytes))) → (c.writer ≡ b.writer) × ((e ≡ Io) × AppendsBeginning b.written c.written b.held)
+    → r ≡ Err f → f ≡ e → a.held ≡ [] → Sends a b (answers pairs (clipped_after kept (take n bytes))) → (c.writer ≡ b.writer) × ((e ≡ Io) × AppendsBeginning b.written c.written b.held × (c.held ≡ b.held))
     → AnswersPiece a c pairs kept bytes r
 piece_cut a b c pairs kept bytes n e f r is same empty sent cut = rw (is, same, cut.1.0) (cut.0 ∙ sent.0, (n, drained_cut a b c _ empty sent cut.1.1))
 
@@ -75,7 +75,7 @@ last_broken a b pairs line e f r some is same empty broke = rw (is, same, last_a
 
 -- the last line was answered, but what is held could not be written
 pub last_cut : {T : Type 0} → (a b c : Sent) (pairs : List (ℕ × ℕ)) (line : List ℕ) (e f : ServeError) (r : Result T ServeError)
-    → (length line ≡ 0 → ⊥) → r ≡ Err f → f ≡ e → a.held ≡ [] → Sends a b (answer pairs line) → (c.writer ≡ b.writer) × ((e ≡ Io) × AppendsBeginning b.written c.written b.held) → AnswersLast a c pairs line r
+    → (length line ≡ 0 → ⊥) → r ≡ Err f → f ≡ e → a.held ≡ [] → Sends a b (answer pairs line) → (c.writer ≡ b.writer) × ((e ≡ Io) × AppendsBeginning b.written c.written b.held × (c.held ≡ b.held)) → AnswersLast a c pairs line r
 last_cut a b c pairs line e f r some is same empty sent cut = rw (is, same, cut.1.0, last_answer pairs line some) (cut.0 ∙ sent.0, drained_cut a b c _ empty sent cut.1.1)
 
 -- it was answered, and the writer flushed or not
