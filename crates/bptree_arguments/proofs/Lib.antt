@@ -5,6 +5,7 @@ pub mod GroupOrderLemmas
 pub mod GroupRankLemmas
 pub mod GroupSelectLemmas
 pub mod GroupSizeLemmas
+pub mod GroupSumLemmas
 pub mod GroupWholeLemmas
 pub mod RankLemmas
 pub mod VisitLemmas

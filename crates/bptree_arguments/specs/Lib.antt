@@ -2,6 +2,7 @@ pub mod CountLaws
 pub mod GroupAnswers
 pub mod GroupClones
 pub mod GroupSizes
+pub mod GroupSums
 pub mod Groups
 pub mod Ranks
 pub mod Selection

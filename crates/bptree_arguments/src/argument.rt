@@ -1,5 +1,5 @@
 //! Summaries of keys.
-ghost use Rattle.std.specs.Prelude.{◌≡◌, ◌<◌, ◌≤◌, ◌^◌, ℕ, List, [], ◌++◌, length, true, is_ok, Option, IfOk, IfSome, IsTrue, MatchResult, ⊤};
+ghost use Rattle.std.specs.Prelude.{◌≡◌, ◌<◌, ◌≤◌, ◌^◌, ℕ, List, [], ◌++◌, length, true, is_ok, Option, IfOk, IfSome, IsOk, IsTrue, MatchResult, ⊤};
 ghost use Rattle.std.specs.declared.cmp.Ordering.TheVariants.{Equal};
 ghost use Rattle.std.specs.List.{AllZip};
 ghost use Rattle.std.specs.List.Sorted.{IsStrictlySortedBy};
@@ -15,6 +15,9 @@ pub trait Argument<K: Key>: Clone + Default + Drop {
     /// The value is a summary of the keys.
     ghost is_summary: { Self → List K → Type 0 };
 
+    /// No call of the argument takes memory, so that none is refused.
+    ghost needs_no_memory: { Type 0 } = { ⊥ };
+
     /// Whether every value is a summary of every list, so that a tree need not keep summaries up.
     fn is_zst() -> bool
         ensures any { IsTrue result → (a : Self) (keys : List K) → is_summary a keys }
@@ -24,12 +27,14 @@ pub trait Argument<K: Key>: Clone + Default + Drop {
 
     /// A summary of the keys of a leaf, which ascend. It fails only where memory is refused.
     fn from_leaf(keys: &[K]) -> Result<Self, AllocError>
-        ensures summary { IfOk result (λ a. 0 < length keys.now → IsStrictlySortedBy K.cmp keys.now → is_summary a keys.now) };
+        ensures summary { IfOk result (λ a. 0 < length keys.now → IsStrictlySortedBy K.cmp keys.now → is_summary a keys.now) }
+        ensures sure { needs_no_memory → IsOk result };
 
     /// A summary of all keys below an inner node, of its separators and of one summary for each child. A separator
     /// need not be a key. It fails only where memory is refused.
     fn from_inner(keys: &[K], arguments: &[Self]) -> Result<Self, AllocError>
-        ensures summary { IfOk result (λ a. (pieces : List (List K)) → ArePieces K.cmp pieces → AllZip is_summary arguments.now pieces → is_summary a (flatten pieces)) };
+        ensures summary { IfOk result (λ a. (pieces : List (List K)) → ArePieces K.cmp pieces → AllZip is_summary arguments.now pieces → is_summary a (flatten pieces)) }
+        ensures sure { needs_no_memory → IsOk result };
 
     /// How many keys the summary stands for, where it tells that. By default it doesn't.
     fn key_count(&self) -> Option<usize>
@@ -53,7 +58,8 @@ pub trait SearchArgument<K: Key>: Argument<K> {
     fn locate_in_leaf(query: Self::Query, keys: &[K]) -> Result<Option<usize>, AllocError>
         requires { length keys.now ≤ 64 }
         ensures in_range { IfOk result (λ place. IsStrictlySortedBy K.cmp keys.now → IsPlaceIn keys.now place) }
-        ensures selected { IfOk result (λ place. IsStrictlySortedBy K.cmp keys.now → selects query keys.now place) };
+        ensures selected { IfOk result (λ place. IsStrictlySortedBy K.cmp keys.now → selects query keys.now place) }
+        ensures sure { Self.needs_no_memory → IsOk result };
 
     /// The child of an inner node to go on in, with the query that is asked there; or none, where no place is allowed
     /// for the query. It is given the separators and one summary for each child, and fails only where memory is refused.
@@ -62,7 +68,8 @@ pub trait SearchArgument<K: Key>: Argument<K> {
         keys: &[K],
         arguments: &[Self],
     ) -> Result<Option<(usize, Self::Query)>, AllocError>
-        ensures leads { IfOk result (λ answer. (pieces : List (List K)) → ArePieces K.cmp pieces → AllZip Self.is_summary arguments.now pieces → LeadsTo selects query pieces answer) };
+        ensures leads { IfOk result (λ answer. (pieces : List (List K)) → ArePieces K.cmp pieces → AllZip Self.is_summary arguments.now pieces → LeadsTo selects query pieces answer) }
+        ensures sure { Self.needs_no_memory → IsOk result };
 }
 
 /// An argument that ranks a key among others.
@@ -83,7 +90,8 @@ pub trait RankArgument<K: Key>: Argument<K> {
     /// The rank carried on over the children of an inner node before the one for the key; there may be none. It is given
     /// one summary for each of them, and fails only where memory is refused.
     fn fold_inner(k: &K, rank: Self::Rank, arguments: &[Self]) -> Result<Self::Rank, AllocError>
-        ensures carries { IfOk result (λ next. (before : List K) (pieces : List (List K)) → AllNonEmpty pieces → AllZip Self.is_summary arguments.now pieces → IsStrictlySortedBy K.cmp (before ++ flatten pieces) → AllBelow K.cmp k.now (before ++ flatten pieces) → length (before ++ flatten pieces) < 2 ^ 64 → stands_for rank k.now before → stands_for next k.now (before ++ flatten pieces)) };
+        ensures carries { IfOk result (λ next. (before : List K) (pieces : List (List K)) → AllNonEmpty pieces → AllZip Self.is_summary arguments.now pieces → IsStrictlySortedBy K.cmp (before ++ flatten pieces) → AllBelow K.cmp k.now (before ++ flatten pieces) → length (before ++ flatten pieces) < 2 ^ 64 → stands_for rank k.now before → stands_for next k.now (before ++ flatten pieces)) }
+        ensures sure { Self.needs_no_memory → IsOk result };
 
     /// The rank of a key by a slot of its leaf, `Ok` exactly where the slot is. A rank for the key comes of the slot that is
     /// its place there. It fails only where memory is refused.
@@ -96,7 +104,8 @@ pub trait RankArgument<K: Key>: Argument<K> {
         requires few { length keys.now ≤ 64 }
         requires slot { IsSlotIn keys.now slot }
         ensures variant { IfOk result (λ answer. is_ok answer ≡ is_ok slot) }
-        ensures ranked { IfOk result (λ answer. IsSlotOf K.cmp k.now keys.now slot → (before after : List K) → IsStrictlySortedBy K.cmp (before ++ (keys.now ++ after)) → AllBelow K.cmp k.now before → AllAbove K.cmp k.now after → length (before ++ (keys.now ++ after)) < 2 ^ 64 → stands_for rank k.now before → MatchResult answer (ranks k.now (before ++ (keys.now ++ after))) (ranks k.now (before ++ (keys.now ++ after)))) };
+        ensures ranked { IfOk result (λ answer. IsSlotOf K.cmp k.now keys.now slot → (before after : List K) → IsStrictlySortedBy K.cmp (before ++ (keys.now ++ after)) → AllBelow K.cmp k.now before → AllAbove K.cmp k.now after → length (before ++ (keys.now ++ after)) < 2 ^ 64 → stands_for rank k.now before → MatchResult answer (ranks k.now (before ++ (keys.now ++ after))) (ranks k.now (before ++ (keys.now ++ after)))) }
+        ensures sure { Self.needs_no_memory → IsOk result };
 }
 
 /// An argument whose summaries see keys up to equality: a clone of a summary is a summary of each list of keys that are equal
@@ -108,6 +117,8 @@ pub trait CloneArgument<K: Key>: Argument<K> {
 /// No summary at all: it says nothing of the keys, and takes no room.
 impl<K: Key> Argument<K> for () {
     ghost is_summary = { λ _ _. ⊤ };
+
+    ghost needs_no_memory = { ⊤ };
 
     fn is_zst() -> bool
         ensures { result ≡ true }

@@ -1,5 +1,5 @@
 //! Counts of keys: a tree that keeps them finds a key by its place, and ranks a key among all.
-ghost use Rattle.std.specs.Prelude.{◌≡◌, ◌<◌, ◌≤◌, ◌+◌, ◌-◌, ◌^◌, ◌++◌, List, length, min, is_ok, Some, IfOk, IfErr, IfSome, MatchResult};
+ghost use Rattle.std.specs.Prelude.{◌≡◌, ◌<◌, ◌≤◌, ◌+◌, ◌-◌, ◌^◌, ◌++◌, List, length, min, is_ok, Some, IfOk, IfErr, IfSome, IsOk, MatchResult, ⊤};
 ghost use Rattle.std.specs.List.{sum_by, AllZip};
 ghost use Rattle.std.specs.List.Sorted.{IsStrictlySortedBy};
 ghost use Rattle.std.proofs.Common.{rules};
@@ -67,9 +67,12 @@ fn capped_total_of(start: usize, arguments: &[Count]) -> usize
 impl<K: Key> Argument<K> for Count {
     ghost is_summary = { λ a keys. a.0 ≡ length keys };
 
+    ghost needs_no_memory = { ⊤ };
+
     fn from_leaf(keys: &[K]) -> Result<Count, AllocError>
         ensures summary { IfOk result (λ a. 0 < length keys.now → IsStrictlySortedBy K.cmp keys.now → a.0 ≡ length keys.now) }
         ensures exact { IfOk result (λ a. a.0 ≡ length keys.now) }
+        ensures sure { IsOk result }
     {
         Ok(Count(keys.len()))
     }
@@ -79,6 +82,7 @@ impl<K: Key> Argument<K> for Count {
     fn from_inner(_keys: &[K], arguments: &[Count]) -> Result<Count, AllocError>
         ensures summary { IfOk result (λ a. (pieces : List (List K)) → ArePieces K.cmp pieces → AllZip (λ b keys. b.0 ≡ length keys) arguments.now pieces → a.0 ≡ length (flatten pieces)) }
         ensures capped { IfOk result (λ a. a.0 ≡ min (sum_by (λ b. b.0) arguments.now) (2 ^ 64 - 1)) }
+        ensures sure { IsOk result }
     {
         Ok(Count(total_of(0, arguments)))
     }
@@ -148,6 +152,7 @@ impl<K: Key> RankArgument<K> for Count {
     fn fold_inner(_k: &K, rank: usize, arguments: &[Count]) -> Result<usize, AllocError>
         ensures carries { IfOk result (λ next. (before : List K) (pieces : List (List K)) → AllNonEmpty pieces → AllZip (λ b keys. b.0 ≡ length keys) arguments.now pieces → IsStrictlySortedBy K.cmp (before ++ flatten pieces) → AllBelow K.cmp _k.now (before ++ flatten pieces) → length (before ++ flatten pieces) < 2 ^ 64 → rank ≡ length before → next ≡ length (before ++ flatten pieces)) }
         ensures capped { IfOk result (λ next. next ≡ min (rank + sum_by (λ b. b.0) arguments.now) (2 ^ 64 - 1)) }
+        ensures sure { IsOk result }
     {
         Ok(total_of(rank, arguments))
     }
@@ -162,6 +167,7 @@ impl<K: Key> RankArgument<K> for Count {
         requires slot { IsSlotIn _keys.now slot }
         ensures variant { IfOk result (λ answer. is_ok answer ≡ is_ok slot) }
         ensures ranked { IfOk result (λ answer. IsSlotOf K.cmp _k.now _keys.now slot → (before after : List K) → IsStrictlySortedBy K.cmp (before ++ (_keys.now ++ after)) → AllBelow K.cmp _k.now before → AllAbove K.cmp _k.now after → length (before ++ (_keys.now ++ after)) < 2 ^ 64 → rank ≡ length before → MatchResult answer (λ r. r ≡ count_below K.cmp _k.now (before ++ (_keys.now ++ after))) (λ r. r ≡ count_below K.cmp _k.now (before ++ (_keys.now ++ after)))) }
+        ensures sure { IsOk result }
 
         // The same of a key that is present, and of one that is not.
         ensures present { IfOk slot (λ i. IfOk result (λ answer. answer ≡ Ok (min (rank + i) (2 ^ 64 - 1)))) }

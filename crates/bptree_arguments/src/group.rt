@@ -1,6 +1,7 @@
 //! Groups of keys, and how many keys each has.
 ghost use Rattle.std.specs.Prelude.{◌≡◌, ◌≢◌, ◌↔◌, ℕ, ◌+◌, ◌-◌, ◌<◌, ◌^◌, min, List, [], ◌∷◌, ◌++◌, length, map, IfOk, IsTrue, MatchOption, true, false};
 ghost use Rattle.std.specs.Ordering.{is_gt};
+ghost use Rattle.bptree_arguments.specs.GroupSums.{greatest_of, has_no_group, number_of_groups, shared, summary_of, told_by, told_by_ends, told_in_turn, told_together};
 ghost use Rattle.bptree_arguments.specs.Groups.{AreEnds, IsGroupSummary, IsNonDescending, AreAlike, IsGreatestGroup, different, group, group_size};
 ghost use Rattle.std.specs.List.{AllZip};
 ghost use Rattle.std.specs.List.Sorted.{IsStrictlySortedBy};
@@ -100,7 +101,8 @@ impl<G: Key> Clone for GroupCount<G> {
 impl<G: Key> GroupCount<G> {
     /// The greatest group, with its size, in constant time.
     pub fn max_group(&self) -> Option<(&G, usize)>
-        ensures { (groups : List G) → IsGroupSummary G.cmp self.now groups → IsGreatestGroup G.cmp groups (option_map (λ r. (r.0.now, r.1)) result) }
+        ensures greatest { (groups : List G) → IsGroupSummary G.cmp self.now groups → IsGreatestGroup G.cmp groups (option_map (λ r. (r.0.now, r.1)) result) }
+        ensures exact { option_map (λ r. (r.0.now, r.1)) result ≡ greatest_of self.now }
     {
         match self {
             GroupCount::Zero => None,
@@ -111,7 +113,8 @@ impl<G: Key> GroupCount<G> {
 
     /// Whether there is no group, in constant time.
     pub fn is_zero(&self) -> bool
-        ensures { (groups : List G) → IsGroupSummary G.cmp self.now groups → IsTrue result ↔ (groups ≡ []) }
+        ensures none { (groups : List G) → IsGroupSummary G.cmp self.now groups → IsTrue result ↔ (groups ≡ []) }
+        ensures exact { result ≡ has_no_group self.now }
     {
         match self {
             GroupCount::Zero => true,
@@ -121,7 +124,8 @@ impl<G: Key> GroupCount<G> {
 
     /// The number of different groups, in constant time.
     pub fn group_count(&self) -> usize
-        ensures { (groups : List G) → IsGroupSummary G.cmp self.now groups → result ≡ different G.cmp groups }
+        ensures different { (groups : List G) → IsGroupSummary G.cmp self.now groups → result ≡ different G.cmp groups }
+        ensures exact { result ≡ number_of_groups self.now }
     {
         match self {
             GroupCount::Zero => 0,
@@ -168,7 +172,8 @@ impl<G: Key> GroupCount<G> {
 
     /// The least and the greatest group, where there is one.
     pub(crate) fn ends(&self) -> Option<Ends<'_, G>>
-        ensures { (groups : List G) → IsGroupSummary G.cmp self.now groups → MatchOption result (groups ≡ []) (λ ends. AreEnds G.cmp groups ends) }
+        ensures ends { (groups : List G) → IsGroupSummary G.cmp self.now groups → MatchOption result (groups ≡ []) (λ ends. AreEnds G.cmp groups ends) }
+        ensures told { option_map (λ ends. told_by_ends ends) result ≡ told_by self.now }
     {
         match self {
             GroupCount::Zero => None,
@@ -208,6 +213,7 @@ pub(crate) struct Ends<'a, G> {
 fn with_share(size: usize, group_count: usize, share: usize) -> usize
     ensures only { group_count ≡ 1 → result ≡ min (size + share) (2 ^ 64 - 1) }
     ensures of_several { group_count ≢ 1 → result ≡ size }
+    ensures exact { result ≡ shared size group_count share }
 {
     if group_count == 1 {
         size.saturating_add(share)
@@ -219,7 +225,8 @@ fn with_share(size: usize, group_count: usize, share: usize) -> usize
 impl<'a, G: Key> Ends<'a, G> {
     /// The ends of two lists, one after the other.
     fn followed_by(self, next: Ends<'a, G>) -> Ends<'a, G>
-        ensures { (xs ys : List G) → AreEnds G.cmp xs self.entry → AreEnds G.cmp ys next.entry → IsNonDescending G.cmp (xs ++ ys) → length (xs ++ ys) < 2 ^ 64 → AreEnds G.cmp (xs ++ ys) result }
+        ensures ends { (xs ys : List G) → AreEnds G.cmp xs self.entry → AreEnds G.cmp ys next.entry → IsNonDescending G.cmp (xs ++ ys) → length (xs ++ ys) < 2 ^ 64 → AreEnds G.cmp (xs ++ ys) result }
+        ensures told { told_by_ends result ≡ told_in_turn G.cmp (told_by_ends self.entry) (told_by_ends next.entry) }
     {
         let total = self.group_count.saturating_add(next.group_count);
         match self.greatest.cmp(next.least) {
@@ -242,7 +249,8 @@ impl<'a, G: Key> Ends<'a, G> {
 
     /// A summary of its own, with clones of the groups.
     fn to_summary(self) -> Result<GroupCount<G>, AllocError>
-        ensures { IfOk result (λ summary. (groups : List G) → AreEnds G.cmp groups self.entry → IsGroupSummary G.cmp summary groups) }
+        ensures summary { IfOk result (λ summary. (groups : List G) → AreEnds G.cmp groups self.entry → IsGroupSummary G.cmp summary groups) }
+        ensures told { IfOk result (λ summary. AreAlike G.cmp (summary_of (Some (told_by_ends self.entry))) summary) }
     {
         let least = self.least.clone()?;
         if self.group_count == 1 {
@@ -282,10 +290,12 @@ impl<K: Key, G: FromRef<K> + Key> Argument<K> for GroupCount<G> {
         Ok(summary.with_next(last))
     }
 
-    /// One comparison a child, and at most two clones of groups.
+    /// One comparison a child, and at most two clones of groups. Each sum of sizes and of groups stops at the greatest
+    /// `usize`, which no list of keys is longer than.
     fn from_inner(_keys: &[K], arguments: &[Self]) -> Result<Self, AllocError>
         ensures summary { IfOk result (λ a. (pieces : List (List K)) → ArePieces K.cmp pieces → AllZip (λ b keys. IsGroupSummary G.cmp b (map G.group_of keys)) arguments.now pieces → IsGroupSummary G.cmp a (map G.group_of (flatten pieces))) }
         ensures empty { arguments.now ≡ [] → result ≡ Ok Zero }
+        ensures told { IfOk result (λ a. AreAlike G.cmp (summary_of (told_together G.cmp arguments.now)) a) }
     {
         let mut whole: Option<Ends<'_, G>> = None;
         for argument in arguments {

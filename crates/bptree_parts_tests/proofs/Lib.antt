@@ -1,5 +1,6 @@
 pub mod Children
 pub mod Ends
 pub mod GroupItems
+pub mod GroupKinds
 pub mod Groups
 pub mod StepLemmas

@@ -1,8 +1,9 @@
 //! The rank of a key in its group.
-ghost use Rattle.std.specs.Prelude.{◌≡◌, ◌<◌, ◌≤◌, ◌^◌, List, [], ◌++◌, length, map, Ok, None, is_ok, IfOk, MatchResult};
+ghost use Rattle.std.specs.Prelude.{◌≡◌, ◌≢◌, ◌-◌, ◌<◌, ◌≤◌, ◌^◌, min, List, [], ◌++◌, length, map, Ok, None, is_ok, IfOk, MatchResult};
 ghost use Rattle.std.specs.List.{AllZip};
 ghost use Rattle.std.specs.List.Sorted.{IsStrictlySortedBy};
 ghost use Rattle.bptree_arguments.specs.GroupAnswers.{IsInGroup, IsRankInGroup, StandsInGroup, carried};
+ghost use Rattle.bptree_arguments.specs.GroupSums.{carried_over};
 ghost use Rattle.bptree_arguments.specs.Groups.{IsGroupSummary, group_size};
 ghost use Rattle.bptree_arguments.specs.Ranks.{AllAbove, AllBelow, IsSlotIn, IsSlotOf};
 ghost use Rattle.bptree_keys.specs.Pieces.{AllNonEmpty, flatten};
@@ -69,6 +70,7 @@ impl<K: Key, G: FromRef<K> + Key> RankArgument<K> for GroupCount<G> {
     ) -> Result<Option<(G, usize)>, AllocError>
         ensures carries { IfOk result (λ next. (before : List K) (pieces : List (List K)) → AllNonEmpty pieces → AllZip (λ a keys. IsGroupSummary G.cmp a (map G.group_of keys)) arguments.now pieces → IsStrictlySortedBy K.cmp (before ++ flatten pieces) → AllBelow K.cmp k.now (before ++ flatten pieces) → length (before ++ flatten pieces) < 2 ^ 64 → StandsInGroup G.cmp G.group_of k.now before rank → StandsInGroup G.cmp G.group_of k.now (before ++ flatten pieces) next) }
         ensures unchanged { arguments.now ≡ [] → result ≡ Ok rank }
+        ensures capped { arguments.now ≢ [] → IfOk result (IsInGroup G.cmp (G.group_of k.now) (min (carried_over G.cmp (G.group_of k.now) (carried G.cmp (G.group_of k.now) rank) arguments.now) (2 ^ 64 - 1))) }
     {
         if arguments.is_empty() {
             return Ok(rank);

@@ -19,6 +19,19 @@ fn summarizes_a_leaf<K: Key, A: Argument<K>>(keys: &[K]) -> Result<A, AllocError
     A::from_leaf(keys)
 }
 
+// An argument that needs no memory is refused none.
+fn summarizes_without_memory<K: Key, A: Argument<K>>(keys: &[K]) -> A
+    requires memory { A.needs_no_memory }
+    requires some { 0 < length keys.now }
+    requires ascending { IsStrictlySortedBy K.cmp keys.now }
+    ensures { A.is_summary result keys.now }
+{
+    match A::from_leaf(keys) {
+        Ok(summary) => summary,
+        Err(_) => unreachable!(),
+    }
+}
+
 // And the summary of a node over two leaves is one of the keys of both, whatever the separators are.
 fn summarizes_two_leaves<K: Key, A: Argument<K>>(
     left: &[K],

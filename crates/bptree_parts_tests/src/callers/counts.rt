@@ -19,6 +19,29 @@ fn counts_a_leaf<K: Key>(keys: &[K]) -> Result<usize, AllocError>
     Ok(count.count())
 }
 
+// No call of a count is refused memory.
+fn counts_for_sure<K: Key>(k: &K, keys: &[K], query: usize) -> (usize, Option<usize>, usize)
+    requires few { length keys.now ≤ 64 }
+    requires ascending { IsStrictlySortedBy K.cmp keys.now }
+    ensures count { result.0 ≡ length keys.now }
+    ensures place { query < length keys.now → result.1 ≡ Some query }
+    ensures rank { result.2 ≡ length keys.now }
+{
+    let Ok(count) = <Count as Argument<K>>::from_leaf(keys) else {
+        unreachable!()
+    };
+    let Ok(place) = <Count as SearchArgument<K>>::locate_in_leaf(query, keys) else {
+        unreachable!()
+    };
+    let Ok(above) = <Count as Argument<K>>::from_inner(keys, &[count]) else {
+        unreachable!()
+    };
+    let Ok(rank) = <Count as RankArgument<K>>::fold_inner(k, 0, &[above]) else {
+        unreachable!()
+    };
+    (count.count(), place, rank)
+}
+
 fn counts_nothing() -> usize
     ensures { result ≡ 0 }
 {

@@ -1,5 +1,5 @@
 //! Callers of the places and the ranks of keys in their groups.
-ghost use Rattle.std.specs.Prelude.{◌≡◌, ◌<◌, ◌≤◌, ◌^◌, ◌∷◌, ◌++◌, [], Ok, Some, None, length, map, slice_get, take, IfOk, IfErr, IfSome, MatchOption, MatchResult, ◌&&◌};
+ghost use Rattle.std.specs.Prelude.{◌≡◌, ◌<◌, ◌≤◌, ◌+◌, ◌-◌, ◌^◌, min, ◌∷◌, ◌++◌, [], Ok, Some, None, length, map, slice_get, take, IfOk, IfErr, IfSome, MatchOption, MatchResult, ◌&&◌};
 ghost use Rattle.std.specs.declared.cmp.Ordering.TheVariants.{Equal};
 ghost use Rattle.std.specs.Ordering.{is_eq, is_lt};
 ghost use Rattle.std.specs.List.{AllZip, HoldsAt, filter};
@@ -93,6 +93,23 @@ fn carries_the_rank_over_no_child<K: Key, G: FromRef<K> + Key>(
     ensures { result ≡ Ok rank }
 {
     <GroupCount<G> as RankArgument<K>>::fold_inner(k, rank, arguments)
+}
+
+// Over a child of the key's group alone its size is added to what is carried, up to the greatest number.
+fn carries_the_rank_over_the_group<K: Key, G: FromRef<K> + Key>(
+    k: &K,
+    carried: usize,
+    group: G,
+    child: &G,
+    size: usize,
+    arguments: &[GroupCount<G>],
+) -> Result<Option<(G, usize)>, AllocError>
+    requires carries { G.cmp group (G.group_of k.now) ≡ Equal }
+    requires same { G.cmp child.now (G.group_of k.now) ≡ Equal }
+    requires child { arguments.now ≡ GroupCount.One child.now size ∷ [] }
+    ensures { IfOk result (IsInGroup G.cmp (G.group_of k.now) (min (carried + size) (2 ^ 64 - 1))) }
+{
+    <GroupCount<G> as RankArgument<K>>::fold_inner(k, Some((group, carried)), arguments)
 }
 
 // The rank in one leaf is the key's group, and how many keys are in it and smaller: `Ok` where the key is present, and

@@ -1,5 +1,5 @@
 //! Callers of groups and of what counts the keys of one.
-ghost use Rattle.std.specs.Prelude.{◌≡◌, ◌<◌, ◌≤◌, ◌+◌, ◌∷◌, ◌++◌, [], List, Some, length, map, true, false, IfOk, MatchResult};
+ghost use Rattle.std.specs.Prelude.{◌≡◌, ◌<◌, ◌≤◌, ◌+◌, ◌-◌, ◌^◌, min, ◌∷◌, ◌++◌, [], List, Some, length, map, true, false, IfOk, MatchResult};
 ghost use Rattle.std.specs.declared.cmp.Ordering.TheVariants.{Equal};
 ghost use Rattle.std.specs.List.{AllByRecursion, AllZip};
 ghost use Rattle.std.specs.List.Sorted.{IsStrictlySortedBy};
@@ -79,6 +79,59 @@ fn size_of_the_greatest_group<G: Key>(summary: &GroupCount<G>) -> usize
     match summary.max_group() {
         None => 0,
         Some((_, size)) => size,
+    }
+}
+
+// Of each kind of summary is told what it has, whatever its groups and numbers are.
+fn tells_what_it_has<G: Key>(
+    group: G,
+    least: (G, usize),
+    greatest: (G, usize),
+    count: usize,
+) -> ([bool; 3], [usize; 3])
+    ensures none { result.0 ≡ true ∷ false ∷ false ∷ [] }
+    ensures groups { result.1 ≡ 0 ∷ 1 ∷ count ∷ [] }
+{
+    let none = GroupCount::<G>::Zero;
+    let one = GroupCount::One(group, count);
+    let several = GroupCount::Multiple {
+        min_group: least,
+        max_group: greatest,
+        group_count: count,
+    };
+    (
+        [none.is_zero(), one.is_zero(), several.is_zero()],
+        [none.group_count(), one.group_count(), several.group_count()],
+    )
+}
+
+// The size of one group is told, whatever it is.
+fn tells_the_size<G: Key>(group: G, size: usize) -> usize
+    ensures { result ≡ size }
+{
+    let one = GroupCount::One(group, size);
+    match one.max_group() {
+        None => 0,
+        Some((_, told)) => told,
+    }
+}
+
+// The sizes of a group in two children are added, up to the greatest number, and the separators don't count.
+fn adds_two_sizes<K: Key, G: FromRef<K> + Key>(
+    separators: &[K],
+    first: &G,
+    second: &G,
+    sizes: (usize, usize),
+    arguments: &[GroupCount<G>],
+) -> Result<usize, AllocError>
+    requires same { G.cmp first.now second.now ≡ Equal }
+    requires children { arguments.now ≡ GroupCount.One first.now sizes.0 ∷ GroupCount.One second.now sizes.1 ∷ [] }
+    ensures { IfOk result (λ n. n ≡ min (sizes.0 + sizes.1) (2 ^ 64 - 1)) }
+{
+    let both = <GroupCount<G> as Argument<K>>::from_inner(separators, arguments)?;
+    match both.max_group() {
+        None => Ok(0),
+        Some((_, size)) => Ok(size),
     }
 }
 

@@ -1,8 +1,10 @@
-use Rattle.std.proofs.Common.{◌≡◌, length, None, ap, arith}
+use Rattle.std.proofs.Common.{◌≡◌, length, None, ap, arith, option_map}
 use Rattle.std.proofs.lemmas.List.{take_all}
 use Rattle.bptree_keys.proofs.PieceLemmas.{AllZip-length}
 use Rattle.bptree_arguments.proofs.GroupLemmas.{child_within, summary_here}
 use Rattle.bptree_arguments.proofs.GroupEndsLemmas.{ends_kept, ends_skip, ends_first, ends_more}
+use Rattle.bptree_arguments.proofs.GroupSumLemmas.{more_told}
+use Rattle.bptree_arguments.specs.GroupSums.{told_by_ends}
 use Rattle.bptree_arguments.proofs.group.GroupCountArgument.from_inner.Goals as goal
 use Rattle.bptree_arguments.proofs.group.GroupCountArgument.from_inner.Goals.{in-None, in-Some, in-None-whole, in-Some-whole}
 
@@ -20,13 +22,36 @@ loop-argument-preserved g c = record {
       let here = summary_here compare group_of pieces c.args.arguments.now summaries i c.loop-argument-test.true c.argument-item.result c.argument-item.is in
       let known = c.loop-argument.invariant.known pieces are summaries in
       elim c.match-ends.branch [
-        | in-None w ↦ rw w.whole-is (ends_skip cmp compare group_of keeps total pieces i inside are c.loop-argument.whole known (w.in-None.ensures _ here))
+        | in-None w ↦ rw w.whole-is (ends_skip cmp compare group_of keeps total pieces i inside are c.loop-argument.whole known (w.in-None.ensures.ends _ here))
         | in-Some w ↦ elim w.match-whole.branch [
-          | in-None-whole v ↦ rw (w.whole-is, v.whole-is) (ends_first cmp compare group_of keeps total pieces i inside are w.in-Some.next (rw v.in-None-whole.is at known) (w.in-Some.ensures _ here))
-          | in-Some-whole v ↦ rw (w.whole-is, v.whole-is) (ends_more cmp compare group_of keeps total pieces i inside are v.in-Some-whole.ends w.in-Some.next v.followed_by.result v.followed_by.ensures (rw v.in-Some-whole.is at known) (w.in-Some.ensures _ here))
+          | in-None-whole v ↦ rw (w.whole-is, v.whole-is) (ends_first cmp compare group_of keeps total pieces i inside are w.in-Some.next (rw v.in-None-whole.is at known) (w.in-Some.ensures.ends _ here))
+          | in-Some-whole v ↦ rw (w.whole-is, v.whole-is) (ends_more cmp compare group_of keeps total pieces i inside are v.in-Some-whole.ends w.in-Some.next v.followed_by.result v.followed_by.ensures.ends (rw v.in-Some-whole.is at known) (w.in-Some.ensures.ends _ here))
+        ]
+      ];
+  told =
+      let compare = g.G.Ord.cmp in
+      let before = c.loop-argument.invariant.told in
+      let step = more_told compare c.args.arguments.now c.loop-argument.argument-index c.argument-item.result c.loop-argument-test.true c.argument-item.is (option_map (λ ends. told_by_ends ends) c.loop-argument.whole) before in
+      elim c.match-ends.branch [
+        | in-None w ↦ rw w.whole-is (rw (← w.in-None.ensures.told) at step)
+        | in-Some w ↦ elim w.match-whole.branch [
+          | in-None-whole v ↦ rw (w.whole-is, v.whole-is) (rw (← w.in-Some.ensures.told, v.in-None-whole.is) at step)
+          | in-Some-whole v ↦ rw (w.whole-is, v.whole-is, v.followed_by.ensures.told) (rw (← w.in-Some.ensures.told, v.in-Some-whole.is) at step)
         ]
       ];
 }
+
+pub returns-in-None-whole-2-clause-told : goal.returns-in-None-whole-2-clause-told
+returns-in-None-whole-2-clause-told g c =
+    let whole = take_all c.loop-argument.argument-index c.args.arguments.now (omega arith) in
+    let none = rw (whole, c.in-None-whole-2.is) at c.loop-argument.invariant.told in
+    rw (← none) tt
+
+pub returns-in-Some-whole-2-clause-told : goal.returns-in-Some-whole-2-clause-told
+returns-in-Some-whole-2-clause-told g c =
+    let whole = take_all c.loop-argument.argument-index c.args.arguments.now (omega arith) in
+    let some = rw (whole, c.in-Some-whole-2.is) at c.loop-argument.invariant.told in
+    rw (← some) c.to_summary.ensures.told
 
 pub returns-in-None-whole-2-clause-summary : goal.returns-in-None-whole-2-clause-summary
 returns-in-None-whole-2-clause-summary g c = λ pieces are summaries.
@@ -35,7 +60,7 @@ returns-in-None-whole-2-clause-summary g c = λ pieces are summaries.
 
 pub returns-in-Some-whole-2-clause-summary : goal.returns-in-Some-whole-2-clause-summary
 returns-in-Some-whole-2-clause-summary g c =
-    ends_kept g.K.Ord.cmp g.G.Ord.cmp g.G.FromRef.group_of c.to_summary.result c.args.arguments.now c.in-Some-whole-2.ends c.to_summary.ensures (λ pieces are summaries. rw (take_all c.loop-argument.argument-index pieces (omega (arith, c.loop-argument-test.false, AllZip-length _ c.args.arguments.now pieces summaries)), c.in-Some-whole-2.is) at (c.loop-argument.invariant.known pieces are summaries))
+    ends_kept g.K.Ord.cmp g.G.Ord.cmp g.G.FromRef.group_of c.to_summary.result c.args.arguments.now c.in-Some-whole-2.ends c.to_summary.ensures.summary (λ pieces are summaries. rw (take_all c.loop-argument.argument-index pieces (omega (arith, c.loop-argument-test.false, AllZip-length _ c.args.arguments.now pieces summaries)), c.in-Some-whole-2.is) at (c.loop-argument.invariant.known pieces are summaries))
 
 pub returns-in-Some-whole-2-clause-empty : goal.returns-in-Some-whole-2-clause-empty
 returns-in-Some-whole-2-clause-empty g c = λ e.

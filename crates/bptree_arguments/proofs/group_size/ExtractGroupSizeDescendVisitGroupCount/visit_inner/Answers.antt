@@ -25,7 +25,7 @@ returns-in-Less-cmp g c = record {
       let parts = key_pieces pieces in
       let above : Greater ≡ compare c.in-Some.ends.greatest.now c.args.self.now.group = rw c.loop-i.invariant.same at c.in-Greater.ensures in
       let summary = summary_here g.G.Ord.cmp g.G.FromRef.group_of parts args summaries i c.loop-i-test.true c.index-arguments-i.result c.index-arguments-i.is in
-      let ends = c.in-Some.ensures _ summary in
+      let ends = c.in-Some.ensures.ends _ summary in
       let down = count_down g.K.Ord.cmp g.G.Ord.cmp g.G.FromRef.group_of g.met.G.FromRef.keeps_order g.met.G.Ord.total c.args.self.now.group parts are args summaries i c.loop-i-test.true c.args.self.now.counted c.loop-i.counted (c.loop-i.invariant.sum parts are summaries) c.in-Some.ends.greatest.now c.in-Some.ends.greatest_size (ends.greatest_bound, ends.greatest_size, ends.greatest_there) above in (
         λ l answer e. rw keys_of-flatten ((rw (c.loop-i.invariant.same, ← piece_at-keys pieces i) at e) ∙ ap (λ n. answered (Some n)) down),
         λ past. absurd (omega (arith, past, c.loop-i-test.true, AllZip-length _ args parts summaries, length-map pieces (λ p. keys_of p))),
@@ -42,7 +42,7 @@ returns-in-Equal-cmp g c = record {
       let above : Greater ≡ compare c.in-Some.ends.greatest.now c.args.self.now.group = rw c.loop-i.invariant.same at c.in-Greater.ensures in
       let first : Equal ≡ compare c.in-Some.ends.least.now c.args.self.now.group = rw c.loop-i.invariant.same at c.in-Equal-cmp.ensures in
       let summary = summary_here g.G.Ord.cmp g.G.FromRef.group_of parts args summaries i c.loop-i-test.true c.index-arguments-i.result c.index-arguments-i.is in
-      let whole = count_begun g.K.Ord.cmp g.G.Ord.cmp g.G.FromRef.group_of g.met.G.FromRef.keeps_order g.met.G.Ord.total c.args.self.now.group parts are args summaries i c.loop-i-test.true c.args.self.now.counted c.loop-i.counted (c.loop-i.invariant.sum parts are summaries) (c.in-Some.ends.least.now, c.in-Some.ends.least_size) (c.in-Some.ends.greatest.now, c.in-Some.ends.greatest_size) c.in-Some.ends.group_count (c.in-Some.ensures _ summary) above first in
+      let whole = count_begun g.K.Ord.cmp g.G.Ord.cmp g.G.FromRef.group_of g.met.G.FromRef.keeps_order g.met.G.Ord.total c.args.self.now.group parts are args summaries i c.loop-i-test.true c.args.self.now.counted c.loop-i.counted (c.loop-i.invariant.sum parts are summaries) (c.in-Some.ends.least.now, c.in-Some.ends.least_size) (c.in-Some.ends.greatest.now, c.in-Some.ends.greatest_size) c.in-Some.ends.group_count (c.in-Some.ensures.ends _ summary) above first in
       rw keys_of-flatten (ap (λ n. answered (Some n)) (c.saturating_add.ensures ∙ whole));
 }
 
@@ -56,7 +56,7 @@ returns-in-Greater-cmp g c = record {
       let above : Greater ≡ compare c.in-Some.ends.greatest.now c.args.self.now.group = rw c.loop-i.invariant.same at c.in-Greater.ensures in
       let over : Greater ≡ compare c.in-Some.ends.least.now c.args.self.now.group = rw c.loop-i.invariant.same at c.in-Greater-cmp.ensures in
       let summary = summary_here g.G.Ord.cmp g.G.FromRef.group_of parts args summaries i c.loop-i-test.true c.index-arguments-i.result c.index-arguments-i.is in
-      let whole = count_over g.K.Ord.cmp g.G.Ord.cmp g.G.FromRef.group_of g.met.G.FromRef.keeps_order g.met.G.Ord.total c.args.self.now.group parts are args summaries i c.loop-i-test.true c.args.self.now.counted c.loop-i.counted (c.loop-i.invariant.sum parts are summaries) (c.in-Some.ends.least.now, c.in-Some.ends.least_size) (c.in-Some.ends.greatest.now, c.in-Some.ends.greatest_size) c.in-Some.ends.group_count (c.in-Some.ensures _ summary) above over in
+      let whole = count_over g.K.Ord.cmp g.G.Ord.cmp g.G.FromRef.group_of g.met.G.FromRef.keeps_order g.met.G.Ord.total c.args.self.now.group parts are args summaries i c.loop-i-test.true c.args.self.now.counted c.loop-i.counted (c.loop-i.invariant.sum parts are summaries) (c.in-Some.ends.least.now, c.in-Some.ends.least_size) (c.in-Some.ends.greatest.now, c.in-Some.ends.greatest_size) c.in-Some.ends.group_count (c.in-Some.ensures.ends _ summary) above over in
       rw keys_of-flatten (ap (λ n. answered (Some n)) whole);
 }
 
@@ -72,13 +72,13 @@ loop-i-preserved g c = record {
       let now = c.loop-i.invariant.sum pieces are summaries in
       let summary = summary_here g.G.Ord.cmp g.G.FromRef.group_of pieces args summaries i c.loop-i-test.true c.index-arguments-i.result c.index-arguments-i.is in
       elim c.match-ends.branch [
-        | in-None w ↦ rw w.counted-is (count_none g.K.Ord.cmp g.G.Ord.cmp g.G.FromRef.group_of g.met.G.FromRef.keeps_order g.met.G.Ord.total c.args.self.now.group pieces are args summaries i c.loop-i-test.true start c.loop-i.counted now (w.in-None.ensures _ summary))
+        | in-None w ↦ rw w.counted-is (count_none g.K.Ord.cmp g.G.Ord.cmp g.G.FromRef.group_of g.met.G.FromRef.keeps_order g.met.G.Ord.total c.args.self.now.group pieces are args summaries i c.loop-i-test.true start c.loop-i.counted now (w.in-None.ensures.ends _ summary))
         | in-Some+in-Less w ↦
-            let ends = w.in-Some.ensures _ summary in
+            let ends = w.in-Some.ensures.ends _ summary in
             let low : Less ≡ compare w.in-Some.ends.greatest.now group = rw c.loop-i.invariant.same at w.in-Less.ensures in
             rw w.counted-is (count_below g.K.Ord.cmp g.G.Ord.cmp g.G.FromRef.group_of g.met.G.FromRef.keeps_order g.met.G.Ord.total c.args.self.now.group pieces are args summaries i c.loop-i-test.true start c.loop-i.counted now w.in-Some.ends.greatest.now w.in-Some.ends.greatest_size (ends.greatest_bound, ends.greatest_size, ends.greatest_there) low)
         | in-Some+in-Equal w ↦
-            let ends = w.in-Some.ensures _ summary in
+            let ends = w.in-Some.ensures.ends _ summary in
             let same : Equal ≡ compare w.in-Some.ends.greatest.now group = rw c.loop-i.invariant.same at w.in-Equal.ensures in
             rw (w.counted-is, w.saturating_add-counted.ensures) (count_same g.K.Ord.cmp g.G.Ord.cmp g.G.FromRef.group_of g.met.G.FromRef.keeps_order g.met.G.Ord.total c.args.self.now.group pieces are args summaries i c.loop-i-test.true start c.loop-i.counted now w.in-Some.ends.greatest.now w.in-Some.ends.greatest_size (ends.greatest_bound, ends.greatest_size, ends.greatest_there) same)
       ];

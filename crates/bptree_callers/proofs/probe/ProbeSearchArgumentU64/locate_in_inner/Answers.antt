@@ -3,5 +3,5 @@ use Rattle.bptree_keys.proofs.PieceLemmas.{AllZip-length}
 use Rattle.bptree_callers.proofs.probe.ProbeSearchArgumentU64.locate_in_inner.Goals as goal
 
 -- there are as many pieces as summaries
-pub returns : goal.returns
-returns c = record { leads = λ pieces are zip. (omega (arith, AllZip-length _ c.args.arguments.now pieces zip, c.if-arguments-eq0.false), λ place within selected. tt) }
+pub returns-clause-leads : goal.returns-clause-leads
+returns-clause-leads c = λ pieces are zip. (omega (arith, AllZip-length _ c.args.arguments.now pieces zip, c.if-arguments-eq0.false), λ place within selected. tt)

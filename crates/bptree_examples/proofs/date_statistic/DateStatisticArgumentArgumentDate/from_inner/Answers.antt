@@ -11,11 +11,9 @@ loop-argument-preserved c = (
   more_summed _ (λ a. a.max) c.args.arguments.now c.loop-argument.argument-index _ c.loop-argument.greatest c.with-greatest.result c.loop-argument-test.true c.loop-argument.invariant.1 c.with-greatest.ensures.year c.with-greatest.ensures.month c.with-greatest.ensures.day,
 )
 
-pub returns : goal.returns
-returns c = record {
-  summary = λ pieces are summaries.
-      let whole = take_all c.loop-argument.argument-index c.args.arguments.now (omega arith) in
-      let sums = rw whole at c.loop-argument.invariant in
-      let some = eqb-false (length c.args.arguments.now) 0 (sym c.if-is_empty.ensures) in
-      whole_summed in_order c.args.arguments.now pieces are summaries (record { date = _; counter = c.loop-argument.least }) (record { date = _; counter = c.loop-argument.greatest }) _ (omega (arith, some)) refl refl sums.0 sums.1;
-}
+pub returns-clause-summary : goal.returns-clause-summary
+returns-clause-summary c = λ pieces are summaries.
+    let whole = take_all c.loop-argument.argument-index c.args.arguments.now (omega arith) in
+    let sums = rw whole at c.loop-argument.invariant in
+    let some = eqb-false (length c.args.arguments.now) 0 (sym c.if-is_empty.ensures) in
+    whole_summed in_order c.args.arguments.now pieces are summaries (record { date = _; counter = c.loop-argument.least }) (record { date = _; counter = c.loop-argument.greatest }) _ (omega (arith, some)) refl refl sums.0 sums.1

@@ -3,4 +3,4 @@ use Rattle.bptree_parts_tests.proofs.callers.groups.size_of_the_greatest_group.G
 
 pub returns-in-Some-clause-size : goal.returns-in-Some-clause-size
 returns-in-Some-clause-size g c = λ groups h summary bound there.
-    greatest_size g.met.G.Ord.total groups c.in-Some.field-0-0.now h c.in-Some.size (c.in-Some.ensures groups summary) bound there
+    greatest_size g.met.G.Ord.total groups c.in-Some.field-0-0.now h c.in-Some.size (c.in-Some.ensures.greatest groups summary) bound there
