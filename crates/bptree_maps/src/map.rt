@@ -202,7 +202,8 @@ impl<K: Key, V: Drop, A: Argument<K>> BPlusTreeMap<K, V, A> {
     ) -> Result<Option<(&K, &V)>, AllocError>
     where
         A: SearchArgument<K>,
-        ensures { IfOk result (λ answer. IsSelected A.selects query self.now (option_map (λ pair. (pair.0.now, pair.1.now)) answer)) }
+        ensures selected { IfOk result (λ answer. IsSelected A.selects query self.now (option_map (λ pair. (pair.0.now, pair.1.now)) answer)) }
+        ensures sure { A.needs_no_memory → IsOk result }
     {
         self.inner.get_by_argument(query)
     }
@@ -220,6 +221,7 @@ impl<K: Key, V: Drop, A: Argument<K>> BPlusTreeMap<K, V, A> {
         ensures* writes_back { sem 𝓛 (LendsSoOk (the_row K.row V.row A.row K.Key.own K.Clone K.Ord.own K.Eq.own K.PartialEq K.PartialOrd.own A.Argument.own A.Clone A.Default) V.row self.entry result (λ n w. IfOk result (λ r. WritesAt A.selects query self.old r.now w n)) (λ n. n ≡ self.old)) }
         ensures value { IfOk result (λ lent. (i : ℕ) × A.selects query (keys_of self.old) (Some i) × (slice_get (values_of self.old) i ≡ Some lent.now)) }
         ensures absent { IfErr result (λ error. error ≡ SelectError.NotFound → A.selects query (keys_of self.old) None) }
+        ensures sure { A.needs_no_memory → IfErr result (λ error. error ≡ SelectError.NotFound) }
     {
         self.inner.get_mut_by_argument(query)
     }
@@ -248,6 +250,7 @@ impl<K: Key, V: Drop, A: Argument<K>> BPlusTreeMap<K, V, A> {
         A: RankArgument<K>,
         ensures ranked { IfOk result (λ answer. MatchResult answer (A.ranks k.now (keys_of self.now)) (A.ranks k.now (keys_of self.now))) }
         ensures present { IfOk result (λ answer. is_ok answer ≡ has K.cmp self.now k.now) }
+        ensures sure { A.needs_no_memory → IsOk result }
     {
         self.inner.rank_by_argument(k)
     }
@@ -338,6 +341,7 @@ impl<K: Key, V: Drop, A: Argument<K>> BPlusTreeMap<K, V, A> {
         A: SearchArgument<K>,
         ensures rest { IfOk result (λ pairs. IsPartSelected A.selects query self.now n pairs) }
         ensures ascending { IfOk result (λ pairs. IsAscending K.cmp pairs) }
+        ensures sure { A.needs_no_memory → IsOk result }
         ensures runs { ShowsInOrder (deref_pair {K = K} {X = V}) }
     {
         Ok(Iter {

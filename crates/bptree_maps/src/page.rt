@@ -1,5 +1,5 @@
 //! Pages of a map: so many pairs each, in the order of their keys, and counted from 0.
-ghost use Rattle.std.specs.Prelude.{◌≡◌, ◌≤◌, ◌/◌, ℕ, List, [], length, if◌then◌else◌, IfOk, Ok, Err};
+ghost use Rattle.std.specs.Prelude.{◌≡◌, ◌≤◌, ◌/◌, ℕ, List, [], length, if◌then◌else◌, IfOk, IsOk, Ok, Err};
 ghost use Rattle.std.specs.Int.{div_ceil};
 ghost use Rattle.std.specs.Map.{keys_of};
 ghost use Rattle.std.specs.Map.Iter.{ShowsInOrder, deref_pair};
@@ -25,6 +25,7 @@ pub fn page<K: Key, V: Drop>(
     requires { 1 ≤ s }
     ensures rest { IfOk result (λ pairs. pairs ≡ page_of_list map.now p s) }
     ensures ascending { IfOk result (λ pairs. IsAscending K.cmp pairs) }
+    ensures sure { IsOk result }
     ensures runs { ShowsInOrder (deref_pair {K = K} {X = V}) }
 {
     // Read, so that it is known that no place is as great as the greatest number.
@@ -69,7 +70,8 @@ pub fn page_of<K: Key, V: Drop>(
     s: usize,
 ) -> Result<Result<usize, usize>, AllocError>
     requires { 1 ≤ s }
-    ensures { IfOk result (λ answer. let at = count_below K.cmp k.now (keys_of map.now) / s in answer ≡ (if has K.cmp map.now k.now then Ok at else Err at)) }
+    ensures page { IfOk result (λ answer. let at = count_below K.cmp k.now (keys_of map.now) / s in answer ≡ (if has K.cmp map.now k.now then Ok at else Err at)) }
+    ensures sure { IsOk result }
 {
     match map.rank_by_argument(k)? {
         Ok(rank) => Ok(Ok(rank / s)),

@@ -1,5 +1,5 @@
 //! Parts of the contents of a tree that stands in a store, by the places where they begin and end.
-ghost use Rattle.std.specs.Prelude.{◌≡◌, ◌+◌, ◌-◌, ◌<◌, ◌≤◌, ◌^◌, ◌&&◌, ℕ, Option, IfOk, filter, false, true, length, min, not};
+ghost use Rattle.std.specs.Prelude.{◌≡◌, ◌+◌, ◌-◌, ◌<◌, ◌≤◌, ◌^◌, ◌&&◌, ℕ, Option, IfOk, IsOk, filter, false, true, length, min, not};
 ghost use Rattle.std.specs.Map.{keys_of};
 ghost use Rattle.std.specs.Option.{option_copied};
 ghost use Rattle.bptree_arguments.specs.Selection.{IsPlaceIn};
@@ -197,7 +197,8 @@ where
     S::Argument: SearchArgument<S::K>,
     requires shape { IsWellShaped S.K.cmp S.Argument.is_summary (S.slots store.now) height root }
     requires fits { length (pairs_at (S.slots store.now) height root) < 2 ^ 64 }
-    ensures { IfOk result (λ found. (o : Option ℕ) × IsPlaceIn (pairs_at (S.slots store.now) height root) o × S.Argument.selects query (keys_of (pairs_at (S.slots store.now) height root)) o × IsPart (S.slots store.now) height root found (part_at (pairs_at (S.slots store.now) height root) o n)) }
+    ensures part { IfOk result (λ found. (o : Option ℕ) × IsPlaceIn (pairs_at (S.slots store.now) height root) o × S.Argument.selects query (keys_of (pairs_at (S.slots store.now) height root)) o × IsPart (S.slots store.now) height root found (part_at (pairs_at (S.slots store.now) height root) o n)) }
+    ensures sure { S.Argument.needs_no_memory → IsOk result }
 {
     match find_by_argument(store, root, height, query)? {
         None => Ok(no_part((first_leaf(store, root, height), 0))),

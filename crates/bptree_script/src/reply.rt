@@ -1,5 +1,5 @@
 //! The answers to lines.
-ghost use Rattle.std.specs.Prelude.{◌≡◌, ◌≤◌, [], ◌∷◌, ◌++◌, codes, decimal, length, MatchResult, OnOk, option_map, slice_get};
+ghost use Rattle.std.specs.Prelude.{◌≡◌, ◌≤◌, [], ◌∷◌, ◌++◌, codes, decimal, length, OnOk, option_map, slice_get};
 ghost use Rattle.std.specs.Map.{keys_of};
 ghost use Rattle.std.specs.Ordering.{nat_cmp};
 ghost use Rattle.bptree_arguments.specs.CountLaws.{count_below};
@@ -141,7 +141,7 @@ fn send_page<W: Write>(
     p: u64,
     s: u64,
 ) -> Result<(), ServeError>
-    ensures { Replies out.old out.new (page_text tree.now.contents p s) result }
+    ensures { SendsOrFails out.old out.new (page_text tree.now.contents p s) result }
 {
     if s == 0 {
         return out.send(b"bad");
@@ -150,7 +150,7 @@ fn send_page<W: Write>(
     let _len = tree.len();
     match tree.range_by_argument(p.saturating_mul(s) as usize, s as usize) {
         Ok(pairs) => send_pairs(out, pairs, End::Front),
-        Err(_) => Err(ServeError::OutOfMemory),
+        Err(_) => unreachable!(),
     }
 }
 
@@ -160,11 +160,11 @@ fn send_place<W: Write>(
     tree: &NumberTree,
     place: u64,
 ) -> Result<(), ServeError>
-    ensures { Replies out.old out.new (found_text (slice_get tree.now.contents place)) result }
+    ensures { SendsOrFails out.old out.new (found_text (slice_get tree.now.contents place)) result }
 {
     match tree.get_by_argument(place as usize) {
         Ok(pair) => send_found(out, pair),
-        Err(_) => Err(ServeError::OutOfMemory),
+        Err(_) => unreachable!(),
     }
 }
 
@@ -182,45 +182,45 @@ fn send_beside<W: Write>(
 }
 
 // A cursor on the key, which need not be there.
-fn cursor_on(tree: &NumberTree, key: u64) -> Result<Cursor<u64>, ServeError>
-    ensures { MatchResult result (λ cursor. cursor_key cursor ≡ key) (λ error. error ≡ ServeError.OutOfMemory) }
+fn cursor_on(tree: &NumberTree, key: u64) -> Cursor<u64>
+    ensures { cursor_key result ≡ key }
 {
     match tree.get_cursor(&key) {
-        Ok(Some((cursor, _))) => Ok(cursor),
-        _ => Err(ServeError::OutOfMemory),
+        Ok(Some((cursor, _))) => cursor,
+        _ => unreachable!(),
     }
 }
 
 // The pair with the least greater key, if there is one.
 fn send_next<W: Write>(out: &mut Output<W>, tree: &NumberTree, key: u64) -> Result<(), ServeError>
-    ensures { Replies out.old out.new (found_text (next nat_cmp tree.now.contents key)) result }
+    ensures { SendsOrFails out.old out.new (found_text (next nat_cmp tree.now.contents key)) result }
 {
-    let cursor = cursor_on(tree, key)?;
+    let cursor = cursor_on(tree, key);
     match cursor.next_with_value(tree) {
         Ok(found) => send_beside(out, found),
-        Err(_) => Err(ServeError::OutOfMemory),
+        Err(_) => unreachable!(),
     }
 }
 
 // The pair with the greatest smaller key, if there is one.
 fn send_prev<W: Write>(out: &mut Output<W>, tree: &NumberTree, key: u64) -> Result<(), ServeError>
-    ensures { Replies out.old out.new (found_text (previous nat_cmp tree.now.contents key)) result }
+    ensures { SendsOrFails out.old out.new (found_text (previous nat_cmp tree.now.contents key)) result }
 {
-    let cursor = cursor_on(tree, key)?;
+    let cursor = cursor_on(tree, key);
     match cursor.prev_with_value(tree) {
         Ok(found) => send_beside(out, found),
-        Err(_) => Err(ServeError::OutOfMemory),
+        Err(_) => unreachable!(),
     }
 }
 
 // Whether a key is there, and how many keys are smaller.
 fn send_rank<W: Write>(out: &mut Output<W>, tree: &NumberTree, key: u64) -> Result<(), ServeError>
-    ensures { Replies out.old out.new (rank_text (has nat_cmp tree.now.contents key) (count_below nat_cmp key (keys_of tree.now.contents))) result }
+    ensures { SendsOrFails out.old out.new (rank_text (has nat_cmp tree.now.contents key) (count_below nat_cmp key (keys_of tree.now.contents))) result }
 {
     match tree.rank_by_argument(&key) {
         Ok(Ok(smaller)) => send_labelled(out, b"in ", smaller as u64),
         Ok(Err(smaller)) => send_labelled(out, b"out ", smaller as u64),
-        Err(_) => Err(ServeError::OutOfMemory),
+        Err(_) => unreachable!(),
     }
 }
 

@@ -1,5 +1,5 @@
 //! A place among the pairs of a tree, by its key.
-ghost use Rattle.std.specs.Prelude.{◌≡◌, ◌-◌, [], length, slice_get, IfOk, Ok, None};
+ghost use Rattle.std.specs.Prelude.{◌≡◌, ◌-◌, [], length, slice_get, IfOk, IsOk, Ok, None};
 ghost use Rattle.std.specs.declared.cmp.Ordering.TheVariants.{Equal};
 ghost use Rattle.std.specs.Option.{option_copied, option_map};
 ghost use Rattle.bptree_keys.specs.Contents.{has, next, previous, value};
@@ -26,7 +26,8 @@ pub struct Cursor<K> {
 impl<K: Key> Cursor<K> {
     // A cursor on a clone of a key, which remembers a place.
     pub(crate) fn at(place: (LeafNodeId, usize), key: &K) -> Result<Self, AllocError>
-        ensures { IfOk result (λ cursor. K.cmp (cursor_key cursor) key.now ≡ Equal) }
+        ensures cursor { IfOk result (λ cursor. K.cmp (cursor_key cursor) key.now ≡ Equal) }
+        ensures sure { K.is_infallible key.now → IsOk result }
     {
         let (leaf, offset) = place;
         Ok(Cursor {
@@ -51,6 +52,7 @@ impl<K: Key> Cursor<K> {
         ensures cursor { IfOk result (λ answer. StandsAt K.cmp (slice_get tree.now.contents 0) (option_map (λ found. found.0) answer)) }
         ensures value { IfOk result (λ answer. option_map (λ found. found.1.now) answer ≡ option_map (λ pair. pair.1) (slice_get tree.now.contents 0)) }
         ensures empty { tree.now.contents ≡ [] → result ≡ Ok None }
+        ensures sure { ((key : K) → K.is_infallible key) → IsOk result }
     {
         tree.cursor_at_first()
     }
@@ -63,6 +65,7 @@ impl<K: Key> Cursor<K> {
         ensures cursor { IfOk result (λ answer. StandsAt K.cmp (slice_get tree.now.contents (length tree.now.contents - 1)) (option_map (λ found. found.0) answer)) }
         ensures value { IfOk result (λ answer. option_map (λ found. found.1.now) answer ≡ option_map (λ pair. pair.1) (slice_get tree.now.contents (length tree.now.contents - 1))) }
         ensures empty { tree.now.contents ≡ [] → result ≡ Ok None }
+        ensures sure { ((key : K) → K.is_infallible key) → IsOk result }
     {
         tree.cursor_at_last()
     }
@@ -72,6 +75,7 @@ impl<K: Key> Cursor<K> {
     pub fn next<S: NodeStore<K = K>>(&self, tree: &BPlusTree<S>) -> Result<Option<Self>, AllocError>
         ensures cursor { IfOk result (StandsAt K.cmp (next K.cmp tree.now.contents (cursor_key self.now))) }
         ensures end { next K.cmp tree.now.contents (cursor_key self.now) ≡ None → result ≡ Ok None }
+        ensures sure { ((key : K) → K.is_infallible key) → IsOk result }
     {
         match self.next_with_value(tree)? {
             Some((cursor, _)) => Ok(Some(cursor)),
@@ -84,6 +88,7 @@ impl<K: Key> Cursor<K> {
     pub fn prev<S: NodeStore<K = K>>(&self, tree: &BPlusTree<S>) -> Result<Option<Self>, AllocError>
         ensures cursor { IfOk result (StandsAt K.cmp (previous K.cmp tree.now.contents (cursor_key self.now))) }
         ensures end { previous K.cmp tree.now.contents (cursor_key self.now) ≡ None → result ≡ Ok None }
+        ensures sure { ((key : K) → K.is_infallible key) → IsOk result }
     {
         match self.prev_with_value(tree)? {
             Some((cursor, _)) => Ok(Some(cursor)),
@@ -99,6 +104,7 @@ impl<K: Key> Cursor<K> {
         ensures cursor { IfOk result (λ answer. StandsAt K.cmp (next K.cmp tree.now.contents (cursor_key self.now)) (option_map (λ found. found.0) answer)) }
         ensures value { IfOk result (λ answer. option_map (λ found. found.1.now) answer ≡ option_map (λ pair. pair.1) (next K.cmp tree.now.contents (cursor_key self.now))) }
         ensures end { next K.cmp tree.now.contents (cursor_key self.now) ≡ None → result ≡ Ok None }
+        ensures sure { ((key : K) → K.is_infallible key) → IsOk result }
     {
         tree.cursor_after(self.leaf, self.offset, &self.key)
     }
@@ -111,6 +117,7 @@ impl<K: Key> Cursor<K> {
         ensures cursor { IfOk result (λ answer. StandsAt K.cmp (previous K.cmp tree.now.contents (cursor_key self.now)) (option_map (λ found. found.0) answer)) }
         ensures value { IfOk result (λ answer. option_map (λ found. found.1.now) answer ≡ option_map (λ pair. pair.1) (previous K.cmp tree.now.contents (cursor_key self.now))) }
         ensures end { previous K.cmp tree.now.contents (cursor_key self.now) ≡ None → result ≡ Ok None }
+        ensures sure { ((key : K) → K.is_infallible key) → IsOk result }
     {
         tree.cursor_before(self.leaf, self.offset, &self.key)
     }

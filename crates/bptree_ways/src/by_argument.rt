@@ -1,5 +1,5 @@
 //! Reads of a tree that stands in a store, by the summaries of its keys.
-ghost use Rattle.std.specs.Prelude.{◌≡◌, ◌+◌, ◌≤◌, length, IfOk, MatchResult, is_ok};
+ghost use Rattle.std.specs.Prelude.{◌≡◌, ◌+◌, ◌≤◌, length, IfOk, IsOk, MatchResult, is_ok};
 ghost use Rattle.std.specs.Map.{keys_of};
 ghost use Rattle.bptree_keys.specs.Contents.{has};
 ghost use Rattle.bptree_ways.specs.ByArgument.{IsSubtree, IsSelectedAt, GoesOn, RanksAmong};
@@ -23,7 +23,8 @@ pub fn find_by_argument<S: NodeStore>(
 where
     S::Argument: SearchArgument<S::K>,
     requires { IsSubtree S.K.cmp S.Argument.is_summary (S.slots store.now) height id }
-    ensures { IfOk result (IsSelectedAt S.Argument.selects query (S.slots store.now) height id) }
+    ensures selected { IfOk result (IsSelectedAt S.Argument.selects query (S.slots store.now) height id) }
+    ensures sure { S.Argument.needs_no_memory → IsOk result }
 {
     match id {
         NodeId::Leaf(leaf) => {
@@ -65,6 +66,7 @@ where
     requires room { length path.old + height ≤ 15 }
     ensures selected { IfOk result (IsSelectedAt S.Argument.selects query (S.slots store.now) height id) }
     ensures way { IfOk result (GoesOn S.K.cmp (S.slots store.now) height id path.old path.new) }
+    ensures sure { S.Argument.needs_no_memory → IsOk result }
 {
     match id {
         NodeId::Leaf(leaf) => {
@@ -111,6 +113,7 @@ where
     requires { IsSubtree S.K.cmp S.Argument.is_summary (S.slots store.now) height root }
     ensures ranked { IfOk result (λ answer. MatchResult answer (S.Argument.ranks k.now (keys_of (pairs_at (S.slots store.now) height root))) (S.Argument.ranks k.now (keys_of (pairs_at (S.slots store.now) height root)))) }
     ensures present { IfOk result (λ answer. is_ok answer ≡ has S.K.cmp (pairs_at (S.slots store.now) height root) k.now) }
+    ensures sure { S.Argument.needs_no_memory → IsOk result }
 {
     let rank = <S::Argument as RankArgument<S::K>>::initial_value();
     rank_below(store, root, height, k, rank)
@@ -132,6 +135,7 @@ where
     requires { IsSubtree S.K.cmp S.Argument.is_summary (S.slots store.now) height id }
     ensures ranked { IfOk result (RanksAmong S.K.cmp S.Argument.stands_for S.Argument.ranks k.now rank (keys_of (pairs_at (S.slots store.now) height id))) }
     ensures present { IfOk result (λ answer. is_ok answer ≡ has S.K.cmp (pairs_at (S.slots store.now) height id) k.now) }
+    ensures sure { S.Argument.needs_no_memory → IsOk result }
 {
     match id {
         NodeId::Leaf(leaf) => {

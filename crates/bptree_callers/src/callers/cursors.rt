@@ -97,23 +97,44 @@ fn begins_on_the_first<S: NodeStore<K = u64>>(
     Ok(key_of(tree.cursor_first()?))
 }
 
-// The key after a cursor and the one before it, with their values and without.
-fn goes_on<S: NodeStore<K = u64>>(
-    cursor: &Cursor<u64>,
-    tree: &BPlusTree<S>,
-) -> Result<Option<u64>, AllocError>
-    ensures { IfOk result (λ key. key ≡ option_map (λ pair. pair.0) (next nat_cmp tree.now.contents (cursor_key cursor.now))) }
+// The key after a cursor and the one before it, with their values and without. A clone of a number is never refused, and so no
+// step is.
+fn goes_on<S: NodeStore<K = u64>>(cursor: &Cursor<u64>, tree: &BPlusTree<S>) -> Option<u64>
+    ensures { result ≡ option_map (λ pair. pair.0) (next nat_cmp tree.now.contents (cursor_key cursor.now)) }
 {
-    Ok(key_of(cursor.next(tree)?))
+    match cursor.next(tree) {
+        Ok(found) => key_of(found),
+        Err(_) => unreachable!(),
+    }
 }
 
-fn goes_back<S: NodeStore<K = u64>>(
-    cursor: &Cursor<u64>,
-    tree: &BPlusTree<S>,
-) -> Result<Option<u64>, AllocError>
-    ensures { IfOk result (λ key. key ≡ option_map (λ pair. pair.0) (previous nat_cmp tree.now.contents (cursor_key cursor.now))) }
+fn goes_back<S: NodeStore<K = u64>>(cursor: &Cursor<u64>, tree: &BPlusTree<S>) -> Option<u64>
+    ensures { result ≡ option_map (λ pair. pair.0) (previous nat_cmp tree.now.contents (cursor_key cursor.now)) }
 {
-    Ok(key_of(cursor.prev(tree)?))
+    match cursor.prev(tree) {
+        Ok(found) => key_of(found),
+        Err(_) => unreachable!(),
+    }
+}
+
+// Nor is a step over keys of any kind whose clones are never refused, nor a copy of a cursor on such a key.
+fn steps_without_memory<S: NodeStore>(cursor: &Cursor<S::K>, tree: &BPlusTree<S>) -> bool
+    requires { (key : S.K) → S.K.is_infallible key }
+    ensures { result ≡ true }
+{
+    cursor.next(tree).is_ok()
+        && cursor.prev(tree).is_ok()
+        && Cursor::first(tree).is_ok()
+        && Cursor::last(tree).is_ok()
+}
+
+fn copies_without_memory(cursor: &Cursor<u64>) -> Cursor<u64>
+    ensures { cursor_key result ≡ cursor_key cursor.now }
+{
+    match cursor.clone() {
+        Ok(copy) => copy,
+        Err(_) => unreachable!(),
+    }
 }
 
 fn goes_on_with_the_value<S: NodeStore<K = u64, V = u64>>(
@@ -148,10 +169,7 @@ fn goes_along_three<S: NodeStore<K = u64, V = u64>>(
     ensures { IfOk result (λ found. found ≡ (Some 2, Some (2, 20))) }
 {
     match tree.get_cursor(&1)? {
-        Some((first, _)) => Ok((
-            goes_on(&first, tree)?,
-            goes_on_with_the_value(&first, tree)?,
-        )),
+        Some((first, _)) => Ok((goes_on(&first, tree), goes_on_with_the_value(&first, tree)?)),
         None => unreachable!(),
     }
 }
@@ -179,8 +197,8 @@ fn keeps_its_neighbours<S: NodeStore<K = u64, V = u64>>(
             tree.remove(&2)?;
             Ok((
                 cursor.exists(tree),
-                goes_back(&cursor, tree)?,
-                goes_on(&cursor, tree)?,
+                goes_back(&cursor, tree),
+                goes_on(&cursor, tree),
             ))
         }
         None => unreachable!(),

@@ -1,7 +1,6 @@
 //! Callers of maps.
 ghost use Rattle.std.specs.Prelude.{◌≡◌, ◌<◌, ◌≤◌, ◌-◌, ◌+◌, ◌*◌, ◌^◌, ◌∷◌, [], ℕ, length, min, true, false, slice_get, remove, if◌then◌else◌, IfOk, IfErr, OnErr, OnOk, IfSome, IsTrue, Some, None};
 ghost use Rattle.std.specs.Map.{keys_of};
-ghost use Rattle.std.specs.Ordering.{nat_cmp};
 ghost use Rattle.std.specs.Option.{option_copied, option_map};
 ghost use Rattle.bptree_arguments.specs.CountLaws.{count_below};
 ghost use Rattle.bptree_arguments.specs.Visits.{answered};
@@ -274,37 +273,62 @@ fn counts_all_keys(map: &BPlusTreeMap<u64, u64, Count>) -> usize
     map.root_argument().count()
 }
 
-// By a count the pair at a place is found, and none past the end.
-fn finds_the_pair_at_a_place(
-    map: &BPlusTreeMap<u64, u64, Count>,
+// By a count the pair at a place is found, and none past the end. No memory is asked for.
+fn finds_the_pair_at_a_place<K: Key, V: Drop>(
+    map: &BPlusTreeMap<K, V, Count>,
     place: usize,
-) -> Result<Option<(&u64, &u64)>, AllocError>
-    ensures { IfOk result (λ found. option_map (λ pair. (pair.0.now, pair.1.now)) found ≡ slice_get map.now place) }
+) -> Option<(&K, &V)>
+    ensures { option_map (λ pair. (pair.0.now, pair.1.now)) result ≡ slice_get map.now place }
 {
-    map.get_by_argument(place)
+    match map.get_by_argument(place) {
+        Ok(found) => found,
+        Err(_) => unreachable!(),
+    }
 }
 
-// By a count so many pairs are given from a place on, or those that are left there.
-fn counts_the_pairs_from_a_place(
-    map: &BPlusTreeMap<u64, u64, Count>,
+// By a count so many pairs are given from a place on, or those that are left there. No memory is asked for.
+fn counts_the_pairs_from_a_place<K: Key, V: Drop>(
+    map: &BPlusTreeMap<K, V, Count>,
     place: usize,
     n: usize,
-) -> Result<usize, AllocError>
-    ensures { IfOk result (λ len. len ≡ min n (length map.now - place)) }
+) -> usize
+    ensures { result ≡ min n (length map.now - place) }
 {
-    Ok(map.range_by_argument(place, n)?.len())
+    match map.range_by_argument(place, n) {
+        Ok(pairs) => pairs.len(),
+        Err(_) => unreachable!(),
+    }
 }
 
-// By a count the rank of a key is how many keys are smaller, and tells whether the key is there.
-fn ranks_by_the_smaller_keys(
-    map: &BPlusTreeMap<u64, u64, Count>,
-    k: &u64,
-) -> Result<(bool, usize), AllocError>
-    ensures { IfOk result (λ rank. rank ≡ (has nat_cmp map.now k.now, count_below nat_cmp k.now (keys_of map.now))) }
+// By a count the rank of a key is how many keys are smaller, and tells whether the key is there. No memory is asked for.
+fn ranks_by_the_smaller_keys<K: Key, V: Drop>(
+    map: &BPlusTreeMap<K, V, Count>,
+    k: &K,
+) -> (bool, usize)
+    ensures { result ≡ (has K.cmp map.now k.now, count_below K.cmp k.now (keys_of map.now)) }
 {
-    match map.rank_by_argument(k)? {
-        Ok(rank) => Ok((true, rank)),
-        Err(rank) => Ok((false, rank)),
+    match map.rank_by_argument(k) {
+        Ok(Ok(rank)) => (true, rank),
+        Ok(Err(rank)) => (false, rank),
+        Err(_) => unreachable!(),
+    }
+}
+
+// By a count a value is written at each place that there is. No memory is asked for.
+fn writes_at_a_place<K: Key, V: Drop>(
+    map: &mut BPlusTreeMap<K, V, Count>,
+    place: usize,
+    v: V,
+) -> bool
+    ensures { result ≡ false → length map.old ≤ place }
+{
+    match map.get_mut_by_argument(place) {
+        Ok(lent) => {
+            *lent = v;
+            true
+        }
+        Err(SelectError::NotFound) => false,
+        Err(SelectError::OutOfMemory) => unreachable!(),
     }
 }
 

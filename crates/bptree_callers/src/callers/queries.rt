@@ -27,26 +27,67 @@ where
     Ok(tree.get_by_argument(query)?.is_some())
 }
 
-// By a count the pair at a place is found, and none past the end.
+// By a count the pair at a place is found, and none past the end. No memory is asked for.
 fn finds_the_pair_at_a_place<S: NodeStore<K = u64, V = u64, Argument = Count>>(
     tree: &BPlusTree<S>,
     place: usize,
-) -> Result<Option<(&u64, &u64)>, AllocError>
-    ensures { IfOk result (λ found. option_map (λ pair. (pair.0.now, pair.1.now)) found ≡ slice_get tree.now.contents place) }
+) -> Option<(&u64, &u64)>
+    ensures { option_map (λ pair. (pair.0.now, pair.1.now)) result ≡ slice_get tree.now.contents place }
 {
-    tree.get_by_argument(place)
+    match tree.get_by_argument(place) {
+        Ok(found) => found,
+        Err(_) => unreachable!(),
+    }
 }
 
-// By a count the rank of a key is how many keys are smaller, and tells whether the key is there.
+// By a count the rank of a key is how many keys are smaller, and tells whether the key is there. No memory is asked for.
 fn ranks_by_the_smaller_keys<S: NodeStore<K = u64, V = u64, Argument = Count>>(
     tree: &BPlusTree<S>,
     k: &u64,
-) -> Result<(bool, usize), AllocError>
-    ensures { IfOk result (λ rank. rank ≡ (has nat_cmp tree.now.contents k.now, count_below nat_cmp k.now (keys_of tree.now.contents))) }
+) -> (bool, usize)
+    ensures { result ≡ (has nat_cmp tree.now.contents k.now, count_below nat_cmp k.now (keys_of tree.now.contents)) }
 {
-    match tree.rank_by_argument(k)? {
-        Ok(rank) => Ok((true, rank)),
-        Err(rank) => Ok((false, rank)),
+    match tree.rank_by_argument(k) {
+        Ok(Ok(rank)) => (true, rank),
+        Ok(Err(rank)) => (false, rank),
+        Err(_) => unreachable!(),
+    }
+}
+
+// An argument that needs no memory is refused none: a rank, and a place, are always told.
+fn ranks_without_memory<S: NodeStore>(
+    tree: &BPlusTree<S>,
+    k: &S::K,
+) -> <S::Argument as RankArgument<S::K>>::Rank
+where
+    S::Argument: RankArgument<S::K>,
+    requires { S.Argument.needs_no_memory }
+    ensures { S.Argument.ranks k.now (keys_of tree.now.contents) result }
+{
+    match tree.rank_by_argument(k) {
+        Ok(Ok(rank)) => rank,
+        Ok(Err(rank)) => rank,
+        Err(_) => unreachable!(),
+    }
+}
+
+fn writes_without_memory<S: NodeStore>(
+    tree: &mut BPlusTree<S>,
+    query: <S::Argument as SearchArgument<S::K>>::Query,
+    v: S::V,
+) -> bool
+where
+    S::Argument: SearchArgument<S::K>,
+    requires { S.Argument.needs_no_memory }
+    ensures { result ≡ false → S.Argument.selects query (keys_of tree.old.contents) None }
+{
+    match tree.get_mut_by_argument(query) {
+        Ok(lent) => {
+            *lent = v;
+            true
+        }
+        Err(SelectError::NotFound) => false,
+        Err(SelectError::OutOfMemory) => unreachable!(),
     }
 }
 

@@ -1,5 +1,5 @@
 //! A leaderboard: ranks of players, and players by their ranks.
-ghost use Rattle.std.specs.Prelude.{◌≡◌, IfOk, Some, None, cond, slice_get};
+ghost use Rattle.std.specs.Prelude.{◌≡◌, Some, None, cond, slice_get};
 ghost use Rattle.std.specs.Map.{keys_of};
 ghost use Rattle.std.specs.Option.{option_map};
 ghost use Rattle.std.proofs.Common.{rules};
@@ -43,12 +43,14 @@ pub fn new_board(alloc: Global, scores: &[(u32, u32)]) -> Result<Board, AllocErr
 ///
 /// It needs a map that keeps `Count`, and `rank_by_argument`, which goes down one way: a search a level, and one addition a child
 /// before the one on the way. It takes no memory, and no call is refused.
-pub fn rank_of(board: &Board, standing: &Standing) -> Result<Option<usize>, AllocError>
-    ensures { IfOk result (λ rank. rank ≡ cond (has ⟦<Standing as Ord>⟧.cmp board.now standing.now) (Some (count_below ⟦<Standing as Ord>⟧.cmp standing.now (keys_of board.now))) None) }
+pub fn rank_of(board: &Board, standing: &Standing) -> Option<usize>
+    ensures { result ≡ cond (has ⟦<Standing as Ord>⟧.cmp board.now standing.now) (Some (count_below ⟦<Standing as Ord>⟧.cmp standing.now (keys_of board.now))) None }
 {
-    match board.rank_by_argument(standing)? {
-        Ok(rank) => Ok(Some(rank)),
-        Err(_) => Ok(None),
+    match board.rank_by_argument(standing) {
+        Ok(Ok(rank)) => Some(rank),
+        Ok(Err(_)) => None,
+        // Never met: a count needs no memory.
+        Err(_) => unreachable!(),
     }
 }
 
@@ -56,22 +58,24 @@ pub fn rank_of(board: &Board, standing: &Standing) -> Result<Option<usize>, Allo
 ///
 /// It needs a map that keeps `Count`, and `get_by_argument`, which goes down one way with at most one subtraction a child. It takes
 /// no memory, and no call is refused.
-pub fn player_at(board: &Board, rank: usize) -> Result<Option<u32>, AllocError>
-    ensures { IfOk result (λ player. player ≡ option_map (λ pair. pair.0.player) (slice_get board.now rank)) }
+pub fn player_at(board: &Board, rank: usize) -> Option<u32>
+    ensures { result ≡ option_map (λ pair. pair.0.player) (slice_get board.now rank) }
 {
-    match board.get_by_argument(rank)? {
-        Some((standing, _)) => Ok(Some(standing.player)),
-        None => Ok(None),
+    match board.get_by_argument(rank) {
+        Ok(Some((standing, _))) => Some(standing.player),
+        Ok(None) => None,
+        // Never met, as above.
+        Err(_) => unreachable!(),
     }
 }
 
 /// The ranks of two standings of four, of which one is not on the board, and the players at three places.
 pub fn run(alloc: Global) -> Result<([Option<usize>; 2], [Option<u32>; 3]), AllocError> {
     let board = new_board(alloc, &[(50, 7), (90, 3), (70, 5), (70, 2)])?;
-    answers(&board)
+    Ok(answers(&board))
 }
 
-fn answers(board: &Board) -> Result<([Option<usize>; 2], [Option<u32>; 3]), AllocError> {
+fn answers(board: &Board) -> ([Option<usize>; 2], [Option<u32>; 3]) {
     let there = Standing {
         score: Reverse(70),
         player: 5,
@@ -80,11 +84,11 @@ fn answers(board: &Board) -> Result<([Option<usize>; 2], [Option<u32>; 3]), Allo
         score: Reverse(60),
         player: 1,
     };
-    let ranks = [rank_of(board, &there)?, rank_of(board, &absent)?];
+    let ranks = [rank_of(board, &there), rank_of(board, &absent)];
     let players = [
-        player_at(board, 0)?,
-        player_at(board, 3)?,
-        player_at(board, 4)?,
+        player_at(board, 0),
+        player_at(board, 3),
+        player_at(board, 4),
     ];
-    Ok((ranks, players))
+    (ranks, players)
 }

@@ -1,5 +1,5 @@
 //! Where the pairs of a tree stand, for cursors.
-ghost use Rattle.std.specs.Prelude.{◌≡◌, ◌-◌, [], length, slice_get, IfOk, IsSomeAnd, Ok, None};
+ghost use Rattle.std.specs.Prelude.{◌≡◌, ◌-◌, [], length, slice_get, IfOk, IsOk, IsSomeAnd, Ok, None};
 ghost use Rattle.std.specs.declared.cmp.Ordering.TheVariants.{Equal};
 ghost use Rattle.std.specs.Option.{option_copied, option_map};
 ghost use Rattle.bptree_keys.specs.Contents.{next, previous, value};
@@ -18,6 +18,7 @@ impl<S: NodeStore> BPlusTree<S> {
     pub fn cursor_first(&self) -> Result<Option<Cursor<S::K>>, AllocError>
         ensures cursor { IfOk result (StandsAt S.K.cmp (slice_get self.now.contents 0)) }
         ensures empty { self.now.contents ≡ [] → result ≡ Ok None }
+        ensures sure { ((key : S.K) → S.K.is_infallible key) → IsOk result }
     {
         match Cursor::first(self)? {
             Some((cursor, _)) => Ok(Some(cursor)),
@@ -27,7 +28,8 @@ impl<S: NodeStore> BPlusTree<S> {
 
     /// A cursor on `k`, which need not be there, and its value where it is. It takes what a clone of `k` takes.
     pub fn get_cursor(&self, k: &S::K) -> Result<Option<(Cursor<S::K>, Option<&S::V>)>, AllocError>
-        ensures { IfOk result (λ answer. IsSomeAnd answer (λ found. (S.K.cmp (cursor_key found.0) k.now ≡ Equal) × (option_copied found.1 ≡ value S.K.cmp self.now.contents k.now))) }
+        ensures cursor { IfOk result (λ answer. IsSomeAnd answer (λ found. (S.K.cmp (cursor_key found.0) k.now ≡ Equal) × (option_copied found.1 ≡ value S.K.cmp self.now.contents k.now))) }
+        ensures sure { S.K.is_infallible k.now → IsOk result }
     {
         let leaf = reading::leaf_for(&self.store, self.root, self.height, k);
         let (offset, value) = self.store.get_leaf(leaf).locate_slot_with_value(k);
@@ -40,6 +42,7 @@ impl<S: NodeStore> BPlusTree<S> {
         ensures cursor { IfOk result (λ answer. StandsAt S.K.cmp (slice_get self.now.contents 0) (option_map (λ found. found.0) answer)) }
         ensures value { IfOk result (λ answer. option_map (λ found. found.1.now) answer ≡ option_map (λ pair. pair.1) (slice_get self.now.contents 0)) }
         ensures end { slice_get self.now.contents 0 ≡ None → result ≡ Ok None }
+        ensures sure { ((key : S.K) → S.K.is_infallible key) → IsOk result }
     {
         let Some((place, (key, value))) = self.first_place() else {
             return Ok(None);
@@ -52,6 +55,7 @@ impl<S: NodeStore> BPlusTree<S> {
         ensures cursor { IfOk result (λ answer. StandsAt S.K.cmp (slice_get self.now.contents (length self.now.contents - 1)) (option_map (λ found. found.0) answer)) }
         ensures value { IfOk result (λ answer. option_map (λ found. found.1.now) answer ≡ option_map (λ pair. pair.1) (slice_get self.now.contents (length self.now.contents - 1))) }
         ensures end { slice_get self.now.contents (length self.now.contents - 1) ≡ None → result ≡ Ok None }
+        ensures sure { ((key : S.K) → S.K.is_infallible key) → IsOk result }
     {
         let Some((place, (key, value))) = self.last_place() else {
             return Ok(None);
@@ -69,6 +73,7 @@ impl<S: NodeStore> BPlusTree<S> {
         ensures cursor { IfOk result (λ answer. StandsAt S.K.cmp (next S.K.cmp self.now.contents key.now) (option_map (λ found. found.0) answer)) }
         ensures value { IfOk result (λ answer. option_map (λ found. found.1.now) answer ≡ option_map (λ pair. pair.1) (next S.K.cmp self.now.contents key.now)) }
         ensures end { next S.K.cmp self.now.contents key.now ≡ None → result ≡ Ok None }
+        ensures sure { ((key : S.K) → S.K.is_infallible key) → IsOk result }
     {
         let Some((place, (key, value))) = self.place_after(leaf, offset, key) else {
             return Ok(None);
@@ -86,6 +91,7 @@ impl<S: NodeStore> BPlusTree<S> {
         ensures cursor { IfOk result (λ answer. StandsAt S.K.cmp (previous S.K.cmp self.now.contents key.now) (option_map (λ found. found.0) answer)) }
         ensures value { IfOk result (λ answer. option_map (λ found. found.1.now) answer ≡ option_map (λ pair. pair.1) (previous S.K.cmp self.now.contents key.now)) }
         ensures end { previous S.K.cmp self.now.contents key.now ≡ None → result ≡ Ok None }
+        ensures sure { ((key : S.K) → S.K.is_infallible key) → IsOk result }
     {
         let Some((place, (key, value))) = self.place_before(leaf, offset, key) else {
             return Ok(None);

@@ -1,5 +1,5 @@
 //! Reads of a tree by the summaries of its keys.
-ghost use Rattle.std.specs.Prelude.{◌≡◌, IfOk, IfErr, MatchResult, is_ok, length};
+ghost use Rattle.std.specs.Prelude.{◌≡◌, IfOk, IfErr, IsOk, MatchResult, is_ok, length};
 ghost use Rattle.std.specs.Map.{keys_of};
 ghost use Rattle.std.specs.Option.{option_copied, option_map};
 ghost use Rattle.bptree_arguments.specs.Visits.{answered, IsAllowedError};
@@ -31,7 +31,8 @@ impl<S: NodeStore> BPlusTree<S> {
     ) -> Result<Option<(&S::K, &S::V)>, AllocError>
     where
         S::Argument: SearchArgument<S::K>,
-        ensures { IfOk result (λ answer. IsSelected S.Argument.selects query self.now.contents (option_map (λ pair. (pair.0.now, pair.1.now)) answer)) }
+        ensures selected { IfOk result (λ answer. IsSelected S.Argument.selects query self.now.contents (option_map (λ pair. (pair.0.now, pair.1.now)) answer)) }
+        ensures sure { S.Argument.needs_no_memory → IsOk result }
     {
         // Read, so that it is known to fit.
         let _len = self.len;
@@ -58,6 +59,7 @@ impl<S: NodeStore> BPlusTree<S> {
         S::Argument: RankArgument<S::K>,
         ensures ranked { IfOk result (λ answer. MatchResult answer (S.Argument.ranks k.now (keys_of self.now.contents)) (S.Argument.ranks k.now (keys_of self.now.contents))) }
         ensures present { IfOk result (λ answer. is_ok answer ≡ has S.K.cmp self.now.contents k.now) }
+        ensures sure { S.Argument.needs_no_memory → IsOk result }
     {
         // Read, so that it is known to fit.
         let _len = self.len;
@@ -145,6 +147,7 @@ impl<S: NodeStore> BPlusTree<S> {
         ensures* writes_back { sem 𝓛 (LendsSoOk (the_row S.row S.K.row S.V.row S.Argument.row S.NodeStore S.K.Clone S.K.Ord.own S.K.PartialEq S.K.PartialOrd.own S.Argument.Argument.own S.Argument.Clone S.Argument.Default) S.V.row self.entry result (λ n w. IfOk result (λ r. WritesSelected S.Argument.selects S.slots S.with_leaf query self.old r.now w n)) (λ n. n ≡ self.old)) }
         ensures value { IfOk result (λ lent. (i : ℕ) × S.Argument.selects query (keys_of self.old.contents) (Some i) × (slice_get (values_of self.old.contents) i ≡ Some lent.now)) }
         ensures absent { IfErr result (λ error. error ≡ SelectError.NotFound → S.Argument.selects query (keys_of self.old.contents) None) }
+        ensures sure { S.Argument.needs_no_memory → IfErr result (λ error. error ≡ SelectError.NotFound) }
     {
         // Read, so that it is known to fit.
         let _len = self.len;

@@ -1,5 +1,5 @@
 //! Parts of the contents of a tree.
-ghost use Rattle.std.specs.Prelude.{◌≡◌, IfOk};
+ghost use Rattle.std.specs.Prelude.{◌≡◌, IfOk, IsOk};
 ghost use Rattle.std.specs.Map.Iter.{ShowsInOrder, deref_pair};
 ghost use Rattle.std.specs.Option.{option_copied};
 ghost use Rattle.bptree_arguments.specs.Groups.{of_group};
@@ -46,6 +46,7 @@ impl<S: NodeStore> BPlusTree<S> {
         S::Argument: SearchArgument<S::K>,
         ensures rest { IfOk result (λ it. IsPartSelected S.Argument.selects query self.now.contents n it) }
         ensures ascending { IfOk result (λ it. IsAscending S.K.cmp it) }
+        ensures sure { S.Argument.needs_no_memory → IsOk result }
         ensures runs { ShowsInOrder (deref_pair {K = S.K} {X = S.V}) }
     {
         // Read, so that it is known to fit.

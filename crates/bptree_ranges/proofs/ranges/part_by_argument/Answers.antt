@@ -11,29 +11,29 @@ find_by_argument-requires g c =
     let slots = g.S.NodeStore.slots c.args.store.now in
     whole_subtree g.met.S.K.Ord.total g.S.Argument.Argument.is_summary slots c.args.height c.args.root (length (pairs_at slots c.args.height c.args.root)) c.requires.shape refl c.requires.fits
 
-pub returns-in-None : goal.returns-in-None
-returns-in-None g c =
+pub returns-in-None-clause-part : goal.returns-in-None-clause-part
+returns-in-None-clause-part g c =
     let slots = g.S.NodeStore.slots c.args.store.now in
     let at = (first_place g.S.Argument.Argument.is_summary slots c.args.height c.args.root c.requires.shape c.first_leaf.result c.first_leaf.ensures).0 in (
       None,
       tt,
-      rw c.in-None.is at c.in_ok-find_by_argument.ensures,
+      rw c.in-None.is at c.in_ok-find_by_argument.ensures.selected,
       rw c.no_part.ensures (empty_part slots c.args.height c.args.root (c.first_leaf.result, 0) at),
     )
 
 pub part_from-requires-clause-place : goal.part_from-requires-clause-place
 part_from-requires-clause-place g c =
     let slots = g.S.NodeStore.slots c.args.store.now in
-    (selected_place g.S.Argument.Argument.is_summary slots c.args.height c.args.root c.requires.shape g.S.Argument.SearchArgument.selects c.args.query c.in-Some.front.0 c.in-Some.front.1 (rw c.in-Some.is at c.in_ok-find_by_argument.ensures)).0
+    (selected_place g.S.Argument.Argument.is_summary slots c.args.height c.args.root c.requires.shape g.S.Argument.SearchArgument.selects c.args.query c.in-Some.front.0 c.in-Some.front.1 (rw c.in-Some.is at c.in_ok-find_by_argument.ensures.selected)).0
 
-pub returns-in-Some : goal.returns-in-Some
-returns-in-Some g c =
+pub returns-in-Some-clause-part : goal.returns-in-Some-clause-part
+returns-in-Some-clause-part g c =
     let sum = g.S.Argument.Argument.is_summary in
     let slots = g.S.NodeStore.slots c.args.store.now in
     let selects = g.S.Argument.SearchArgument.selects in
     let leaf = c.in-Some.front.0 in
     let slot = c.in-Some.front.1 in
-    let found : IsSelectedAt selects c.args.query slots c.args.height c.args.root (Some (leaf, slot)) = rw c.in-Some.is at c.in_ok-find_by_argument.ensures in (
+    let found : IsSelectedAt selects c.args.query slots c.args.height c.args.root (Some (leaf, slot)) = rw c.in-Some.is at c.in_ok-find_by_argument.ensures.selected in (
       Some (start slots c.args.height c.args.root leaf + slot),
       selected_within sum slots c.args.height c.args.root c.requires.shape selects c.args.query leaf slot found,
       (selected_place sum slots c.args.height c.args.root c.requires.shape selects c.args.query leaf slot found).1,

@@ -10,6 +10,6 @@ use Rattle.bptree_script.proofs.reply.send_next.Goals as goal
 pub returns-in-Ok : goal.returns-in-Ok
 returns-in-Ok g c =
     let pairs = c.args.tree.now.contents in
-    let there = beside_is (λ v. v.now) (next nat_cmp pairs (cursor_key c.in_ok-cursor.cursor)) c.in-Ok.found c.in-Ok.ensures.cursor c.in-Ok.ensures.value in
-    let found = ap found_text (sym (there ∙ ap (next nat_cmp pairs) c.in_ok-cursor.ensures)) in
+    let there = beside_is (λ v. v.now) (next nat_cmp pairs (cursor_key c.cursor_on-cursor.result)) c.in-Ok.found c.in-Ok.ensures.cursor c.in-Ok.ensures.value in
+    let found = ap found_text (sym (there ∙ ap (next nat_cmp pairs) c.cursor_on-cursor.ensures)) in
     rw found (search rules)

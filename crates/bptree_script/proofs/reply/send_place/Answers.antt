@@ -5,5 +5,5 @@ use Rattle.bptree_script.proofs.reply.send_place.Goals as goal
 
 pub returns-in-Ok : goal.returns-in-Ok
 returns-in-Ok g c =
-    let found = ap found_text (sym (selected_is c.args.place c.args.tree.now.contents _ c.in-Ok.ensures)) in
+    let found = ap found_text (sym (selected_is c.args.place c.args.tree.now.contents _ c.in-Ok.ensures.selected)) in
     rw found (search rules)

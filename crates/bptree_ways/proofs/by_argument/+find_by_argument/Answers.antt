@@ -42,8 +42,8 @@ find_by_argument-requires g t c κs within =
       ),
     )
 
-pub returns-in-None : goal.returns-in-None
-returns-in-None g t c =
+pub returns-in-None-clause-selected : goal.returns-in-None-clause-selected
+returns-in-None-clause-selected g t c =
     let total = g.met.S.K.Ord.total in
     let sum = g.S.Argument.Argument.is_summary in
     let slots = g.S.NodeStore.slots c.args.store.now in
@@ -53,8 +53,8 @@ returns-in-None g t c =
     (leaf_none total sum slots g.S.Argument.SearchArgument.selects c.args.query c.keys-keys.result.now c.args.height c.in-Leaf.leaf c.get_leaf.result.now s c.get_leaf.ensures c.keys-keys.ensures.value
     (rw c.in-None.is at (c.in_ok-locate_in_leaf-in-Leaf.ensures.selected (rw c.keys-keys.ensures.value sorted))))
 
-pub returns-in-Some : goal.returns-in-Some
-returns-in-Some g t c =
+pub returns-in-Some-clause-selected : goal.returns-in-Some-clause-selected
+returns-in-Some-clause-selected g t c =
     let total = g.met.S.K.Ord.total in
     let sum = g.S.Argument.Argument.is_summary in
     let slots = g.S.NodeStore.slots c.args.store.now in
@@ -65,8 +65,8 @@ returns-in-Some g t c =
     (rw c.in-Some.is at (c.in_ok-locate_in_leaf-in-Leaf.ensures.in_range (rw c.keys-keys.ensures.value sorted)))
     (rw c.in-Some.is at (c.in_ok-locate_in_leaf-in-Leaf.ensures.selected (rw c.keys-keys.ensures.value sorted))))
 
-pub returns-in-None-2 : goal.returns-in-None-2
-returns-in-None-2 g t c =
+pub returns-in-None-2-clause-selected : goal.returns-in-None-2-clause-selected
+returns-in-None-2-clause-selected g t c =
     let total = g.met.S.K.Ord.total in
     let sum = g.S.Argument.Argument.is_summary in
     let slots = g.S.NodeStore.slots c.args.store.now in
@@ -75,8 +75,8 @@ returns-in-None-2 g t c =
     (nowhere total sum slots g.S.Argument.SearchArgument.selects c.args.query c.in_ok-locate_in_inner-in-Inner.field-0 c.arguments.result.now c.in_ok-locate_in_inner-in-Inner.ensures.leads
     c.args.height c.in-Inner.inner c.get_inner-node.result.now s c.get_inner-node.ensures c.arguments.ensures.value c.in-None-2.is)
 
-pub returns-in-Some-2 : goal.returns-in-Some-2
-returns-in-Some-2 g t c =
+pub returns-in-Some-2-clause-selected : goal.returns-in-Some-2-clause-selected
+returns-in-Some-2-clause-selected g t c =
     let total = g.met.S.K.Ord.total in
     let sum = g.S.Argument.Argument.is_summary in
     let slots = g.S.NodeStore.slots c.args.store.now in
@@ -86,4 +86,4 @@ returns-in-Some-2 g t c =
     (IfOk-weaker c.find_by_argument.result (IsSelectedAt selects c.in-Some-2.next slots (c.args.height - 1) c.child_id-child.result) (IsSelectedAt selects c.args.query slots c.args.height (Inner c.in-Inner.inner))
     (λ found selected. found_below total sum slots selects c.args.query c.in_ok-locate_in_inner-in-Inner.field-0 c.arguments.result.now c.in_ok-locate_in_inner-in-Inner.ensures.leads
     c.args.height c.in-Inner.inner c.get_inner-node.result.now s c.get_inner-node.ensures c.arguments.ensures.value c.in-Some-2.place c.in-Some-2.next c.in-Some-2.is c.child_id-child.result c.child_id-child.ensures found selected)
-    c.find_by_argument.ensures)
+    c.find_by_argument.ensures.selected)

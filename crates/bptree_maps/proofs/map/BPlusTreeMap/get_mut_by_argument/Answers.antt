@@ -10,5 +10,5 @@ returns g c = rw (← c.self.view_is) (
     λ w ok. IfOk-weaker c.get_mut_by_argument.result _ _ (λ r writes. record { place = writes.place; selected = writes.selected; value = writes.value; contents = writes.contents }) (c.get_mut_by_argument.follows.holds w ok),
     on_err_weaker c.get_mut_by_argument.result (λ same. ap (λ tree. tree.contents) same) c.get_mut_by_argument.follows.holds-at-none,
   ),
-  record { writes_back = tt; value = c.get_mut_by_argument.ensures.value; absent = c.get_mut_by_argument.ensures.absent },
+  record { writes_back = tt; value = c.get_mut_by_argument.ensures.value; absent = c.get_mut_by_argument.ensures.absent; sure = c.get_mut_by_argument.ensures.sure },
 )

@@ -6,8 +6,8 @@ use Rattle.bptree_shape.proofs.Walk.{tree_ascends}
 use Rattle.bptree_ascent.specs.NodeTree.{NodeTree}
 use Rattle.bptree_tree.proofs.tree.BPlusTree.get_cursor.Goals as goal
 
-pub returns : goal.returns
-returns g c =
+pub returns-clause-cursor : goal.returns-clause-cursor
+returns-clause-cursor g c =
     let total = g.met.S.K.Ord.total in
     let tree = c.self.inside in
     let slots = g.S.NodeStore.slots tree.store in
@@ -15,7 +15,7 @@ returns g c =
     let node = c.get_leaf.result.now in
     let ascending = tree_ascends total slots (root_least tree.height) tree.height tree.root None None c.self.invariant.0.tree in
     let sorted = leaf_ascends total slots tree.height tree.root leaf node c.leaf_for-leaf.ensures.stands ascending c.get_leaf.ensures in (
-      c.in_ok-at.ensures,
+      c.in_ok-at.ensures.cursor,
       (c.locate_slot_with_value-offset.ensures.contents sorted).1
           ∙ (sym (value_in_leaf total slots tree.height tree.root c.args.k.now leaf node c.leaf_for-leaf.ensures c.get_leaf.ensures)
           ∙ ap (λ (t : NodeTree _ _ _ _). value g.S.K.Ord.cmp t.contents c.args.k.now) c.self.view_is),

@@ -16,7 +16,7 @@ invariant_of-self-lent g c = λ w.
     let slot = c.in-Ok-Some.slot in
     let node = c.get_mut_leaf.result.now in
     let read = c.get_mut_leaf.ensures.value in
-    let found : IsSelectedAt g.S.Argument.SearchArgument.selects c.args.query slots tree.height tree.root (Some (leaf, slot)) = rw c.in-Ok-Some.field-0-is at c.in-Ok-Some.ensures in
+    let found : IsSelectedAt g.S.Argument.SearchArgument.selects c.args.query slots tree.height tree.root (Some (leaf, slot)) = rw c.in-Ok-Some.field-0-is at c.in-Ok-Some.ensures.selected in
     let written = record node { pairs = set_value_at node.pairs slot w } in
     let updates = g.met.S.NodeStore.with_leaf_updates tree.store leaf.0 written found.0.present in
     let new = store (g.S.NodeStore.with_leaf tree.store leaf.0 written) in
@@ -36,7 +36,7 @@ returns-in-Ok-Some g c =
     let slot = c.in-Ok-Some.slot in
     let node = c.get_mut_leaf.result.now in
     let read = c.get_mut_leaf.ensures.value in
-    let found : IsSelectedAt g.S.Argument.SearchArgument.selects c.args.query slots tree.height tree.root (Some (leaf, slot)) = rw c.in-Ok-Some.field-0-is at c.in-Ok-Some.ensures in
+    let found : IsSelectedAt g.S.Argument.SearchArgument.selects c.args.query slots tree.height tree.root (Some (leaf, slot)) = rw c.in-Ok-Some.field-0-is at c.in-Ok-Some.ensures.selected in
     let within = slot_within slots leaf node slot read found.1 in
     let sum = g.S.Argument.Argument.is_summary in
     let place = length (pairs_of slots found.0.before) + slot in
@@ -47,5 +47,5 @@ returns-in-Ok-Some g c =
     set_pairs g.S.K.Ord.cmp sum slots (store (g.S.NodeStore.with_leaf tree.store leaf.0 written)) tree.height tree.root c.self.invariant.0 leaf node read found.0 slot within w updates in
     rw (← c.self.view_is) (
       (refl, λ w ok. record { place = place; selected = found.2; value = value; contents = pairs w; leaf = leaf; slot = slot; node = node; stands = found.0; here = read; at = refl; store = refl; root = refl; height = refl; root_argument = refl }, tt),
-      record { writes_back = tt; value = (place, found.2, value); absent = tt },
+      record { writes_back = tt; value = (place, found.2, value); absent = tt; sure = λ _. tt },
     )

@@ -13,7 +13,7 @@ new-requires g c =
     let tree = c.self.inside in
     let slots = g.S.NodeStore.slots tree.store in
     let pairs = pairs_at slots tree.height tree.root in
-    let found = c.in_ok-part.ensures in
+    let found = c.in_ok-part.ensures.part in
     (part_between_places g.S.Argument.Argument.is_summary slots tree.height tree.root c.self.invariant.0 c.in_ok-part.part (part_at pairs found.0 c.args.n) found.3).0
 
 pub returns-clause-rest : goal.returns-clause-rest
@@ -21,7 +21,7 @@ returns-clause-rest g c =
     let tree = c.self.inside in
     let slots = g.S.NodeStore.slots tree.store in
     let pairs = pairs_at slots tree.height tree.root in
-    let found = c.in_ok-part.ensures in
+    let found = c.in_ok-part.ensures.part in
     let shown = c.new.ensures ∙ (part_between_places g.S.Argument.Argument.is_summary slots tree.height tree.root c.self.invariant.0 c.in_ok-part.part (part_at pairs found.0 c.args.n) found.3).1 in
     rw (← c.self.view_is) (found.0, found.1, found.2, shown)
 
@@ -30,7 +30,7 @@ returns-clause-ascending g c =
     let tree = c.self.inside in
     let slots = g.S.NodeStore.slots tree.store in
     let pairs = pairs_at slots tree.height tree.root in
-    let found = c.in_ok-part.ensures in
+    let found = c.in_ok-part.ensures.part in
     let shown = c.new.ensures ∙ (part_between_places g.S.Argument.Argument.is_summary slots tree.height tree.root c.self.invariant.0 c.in_ok-part.part (part_at pairs found.0 c.args.n) found.3).1 in
     let all = tree_ascends g.met.S.K.Ord.total slots (root_least tree.height) tree.height tree.root None None c.self.invariant.0.tree in
     subst (IsAscending g.S.K.Ord.cmp) (sym shown) (part_at_ascends g.met.S.K.Ord.total pairs found.0 c.args.n all)
