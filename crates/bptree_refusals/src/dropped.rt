@@ -128,13 +128,24 @@ impl Taken for BPlusTreeMap<Tallied, Tallied> {
     }
 }
 
+// The first value is a key again, and so equal to one that is there.
 impl Taken for BPlusTreeSet<Tallied> {
     fn taken(alloc: Global, pairs: Vec<(Tallied, Tallied)>) -> Result<usize, AllocError> {
         let mut keys = Vec::new(alloc);
-        for (key, _) in pairs {
+        let mut again = None;
+        for (key, value) in pairs {
             keys.push(key)?;
+            if again.is_none() {
+                again = Some(value);
+            }
         }
-        Ok(BPlusTreeSet::from_iter(alloc, keys)?.len())
+        let mut set: Self = BPlusTreeSet::from_iter(alloc, keys)?;
+        if let Some(key) = again {
+            if set.insert(key).ok() != Some(false) {
+                return Ok(0);
+            }
+        }
+        Ok(set.len())
     }
 }
 
