@@ -3,8 +3,8 @@ use Rattle.bptree_maps.proofs.PageLemmas.{page_is}
 use Rattle.bptree_script.proofs.PairLemmas.{page_text-is}
 use Rattle.bptree_script.proofs.reply.send_page.Goals as goal
 
-pub returns-in-Ok : goal.returns-in-Ok
-returns-in-Ok g c =
+pub returns : goal.returns
+returns g c =
     let pairs = c.args.tree.now.contents in
     let fits : length pairs < 2 ^ 64 = omega (arith, c.len-len.ensures.value, c.len-len.type_inv) in
     let shown = page_is pairs c.args.p c.args.s _ c.in-Ok.pairs c.saturating_mul.ensures fits c.in-Ok.ensures.rest in

@@ -3,7 +3,7 @@ use Rattle.bptree_script.specs.Answers.{found_text}
 use Rattle.bptree_script.proofs.PlaceLemmas.{selected_is}
 use Rattle.bptree_script.proofs.reply.send_place.Goals as goal
 
-pub returns-in-Ok : goal.returns-in-Ok
-returns-in-Ok g c =
+pub returns : goal.returns
+returns g c =
     let found = ap found_text (sym (selected_is c.args.place c.args.tree.now.contents _ c.in-Ok.ensures.selected)) in
     rw found (search rules)

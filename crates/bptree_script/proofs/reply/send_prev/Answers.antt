@@ -7,8 +7,8 @@ use Rattle.bptree_script.specs.Answers.{found_text}
 use Rattle.bptree_script.proofs.PlaceLemmas.{beside_is}
 use Rattle.bptree_script.proofs.reply.send_prev.Goals as goal
 
-pub returns-in-Ok : goal.returns-in-Ok
-returns-in-Ok g c =
+pub returns : goal.returns
+returns g c =
     let pairs = c.args.tree.now.contents in
     let there = beside_is (λ v. v.now) (previous nat_cmp pairs (cursor_key c.cursor_on-cursor.result)) c.in-Ok.found c.in-Ok.ensures.cursor c.in-Ok.ensures.value in
     let found = ap found_text (sym (there ∙ ap (previous nat_cmp pairs) c.cursor_on-cursor.ensures)) in
