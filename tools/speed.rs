@@ -1,5 +1,5 @@
 // The same calls as `bptree_examples` times, over the `BTreeMap` of Rust's standard library.
-use std::collections::BTreeMap;
+use std::collections::{BTreeMap, BTreeSet};
 use std::io::stdin;
 use std::time::Instant;
 
@@ -46,10 +46,67 @@ fn get_all(map: &BTreeMap<u64, u64>, keys: &[u64], mask: u64) -> u64 {
     sum
 }
 
+fn text_of(number: u64) -> String {
+    format!("{number:016x}")
+}
+
+fn texts(keys: &[u64], others: &[u64]) {
+    let wanted: Vec<String> = others.iter().map(|key| text_of(*key)).collect();
+    let given: Vec<String> = keys.iter().map(|key| text_of(*key)).collect();
+    let mut map = BTreeMap::new();
+    let start = Instant::now();
+    for text in given {
+        map.insert(text, 1u64);
+    }
+    tell("text-insert", start, keys.len(), map.len() as u64);
+    let start = Instant::now();
+    let mut sum = 0u64;
+    for text in &wanted {
+        if let Some(value) = map.get(text) {
+            sum = sum.wrapping_add(*value);
+        }
+    }
+    tell("text-get", start, keys.len(), sum);
+}
+
+// Every second key, from a place on, and every fourth.
+fn every_second(sorted: &[u64], first: usize) -> BTreeSet<u64> {
+    let chosen = |place: &usize| place % 2 == first || place % 4 == 0;
+    let places = (0..sorted.len()).filter(chosen);
+    places.map(|place| sorted[place]).collect()
+}
+
+fn union(sorted: &[u64]) {
+    let first = every_second(sorted, 0);
+    let second = every_second(sorted, 1);
+    let start = Instant::now();
+    let mut sum = 0u64;
+    let mut many = 0;
+    for key in first.union(&second) {
+        sum = sum.wrapping_add(*key);
+        many += 1;
+    }
+    tell("union", start, many, sum);
+}
+
+// A map of so many pairs in no order, and nothing else.
+fn fill(pairs: usize) {
+    let mut map = BTreeMap::new();
+    let mut state = 0x9e37_79b9_7f4a_7c15;
+    for _ in 0..pairs {
+        state = next_number(state);
+        map.insert(state | 1, state | 1);
+    }
+    println!("{pairs} map fill 0 {}", map.len());
+}
+
 fn main() {
     for line in stdin().lines() {
         let line = line.unwrap();
-        let (pairs, rounds) = line.split_once(' ').unwrap();
+        let Some((pairs, rounds)) = line.split_once(' ') else {
+            fill(line.parse().unwrap());
+            continue;
+        };
         let keys = odd_numbers(pairs.parse().unwrap());
         let others = shuffled(&keys);
         let mut sorted = keys.clone();
@@ -121,11 +178,17 @@ fn main() {
             let map: BTreeMap<u64, u64> = pairs.into_iter().collect();
             tell("load", start, keys.len(), map.len() as u64);
             let start = Instant::now();
+            let other = map.clone();
+            tell("clone", start, keys.len(), other.len() as u64);
+            drop(other);
+            let start = Instant::now();
             let mut sum = 0u64;
             for (key, _) in map {
                 sum = sum.wrapping_add(key);
             }
             tell("drain", start, keys.len(), sum);
+            texts(&keys, &others);
+            union(&sorted);
         }
     }
 }

@@ -5,5 +5,6 @@ pub mod GroupSizes
 pub mod GroupSums
 pub mod Groups
 pub mod Ranks
+pub mod Replaced
 pub mod Selection
 pub mod Visits

@@ -4,6 +4,7 @@ ghost use Rattle.std.specs.declared.cmp.Ordering.TheVariants.{Equal};
 ghost use Rattle.std.specs.List.{AllZip};
 ghost use Rattle.std.specs.List.Sorted.{IsStrictlySortedBy};
 ghost use Rattle.bptree_arguments.specs.Ranks.{AllAbove, AllBelow, IsSlotIn, IsSlotOf};
+ghost use Rattle.bptree_arguments.specs.Replaced.{SumsUpReplaced};
 ghost use Rattle.bptree_arguments.specs.Selection.{IsPlaceIn, LeadsTo};
 ghost use Rattle.bptree_keys.specs.Pieces.{AllNonEmpty, ArePieces, flatten};
 
@@ -35,6 +36,14 @@ pub trait Argument<K: Key>: Clone + Default + Drop {
     fn from_inner(keys: &[K], arguments: &[Self]) -> Result<Self, AllocError>
         ensures summary { IfOk result (λ a. (pieces : List (List K)) → ArePieces K.cmp pieces → AllZip is_summary arguments.now pieces → is_summary a (flatten pieces)) }
         ensures sure { needs_no_memory → IsOk result };
+
+    /// The summary of a node of which one child's summary changed: of the node's old one and of the child's old and new one, where
+    /// they tell it without the other children's. By default they don't, and the node is asked anew by `from_inner`.
+    fn from_replaced(_node: &Self, _old: &Self, _new: &Self) -> Option<Self>
+        ensures replaced { IfSome result (SumsUpReplaced is_summary K.cmp _node.now _old.now _new.now) }
+    {
+        None
+    }
 
     /// How many keys the summary stands for, where it tells that. By default it doesn't.
     fn key_count(&self) -> Option<usize>

@@ -5,6 +5,7 @@ ghost use Rattle.std.specs.List.Sorted.{IsStrictlySortedBy};
 ghost use Rattle.std.proofs.Common.{rules};
 ghost use Rattle.bptree_arguments.specs.CountLaws.{SelectsPlace, count_below};
 ghost use Rattle.bptree_arguments.specs.Ranks.{AllAbove, AllBelow, IsSlotIn, IsSlotOf};
+ghost use Rattle.bptree_arguments.specs.Replaced.{SumsUpReplaced};
 ghost use Rattle.bptree_keys.specs.Pieces.{AllNonEmpty, ArePieces, flatten};
 
 use crate::argument::{Argument, CloneArgument, RankArgument, SearchArgument};
@@ -85,6 +86,17 @@ impl<K: Key> Argument<K> for Count {
         ensures sure { IsOk result }
     {
         Ok(Count(total_of(0, arguments)))
+    }
+
+    /// The node's count less the child's old one and with its new one, in constant time; none where that is no count.
+    fn from_replaced(node: &Count, old: &Count, new: &Count) -> Option<Count>
+        ensures replaced { IfSome result (SumsUpReplaced (λ a keys. a.0 ≡ length keys) K.cmp node.now old.now new.now) }
+        ensures exact { IfSome result (λ a. a.0 + old.now.0 ≡ node.now.0 + new.now.0) }
+    {
+        match node.0.checked_sub(old.0)?.checked_add(new.0) {
+            Some(sum) => Some(Count(sum)),
+            None => None,
+        }
     }
 
     /// The count, in constant time.

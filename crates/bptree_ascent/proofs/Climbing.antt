@@ -1,5 +1,5 @@
 -- An edit is carried from a node to the one above it.
-use Rattle.std.proofs.Common.{◌≡◌, ℕ, zero, suc, ◌<◌, Bool, true, false, ◌≤◌, ◌^◌, inl, inr, List, [], ◌∷◌, ◌++◌, length, map, refl, sym, ap, subst, ◌∙◌, arith, Option, Some, slice_get}
+use Rattle.std.proofs.Common.{◌≡◌, ℕ, zero, suc, ◌<◌, Bool, true, false, ◌≤◌, ◌^◌, inl, inr, List, [], ◌∷◌, ◌++◌, length, map, refl, sym, ap, subst, ◌∙◌, arith, Option, Some, None, slice_get}
 use Rattle.std.specs.declared.cmp.Ordering.{Ordering}
 use Rattle.std.specs.Cmp.{IsTotalOrder}
 use Rattle.std.specs.List.{AllZip}
@@ -9,6 +9,8 @@ use Rattle.std.proofs.lemmas.List.{length-map}
 use mathlib.Core.Bool.{true≢false}
 use Rattle.bptree_nodes.specs.Inner.{Inner}
 use Rattle.bptree_nodes.specs.Leaf.{Leaf}
+use Rattle.bptree_arguments.specs.Replaced.{SumsUpReplaced}
+use Rattle.bptree_keys.specs.Contents.{IsAscending}
 use Rattle.bptree_keys.specs.Pieces.{ArePieces, flatten}
 use Rattle.bptree_nodes.specs.Slot.{Slot, Slots, Free, Held, Present, IsPresent, Updates}
 use Rattle.bptree_keys.specs.declared.node_id.InnerNodeId.{InnerNodeId}
@@ -20,16 +22,17 @@ use Rattle.bptree_ascent.specs.Change.{Keeps}
 use Rattle.bptree_ascent.specs.Climb.{is_held, HeldAre, least_at, Climb, Climbs, Risen}
 use Rattle.bptree_shape.specs.Edit.{CanReach, Turn, Edits}
 use Rattle.bptree_shape.specs.Outcome.{Outcome, Done}
+use Rattle.bptree_shape.specs.Order.{flat}
 use Rattle.bptree_shape.specs.Path.{Way}
 use Rattle.bptree_shape.specs.Shape.{inner_children, inner_arguments, pairs_at, root_least, IsSummed, IsTree}
-use Rattle.bptree_ascent.specs.Sums.{SumsUpAt, HasPlace, with_summary}
+use Rattle.bptree_ascent.specs.Sums.{SumsUpAt, HasPlace, with_summary, HasPlaceAbove, IsKeptAbove, ReplacesSum, SumsUpChanged}
 use Rattle.bptree_ascent.proofs.Lift.{node_keeps}
-use Rattle.bptree_ascent.proofs.NodeChanges.{set_long}
+use Rattle.bptree_ascent.proofs.NodeChanges.{set_long, get_set, some_same}
 use Rattle.bptree_shape.proofs.NodePieces.{child_keys, node_keys_flat, node_pieces, node_summaries}
 use Rattle.bptree_ascent.proofs.Rooted.{reach_of}
 use Rattle.bptree_shape.proofs.Walk.{tree_ascends}
 use Rattle.bptree_shape.proofs.Ways.{LastStep, way_last, way_can, way_few, way_summed}
-use Rattle.bptree_shape.proofs.Widen.{tree_less, node_sizes, node_stays}
+use Rattle.bptree_shape.proofs.Widen.{tree_less, node_sizes, node_stays, replaced_around}
 
 -- what a node answers for its pieces
 sums_at : {K A : Type 0} (cmp : K → K → Ordering) (is_summary : A → List K → Type 0) (slot : Slot (Inner K A)) (a : A) → SumsUpAt cmp is_summary slot a → (pieces : List (List K)) → ArePieces cmp pieces → AllZip is_summary (inner_arguments slot) pieces
@@ -37,6 +40,13 @@ sums_at : {K A : Type 0} (cmp : K → K → Ordering) (is_summary : A → List K
 sums_at cmp is_summary Free a sums pieces are zip = absurd sums
 sums_at cmp is_summary Held a sums pieces are zip = absurd sums
 sums_at cmp is_summary (Present node) a sums pieces are zip = sums pieces are zip
+
+-- what goes with a member of a list, place by place
+zip_reads : {A C Y : Type 0} (R : A → Y → Type 0) (f : C → Y) (xs : List A) (cs : List C) (i : ℕ) (a : A) (c : C) → AllZip R xs (map f cs) → slice_get xs i ≡ Some a → slice_get cs i ≡ Some c → R a (f c)
+zip_reads R f [] cs i a c zip got read = absurd (let z : None ≡ Some a = got in cc)
+zip_reads R f (x ∷ xs) [] i a c zip got read = absurd zip
+zip_reads R f (x ∷ xs) (d ∷ cs) zero a c zip got read = subst (λ y. R y (f c)) (some_same x a got) (subst (λ e. R x (f e)) (some_same d c read) zip.0)
+zip_reads R f (x ∷ xs) (d ∷ cs) (suc i) a c zip got read = zip_reads R f xs cs i a c zip.1 got read
 
 pub least_most : {X : Type 0} (top : ℕ) (path : List X) → least_at top path ≤ 16
 least_most zero [] = omega arith
@@ -186,20 +196,70 @@ module _ {K V A : Type 0} {cmp : K → K → Ordering} (total : IsTotalOrder cmp
             free = held_same;
           }
 
-      abbrev pub climbs_keeps : (above : A) → SumsUpAt cmp is_summary (after.inner number.0) above → Climbs cmp is_summary after rest above
-      climbs_keeps above sums =
+      -- the last node of the rest of the path keeps a summary of the node
+      pub place_above : HasPlaceAbove after rest
+      place_above before above j at last =
+          let up = climb_keeps in
+          let h = has_place after rest Done up before above j at last in
+          (present after rest Done up before above j at last, rw (stays after rest Done up before above j at last) (omega (arith, h.within, h.children, h.arguments)))
+
+      tree_after : IsTree cmp after 0 (suc c.climb.height) (kind.Inner number) (can now path Done c.climb rest number i child e).low (can now path Done c.climb rest number i child e).high
+      tree_after =
+          let d = c.climb in
+          let at = can now path Done d rest number i child e in
+          climb_keeps.edits.tree 0 at.low at.high (omega arith) (tree_less cmp d.old at.least 0 (suc d.height) (kind.Inner number) at.low at.high (omega arith) at.tree) at.fits
+
+      -- a summary that the old tree keeps of a child
+      kept_told : (slots : Slots (Inner K A) (Leaf K V)) (h : ℕ) (id : InnerNodeId) (node : Inner K A) (j : ℕ) (below : NodeId) (b : A) → slots.inner id.0 ≡ Present node → IsSummed slots is_summary (suc h) (kind.Inner id)
+          → slice_get node.arguments j ≡ Some b → slice_get node.children j ≡ Some below → is_summary b (keys_of (pairs_at slots h below))
+      kept_told slots h id node j below b is summed got read =
+          let zip = subst (λ (s : Slot (Inner K A)). AllZip is_summary (inner_arguments s) (map (λ d. keys_of (pairs_at slots h d)) (inner_children s))) is summed.0 in
+          zip_reads is_summary (λ d. keys_of (pairs_at slots h d)) node.arguments node.children j b below zip got read
+
+      -- what the node answers, anew or by what was replaced, is a summary of its keys
+      pub told_changed : (above : A) → SumsUpChanged after cmp is_summary rest number i old above → is_summary above (keys_of (pairs_at after (suc c.climb.height) (kind.Inner number)))
+      told_changed above (inl sums) =
           let d = c.climb in
           let up = climb_keeps in
           let at = can now path Done d rest number i child e in
+          told_up after 0 d.height number at.low at.high above tree_after (up.edits.summed (summed_there now path Done d rest number i child e))
+          (subst (λ l. length l < 2 ^ 64) (sym up.edits.pairs) (few_there now path Done d rest number i child e)) sums
+      told_changed above (inr told) =
+          let d = c.climb in
+          let up = climb_keeps in
+          let at = can now path Done d rest number i child e in
+          let s = last now path Done d rest number i child e in
+          let k = told.above in
+          let t = last after rest Done up k.rest k.id k.i k.child k.last in
+          let whole_told = kept_told d.old (suc d.height) k.id t.node k.i (kind.Inner number) told.whole t.is (summed_there after rest Done up k.rest k.id k.i k.child k.last)
+          (subst (λ (slot : Slot (Inner K A)). slice_get (inner_arguments slot) k.i ≡ Some told.whole) (stays after rest Done up k.rest k.id k.i k.child k.last) k.kept) t.read in
+          let was_told = kept_told d.old d.height number s.node i d.id old s.is (summed_there now path Done d rest number i child e) kept_there.1 s.read in
+          let h = has_place now path Done d rest number i child e in
+          let new_is : a ≡ told.new = some_same a told.new
+          (sym (get_set s.node.arguments i a (omega (arith, h.within, h.children, h.arguments))) ∙ subst (λ (slot : Slot (Inner K A)). slice_get (inner_arguments slot) i ≡ Some told.new) keeps.sets.changed told.here) in
+          let flat_is = ap (λ (slot : Slot (Inner K A)). flat (pairs_at d.old d.height) (inner_children slot)) s.is in
+          let edited_is = up.edits.pairs ∙ ap d.edit flat_is in
+          subst (λ l. is_summary above (keys_of l)) (sym edited_is)
+          (replaced_around total is_summary d.edit d.kept d.old now d.height number d.k s.node i d.id d.leaf d.turn d.local at s.is s.leads s.read d.edits told.whole old a above
+          (subst (λ l. is_summary told.whole (keys_of l)) flat_is whole_told) was_told c.told
+          (subst (λ l. IsAscending cmp l) edited_is (tree_ascends total after 0 (suc d.height) (kind.Inner number) at.low at.high tree_after))
+          (subst (λ l. length (d.edit l) < 2 ^ 64) flat_is (few_there now path Done d rest number i child e))
+          (subst (λ b. SumsUpReplaced is_summary cmp told.whole old b above) (sym new_is) told.replaced))
+
+      abbrev pub climbs_keeps : (above : A) → SumsUpChanged after cmp is_summary rest number i old above → Climbs cmp is_summary after rest above
+      climbs_keeps above sums =
+          let up = climb_keeps in
           record {
             climb = up;
             enough = least_most up.top rest;
-            told = told_up after 0 d.height number at.low at.high above (up.edits.tree 0 at.low at.high (omega arith) (tree_less cmp d.old at.least 0 (suc d.height) (kind.Inner number) at.low at.high (omega arith) at.tree) at.fits) (up.edits.summed (summed_there now path Done d rest number i child e))
-                (subst (λ l. length l < 2 ^ 64) (sym up.edits.pairs) (few_there now path Done d rest number i child e)) sums;
+            told = told_changed above sums;
           }
 
-      pub risen_keeps : (above : A) (sums : SumsUpAt cmp is_summary (after.inner number.0) above) (new : Slots (Inner K A) (Leaf K V)) (top : A) → ((up : Climbs cmp is_summary after rest above) → Risen up.climb new top) → Risen c.climb new top
+      pub risen_keeps : (above : A) (sums : SumsUpChanged after cmp is_summary rest number i old above) (new : Slots (Inner K A) (Leaf K V)) (top : A) → ((up : Climbs cmp is_summary after rest above) → Risen up.climb new top) → Risen c.climb new top
       risen_keeps above sums new top rises = let r = rises (climbs_keeps above sums) in record { edits = r.edits; free = r.free; told = r.told }
+
+      pub present_after : IsPresent (after.inner number.0)
+      present_after = rw keeps.sets.changed tt
 
       pub place_after : i < length (inner_arguments (after.inner number.0))
       place_after =

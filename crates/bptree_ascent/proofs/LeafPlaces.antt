@@ -1,4 +1,4 @@
--- Places in a leaf: where a key is, where it would go, and which key begins the right part of a cut.
+-- Places in a leaf: where a key is, where it would go, and which key begins the right half of a cut.
 use Rattle.std.proofs.Common.{◌≡◌, ℕ, zero, suc, ◌<◌, ◌≤◌, inl, inr, List, [], ◌∷◌, length, drop, refl, ◌∙◌, arith, Some, Result, Ok, Err, IfOk, slice_get, MatchResult}
 use Rattle.std.specs.declared.cmp.Ordering.{Ordering}
 use Rattle.std.specs.declared.cmp.Ordering.TheVariants.{Equal}
@@ -23,13 +23,13 @@ get_behind [] (suc i) x n above within = absurd (omega arith)
 get_behind (y ∷ xs) (suc i) x zero above within = absurd (omega arith)
 get_behind (y ∷ xs) (suc i) x (suc n) above within = get_behind xs i x n (omega arith) (omega arith)
 
--- the part of a list from a pair on starts at a key that equals the pair's
+-- the half of a list from a pair on starts at a key that equals the pair's
 pub starts_from : {K V : Type 0} (cmp : K → K → Ordering) (s : K) (l : List (K × V)) (n : ℕ) (p : K × V) → slice_get l n ≡ Some p → cmp s p.0 ≡ Equal → StartsAt cmp s (drop n l)
 starts_from cmp s [] n p read equal = cc
 starts_from cmp s (q ∷ l) zero p read equal = let same : q ≡ p = cc in rw same equal
 starts_from cmp s (q ∷ l) (suc n) p read equal = starts_from cmp s l n p read equal
 
--- the first key of the right part of a cut leaf is that of the old pair 32, unless the new pair comes there
+-- the first key of the right half of a cut leaf is that of the old pair 32, unless the new pair comes there
 pub starts_old : {K V : Type 0} (cmp : K → K → Ordering) (total : IsTotalOrder cmp) (l : List (K × V)) (slot : ℕ) (s k : K) (v : V) (p : K × V) → length l ≡ 64 → slot ≤ 64 → (slot ≡ 32 → ⊥) → slice_get l 32 ≡ Some p → cmp p.0 s ≡ Equal
     → StartsAt cmp s (drop (split_place slot) (insert l slot (k, v)))
 starts_old cmp total l slot s k v p long within other read equal =

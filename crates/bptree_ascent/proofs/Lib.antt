@@ -6,7 +6,8 @@ pub mod LeafEdit
 pub mod LeafPlaces
 pub mod Lent
 pub mod Lift
-pub mod Mended
 pub mod NodeChanges
+pub mod Relinked
 pub mod Rooted
+pub mod SlotFacts
 pub mod Undone

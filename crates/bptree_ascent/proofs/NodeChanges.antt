@@ -22,7 +22,7 @@ module _ {X : Type 0} where
   set_long (x ∷ xs) zero a = refl
   set_long (x ∷ xs) (suc i) a = ap suc (set_long xs i a)
 
-some_same : {X : Type 0} (a b : X) → Some a ≡ Some b → a ≡ b
+pub some_same : {X : Type 0} (a b : X) → Some a ≡ Some b → a ≡ b
 some_same a b e = cc
 
 module _ {K A : Type 0} where
@@ -52,14 +52,14 @@ module _ {K A : Type 0} where
       let back = sum_back was mid new place d.left old out taken.0 (place_below was place h) read got set in
       (back.0, (let parts = taken.1 in rw (back.1, ap (λ (t : K × NodeId × A). t.0) parts, ap (λ (t : K × NodeId × A). t.1) parts, ap (λ (t : K × NodeId × A). t.2) parts) refl))
 
-  -- two parts of a full node become one again
-  pub cut_back : (was left part mid new : Inner K A) (place : ℕ) (old out right : A) (up s : K) (n : NodeId) (d : Division K A) → HasPlace was place → length was.keys ≡ 64 → slice_get was.arguments place ≡ Some old
-      → IsCut (with_split was place d.left d.separator d.node d.right) left up part
-      → ((w : Inner K A) (key : K) (child : NodeId) (a : A) → left.keys ++ (up ∷ part.keys) ≡ insert w.keys place key → left.children ++ part.children ≡ insert w.children (suc place) child
-      → left.arguments ++ part.arguments ≡ insert w.arguments (suc place) a → length w.keys ≡ 64 → length w.children ≡ 65 → length w.arguments ≡ 65 → (mid ≡ w) × (◌≡◌ {A = K × NodeId × A} (s, n, right) (key, child, a)))
+  -- the undo of a split of a full node
+  pub cut_back : (was left half mid new : Inner K A) (place : ℕ) (old out right : A) (up s : K) (n : NodeId) (d : Division K A) → HasPlace was place → length was.keys ≡ 64 → slice_get was.arguments place ≡ Some old
+      → IsCut (with_split was place d.left d.separator d.node d.right) left up half
+      → ((w : Inner K A) (key : K) (child : NodeId) (a : A) → left.keys ++ (up ∷ half.keys) ≡ insert w.keys place key → left.children ++ half.children ≡ insert w.children (suc place) child
+      → left.arguments ++ half.arguments ≡ insert w.arguments (suc place) a → length w.keys ≡ 64 → length w.children ≡ 65 → length w.arguments ≡ 65 → (mid ≡ w) × (◌≡◌ {A = K × NodeId × A} (s, n, right) (key, child, a)))
       → slice_get mid.arguments place ≡ Some out → new ≡ record mid { arguments = slice_set mid.arguments place old }
       → (new ≡ was) × (◌≡◌ {A = Division K A} (record { left = out; separator = s; node = n; right = right }) d)
-  cut_back was left part mid new place old out right up s n d h full read cut undoes got set =
+  cut_back was left half mid new place old out right up s n d h full read cut undoes got set =
       let w = with_summary was place d.left in
       let long = set_long was.arguments place d.left in
       let taken = undoes w d.separator d.node d.right cut.keys (cut.children ∙ rw add-one refl) (cut.arguments ∙ rw add-one refl)

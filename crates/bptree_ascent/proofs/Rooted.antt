@@ -12,7 +12,7 @@ use Rattle.bptree_keys.specs.declared.node_id.InnerNodeId.{InnerNodeId}
 use Rattle.bptree_keys.specs.declared.node_id.LeafNodeId.{LeafNodeId}
 use Rattle.bptree_keys.specs.declared.node_id.NodeId.{NodeId}
 use Rattle.bptree_keys.specs.declared.node_id.NodeId.TheVariants as kind
-use Rattle.bptree_ascent.specs.Change.{Roots, Mends}
+use Rattle.bptree_ascent.specs.Change.{Roots, RelinksNext}
 use Rattle.bptree_shape.specs.Edit.{CanReach, Turn, Stays, Gains, fresh_of, SameLinks, LinksAt, Edits}
 use Rattle.bptree_shape.specs.Order.{flat, Chain}
 use Rattle.bptree_shape.specs.Shape.{leaf_next, inner_keys, inner_children, pairs_at, leaves_at, leaf_count, inner_count, stands, AreLinked, IsSummed, IsTree, IsWellShaped, root_least}
@@ -20,7 +20,7 @@ use Rattle.bptree_shape.specs.Outcome.{Done, Split}
 use Rattle.bptree_shape.proofs.Hinted.{count_of, count_leaves, first_or, linked_next}
 use Rattle.bptree_shape.proofs.Agreeing.{stands_le, present_if_stands, stands_if_absent}
 use Rattle.bptree_shape.proofs.Frame.{Same}
-use Rattle.bptree_ascent.proofs.Mended.{KeepsPairs, reads_same, linked_same, each_counted, linked_mended, mended_pairs, mended_inner, mended_held}
+use Rattle.bptree_ascent.proofs.Relinked.{KeepsPairs, reads_same, linked_same, each_counted, linked_relinked, relinked_pairs, relinked_inner, relinked_held}
 
 module _ {C K V : Type 0} (cmp : K → K → Ordering) (f : C → List (K × V)) (P : C → Option K → Option K → Type 0) (b : ℕ) (each : (c : C) (lo hi : Option K) → P c lo hi → b ≤ length (f c)) where
   chain_long : (ks : List K) (cs : List C) (lo hi : Option K) → Chain cmp P ks cs lo hi → b + b * length ks ≤ length (flat f cs)
@@ -167,15 +167,15 @@ module _ {K V A : Type 0} (cmp : K → K → Ordering) (is_summary : A → List 
     pub split_unlinked_pairs : pairs_at after (suc h) (kind.Inner id) ≡ edit (pairs_at old h root)
     split_unlinked_pairs = rw (roots.sets.changed, append-nil, at_left.pairs, at_right.pairs) edits.pairs
 
--- the links of a whole tree are mended behind a new leaf
+-- the links of a whole tree are right behind a new leaf
 module _ {K V A : Type 0} (cmp : K → K → Ordering) (is_summary : A → List K → Type 0) (old mid final : Slots (Inner K A) (Leaf K V)) (h : ℕ) (root : NodeId) (leaf fresh : LeafNodeId) (before after : List LeafNodeId)
     (shape : IsWellShaped cmp is_summary old h root) (was : leaves_at old h root ≡ before ++ leaf ∷ after) (at : LinksAt old mid leaf (Gains fresh))
-    (untouched : (x : LeafNodeId) → (x.0 ≡ leaf.0 → ⊥) → IsPresent (old.leaf x.0) → SameLinks old mid x) (mends : Mends mid final (leaf_next (old.leaf leaf.0)) fresh) where
-  mended_same : (height : ℕ) (top : NodeId) → Same cmp is_summary mid final height top
-  mended_same height top = reads_same cmp is_summary mid final (mended_pairs mid final fresh (leaf_next (old.leaf leaf.0)) mends) height top (λ n some. mended_inner mid final fresh (leaf_next (old.leaf leaf.0)) mends n)
+    (untouched : (x : LeafNodeId) → (x.0 ≡ leaf.0 → ⊥) → IsPresent (old.leaf x.0) → SameLinks old mid x) (relinks : RelinksNext mid final (leaf_next (old.leaf leaf.0)) fresh) where
+  relinked_same : (height : ℕ) (top : NodeId) → Same cmp is_summary mid final height top
+  relinked_same height top = reads_same cmp is_summary mid final (relinked_pairs mid final fresh (leaf_next (old.leaf leaf.0)) relinks) height top (λ n some. relinked_inner mid final fresh (leaf_next (old.leaf leaf.0)) relinks n)
 
-  pub mended_contents : (height : ℕ) (top : NodeId) → pairs_at final height top ≡ pairs_at mid height top
-  mended_contents height top = (mended_same height top).pairs
+  pub relinked_contents : (height : ℕ) (top : NodeId) → pairs_at final height top ≡ pairs_at mid height top
+  relinked_contents height top = (relinked_same height top).pairs
 
   module _ (height : ℕ) (top : NodeId) (tree : IsUnlinked cmp is_summary mid height top) (is : leaves_at mid height top ≡ before ++ leaf ∷ (fresh ∷ after)) where
     links : AreLinked old None (before ++ leaf ∷ after) None
@@ -193,34 +193,34 @@ module _ {K V A : Type 0} (cmp : K → K → Ordering) (is_summary : A → List 
     pub whole_inserted : IsWellShaped cmp is_summary final height top
     whole_inserted =
         let next = leaf_next (old.leaf leaf.0) in
-        let same = mended_same height top in
+        let same = relinked_same height top in
         record {
           tree = same.tree (root_least height) None None tree.tree;
-          leaves = λ n. same.leaves n ∙ (tree.leaves n ∙ sym (mended_pairs mid final fresh next mends n).stands);
-          inners = λ n. same.inners n ∙ (tree.inners n ∙ ap stands (sym (mended_inner mid final fresh next mends n)));
-          no_leaf_held = λ n held. tree.no_leaf_held n (mended_held mid final fresh next mends n held);
-          no_inner_held = λ n held. tree.no_inner_held n (sym (mended_inner mid final fresh next mends n) ∙ held);
+          leaves = λ n. same.leaves n ∙ (tree.leaves n ∙ sym (relinked_pairs mid final fresh next relinks n).stands);
+          inners = λ n. same.inners n ∙ (tree.inners n ∙ ap stands (sym (relinked_inner mid final fresh next relinks n)));
+          no_leaf_held = λ n held. tree.no_leaf_held n (relinked_held mid final fresh next relinks n held);
+          no_inner_held = λ n held. tree.no_inner_held n (sym (relinked_inner mid final fresh next relinks n) ∙ held);
           summed = same.summed tree.summed;
-          linked = rw (same.order, is) (linked_mended old mid final before leaf fresh untouched at after unique present (subst (λ o. Mends mid final o fresh) next_is mends) links);
+          linked = rw (same.order, is) (linked_relinked old mid final before leaf fresh untouched at after unique present (subst (λ o. RelinksNext mid final o fresh) next_is relinks) links);
         }
 
--- a leaf was split, and the links were mended behind the new one
+-- a leaf was split, and the leaf behind the new one was relinked
 module _ {K V A : Type 0} (cmp : K → K → Ordering) (is_summary : A → List K → Type 0) (edit : List (K × V) → List (K × V)) (old new : Slots (Inner K A) (Leaf K V)) (h : ℕ) (root : NodeId) (k : K) (leaf fresh : LeafNodeId)
     (shape : IsWellShaped cmp is_summary old h root) (no_leaf_held : (n : ℕ) → new.leaf n ≡ Held → ⊥) (no_inner_held : (n : ℕ) → new.inner n ≡ Held → ⊥) where
   -- below a root that stands as before
-  module _ (final : Slots (Inner K A) (Leaf K V)) (edits : Edits cmp is_summary edit (root_least h) old new h root k leaf (Gains fresh) Done) (mends : Mends new final (leaf_next (old.leaf leaf.0)) fresh) where
+  module _ (final : Slots (Inner K A) (Leaf K V)) (edits : Edits cmp is_summary edit (root_least h) old new h root k leaf (Gains fresh) Done) (relinks : RelinksNext new final (leaf_next (old.leaf leaf.0)) fresh) where
     pub whole_grown : IsWellShaped cmp is_summary final h root
     whole_grown =
-        whole_inserted cmp is_summary old new final h root leaf fresh edits.order.before edits.order.after shape edits.order.was edits.links (λ x other there. (edits.untouched x other tt there).0) mends h root
+        whole_inserted cmp is_summary old new final h root leaf fresh edits.order.before edits.order.after shape edits.order.was edits.links (λ x other there. (edits.untouched x other tt there).0) relinks h root
         (done_unlinked cmp is_summary edit old new h root k leaf shape no_leaf_held no_inner_held (Gains fresh) edits) edits.order.is
 
     pub grown_pairs : pairs_at final h root ≡ edit (pairs_at old h root)
     grown_pairs =
-        mended_contents cmp is_summary old new final h root leaf fresh edits.order.before edits.order.after shape edits.order.was edits.links (λ x other there. (edits.untouched x other tt there).0) mends h root ∙ edits.pairs
+        relinked_contents cmp is_summary old new final h root leaf fresh edits.order.before edits.order.after shape edits.order.was edits.links (λ x other there. (edits.untouched x other tt there).0) relinks h root ∙ edits.pairs
 
   -- below a new root
   module _ (after final : Slots (Inner K A) (Leaf K V)) (l : A) (s : K) (right : NodeId) (r : A) (id : InnerNodeId) (edits : Edits cmp is_summary edit (root_least h) old new h root k leaf (Gains fresh) (Split s right))
-      (roots : Roots new after id root l s right r) (mends : Mends after final (leaf_next (old.leaf leaf.0)) fresh) where
+      (roots : Roots new after id root l s right r) (relinks : RelinksNext after final (leaf_next (old.leaf leaf.0)) fresh) where
     links_after : LinksAt old after leaf (Gains fresh)
     links_after = rw roots.leaf edits.links
 
@@ -229,11 +229,11 @@ module _ {K V A : Type 0} (cmp : K → K → Ordering) (is_summary : A → List 
 
     pub whole_split : is_summary l (keys_of (pairs_at new h root)) → is_summary r (keys_of (pairs_at new h right)) → IsWellShaped cmp is_summary final (suc h) (kind.Inner id)
     whole_split left_told right_told =
-        whole_inserted cmp is_summary old after final h root leaf fresh edits.order.before edits.order.after shape edits.order.was links_after untouched_after mends (suc h) (kind.Inner id)
+        whole_inserted cmp is_summary old after final h root leaf fresh edits.order.before edits.order.after shape edits.order.was links_after untouched_after relinks (suc h) (kind.Inner id)
         (split_unlinked cmp is_summary edit old new h root k leaf shape no_leaf_held no_inner_held after (Gains fresh) l s right r id edits roots left_told right_told)
         (split_unlinked_order cmp is_summary edit old new h root k leaf shape no_leaf_held no_inner_held after (Gains fresh) l s right r id edits roots)
 
     pub split_pairs : pairs_at final (suc h) (kind.Inner id) ≡ edit (pairs_at old h root)
     split_pairs =
-        mended_contents cmp is_summary old after final h root leaf fresh edits.order.before edits.order.after shape edits.order.was links_after untouched_after mends (suc h) (kind.Inner id)
+        relinked_contents cmp is_summary old after final h root leaf fresh edits.order.before edits.order.after shape edits.order.was links_after untouched_after relinks (suc h) (kind.Inner id)
         ∙ split_unlinked_pairs cmp is_summary edit old new h root k leaf shape no_leaf_held no_inner_held after (Gains fresh) l s right r id edits roots

@@ -65,10 +65,10 @@ leaf_taken_back {K} {V} {A} was now mid new id slot node from back pair out here
           | inr other ↦ put.leaf.others n other ∙ (taken.leaf.others n other ∙ adds.leaf.others n other)
         ]
 
--- two leaves that one was split into become one again
-module _ {K V A : Type 0} (cmp : K → K → Ordering) (was now first second third new : Slots (Inner K A) (Leaf K V)) (id fresh : LeafNodeId) (slot : ℕ) (node from part back : Leaf K V) (pair out : K × V) (division : Division K A)
+-- the undo of a split of a leaf
+module _ {K V A : Type 0} (cmp : K → K → Ordering) (was now first second third new : Slots (Inner K A) (Leaf K V)) (id fresh : LeafNodeId) (slot : ℕ) (node from half back : Leaf K V) (pair out : K × V) (division : Division K A)
     (here : was.leaf id.0 ≡ Present node) (within : slot ≤ length node.pairs) (divides : DividesLeaf cmp was now id slot pair node division fresh)
-    (there : now.leaf id.0 ≡ Present from) (behind : first.leaf fresh.0 ≡ Present part) (taken : UpdatesLeaf now first id.0 Held) (took : UpdatesLeaf first second fresh.0 Held)
+    (there : now.leaf id.0 ≡ Present from) (behind : first.leaf fresh.0 ≡ Present half) (taken : UpdatesLeaf now first id.0 Held) (took : UpdatesLeaf first second fresh.0 Held)
     (put : UpdatesLeaf second third id.0 (Present back)) (freed : UpdatesLeaf third new fresh.0 Free) where
   apart : id.0 ≡ fresh.0 → ⊥
   apart same = let z : Present node ≡ Free = sym here ∙ (ap was.leaf same ∙ divides.free) in cc
@@ -76,10 +76,10 @@ module _ {K V A : Type 0} (cmp : K → K → Ordering) (was now first second thi
   left_is : from ≡ record node { pairs = divides.left; next = Some fresh }
   left_is = same_node (now.leaf id.0) from (record node { pairs = divides.left; next = Some fresh }) there divides.at_left
 
-  right_is : part ≡ record { pairs = divides.right; prev = Some id; next = node.next }
-  right_is = same_node (now.leaf fresh.0) part (record { pairs = divides.right; prev = Some id; next = node.next }) (sym (taken.leaf.others fresh.0 (λ same. apart (sym same))) ∙ behind) divides.at_right
+  right_is : half ≡ record { pairs = divides.right; prev = Some id; next = node.next }
+  right_is = same_node (now.leaf fresh.0) half (record { pairs = divides.right; prev = Some id; next = node.next }) (sym (taken.leaf.others fresh.0 (λ same. apart (sym same))) ∙ behind) divides.at_right
 
-  pub leaves_joined : ((w : List (K × V)) (item : K × V) → from.pairs ++ part.pairs ≡ insert w slot item → slot ≤ length w → (back.pairs ≡ w) × (out ≡ item)) → back.prev ≡ from.prev → back.next ≡ part.next → (new ≡ was) × (out ≡ pair)
+  pub leaves_joined : ((w : List (K × V)) (item : K × V) → from.pairs ++ half.pairs ≡ insert w slot item → slot ≤ length w → (back.pairs ≡ w) × (out ≡ item)) → back.prev ≡ from.prev → back.next ≡ half.next → (new ≡ was) × (out ≡ pair)
   leaves_joined undoes prev next = (λ i. record { inner = (freed.inner ∙ (put.inner ∙ (took.inner ∙ (taken.inner ∙ divides.inner)))) i; leaf = λ n. each n i }, undone.1)
     where
       undone : (back.pairs ≡ node.pairs) × (out ≡ pair)

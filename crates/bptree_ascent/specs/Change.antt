@@ -77,6 +77,6 @@ module _ {K V A : Type 0} (old new : Slots (Inner K A) (Leaf K V)) where
     pub sets : UpdatesLeaf old new leaf.0 (Present (record was { prev = Some prev }))
 
   -- the leaf that a link names, where it names one, has a new leaf before it
-  abbrev pub Mends : Option LeafNodeId → LeafNodeId → Type 0
-  Mends None fresh = new ≡ old
-  Mends (Some leaf) fresh = Names leaf fresh
+  abbrev pub RelinksNext : Option LeafNodeId → LeafNodeId → Type 0
+  RelinksNext None fresh = new ≡ old
+  RelinksNext (Some leaf) fresh = Names leaf fresh

@@ -1,13 +1,15 @@
 -- Summaries of the keys below a node, and the changes of a node that takes new ones.
-use Rattle.std.specs.Prelude.{◌≡◌, ℕ, ◌+◌, ◌<◌, ◌≤◌, ◌++◌, ◌∷◌, List, Some, length, slice_get, slice_set}
+use Rattle.std.specs.Prelude.{◌≡◌, ℕ, ◌+◌, ◌<◌, ◌≤◌, ◌++◌, ◌∷◌, ◌⊎◌, [], List, Some, length, slice_get, slice_set}
 use Rattle.std.specs.declared.cmp.Ordering.{Ordering}
 use Rattle.std.specs.List.{AllZip}
 use Rattle.bptree_nodes.specs.Inner.{Inner, HasKeys, with_entry}
+use Rattle.bptree_arguments.specs.Replaced.{SumsUpReplaced}
 use Rattle.bptree_keys.specs.Pieces.{ArePieces, flatten}
 use Rattle.bptree_nodes.specs.Leaf.{Leaf}
-use Rattle.bptree_nodes.specs.Slot.{Slot, Slots, Free, Held, Present, Updates}
+use Rattle.bptree_nodes.specs.Slot.{Slot, Slots, Free, Held, Present, IsPresent, Updates}
 use Rattle.bptree_keys.specs.declared.node_id.InnerNodeId.{InnerNodeId}
 use Rattle.bptree_keys.specs.declared.node_id.NodeId.{NodeId}
+use Rattle.bptree_shape.specs.Shape.{inner_arguments}
 use Rattle.bptree_ascent.specs.declared.node_changes.Division.{Division}
 
 module _ {K A : Type 0} where
@@ -74,3 +76,30 @@ module _ {K V A : Type 0} (old new : Slots (Inner K A) (Leaf K V)) (id : InnerNo
     pub cut : IsCut (with_split was place division.left division.separator division.node division.right) left up right
     pub summary : slice_get was.arguments place ≡ Some before
     pub full : length was.keys ≡ 64
+
+module _ {K V A : Type 0} (slots : Slots (Inner K A) (Leaf K V)) where
+  -- the last node of a path, where there is one, stands and has the child that the path goes on to
+  abbrev pub HasPlaceAbove : List (InnerNodeId × ℕ × NodeId) → Type 0
+  HasPlaceAbove path =
+      (rest : List (InnerNodeId × ℕ × NodeId)) (id : InnerNodeId) (i : ℕ) (child : NodeId) → path ≡ rest ++ (id, i, child) ∷ [] → IsPresent (slots.inner id.0) × (i < length (inner_arguments (slots.inner id.0)))
+
+  -- the summary that the last node of a path keeps of the child that the path goes on to
+  pub record IsKeptAbove (path : List (InnerNodeId × ℕ × NodeId)) (a : A) : Type 0 where
+    pub rest : List (InnerNodeId × ℕ × NodeId)
+    pub id : InnerNodeId
+    pub i : ℕ
+    pub child : NodeId
+    pub last : path ≡ rest ++ (id, i, child) ∷ []
+    pub kept : slice_get (inner_arguments (slots.inner id.0)) i ≡ Some a
+
+  -- the node's summary tells it, with the old and the new one of a child
+  pub record ReplacesSum (cmp : K → K → Ordering) (is_summary : A → List K → Type 0) (path : List (InnerNodeId × ℕ × NodeId)) (id : InnerNodeId) (place : ℕ) (old a : A) : Type 0 where
+    pub whole : A
+    pub new : A
+    pub above : IsKeptAbove path whole
+    pub here : slice_get (inner_arguments (slots.inner id.0)) place ≡ Some new
+    pub replaced : SumsUpReplaced is_summary cmp whole old new a
+
+  -- a node's summary after one child's was replaced: asked for anew, or told by what was replaced
+  abbrev pub SumsUpChanged : (K → K → Ordering) → (A → List K → Type 0) → List (InnerNodeId × ℕ × NodeId) → InnerNodeId → ℕ → A → A → Type 0
+  SumsUpChanged cmp is_summary path id place old a = SumsUpAt cmp is_summary (slots.inner id.0) a ⊎ ReplacesSum cmp is_summary path id place old a

@@ -1,6 +1,6 @@
 //! A changed child's summary, or the node that it was split into, carried up a path to the root. What can't be had on
 //! the way is refused, and then every node of the path is again what it was.
-ghost use Rattle.std.specs.Prelude.{◌≡◌, ◌+◌, ◌<◌, ◌≤◌, List, ◌∷◌, [], length, slice_get, Some, IfOk, IfErr, OnErr};
+ghost use Rattle.std.specs.Prelude.{◌≡◌, ◌+◌, ◌<◌, ◌≤◌, List, ◌∷◌, [], length, slice_get, Some, IfOk, IfErr, IfSome, OnErr};
 ghost use Rattle.bptree_nodes.specs.Inner.{Inner, HasKeys};
 ghost use Rattle.bptree_nodes.specs.Leaf.{Leaf};
 ghost use Rattle.bptree_nodes.specs.Slot.{Slots, Free, Present, IsPresent};
@@ -9,35 +9,72 @@ ghost use Rattle.bptree_keys.specs.declared.node_id.NodeId.TheVariants as kind;
 ghost use Rattle.bptree_ascent.specs.Change.{Keeps, Links, Splits, Roots};
 ghost use Rattle.bptree_ascent.specs.Climb.{Climbs, ClimbsTwo, Risen, Reaches};
 ghost use Rattle.bptree_ascent.specs.Sums.{SumsUp, HasPlace, SumsUpAt, PlaceAt, HasKeysAt, IsLinked, IsSplit};
+ghost use Rattle.bptree_ascent.specs.Sums.{HasPlaceAbove, IsKeptAbove, SumsUpChanged};
 ghost use Rattle.bptree_shape.specs.Shape.{inner_keys, inner_arguments};
 
 use crate::node_changes::{
-    Division, Parts, Resummed, give_entry, join_parts, resum, take_and_part, take_entry,
+    Division, Resummed, SplitNode, give_entry, take_and_split, take_entry, undo_take_and_split,
 };
 use bptree_arguments::argument::Argument;
 use bptree_keys::entry_ref::VisitStack;
 use bptree_keys::node_id::{InnerNodeId, NodeId};
 use bptree_nodes::inner_node::InnerNode;
 use bptree_stores::node_stores::NodeStore;
+use std::alloc::AllocError;
 
-// Puts a child's new summary into its node. It answers the node's summary and the child's old one.
-fn resum_at<S: NodeStore>(
+// Puts a child's new summary into its node, and answers the old one.
+fn set_at<S: NodeStore>(
     store: &mut S,
     id: InnerNodeId,
     place: usize,
     summary: S::Argument,
-) -> Result<Resummed<S::Argument>, S::Argument>
+) -> S::Argument
     requires present { IsPresent ((S.slots store.old).inner id.0) }
     requires place { place < length (inner_arguments ((S.slots store.old).inner id.0)) }
-    ensures keeps { (was : Inner S.K S.Argument) → (S.slots store.old).inner id.0 ≡ Present was → IfOk result (λ sums. Keeps (S.slots store.old) (S.slots store.new) id place summary was × (slice_get was.arguments place ≡ Some sums.old)) }
-    ensures sums { IfOk result (λ sums. SumsUpAt S.K.cmp S.Argument.is_summary ((S.slots store.new).inner id.0) sums.above) }
-    ensures refused { OnErr result (S.slots store.new ≡ S.slots store.old) }
-    ensures handed_back { IfErr result (λ back. back ≡ summary) }
+    ensures keeps { (was : Inner S.K S.Argument) → (S.slots store.old).inner id.0 ≡ Present was → Keeps (S.slots store.old) (S.slots store.new) id place summary was × (slice_get was.arguments place ≡ Some result) }
 {
-    resum(store.get_mut_inner(id), place, summary)
+    store.get_mut_inner(id).set_argument(place, summary)
 }
 
-// Undoes what `resum_at` did.
+// The summary that the last node of a path keeps of the child that the path goes on to; none where the path is empty.
+fn kept_above<'a, S: NodeStore>(store: &'a S, path: &mut VisitStack) -> Option<&'a S::Argument>
+    requires { HasPlaceAbove (S.slots store.now) path.old }
+    ensures path { path.new ≡ path.old }
+    ensures kept { IfSome result (λ kept. IsKeptAbove (S.slots store.now) path.old kept.now) }
+{
+    // Read, so that it is known to fit.
+    let _ = path.len();
+    let (id, place, child) = path.pop()?;
+    let kept = &store.get_inner(id).arguments()[place];
+    path.push(id, place, child);
+    Some(kept)
+}
+
+// A node's summary after that of one child was replaced: by the node's old one, which the node above keeps, and the child's two,
+// where these tell it; else it is asked for anew.
+fn sum_of_changed<S: NodeStore>(
+    store: &S,
+    path: &mut VisitStack,
+    id: InnerNodeId,
+    place: usize,
+    old: &S::Argument,
+) -> Result<S::Argument, AllocError>
+    requires present { IsPresent ((S.slots store.now).inner id.0) }
+    requires place { place < length (inner_arguments ((S.slots store.now).inner id.0)) }
+    requires above { HasPlaceAbove (S.slots store.now) path.old }
+    ensures path { path.new ≡ path.old }
+    ensures sums { IfOk result (SumsUpChanged (S.slots store.now) S.K.cmp S.Argument.is_summary path.old id place old.now) }
+{
+    let node = store.get_inner(id);
+    if let Some(whole) = kept_above(store, path) {
+        if let Some(above) = S::Argument::from_replaced(whole, old, &node.arguments()[place]) {
+            return Ok(above);
+        }
+    }
+    S::Argument::from_inner(node.keys(), node.arguments())
+}
+
+// Undoes what `set_at` did.
 fn restore_at<S: NodeStore>(
     store: &mut S,
     id: InnerNodeId,
@@ -55,7 +92,8 @@ fn restore_at<S: NodeStore>(
 }
 
 /// Carries a node's new summary up the path above it. It answers that of the root. Refused, it hands the summary back.
-/// Where every value is a summary of every list, no node is touched.
+/// A node's summary is told by what changed in one child where the argument can (`from_replaced`), and else asked
+/// for anew. Where every value is a summary of every list, no node is touched.
 pub fn ascend<S: NodeStore>(
     store: &mut S,
     path: &mut VisitStack,
@@ -72,7 +110,10 @@ pub fn ascend<S: NodeStore>(
     let Some((id, place, _)) = path.pop() else {
         return Ok(summary);
     };
-    let Resummed { above, old } = resum_at(store, id, place, summary)?;
+    let old = set_at(store, id, place, summary);
+    let Ok(above) = sum_of_changed(store, path, id, place, &old) else {
+        return Err(restore_at(store, id, place, old));
+    };
     match ascend(store, path, above) {
         Ok(top) => Ok(top),
         Err(_) => Err(restore_at(store, id, place, old)),
@@ -117,12 +158,12 @@ fn unlink_at<S: NodeStore>(
 
 // Puts the node to the right of a child that was split into its node, which is full and is split in turn. It answers what
 // the node above has to take, and the child's old summary.
-fn part_at<S: NodeStore>(
+fn split_inner_at<S: NodeStore>(
     store: &mut S,
     id: InnerNodeId,
     place: usize,
     division: Division<S::K, S::Argument>,
-) -> Result<Parts<S::K, S::Argument, InnerNodeId>, Division<S::K, S::Argument>>
+) -> Result<SplitNode<S::K, S::Argument, InnerNodeId>, Division<S::K, S::Argument>>
     requires place { PlaceAt ((S.slots store.old).inner id.0) place }
     requires full { length (inner_keys ((S.slots store.old).inner id.0)) ≡ 64 }
     ensures splits { (was : Inner S.K S.Argument) → (S.slots store.old).inner id.0 ≡ Present was → IfOk result (λ done. IsSplit (S.slots store.old) (S.slots store.new) id place division was done.up done.node done.old) }
@@ -138,19 +179,19 @@ fn part_at<S: NodeStore>(
         return Err(division);
     };
     let mut node = store.take_inner(id);
-    let asked = take_and_part(&mut node, place, division, room);
+    let asked = take_and_split(&mut node, place, division, room);
     store.put_back_inner(id, node);
     match asked {
         Ok(parts) => {
-            let Parts {
+            let SplitNode {
                 left,
                 up,
-                node: part,
+                node: half,
                 right,
                 old,
             } = parts;
-            store.put_back_inner(fresh, part);
-            Ok(Parts {
+            store.put_back_inner(fresh, half);
+            Ok(SplitNode {
                 left,
                 up,
                 node: fresh,
@@ -165,8 +206,8 @@ fn part_at<S: NodeStore>(
     }
 }
 
-// Undoes what `part_at` did.
-fn unpart_at<S: NodeStore>(
+// Undoes what `split_inner_at` did.
+fn undo_split_inner_at<S: NodeStore>(
     store: &mut S,
     id: InnerNodeId,
     place: usize,
@@ -181,8 +222,8 @@ fn unpart_at<S: NodeStore>(
     ensures undoes { (was : Slots (Inner S.K S.Argument) (Leaf S.K S.V)) (node : Inner S.K S.Argument) (division : Division S.K S.Argument) → was.inner id.0 ≡ Present node → HasPlace node place → length node.keys ≡ 64 → IsSplit was (S.slots store.old) id place division node up fresh old → (S.slots store.new ≡ was) × (result ≡ division) }
 {
     let mut node = store.take_inner(id);
-    let part = store.take_inner(fresh);
-    let division = join_parts(&mut node, place, up, part, old);
+    let half = store.take_inner(fresh);
+    let division = undo_take_and_split(&mut node, place, up, half, old);
     store.put_back_inner(id, node);
     store.release_inner(fresh);
     division
@@ -258,13 +299,13 @@ pub fn ascend_split<S: NodeStore>(
             Err(_) => Err(unlink_at(store, id, place, old)),
         };
     }
-    let Parts {
+    let SplitNode {
         left,
         up,
         node: fresh,
         right,
         old,
-    } = part_at(store, id, place, division)?;
+    } = split_inner_at(store, id, place, division)?;
     let above = Division {
         left,
         separator: up,
@@ -273,6 +314,6 @@ pub fn ascend_split<S: NodeStore>(
     };
     match ascend_split(store, path, root, above) {
         Ok(top) => Ok(top),
-        Err(above) => Err(unpart_at(store, id, place, above.separator, fresh, old)),
+        Err(above) => Err(undo_split_inner_at(store, id, place, above.separator, fresh, old)),
     }
 }

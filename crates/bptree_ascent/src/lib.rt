@@ -2,4 +2,5 @@
 #![tactic(auto)]
 
 pub mod ascent;
+pub mod links;
 pub mod node_changes;

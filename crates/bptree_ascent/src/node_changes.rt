@@ -24,10 +24,10 @@ pub struct Resummed<A> {
     pub old: A,
 }
 
-/// An inner node that was split, with the part to its right, itself or by its number, and the summary that was in the
+/// An inner node that was split, with the half to its right, itself or by its number, and the summary that was in the
 /// child's place.
 #[derive(Drop)]
-pub struct Parts<K, A, N> {
+pub struct SplitNode<K, A, N> {
     pub left: A,
     pub up: K,
     pub node: N,
@@ -108,12 +108,12 @@ pub fn give_entry<K: Key, A: Argument<K>>(
 
 /// Takes the node to the right of a child that was split into a full node, which is split in turn. Refused, it hands all
 /// back and leaves the node as it was.
-pub fn take_and_part<K: Key, A: Argument<K>>(
+pub fn take_and_split<K: Key, A: Argument<K>>(
     node: &mut InnerNode<K, A>,
     place: usize,
     division: Division<K, A>,
     room: Box<InnerNode<K, A>>,
-) -> Result<Parts<K, A, Box<InnerNode<K, A>>>, Division<K, A>>
+) -> Result<SplitNode<K, A, Box<InnerNode<K, A>>>, Division<K, A>>
     requires place { HasPlace node.old place }
     requires full { length node.old.keys ≡ 64 }
     requires shell { room.value.children ≡ [] }
@@ -131,36 +131,36 @@ pub fn take_and_part<K: Key, A: Argument<K>>(
         right,
     } = division;
     let old = node.set_argument(place, left);
-    let (up, part) = node.split(place, separator, child, right, room);
+    let (up, half) = node.split(place, separator, child, right, room);
     let Ok(left) = A::from_inner(node.keys(), node.arguments()) else {
-        return Err(join_parts(node, place, up, part, old));
+        return Err(undo_take_and_split(node, place, up, half, old));
     };
-    let Ok(right) = A::from_inner(part.keys(), part.arguments()) else {
-        return Err(join_parts(node, place, up, part, old));
+    let Ok(right) = A::from_inner(half.keys(), half.arguments()) else {
+        return Err(undo_take_and_split(node, place, up, half, old));
     };
-    Ok(Parts {
+    Ok(SplitNode {
         left,
         up,
-        node: part,
+        node: half,
         right,
         old,
     })
 }
 
-/// Undoes what `take_and_part` did.
-pub fn join_parts<K: Key, A: Argument<K>>(
+/// Undoes what `take_and_split` did.
+pub fn undo_take_and_split<K: Key, A: Argument<K>>(
     node: &mut InnerNode<K, A>,
     place: usize,
     up: K,
-    part: Box<InnerNode<K, A>>,
+    half: Box<InnerNode<K, A>>,
     old: A,
 ) -> Division<K, A>
     requires left { HasKeys 32 node.old }
-    requires right { HasKeys 32 part.value }
+    requires right { HasKeys 32 half.value }
     requires place { place ≤ 64 }
-    ensures undoes { (was : Inner K A) (division : Division K A) → HasPlace was place → length was.keys ≡ 64 → slice_get was.arguments place ≡ Some old → IsCut (with_split was place division.left division.separator division.node division.right) node.old up part.value → (node.new ≡ was) × (result ≡ division) }
+    ensures undoes { (was : Inner K A) (division : Division K A) → HasPlace was place → length was.keys ≡ 64 → slice_get was.arguments place ≡ Some old → IsCut (with_split was place division.left division.separator division.node division.right) node.old up half.value → (node.new ≡ was) × (result ≡ division) }
 {
-    let (separator, child, right) = node.join_split(place, up, part);
+    let (separator, child, right) = node.undo_split(place, up, half);
     let left = node.set_argument(place, old);
     Division {
         left,

@@ -25,7 +25,7 @@ use Rattle.bptree_shape.proofs.NodePieces.{child_keys, chain_pieces, keys_of_fla
 use Rattle.bptree_shape.proofs.Ordered.{ascending_after}
 use Rattle.bptree_shape.proofs.Spot.{ascending_before}
 use Rattle.bptree_shape.proofs.Widen.{tree_less}
-use Rattle.bptree_ascent.proofs.Mended.{each_counted, linked_same}
+use Rattle.bptree_ascent.proofs.Relinked.{each_counted, linked_same}
 use Rattle.bptree_building.specs.Layer.{roots, firsts, summaries, IsSeated, IsLayer, IsRising, IsBuilt}
 use Rattle.bptree_building.specs.Steps.{IsRaised}
 use Rattle.bptree_building.specs.declared.subtree.Subtree.{Subtree}

@@ -20,7 +20,7 @@ use Rattle.bptree_shape.proofs.Frame.{Same, all_same}
 use Rattle.bptree_shape.proofs.Hinted.{count_of, count_leaves, total-append}
 use Rattle.bptree_shape.proofs.Ordered.{ascending_after}
 use Rattle.bptree_shape.proofs.Spot.{ascending_before}
-use Rattle.bptree_ascent.proofs.Mended.{each_counted, linked_same}
+use Rattle.bptree_ascent.proofs.Relinked.{each_counted, linked_same}
 use Rattle.bptree_building.specs.Layer.{roots, last_of, IsSeated, IsLayer, IsSpreading}
 use Rattle.bptree_building.specs.Steps.{IsFilled}
 use Rattle.bptree_building.specs.declared.subtree.Subtree.{Subtree}

@@ -6,7 +6,7 @@ use Rattle.std.proofs.lemmas.Map.Entries.{length-keys_of}
 use Rattle.bptree_arguments.specs.CountLaws.{SelectsPlace}
 use Rattle.bptree_arguments.specs.declared.count.Count.{Count}
 use Rattle.bptree_ranges.specs.Summaries.{IsPartSummary}
-use Rattle.bptree_ways.specs.ByArgument.{IsPartSelected}
+use Rattle.bptree_descents.specs.ByArgument.{IsPartSelected}
 
 pub part_len : {K V : Type 0} (l : List (K × V)) (i n : ℕ) (found : List (K × V)) → IsPartSelected SelectsPlace i l n found → length found ≡ min n (length l - i)
 part_len l i n found (None, within, past, part) = omega (arith, ap length part, past, length-keys_of l)

@@ -15,7 +15,7 @@ use Rattle.bptree_arguments.specs.GroupSizes.{GroupSize, IsSizeAnswer}
 use Rattle.bptree_arguments.specs.Groups.{group, group_size, SelectsInGroup}
 use Rattle.bptree_arguments.specs.Visits.{answered}
 use Rattle.bptree_arguments.proofs.GroupLemmas.{size_of_keys}
-use Rattle.bptree_ways.specs.ByArgument.{IsSelected}
+use Rattle.bptree_descents.specs.ByArgument.{IsSelected}
 use Rattle.bptree_examples.specs.declared.uses.grouped_index.Group.{Group}
 use Rattle.bptree_examples.specs.declared.uses.grouped_index.Item.{Item}
 use Rattle.bptree_examples.specs.Items.{items_of}

@@ -1,18 +1,23 @@
 //! Times of the calls of a tree: for each call and round the number of pairs, the tree's kind, the call, the time of one in
 //! hundredths of a nanosecond, and a sum of what was answered.
 
+mod kit;
+mod strings;
+mod whole;
+
 use std::alloc::{AllocError, Global};
 use std::time::Instant;
 use sweep_bptree::tree::count::Count;
 use sweep_bptree::tree::group::{GroupCount, Tuple2};
 use sweep_bptree::tree::{
-    Argument, BPlusTree, Iter, NodeStore, NodeStoreVec, RankArgument, SearchArgument, in_load_order,
+    Argument, BPlusTree, CloneArgument, Iter, NodeStore, NodeStoreVec, RankArgument,
+    SearchArgument, in_load_order,
 };
 
 type Pair = (u64, u64);
 
 // A tree of numbers, with summaries.
-type Tree<A> = BPlusTree<NodeStoreVec<u64, u64, A>>;
+pub(crate) type Tree<A> = BPlusTree<NodeStoreVec<u64, u64, A>>;
 
 // Numbers in no order: each is made of the one before by shifts.
 fn next_number(state: u64) -> u64 {
@@ -50,7 +55,14 @@ fn shuffled(alloc: Global, numbers: &[u64]) -> Result<Vec<u64>, AllocError> {
 }
 
 // The time since the start, told for one of the calls.
-fn tell(rt: &HostRuntime, kind: &str, call: &str, start: Option<Instant>, calls: usize, sum: u64) {
+pub(crate) fn tell(
+    rt: &HostRuntime,
+    kind: &str,
+    call: &str,
+    start: Option<Instant>,
+    calls: usize,
+    sum: u64,
+) {
     let Some(start) = start else {
         return;
     };
@@ -60,7 +72,7 @@ fn tell(rt: &HostRuntime, kind: &str, call: &str, start: Option<Instant>, calls:
     }
 }
 
-fn now(rt: &HostRuntime) -> Option<Instant> {
+pub(crate) fn now(rt: &HostRuntime) -> Option<Instant> {
     Instant::now(rt).ok()
 }
 
@@ -200,7 +212,7 @@ fn load_all<S: NodeStore<K = u64, V = u64>>(
 }
 
 // One tree of ascending keys, filled by insertions, and another that is loaded at once and walked.
-fn loaded<A: Argument<u64>>(
+fn loaded<A: CloneArgument<u64>>(
     rt: &HostRuntime,
     kind: &str,
     sorted: &[u64],
@@ -209,6 +221,7 @@ fn loaded<A: Argument<u64>>(
     let tree: Tree<A> = load_all(rt, kind, sorted)?;
     walk_through(rt, kind, &tree)?;
     step_through(rt, kind, "full", &tree);
+    whole::clone_all(rt, kind, &tree)?;
     drain(rt, kind, tree);
     Ok(())
 }
@@ -378,7 +391,11 @@ fn counted<A: SearchArgument<u64, Query = usize> + RankArgument<u64, Rank = usiz
     remove_all(rt, "count", &mut tree, numbers.others)
 }
 
-fn put<S: NodeStore>(tree: &mut BPlusTree<S>, key: S::K, value: S::V) -> Result<(), AllocError> {
+pub(crate) fn put<S: NodeStore>(
+    tree: &mut BPlusTree<S>,
+    key: S::K,
+    value: S::V,
+) -> Result<(), AllocError> {
     match tree.insert(key, value) {
         Ok(_) => Ok(()),
         Err(_) => Err(AllocError),
@@ -500,6 +517,9 @@ fn round(rt: &HostRuntime, numbers: &Numbers<'_>, again: &[u64]) -> Result<(), A
     grouped::<NodeStoreVec<Pair, u64, GroupCount<Tuple2<u64>>>>(rt, numbers.places, again)?;
     plain::<()>(rt, numbers)?;
     counted::<Count>(rt, numbers)?;
+    kit::take(rt, numbers.keys, numbers.others, numbers.sorted)?;
+    strings::take(rt, numbers.keys, numbers.others)?;
+    whole::union_all(rt, numbers.sorted)?;
     loaded::<()>(rt, "plain", numbers.sorted)?;
     loaded::<Count>(rt, "count", numbers.sorted)
 }
@@ -523,10 +543,26 @@ fn rounds(rt: &HostRuntime, pairs: usize, rounds: usize) -> Result<(), AllocErro
     Ok(())
 }
 
-/// Takes the times of so many pairs in so many rounds, as a line has them, and answers whether that went well.
+// A tree of so many pairs in no order, with summaries, and nothing else.
+fn fill<A: Argument<u64>>(rt: &HostRuntime, kind: &str, many: usize) -> Result<(), AllocError> {
+    let mut tree: Tree<A> = BPlusTree::new(NodeStoreVec::new(rt.alloc()))?;
+    let mut state = 0x9e37_79b9_7f4a_7c15;
+    for _ in 0..many {
+        state = next_number(state);
+        put(&mut tree, state | 1, state | 1)?;
+    }
+    let _ = println!(rt; "{many} {kind} fill 0 {}", tree.len());
+    Ok(())
+}
+
+/// Takes the times of so many pairs in so many rounds, as a line has them, and answers whether that went well. Where a line has
+/// a number alone, a tree without summaries is filled with as many pairs.
 pub fn run(rt: &HostRuntime, line: &str) -> bool {
     let Some((pairs, times)) = line.split_once(' ') else {
-        return false;
+        return match line.parse::<usize>() {
+            Ok(pairs) => fill::<()>(rt, "plain", pairs).is_ok(),
+            Err(_) => false,
+        };
     };
     let (Ok(pairs), Ok(times)) = (pairs.parse::<usize>(), times.parse::<usize>()) else {
         return false;

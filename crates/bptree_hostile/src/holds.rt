@@ -3,6 +3,7 @@
 use crate::calls::carry_out;
 use crate::dice::Sample;
 use crate::drawing::{Kinds, Talk, are_same, numbers, own_numbers};
+use crate::entries::{are_found, leave_and_return};
 use crate::plain::{Asked, Plain};
 use crate::rows::loaded;
 use std::alloc::{AllocError, Global};
@@ -255,11 +256,13 @@ where
         runs(alloc, self, talk)
     }
 
-    // It is a clone, or one that is loaded with what the list holds, each pair after one of the same key with another value.
+    // It is a clone, or one that is loaded with what the list holds, each pair after one of the same key with another value; or
+    // some pairs leave and are put again.
     fn renews(&mut self, alloc: Global, plain: &Plain, turn: u64) -> Result<bool, AllocError> {
         let next = match turn % 5 {
             0 => self.clone()?,
             1 => loaded(pairs_on_keys(alloc, &plain.doubled()?)?)?,
+            2 => return leave_and_return(alloc, self, plain),
             _ => return Ok(true),
         };
         let before = mem::replace(self, next);
@@ -267,7 +270,8 @@ where
     }
 
     fn shows(&self, alloc: Global, plain: &Plain) -> Result<bool, AllocError> {
-        Ok(has_all(self, plain) && has_parts(alloc, self, plain)?)
+        let found = are_found(alloc, self, plain)?;
+        Ok(found && has_all(self, plain) && has_parts(alloc, self, plain)?)
     }
 }
 
@@ -327,6 +331,17 @@ fn most_keys<K: Sample>(alloc: Global, plain: &Plain) -> Result<Vec<K>, AllocErr
     Ok(keys)
 }
 
+// Whether a set that lacks every third key of another, from the first on, is told to be a subset of it, and what else that is.
+fn is_beside<K: Sample>(set: &BPlusTreeSet<K>, other: &BPlusTreeSet<K>) -> bool {
+    let within = other.is_subset(set) && set.is_superset(other);
+    let lacks = set.is_subset(other) == set.is_empty();
+    let found = match set.last() {
+        Some(key) => number(set.get(key)) == number(set.last()),
+        None => true,
+    };
+    within && lacks && found && set.is_disjoint(other) == other.is_empty()
+}
+
 // The number of a key.
 pub fn number<K: Sample>(key: Option<&K>) -> Option<u64> {
     Some(key?.number())
@@ -349,21 +364,26 @@ impl<K: Sample> Holds for BPlusTreeSet<K> {
         Ok(true)
     }
 
-    // Also once its keys are put together with all of them but some, and those that the others leave.
+    // Also beside a set of all of them but some: what both have together, what they share, and what one has alone.
     fn shows(&self, alloc: Global, plain: &Plain) -> Result<bool, AllocError> {
         let other = BPlusTreeSet::from_iter(alloc, most_keys(alloc, plain)?)?;
         let mut keys = self.iter();
         let mut union = self.union(&other);
         let mut left = self.difference(&other);
+        let mut alone = other.symmetric_difference(self);
+        let mut shared = self.intersection(&other);
         let mut well = keys.len() == plain.len();
         for place in 0..plain.len() {
-            well = number(keys.next()) == plain.key_at(place) && well;
-            well = number(union.next()) == plain.key_at(place) && well;
-            if place % 3 == 0 {
-                well = number(left.next()) == plain.key_at(place) && well;
-            }
+            let key = plain.key_at(place);
+            well = number(keys.next()) == key && number(union.next()) == key && well;
+            well = if place % 3 == 0 {
+                number(left.next()) == key && number(alone.next()) == key && well
+            } else {
+                number(shared.next()) == key && well
+            };
         }
         let is_over = keys.next().is_none() && union.next().is_none() && left.next().is_none();
-        Ok(well && is_over)
+        let are_over = alone.next().is_none() && shared.next().is_none();
+        Ok(well && is_over && are_over && is_beside(self, &other))
     }
 }

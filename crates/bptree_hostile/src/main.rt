@@ -5,6 +5,7 @@
 mod calls;
 mod dice;
 mod drawing;
+mod entries;
 mod forgetful;
 mod holds;
 mod plain;

@@ -20,7 +20,7 @@ use Rattle.bptree_ascent.specs.LeafChange.{Adds, HasSlotAt, SumsUpLeaf}
 use Rattle.bptree_ascent.proofs.AnySummary.{risen_untouched}
 use Rattle.bptree_insertion.specs.Puts.{IsDue, IsPlaced}
 use Rattle.bptree_insertion.proofs.Placed.{slot_at, placed_added}
-use Rattle.bptree_insertion.proofs.Upserted.{absent_there}
+use Rattle.bptree_shape.proofs.LeafFor.{absent_there}
 
 module _ {K V A : Type 0} {cmp : K → K → Ordering} (total : IsTotalOrder cmp) (is_summary : A → List K → Type 0) (old : Slots (Inner K A) (Leaf K V)) (h : ℕ) (root : NodeId) (k : K) (leaf : LeafNodeId) (node : Leaf K V)
     (shape : IsWellShaped cmp is_summary old h root) (holds : HoldsKey cmp (old.leaf leaf.0) k) (read : old.leaf leaf.0 ≡ Present node) where

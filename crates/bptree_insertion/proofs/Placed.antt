@@ -16,7 +16,7 @@ use Rattle.bptree_keys.specs.declared.node_id.NodeId.{NodeId}
 use Rattle.bptree_keys.specs.declared.node_id.NodeId.TheVariants as kind
 use Rattle.bptree_keys.proofs.Found.{inserted}
 use Rattle.bptree_keys.proofs.Updates.{length_put}
-use Rattle.bptree_ascent.specs.Change.{SplitsLeaf, Mends}
+use Rattle.bptree_ascent.specs.Change.{SplitsLeaf, RelinksNext}
 use Rattle.bptree_ascent.specs.Climb.{StaysFew, is_held, Climb, Climbs, ClimbsTwo, Risen, Reaches}
 use Rattle.bptree_shape.specs.Edit.{CanReach, Stays, Gains, Edits}
 use Rattle.bptree_ascent.specs.LeafChange.{HasSlotAt, SumsUpLeaf, Adds, AreHalves, DividesLeaf}
@@ -27,16 +27,12 @@ use Rattle.bptree_ascent.specs.declared.node_changes.Division.{Division}
 use Rattle.bptree_ascent.proofs.Climbing.{least_most, not_held}
 use Rattle.bptree_shape.proofs.Hinted.{total-append, count_of, first_or, linked_next}
 use Rattle.bptree_ascent.proofs.LeafEdit.{put_is_local, leaf_edited, leaf_split}
-use Rattle.bptree_ascent.proofs.Mended.{one_at}
+use Rattle.bptree_ascent.proofs.Relinked.{one_at}
+use Rattle.bptree_ascent.proofs.SlotFacts.{node_of, none_is, next_seen}
 use Rattle.bptree_shape.proofs.Ordered.{ascending_after}
 use Rattle.bptree_shape.proofs.Spot.{ascending_before}
 use Rattle.bptree_ascent.proofs.Rooted.{reach_of, present_leaf, whole_done, split_unlinked_pairs, whole_grown, grown_pairs, whole_split, split_pairs}
 use Rattle.bptree_shape.proofs.Ways.{way_can}
-
-pub node_of : {N : Type 0} (s : Slot N) → IsPresent s → (node : N) × (s ≡ Present node)
-node_of Free there = absurd there
-node_of Held there = absurd there
-node_of (Present node) there = (node, refl)
 
 slot_of : {K V : Type 0} (s : Slot (Leaf K V)) (slot : ℕ) → IsPresent s → slot ≤ length (leaf_pairs s) → HasSlotAt s slot
 slot_of Free slot there within = absurd there
@@ -49,14 +45,6 @@ at_most_one false n = omega arith
 
 pub put_few : {K V : Type 0} {cmp : K → K → Ordering} (total : IsTotalOrder cmp) (k : K) (v : V) (most : ℕ) → most + 1 < 2 ^ 64 → StaysFew cmp (λ l. put cmp l k v) most
 put_few {cmp = cmp} total k v most few l sorted short = omega (arith, length_put cmp total l sorted k v, at_most_one (has cmp l k) (length l))
-
-pub none_is : {N : Type 0} (slot : Slot N) → (slot ≡ Held → ⊥) → is_held slot ≡ false
-none_is Free none = refl
-none_is Held none = absurd (none refl)
-none_is (Present node) none = refl
-
-pub next_seen : {K V : Type 0} (slot : Slot (Leaf K V)) (leaf : Leaf K V) → slot ≡ Present leaf → leaf_next slot ≡ leaf.next
-next_seen slot leaf e = ap leaf_next e
 
 present_if_next : {K V : Type 0} (slot : Slot (Leaf K V)) (l : LeafNodeId) → leaf_next slot ≡ Some l → IsPresent slot
 present_if_next Free l e = cc
@@ -272,20 +260,20 @@ module _ {K V A : Type 0} {cmp : K → K → Ordering} (total : IsTotalOrder cmp
       next_reached new None a r next is = next_there cmp is_summary (λ l. put cmp l k v) old new new due.top due.root k leaf fresh Done due.shape r.edits refl next is
       next_reached new (Some id) a r next is = next_there cmp is_summary (λ l. put cmp l k v) old r.mid new due.top due.root k leaf fresh (Split r.division.separator r.division.node) due.shape r.edits r.roots.leaf next is
 
-      placed_reached : (new final : Slots (Inner K A) (Leaf K V)) (top : Option InnerNodeId) (a : A) → Reaches climb_divided new top a → Mends new final (leaf_next (old.leaf leaf.0)) fresh → IsPlacedUpTo cmp is_summary old final due.top due.root k v top a
-      placed_reached new final None a r mends =
-          let pairs = grown_pairs cmp is_summary (λ l. put cmp l k v) old new due.top due.root k leaf fresh due.shape (λ n. not_held _ (r.free.leaves n)) (λ n. not_held _ (r.free.inners n)) final r.edits mends in
+      placed_reached : (new final : Slots (Inner K A) (Leaf K V)) (top : Option InnerNodeId) (a : A) → Reaches climb_divided new top a → RelinksNext new final (leaf_next (old.leaf leaf.0)) fresh → IsPlacedUpTo cmp is_summary old final due.top due.root k v top a
+      placed_reached new final None a r relinks =
+          let pairs = grown_pairs cmp is_summary (λ l. put cmp l k v) old new due.top due.root k leaf fresh due.shape (λ n. not_held _ (r.free.leaves n)) (λ n. not_held _ (r.free.inners n)) final r.edits relinks in
           record {
-            shape = whole_grown cmp is_summary (λ l. put cmp l k v) old new due.top due.root k leaf fresh due.shape (λ n. not_held _ (r.free.leaves n)) (λ n. not_held _ (r.free.inners n)) final r.edits mends;
+            shape = whole_grown cmp is_summary (λ l. put cmp l k v) old new due.top due.root k leaf fresh due.shape (λ n. not_held _ (r.free.leaves n)) (λ n. not_held _ (r.free.inners n)) final r.edits relinks;
             pairs = pairs;
             told = subst (λ l. is_summary a (keys_of l)) (r.edits.pairs ∙ sym pairs) r.told;
           }
-      placed_reached new final (Some id) a r mends =
+      placed_reached new final (Some id) a r relinks =
           let d = r.division in
-          let pairs = split_pairs cmp is_summary (λ l. put cmp l k v) old r.mid due.top due.root k leaf fresh due.shape (λ n. not_held _ (r.free.leaves n)) (λ n. not_held _ (r.free.inners n)) new final d.left d.separator d.node d.right id r.edits r.roots mends in
+          let pairs = split_pairs cmp is_summary (λ l. put cmp l k v) old r.mid due.top due.root k leaf fresh due.shape (λ n. not_held _ (r.free.leaves n)) (λ n. not_held _ (r.free.inners n)) new final d.left d.separator d.node d.right id r.edits r.roots relinks in
           let same = split_unlinked_pairs cmp is_summary (λ l. put cmp l k v) old r.mid due.top due.root k leaf due.shape (λ n. not_held _ (r.free.leaves n)) (λ n. not_held _ (r.free.inners n)) new (Gains fresh) d.left d.separator d.node d.right id r.edits r.roots in
           record {
-            shape = whole_split cmp is_summary (λ l. put cmp l k v) old r.mid due.top due.root k leaf fresh due.shape (λ n. not_held _ (r.free.leaves n)) (λ n. not_held _ (r.free.inners n)) new final d.left d.separator d.node d.right id r.edits r.roots mends r.left r.right;
+            shape = whole_split cmp is_summary (λ l. put cmp l k v) old r.mid due.top due.root k leaf fresh due.shape (λ n. not_held _ (r.free.leaves n)) (λ n. not_held _ (r.free.inners n)) new final d.left d.separator d.node d.right id r.edits r.roots relinks r.left r.right;
             pairs = pairs;
             told = subst (λ l. is_summary a (keys_of l)) (same ∙ sym pairs) r.told;
           }
@@ -299,8 +287,8 @@ module _ {K V A : Type 0} {cmp : K → K → Ordering} (total : IsTotalOrder cmp
         pub next_risen : IfSome next (λ l. IsPresent (new.leaf l.0))
         next_risen = next_reached new top a (rises (climbs_divided left right) refl) next next_is
 
-        pub placed_divided : (final : Slots (Inner K A) (Leaf K V)) → Mends new final next fresh → IsPlacedUpTo cmp is_summary old final due.top due.root k v top a
-        placed_divided final mends = placed_reached new final top a (rises (climbs_divided left right) refl) (rw next_is mends)
+        pub placed_divided : (final : Slots (Inner K A) (Leaf K V)) → RelinksNext new final next fresh → IsPlacedUpTo cmp is_summary old final due.top due.root k v top a
+        placed_divided final relinks = placed_reached new final top a (rises (climbs_divided left right) refl) (rw next_is relinks)
 
       pub halves_divided : length (leaf_pairs (old.leaf leaf.0)) ≡ 64 → AreHalves (mid.leaf leaf.0) (mid.leaf fresh.0) × (leaf.0 ≡ fresh.0 → ⊥)
       halves_divided full = (

@@ -18,29 +18,22 @@ use Rattle.bptree_shape.specs.Leaves.{IsLeafFor}
 use Rattle.bptree_insertion.specs.Puts.{IsReplaced, IsPlaced, IsPlacedUpTo, risen}
 use Rattle.bptree_shape.specs.Shape.{pairs_at, root_least, IsWellShaped}
 use Rattle.bptree_ascent.proofs.Lent.{set_shape, set_keys, lent_pairs}
-use Rattle.bptree_shape.proofs.Spot.{value_in_leaf, leaf_ascends}
-use Rattle.bptree_shape.proofs.Walk.{tree_ascends}
+use Rattle.bptree_shape.proofs.LeafFor.{whole_ascends, node_ascends, value_there}
 
 module _ {K V A : Type 0} {cmp : K → K → Ordering} (total : IsTotalOrder cmp) (is_summary : A → List K → Type 0) (old : Slots (Inner K A) (Leaf K V)) (h : ℕ) (root : NodeId) (k : K) (leaf : LeafNodeId) (node : Leaf K V)
     (shape : IsWellShaped cmp is_summary old h root) (for' : IsLeafFor cmp old h root k leaf) (read : old.leaf leaf.0 ≡ Present node) where
-  pub whole_ascends : IsAscending cmp (pairs_at old h root)
-  whole_ascends = tree_ascends total old (root_least h) h root None None shape.tree
+  -- the pairs of the whole ascend
+  every_ascends : IsAscending cmp (pairs_at old h root)
+  every_ascends = whole_ascends total is_summary old h root k leaf node shape for' read
 
-  pub node_ascends : IsAscending cmp node.pairs
-  node_ascends = leaf_ascends total old h root leaf node for'.stands whole_ascends read
-
-  pub value_there : value cmp (pairs_at old h root) k ≡ value cmp node.pairs k
-  value_there = value_in_leaf total old h root k leaf node for' read
-
-  -- no key equals it in the whole where none does in the leaf
-  pub absent_there : has cmp node.pairs k ≡ false → has cmp (pairs_at old h root) k ≡ false
-  absent_there absent = sym (has_where_value cmp (pairs_at old h root) k) ∙ (ap is_some value_there ∙ (has_where_value cmp node.pairs k ∙ absent))
+  there_in_leaf : value cmp (pairs_at old h root) k ≡ value cmp node.pairs k
+  there_in_leaf = value_there total is_summary old h root k leaf node shape for' read
 
   -- the value at its key is replaced
   module _ (i : ℕ) (found : HasEqualAt cmp node.pairs k i) (v was : V) (at : slice_get (values_of node.pairs) i ≡ Some was) (new : Slots (Inner K A) (Leaf K V))
       (updates : UpdatesLeaf old new leaf.0 (Present (record node { pairs = set_value_at node.pairs i v }))) where
     there : value cmp (pairs_at old h root) k ≡ Some was
-    there = value_there ∙ (sym (value_at_place cmp total node.pairs node_ascends k i found) ∙ at)
+    there = there_in_leaf ∙ (sym (value_at_place cmp total node.pairs (node_ascends total is_summary old h root k leaf node shape for' read) k i found) ∙ at)
 
     has_there : has cmp (pairs_at old h root) k ≡ true
     has_there = sym (has_where_value cmp (pairs_at old h root) k) ∙ ap is_some there
@@ -49,7 +42,7 @@ module _ {K V A : Type 0} {cmp : K → K → Ordering} (total : IsTotalOrder cmp
     replaced = record {
       there = there;
       shape = set_shape cmp is_summary old new h root shape leaf node read for'.stands i v updates;
-      pairs = rw has_there (lent_pairs total is_summary old new h root shape whole_ascends k leaf node read for' i found v updates);
+      pairs = rw has_there (lent_pairs total is_summary old new h root shape every_ascends k leaf node read for' i found v updates);
       keys = set_keys cmp is_summary old new h root shape leaf node read for'.stands i v updates;
     }
 

@@ -6,7 +6,7 @@ ghost use Rattle.bptree_keys.specs.declared.node_id.NodeId.TheVariants as kind;
 ghost use Rattle.bptree_nodes.specs.Leaf.{Leaf, split_place, set_value_at};
 ghost use Rattle.bptree_nodes.specs.Inner.{Inner};
 ghost use Rattle.bptree_nodes.specs.Slot.{Slots, Present, IsPresent, UpdatesLeaf};
-ghost use Rattle.bptree_ascent.specs.Change.{StartsAt, Mends};
+ghost use Rattle.bptree_ascent.specs.Change.{StartsAt};
 ghost use Rattle.bptree_ascent.specs.LeafChange.{Adds, DividesLeaf, SumsUpLeaf, HasSlotAt, AreHalves};
 ghost use Rattle.bptree_insertion.specs.Puts.{IsDue, IsPlaced, IsPlacedUpTo, IsPut, risen};
 ghost use Rattle.bptree_stores.specs.Hint.{HoldsKey};
@@ -14,6 +14,7 @@ ghost use Rattle.bptree_shape.specs.Shape.{leaf_pairs, pairs_at, IsWellShaped};
 
 use bptree_arguments::argument::Argument;
 use bptree_ascent::ascent::{ascend, ascend_split};
+use bptree_ascent::links::relink_next;
 use bptree_ascent::node_changes::Division;
 use bptree_keys::entry_ref::VisitStack;
 use bptree_keys::key::Key;
@@ -32,7 +33,7 @@ pub enum Put<V, A> {
     Added(NodeId, usize, A),
 }
 
-// A clone of the key that will be the first of the right part, where a full leaf is split with a new key at the slot.
+// A clone of the key that will be the first of the right half, where a full leaf is split with a new key at the slot.
 fn separator<S: NodeStore>(
     store: &S,
     id: LeafNodeId,
@@ -134,15 +135,15 @@ fn split_at<S: NodeStore>(
         return Err((key, value));
     };
     let mut leaf = store.take_leaf(id);
-    let part = leaf.split_new_leaf(slot, (key, value), fresh, id, room);
-    match divided(&leaf, separator, fresh, &part) {
+    let half = leaf.split_new_leaf(slot, (key, value), fresh, id, room);
+    match divided(&leaf, separator, fresh, &half) {
         Ok(division) => {
             store.assign_leaf(id, leaf);
-            store.assign_leaf(fresh, part);
+            store.assign_leaf(fresh, half);
             Ok((division, fresh))
         }
         Err(_) => {
-            let pair = leaf.join_split(slot, part);
+            let pair = leaf.undo_split(slot, half);
             store.assign_leaf(id, leaf);
             store.release_leaf(fresh);
             Err(pair)
@@ -173,7 +174,7 @@ fn divided<K: Key, V: Drop, A: Argument<K>>(
 }
 
 // Undoes what `split_at` did.
-fn join_at<S: NodeStore>(
+fn undo_split_at<S: NodeStore>(
     store: &mut S,
     id: LeafNodeId,
     fresh: LeafNodeId,
@@ -185,21 +186,11 @@ fn join_at<S: NodeStore>(
     ensures undoes { (was : Slots (Inner S.K S.Argument) (Leaf S.K S.V)) (node : Leaf S.K S.V) (pair : S.K × S.V) (division : Division S.K S.Argument) → was.leaf id.0 ≡ Present node → slot ≤ length node.pairs → DividesLeaf S.K.cmp was (S.slots store.old) id slot pair node division fresh → (S.slots store.new ≡ was) × (result ≡ pair) }
 {
     let mut leaf = store.take_leaf(id);
-    let part = store.take_leaf(fresh);
-    let pair = leaf.join_split(slot, part);
+    let half = store.take_leaf(fresh);
+    let pair = leaf.undo_split(slot, half);
     store.assign_leaf(id, leaf);
     store.release_leaf(fresh);
     pair
-}
-
-/// The leaf behind a new one names it as the one before.
-pub fn mend<S: NodeStore>(store: &mut S, fresh: LeafNodeId, next: Option<LeafNodeId>)
-    requires next { IfSome next (λ next. IsPresent ((S.slots store.old).leaf next.0)) }
-    ensures { Mends (S.slots store.old) (S.slots store.new) next fresh }
-{
-    if let Some(next) = next {
-        store.get_mut_leaf(next).set_prev(Some(fresh));
-    }
 }
 
 // Puts a pair with a new key into the leaf at the end of a path, which is full and is split. It answers the number of a
@@ -223,10 +214,10 @@ fn put_and_split<S: NodeStore>(
     let (division, fresh) = split_at(store, id, slot, key, value)?;
     match ascend_split(store, path, root, division) {
         Ok(top) => {
-            mend(store, fresh, next);
+            relink_next(store, fresh, next);
             Ok(top)
         }
-        Err(_) => Err(join_at(store, id, fresh, slot)),
+        Err(_) => Err(undo_split_at(store, id, fresh, slot)),
     }
 }
 

@@ -1,5 +1,10 @@
 pub mod DifferenceLemmas
+pub mod EntryKeys
 pub mod KeyLemmas
+pub mod MemberLemmas
 pub mod PageLemmas
+pub mod PlaceLemmas
 pub mod PopLemmas
+pub mod SymmetricLemmas
 pub mod UnionLemmas
+pub mod WalkLemmas

@@ -10,7 +10,7 @@ use Rattle.std.proofs.lemmas.Map.Entries.{length-keys_of}
 use Rattle.std.specs.Int.{div_ceil}
 use Rattle.bptree_arguments.specs.CountLaws.{SelectsPlace}
 use Rattle.bptree_keys.specs.Ranges.{part}
-use Rattle.bptree_ways.specs.ByArgument.{IsPartSelected}
+use Rattle.bptree_descents.specs.ByArgument.{IsPartSelected}
 use Rattle.bptree_maps.specs.Pages.{page, first_pages}
 
 module _ {X : Type 0} (l : List X) (s : ℕ) where

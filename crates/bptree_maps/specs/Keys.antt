@@ -1,8 +1,8 @@
 -- A set: one list of keys, by their order.
-use Rattle.std.specs.Prelude.{Bool, not, ◌&&◌, List, [], ◌∷◌, ◌++◌, if◌then◌else◌, filter, Option}
+use Rattle.std.specs.Prelude.{◌≡◌, Bool, false, not, ◌&&◌, List, [], ◌∷◌, ◌++◌, if◌then◌else◌, filter, IsTrue, Option}
 use Rattle.std.specs.declared.cmp.Ordering.{Ordering}
 use Rattle.std.specs.Ordering.{is_lt, is_eq, is_gt}
-use Rattle.std.specs.List.{list_any}
+use Rattle.std.specs.List.{find, list_any}
 use Rattle.bptree_keys.specs.Ranges.{falls_short, stays_below}
 
 module _ {K : Type 0} (cmp : K → K → Ordering) where
@@ -30,3 +30,19 @@ module _ {K : Type 0} (cmp : K → K → Ordering) where
   -- the keys of a list that no key of another equals
   abbrev pub keys_without : List K → List K → List K
   keys_without keys others = filter (λ key. not (holds others key)) keys
+
+  -- the keys of a list that a key of another equals
+  abbrev pub keys_within : List K → List K → List K
+  keys_within keys others = filter (λ key. holds others key) keys
+
+  -- the key that equals k
+  abbrev pub key_found : List K → K → Option K
+  key_found keys k = find (λ key. is_eq (cmp key k)) keys
+
+  -- what equals a key of a list equals one of another
+  abbrev pub IsSubset : List K → List K → Type 0
+  IsSubset keys others = (k : K) → IsTrue (holds keys k) → IsTrue (holds others k)
+
+  -- what equals a key of a list equals none of another
+  abbrev pub IsDisjoint : List K → List K → Type 0
+  IsDisjoint keys others = (k : K) → IsTrue (holds keys k) → holds others k ≡ false

@@ -1,6 +1,10 @@
+pub mod Beside
 pub mod Keys
 pub mod Pages
+pub mod Places
 pub mod Popping
 pub mod Rows
+pub mod Symmetric
+pub mod TwoSets
 pub mod Union
 pub mod Writing

@@ -5,22 +5,30 @@ ghost use Rattle.std.specs.Map.{keys_of, values_of};
 ghost use Rattle.std.specs.Iterator.{Drains, IsFinite, at_most, item_count, UpTo};
 ghost use Rattle.std.specs.Iterator.Runs.{WholeRun};
 ghost use Rattle.std.specs.Iterator.SizeHint.{IsWithinCount};
-ghost use Rattle.std.specs.List.{AllZip};
-ghost use Rattle.std.specs.Map.Iter.{ShowsInOrder, GivesInOrder, GivesInReverse, TakesFirst, TakesLast, deref_pair};
+ghost use Rattle.std.specs.List.{AllZip, remove};
+ghost use Rattle.std.specs.List.Sorted.{IsStrictlySortedBy};
+ghost use Rattle.std.specs.Map.Iter.{ShowsInOrder, GivesInOrder, GivesInReverse, TakesFirst, TakesLast, deref, deref_pair};
 ghost use Rattle.std.specs.Option.{option_map, option_copied, option_copied_mut};
 ghost use Rattle.std.specs.declared.cmp.Ordering.TheVariants.{Equal};
 ghost use Rattle.bptree_arguments.specs.Groups.{of_group};
 ghost use Rattle.bptree_arguments.specs.Visits.{answered, IsAllowedError};
 ghost use Rattle.bptree_ascent.specs.Lending.{written};
-ghost use Rattle.bptree_keys.specs.Contents.{IsAscending, has, value, put, del, gather};
+ghost use Rattle.bptree_keys.specs.Contents.{IsAscending, has, value, put, del, gather, next};
 ghost use Rattle.bptree_keys.specs.Ranges.{between, part};
+ghost use Rattle.bptree_maps.specs.Places.{place};
 ghost use Rattle.bptree_maps.specs.Popping.{IsPopped};
+ghost use Rattle.bptree_nodes.specs.Leaf.{set_value_at};
 ghost use Rattle.bptree_ranges.specs.Summaries.{IsPartSummary};
-ghost use Rattle.bptree_ways.specs.ByArgument.{IsPartSelected, IsSelected, IsTaken};
+ghost use Rattle.bptree_descents.specs.ByArgument.{IsPartSelected, IsSelected, IsTaken};
+ghost use Rattle.bptree_tree.specs.Cursor.{StandsAt};
+ghost use Rattle.bptree_tree.specs.Entries.{entry, at_least};
 ghost use Rattle.bptree_tree.specs.Refusal.{pair_of};
 ghost use Rattle.bptree_maps.specs.contracts.map.BPlusTreeMap.{the_row};
-ghost use Rattle.bptree_maps.specs.Rows.{inner_row};
+ghost use Rattle.bptree_maps.specs.Rows.{inner_row, count_row, count_argument, count_clone, count_default};
 ghost use Rattle.bptree_maps.specs.Writing.{WritesAt};
+
+mod keys;
+mod values;
 
 use crate::gathering::gather_tree;
 pub use crate::gathering::law_of_from_iter;
@@ -30,10 +38,12 @@ use bptree_arguments::group::FromRef;
 use bptree_arguments::visit::{DescendError, DescendVisit};
 use bptree_keys::key::Key;
 use bptree_stores::node_store_vec::NodeStoreVec;
-use bptree_tree::{BPlusTree, InsertError, SelectError, iterator, tree};
+use bptree_tree::{BPlusTree, Cursor, InsertError, SelectError, iterator, tree};
+pub use keys::{IntoKeys, Keys};
 use std::alloc::{AllocError, Global};
 use std::iter::{ExactSizeIterator, FusedIterator};
 use std::marker::Model;
+pub use values::{IntoValues, Values};
 
 /// Pairs of a key and a value, in the strictly ascending order of their keys, with summaries of the keys.
 #[derive(Drop)]
@@ -106,6 +116,20 @@ impl<K: Key, V: Drop, A: Argument<K>> BPlusTreeMap<K, V, A> {
         self.inner.get(k)
     }
 
+    /// Whether some key equals `k`. It costs what `get` does.
+    pub fn contains_key(&self, k: &K) -> bool
+        ensures { result ≡ has K.cmp self.now k.now }
+    {
+        self.inner.contains_key(k)
+    }
+
+    /// The pair whose key equals `k`, with the key that is stored. It costs what `get` does.
+    pub fn get_key_value(&self, k: &K) -> Option<(&K, &V)>
+        ensures { option_map (λ pair. (pair.0.now, pair.1.now)) result ≡ entry K.cmp self.now k.now }
+    {
+        self.inner.get_key_value(k)
+    }
+
     /// The same as `get`, and how many comparisons of keys it made.
     pub fn get_counted(&self, k: &K) -> (Option<&V>, usize)
         ensures value { option_copied result.0 ≡ value K.cmp self.now k.now }
@@ -161,23 +185,79 @@ impl<K: Key, V: Drop, A: Argument<K>> BPlusTreeMap<K, V, A> {
         self.inner.last()
     }
 
-    /// Removes the pair with the least key, and hands it back with a clone of that key: none of an empty map.
+    /// The pair with the least key: the same as `first`.
+    pub fn first_key_value(&self) -> Option<(&K, &V)>
+        ensures { option_map (λ pair. (pair.0.now, pair.1.now)) result ≡ slice_get self.now 0 }
+    {
+        self.inner.first()
+    }
+
+    /// The pair with the greatest key: the same as `last`.
+    pub fn last_key_value(&self) -> Option<(&K, &V)>
+        ensures { option_map (λ pair. (pair.0.now, pair.1.now)) result ≡ slice_get self.now (length self.now - 1) }
+    {
+        self.inner.last()
+    }
+
+    /// A cursor on the least key that is not below `k`, and the value there. It takes what a clone of that key takes, and where
+    /// there is none it takes nothing.
     ///
-    /// Where the clone, or the removal, is refused, nothing has changed.
-    pub fn pop_first(&mut self) -> Result<Option<(K, V)>, AllocError>
-        ensures ok { IfOk result (IsPopped K.cmp self.old self.new) }
+    /// It costs what `get` does, and where `k` itself is not there one more search of its leaf.
+    pub fn lower_bound(&self, k: &K) -> Result<Option<(Cursor<K>, &V)>, AllocError>
+        ensures cursor { IfOk result (λ answer. StandsAt K.cmp (at_least K.cmp self.now k.now) (option_map (λ found. found.0) answer)) }
+        ensures value { IfOk result (λ answer. option_map (λ found. found.1.now) answer ≡ option_map (λ pair. pair.1) (at_least K.cmp self.now k.now)) }
+        ensures end { at_least K.cmp self.now k.now ≡ None → result ≡ Ok None }
+        ensures sure { ((key : K) → K.is_infallible key) → IsOk result }
+    {
+        self.inner.lower_bound(k)
+    }
+
+    /// A cursor on the least key above `k`, and the value there. It takes what a clone of that key takes, and where there is
+    /// none it takes nothing.
+    ///
+    /// It costs what `get` does, and one more search of the leaf.
+    pub fn upper_bound(&self, k: &K) -> Result<Option<(Cursor<K>, &V)>, AllocError>
+        ensures cursor { IfOk result (λ answer. StandsAt K.cmp (next K.cmp self.now k.now) (option_map (λ found. found.0) answer)) }
+        ensures value { IfOk result (λ answer. option_map (λ found. found.1.now) answer ≡ option_map (λ pair. pair.1) (next K.cmp self.now k.now)) }
+        ensures end { next K.cmp self.now k.now ≡ None → result ≡ Ok None }
+        ensures sure { ((key : K) → K.is_infallible key) → IsOk result }
+    {
+        self.inner.upper_bound(k)
+    }
+
+    /// Removes the pair whose key equals `k`, and hands it back with the key that was stored. Where no key does, nothing
+    /// changes and nothing can be refused. Where the removal is refused for want of memory, nothing has changed.
+    pub fn remove_entry(&mut self, k: &K) -> Result<Option<(K, V)>, AllocError>
+        ensures ok { IfOk result (λ gone. (gone ≡ entry K.cmp self.old k.now) × (self.new ≡ del K.cmp self.old k.now)) }
+        ensures absent { has K.cmp self.old k.now ≡ false → result ≡ Ok None }
         ensures err { OnErr result (self.new ≡ self.old) }
     {
-        // Read, so that the keys are known to ascend.
-        let _len = self.len();
-        let Some((first, _)) = self.first() else {
-            return Ok(None);
-        };
-        let key = first.clone()?;
-        match self.remove(&key)? {
-            Some(value) => Ok(Some((key, value))),
-            None => Ok(None),
-        }
+        self.inner.remove_entry(k)
+    }
+
+    /// Removes the pair with the least key, and hands it back with the key that was stored: none of an empty map, where nothing
+    /// can be refused.
+    ///
+    /// It is one way down, on which no key is compared. Where the removal is refused for want of memory, nothing has changed.
+    pub fn pop_first(&mut self) -> Result<Option<(K, V)>, AllocError>
+        ensures ok { IfOk result (IsPopped K.cmp self.old self.new) }
+        ensures stored { IfOk result (λ gone. TakesFirst (λ pair. pair) self.old gone self.new) }
+        ensures empty { self.old ≡ [] → result ≡ Ok None }
+        ensures err { OnErr result (self.new ≡ self.old) }
+    {
+        self.inner.pop_first()
+    }
+
+    /// Removes the pair with the greatest key, and hands it back with the key that was stored: none of an empty map, where
+    /// nothing can be refused.
+    ///
+    /// It is one way down, on which no key is compared. Where the removal is refused for want of memory, nothing has changed.
+    pub fn pop_last(&mut self) -> Result<Option<(K, V)>, AllocError>
+        ensures stored { IfOk result (λ gone. TakesLast (λ pair. pair) self.old gone self.new) }
+        ensures empty { self.old ≡ [] → result ≡ Ok None }
+        ensures err { OnErr result (self.new ≡ self.old) }
+    {
+        self.inner.pop_last()
     }
 
     /// Removes all pairs. The new leaf takes memory; where that is refused, nothing has changed.
@@ -276,6 +356,44 @@ impl<K: Key, V: Drop, A: Argument<K>> BPlusTreeMap<K, V, A> {
         Iter {
             inner: self.inner.iter(),
         }
+    }
+
+    /// The keys in their order. It takes no memory, and neither do its steps.
+    pub fn keys(&self) -> Keys<'_, K, V, A>
+        ensures rest { result ≡ keys_of self.now }
+        ensures ascending { IsStrictlySortedBy K.cmp result }
+        ensures runs { ShowsInOrder (deref {X = K}) }
+    {
+        Keys::new(self.inner.iter())
+    }
+
+    /// The values in the order of their keys. It takes no memory, and neither do its steps.
+    pub fn values(&self) -> Values<'_, K, V, A>
+        ensures rest { result ≡ values_of self.now }
+        ensures runs { ShowsInOrder (deref {X = V}) }
+    {
+        Values::new(self.inner.iter())
+    }
+
+    /// The keys in their order, each handed over; each value is dropped at its step. It takes no memory, and neither do its
+    /// steps.
+    pub fn into_keys(self) -> IntoKeys<K, V, A>
+        ensures rest { result ≡ keys_of self }
+        ensures ascending { IsStrictlySortedBy K.cmp result }
+        ensures runs { GivesInOrder K }
+        ensures runs_back { GivesInReverse K }
+    {
+        IntoKeys::new(self.inner.into_iter())
+    }
+
+    /// The values in the order of their keys, each handed over; each key is dropped at its step. It takes no memory, and
+    /// neither do its steps.
+    pub fn into_values(self) -> IntoValues<K, V, A>
+        ensures rest { result ≡ values_of self }
+        ensures runs { GivesInOrder V }
+        ensures runs_back { GivesInReverse V }
+    {
+        IntoValues::new(self.inner.into_iter())
     }
 
     /// The pairs in the order of their keys, each with its value. It takes no memory, and neither do its steps.
@@ -409,6 +527,55 @@ impl<K: Key, V: Drop> BPlusTreeMap<K, V, Count> {
         ensures { result ≡ length (between K.cmp self.now (option_copied lo.entry) (option_copied hi.entry)) }
     {
         self.inner.range_len(lo, hi)
+    }
+
+    /// The place of the key that equals `k` among all keys, from 0 on: the number of smaller keys. It is one way down, takes no
+    /// memory, and is never refused.
+    pub fn place_of(&self, k: &K) -> Option<usize>
+        ensures { result ≡ place K.cmp self.now k.now }
+    {
+        match self.inner.rank_by_argument(k) {
+            Ok(Ok(rank)) => Some(rank),
+            Ok(Err(_)) => None,
+            Err(_) => unreachable!(),
+        }
+    }
+
+    /// The pair at a place in the order of the keys, from 0 on, or none past the end. It is one way down, takes no memory, and
+    /// is never refused.
+    pub fn get_at(&self, i: usize) -> Option<(&K, &V)>
+        ensures { option_map (λ pair. (pair.0.now, pair.1.now)) result ≡ slice_get self.now i }
+    {
+        match self.inner.get_by_argument(i) {
+            Ok(found) => found,
+            Err(_) => unreachable!(),
+        }
+    }
+
+    /// The value at a place in the order of the keys, for writing. It is one way down, takes no memory, and fails with
+    /// `NotFound` alone, past the end; then nothing has changed.
+    pub fn get_mut_at(&mut self, i: usize) -> Result<&mut V, SelectError>
+        ensures* writes_back { sem 𝓛 (LendsSoOk (the_row K.row V.row count_row K.Key.own K.Clone K.Ord.own K.Eq.own K.PartialEq K.PartialOrd.own (count_argument K.row K.Key.own K.Clone K.Ord.own K.Eq.own K.PartialEq K.PartialOrd.own) count_clone count_default) V.row self.entry result (λ n w. n ≡ set_value_at self.old i w) (λ n. n ≡ self.old)) }
+        ensures value { IfOk result (λ lent. slice_get (values_of self.old) i ≡ Some lent.now) }
+        ensures past { IfErr result (λ error. (error ≡ SelectError.NotFound) × (length self.old ≤ i)) }
+    {
+        self.inner.get_mut_by_argument(i)
+    }
+
+    /// Removes the pair at a place in the order of the keys, from 0 on, and hands it back; those behind it move up by one. Past
+    /// the end nothing changes, and nothing can be refused.
+    ///
+    /// It is one way down by the counts. Each node on the way takes a new count of its child, and a leaf's new separator is a
+    /// clone of a key, which can be refused; then nothing has changed.
+    pub fn remove_at(&mut self, i: usize) -> Result<Option<(K, V)>, AllocError>
+        ensures ok { IfOk result (λ gone. (gone ≡ slice_get self.old i) × (self.new ≡ remove self.old i)) }
+        ensures past { length self.old ≤ i → result ≡ Ok None }
+        ensures err { OnErr result (self.new ≡ self.old) }
+    {
+        if i >= self.len() {
+            return Ok(None);
+        }
+        self.inner.remove_by_argument(i)
     }
 }
 

@@ -1,19 +1,21 @@
 //! An ordered set.
-ghost use Rattle.std.specs.Prelude.{◌≡◌, ◌+◌, ◌-◌, ◌*◌, ◌^◌, ◌<◌, ◌≤◌, ℕ, [], false, not, length, slice_get, IfOk, IfErr, OnErr, Ok, Err, IsOk, IsTrue, ◌↔◌, List, ⊤};
+ghost use Rattle.std.specs.Prelude.{◌≡◌, ◌+◌, ◌-◌, ◌*◌, ◌^◌, ◌<◌, ◌≤◌, ℕ, [], false, not, length, slice_get, IfOk, IfErr, OnErr, Ok, Err, None, IsOk, IsTrue, ◌↔◌, List, ⊤};
 ghost use Rattle.std.specs.Borrow.{Lends, sem};
 ghost use Rattle.std.specs.Iterator.{DrainsIf, IsFinite};
 ghost use Rattle.std.specs.List.Sorted.{IsStrictlySortedBy};
 ghost use Rattle.std.specs.Map.{keys_of};
-ghost use Rattle.std.specs.Map.Iter.{ShowsInOrder, GivesInOrder, GivesInReverse, deref};
+ghost use Rattle.std.specs.Map.Iter.{ShowsInOrder, GivesInOrder, GivesInReverse, TakesFirst, TakesLast, deref};
 ghost use Rattle.std.specs.Option.{option_copied};
 ghost use Rattle.bptree_tree.specs.Refusal.{pair_of};
-ghost use Rattle.bptree_maps.specs.Keys.{holds, with_key, without_key, gathered, keys_between, keys_without};
+ghost use Rattle.bptree_maps.specs.Keys.{holds, with_key, without_key, gathered, key_found, keys_between, keys_within, keys_without, IsDisjoint, IsSubset};
 ghost use Rattle.bptree_maps.specs.contracts.set.BPlusTreeSet.{the_row};
 ghost use Rattle.bptree_maps.specs.Rows.{inner_row_of_set};
 
 mod difference;
+mod intersection;
 mod iter;
 mod laws;
+mod symmetric;
 mod union;
 
 use crate::gathering::gather_tree;
@@ -21,11 +23,16 @@ use bptree_keys::key::Key;
 use bptree_stores::node_store_vec::NodeStoreVec;
 use bptree_tree::{BPlusTree, InsertError};
 pub use difference::Difference;
+pub use intersection::Intersection;
 pub use iter::{IntoIter, Iter};
-pub use laws::laws_of_keys;
+pub use laws::{laws_of_keys, laws_of_two_sets};
 use std::alloc::{AllocError, Global};
 use std::marker::Model;
+pub use symmetric::SymmetricDifference;
 pub use union::{Union, laws_of_union};
+
+// How many times fewer keys a set has than another, at least, where each is looked up in the other.
+const SEEK_RATIO: usize = 16;
 
 /// Keys in their strictly ascending order.
 #[derive(Drop)]
@@ -132,6 +139,46 @@ impl<K: Key> BPlusTreeSet<K> {
         (value.is_some(), compares)
     }
 
+    /// The key that equals `k`, as it was put in. It takes no memory, and costs what `contains` does.
+    pub fn get(&self, k: &K) -> Option<&K>
+        ensures { option_copied result ≡ key_found K.cmp self.now k.now }
+    {
+        match self.tree.get_key_value(k) {
+            Some((key, _)) => Some(key),
+            None => None,
+        }
+    }
+
+    /// Removes the least key, and hands it back: none of an empty set, where nothing can be refused.
+    ///
+    /// It is one way down, on which no key is compared. What a removal takes is what `remove` takes, and where it is refused
+    /// nothing has changed.
+    pub fn pop_first(&mut self) -> Result<Option<K>, AllocError>
+        ensures ok { IfOk result (λ gone. TakesFirst (λ key. key) self.old gone self.new) }
+        ensures empty { self.old ≡ [] → result ≡ Ok None }
+        ensures err { OnErr result (self.new ≡ self.old) }
+    {
+        match self.tree.pop_first()? {
+            Some((key, ())) => Ok(Some(key)),
+            None => Ok(None),
+        }
+    }
+
+    /// Removes the greatest key, and hands it back: none of an empty set, where nothing can be refused.
+    ///
+    /// It is one way down, on which no key is compared. What a removal takes is what `remove` takes, and where it is refused
+    /// nothing has changed.
+    pub fn pop_last(&mut self) -> Result<Option<K>, AllocError>
+        ensures ok { IfOk result (λ gone. TakesLast (λ key. key) self.old gone self.new) }
+        ensures empty { self.old ≡ [] → result ≡ Ok None }
+        ensures err { OnErr result (self.new ≡ self.old) }
+    {
+        match self.tree.pop_last()? {
+            Some((key, ())) => Ok(Some(key)),
+            None => Ok(None),
+        }
+    }
+
     /// Removes all keys. The new leaf takes memory; where that is refused, nothing has changed.
     pub fn clear(&mut self) -> Result<(), AllocError>
         ensures ok { IfOk result (λ _. self.new ≡ []) }
@@ -195,12 +242,64 @@ impl<K: Key> BPlusTreeSet<K> {
         Union::new(self.iter(), other.iter())
     }
 
-    /// The keys of this set that no key of the other equals, in their order. It takes no memory, and neither do its steps: each
-    /// looks keys up in the other set until one is not there.
+    /// The keys of this set that no key of the other equals, in their order. It takes no memory, and neither do its steps.
+    ///
+    /// Both sets are walked side by side, with a comparison for each key of either. Where this set has at most a sixteenth of
+    /// the other's keys, each of its keys is looked up in the other.
     pub fn difference<'a>(&'a self, other: &'a Self) -> Difference<'a, K>
-        ensures { result ≡ keys_without K.cmp self.now other.now }
+        ensures rest { result ≡ keys_without K.cmp self.now other.now }
+        ensures ascending { IsStrictlySortedBy K.cmp result }
+        ensures runs { ShowsInOrder (deref {X = K}) }
     {
-        Difference::new(self.iter(), other)
+        Difference::new(self, other)
+    }
+
+    /// The keys of this set that a key of the other equals, in their order. It takes no memory, and neither do its steps.
+    ///
+    /// Both sets are walked side by side, with a comparison for each key of either. Where one has at most a sixteenth of the
+    /// other's keys, each of its keys is looked up in the other.
+    pub fn intersection<'a>(&'a self, other: &'a Self) -> Intersection<'a, K>
+        ensures rest { result ≡ keys_within K.cmp self.now other.now }
+        ensures ascending { IsStrictlySortedBy K.cmp result }
+        ensures runs { ShowsInOrder (deref {X = K}) }
+    {
+        Intersection::new(self, other)
+    }
+
+    /// The keys of both sets in their order, without those that are in both. It takes no memory, and neither do its steps: to
+    /// give all takes at most as many comparisons as there are keys.
+    pub fn symmetric_difference<'a>(&'a self, other: &'a Self) -> SymmetricDifference<'a, K>
+        ensures { result ≡ (self.now, other.now) }
+    {
+        SymmetricDifference::new(self.iter(), other.iter())
+    }
+
+    /// Whether each key of this set equals one of the other. It takes no memory.
+    ///
+    /// Where this set has more keys it is told without a comparison. Else it costs what `difference` costs up to the first key
+    /// that the other lacks.
+    pub fn is_subset(&self, other: &Self) -> bool
+        ensures { IsTrue result ↔ IsSubset K.cmp self.now other.now }
+    {
+        if other.len() < self.len() {
+            return false;
+        }
+        self.difference(other).next().is_none()
+    }
+
+    /// Whether each key of the other set equals one of this. It costs what `is_subset` costs.
+    pub fn is_superset(&self, other: &Self) -> bool
+        ensures { IsTrue result ↔ IsSubset K.cmp other.now self.now }
+    {
+        other.is_subset(self)
+    }
+
+    /// Whether no key of this set equals one of the other. It takes no memory, and costs what `intersection` costs up to the
+    /// first key that both have.
+    pub fn is_disjoint(&self, other: &Self) -> bool
+        ensures { IsTrue result ↔ IsDisjoint K.cmp self.now other.now }
+    {
+        self.intersection(other).next().is_none()
     }
 
     /// The tree inside, whose keys are the set's.

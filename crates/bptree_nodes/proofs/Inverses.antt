@@ -3,7 +3,7 @@ use Rattle.std.proofs.Common.{◌≡◌, ℕ, ◌+◌, ◌-◌, ◌<◌, ◌≤�
 use Rattle.std.specs.List.{insert, remove, slice_get}
 use Rattle.std.proofs.lemmas.List.Edits.{remove-append_left, remove-append_right}
 use Rattle.bptree_keys.specs.declared.node_id.NodeId.{NodeId}
-use Rattle.bptree_nodes.specs.Inner.{Inner, TakesEntry, joined, without_entry}
+use Rattle.bptree_nodes.specs.Inner.{Inner, TakesEntry, merged, without_entry}
 use Rattle.bptree_nodes.proofs.Splits.{at_new}
 
 module _ {X : Type 0} where
@@ -62,11 +62,11 @@ module _ {K A : Type 0} where
       let third = taken_back was.arguments whole.arguments (remove whole.arguments (suc slot)) (suc slot) argument a xs j (rw behind at takes.among_arguments) refl in
       (takes.after ∙ rw (behind, first.0, second.0, third.0) refl, rw (first.1, second.1, third.1) refl)
 
-  -- the part of a joined node where the slot stands gives up the entry
+  -- the part of a merged node where the slot stands gives up the entry
   pub takes_from_left : (slot : ℕ) (left right : Inner K A) (up k : K) (c : NodeId) (a : A) → slot < length left.keys
       → slot + 1 < length left.children → slot + 1 < length left.arguments
       → slice_get left.keys slot ≡ Some k → slice_get left.children (slot + 1) ≡ Some c → slice_get left.arguments (slot + 1) ≡ Some a
-      → TakesEntry slot (joined left up right) k c a (joined (without_entry left slot) up right)
+      → TakesEntry slot (merged left up right) k c a (merged (without_entry left slot) up right)
   takes_from_left slot left right up k c a l m n key child argument = record {
     among_keys = slice_get-append_left left.keys (up ∷ right.keys) slot l ∙ key;
     among_children = slice_get-append_left left.children right.children (slot + 1) m ∙ child;
@@ -77,7 +77,7 @@ module _ {K A : Type 0} where
   pub takes_between : (slot : ℕ) (left right rest : Inner K A) (up k : K) (c : NodeId) (a : A) → slot ≡ length left.keys
       → slot + 1 ≡ length left.children → slot + 1 ≡ length left.arguments
       → right.keys ≡ k ∷ rest.keys → right.children ≡ c ∷ rest.children → right.arguments ≡ a ∷ rest.arguments
-      → TakesEntry slot (joined left up right) up c a (joined left k rest)
+      → TakesEntry slot (merged left up right) up c a (merged left k rest)
   takes_between slot left right rest up k c a l m n key child argument = record {
     among_keys = slice_get-append_right left.keys (up ∷ right.keys) slot 0 (omega (arith, l));
     among_children = slice_get-append_right left.children right.children (slot + 1) 0 (omega (arith, m)) ∙ ap (λ zs. slice_get zs 0) child;
@@ -95,7 +95,7 @@ module _ {K A : Type 0} where
   pub takes_from_right : (slot place : ℕ) (left right : Inner K A) (up k : K) (c : NodeId) (a : A) → slot ≡ length left.keys + suc place
       → slot + 1 ≡ length left.children + (place + 1) → slot + 1 ≡ length left.arguments + (place + 1)
       → slice_get right.keys place ≡ Some k → slice_get right.children (place + 1) ≡ Some c → slice_get right.arguments (place + 1) ≡ Some a
-      → TakesEntry slot (joined left up right) k c a (joined left up (without_entry right place))
+      → TakesEntry slot (merged left up right) k c a (merged left up (without_entry right place))
   takes_from_right slot place left right up k c a l m n key child argument = record {
     among_keys = slice_get-append_right left.keys (up ∷ right.keys) slot (suc place) l ∙ key;
     among_children = slice_get-append_right left.children right.children (slot + 1) (place + 1) m ∙ child;

@@ -14,11 +14,21 @@ fn of_inner(arguments: &[Count]) -> Result<usize, AllocError> {
     Ok(count.count())
 }
 
+fn replaced(node: &Count, old: &Count, new: &Count) -> Option<usize> {
+    let count = <Count as Argument<u64>>::from_replaced(node, old, new)?;
+    Some(count.count())
+}
+
+// A child of three keys gives way to one of two, and one of more keys than the node has can't have stood there.
 fn counts() -> Result<bool, AllocError> {
+    let two = of_leaf(&[1, 2])?;
     let three = of_leaf(&[1, 2, 3])?;
+    let nine = <Count as Argument<u64>>::from_inner(&[4, 7], &[three, three, three])?;
     Ok(
         three.count() == 3
             && of_inner(&[three, three, three])? == 9
+            && replaced(&nine, &three, &two) == Some(8)
+            && replaced(&two, &three, &two) == None
             && Count::default().count() == 0,
     )
 }

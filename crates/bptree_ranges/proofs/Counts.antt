@@ -14,8 +14,8 @@ use Rattle.bptree_nodes.specs.Slot.{Slots, Present}
 use Rattle.bptree_ranges.proofs.Sums.{filter_few}
 use Rattle.bptree_shape.specs.Shape.{pairs_at}
 use Rattle.bptree_shape.proofs.Walk.{tree_ascends}
-use Rattle.bptree_ways.specs.ByArgument.{IsSubtree}
-use Rattle.bptree_ways.proofs.Summed.{leaf_whole, leaf_sorted}
+use Rattle.bptree_descents.specs.ByArgument.{IsSubtree}
+use Rattle.bptree_descents.proofs.Summed.{leaf_whole, leaf_sorted}
 use Rattle.bptree_shape.proofs.Between.{between_is}
 
 module _ {K V A : Type 0} {cmp : K → K → Ordering} (total : IsTotalOrder cmp) (is_summary : A → List K → Type 0) (slots : Slots (Inner K A) (Leaf K V)) (h : ℕ) where

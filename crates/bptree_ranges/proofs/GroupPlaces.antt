@@ -27,8 +27,8 @@ use Rattle.bptree_shape.specs.Shape.{leaf_pairs, inner_keys, inner_children, pai
 use Rattle.bptree_shape.proofs.Between.{Falls, none_pass}
 use Rattle.bptree_shape.proofs.Spot.{parts_of_read}
 use Rattle.bptree_shape.proofs.Walk.{flat_parts, tree_inside}
-use Rattle.bptree_ways.specs.ByArgument.{IsSubtree}
-use Rattle.bptree_ways.proofs.Summed.{whole, down}
+use Rattle.bptree_descents.specs.ByArgument.{IsSubtree}
+use Rattle.bptree_descents.proofs.Summed.{whole, down}
 use Rattle.bptree_ranges.proofs.Bordered.{every_pass, count_of_first, falls_all, chain_passes, chain_fails, key_falls, of_group_is}
 use Rattle.bptree_ranges.proofs.Ranged.{start_is, size_of, contents_ascend}
 

@@ -22,8 +22,8 @@ use Rattle.bptree_shape.specs.Shape.{leaf_pairs, inner_children, leaves_at, pair
 use Rattle.bptree_shape.proofs.Down.{pairs_of_all, stands_above}
 use Rattle.bptree_shape.proofs.NodePieces.{keys_at}
 use Rattle.bptree_shape.proofs.Walk.{flat-append}
-use Rattle.bptree_ways.specs.ByArgument.{IsSubtree}
-use Rattle.bptree_ways.proofs.Summed.{pieces, same, summaries, whole, down}
+use Rattle.bptree_descents.specs.ByArgument.{IsSubtree}
+use Rattle.bptree_descents.proofs.Summed.{pieces, same, summaries, whole, down}
 
 one_more : {C X : Type 0} (f : C → List X) (cs : List C) (n : ℕ) (d : C) → n < length cs → length (flat f (take (n + 1) cs)) ≡ length (flat f (take n cs)) + length (f (get_or cs n d))
 one_more f cs n d within =

@@ -21,11 +21,11 @@ use Rattle.bptree_keys.specs.Ranges.{part}
 use Rattle.bptree_nodes.specs.LeafResults.{place_of}
 use Rattle.bptree_keys.proofs.Around.{pairs_below_around}
 use Rattle.bptree_keys.proofs.PieceLemmas.{AllByRecursion-right}
-use Rattle.bptree_ways.specs.ByArgument.{IsSelectedAt}
+use Rattle.bptree_descents.specs.ByArgument.{IsSelectedAt}
 use Rattle.bptree_shape.specs.Leaves.{pairs_of, StandsIn, IsFirstLeaf, IsLastLeaf, IsLeafFor}
 use Rattle.bptree_ranges.specs.Ranges.{ahead, start, empty_at, IsPart, IsPlaceOn, IsSettled}
 use Rattle.bptree_shape.specs.Shape.{leaf_pairs, leaf_next, leaves_at, pairs_at, stands, AreLinked, IsWellShaped, root_least}
-use Rattle.bptree_ways.proofs.Beside.{HasPair, others_have, found_at, below_upto, place_within}
+use Rattle.bptree_descents.proofs.Beside.{HasPair, others_have, found_at, below_upto, place_within}
 use Rattle.bptree_shape.proofs.Hinted.{count_of, count_leaves, first_or, linked_next, total-append}
 use Rattle.bptree_shape.proofs.Spot.{parts_of, parts_of_read, leaf_ascends}
 use Rattle.bptree_shape.proofs.Walk.{flat-append, tree_ascends}

@@ -12,7 +12,7 @@ use Rattle.bptree_ranges.specs.Summaries.{IsPartSummary}
 use Rattle.bptree_ranges.proofs.Sums.{smaller_of, keys_of_take, keys_of_drop}
 use Rattle.bptree_shape.proofs.Between.{between_is, all_below}
 use Rattle.bptree_shape.proofs.ListReads.{read_some}
-use Rattle.bptree_ways.specs.ByArgument.{IsSelected}
+use Rattle.bptree_descents.specs.ByArgument.{IsSelected}
 
 module _ {K V Q : Type 0} (selects : Q → List K → Option ℕ → Type 0) (query : Q) (l : List (K × V)) where
   selected_none : IsSelected selects query l None → selects query (keys_of l) None

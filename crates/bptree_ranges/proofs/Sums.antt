@@ -36,9 +36,9 @@ use Rattle.bptree_shape.proofs.Between.{none_pass, all_pass, between_is, between
 use Rattle.bptree_shape.proofs.NodePieces.{keys-append, keys_of_flat, keys_take, keys_drop}
 use Rattle.bptree_shape.proofs.Ordered.{less_then_up}
 use Rattle.bptree_shape.proofs.Walk.{flat_parts, chain_inside, chain_smaller, chain_greater, tree_inside, tree_ascends}
-use Rattle.bptree_ways.specs.ByArgument.{IsSubtree}
-use Rattle.bptree_ways.proofs.Beside.{below_upto, place_within}
-use Rattle.bptree_ways.proofs.Summed.{pieces, summaries, whole, are_pieces, leaf_whole, leaf_sorted}
+use Rattle.bptree_descents.specs.ByArgument.{IsSubtree}
+use Rattle.bptree_descents.proofs.Beside.{below_upto, place_within}
+use Rattle.bptree_descents.proofs.Summed.{pieces, summaries, whole, are_pieces, leaf_whole, leaf_sorted}
 
 and_false : (b : Bool) → (b && false) ≡ false
 and_false true = refl

@@ -5,7 +5,7 @@ ghost use Rattle.bptree_keys.specs.Contents.{pairs_below};
 ghost use Rattle.bptree_keys.specs.Ranges.{between, falls_short, stays_below};
 ghost use Rattle.bptree_ranges.specs.Counting.{CountsKeys};
 ghost use Rattle.bptree_shape.specs.Shape.{pairs_at};
-ghost use Rattle.bptree_ways.specs.ByArgument.{IsSubtree};
+ghost use Rattle.bptree_descents.specs.ByArgument.{IsSubtree};
 
 use crate::summaries::slot_of;
 use bptree_arguments::count::{Count, total_of};

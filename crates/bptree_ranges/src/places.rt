@@ -2,7 +2,7 @@
 ghost use Rattle.std.specs.Prelude.{◌≡◌, ◌<◌, ◌≤◌, ◌^◌, IfOk, IfSome, List, length};
 ghost use Rattle.bptree_ranges.specs.Places.{before_entry, before_group, IsPlaceInGroup, IsSkipped};
 ghost use Rattle.bptree_shape.specs.Shape.{pairs_at, IsWellShaped};
-ghost use Rattle.bptree_ways.specs.ByArgument.{IsSubtree};
+ghost use Rattle.bptree_descents.specs.ByArgument.{IsSubtree};
 
 use bptree_arguments::argument::Argument;
 use bptree_arguments::group::FromRef;

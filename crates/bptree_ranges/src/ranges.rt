@@ -10,12 +10,12 @@ ghost use Rattle.bptree_ranges.specs.Ranges.{start, place_on, empty_at, IsPart, 
 ghost use Rattle.bptree_shape.specs.Shape.{pairs_at, IsWellShaped};
 
 use bptree_arguments::argument::SearchArgument;
+use bptree_descents::by_argument::find_by_argument;
 use bptree_iteration::part::{Extent, Part};
 use bptree_keys::node_id::{LeafNodeId, NodeId};
 use bptree_shape::descent::{first_leaf, last_leaf};
 use bptree_shape::reading::leaf_for;
 use bptree_stores::node_stores::NodeStore;
-use bptree_ways::by_argument::find_by_argument;
 use std::alloc::AllocError;
 use std::cmp::Ordering;
 

@@ -7,7 +7,7 @@ ghost use Rattle.bptree_keys.specs.Contents.{IsAscending, pairs_below};
 ghost use Rattle.bptree_keys.specs.Ranges.{between, falls_short, stays_below};
 ghost use Rattle.bptree_ranges.specs.Summaries.{SumsUpBoth, SumsUpRange, SumsUpSome};
 ghost use Rattle.bptree_shape.specs.Shape.{pairs_at};
-ghost use Rattle.bptree_ways.specs.ByArgument.{IsSubtree};
+ghost use Rattle.bptree_descents.specs.ByArgument.{IsSubtree};
 
 use bptree_arguments::argument::Argument;
 use bptree_keys::key::Key;

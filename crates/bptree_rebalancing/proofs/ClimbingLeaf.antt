@@ -1,4 +1,4 @@
--- A leaf that was short of a pair was helped by its neighbour, and the edit is carried to the nodes above.
+-- A leaf that underflowed was rebalanced with its sibling, and the edit is carried to the nodes above.
 use Rattle.std.proofs.Common.{◌≡◌, ℕ, suc, ◌+◌, ◌<◌, ◌≤◌, ◌^◌, inl, inr, ◌⊎◌, true, cond, List, [], ◌∷◌, ◌++◌, length, get_or, take, drop, refl, sym, ap, subst, ◌∙◌, arith, add-one, append_assoc, Option, Some, None, IfSome, eqb, slice_get}
 use Rattle.std.specs.declared.cmp.Ordering.{Ordering}
 use Rattle.std.specs.Cmp.{IsTotalOrder}
@@ -14,29 +14,29 @@ use Rattle.bptree_keys.specs.declared.node_id.InnerNodeId.{InnerNodeId}
 use Rattle.bptree_keys.specs.declared.node_id.LeafNodeId.{LeafNodeId}
 use Rattle.bptree_keys.specs.declared.node_id.NodeId.{NodeId}
 use Rattle.bptree_keys.specs.declared.node_id.NodeId.TheVariants as kind
-use Rattle.bptree_ascent.specs.Change.{Mends}
+use Rattle.bptree_ascent.specs.Change.{RelinksNext}
 use Rattle.bptree_ascent.specs.Climb.{is_held, HeldAre, least_at, Climbs, Risen}
 use Rattle.bptree_shape.specs.Edit.{CanReach, Turn, Stays, Loses, SameLinks, Edits}
-use Rattle.bptree_rebalancing.specs.Help.{Helps, child_size}
+use Rattle.bptree_rebalancing.specs.ChooseSibling.{ChoosesSibling, child_size}
 use Rattle.bptree_ascent.specs.LeafChange.{SumsUpLeaf}
-use Rattle.bptree_rebalancing.specs.Mend.{MendsPair}
+use Rattle.bptree_rebalancing.specs.Rebalance.{RebalancesPair}
 use Rattle.bptree_shape.specs.Order.{flat}
 use Rattle.bptree_shape.specs.Outcome.{Done, Split}
 use Rattle.bptree_shape.specs.Shape.{inner_children, leaf_pairs, leaf_prev, leaf_next, pairs_at, leaves_at, leaf_count, inner_count, stands, root_least, AreLinked, IsTree}
-use Rattle.bptree_rebalancing.specs.Share.{HasEntry}
-use Rattle.bptree_rebalancing.specs.Shared.{LendsLeavesAt, JoinsLeavesAt}
+use Rattle.bptree_rebalancing.specs.Transfer.{HasEntry}
+use Rattle.bptree_rebalancing.specs.RotateMerge.{RotatesLeavesAt, MergesLeavesAt}
 use Rattle.bptree_ascent.specs.Sums.{SumsUpAt, with_split}
-use Rattle.bptree_rebalancing.specs.Trim.{ClimbsShort, Sunk, ShortLeaf, Trims}
-use Rattle.bptree_rebalancing.specs.declared.sharing.Joint.{Joint}
-use Rattle.bptree_rebalancing.specs.declared.sharing.Lender.{Lender}
+use Rattle.bptree_rebalancing.specs.Trim.{ClimbsUnderflow, Sunk, LeafUnderflow, Trims}
+use Rattle.bptree_rebalancing.specs.declared.rotate_merge.Joint.{Joint}
+use Rattle.bptree_rebalancing.specs.declared.rotate_merge.Sibling.{Sibling}
 use Rattle.bptree_shape.proofs.Agreeing.{stands_le}
 use Rattle.bptree_ascent.proofs.Climbing.{told_up, least_most, not_held, held_is}
 use Rattle.bptree_shape.proofs.Frame.{Same, same}
-use Rattle.bptree_rebalancing.proofs.Helping.{inserted_is, before_is, most_so}
+use Rattle.bptree_rebalancing.proofs.Choosing.{inserted_is, before_is, most_so}
 use Rattle.bptree_shape.proofs.Hinted.{count_of, count_leaves, first_or, linked_next}
 use Rattle.bptree_rebalancing.proofs.LeafSpot as spot
-use Rattle.bptree_ascent.proofs.Mended.{reads_same, mended_pairs, mended_inner, mended_held, one_at, other_leaf, linked_closed}
-use Rattle.bptree_rebalancing.proofs.MendLeaf as mend
+use Rattle.bptree_ascent.proofs.Relinked.{reads_same, relinked_pairs, relinked_inner, relinked_held, one_at, other_leaf, linked_closed}
+use Rattle.bptree_rebalancing.proofs.RebalanceLeaf as relink_next
 use Rattle.bptree_rebalancing.proofs.Pair as pair
 use Rattle.bptree_ascent.proofs.Rooted.{whole_done, present_leaf}
 use Rattle.bptree_rebalancing.proofs.Seated.{seat_size}
@@ -46,7 +46,7 @@ use Rattle.bptree_shape.proofs.Ways.{LastStep}
 use Rattle.bptree_shape.proofs.Widen.{tree_less}
 
 module _ {K V A : Type 0} {cmp : K → K → Ordering} (total' : IsTotalOrder cmp) (is_summary : A → List K → Type 0) (now after : Slots (Inner K A) (Leaf K V)) (path : List (InnerNodeId × ℕ × NodeId)) (number : InnerNodeId) (i : ℕ)
-    (c : ShortLeaf cmp is_summary now path number i) (slot : ℕ) (left right : LeafNodeId) (beside : (i ≡ slot) ⊎ (i ≡ suc slot)) where
+    (c : LeafUnderflow cmp is_summary now path number i) (slot : ℕ) (left right : LeafNodeId) (beside : (i ≡ slot) ⊎ (i ≡ suc slot)) where
   abbrev pub step : LastStep cmp c.climb.old c.climb.k c.climb.top c.climb.root path number i c.climb.height c.climb.id
   step = spot.step total' is_summary now path number i c
 
@@ -105,7 +105,7 @@ module _ {K V A : Type 0} {cmp : K → K → Ordering} (total' : IsTotalOrder cm
       was_order : flat (leaves_at c.climb.old c.climb.height) node.children ≡ before ++ left ∷ (right ∷ behind)
       was_order =
           spot.same_order total' is_summary now path number i c
-          ∙ (pair.order_parted total' is_summary c.climb.edit c.climb.kept c.climb.old now after c.climb.height number c.climb.k node i c.climb.id c.climb.leaf c.climb.turn c.climb.local at step.is step.leads step.read c.enough c.climb.edits bare slot joint.separator (kind.Leaf right) joint.right entry beside
+          ∙ (pair.order_unmerged total' is_summary c.climb.edit c.climb.kept c.climb.old now after c.climb.height number c.climb.k node i c.climb.id c.climb.leaf c.climb.turn c.climb.local at step.is step.leads step.read c.enough c.climb.edits bare slot joint.separator (kind.Leaf right) joint.right entry beside
           ∙ ap (λ x. before ++ (x ++ behind)) (from_low (λ m x. leaves_at now m x ++ leaves_at now m (kind.Leaf right) ≡ left ∷ right ∷ []) refl))
 
       pub next_is : leaf_next (now.leaf left.0) ≡ Some right
@@ -118,44 +118,44 @@ module _ {K V A : Type 0} {cmp : K → K → Ordering} (total' : IsTotalOrder cm
         told_up total' is_summary after 0 c.climb.height number at.low at.high above (e.tree 0 at.low at.high (omega arith) (tree_less cmp c.climb.old at.least 0 (suc c.climb.height) (kind.Inner number) at.low at.high (omega arith) at.tree) at.fits)
         (e.summed (spot.summed total' is_summary now path number i c)) (subst (λ l. length l < 2 ^ 64) (sym e.pairs) (spot.few total' is_summary now path number i c)) sums
 
-    -- the two became one
-    module _ (emptied : Leaf K V) (j : JoinsLeavesAt cmp is_summary slot now after number left right joint emptied) where
+    -- the two merged
+    module _ (emptied : Leaf K V) (j : MergesLeavesAt cmp is_summary slot now after number left right joint emptied) where
       abbrev pub jb : Inner K A
-      jb = j.shares.bare
+      jb = j.transfers.bare
 
       abbrev pub jg : NodeId
-      jg = j.shares.child
+      jg = j.transfers.child
 
       pub je : HasEntry node jb slot joint.separator jg joint.right
-      je = subst (λ n. HasEntry n jb slot joint.separator jg joint.right) (sym (same_node (now.inner number.0) node j.node (spot.here total' is_summary now path number i c) j.at_node)) j.shares.entry
+      je = subst (λ n. HasEntry n jb slot joint.separator jg joint.right) (sym (same_node (now.inner number.0) node j.node (spot.here total' is_summary now path number i c) j.at_node)) j.transfers.entry
 
-      j_mends : MendsPair cmp is_summary now after c.climb.height number.0 (get_or jb.children slot c.climb.id) joint.separator (kind.Leaf right) Done
-      j_mends =
-          from_low jb jg je (λ m x. MendsPair cmp is_summary now after m number.0 x joint.separator (kind.Leaf right) Done)
-          (mend.leaves_joined total' is_summary now after number.0 left right j.one j.other j.one' joint.separator j.at_left j.at_right j.is_left j.inners j.leaves j.apart emptied j.is_right j.shares.leaves j.fits)
+      merge_rebalances : RebalancesPair cmp is_summary now after c.climb.height number.0 (get_or jb.children slot c.climb.id) joint.separator (kind.Leaf right) Done
+      merge_rebalances =
+          from_low jb jg je (λ m x. RebalancesPair cmp is_summary now after m number.0 x joint.separator (kind.Leaf right) Done)
+          (relink_next.leaves_joined total' is_summary now after number.0 left right j.one j.other j.one' joint.separator j.at_left j.at_right j.is_left j.inners j.leaves j.apart emptied j.is_right j.transfers.leaves j.fits)
 
-      j_told : is_summary j.shares.joins.both (keys_of (pairs_at after c.climb.height (get_or jb.children slot c.climb.id)))
+      j_told : is_summary j.transfers.merges.both (keys_of (pairs_at after c.climb.height (get_or jb.children slot c.climb.id)))
       j_told =
-          let t = pair.pair_tree total' is_summary c.climb.edit c.climb.kept c.climb.old now after c.climb.height number c.climb.k node i c.climb.id c.climb.leaf c.climb.turn c.climb.local at step.is step.leads step.read c.enough c.climb.edits jb slot joint.separator (kind.Leaf right) joint.right (entry jb jg je) beside Done j_mends in
+          let t = pair.pair_tree total' is_summary c.climb.edit c.climb.kept c.climb.old now after c.climb.height number c.climb.k node i c.climb.id c.climb.leaf c.climb.turn c.climb.local at step.is step.leads step.read c.enough c.climb.edits jb slot joint.separator (kind.Leaf right) joint.right (entry jb jg je) beside Done merge_rebalances in
           let low = to_low jb jg je (λ m x. IsTree cmp after 16 m x t.0 t.1) t.2 in
           let so : (16 ≤ length j.one'.pairs) × IsAscending cmp j.one'.pairs = subst (λ (x : Slot (Leaf K V)). (16 ≤ length (leaf_pairs x)) × IsAscending cmp (leaf_pairs x)) j.is_left (low.3, low.2) in
-          from_low jb jg je (λ m x. is_summary j.shares.joins.both (keys_of (pairs_at after m x)))
-          (subst (λ (x : Slot (Leaf K V)). is_summary j.shares.joins.both (keys_of (leaf_pairs x))) (sym j.is_left) (j.shares.joins.told_both (omega (arith, so.0)) so.1))
+          from_low jb jg je (λ m x. is_summary j.transfers.merges.both (keys_of (pairs_at after m x)))
+          (subst (λ (x : Slot (Leaf K V)). is_summary j.transfers.merges.both (keys_of (leaf_pairs x))) (sym j.is_left) (j.transfers.merges.told_both (omega (arith, so.0)) so.1))
 
       pub j_edits : Edits cmp is_summary c.climb.edit (length jb.keys) c.climb.old after (suc c.climb.height) (kind.Inner number) c.climb.k left (Loses right) Done
       j_edits =
-          pair.node_joined total' is_summary c.climb.edit c.climb.kept c.climb.old now after c.climb.height number c.climb.k node i c.climb.id c.climb.leaf c.climb.turn c.climb.local at step.is step.leads step.read c.enough c.climb.edits jb slot joint.separator (kind.Leaf right) joint.right (entry jb jg je) beside j.shares.joins.both j_mends (j.is_node ∙ ap Present j.shares.joins.is) j_told (length jb.keys) (omega arith) left (Loses right)
+          pair.node_merged total' is_summary c.climb.edit c.climb.kept c.climb.old now after c.climb.height number c.climb.k node i c.climb.id c.climb.leaf c.climb.turn c.climb.local at step.is step.leads step.read c.enough c.climb.edits jb slot joint.separator (kind.Leaf right) joint.right (entry jb jg je) beside j.transfers.merges.both merge_rebalances (j.is_node ∙ ap Present j.transfers.merges.is) j_told (length jb.keys) (omega arith) left (Loses right)
           (record {
             order = record {
               before = before jb jg je;
               after = behind jb jg je;
               was = was_order jb jg je;
-              is = pair.order_after total' is_summary c.climb.edit c.climb.kept c.climb.old now after c.climb.height number c.climb.k node i c.climb.id c.climb.leaf c.climb.turn c.climb.local at step.is step.leads step.read c.enough c.climb.edits jb slot joint.separator (kind.Leaf right) joint.right (entry jb jg je) beside Done j_mends
+              is = pair.order_after total' is_summary c.climb.edit c.climb.kept c.climb.old now after c.climb.height number c.climb.k node i c.climb.id c.climb.leaf c.climb.turn c.climb.local at step.is step.leads step.read c.enough c.climb.edits jb slot joint.separator (kind.Leaf right) joint.right (entry jb jg je) beside Done merge_rebalances
                   ∙ ap (λ x. before jb jg je ++ (x ++ behind jb jg je)) (from_low jb jg je (λ m x. leaves_at after m x ≡ left ∷ []) refl);
             };
             links = (
-              ap leaf_prev j.is_left ∙ (ap (λ (x : Leaf K V). x.prev) j.shares.leaves.left_is ∙ (ap leaf_prev (sym j.at_left) ∙ links_left.0)),
-              ap leaf_next j.is_left ∙ (ap (λ (x : Leaf K V). x.next) j.shares.leaves.left_is ∙ (ap leaf_next (sym j.at_right) ∙ links_right.1)),
+              ap leaf_prev j.is_left ∙ (ap (λ (x : Leaf K V). x.prev) j.transfers.leaves.left_is ∙ (ap leaf_prev (sym j.at_left) ∙ links_left.0)),
+              ap leaf_next j.is_left ∙ (ap (λ (x : Leaf K V). x.next) j.transfers.leaves.left_is ∙ (ap leaf_next (sym j.at_right) ∙ links_right.1)),
             );
             untouched = λ x l r some. rw (j.leaves x.0 l r) (spot.links_now total' is_summary now path number i c x some, spot.there_now total' is_summary now path number i c x some);
           })
@@ -177,8 +177,8 @@ module _ {K V A : Type 0} {cmp : K → K → Ordering} (total' : IsTotalOrder cm
             ];
       }
 
-      abbrev pub joined_climbs : (above : A) → SumsUpAt cmp is_summary (after.inner number.0) above → ClimbsShort cmp is_summary after path number above
-      joined_climbs above sums = record {
+      abbrev pub merged_climbs : (above : A) → SumsUpAt cmp is_summary (after.inner number.0) above → ClimbsUnderflow cmp is_summary after path number above
+      merged_climbs above sums = record {
         climb = record {
           old = c.climb.old;
           edit = c.climb.edit;
@@ -204,8 +204,8 @@ module _ {K V A : Type 0} {cmp : K → K → Ordering} (total' : IsTotalOrder cm
         told = told_above (length jb.keys) left (Loses right) j_edits above sums;
       }
 
-      -- the number of the leaf that is gone is let go, and the links are mended
-      module _ (above : A) (sums : SumsUpAt cmp is_summary (after.inner number.0) above) (new : Slots (Inner K A) (Leaf K V)) (top : A) (sunk : Sunk (joined_climbs above sums).climb new top) where
+      -- the number of the leaf that is gone is let go, and the links are relinked
+      module _ (above : A) (sums : SumsUpAt cmp is_summary (after.inner number.0) above) (new : Slots (Inner K A) (Leaf K V)) (top : A) (sunk : Sunk (merged_climbs above sums).climb new top) where
         pub still_held : new.leaf right.0 ≡ Held
         still_held = held_is (new.leaf right.0) (sunk.free.leaves right.0 ∙ rw (eq-eqb right.0 right.0 refl) refl)
 
@@ -249,7 +249,7 @@ module _ {K V A : Type 0} {cmp : K → K → Ordering} (total' : IsTotalOrder cm
           pub next_there : IfSome next (λ y. IsPresent (mid.leaf y.0))
           next_there = subst (λ o. IfSome o (λ y. IsPresent (mid.leaf y.0))) (sym next_first) (there later refl)
 
-          module _ (final : Slots (Inner K A) (Leaf K V)) (mends : Mends mid final next left) where
+          module _ (final : Slots (Inner K A) (Leaf K V)) (rebalances : RelinksNext mid final next left) where
             mid_inner : (n : ℕ) → mid.inner n ≡ new.inner n
             mid_inner n = ap (λ (f : ℕ → Slot (Inner K A)). f n) frees.inner
 
@@ -271,12 +271,12 @@ module _ {K V A : Type 0} {cmp : K → K → Ordering} (total' : IsTotalOrder cm
               (λ n some. mid_inner n),
             )
 
-            mended : Same cmp is_summary mid final c.climb.top c.climb.root
-            mended = reads_same cmp is_summary mid final (mended_pairs mid final left next mends) c.climb.top c.climb.root (λ n some. mended_inner mid final left next mends n)
+            relinked : Same cmp is_summary mid final c.climb.top c.climb.root
+            relinked = reads_same cmp is_summary mid final (relinked_pairs mid final left next rebalances) c.climb.top c.climb.root (λ n some. relinked_inner mid final left next rebalances n)
 
             free_leaf : (n : ℕ) → final.leaf n ≡ Held → ⊥
             free_leaf n held =
-                let h = mended_held mid final left next mends n held in
+                let h = relinked_held mid final left next rebalances n held in
                 elim (eqb_tells right.0 n) [
                   | inl q ↦ (let z : Free ≡ Held = sym frees.leaf.changed ∙ (ap mid.leaf q.1 ∙ h) in cc)
                   | inr far ↦ not_held (new.leaf n) (sunk.free.leaves n ∙ rw far.0 (c.none_held n).1) (sym (frees.leaf.others n (λ z. far.1 (sym z))) ∙ h)
@@ -285,55 +285,55 @@ module _ {K V A : Type 0} {cmp : K → K → Ordering} (total' : IsTotalOrder cm
             linked : AreLinked final None (first ++ left ∷ later) None
             linked =
                 linked_closed c.climb.old mid final first left right later untouched (rw (frees.leaf.others left.0 j.apart) edits.links) unique present
-                (subst (λ o. Mends mid final o left) next_first mends) links
+                (subst (λ o. RelinksNext mid final o left) next_first rebalances) links
 
-            pub trims_joined : Trims c.climb final top
-            trims_joined = record {
+            pub trims_merged : Trims c.climb final top
+            trims_merged = record {
               loose = record {
-                tree = mended.tree 0 None None (freed.tree 0 None None (edits.tree 0 None None (omega arith) (tree_less cmp c.climb.old (root_least c.climb.top) 0 c.climb.top c.climb.root None None (omega arith) c.climb.shape.tree) (tt, tt)));
-                leaves = λ n. omega (arith, mended.leaves n, freed.leaves n, counts n, mid_stands n, (mended_pairs mid final left next mends n).stands);
-                inners = λ n. omega (arith, mended.inners n, freed.inners n, inner_counts n, ap stands (mid_inner n), ap stands (mended_inner mid final left next mends n));
+                tree = relinked.tree 0 None None (freed.tree 0 None None (edits.tree 0 None None (omega arith) (tree_less cmp c.climb.old (root_least c.climb.top) 0 c.climb.top c.climb.root None None (omega arith) c.climb.shape.tree) (tt, tt)));
+                leaves = λ n. omega (arith, relinked.leaves n, freed.leaves n, counts n, mid_stands n, (relinked_pairs mid final left next rebalances n).stands);
+                inners = λ n. omega (arith, relinked.inners n, freed.inners n, inner_counts n, ap stands (mid_inner n), ap stands (relinked_inner mid final left next rebalances n));
                 no_leaf_held = free_leaf;
-                no_inner_held = λ n held. not_held (new.inner n) (sunk.free.inners n ∙ (c.none_held n).0) (sym (mid_inner n) ∙ (sym (mended_inner mid final left next mends n) ∙ held));
-                summed = mended.summed (freed.summed (edits.summed c.climb.shape.summed));
-                linked = subst (λ ids. AreLinked final None ids None) (sym (mended.order ∙ (freed.order ∙ edits.order.is))) linked;
+                no_inner_held = λ n held. not_held (new.inner n) (sunk.free.inners n ∙ (c.none_held n).0) (sym (mid_inner n) ∙ (sym (relinked_inner mid final left next rebalances n) ∙ held));
+                summed = relinked.summed (freed.summed (edits.summed c.climb.shape.summed));
+                linked = subst (λ ids. AreLinked final None ids None) (sym (relinked.order ∙ (freed.order ∙ edits.order.is))) linked;
               };
-              pairs = mended.pairs ∙ (freed.pairs ∙ edits.pairs);
-              told = subst (λ l. is_summary top (keys_of l)) (sym (mended.pairs ∙ freed.pairs)) sunk.told;
+              pairs = relinked.pairs ∙ (freed.pairs ∙ edits.pairs);
+              told = subst (λ l. is_summary top (keys_of l)) (sym (relinked.pairs ∙ freed.pairs)) sunk.told;
             }
 
-    -- the one lent a pair to the other
-    module _ (lender : Lender) (l : LendsLeavesAt cmp is_summary slot now after number lender left right joint) (least : (16 ≤ length l.one'.pairs) × (16 ≤ length l.other'.pairs)) where
+    -- the one rotated a pair to the other
+    module _ (giver : Sibling) (l : RotatesLeavesAt cmp is_summary slot now after number giver left right joint) (least : (16 ≤ length l.one'.pairs) × (16 ≤ length l.other'.pairs)) where
       abbrev pub lb : Inner K A
-      lb = l.shares.bare
+      lb = l.transfers.bare
 
       abbrev pub lg : NodeId
-      lg = l.shares.child
+      lg = l.transfers.child
 
       abbrev up : K
-      up = l.shares.lends.separator
+      up = l.transfers.rotates.separator
 
       pub le : HasEntry node lb slot joint.separator lg joint.right
-      le = subst (λ n. HasEntry n lb slot joint.separator lg joint.right) (sym (same_node (now.inner number.0) node l.node (spot.here total' is_summary now path number i c) l.at_node)) l.shares.entry
+      le = subst (λ n. HasEntry n lb slot joint.separator lg joint.right) (sym (same_node (now.inner number.0) node l.node (spot.here total' is_summary now path number i c) l.at_node)) l.transfers.entry
 
-      l_mends : MendsPair cmp is_summary now after c.climb.height number.0 (get_or lb.children slot c.climb.id) joint.separator (kind.Leaf right) (Split up (kind.Leaf right))
-      l_mends =
-          from_low lb lg le (λ m x. MendsPair cmp is_summary now after m number.0 x joint.separator (kind.Leaf right) (Split up (kind.Leaf right)))
-          (mend.leaves_lent total' is_summary now after number.0 left right l.one l.other l.one' joint.separator l.at_left l.at_right l.is_left l.inners l.leaves l.apart lender l.other' up l.is_right l.shares.moves l.shares.lends.separates least
-          (most_so lender (length l.one.pairs) (length l.other.pairs) (length l.one'.pairs) (length l.other'.pairs) l.can l.shares.moves.sizes))
+      left_rebalances : RebalancesPair cmp is_summary now after c.climb.height number.0 (get_or lb.children slot c.climb.id) joint.separator (kind.Leaf right) (Split up (kind.Leaf right))
+      left_rebalances =
+          from_low lb lg le (λ m x. RebalancesPair cmp is_summary now after m number.0 x joint.separator (kind.Leaf right) (Split up (kind.Leaf right)))
+          (relink_next.leaves_rotated total' is_summary now after number.0 left right l.one l.other l.one' joint.separator l.at_left l.at_right l.is_left l.inners l.leaves l.apart giver l.other' up l.is_right l.transfers.moves l.transfers.rotates.separates least
+          (most_so giver (length l.one.pairs) (length l.other.pairs) (length l.one'.pairs) (length l.other'.pairs) l.can l.transfers.moves.sizes))
 
       sums_leaf : (x : LeafNodeId) (node' : Leaf K V) (lo hi : Option K) (b : A) → after.leaf x.0 ≡ Present node' → IsTree cmp after 16 0 (kind.Leaf x) lo hi → SumsUpLeaf cmp is_summary node'.pairs b → is_summary b (keys_of (pairs_at after 0 (kind.Leaf x)))
       sums_leaf x node' lo hi b is t sums =
           let so : (16 ≤ length node'.pairs) × IsAscending cmp node'.pairs = subst (λ (y : Slot (Leaf K V)). (16 ≤ length (leaf_pairs y)) × IsAscending cmp (leaf_pairs y)) is (t.3, t.2) in
           subst (λ (y : Slot (Leaf K V)). is_summary b (keys_of (leaf_pairs y))) (sym is) (sums (omega (arith, so.0)) so.1)
 
-      l_told : is_summary l.shares.lends.left (keys_of (pairs_at after c.climb.height (get_or lb.children slot c.climb.id))) × is_summary l.shares.lends.right (keys_of (pairs_at after c.climb.height (kind.Leaf right)))
+      l_told : is_summary l.transfers.rotates.left (keys_of (pairs_at after c.climb.height (get_or lb.children slot c.climb.id))) × is_summary l.transfers.rotates.right (keys_of (pairs_at after c.climb.height (kind.Leaf right)))
       l_told =
-          let t = pair.pair_tree total' is_summary c.climb.edit c.climb.kept c.climb.old now after c.climb.height number c.climb.k node i c.climb.id c.climb.leaf c.climb.turn c.climb.local at step.is step.leads step.read c.enough c.climb.edits lb slot joint.separator (kind.Leaf right) joint.right (entry lb lg le) beside (Split up (kind.Leaf right)) l_mends in
+          let t = pair.pair_tree total' is_summary c.climb.edit c.climb.kept c.climb.old now after c.climb.height number c.climb.k node i c.climb.id c.climb.leaf c.climb.turn c.climb.local at step.is step.leads step.read c.enough c.climb.edits lb slot joint.separator (kind.Leaf right) joint.right (entry lb lg le) beside (Split up (kind.Leaf right)) left_rebalances in
           let left_tree = to_low lb lg le (λ m x. IsTree cmp after 16 m x t.0 (Some up)) t.2.0 in
           let right_tree = subst (λ m. IsTree cmp after 16 m (kind.Leaf right) (Some up) t.1) c.low t.2.2 in (
-            from_low lb lg le (λ m x. is_summary l.shares.lends.left (keys_of (pairs_at after m x))) (sums_leaf left l.one' t.0 (Some up) l.shares.lends.left l.is_left left_tree l.shares.lends.told_left),
-            subst (λ m. is_summary l.shares.lends.right (keys_of (pairs_at after m (kind.Leaf right)))) (sym c.low) (sums_leaf right l.other' (Some up) t.1 l.shares.lends.right l.is_right right_tree l.shares.lends.told_right),
+            from_low lb lg le (λ m x. is_summary l.transfers.rotates.left (keys_of (pairs_at after m x))) (sums_leaf left l.one' t.0 (Some up) l.transfers.rotates.left l.is_left left_tree l.transfers.rotates.told_left),
+            subst (λ m. is_summary l.transfers.rotates.right (keys_of (pairs_at after m (kind.Leaf right)))) (sym c.low) (sums_leaf right l.other' (Some up) t.1 l.transfers.rotates.right l.is_right right_tree l.transfers.rotates.told_right),
           )
 
       links_after : (x : LeafNodeId) → IsPresent (c.climb.old.leaf x.0) → SameLinks c.climb.old after x × IsPresent (after.leaf x.0)
@@ -341,16 +341,16 @@ module _ {K V A : Type 0} {cmp : K → K → Ordering} (total' : IsTotalOrder cm
           elim (cases_eq x.0 left.0) [
             | inl q ↦ (rw q (
               (
-                ap leaf_prev l.is_left ∙ (ap (λ (y : Leaf K V). y.prev) l.shares.moves.left_links ∙ (ap leaf_prev (sym l.at_left) ∙ links_left.0)),
-                ap leaf_next l.is_left ∙ (ap (λ (y : Leaf K V). y.next) l.shares.moves.left_links ∙ (ap leaf_next (sym l.at_left) ∙ links_left.1)),
+                ap leaf_prev l.is_left ∙ (ap (λ (y : Leaf K V). y.prev) l.transfers.moves.left_links ∙ (ap leaf_prev (sym l.at_left) ∙ links_left.0)),
+                ap leaf_next l.is_left ∙ (ap (λ (y : Leaf K V). y.next) l.transfers.moves.left_links ∙ (ap leaf_next (sym l.at_left) ∙ links_left.1)),
               ),
               rw l.is_left tt,
             ))
             | inr far ↦ elim (cases_eq x.0 right.0) [
               | inl q ↦ (rw q (
                 (
-                  ap leaf_prev l.is_right ∙ (ap (λ (y : Leaf K V). y.prev) l.shares.moves.right_links ∙ (ap leaf_prev (sym l.at_right) ∙ links_right.0)),
-                  ap leaf_next l.is_right ∙ (ap (λ (y : Leaf K V). y.next) l.shares.moves.right_links ∙ (ap leaf_next (sym l.at_right) ∙ links_right.1)),
+                  ap leaf_prev l.is_right ∙ (ap (λ (y : Leaf K V). y.prev) l.transfers.moves.right_links ∙ (ap leaf_prev (sym l.at_right) ∙ links_right.0)),
+                  ap leaf_next l.is_right ∙ (ap (λ (y : Leaf K V). y.next) l.transfers.moves.right_links ∙ (ap leaf_next (sym l.at_right) ∙ links_right.1)),
                 ),
                 rw l.is_right tt,
               ))
@@ -360,14 +360,14 @@ module _ {K V A : Type 0} {cmp : K → K → Ordering} (total' : IsTotalOrder cm
 
       pub l_edits : Edits cmp is_summary c.climb.edit 16 c.climb.old after (suc c.climb.height) (kind.Inner number) c.climb.k left Stays Done
       l_edits =
-          pair.node_lent total' is_summary c.climb.edit c.climb.kept c.climb.old now after c.climb.height number c.climb.k node i c.climb.id c.climb.leaf c.climb.turn c.climb.local at step.is step.leads step.read c.enough c.climb.edits lb slot joint.separator (kind.Leaf right) joint.right (entry lb lg le) beside l.shares.lends.left l.shares.lends.right up l_mends
-          (l.is_node ∙ ap Present (l.shares.lends.is ∙ ap (λ x. with_split lb slot l.shares.lends.left up x l.shares.lends.right) (given_is lb lg le))) l_told.0 l_told.1 16 left Stays
+          pair.node_rotated total' is_summary c.climb.edit c.climb.kept c.climb.old now after c.climb.height number c.climb.k node i c.climb.id c.climb.leaf c.climb.turn c.climb.local at step.is step.leads step.read c.enough c.climb.edits lb slot joint.separator (kind.Leaf right) joint.right (entry lb lg le) beside l.transfers.rotates.left l.transfers.rotates.right up left_rebalances
+          (l.is_node ∙ ap Present (l.transfers.rotates.is ∙ ap (λ x. with_split lb slot l.transfers.rotates.left up x l.transfers.rotates.right) (given_is lb lg le))) l_told.0 l_told.1 16 left Stays
           (record {
             order = record {
               before = before lb lg le;
               after = right ∷ behind lb lg le;
               was = was_order lb lg le;
-              is = pair.order_after_two total' is_summary c.climb.edit c.climb.kept c.climb.old now after c.climb.height number c.climb.k node i c.climb.id c.climb.leaf c.climb.turn c.climb.local at step.is step.leads step.read c.enough c.climb.edits lb slot joint.separator (kind.Leaf right) joint.right (entry lb lg le) beside (Split up (kind.Leaf right)) l_mends
+              is = pair.order_after_two total' is_summary c.climb.edit c.climb.kept c.climb.old now after c.climb.height number c.climb.k node i c.climb.id c.climb.leaf c.climb.turn c.climb.local at step.is step.leads step.read c.enough c.climb.edits lb slot joint.separator (kind.Leaf right) joint.right (entry lb lg le) beside (Split up (kind.Leaf right)) left_rebalances
                   ∙ ap (λ x. before lb lg le ++ (x ++ behind lb lg le)) (from_low lb lg le (λ m x. leaves_at after m x ++ leaves_at after m (kind.Leaf right) ≡ left ∷ right ∷ []) refl);
             };
             links = (links_after left left_was).0;
@@ -391,8 +391,8 @@ module _ {K V A : Type 0} {cmp : K → K → Ordering} (total' : IsTotalOrder cm
             ];
       }
 
-      abbrev pub lent_climbs : (above : A) → SumsUpAt cmp is_summary (after.inner number.0) above → Climbs cmp is_summary after path above
-      lent_climbs above sums = record {
+      abbrev pub rotated_climbs : (above : A) → SumsUpAt cmp is_summary (after.inner number.0) above → Climbs cmp is_summary after path above
+      rotated_climbs above sums = record {
         climb = record {
           old = c.climb.old;
           edit = c.climb.edit;
@@ -417,8 +417,8 @@ module _ {K V A : Type 0} {cmp : K → K → Ordering} (total' : IsTotalOrder cm
         told = told_above 16 left Stays l_edits above sums;
       }
 
-      pub trims_lent : (above : A) (sums : SumsUpAt cmp is_summary (after.inner number.0) above) (new : Slots (Inner K A) (Leaf K V)) (top : A) → Risen (lent_climbs above sums).climb new top → Trims c.climb new top
-      trims_lent above sums new top r = record {
+      pub trims_rotated : (above : A) (sums : SumsUpAt cmp is_summary (after.inner number.0) above) (new : Slots (Inner K A) (Leaf K V)) (top : A) → Risen (rotated_climbs above sums).climb new top → Trims c.climb new top
+      trims_rotated above sums new top r = record {
         loose = loose_of cmp is_summary new c.climb.top c.climb.root
             (whole_done cmp is_summary c.climb.edit c.climb.old new c.climb.top c.climb.root c.climb.k left c.climb.shape (λ n. not_held (new.leaf n) (r.free.leaves n ∙ (c.none_held n).1)) (λ n. not_held (new.inner n) (r.free.inners n ∙ (c.none_held n).0)) r.edits);
         pairs = r.edits.pairs;
@@ -427,10 +427,10 @@ module _ {K V A : Type 0} {cmp : K → K → Ordering} (total' : IsTotalOrder cm
 
 -- The same of what stands under the node's number.
 module _ {K V A : Type 0} {cmp : K → K → Ordering} (total' : IsTotalOrder cmp) {is_summary : A → List K → Type 0} {now : Slots (Inner K A) (Leaf K V)} {path : List (InnerNodeId × ℕ × NodeId)} {number : InnerNodeId} {i : ℕ}
-    (c : ShortLeaf cmp is_summary now path number i) (slot : ℕ) (helper : Option Lender) (helps : Helps (child_size now (inner_children (now.inner number.0))) i slot helper) (left right : LeafNodeId)
+    (c : LeafUnderflow cmp is_summary now path number i) (slot : ℕ) (choose_sibling : Option Sibling) (chosen : ChoosesSibling (child_size now (inner_children (now.inner number.0))) i slot choose_sibling) (left right : LeafNodeId)
     (read_left : slice_get (inner_children (now.inner number.0)) slot ≡ Some (kind.Leaf left)) (read_right : slice_get (inner_children (now.inner number.0)) (slot + 1) ≡ Some (kind.Leaf right)) where
   pub beside_so : (i ≡ slot) ⊎ (i ≡ suc slot)
-  beside_so = spot.beside_there total' c slot helper helps
+  beside_so = spot.beside_there total' c slot choose_sibling chosen
 
   pub left_so : slice_get (spot.node total' is_summary now path number i c).children slot ≡ Some (kind.Leaf left)
   left_so = spot.left_so total' c slot left right read_left read_right
@@ -438,16 +438,16 @@ module _ {K V A : Type 0} {cmp : K → K → Ordering} (total' : IsTotalOrder cm
   pub right_so : slice_get (spot.node total' is_summary now path number i c).children (slot + 1) ≡ Some (kind.Leaf right)
   right_so = spot.right_so total' c slot left right read_left read_right
 
-  -- where the two became one
-  module _ {after : Slots (Inner K A) (Leaf K V)} (joint : Joint K A) (emptied : Leaf K V) (j : JoinsLeavesAt cmp is_summary slot now after number left right joint emptied) (above : A) (sums : SumsUpAt cmp is_summary (after.inner number.0) above) where
-    abbrev pub joined : ClimbsShort cmp is_summary after path number above
-    joined = joined_climbs total' is_summary now after path number i c slot left right beside_so left_so right_so joint emptied j above sums
+  -- where the two merged
+  module _ {after : Slots (Inner K A) (Leaf K V)} (joint : Joint K A) (emptied : Leaf K V) (j : MergesLeavesAt cmp is_summary slot now after number left right joint emptied) (above : A) (sums : SumsUpAt cmp is_summary (after.inner number.0) above) where
+    abbrev pub merged : ClimbsUnderflow cmp is_summary after path number above
+    merged = merged_climbs total' is_summary now after path number i c slot left right beside_so left_so right_so joint emptied j above sums
 
     -- what undoes that finds the link that was there
     pub link_so : leaf_next (now.leaf left.0) ≡ Some right
-    link_so = next_is total' is_summary now after path number i c slot left right beside_so left_so right_so joint j.shares.bare j.shares.child (je total' is_summary now after path number i c slot left right beside_so left_so right_so joint emptied j)
+    link_so = next_is total' is_summary now after path number i c slot left right beside_so left_so right_so joint j.transfers.bare j.transfers.child (je total' is_summary now after path number i c slot left right beside_so left_so right_so joint emptied j)
 
-    module _ (new : Slots (Inner K A) (Leaf K V)) (top : A) (sunk : Sunk joined.climb new top) where
+    module _ (new : Slots (Inner K A) (Leaf K V)) (top : A) (sunk : Sunk merged.climb new top) where
       pub held_so : new.leaf right.0 ≡ Held
       held_so = still_held total' is_summary now after path number i c slot left right beside_so left_so right_so joint emptied j above sums new top sunk
 
@@ -455,18 +455,18 @@ module _ {K V A : Type 0} {cmp : K → K → Ordering} (total' : IsTotalOrder cm
         pub next_so : IfSome next (λ y. IsPresent (mid.leaf y.0))
         next_so = next_there total' is_summary now after path number i c slot left right beside_so left_so right_so joint emptied j above sums new top sunk mid frees next seen
 
-        pub joined_trims : (final : Slots (Inner K A) (Leaf K V)) → Mends mid final next left → Trims c.climb final top
-        joined_trims final mends = trims_joined total' is_summary now after path number i c slot left right beside_so left_so right_so joint emptied j above sums new top sunk mid frees next seen final mends
+        pub merged_trims : (final : Slots (Inner K A) (Leaf K V)) → RelinksNext mid final next left → Trims c.climb final top
+        merged_trims final rebalances = trims_merged total' is_summary now after path number i c slot left right beside_so left_so right_so joint emptied j above sums new top sunk mid frees next seen final rebalances
 
-  -- where the one lent a pair to the other
-  module _ {after : Slots (Inner K A) (Leaf K V)} (joint : Joint K A) (lender : Lender) (same : helper ≡ Some lender) (l : LendsLeavesAt cmp is_summary slot now after number lender left right joint) (above : A) (sums : SumsUpAt cmp is_summary (after.inner number.0) above) where
+  -- where the one rotated a pair to the other
+  module _ {after : Slots (Inner K A) (Leaf K V)} (joint : Joint K A) (giver : Sibling) (same : choose_sibling ≡ Some giver) (l : RotatesLeavesAt cmp is_summary slot now after number giver left right joint) (above : A) (sums : SumsUpAt cmp is_summary (after.inner number.0) above) where
     pub least_so : (16 ≤ length l.one'.pairs) × (16 ≤ length l.other'.pairs)
     least_so =
-        spot.enough_there total' c slot left right read_left read_right lender (length l.one'.pairs) (length l.other'.pairs) (subst (λ x. Helps (child_size now (inner_children (now.inner number.0))) i slot x) same helps)
-        (rw (l.at_left, l.at_right) l.shares.moves.sizes)
+        spot.enough_there total' c slot left right read_left read_right giver (length l.one'.pairs) (length l.other'.pairs) (subst (λ x. ChoosesSibling (child_size now (inner_children (now.inner number.0))) i slot x) same chosen)
+        (rw (l.at_left, l.at_right) l.transfers.moves.sizes)
 
-    abbrev pub lent : Climbs cmp is_summary after path above
-    lent = lent_climbs total' is_summary now after path number i c slot left right beside_so left_so right_so joint lender l least_so above sums
+    abbrev pub rotated : Climbs cmp is_summary after path above
+    rotated = rotated_climbs total' is_summary now after path number i c slot left right beside_so left_so right_so joint giver l least_so above sums
 
-    pub lent_trims : (new : Slots (Inner K A) (Leaf K V)) (top : A) → Risen lent.climb new top → Trims c.climb new top
-    lent_trims new top r = trims_lent total' is_summary now after path number i c slot left right beside_so left_so right_so joint lender l least_so above sums new top r
+    pub rotated_trims : (new : Slots (Inner K A) (Leaf K V)) (top : A) → Risen rotated.climb new top → Trims c.climb new top
+    rotated_trims new top r = trims_rotated total' is_summary now after path number i c slot left right beside_so left_so right_so joint giver l least_so above sums new top r

@@ -1,4 +1,4 @@
--- A leaf that is short of one pair, at a place of a node, and the leaves beside it.
+-- A leaf that underflows, at a place of a node, and the leaves beside it.
 use Rattle.std.proofs.Common.{◌≡◌, ℕ, suc, ◌+◌, ◌<◌, ◌≤◌, ◌^◌, inl, inr, ◌⊎◌, zero, List, [], ◌∷◌, ◌++◌, length, take, drop, refl, sym, ap, subst, ◌∙◌, arith, add-one, append_assoc, append-nil, Option, Some, None, slice_get}
 use Rattle.std.specs.declared.cmp.Ordering.{Ordering}
 use Rattle.std.specs.Cmp.{IsTotalOrder}
@@ -16,18 +16,18 @@ use Rattle.bptree_keys.specs.declared.node_id.NodeId.TheVariants as kind
 use Rattle.bptree_keys.proofs.PieceLemmas.{AllByRecursion-weaker}
 use Rattle.bptree_ascent.specs.Climb.{least_at}
 use Rattle.bptree_shape.specs.Edit.{CanReach, Spares, SameLinks, LinksAt, Extends}
-use Rattle.bptree_rebalancing.specs.Help.{Helps, node_size, child_size, IsLeafAt, AllLeaves}
+use Rattle.bptree_rebalancing.specs.ChooseSibling.{ChoosesSibling, node_size, child_size, IsLeafAt, AllLeaves}
 use Rattle.bptree_shape.specs.Order.{flat, Chain}
 use Rattle.bptree_shape.specs.Outcome.{Done}
 use Rattle.bptree_shape.specs.Path.{Way}
 use Rattle.bptree_shape.specs.Shape.{leaf_pairs, leaf_next, inner_keys, inner_children, pairs_at, leaves_at, leaf_count, stands, AreLinked, IsSummed, IsTree}
-use Rattle.bptree_rebalancing.specs.Share.{CanLend, Moves}
+use Rattle.bptree_rebalancing.specs.Transfer.{CanGive, Moves}
 use Rattle.bptree_ascent.specs.Sums.{HasPlace, PlaceAt}
-use Rattle.bptree_rebalancing.specs.Trim.{ShortLeaf}
-use Rattle.bptree_rebalancing.specs.declared.sharing.Lender.{Lender}
+use Rattle.bptree_rebalancing.specs.Trim.{LeafUnderflow}
+use Rattle.bptree_rebalancing.specs.declared.rotate_merge.Sibling.{Sibling}
 use Rattle.bptree_shape.proofs.Agreeing.{stands_le, present_if_stands, stands_if_present}
 use Rattle.bptree_ascent.proofs.Climbing.{last, can, summed_there, stays, has_place, most, few_there}
-use Rattle.bptree_rebalancing.proofs.Helping as help
+use Rattle.bptree_rebalancing.proofs.Choosing as choosing
 use Rattle.bptree_shape.proofs.Hinted.{linked_next}
 use Rattle.bptree_rebalancing.proofs.Seated.{Seat, seat_of, seat_size}
 use Rattle.bptree_shape.proofs.Walk.{flat_parts}
@@ -81,7 +81,7 @@ way_leaves {K} {V} {A} cmp slots k ((n, j, c) ∷ path) (suc m) root h id (e, no
     )
 
 module _ {K V A : Type 0} {cmp : K → K → Ordering} (total' : IsTotalOrder cmp) (is_summary : A → List K → Type 0) (now : Slots (Inner K A) (Leaf K V)) (path : List (InnerNodeId × ℕ × NodeId)) (number : InnerNodeId) (i : ℕ)
-    (c : ShortLeaf cmp is_summary now path number i) where
+    (c : LeafUnderflow cmp is_summary now path number i) where
   abbrev pub step : LastStep cmp c.climb.old c.climb.k c.climb.top c.climb.root path number i c.climb.height c.climb.id
   step = last total' is_summary now (path ++ (number, i, c.child) ∷ []) Done c.climb path number i c.child refl
 
@@ -114,7 +114,7 @@ module _ {K V A : Type 0} {cmp : K → K → Ordering} (total' : IsTotalOrder cm
 
   all_full : AllByRecursion (IsFullLeaf now) node.children
   all_full =
-      help.chain_all cmp (IsTree cmp now 15 c.climb.height) (IsFullLeaf now) (λ x lo hi t. full_of now cmp x lo hi (subst (λ n. IsTree cmp now 15 n x lo hi) c.low t)) node.keys node.children at.low at.high
+      choosing.chain_all cmp (IsTree cmp now 15 c.climb.height) (IsFullLeaf now) (λ x lo hi t. full_of now cmp x lo hi (subst (λ n. IsTree cmp now 15 n x lo hi) c.low t)) node.keys node.children at.low at.high
       (grown.chain at.low at.high (subst (λ (x : Slot (Inner K A)). Chain cmp (IsTree cmp c.climb.old 16 c.climb.height) (inner_keys x) (inner_children x) at.low at.high) step.is at.tree.1) at.fits)
 
   pub all_leaves : AllLeaves now node.children
@@ -124,13 +124,13 @@ module _ {K V A : Type 0} {cmp : K → K → Ordering} (total' : IsTotalOrder cm
   full_at j x read = all_read (IsFullLeaf now) node.children j (kind.Leaf x) all_full read
 
   size_at : (j : ℕ) (x : LeafNodeId) → slice_get node.children j ≡ Some (kind.Leaf x) → child_size now node.children j ≡ length (leaf_pairs (now.leaf x.0))
-  size_at j x read = help.size_read now node.children j (kind.Leaf x) read
+  size_at j x read = choosing.size_read now node.children j (kind.Leaf x) read
 
   size_here : child_size now node.children i < 16
   size_here =
       let full = all_read (IsFullLeaf now) node.children i c.climb.id all_full step.read in
       let size : length (pairs_at now 0 c.climb.id) ≡ 15 = subst (λ n. length (pairs_at now n c.climb.id) ≡ 15) c.low c.short in
-      omega (arith, help.size_read now node.children i c.climb.id step.read, size_of now c.climb.id full, size)
+      omega (arith, choosing.size_read now node.children i c.climb.id step.read, size_of now c.climb.id full, size)
 
   -- the leaves stand in order as they did, with the links that they had
   pub same_order : flat (leaves_at c.climb.old c.climb.height) node.children ≡ flat (leaves_at now c.climb.height) node.children
@@ -160,15 +160,15 @@ module _ {K V A : Type 0} {cmp : K → K → Ordering} (total' : IsTotalOrder cm
   some_key =
       omega (
         arith,
-        help.key_of cmp c.climb.old c.climb.k c.climb.root (kind.Inner number) c.climb.height path c.climb.top step.way,
+        choosing.key_of cmp c.climb.old c.climb.k c.climb.root (kind.Inner number) c.climb.height path c.climb.top step.way,
         seat_size cmp c.climb.old c.climb.k (least_at c.climb.top path) c.climb.height number node step.is seat,
       )
 
-  pub within_of : (slot : ℕ) (lender : Option Lender) → Helps (child_size now node.children) i slot lender → slot < length node.keys
-  within_of slot lender helps = help.within_of now node.children (length node.keys) i slot lender place.children place.within some_key helps
+  pub within_of : (slot : ℕ) (giver : Option Sibling) → ChoosesSibling (child_size now node.children) i slot giver → slot < length node.keys
+  within_of slot giver chosen = choosing.within_of now node.children (length node.keys) i slot giver place.children place.within some_key chosen
 
-  pub beside_of : (slot : ℕ) (lender : Option Lender) → Helps (child_size now node.children) i slot lender → (i ≡ slot) ⊎ (i ≡ suc slot)
-  beside_of slot lender helps = help.beside_of (child_size now node.children) i slot lender helps
+  pub beside_of : (slot : ℕ) (giver : Option Sibling) → ChoosesSibling (child_size now node.children) i slot giver → (i ≡ slot) ⊎ (i ≡ suc slot)
+  beside_of slot giver chosen = choosing.beside_of (child_size now node.children) i slot giver chosen
 
   -- two leaves on both sides of a separator
   module _ (slot : ℕ) (left right : LeafNodeId) (read_left : slice_get node.children slot ≡ Some (kind.Leaf left)) (read_right : slice_get node.children (slot + 1) ≡ Some (kind.Leaf right)) where
@@ -179,7 +179,7 @@ module _ {K V A : Type 0} {cmp : K → K → Ordering} (total' : IsTotalOrder cm
           arith,
           grown.leaves x,
           own_leaves c.climb.old c.climb.height number c.climb.k node i c.climb.id at step.is step.leads x,
-          help.two_in_total (λ d. leaf_count now c.climb.height d x) node.children slot (kind.Leaf left) (kind.Leaf right) read_left (rw add-one at read_right),
+          choosing.two_in_total (λ d. leaf_count now c.climb.height d x) node.children slot (kind.Leaf left) (kind.Leaf right) read_left (rw add-one at read_right),
         ))
 
     pub apart : left.0 ≡ right.0 → ⊥
@@ -191,17 +191,17 @@ module _ {K V A : Type 0} {cmp : K → K → Ordering} (total' : IsTotalOrder cm
     right_size : child_size now node.children (suc slot) ≡ length (leaf_pairs (now.leaf right.0))
     right_size = ap (child_size now node.children) (omega arith) ∙ size_at (slot + 1) right read_right
 
-    pub lends_here : (lender : Lender) → Helps (child_size now node.children) i slot (Some lender) → CanLend lender (length (leaf_pairs (now.leaf left.0))) (length (leaf_pairs (now.leaf right.0)))
-    lends_here lender helps = help.lends_so (child_size now node.children) i slot _ _ left_size right_size size_here lender (full_at slot left read_left).2 (full_at (slot + 1) right read_right).2 helps
+    pub rotates_here : (giver : Sibling) → ChoosesSibling (child_size now node.children) i slot (Some giver) → CanGive giver (length (leaf_pairs (now.leaf left.0))) (length (leaf_pairs (now.leaf right.0)))
+    rotates_here giver chosen = choosing.rotates_so (child_size now node.children) i slot _ _ left_size right_size size_here giver (full_at slot left read_left).2 (full_at (slot + 1) right read_right).2 chosen
 
-    pub enough_then : (lender : Lender) (x y : ℕ) → Helps (child_size now node.children) i slot (Some lender) → Moves lender (length (leaf_pairs (now.leaf left.0))) (length (leaf_pairs (now.leaf right.0))) x y → (16 ≤ x) × (16 ≤ y)
-    enough_then lender x y helps moves = help.enough_so (child_size now node.children) i slot _ _ left_size right_size size_here lender x y (full_at slot left read_left).1 (full_at (slot + 1) right read_right).1 helps moves
+    pub enough_then : (giver : Sibling) (x y : ℕ) → ChoosesSibling (child_size now node.children) i slot (Some giver) → Moves giver (length (leaf_pairs (now.leaf left.0))) (length (leaf_pairs (now.leaf right.0))) x y → (16 ≤ x) × (16 ≤ y)
+    enough_then giver x y chosen moves = choosing.enough_so (child_size now node.children) i slot _ _ left_size right_size size_here giver x y (full_at slot left read_left).1 (full_at (slot + 1) right read_right).1 chosen moves
 
-    pub fits_here : Helps (child_size now node.children) i slot None → length (leaf_pairs (now.leaf left.0)) + length (leaf_pairs (now.leaf right.0)) ≤ 64
-    fits_here helps = omega (arith, help.fits_so (child_size now node.children) i slot _ _ left_size right_size size_here helps)
+    pub fits_here : ChoosesSibling (child_size now node.children) i slot None → length (leaf_pairs (now.leaf left.0)) + length (leaf_pairs (now.leaf right.0)) ≤ 64
+    fits_here chosen = omega (arith, choosing.fits_so (child_size now node.children) i slot _ _ left_size right_size size_here chosen)
 
 -- the right leaf is the next of the left one
-pub next_of : {K V A : Type 0} {cmp : K → K → Ordering} (total' : IsTotalOrder cmp) (is_summary : A → List K → Type 0) (now : Slots (Inner K A) (Leaf K V)) (path : List (InnerNodeId × ℕ × NodeId)) (number : InnerNodeId) (i : ℕ) (c : ShortLeaf cmp is_summary now path number i)
+pub next_of : {K V A : Type 0} {cmp : K → K → Ordering} (total' : IsTotalOrder cmp) (is_summary : A → List K → Type 0) (now : Slots (Inner K A) (Leaf K V)) (path : List (InnerNodeId × ℕ × NodeId)) (number : InnerNodeId) (i : ℕ) (c : LeafUnderflow cmp is_summary now path number i)
     (left right : LeafNodeId) (before after : List LeafNodeId) → flat (leaves_at c.climb.old c.climb.height) (node total' is_summary now path number i c).children ≡ before ++ left ∷ (right ∷ after) → IsPresent (now.leaf left.0) → leaf_next (now.leaf left.0) ≡ Some right
 next_of {K} {V} {A} {cmp} total' is_summary now path number i c left right before after was some =
     (links_now total' is_summary now path number i c left (there_was total' is_summary now path number i c left some)).1
@@ -218,7 +218,7 @@ next_of {K} {V} {A} {cmp} total' is_summary now path number i c left right befor
 
 -- The same of what stands under the node's number.
 module _ {K V A : Type 0} {cmp : K → K → Ordering} (total' : IsTotalOrder cmp) {is_summary : A → List K → Type 0} {now : Slots (Inner K A) (Leaf K V)} {path : List (InnerNodeId × ℕ × NodeId)} {number : InnerNodeId} {i : ℕ}
-    (c : ShortLeaf cmp is_summary now path number i) where
+    (c : LeafUnderflow cmp is_summary now path number i) where
   at_number : now.inner number.0 ≡ Present (node total' is_summary now path number i c)
   at_number = here total' is_summary now path number i c
 
@@ -240,20 +240,20 @@ module _ {K V A : Type 0} {cmp : K → K → Ordering} (total' : IsTotalOrder cm
   pub place_there : i < length (inner_children (now.inner number.0))
   place_there = let p = place total' is_summary now path number i c in rw at_number (omega (arith, p.within, p.children))
 
-  module _ (slot : ℕ) (lender : Option Lender) (helps : Helps (child_size now (inner_children (now.inner number.0))) i slot lender) where
-    helps_so : Helps (child_size now (node total' is_summary now path number i c).children) i slot lender
-    helps_so = subst (λ (x : Slot (Inner K A)). Helps (child_size now (inner_children x)) i slot lender) at_number helps
+  module _ (slot : ℕ) (giver : Option Sibling) (chosen : ChoosesSibling (child_size now (inner_children (now.inner number.0))) i slot giver) where
+    chosen_so : ChoosesSibling (child_size now (node total' is_summary now path number i c).children) i slot giver
+    chosen_so = subst (λ (x : Slot (Inner K A)). ChoosesSibling (child_size now (inner_children x)) i slot giver) at_number chosen
 
     pub slot_there : slot + 1 < length (inner_children (now.inner number.0))
-    slot_there = rw at_number (omega (arith, within_of total' is_summary now path number i c slot lender helps_so, (place total' is_summary now path number i c).children))
+    slot_there = rw at_number (omega (arith, within_of total' is_summary now path number i c slot giver chosen_so, (place total' is_summary now path number i c).children))
 
     pub entry_there : PlaceAt (now.inner number.0) (slot + 1)
     entry_there =
         let p = place total' is_summary now path number i c in
-        rw at_number (record { within = omega (arith, within_of total' is_summary now path number i c slot lender helps_so); children = p.children; arguments = p.arguments })
+        rw at_number (record { within = omega (arith, within_of total' is_summary now path number i c slot giver chosen_so); children = p.children; arguments = p.arguments })
 
     pub beside_there : (i ≡ slot) ⊎ (i ≡ suc slot)
-    beside_there = beside_of total' is_summary now path number i c slot lender helps_so
+    beside_there = beside_of total' is_summary now path number i c slot giver chosen_so
 
   module _ (slot : ℕ) (left right : LeafNodeId) (read_left : slice_get (inner_children (now.inner number.0)) slot ≡ Some (kind.Leaf left)) (read_right : slice_get (inner_children (now.inner number.0)) (slot + 1) ≡ Some (kind.Leaf right)) where
     pub left_so : slice_get (node total' is_summary now path number i c).children slot ≡ Some (kind.Leaf left)
@@ -271,11 +271,11 @@ module _ {K V A : Type 0} {cmp : K → K → Ordering} (total' : IsTotalOrder cm
     pub apart_there : left.0 ≡ right.0 → ⊥
     apart_there = apart total' is_summary now path number i c slot left right left_so right_so
 
-    pub lends_there : (lender : Lender) → Helps (child_size now (inner_children (now.inner number.0))) i slot (Some lender) → CanLend lender (length (leaf_pairs (now.leaf left.0))) (length (leaf_pairs (now.leaf right.0)))
-    lends_there lender helps = lends_here total' is_summary now path number i c slot left right left_so right_so lender (helps_so slot (Some lender) helps)
+    pub rotates_there : (giver : Sibling) → ChoosesSibling (child_size now (inner_children (now.inner number.0))) i slot (Some giver) → CanGive giver (length (leaf_pairs (now.leaf left.0))) (length (leaf_pairs (now.leaf right.0)))
+    rotates_there giver chosen = rotates_here total' is_summary now path number i c slot left right left_so right_so giver (chosen_so slot (Some giver) chosen)
 
-    pub enough_there : (lender : Lender) (x y : ℕ) → Helps (child_size now (inner_children (now.inner number.0))) i slot (Some lender) → Moves lender (length (leaf_pairs (now.leaf left.0))) (length (leaf_pairs (now.leaf right.0))) x y → (16 ≤ x) × (16 ≤ y)
-    enough_there lender x y helps moves = enough_then total' is_summary now path number i c slot left right left_so right_so lender x y (helps_so slot (Some lender) helps) moves
+    pub enough_there : (giver : Sibling) (x y : ℕ) → ChoosesSibling (child_size now (inner_children (now.inner number.0))) i slot (Some giver) → Moves giver (length (leaf_pairs (now.leaf left.0))) (length (leaf_pairs (now.leaf right.0))) x y → (16 ≤ x) × (16 ≤ y)
+    enough_there giver x y chosen moves = enough_then total' is_summary now path number i c slot left right left_so right_so giver x y (chosen_so slot (Some giver) chosen) moves
 
-    pub joins_there : Helps (child_size now (inner_children (now.inner number.0))) i slot None → length (leaf_pairs (now.leaf left.0)) + length (leaf_pairs (now.leaf right.0)) ≤ 64
-    joins_there helps = fits_here total' is_summary now path number i c slot left right left_so right_so (helps_so slot None helps)
+    pub merges_there : ChoosesSibling (child_size now (inner_children (now.inner number.0))) i slot None → length (leaf_pairs (now.leaf left.0)) + length (leaf_pairs (now.leaf right.0)) ≤ 64
+    merges_there chosen = fits_here total' is_summary now path number i c slot left right left_so right_so (chosen_so slot None chosen)

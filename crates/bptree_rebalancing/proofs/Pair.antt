@@ -1,4 +1,4 @@
--- A node whose children stay, but for two neighbours that become two others, or one.
+-- A node whose children stay, but for two siblings that become two others, or one.
 use Rattle.std.proofs.Common.{◌≡◌, ℕ, zero, suc, ◌+◌, ◌<◌, ◌≤◌, inl, inr, ◌⊎◌, true, false, cond, List, [], ◌∷◌, ◌++◌, length, map, get_or, take, drop, refl, sym, ap, subst, ◌∙◌, arith, add-one, Option, Some, eqb, length-append, slice_get, slice_set}
 use Rattle.std.specs.declared.cmp.Ordering.{Ordering}
 use Rattle.std.specs.declared.cmp.Ordering.TheVariants.{Less}
@@ -18,11 +18,11 @@ use Rattle.bptree_keys.specs.declared.node_id.LeafNodeId.{LeafNodeId}
 use Rattle.bptree_keys.specs.declared.node_id.NodeId.{NodeId}
 use Rattle.bptree_keys.specs.declared.node_id.NodeId.TheVariants as kind
 use Rattle.bptree_shape.specs.Edit.{IsLocal, CanReach, Turn, Spares, SameLinks, Extends, LinksAt, pairs_after, TreeAfter, SummedAfter, Edits}
-use Rattle.bptree_rebalancing.specs.Mend.{MendsPair}
+use Rattle.bptree_rebalancing.specs.Rebalance.{RebalancesPair}
 use Rattle.bptree_shape.specs.Order.{flat, total, Within, Between, Chain, Leads}
 use Rattle.bptree_shape.specs.Outcome.{Outcome, Done, Split}
 use Rattle.bptree_shape.specs.Shape.{inner_keys, inner_children, pairs_at, leaves_at, leaf_count, inner_count, stands, IsTree, IsSummed}
-use Rattle.bptree_rebalancing.specs.Share.{HasEntry}
+use Rattle.bptree_rebalancing.specs.Transfer.{HasEntry}
 use Rattle.bptree_ascent.specs.Sums.{with_summary, with_split}
 use Rattle.bptree_shape.proofs.Agreeing.{stands_le, present_if_stands, Chain-so}
 use Rattle.bptree_shape.proofs.Frame.{EachBut, in_total, but_so, Same, all_same, same}
@@ -86,38 +86,38 @@ module _ {C K : Type 0} {cmp : K → K → Ordering} (total' : IsTotalOrder cmp)
   abbrev Holds : C → Type 0
   Holds c = (a b : Option K) → P c a b → Q c a b
 
-  -- two neighbours become one, around a key that goes to one of them
-  pub chain_joined : (ks : List K) (cs : List C) (lo hi : Option K) (i j : ℕ) (d y : C) (s : K) → i ≤ length ks → Chain cmp P (insert ks i s) (insert cs (suc i) y) lo hi → i < length cs → EachBut Holds cs i
+  -- two siblings merge, around a key that goes to one of them
+  pub chain_merged : (ks : List K) (cs : List C) (lo hi : Option K) (i j : ℕ) (d y : C) (s : K) → i ≤ length ks → Chain cmp P (insert ks i s) (insert cs (suc i) y) lo hi → i < length cs → EachBut Holds cs i
       → Leads cmp k (insert ks i s) j → (j ≡ i) ⊎ (j ≡ suc i) → Within cmp lo hi k
       → ((a b : Option K) → P (get_or cs i d) a (Some s) → Between cmp a b s → P y (Some s) b → Within cmp a b k → Q (get_or cs i d) a b) → Chain cmp Q ks cs lo hi
-  chain_joined ks [] lo hi i j d y s within h below all leads at w new = absurd (omega arith)
-  chain_joined [] (c ∷ []) lo hi zero j d y s within h below all leads at w new = new lo hi h.0 h.1 h.2 w
-  chain_joined [] (c ∷ e ∷ cs) lo hi zero j d y s within h below all leads at w new = absurd h.2
-  chain_joined (t ∷ ts) (c ∷ cs) lo hi zero j d y s within h below all leads at w new =
+  chain_merged ks [] lo hi i j d y s within h below all leads at w new = absurd (omega arith)
+  chain_merged [] (c ∷ []) lo hi zero j d y s within h below all leads at w new = new lo hi h.0 h.1 h.2 w
+  chain_merged [] (c ∷ e ∷ cs) lo hi zero j d y s within h below all leads at w new = absurd h.2
+  chain_merged (t ∷ ts) (c ∷ cs) lo hi zero j d y s within h below all leads at w new =
       let under : cmp k t ≡ Less = elim at [ inl e ↦ less_then_up total' k s t (subst (λ n. Leads cmp k (s ∷ t ∷ ts) n) e leads) h.2.1.0 | inr e ↦ (subst (λ n. Leads cmp k (s ∷ t ∷ ts) n) e leads).1 ] in
       (new lo (Some t) h.0 (h.1.0, h.2.1.0) h.2.0 (w.0, under), (AtLeast-up total' lo s t h.1.0 h.2.1.0, h.2.1.1), Chain-so cmp P Q ts cs (Some t) hi all h.2.2)
-  chain_joined [] (c ∷ cs) lo hi (suc i) j d y s within h below all leads at w new = absurd (omega arith)
-  chain_joined (t ∷ ts) (c ∷ cs) lo hi (suc i) zero d y s within h below all leads at w new = absurd (elim at [ inl e ↦ omega arith | inr e ↦ omega arith ])
-  chain_joined (t ∷ ts) (c ∷ cs) lo hi (suc i) (suc j) d y s within h below all leads at w new =
-      (all.0 lo (Some t) h.0, h.1, chain_joined ts cs (Some t) hi i j d y s (omega arith) h.2 (omega arith) all.1 leads.1 (elim at [ inl e ↦ inl (omega arith) | inr e ↦ inr (omega arith) ]) (leads.0, w.1) new)
+  chain_merged [] (c ∷ cs) lo hi (suc i) j d y s within h below all leads at w new = absurd (omega arith)
+  chain_merged (t ∷ ts) (c ∷ cs) lo hi (suc i) zero d y s within h below all leads at w new = absurd (elim at [ inl e ↦ omega arith | inr e ↦ omega arith ])
+  chain_merged (t ∷ ts) (c ∷ cs) lo hi (suc i) (suc j) d y s within h below all leads at w new =
+      (all.0 lo (Some t) h.0, h.1, chain_merged ts cs (Some t) hi i j d y s (omega arith) h.2 (omega arith) all.1 leads.1 (elim at [ inl e ↦ inl (omega arith) | inr e ↦ inr (omega arith) ]) (leads.0, w.1) new)
 
   -- they become two others, with another separator
-  pub chain_lent : (ks : List K) (cs : List C) (lo hi : Option K) (i j : ℕ) (d y : C) (s u : K) → i ≤ length ks → Chain cmp P (insert ks i s) (insert cs (suc i) y) lo hi → i < length cs → EachBut Holds cs i
+  pub chain_rotated : (ks : List K) (cs : List C) (lo hi : Option K) (i j : ℕ) (d y : C) (s u : K) → i ≤ length ks → Chain cmp P (insert ks i s) (insert cs (suc i) y) lo hi → i < length cs → EachBut Holds cs i
       → Leads cmp k (insert ks i s) j → (j ≡ i) ⊎ (j ≡ suc i) → Within cmp lo hi k
       → ((a b : Option K) → P (get_or cs i d) a (Some s) → Between cmp a b s → P y (Some s) b → Within cmp a b k → Q (get_or cs i d) a (Some u) × Between cmp a b u × Q y (Some u) b) → Chain cmp Q (insert ks i u) (insert cs (suc i) y) lo hi
-  chain_lent ks [] lo hi i j d y s u within h below all leads at w new = absurd (omega arith)
-  chain_lent [] (c ∷ []) lo hi zero j d y s u within h below all leads at w new = new lo hi h.0 h.1 h.2 w
-  chain_lent [] (c ∷ e ∷ cs) lo hi zero j d y s u within h below all leads at w new = absurd h.2
-  chain_lent (t ∷ ts) (c ∷ cs) lo hi zero j d y s u within h below all leads at w new =
+  chain_rotated ks [] lo hi i j d y s u within h below all leads at w new = absurd (omega arith)
+  chain_rotated [] (c ∷ []) lo hi zero j d y s u within h below all leads at w new = new lo hi h.0 h.1 h.2 w
+  chain_rotated [] (c ∷ e ∷ cs) lo hi zero j d y s u within h below all leads at w new = absurd h.2
+  chain_rotated (t ∷ ts) (c ∷ cs) lo hi zero j d y s u within h below all leads at w new =
       let under : cmp k t ≡ Less = elim at [ inl e ↦ less_then_up total' k s t (subst (λ n. Leads cmp k (s ∷ t ∷ ts) n) e leads) h.2.1.0 | inr e ↦ (subst (λ n. Leads cmp k (s ∷ t ∷ ts) n) e leads).1 ] in
       let x = new lo (Some t) h.0 (h.1.0, h.2.1.0) h.2.0 (w.0, under) in
       (x.0, (x.1.0, AtMost-up total' hi u t h.2.1.1 x.1.1), (x.2, (x.1.1, h.2.1.1), Chain-so cmp P Q ts cs (Some t) hi all h.2.2))
-  chain_lent [] (c ∷ cs) lo hi (suc i) j d y s u within h below all leads at w new = absurd (omega arith)
-  chain_lent (t ∷ ts) (c ∷ cs) lo hi (suc i) zero d y s u within h below all leads at w new = absurd (elim at [ inl e ↦ omega arith | inr e ↦ omega arith ])
-  chain_lent (t ∷ ts) (c ∷ cs) lo hi (suc i) (suc j) d y s u within h below all leads at w new =
-      (all.0 lo (Some t) h.0, h.1, chain_lent ts cs (Some t) hi i j d y s u (omega arith) h.2 (omega arith) all.1 leads.1 (elim at [ inl e ↦ inl (omega arith) | inr e ↦ inr (omega arith) ]) (leads.0, w.1) new)
+  chain_rotated [] (c ∷ cs) lo hi (suc i) j d y s u within h below all leads at w new = absurd (omega arith)
+  chain_rotated (t ∷ ts) (c ∷ cs) lo hi (suc i) zero d y s u within h below all leads at w new = absurd (elim at [ inl e ↦ omega arith | inr e ↦ omega arith ])
+  chain_rotated (t ∷ ts) (c ∷ cs) lo hi (suc i) (suc j) d y s u within h below all leads at w new =
+      (all.0 lo (Some t) h.0, h.1, chain_rotated ts cs (Some t) hi i j d y s u (omega arith) h.2 (omega arith) all.1 leads.1 (elim at [ inl e ↦ inl (omega arith) | inr e ↦ inr (omega arith) ]) (leads.0, w.1) new)
 
--- two neighbours, one of which a key goes to, and the bounds around both
+-- two siblings, one of which a key goes to, and the bounds around both
 pub chain_two : {C K : Type 0} {cmp : K → K → Ordering} (total' : IsTotalOrder cmp) (P : C → Option K → Option K → Type 0) (k : K) (ks : List K) (cs : List C) (lo hi : Option K) (i j : ℕ) (d y : C) (s : K) → i ≤ length ks → Chain cmp P (insert ks i s) (insert cs (suc i) y) lo hi → i < length cs
     → Leads cmp k (insert ks i s) j → (j ≡ i) ⊎ (j ≡ suc i) → Within cmp lo hi k → (a : Option K) × (b : Option K) × P (get_or cs i d) a (Some s) × Between cmp a b s × P y (Some s) b × Within cmp a b k
 chain_two total' P k ks [] lo hi i j d y s within h below leads at w = absurd (omega arith)
@@ -191,7 +191,7 @@ module _ {K V A : Type 0} {cmp : K → K → Ordering} (total' : IsTotalOrder cm
   right_is : get_or node.children (suc slot) child ≡ right
   right_is = ap (λ cs. get_or cs (suc slot) child) children_are ∙ read_inserted bare.children (suc slot) right child (omega (arith, below))
 
-  -- what one of the two is before its neighbour helps it
+  -- what one of the two is before they rotate or merge
   record Before (c : NodeId) : Type 0 where
     pub no_leaf : (x : ℕ) → leaf_count old m c x ≡ 0 → IsPresent (old.leaf x) → leaf_count now m c x ≡ 0
     pub no_inner : (x : ℕ) → inner_count old m c x ≡ 0 → IsPresent (old.inner x) → inner_count now m c x ≡ 0
@@ -229,7 +229,7 @@ module _ {K V A : Type 0} {cmp : K → K → Ordering} (total' : IsTotalOrder cm
   right_before : Before right
   right_before = elim beside [ inl e ↦ unedited right (same_right e) | inr e ↦ subst Before (child_right e) edited ]
 
-  -- both are trees, but may be short of one
+  -- both are trees, but may have underflowed
   pair_now : (a b : Option K) → IsTree cmp old 16 m left a (Some s) → IsTree cmp old 16 m right (Some s) b → Within cmp a b k → IsTree cmp now 15 m left a (Some s) × IsTree cmp now 15 m right (Some s) b
   pair_now a b l r w =
       elim beside [
@@ -274,12 +274,12 @@ module _ {K V A : Type 0} {cmp : K → K → Ordering} (total' : IsTotalOrder cm
   others_now =
       others_same_two cmp is_summary old now m bare.children slot child right below own_leaf (λ x. omega (arith, own_inner x)) (λ x l r some. at.other_leaves x (child_leaf x l r) some) (λ x reached l r some. at.other_inners x (child_inner x l r) some)
 
-  module _ (outcome : Outcome K) (mends : MendsPair cmp is_summary now after m id.0 left s right outcome) where
+  module _ (outcome : Outcome K) (rebalances : RebalancesPair cmp is_summary now after m id.0 left s right outcome) where
     leaf_stays : (x : ℕ) → leaf_count old m left x ≡ 0 → leaf_count old m right x ≡ 0 → IsPresent (old.leaf x) → after.leaf x ≡ old.leaf x
-    leaf_stays x l r some = mends.other_leaves x (left_before.no_leaf x l some) (right_before.no_leaf x r some) ∙ at.other_leaves x (child_leaf x l r) some
+    leaf_stays x l r some = rebalances.other_leaves x (left_before.no_leaf x l some) (right_before.no_leaf x r some) ∙ at.other_leaves x (child_leaf x l r) some
 
     inner_stays : (x : ℕ) → (x ≡ id.0 → ⊥) → inner_count old m left x ≡ 0 → inner_count old m right x ≡ 0 → IsPresent (old.inner x) → after.inner x ≡ old.inner x
-    inner_stays x far l r some = mends.other_inners x far (left_before.no_inner x l some) (right_before.no_inner x r some) ∙ at.other_inners x (child_inner x l r) some
+    inner_stays x far l r some = rebalances.other_inners x far (left_before.no_inner x l some) (right_before.no_inner x r some) ∙ at.other_inners x (child_inner x l r) some
 
     others_after : EachBut (Same cmp is_summary old after m) bare.children slot
     others_after =
@@ -287,14 +287,14 @@ module _ {K V A : Type 0} {cmp : K → K → Ordering} (total' : IsTotalOrder cm
         (λ x reached l r some. inner_stays x (λ q. let e : eqb id.0 x ≡ true = eq-eqb id.0 x (sym q) in let o = rw e at (own_inner x) in omega (arith, o, stands_le (old.inner x), reached)) l r some)
 
     pub pair_after : (a b : Option K) → IsTree cmp old 16 m left a (Some s) → Between cmp a b s → IsTree cmp old 16 m right (Some s) b → Within cmp a b k → TreeAfter cmp after m left 16 a b outcome
-    pair_after a b l t r w = let p = pair_now a b l r w in mends.tree a b p.0 t p.1
+    pair_after a b l t r w = let p = pair_now a b l r w in rebalances.tree a b p.0 t p.1
 
     -- the parts of all pairs: those of the two now, and the others as they were
     pairs_now : flat (pairs_at now m) node.children ≡ edit (flat (pairs_at old m) node.children)
     pairs_now = (grown_done total' is_summary edit kept old now m id k node i child leaf turn local can is leads read 15 short (omega arith) at).pairs
 
-    pub pairs_parted : flat (pairs_at now m) node.children ≡ flat (pairs_at old m) (take slot bare.children) ++ ((pairs_at now m left ++ pairs_at now m right) ++ flat (pairs_at old m) (drop (suc slot) bare.children))
-    pairs_parted = ap (flat (pairs_at now m)) children_are ∙ flat_around_two (pairs_at old m) (pairs_at now m) bare.children slot child right below (but_so _ _ (λ c x. x.pairs) bare.children slot others_now)
+    pub pairs_unmerged : flat (pairs_at now m) node.children ≡ flat (pairs_at old m) (take slot bare.children) ++ ((pairs_at now m left ++ pairs_at now m right) ++ flat (pairs_at old m) (drop (suc slot) bare.children))
+    pairs_unmerged = ap (flat (pairs_at now m)) children_are ∙ flat_around_two (pairs_at old m) (pairs_at now m) bare.children slot child right below (but_so _ _ (λ c x. x.pairs) bare.children slot others_now)
 
     grown : (x : ℕ) → total (λ c. leaf_count now m c x) node.children + stands (old.leaf x) ≡ total (λ c. leaf_count old m c x) node.children + stands (now.leaf x)
     grown x = (grown_done total' is_summary edit kept old now m id k node i child leaf turn local can is leads read 15 short (omega arith) at).leaves x
@@ -356,15 +356,15 @@ module _ {K V A : Type 0} {cmp : K → K → Ordering} (total' : IsTotalOrder cm
     pub pair_summed : IsSummed old is_summary (suc m) (kind.Inner id) → SummedAfter after m left is_summary outcome
     pair_summed h =
         let each = old_each h in
-        mends.summed (left_before.summed (every (IsSummed old is_summary m) bare.children slot child each.0 below)) (right_before.summed each.1)
+        rebalances.summed (left_before.summed (every (IsSummed old is_summary m) bare.children slot child each.0 below)) (right_before.summed each.1)
 
     pub pair_few : length (pairs_after after m left outcome) ≤ length (edit (pairs_at old (suc m) (kind.Inner id)))
     pair_few = rw is
         (omega (
           arith,
-          ap length mends.pairs,
+          ap length rebalances.pairs,
           ap length pairs_now,
-          ap length pairs_parted,
+          ap length pairs_unmerged,
           length-append (flat (pairs_at old m) (take slot bare.children)) ((pairs_at now m left ++ pairs_at now m right) ++ flat (pairs_at old m) (drop (suc slot) bare.children)),
           length-append (pairs_at now m left ++ pairs_at now m right) (flat (pairs_at old m) (drop (suc slot) bare.children)),
         ))
@@ -390,167 +390,167 @@ module _ {K V A : Type 0} {cmp : K → K → Ordering} (total' : IsTotalOrder cm
   pub order_now : Extends (flat (leaves_at old m) node.children) leaf turn (flat (leaves_at now m) node.children)
   order_now = (grown_done total' is_summary edit kept old now m id k node i child leaf turn local can is leads read 15 short (omega arith) at).order
 
-  pub order_parted : flat (leaves_at now m) node.children ≡ flat (leaves_at old m) (take slot bare.children) ++ ((leaves_at now m left ++ leaves_at now m right) ++ flat (leaves_at old m) (drop (suc slot) bare.children))
-  order_parted = ap (flat (leaves_at now m)) children_are ∙ flat_around_two (leaves_at old m) (leaves_at now m) bare.children slot child right below (but_so _ _ (λ c x. x.order) bare.children slot others_now)
+  pub order_unmerged : flat (leaves_at now m) node.children ≡ flat (leaves_at old m) (take slot bare.children) ++ ((leaves_at now m left ++ leaves_at now m right) ++ flat (leaves_at old m) (drop (suc slot) bare.children))
+  order_unmerged = ap (flat (leaves_at now m)) children_are ∙ flat_around_two (leaves_at old m) (leaves_at now m) bare.children slot child right below (but_so _ _ (λ c x. x.order) bare.children slot others_now)
 
-  module _ (outcome : Outcome K) (mends : MendsPair cmp is_summary now after m id.0 left s right outcome) where
+  module _ (outcome : Outcome K) (rebalances : RebalancesPair cmp is_summary now after m id.0 left s right outcome) where
     pub order_after : flat (leaves_at after m) bare.children ≡ flat (leaves_at old m) (take slot bare.children) ++ (leaves_at after m left ++ flat (leaves_at old m) (drop (suc slot) bare.children))
-    order_after = flat_around (leaves_at old m) (leaves_at after m) bare.children slot child below (but_so _ _ (λ c x. x.order) bare.children slot (others_after outcome mends))
+    order_after = flat_around (leaves_at old m) (leaves_at after m) bare.children slot child below (but_so _ _ (λ c x. x.order) bare.children slot (others_after outcome rebalances))
 
     pub order_after_two : flat (leaves_at after m) (insert bare.children (suc slot) right) ≡ flat (leaves_at old m) (take slot bare.children) ++ ((leaves_at after m left ++ leaves_at after m right) ++ flat (leaves_at old m) (drop (suc slot) bare.children))
-    order_after_two = flat_around_two (leaves_at old m) (leaves_at after m) bare.children slot child right below (but_so _ _ (λ c x. x.order) bare.children slot (others_after outcome mends))
+    order_after_two = flat_around_two (leaves_at old m) (leaves_at after m) bare.children slot child right below (but_so _ _ (λ c x. x.order) bare.children slot (others_after outcome rebalances))
 
-  -- the two became one
-  module _ (both : A) (mends : MendsPair cmp is_summary now after m id.0 left s right Done) (here : after.inner id.0 ≡ Present (with_summary bare slot both)) (told : is_summary both (keys_of (pairs_at after m left)))
-      (most : ℕ) (low : most ≤ length bare.keys) (leaf' : LeafNodeId) (turn' : Turn) (ordered : Ordered Done mends leaf' turn' bare.children) where
-    joined_chain : (lo hi : Option K) (least : ℕ) → IsTree cmp old least (suc m) (kind.Inner id) lo hi → Within cmp lo hi k → Chain cmp (IsTree cmp after 16 m) bare.keys bare.children lo hi
-    joined_chain lo hi least t w =
-        chain_joined total' (IsTree cmp old 16 m) (IsTree cmp after 16 m) k bare.keys bare.children lo hi slot i child right s entry.place.within (old_chain Done mends lo hi least t) below
-        (but_so _ _ (λ c x a b. x.tree 16 a b) bare.children slot (others_after Done mends)) (leads_here Done mends) beside w (pair_after Done mends)
+  -- the two merged
+  module _ (both : A) (rebalances : RebalancesPair cmp is_summary now after m id.0 left s right Done) (here : after.inner id.0 ≡ Present (with_summary bare slot both)) (told : is_summary both (keys_of (pairs_at after m left)))
+      (most : ℕ) (low : most ≤ length bare.keys) (leaf' : LeafNodeId) (turn' : Turn) (ordered : Ordered Done rebalances leaf' turn' bare.children) where
+    merged_chain : (lo hi : Option K) (least : ℕ) → IsTree cmp old least (suc m) (kind.Inner id) lo hi → Within cmp lo hi k → Chain cmp (IsTree cmp after 16 m) bare.keys bare.children lo hi
+    merged_chain lo hi least t w =
+        chain_merged total' (IsTree cmp old 16 m) (IsTree cmp after 16 m) k bare.keys bare.children lo hi slot i child right s entry.place.within (old_chain Done rebalances lo hi least t) below
+        (but_so _ _ (λ c x a b. x.tree 16 a b) bare.children slot (others_after Done rebalances)) (leads_here Done rebalances) beside w (pair_after Done rebalances)
 
-    joined_leaves : (x : ℕ) → total (λ c. leaf_count after m c x) bare.children + stands (old.leaf x) ≡ total (λ c. leaf_count old m c x) node.children + stands (after.leaf x)
-    joined_leaves x = omega (
+    merged_leaves : (x : ℕ) → total (λ c. leaf_count after m c x) bare.children + stands (old.leaf x) ≡ total (λ c. leaf_count old m c x) node.children + stands (after.leaf x)
+    merged_leaves x = omega (
       arith,
-      total_around (λ c. leaf_count old m c x) (λ c. leaf_count after m c x) bare.children slot child below (but_so _ _ (λ c y. y.leaves x) bare.children slot (others_after Done mends)),
-      leaves_now Done mends x,
-      grown Done mends x,
+      total_around (λ c. leaf_count old m c x) (λ c. leaf_count after m c x) bare.children slot child below (but_so _ _ (λ c y. y.leaves x) bare.children slot (others_after Done rebalances)),
+      leaves_now Done rebalances x,
+      grown Done rebalances x,
       count_leaves_now x,
-      mends.leaves x,
+      rebalances.leaves x,
     )
 
-    joined_inners : (x : ℕ) → (x ≡ id.0 → ⊥) → total (λ c. inner_count after m c x) bare.children + stands (old.inner x) ≡ total (λ c. inner_count old m c x) node.children + stands (after.inner x)
-    joined_inners x far = omega (
+    merged_inners : (x : ℕ) → (x ≡ id.0 → ⊥) → total (λ c. inner_count after m c x) bare.children + stands (old.inner x) ≡ total (λ c. inner_count old m c x) node.children + stands (after.inner x)
+    merged_inners x far = omega (
       arith,
-      total_around (λ c. inner_count old m c x) (λ c. inner_count after m c x) bare.children slot child below (but_so _ _ (λ c y. y.inners x) bare.children slot (others_after Done mends)),
-      inners_now Done mends x,
-      grown_inners Done mends x,
+      total_around (λ c. inner_count old m c x) (λ c. inner_count after m c x) bare.children slot child below (but_so _ _ (λ c y. y.inners x) bare.children slot (others_after Done rebalances)),
+      inners_now Done rebalances x,
+      grown_inners Done rebalances x,
       count_inners_now x,
-      mends.inners x far,
+      rebalances.inners x far,
     )
 
-    joined_above : total (λ c. inner_count after m c id.0) bare.children ≡ 0
-    joined_above =
+    merged_above : total (λ c. inner_count after m c id.0) bare.children ≡ 0
+    merged_above =
         let o = own_inner id.0 in
         let own_one = rw (eq-eqb id.0 id.0 refl) at o in
         omega (
           arith,
           own_one,
           stands_le (old.inner id.0),
-          total_around (λ c. inner_count old m c id.0) (λ c. inner_count after m c id.0) bare.children slot child below (but_so _ _ (λ c y. y.inners id.0) bare.children slot (others_after Done mends)),
+          total_around (λ c. inner_count old m c id.0) (λ c. inner_count after m c id.0) bare.children slot child below (but_so _ _ (λ c y. y.inners id.0) bare.children slot (others_after Done rebalances)),
           in_total (λ c. inner_count old m c id.0) bare.children slot child below,
-          mends.above,
+          rebalances.above,
         )
 
-    pub node_joined : Edits cmp is_summary edit most old after (suc m) (kind.Inner id) k leaf' turn' Done
-    node_joined = record {
+    pub node_merged : Edits cmp is_summary edit most old after (suc m) (kind.Inner id) k leaf' turn' Done
+    node_merged = record {
       tree = λ least lo hi under t w.
-          let sizes = old_sizes Done mends lo hi least t in
-          rw here (tt, joined_chain lo hi least t w, omega (arith, low), omega (arith, sizes.1, ap length keys_are, length-insert bare.keys slot s entry.place.within));
+          let sizes = old_sizes Done rebalances lo hi least t in
+          rw here (tt, merged_chain lo hi least t w, omega (arith, low), omega (arith, sizes.1, ap length keys_are, length-insert bare.keys slot s entry.place.within));
       pairs = rw (here, is)
-          (flat_around (pairs_at old m) (pairs_at after m) bare.children slot child below (but_so _ _ (λ c x. x.pairs) bare.children slot (others_after Done mends))
-          ∙ (ap (λ l. flat (pairs_at old m) (take slot bare.children) ++ (l ++ flat (pairs_at old m) (drop (suc slot) bare.children))) mends.pairs
-          ∙ (sym (pairs_parted Done mends) ∙ pairs_now Done mends)));
-      leaves = λ x. rw (here, is) (joined_leaves x);
+          (flat_around (pairs_at old m) (pairs_at after m) bare.children slot child below (but_so _ _ (λ c x. x.pairs) bare.children slot (others_after Done rebalances))
+          ∙ (ap (λ l. flat (pairs_at old m) (take slot bare.children) ++ (l ++ flat (pairs_at old m) (drop (suc slot) bare.children))) rebalances.pairs
+          ∙ (sym (pairs_unmerged Done rebalances) ∙ pairs_now Done rebalances)));
+      leaves = λ x. rw (here, is) (merged_leaves x);
       inners = λ x. rw (here, is)
           (elim (eqb_tells id.0 x) [
             | inl h ↦ (rw h.0 (let o = own_inner id.0 in let own_one = rw (eq-eqb id.0 id.0 refl) at o in
                 let z : stands (after.inner x) ≡ 1 = ap (λ n. stands (after.inner n)) (sym h.1) ∙ ap stands here in
                 let y : stands (old.inner x) ≡ 1 = ap (λ n. stands (old.inner n)) (sym h.1) ∙ ap stands is in
-                let none : total (λ c. inner_count after m c x) bare.children ≡ 0 = subst (λ n. total (λ c. inner_count after m c n) bare.children ≡ 0) h.1 joined_above in
+                let none : total (λ c. inner_count after m c x) bare.children ≡ 0 = subst (λ n. total (λ c. inner_count after m c n) bare.children ≡ 0) h.1 merged_above in
                 let none_old : total (λ c. inner_count old m c x) node.children ≡ 0 = subst (λ n. total (λ c. inner_count old m c n) node.children ≡ 0) h.1 (omega (arith, own_one, stands_le (old.inner id.0), count_inners_old id.0)) in
                 omega arith))
-            | inr h ↦ (rw h.0 (omega (arith, joined_inners x (λ q. h.1 (sym q)))))
+            | inr h ↦ (rw h.0 (omega (arith, merged_inners x (λ q. h.1 (sym q)))))
           ]);
-      other_leaves = kept_leaf Done mends;
-      other_inners = kept_inner Done mends;
+      other_leaves = kept_leaf Done rebalances;
+      other_inners = kept_inner Done rebalances;
       order = rw (here, is) ordered.order;
       links = ordered.links;
       untouched = ordered.untouched;
       summed = λ h.
-          let each = old_each Done mends h in
+          let each = old_each Done rebalances h in
           rw here (
-            zip_around is_summary (λ c. keys_of (pairs_at old m c)) (λ c. keys_of (pairs_at after m c)) bare.arguments bare.children slot child both below (old_zip Done mends h) (but_so _ _ (λ c x. ap keys_of x.pairs) bare.children slot (others_after Done mends)) told,
-            each_around (IsSummed old is_summary m) (IsSummed after is_summary m) bare.children slot child below (but_so _ _ (λ c x. x.summed) bare.children slot (others_after Done mends))
-                (λ l. mends.summed (left_before.summed l) (right_before.summed each.1)) each.0,
+            zip_around is_summary (λ c. keys_of (pairs_at old m c)) (λ c. keys_of (pairs_at after m c)) bare.arguments bare.children slot child both below (old_zip Done rebalances h) (but_so _ _ (λ c x. ap keys_of x.pairs) bare.children slot (others_after Done rebalances)) told,
+            each_around (IsSummed old is_summary m) (IsSummed after is_summary m) bare.children slot child below (but_so _ _ (λ c x. x.summed) bare.children slot (others_after Done rebalances))
+                (λ l. rebalances.summed (left_before.summed l) (right_before.summed each.1)) each.0,
           );
     }
 
   -- they became two others
-  module _ (l r : A) (up : K) (mends : MendsPair cmp is_summary now after m id.0 left s right (Split up right)) (here : after.inner id.0 ≡ Present (with_split bare slot l up right r))
-      (left_told : is_summary l (keys_of (pairs_at after m left))) (right_told : is_summary r (keys_of (pairs_at after m right))) (most : ℕ) (leaf' : LeafNodeId) (turn' : Turn) (ordered : Ordered (Split up right) mends leaf' turn' (insert bare.children (suc slot) right)) where
+  module _ (l r : A) (up : K) (rebalances : RebalancesPair cmp is_summary now after m id.0 left s right (Split up right)) (here : after.inner id.0 ≡ Present (with_split bare slot l up right r))
+      (left_told : is_summary l (keys_of (pairs_at after m left))) (right_told : is_summary r (keys_of (pairs_at after m right))) (most : ℕ) (leaf' : LeafNodeId) (turn' : Turn) (ordered : Ordered (Split up right) rebalances leaf' turn' (insert bare.children (suc slot) right)) where
     here_is : after.inner id.0 ≡ Present (record { keys = insert bare.keys slot up; children = insert bare.children (suc slot) right; arguments = insert (slice_set bare.arguments slot l) (suc slot) r })
     here_is = here ∙ rw add-one refl
 
-    lent_chain : (lo hi : Option K) (least : ℕ) → IsTree cmp old least (suc m) (kind.Inner id) lo hi → Within cmp lo hi k → Chain cmp (IsTree cmp after 16 m) (insert bare.keys slot up) (insert bare.children (suc slot) right) lo hi
-    lent_chain lo hi least t w =
-        chain_lent total' (IsTree cmp old 16 m) (IsTree cmp after 16 m) k bare.keys bare.children lo hi slot i child right s up entry.place.within (old_chain (Split up right) mends lo hi least t) below
-        (but_so _ _ (λ c x a b. x.tree 16 a b) bare.children slot (others_after (Split up right) mends)) (leads_here (Split up right) mends) beside w (pair_after (Split up right) mends)
+    rotated_chain : (lo hi : Option K) (least : ℕ) → IsTree cmp old least (suc m) (kind.Inner id) lo hi → Within cmp lo hi k → Chain cmp (IsTree cmp after 16 m) (insert bare.keys slot up) (insert bare.children (suc slot) right) lo hi
+    rotated_chain lo hi least t w =
+        chain_rotated total' (IsTree cmp old 16 m) (IsTree cmp after 16 m) k bare.keys bare.children lo hi slot i child right s up entry.place.within (old_chain (Split up right) rebalances lo hi least t) below
+        (but_so _ _ (λ c x a b. x.tree 16 a b) bare.children slot (others_after (Split up right) rebalances)) (leads_here (Split up right) rebalances) beside w (pair_after (Split up right) rebalances)
 
-    lent_leaves : (x : ℕ) → total (λ c. leaf_count after m c x) (insert bare.children (suc slot) right) + stands (old.leaf x) ≡ total (λ c. leaf_count old m c x) node.children + stands (after.leaf x)
-    lent_leaves x = omega (
+    rotated_leaves : (x : ℕ) → total (λ c. leaf_count after m c x) (insert bare.children (suc slot) right) + stands (old.leaf x) ≡ total (λ c. leaf_count old m c x) node.children + stands (after.leaf x)
+    rotated_leaves x = omega (
       arith,
-      total_around_two (λ c. leaf_count old m c x) (λ c. leaf_count after m c x) bare.children slot child right below (but_so _ _ (λ c y. y.leaves x) bare.children slot (others_after (Split up right) mends)),
-      leaves_now (Split up right) mends x,
-      grown (Split up right) mends x,
+      total_around_two (λ c. leaf_count old m c x) (λ c. leaf_count after m c x) bare.children slot child right below (but_so _ _ (λ c y. y.leaves x) bare.children slot (others_after (Split up right) rebalances)),
+      leaves_now (Split up right) rebalances x,
+      grown (Split up right) rebalances x,
       count_leaves_now x,
-      mends.leaves x,
+      rebalances.leaves x,
     )
 
-    lent_inners : (x : ℕ) → (x ≡ id.0 → ⊥) → total (λ c. inner_count after m c x) (insert bare.children (suc slot) right) + stands (old.inner x) ≡ total (λ c. inner_count old m c x) node.children + stands (after.inner x)
-    lent_inners x far = omega (
+    rotated_inners : (x : ℕ) → (x ≡ id.0 → ⊥) → total (λ c. inner_count after m c x) (insert bare.children (suc slot) right) + stands (old.inner x) ≡ total (λ c. inner_count old m c x) node.children + stands (after.inner x)
+    rotated_inners x far = omega (
       arith,
-      total_around_two (λ c. inner_count old m c x) (λ c. inner_count after m c x) bare.children slot child right below (but_so _ _ (λ c y. y.inners x) bare.children slot (others_after (Split up right) mends)),
-      inners_now (Split up right) mends x,
-      grown_inners (Split up right) mends x,
+      total_around_two (λ c. inner_count old m c x) (λ c. inner_count after m c x) bare.children slot child right below (but_so _ _ (λ c y. y.inners x) bare.children slot (others_after (Split up right) rebalances)),
+      inners_now (Split up right) rebalances x,
+      grown_inners (Split up right) rebalances x,
       count_inners_now x,
-      mends.inners x far,
+      rebalances.inners x far,
     )
 
-    lent_above : total (λ c. inner_count after m c id.0) (insert bare.children (suc slot) right) ≡ 0
-    lent_above =
+    rotated_above : total (λ c. inner_count after m c id.0) (insert bare.children (suc slot) right) ≡ 0
+    rotated_above =
         let o = own_inner id.0 in
         let own_one = rw (eq-eqb id.0 id.0 refl) at o in
         omega (
           arith,
           own_one,
           stands_le (old.inner id.0),
-          total_around_two (λ c. inner_count old m c id.0) (λ c. inner_count after m c id.0) bare.children slot child right below (but_so _ _ (λ c y. y.inners id.0) bare.children slot (others_after (Split up right) mends)),
+          total_around_two (λ c. inner_count old m c id.0) (λ c. inner_count after m c id.0) bare.children slot child right below (but_so _ _ (λ c y. y.inners id.0) bare.children slot (others_after (Split up right) rebalances)),
           in_total (λ c. inner_count old m c id.0) bare.children slot child below,
-          mends.above,
+          rebalances.above,
         )
 
-    pub node_lent : Edits cmp is_summary edit most old after (suc m) (kind.Inner id) k leaf' turn' Done
-    node_lent = record {
+    pub node_rotated : Edits cmp is_summary edit most old after (suc m) (kind.Inner id) k leaf' turn' Done
+    node_rotated = record {
       tree = λ least lo hi under t w.
-          let sizes = old_sizes (Split up right) mends lo hi least t in
+          let sizes = old_sizes (Split up right) rebalances lo hi least t in
           let wide : length (insert bare.keys slot up) ≡ length node.keys = length-insert bare.keys slot up entry.place.within ∙ sym (ap length keys_are ∙ length-insert bare.keys slot s entry.place.within) in
-          rw here_is (tt, lent_chain lo hi least t w, omega (arith, sizes.0, wide), omega (arith, sizes.1, wide));
+          rw here_is (tt, rotated_chain lo hi least t w, omega (arith, sizes.0, wide), omega (arith, sizes.1, wide));
       pairs = rw (here_is, is)
-          (flat_around_two (pairs_at old m) (pairs_at after m) bare.children slot child right below (but_so _ _ (λ c x. x.pairs) bare.children slot (others_after (Split up right) mends))
-          ∙ (ap (λ l. flat (pairs_at old m) (take slot bare.children) ++ (l ++ flat (pairs_at old m) (drop (suc slot) bare.children))) mends.pairs
-          ∙ (sym (pairs_parted (Split up right) mends) ∙ pairs_now (Split up right) mends)));
-      leaves = λ x. rw (here_is, is) (lent_leaves x);
+          (flat_around_two (pairs_at old m) (pairs_at after m) bare.children slot child right below (but_so _ _ (λ c x. x.pairs) bare.children slot (others_after (Split up right) rebalances))
+          ∙ (ap (λ l. flat (pairs_at old m) (take slot bare.children) ++ (l ++ flat (pairs_at old m) (drop (suc slot) bare.children))) rebalances.pairs
+          ∙ (sym (pairs_unmerged (Split up right) rebalances) ∙ pairs_now (Split up right) rebalances)));
+      leaves = λ x. rw (here_is, is) (rotated_leaves x);
       inners = λ x. rw (here_is, is)
           (elim (eqb_tells id.0 x) [
             | inl h ↦ (rw h.0 (let o = own_inner id.0 in let own_one = rw (eq-eqb id.0 id.0 refl) at o in
                 let z : stands (after.inner x) ≡ 1 = ap (λ n. stands (after.inner n)) (sym h.1) ∙ ap stands here in
                 let y : stands (old.inner x) ≡ 1 = ap (λ n. stands (old.inner n)) (sym h.1) ∙ ap stands is in
-                let none : total (λ c. inner_count after m c x) (insert bare.children (suc slot) right) ≡ 0 = subst (λ n. total (λ c. inner_count after m c n) (insert bare.children (suc slot) right) ≡ 0) h.1 lent_above in
+                let none : total (λ c. inner_count after m c x) (insert bare.children (suc slot) right) ≡ 0 = subst (λ n. total (λ c. inner_count after m c n) (insert bare.children (suc slot) right) ≡ 0) h.1 rotated_above in
                 let none_old : total (λ c. inner_count old m c x) node.children ≡ 0 = subst (λ n. total (λ c. inner_count old m c n) node.children ≡ 0) h.1 (omega (arith, own_one, stands_le (old.inner id.0), count_inners_old id.0)) in
                 omega arith))
-            | inr h ↦ (rw h.0 (omega (arith, lent_inners x (λ q. h.1 (sym q)))))
+            | inr h ↦ (rw h.0 (omega (arith, rotated_inners x (λ q. h.1 (sym q)))))
           ]);
-      other_leaves = kept_leaf (Split up right) mends;
-      other_inners = kept_inner (Split up right) mends;
+      other_leaves = kept_leaf (Split up right) rebalances;
+      other_inners = kept_inner (Split up right) rebalances;
       order = rw (here_is, is) ordered.order;
       links = ordered.links;
       untouched = ordered.untouched;
       summed = λ h.
-          let each = old_each (Split up right) mends h in
+          let each = old_each (Split up right) rebalances h in
           rw here_is (
-            zip_around_two is_summary (λ c. keys_of (pairs_at old m c)) (λ c. keys_of (pairs_at after m c)) bare.arguments bare.children slot child right l r below (old_zip (Split up right) mends h)
-                (but_so _ _ (λ c x. ap keys_of x.pairs) bare.children slot (others_after (Split up right) mends)) left_told right_told,
-            each_around_two (IsSummed old is_summary m) (IsSummed after is_summary m) bare.children slot child right below (but_so _ _ (λ c x. x.summed) bare.children slot (others_after (Split up right) mends))
-                (λ l. mends.summed (left_before.summed l) (right_before.summed each.1)) each.0,
+            zip_around_two is_summary (λ c. keys_of (pairs_at old m c)) (λ c. keys_of (pairs_at after m c)) bare.arguments bare.children slot child right l r below (old_zip (Split up right) rebalances h)
+                (but_so _ _ (λ c x. ap keys_of x.pairs) bare.children slot (others_after (Split up right) rebalances)) left_told right_told,
+            each_around_two (IsSummed old is_summary m) (IsSummed after is_summary m) bare.children slot child right below (but_so _ _ (λ c x. x.summed) bare.children slot (others_after (Split up right) rebalances))
+                (λ l. rebalances.summed (left_before.summed l) (right_before.summed each.1)) each.0,
           );
     }

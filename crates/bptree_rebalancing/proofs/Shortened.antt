@@ -1,4 +1,4 @@
--- What two inner nodes that were mended in a store make of a climb, and how a climb ends.
+-- What two inner nodes that were relinked in a store make of a climb, and how a climb ends.
 use Rattle.std.proofs.Common.{◌≡◌, ℕ, suc, ◌+◌, ◌<◌, ◌≤◌, inl, inr, ◌⊎◌, true, false, cond, List, [], ◌∷◌, ◌++◌, length, refl, sym, ap, subst, ◌∙◌, arith, Option, Some, eqb, slice_get}
 use Rattle.std.specs.declared.cmp.Ordering.{Ordering}
 use Rattle.std.specs.Cmp.{IsTotalOrder}
@@ -14,22 +14,22 @@ use Rattle.bptree_keys.specs.declared.node_id.NodeId.{NodeId}
 use Rattle.bptree_keys.specs.declared.node_id.NodeId.TheVariants as kind
 use Rattle.bptree_ascent.specs.Climb.{is_held, HeldAre, Climbs, Risen}
 use Rattle.bptree_shape.specs.Edit.{Turn, Edits}
-use Rattle.bptree_rebalancing.specs.Help.{Helps, child_size}
-use Rattle.bptree_rebalancing.specs.Mend.{MendsPair}
+use Rattle.bptree_rebalancing.specs.ChooseSibling.{ChoosesSibling, child_size}
+use Rattle.bptree_rebalancing.specs.Rebalance.{RebalancesPair}
 use Rattle.bptree_shape.specs.Outcome.{Done, Split}
 use Rattle.bptree_shape.specs.Shape.{inner_children, inner_keys, pairs_at, leaves_at, inner_count, stands, root_least, IsWellShaped}
-use Rattle.bptree_rebalancing.specs.Share.{HasEntry}
-use Rattle.bptree_rebalancing.specs.Shared.{LendsInnersAt, JoinsInnersAt}
+use Rattle.bptree_rebalancing.specs.Transfer.{HasEntry}
+use Rattle.bptree_rebalancing.specs.RotateMerge.{RotatesInnersAt, MergesInnersAt}
 use Rattle.bptree_ascent.specs.Sums.{SumsUpAt, with_split}
-use Rattle.bptree_rebalancing.specs.Trim.{ClimbsShort, Sunk}
-use Rattle.bptree_rebalancing.specs.declared.sharing.Lender.{Lender}
-use Rattle.bptree_rebalancing.specs.declared.sharing.Sides.{Sides}
+use Rattle.bptree_rebalancing.specs.Trim.{ClimbsUnderflow, Sunk}
+use Rattle.bptree_rebalancing.specs.declared.rotate_merge.Sibling.{Sibling}
+use Rattle.bptree_rebalancing.specs.declared.rotate_merge.Sides.{Sides}
 use Rattle.bptree_ascent.proofs.Climbing.{edits_less, held_is}
-use Rattle.bptree_rebalancing.proofs.ClimbingShort as short
+use Rattle.bptree_rebalancing.proofs.ClimbingUnderflow as short
 use Rattle.bptree_shape.proofs.Frame.{Same, same}
 use Rattle.bptree_ascent.proofs.Lift.{links_moved}
-use Rattle.bptree_rebalancing.proofs.MendInner as mend
-use Rattle.bptree_rebalancing.proofs.ShortNode as spot
+use Rattle.bptree_rebalancing.proofs.RebalanceInner as relink_next
+use Rattle.bptree_rebalancing.proofs.InnerUnderflow as spot
 use Rattle.bptree_ascent.proofs.Undone.{same_node}
 
 -- an edit is what it was once a held number that it does not reach is let go
@@ -67,34 +67,34 @@ edits_released {K} {V} {A} {cmp} is_summary edit kept old new final h root k lea
     there = same cmp is_summary new final h root ((λ n some. leaf_at n), (λ n some. frees.inner.others n (unreached n some)))
 
 module _ {K V A : Type 0} {cmp : K → K → Ordering} (total : IsTotalOrder cmp) (is_summary : A → List K → Type 0) (now after : Slots (Inner K A) (Leaf K V)) (path : List (InnerNodeId × ℕ × NodeId)) (nid : InnerNodeId) (a : A)
-    (c : ClimbsShort cmp is_summary now path nid a) (rest : List (InnerNodeId × ℕ × NodeId)) (number : InnerNodeId) (i : ℕ) (child : NodeId) (e : path ≡ rest ++ (number, i, child) ∷ [])
+    (c : ClimbsUnderflow cmp is_summary now path nid a) (rest : List (InnerNodeId × ℕ × NodeId)) (number : InnerNodeId) (i : ℕ) (child : NodeId) (e : path ≡ rest ++ (number, i, child) ∷ [])
     (slot : ℕ) (left right : InnerNodeId) (beside : (i ≡ slot) ⊎ (i ≡ suc slot)) where
   abbrev pub node : Inner K A
   node = (short.step total is_summary now after path nid a c rest number i child e).node
 
   module _ (read_left : slice_get node.children slot ≡ Some (kind.Inner left)) (read_right : slice_get node.children (slot + 1) ≡ Some (kind.Inner right)) (sides : Sides A) where
-    -- two that became one
-    module _ (emptied : Inner K A) (j : JoinsInnersAt cmp is_summary slot now after number left right sides emptied) where
+    -- two that merged
+    module _ (emptied : Inner K A) (j : MergesInnersAt cmp is_summary slot now after number left right sides emptied) where
       pub j_same : node ≡ j.node
       j_same = same_node (now.inner number.0) node j.node (short.node_stands total is_summary now after path nid a c rest number i child e) j.at_node
 
-      pub j_entry : HasEntry node j.shares.bare slot j.shares.separator j.shares.child sides.right
-      j_entry = subst (λ n. HasEntry n j.shares.bare slot j.shares.separator j.shares.child sides.right) (sym j_same) j.shares.entry
+      pub j_entry : HasEntry node j.transfers.bare slot j.transfers.separator j.transfers.child sides.right
+      j_entry = subst (λ n. HasEntry n j.transfers.bare slot j.transfers.separator j.transfers.child sides.right) (sym j_same) j.transfers.entry
 
       abbrev pub j_high : (m : ℕ) × (c.climb.height ≡ suc m)
       j_high = short.high total is_summary now after path nid a c rest number i child e
 
-      pub j_mends : MendsPair cmp is_summary now after c.climb.height number.0 (kind.Inner left) j.shares.separator (kind.Inner right) Done
-      j_mends =
-          subst (λ n. MendsPair cmp is_summary now after n number.0 (kind.Inner left) j.shares.separator (kind.Inner right) Done) (sym j_high.1)
-          (mend.inners_joined total is_summary now after j_high.0 number left right j.one j.other j.one' j.shares.separator j.at_left j.at_right j.is_left j.inners j.leaf j.apart
-          (short.own_high total is_summary now after path nid a c rest number i child e slot left right j.shares.bare j.shares.child j.shares.separator sides.right j_entry beside read_left read_right) emptied j.is_right j.shares.nodes j.fits)
+      pub merge_rebalances : RebalancesPair cmp is_summary now after c.climb.height number.0 (kind.Inner left) j.transfers.separator (kind.Inner right) Done
+      merge_rebalances =
+          subst (λ n. RebalancesPair cmp is_summary now after n number.0 (kind.Inner left) j.transfers.separator (kind.Inner right) Done) (sym j_high.1)
+          (relink_next.inners_merged total is_summary now after j_high.0 number left right j.one j.other j.one' j.transfers.separator j.at_left j.at_right j.is_left j.inners j.leaf j.apart
+          (short.own_high total is_summary now after path nid a c rest number i child e slot left right j.transfers.bare j.transfers.child j.transfers.separator sides.right j_entry beside read_left read_right) emptied j.is_right j.transfers.nodes j.fits)
 
       pub j_order : leaves_at after c.climb.height (kind.Inner left) ≡ leaves_at now c.climb.height (kind.Inner left) ++ leaves_at now c.climb.height (kind.Inner right)
       j_order =
           subst (λ n. leaves_at after n (kind.Inner left) ≡ leaves_at now n (kind.Inner left) ++ leaves_at now n (kind.Inner right)) (sym j_high.1)
-          (mend.order_joined total is_summary now after j_high.0 number left right j.one j.other j.one' j.shares.separator j.at_left j.at_right j.is_left j.inners j.leaf j.apart
-          (short.own_high total is_summary now after path nid a c rest number i child e slot left right j.shares.bare j.shares.child j.shares.separator sides.right j_entry beside read_left read_right) emptied j.is_right j.shares.nodes j.fits)
+          (relink_next.order_merged total is_summary now after j_high.0 number left right j.one j.other j.one' j.transfers.separator j.at_left j.at_right j.is_left j.inners j.leaf j.apart
+          (short.own_high total is_summary now after path nid a c rest number i child e slot left right j.transfers.bare j.transfers.child j.transfers.separator sides.right j_entry beside read_left read_right) emptied j.is_right j.transfers.nodes j.fits)
 
       pub j_held : HeldAre (λ n. cond (eqb right.0 n) true (c.climb.held_inner n)) c.climb.held_leaf after
       j_held = record {
@@ -112,19 +112,19 @@ module _ {K V A : Type 0} {cmp : K → K → Ordering} (total : IsTotalOrder cmp
         leaves = λ n. ap (λ (f : ℕ → Slot (Leaf K V)). is_held (f n)) j.leaf ∙ c.climb.free.leaves n;
       }
 
-      abbrev pub joined_climbs : (above : A) → SumsUpAt cmp is_summary (after.inner number.0) above → ClimbsShort cmp is_summary after rest number above
-      joined_climbs above sums =
-          short.climbs_joined total is_summary now after path nid a c rest number i child e slot left right j.shares.bare j.shares.child j.shares.separator sides.right j_entry beside read_left read_right j.leaf
-          j.shares.joins.both j_mends j_order (j.is_node ∙ ap Present j.shares.joins.is)
-          (short.told_joined total is_summary now after path nid a c rest number i child e slot left right j.shares.bare j.shares.child j.shares.separator sides.right j_entry beside read_left read_right j.leaf j.shares.joins.both j_mends (rw j.is_left j.shares.joins.told_both)) j_held above sums
+      abbrev pub merged_climbs : (above : A) → SumsUpAt cmp is_summary (after.inner number.0) above → ClimbsUnderflow cmp is_summary after rest number above
+      merged_climbs above sums =
+          short.climbs_merged total is_summary now after path nid a c rest number i child e slot left right j.transfers.bare j.transfers.child j.transfers.separator sides.right j_entry beside read_left read_right j.leaf
+          j.transfers.merges.both merge_rebalances j_order (j.is_node ∙ ap Present j.transfers.merges.is)
+          (short.told_merged total is_summary now after path nid a c rest number i child e slot left right j.transfers.bare j.transfers.child j.transfers.separator sides.right j_entry beside read_left read_right j.leaf j.transfers.merges.both merge_rebalances (rw j.is_left j.transfers.merges.told_both)) j_held above sums
 
       -- and the number of the one that is gone is let go
-      module _ (above : A) (sums : SumsUpAt cmp is_summary (after.inner number.0) above) (new : Slots (Inner K A) (Leaf K V)) (top : A) (sunk : Sunk (joined_climbs above sums).climb new top) where
+      module _ (above : A) (sums : SumsUpAt cmp is_summary (after.inner number.0) above) (new : Slots (Inner K A) (Leaf K V)) (top : A) (sunk : Sunk (merged_climbs above sums).climb new top) where
         pub still_held : new.inner right.0 ≡ Held
         still_held = held_is (new.inner right.0) (sunk.free.inners right.0 ∙ rw (eq-eqb right.0 right.0 refl) refl)
 
-        pub sunk_joined : (final : Slots (Inner K A) (Leaf K V)) → c.climb.held_inner right.0 ≡ false → UpdatesInner new final right.0 Free → Sunk c.climb final top
-        sunk_joined final was_not frees =
+        pub sunk_merged : (final : Slots (Inner K A) (Leaf K V)) → c.climb.held_inner right.0 ≡ false → UpdatesInner new final right.0 Free → Sunk c.climb final top
+        sunk_merged final was_not frees =
             let edits = edits_released is_summary c.climb.edit 0 c.climb.old new final c.climb.top c.climb.root c.climb.k c.climb.leaf c.climb.turn right c.climb.shape still_held frees sunk.edits in
             record {
               edits = edits;
@@ -142,31 +142,31 @@ module _ {K V A : Type 0} {cmp : K → K → Ordering} (total : IsTotalOrder cmp
         pub right_was_not : c.climb.held_inner right.0 ≡ false
         right_was_not = sym (c.climb.free.inners right.0) ∙ ap is_held j.at_right
 
-    -- two of which one lent to the other
-    module _ (lender : Lender) (l : LendsInnersAt cmp is_summary slot now after number lender left right sides) (least : (16 ≤ length l.one'.keys) × (16 ≤ length l.other'.keys)) where
+    -- two of which one rotated to the other
+    module _ (giver : Sibling) (l : RotatesInnersAt cmp is_summary slot now after number giver left right sides) (least : (16 ≤ length l.one'.keys) × (16 ≤ length l.other'.keys)) where
       pub l_same : node ≡ l.node
       l_same = same_node (now.inner number.0) node l.node (short.node_stands total is_summary now after path nid a c rest number i child e) l.at_node
 
-      pub l_entry : HasEntry node l.shares.bare slot l.shares.separator l.shares.child sides.right
-      l_entry = subst (λ n. HasEntry n l.shares.bare slot l.shares.separator l.shares.child sides.right) (sym l_same) l.shares.entry
+      pub l_entry : HasEntry node l.transfers.bare slot l.transfers.separator l.transfers.child sides.right
+      l_entry = subst (λ n. HasEntry n l.transfers.bare slot l.transfers.separator l.transfers.child sides.right) (sym l_same) l.transfers.entry
 
       abbrev pub l_high : (m : ℕ) × (c.climb.height ≡ suc m)
       l_high = short.high total is_summary now after path nid a c rest number i child e
 
-      pub l_given : l.shares.child ≡ kind.Inner right
-      l_given = short.given_is total is_summary now after path nid a c rest number i child e slot left right l.shares.bare l.shares.child l.shares.separator sides.right l_entry beside read_left read_right
+      pub l_given : l.transfers.child ≡ kind.Inner right
+      l_given = short.given_is total is_summary now after path nid a c rest number i child e slot left right l.transfers.bare l.transfers.child l.transfers.separator sides.right l_entry beside read_left read_right
 
-      pub l_mends : MendsPair cmp is_summary now after c.climb.height number.0 (kind.Inner left) l.shares.separator (kind.Inner right) (Split l.shares.up (kind.Inner right))
-      l_mends =
-          subst (λ n. MendsPair cmp is_summary now after n number.0 (kind.Inner left) l.shares.separator (kind.Inner right) (Split l.shares.up (kind.Inner right))) (sym l_high.1)
-          (mend.inners_lent total is_summary now after l_high.0 number left right l.one l.other l.one' l.shares.separator l.at_left l.at_right l.is_left l.inners l.leaf l.apart
-          (short.own_high total is_summary now after path nid a c rest number i child e slot left right l.shares.bare l.shares.child l.shares.separator sides.right l_entry beside read_left read_right) lender l.other' l.shares.up l.is_right l.shares.moves least)
+      pub left_rebalances : RebalancesPair cmp is_summary now after c.climb.height number.0 (kind.Inner left) l.transfers.separator (kind.Inner right) (Split l.transfers.up (kind.Inner right))
+      left_rebalances =
+          subst (λ n. RebalancesPair cmp is_summary now after n number.0 (kind.Inner left) l.transfers.separator (kind.Inner right) (Split l.transfers.up (kind.Inner right))) (sym l_high.1)
+          (relink_next.inners_rotated total is_summary now after l_high.0 number left right l.one l.other l.one' l.transfers.separator l.at_left l.at_right l.is_left l.inners l.leaf l.apart
+          (short.own_high total is_summary now after path nid a c rest number i child e slot left right l.transfers.bare l.transfers.child l.transfers.separator sides.right l_entry beside read_left read_right) giver l.other' l.transfers.up l.is_right l.transfers.moves least)
 
       pub l_order : leaves_at after c.climb.height (kind.Inner left) ++ leaves_at after c.climb.height (kind.Inner right) ≡ leaves_at now c.climb.height (kind.Inner left) ++ leaves_at now c.climb.height (kind.Inner right)
       l_order =
           subst (λ n. leaves_at after n (kind.Inner left) ++ leaves_at after n (kind.Inner right) ≡ leaves_at now n (kind.Inner left) ++ leaves_at now n (kind.Inner right)) (sym l_high.1)
-          (mend.order_lent total is_summary now after l_high.0 number left right l.one l.other l.one' l.shares.separator l.at_left l.at_right l.is_left l.inners l.leaf l.apart
-          (short.own_high total is_summary now after path nid a c rest number i child e slot left right l.shares.bare l.shares.child l.shares.separator sides.right l_entry beside read_left read_right) lender l.other' l.shares.up l.is_right l.shares.moves least)
+          (relink_next.order_rotated total is_summary now after l_high.0 number left right l.one l.other l.one' l.transfers.separator l.at_left l.at_right l.is_left l.inners l.leaf l.apart
+          (short.own_high total is_summary now after path nid a c rest number i child e slot left right l.transfers.bare l.transfers.child l.transfers.separator sides.right l_entry beside read_left read_right) giver l.other' l.transfers.up l.is_right l.transfers.moves least)
 
       pub l_held : HeldAre c.climb.held_inner c.climb.held_leaf after
       l_held = record {
@@ -184,19 +184,19 @@ module _ {K V A : Type 0} {cmp : K → K → Ordering} (total : IsTotalOrder cmp
         leaves = λ n. ap (λ (f : ℕ → Slot (Leaf K V)). is_held (f n)) l.leaf ∙ c.climb.free.leaves n;
       }
 
-      pub l_told : is_summary l.shares.lends.left (keys_of (pairs_at after c.climb.height (kind.Inner left))) × is_summary l.shares.lends.right (keys_of (pairs_at after c.climb.height (kind.Inner right)))
+      pub l_told : is_summary l.transfers.rotates.left (keys_of (pairs_at after c.climb.height (kind.Inner left))) × is_summary l.transfers.rotates.right (keys_of (pairs_at after c.climb.height (kind.Inner right)))
       l_told =
-          short.told_lent total is_summary now after path nid a c rest number i child e slot left right l.shares.bare l.shares.child l.shares.separator sides.right l_entry beside read_left read_right l.leaf
-          l.shares.lends.left l.shares.lends.right l.shares.up l_mends (rw l.is_left l.shares.lends.told_left) (rw l.is_right l.shares.lends.told_right)
+          short.told_rotated total is_summary now after path nid a c rest number i child e slot left right l.transfers.bare l.transfers.child l.transfers.separator sides.right l_entry beside read_left read_right l.leaf
+          l.transfers.rotates.left l.transfers.rotates.right l.transfers.up left_rebalances (rw l.is_left l.transfers.rotates.told_left) (rw l.is_right l.transfers.rotates.told_right)
 
-      abbrev pub lent_climbs : (above : A) → SumsUpAt cmp is_summary (after.inner number.0) above → Climbs cmp is_summary after rest above
-      lent_climbs above sums =
-          short.climbs_lent total is_summary now after path nid a c rest number i child e slot left right l.shares.bare l.shares.child l.shares.separator sides.right l_entry beside read_left read_right l.leaf
-          l.shares.lends.left l.shares.lends.right l.shares.up l_mends l_order
-          (l.is_node ∙ ap Present (l.shares.lends.is ∙ (ap (λ x. with_split l.shares.bare slot l.shares.lends.left x l.shares.child l.shares.lends.right) l.shares.lends.separates ∙ ap (λ x. with_split l.shares.bare slot l.shares.lends.left l.shares.up x l.shares.lends.right) l_given))) l_told.0 l_told.1 l_held above sums
+      abbrev pub rotated_climbs : (above : A) → SumsUpAt cmp is_summary (after.inner number.0) above → Climbs cmp is_summary after rest above
+      rotated_climbs above sums =
+          short.climbs_rotated total is_summary now after path nid a c rest number i child e slot left right l.transfers.bare l.transfers.child l.transfers.separator sides.right l_entry beside read_left read_right l.leaf
+          l.transfers.rotates.left l.transfers.rotates.right l.transfers.up left_rebalances l_order
+          (l.is_node ∙ ap Present (l.transfers.rotates.is ∙ (ap (λ x. with_split l.transfers.bare slot l.transfers.rotates.left x l.transfers.child l.transfers.rotates.right) l.transfers.rotates.separates ∙ ap (λ x. with_split l.transfers.bare slot l.transfers.rotates.left l.transfers.up x l.transfers.rotates.right) l_given))) l_told.0 l_told.1 l_held above sums
 
-      pub sunk_lent : (above : A) (sums : SumsUpAt cmp is_summary (after.inner number.0) above) (new : Slots (Inner K A) (Leaf K V)) (top : A) → Risen (lent_climbs above sums).climb new top → Sunk c.climb new top
-      sunk_lent above sums new top r = record {
+      pub sunk_rotated : (above : A) (sums : SumsUpAt cmp is_summary (after.inner number.0) above) (new : Slots (Inner K A) (Leaf K V)) (top : A) → Risen (rotated_climbs above sums).climb new top → Sunk c.climb new top
+      sunk_rotated above sums new top r = record {
         edits = edits_less is_summary c.climb.edit (root_least c.climb.top) 0 c.climb.old new c.climb.top c.climb.root c.climb.k c.climb.leaf c.climb.turn Done (omega arith) r.edits;
         free = r.free;
         told = r.told;
@@ -204,40 +204,40 @@ module _ {K V A : Type 0} {cmp : K → K → Ordering} (total : IsTotalOrder cmp
 
 -- The same of what stands under the number of the node above.
 module _ {K V A : Type 0} {cmp : K → K → Ordering} (total : IsTotalOrder cmp) {is_summary : A → List K → Type 0} {now : Slots (Inner K A) (Leaf K V)} {path : List (InnerNodeId × ℕ × NodeId)} {nid : InnerNodeId} {a : A}
-    (c : ClimbsShort cmp is_summary now path nid a) (rest : List (InnerNodeId × ℕ × NodeId)) (number : InnerNodeId) (i : ℕ) (child : NodeId) (e : path ≡ rest ++ (number, i, child) ∷ [])
-    (slot : ℕ) (helper : Option Lender) (helps : Helps (child_size now (inner_children (now.inner number.0))) i slot helper) (left right : InnerNodeId)
+    (c : ClimbsUnderflow cmp is_summary now path nid a) (rest : List (InnerNodeId × ℕ × NodeId)) (number : InnerNodeId) (i : ℕ) (child : NodeId) (e : path ≡ rest ++ (number, i, child) ∷ [])
+    (slot : ℕ) (choose_sibling : Option Sibling) (chosen : ChoosesSibling (child_size now (inner_children (now.inner number.0))) i slot choose_sibling) (left right : InnerNodeId)
     (read_left : slice_get (inner_children (now.inner number.0)) slot ≡ Some (kind.Inner left)) (read_right : slice_get (inner_children (now.inner number.0)) (slot + 1) ≡ Some (kind.Inner right)) where
   pub beside_so : (i ≡ slot) ⊎ (i ≡ suc slot)
-  beside_so = spot.beside_there total c rest number i child e slot helper helps
+  beside_so = spot.beside_there total c rest number i child e slot choose_sibling chosen
 
   pub left_so : slice_get (short.step total is_summary now now path nid a c rest number i child e).node.children slot ≡ Some (kind.Inner left)
-  left_so = spot.left_so total c rest number i child e slot helper helps left right read_left read_right
+  left_so = spot.left_so total c rest number i child e slot choose_sibling chosen left right read_left read_right
 
   pub right_so : slice_get (short.step total is_summary now now path nid a c rest number i child e).node.children (slot + 1) ≡ Some (kind.Inner right)
-  right_so = spot.right_so total c rest number i child e slot helper helps left right read_left read_right
+  right_so = spot.right_so total c rest number i child e slot choose_sibling chosen left right read_left read_right
 
   module _ {after : Slots (Inner K A) (Leaf K V)} (sides : Sides A) where
-    -- where the two became one
-    module _ (emptied : Inner K A) (j : JoinsInnersAt cmp is_summary slot now after number left right sides emptied) (above : A) (sums : SumsUpAt cmp is_summary (after.inner number.0) above) where
-      abbrev pub joined : ClimbsShort cmp is_summary after rest number above
-      joined = joined_climbs total is_summary now after path nid a c rest number i child e slot left right beside_so left_so right_so sides emptied j above sums
+    -- where the two merged
+    module _ (emptied : Inner K A) (j : MergesInnersAt cmp is_summary slot now after number left right sides emptied) (above : A) (sums : SumsUpAt cmp is_summary (after.inner number.0) above) where
+      abbrev pub merged : ClimbsUnderflow cmp is_summary after rest number above
+      merged = merged_climbs total is_summary now after path nid a c rest number i child e slot left right beside_so left_so right_so sides emptied j above sums
 
-      module _ (new : Slots (Inner K A) (Leaf K V)) (top : A) (sunk : Sunk joined.climb new top) where
+      module _ (new : Slots (Inner K A) (Leaf K V)) (top : A) (sunk : Sunk merged.climb new top) where
         pub held_so : new.inner right.0 ≡ Held
         held_so = still_held total is_summary now after path nid a c rest number i child e slot left right beside_so left_so right_so sides emptied j above sums new top sunk
 
-        pub joined_sinks : (final : Slots (Inner K A) (Leaf K V)) → UpdatesInner new final right.0 Free → Sunk c.climb final top
-        joined_sinks final frees =
-            sunk_joined total is_summary now after path nid a c rest number i child e slot left right beside_so left_so right_so sides emptied j above sums new top sunk final
+        pub merged_sinks : (final : Slots (Inner K A) (Leaf K V)) → UpdatesInner new final right.0 Free → Sunk c.climb final top
+        merged_sinks final frees =
+            sunk_merged total is_summary now after path nid a c rest number i child e slot left right beside_so left_so right_so sides emptied j above sums new top sunk final
             (right_was_not total is_summary now after path nid a c rest number i child e slot left right beside_so left_so right_so sides emptied j above sums new top sunk) frees
 
-    -- where the one lent a child to the other
-    module _ (lacks : length (inner_keys (now.inner nid.0)) < 16) (lender : Lender) (same : helper ≡ Some lender) (l : LendsInnersAt cmp is_summary slot now after number lender left right sides) (above : A) (sums : SumsUpAt cmp is_summary (after.inner number.0) above) where
+    -- where the one rotated a child to the other
+    module _ (lacks : length (inner_keys (now.inner nid.0)) < 16) (giver : Sibling) (same : choose_sibling ≡ Some giver) (l : RotatesInnersAt cmp is_summary slot now after number giver left right sides) (above : A) (sums : SumsUpAt cmp is_summary (after.inner number.0) above) where
       pub least_so : (16 ≤ length l.one'.keys) × (16 ≤ length l.other'.keys)
-      least_so = spot.enough_there total c rest number i child e slot helper helps left right read_left read_right lacks lender (length l.one'.keys) (length l.other'.keys) same (rw (l.at_left, l.at_right) l.shares.moves.sizes)
+      least_so = spot.enough_there total c rest number i child e slot choose_sibling chosen left right read_left read_right lacks giver (length l.one'.keys) (length l.other'.keys) same (rw (l.at_left, l.at_right) l.transfers.moves.sizes)
 
-      abbrev pub lent : Climbs cmp is_summary after rest above
-      lent = lent_climbs total is_summary now after path nid a c rest number i child e slot left right beside_so left_so right_so sides lender l least_so above sums
+      abbrev pub rotated : Climbs cmp is_summary after rest above
+      rotated = rotated_climbs total is_summary now after path nid a c rest number i child e slot left right beside_so left_so right_so sides giver l least_so above sums
 
-      pub lent_sinks : (new : Slots (Inner K A) (Leaf K V)) (top : A) → Risen lent.climb new top → Sunk c.climb new top
-      lent_sinks new top r = sunk_lent total is_summary now after path nid a c rest number i child e slot left right beside_so left_so right_so sides lender l least_so above sums new top r
+      pub rotated_sinks : (new : Slots (Inner K A) (Leaf K V)) (top : A) → Risen rotated.climb new top → Sunk c.climb new top
+      rotated_sinks new top r = sunk_rotated total is_summary now after path nid a c rest number i child e slot left right beside_so left_so right_so sides giver l least_so above sums new top r

@@ -1,4 +1,4 @@
--- A node and two neighbours under it are taken out of a store, changed, and put back.
+-- A parent and two of its children are taken out of a store, changed, and put back.
 use Rattle.std.proofs.Common.{◌≡◌, ℕ, inl, inr, sym, ap, ◌∙◌, Result, Ok, Err, IfOk}
 use Rattle.std.proofs.lemmas.Bool.{cases_eq}
 use Rattle.bptree_nodes.specs.Inner.{Inner}
@@ -60,7 +60,7 @@ module _ {K V A : Type 0} (old s1 s2 s3 s4 s5 : Slots (Inner K A) (Leaf K V)) (i
           | inr l ↦ elim (cases_eq n right.0) [ inl e ↦ (rw e (p3.leaf.changed ∙ sym at_right)) | inr r ↦ leaves_stay_then n l r ∙ leaves n l r ]
         ])
 
--- the same where the neighbours are inner nodes
+-- the same where the children are inner nodes
 module _ {K V A : Type 0} (old s1 s2 s3 s4 s5 : Slots (Inner K A) (Leaf K V)) (id left right : InnerNodeId) (node' one other one' : Inner K A) (apart : (left.0 ≡ right.0 → ⊥) × (left.0 ≡ id.0 → ⊥) × (right.0 ≡ id.0 → ⊥))
     (t1 : UpdatesInner old s1 id.0 Held) (v2 : s1.inner left.0 ≡ Present one) (t2 : UpdatesInner s1 s2 left.0 Held) (v3 : s2.inner right.0 ≡ Present other) (t3 : UpdatesInner s2 s3 right.0 Held)
     (p1 : UpdatesInner s3 s4 id.0 (Present node')) (p2 : UpdatesInner s4 s5 left.0 (Present one')) where
@@ -115,7 +115,7 @@ pub ok_so : {T E : Type 0} (r : Result T E) (P R : T → Type 0) → IfOk r P �
 ok_so (Ok x) P R given turns = turns x given
 ok_so (Err e) P R given turns = tt
 
--- a node and its left neighbour are taken out and put back, and the right one is put in anew
+-- a parent and the left child are taken out and put back, and the right one is put in anew
 pub leaf_put_back : {K V A : Type 0} (old s1 s2 s4 s5 s6 was : Slots (Inner K A) (Leaf K V)) (id : InnerNodeId) (left right : LeafNodeId) (node' : Inner K A) (one' : Leaf K V) (slot : Slot (Leaf K V)) → (left.0 ≡ right.0 → ⊥)
     → UpdatesInner old s1 id.0 Held → UpdatesLeaf s1 s2 left.0 Held → UpdatesInner s2 s4 id.0 (Present node') → UpdatesLeaf s4 s5 left.0 (Present one') → UpdatesLeaf s5 s6 right.0 slot
     → ((n : ℕ) → (n ≡ id.0 → ⊥) → old.inner n ≡ was.inner n) → ((n : ℕ) → (n ≡ left.0 → ⊥) → (n ≡ right.0 → ⊥) → old.leaf n ≡ was.leaf n)

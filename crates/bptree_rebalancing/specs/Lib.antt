@@ -1,5 +1,5 @@
-pub mod Help
-pub mod Mend
-pub mod Share
-pub mod Shared
+pub mod ChooseSibling
+pub mod Rebalance
+pub mod Transfer
+pub mod RotateMerge
 pub mod Trim

@@ -13,8 +13,8 @@ use Rattle.bptree_shape.specs.Edit.{Stays, Edits}
 use Rattle.bptree_shape.specs.Outcome.{Outcome, Done}
 use Rattle.bptree_shape.specs.Shape.{pairs_at, leaves_at, leaf_count, inner_count, stands, AreLinked, IsSummed, IsTree}
 
--- an edit was carried to a node that may be short of one key
-pub record ClimbsShort {K V A : Type 0} (cmp : K → K → Ordering) (is_summary : A → List K → Type 0) (now : Slots (Inner K A) (Leaf K V)) (path : List (InnerNodeId × ℕ × NodeId)) (id : InnerNodeId) (a : A) : Type 0 where
+-- an edit was carried to an inner node that may have underflowed
+pub record ClimbsUnderflow {K V A : Type 0} (cmp : K → K → Ordering) (is_summary : A → List K → Type 0) (now : Slots (Inner K A) (Leaf K V)) (path : List (InnerNodeId × ℕ × NodeId)) (id : InnerNodeId) (a : A) : Type 0 where
   pub climb : Climb cmp is_summary now path Done
   pub here : climb.id ≡ kind.Inner id
   pub enough : least_at climb.top path ≤ climb.kept + 1
@@ -26,8 +26,8 @@ pub record Sunk {K V A : Type 0} {cmp : K → K → Ordering} {is_summary : A �
   pub free : HeldAre c.held_inner c.held_leaf new
   pub told : is_summary a (keys_of (pairs_at new c.top c.root))
 
--- a pair was taken out of the leaf at the end of a path, which is short of one, and no number is held
-pub record ShortLeaf {K V A : Type 0} (cmp : K → K → Ordering) (is_summary : A → List K → Type 0) (now : Slots (Inner K A) (Leaf K V)) (path : List (InnerNodeId × ℕ × NodeId)) (id : InnerNodeId) (place : ℕ) : Type 0 where
+-- a pair was taken out of the leaf at the end of a path, which underflows by it, and no number is reserved
+pub record LeafUnderflow {K V A : Type 0} (cmp : K → K → Ordering) (is_summary : A → List K → Type 0) (now : Slots (Inner K A) (Leaf K V)) (path : List (InnerNodeId × ℕ × NodeId)) (id : InnerNodeId) (place : ℕ) : Type 0 where
   pub child : NodeId
   pub climb : Climb cmp is_summary now (path ++ (id, place, child) ∷ []) Done
   pub low : climb.height ≡ 0

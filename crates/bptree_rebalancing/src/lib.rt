@@ -1,7 +1,7 @@
-//! Nodes of a tree that are short: neighbours that lend and join, with what undoes each step.
+//! Underflow: siblings rotate or merge, and each step can be undone.
 #![tactic(auto)]
 
-pub mod mending;
-pub mod sharing;
-pub mod shortage;
+pub mod rotate_merge;
+pub mod siblings;
 pub mod statistics;
+pub mod underflow;

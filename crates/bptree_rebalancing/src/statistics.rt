@@ -1,12 +1,12 @@
-//! Counters of how a tree was mended.
+//! Counters of how a tree was rebalanced.
 
-use crate::sharing::Lender;
+use crate::rotate_merge::Sibling;
 
-/// How often nodes that were short of one were mended, since the tree was made or last cleared. A counter stops at the greatest
-/// number.
+/// How often nodes that underflowed were rebalanced, since the tree was made or last cleared. A counter stops at the
+/// greatest number.
 ///
-/// By a rotation to the right the node before lends one to the short node, and by one to the left the node behind it does. By
-/// a merge with the left the short node becomes one with the node before it, and by one with the right with the node behind.
+/// A rotation to the right takes one from the sibling before the node, and one to the left from the sibling behind it. A merge
+/// with the left is one with the sibling before the node, and a merge with the right one with the sibling behind it.
 #[derive(Clone, Debug, Default, Drop)]
 pub struct Statistic {
     pub rotate_right_inner: u64,
@@ -20,23 +20,23 @@ pub struct Statistic {
 }
 
 impl Statistic {
-    /// Counts a leaf that was mended: which of the two leaves lent, or else whether the short one was the right of the two
-    /// that became one.
-    pub fn count_leaf(&mut self, lender: Option<Lender>, is_right: bool) {
-        let counter = match lender {
-            Some(Lender::Left) => &mut self.rotate_right_leaf,
-            Some(Lender::Right) => &mut self.rotate_left_leaf,
+    /// Counts a leaf that was rebalanced: which sibling gave a pair, or else, for a merge, whether the leaf that underflowed was
+    /// the right one of the two.
+    pub fn count_leaf(&mut self, giver: Option<Sibling>, is_right: bool) {
+        let counter = match giver {
+            Some(Sibling::Left) => &mut self.rotate_right_leaf,
+            Some(Sibling::Right) => &mut self.rotate_left_leaf,
             None if is_right => &mut self.merge_with_left_leaf,
             None => &mut self.merge_with_right_leaf,
         };
         *counter = counter.saturating_add(1);
     }
 
-    /// Counts an inner node that was mended, in the same way.
-    pub fn count_inner(&mut self, lender: Option<Lender>, is_right: bool) {
-        let counter = match lender {
-            Some(Lender::Left) => &mut self.rotate_right_inner,
-            Some(Lender::Right) => &mut self.rotate_left_inner,
+    /// Counts an inner node that was rebalanced, in the same way.
+    pub fn count_inner(&mut self, giver: Option<Sibling>, is_right: bool) {
+        let counter = match giver {
+            Some(Sibling::Left) => &mut self.rotate_right_inner,
+            Some(Sibling::Right) => &mut self.rotate_left_inner,
             None if is_right => &mut self.merge_with_left_inner,
             None => &mut self.merge_with_right_inner,
         };

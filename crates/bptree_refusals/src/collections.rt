@@ -67,6 +67,14 @@ fn is_put_key<K: Sample>(
     }
 }
 
+// Whether a key that has left is that of a number.
+fn is_key<K: Sample>(gone: Option<K>, number: u64) -> bool {
+    match gone {
+        Some(key) => is_sample(&key, number),
+        None => false,
+    }
+}
+
 impl<K: Sample> Subject for BPlusTreeSet<K> {
     fn made(alloc: Global, many: u64) -> Result<BPlusTreeSet<K>, AllocError> {
         if many == 0 {
@@ -90,6 +98,8 @@ impl<K: Sample> Subject for BPlusTreeSet<K> {
                 self.clear()?;
                 Ok(self.is_empty())
             }
+            Call::Own(0) => Ok(is_key(self.pop_first()?, 0)),
+            Call::Own(1) => Ok(is_key(self.pop_last()?, 64)),
             _ => Ok(false),
         }
     }

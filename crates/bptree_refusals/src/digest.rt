@@ -207,15 +207,15 @@ where
     digest.value()
 }
 
-fn tell_statistic(mended: &Statistic, digest: &mut Digest) {
-    digest.add(mended.rotate_right_inner);
-    digest.add(mended.rotate_left_inner);
-    digest.add(mended.merge_with_left_inner);
-    digest.add(mended.merge_with_right_inner);
-    digest.add(mended.rotate_right_leaf);
-    digest.add(mended.rotate_left_leaf);
-    digest.add(mended.merge_with_left_leaf);
-    digest.add(mended.merge_with_right_leaf);
+fn tell_statistic(rebalanced: &Statistic, digest: &mut Digest) {
+    digest.add(rebalanced.rotate_right_inner);
+    digest.add(rebalanced.rotate_left_inner);
+    digest.add(rebalanced.merge_with_left_inner);
+    digest.add(rebalanced.merge_with_right_inner);
+    digest.add(rebalanced.rotate_right_leaf);
+    digest.add(rebalanced.rotate_left_leaf);
+    digest.add(rebalanced.merge_with_left_leaf);
+    digest.add(rebalanced.merge_with_right_leaf);
 }
 
 /// A tree's length, height, root, summary and statistic, and its store's nodes.

@@ -104,6 +104,9 @@ impl Key for Tallied {
 
 /// What can be made of pairs, and has so many then.
 pub trait Taken: Drop {
+    /// The number of the key at a place of those that are given: those below 100 come three times.
+    fn number_at(place: u64) -> u64;
+
     fn taken(alloc: Global, pairs: Vec<(Tallied, Tallied)>) -> Result<usize, AllocError>;
 }
 
@@ -112,6 +115,10 @@ pub trait Taken: Drop {
 pub struct LoadedTree<S>(PhantomData<S>);
 
 impl<S: NodeStore<K = Tallied, V = Tallied>> Taken for LoadedTree<S> {
+    fn number_at(place: u64) -> u64 {
+        place / 3
+    }
+
     fn taken(_alloc: Global, pairs: Vec<(Tallied, Tallied)>) -> Result<usize, AllocError> {
         if !in_load_order(&pairs) {
             return Ok(0);
@@ -121,7 +128,12 @@ impl<S: NodeStore<K = Tallied, V = Tallied>> Taken for LoadedTree<S> {
     }
 }
 
+// They come in three runs, so that they take memory as they are sorted.
 impl Taken for BPlusTreeMap<Tallied, Tallied> {
+    fn number_at(place: u64) -> u64 {
+        place % 100
+    }
+
     fn taken(alloc: Global, pairs: Vec<(Tallied, Tallied)>) -> Result<usize, AllocError> {
         let map: Self = BPlusTreeMap::from_iter(alloc, pairs)?;
         Ok(map.len())
@@ -130,6 +142,10 @@ impl Taken for BPlusTreeMap<Tallied, Tallied> {
 
 // The first value is a key again, and so equal to one that is there.
 impl Taken for BPlusTreeSet<Tallied> {
+    fn number_at(place: u64) -> u64 {
+        place % 100
+    }
+
     fn taken(alloc: Global, pairs: Vec<(Tallied, Tallied)>) -> Result<usize, AllocError> {
         let mut keys = Vec::new(alloc);
         let mut again = None;
@@ -149,12 +165,15 @@ impl Taken for BPlusTreeSet<Tallied> {
     }
 }
 
-// Pairs of the keys below 100, each of which comes three times.
-fn pairs_of(alloc: Global, tally: &Rc<Tally>) -> Result<Vec<(Tallied, Tallied)>, AllocError> {
+// 300 pairs, whose values are numbered by their places.
+fn pairs_of<T: Taken>(
+    alloc: Global,
+    tally: &Rc<Tally>,
+) -> Result<Vec<(Tallied, Tallied)>, AllocError> {
     let mut pairs = Vec::new(alloc);
-    for turn in 0..300 {
-        let key = tallied_of(tally, turn / 3)?;
-        let value = tallied_of(tally, turn)?;
+    for place in 0..300 {
+        let key = tallied_of(tally, T::number_at(place))?;
+        let value = tallied_of(tally, place)?;
         pairs.push((key, value))?;
     }
     Ok(pairs)
@@ -172,7 +191,7 @@ impl<T: Taken> Part for Dropped<T> {
             dropped: Cell::new(0),
         };
         let tally = Rc::new(alloc, tally)?;
-        let answer = match pairs_of(alloc, &tally) {
+        let answer = match pairs_of::<T>(alloc, &tally) {
             Ok(pairs) => T::taken(alloc, pairs),
             Err(_) => Err(AllocError),
         };

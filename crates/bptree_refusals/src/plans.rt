@@ -74,7 +74,9 @@ fn halved(turn: u64, is_cleared: bool) -> Option<Call> {
     match turn {
         0..=64 => Some(Call::Put(turn, turn, None)),
         65..=97 => Some(removed(turn.saturating_sub(49))),
-        98 if is_cleared => Some(Call::Clear),
+        98 if is_cleared => Some(Call::Own(0)),
+        99 if is_cleared => Some(Call::Own(1)),
+        100 if is_cleared => Some(Call::Clear),
         _ => None,
     }
 }
@@ -142,7 +144,7 @@ impl Plan {
             // 65 full nodes of 65 full leaves stand below a full root.
             b'b' if turn == 0 => Some(Call::Put(self.many, 0, None)),
             b'b' => high(turn, 1, 3),
-            // The last pair is removed, till a node above the leaves is mended.
+            // The last pair is removed, till a node above the leaves is rebalanced.
             b'e' if turn < self.last_turn() => Some(removed(self.many.saturating_sub(turn + 1))),
             b'e' => high(turn, self.last_turn(), 3),
             b'k' => own(turn, lists_of(self.many)),
@@ -264,7 +266,7 @@ const LARGER: [Row; 11] = [
     ),
     (
         (b'e', 1),
-        ("numbers, a loan, high", "groups, a loan, high"),
+        ("numbers, a rotation, high", "groups, a rotation, high"),
         (270_401, Some(1057), 269_341, 269_341),
     ),
     (

@@ -163,7 +163,8 @@ pub struct SetReadings<K: Sample> {
     gone: K,
 }
 
-// How many keys of two sets there are together, with those that one has alone, and how many the second hands over.
+// How many keys of two equal sets there are together, with those that one has alone and those that both have, and how many the
+// second hands over.
 fn counted<K: Sample>(one: &BPlusTreeSet<K>, other: BPlusTreeSet<K>) -> usize {
     let mut count: usize = 0;
     for _key in one.union(&other) {
@@ -171,6 +172,15 @@ fn counted<K: Sample>(one: &BPlusTreeSet<K>, other: BPlusTreeSet<K>) -> usize {
     }
     for _key in one.difference(&other) {
         count = count.saturating_add(1);
+    }
+    for _key in one.symmetric_difference(&other) {
+        count = count.saturating_add(1);
+    }
+    for _key in one.intersection(&other) {
+        count = count.saturating_add(1);
+    }
+    if !one.is_subset(&other) || !one.is_superset(&other) || one.is_disjoint(&other) {
+        return 0;
     }
     for _key in other {
         count = count.saturating_add(1);
@@ -206,6 +216,8 @@ impl<K: Sample> Subject for SetReadings<K> {
         match call {
             Call::Own(0) => Ok(
                 one.contains(here)
+                    && one.get(here) == Some(here)
+                    && one.get(gone).is_none()
                     && !one.contains(gone)
                     && one.first().is_some()
                     && one.last() == Some(here),
@@ -216,7 +228,7 @@ impl<K: Sample> Subject for SetReadings<K> {
             },
             Call::Own(2) => Ok(!one.remove(gone)?),
             _ => match other.take() {
-                Some(other) => Ok(counted(one, other) == one.len().saturating_mul(2)),
+                Some(other) => Ok(counted(one, other) == one.len().saturating_mul(3)),
                 None => Ok(false),
             },
         }

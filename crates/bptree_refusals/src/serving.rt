@@ -5,16 +5,30 @@ use std::io;
 use std::io::{Read, Write};
 use sweep_bptree::script::{ServeError, serve};
 
-/// Bytes that are read, as many as there is room for.
+// A line that puts, with its end.
+const LINE: usize = 11;
+
+/// Bytes that are read in pieces, which are counted: one of 48 lines that put, and then of 32 each.
 #[derive(Drop)]
-struct Source<'a>(&'a [u8]);
+struct Source<'a> {
+    bytes: &'a [u8],
+    pieces: usize,
+}
+
+impl<'a> Source<'a> {
+    fn of(bytes: &'a [u8]) -> Source<'a> {
+        Source { bytes, pieces: 0 }
+    }
+}
 
 impl Read for Source<'_> {
     fn read(&mut self, buf: &mut [u8]) -> io::Result<usize> {
-        let count = self.0.len().min(buf.len());
-        let (now, rest) = self.0.split_at(count);
+        let lines = if self.pieces == 0 { 48 } else { 32 };
+        let count = self.bytes.len().min(lines * LINE).min(buf.len());
+        let (now, rest) = self.bytes.split_at(count);
         buf[..count].copy_from_slice(now);
-        self.0 = rest;
+        self.bytes = rest;
+        self.pieces = self.pieces.wrapping_add(1);
         Ok(count)
     }
 }
@@ -58,22 +72,31 @@ const INPUT: &str =
 
 const OUTPUT: &str = "new\nnew\nold 20\nin 1\nout 2\n1 10\n2 21\ngone 10\n2 21\nbad\n";
 
-// Whether these are whole lines of the others, from the first on.
-fn begins(written: &[u8], output: &[u8]) -> bool {
-    output.starts_with(written) && (written.is_empty() || written.last() == Some(&b'\n'))
+// How many bytes answer the lines before the one that is refused, once so many pieces were read. Before the first one the tree is
+// made, and no line is answered. A leaf has room for 64 pairs, and where one more comes behind them 32 stay in it: so of pairs
+// that come in their order those at places 64, 96, 128 and so on take memory, which are one of each piece behind the first. Each
+// answer to a line that puts has 4 bytes.
+fn answered_before(pieces: usize) -> Option<usize> {
+    match pieces {
+        0 => Some(0),
+        1 => None,
+        _ => Some(pieces.wrapping_mul(32 * 4)),
+    }
 }
 
-// Whether an input is answered so, and where it is refused by the first lines of that.
+// Whether an input is answered so, and where it is refused up to the line at hand.
 fn answers(trial: &mut Trial, input: &[u8], output: &[u8]) -> bool {
+    let mut source = Source::of(input);
     let mut sink = Sink::new();
-    match serve(trial.allocator(), &mut Source(input), &mut sink) {
+    match serve(trial.allocator(), &mut source, &mut sink) {
         Ok(()) => sink.written() == output,
         Err(ServeError::Io) => false,
         Err(ServeError::OutOfMemory) => {
             trial.count();
             let mut again = Sink::new();
-            begins(sink.written(), output)
-                && serve(trial.allocator(), &mut Source(input), &mut again) == Ok(())
+            answered_before(source.pieces) == Some(sink.count)
+                && output.starts_with(sink.written())
+                && serve(trial.allocator(), &mut Source::of(input), &mut again) == Ok(())
                 && again.written() == output
         }
     }
@@ -102,7 +125,7 @@ pub fn many_lines(trial: &mut Trial) {
     let mut output = [b'\n'; 1200];
     for place in 0..300 {
         let line = put_line(place);
-        input[place * 11..place * 11 + 10].copy_from_slice(&line);
+        input[place * LINE..place * LINE + 10].copy_from_slice(&line);
         output[place * 4..place * 4 + 3].copy_from_slice(b"new");
     }
     trial.begin("lines that put");

@@ -3,7 +3,7 @@
 use crate::digest::NUMBERS;
 use sweep_bptree::tree::{BPlusTree, InnerNodeId, LeafNodeId, NodeStore};
 
-/// The height of a tree, the number of its nodes, and how often it was mended by rotations and by merges.
+/// The height of a tree, the number of its nodes, and how often it was rebalanced by rotations and by merges.
 #[derive(Clone, Copy)]
 pub struct Shape {
     height: usize,
@@ -28,23 +28,23 @@ pub fn shape_of<S: NodeStore>(tree: &BPlusTree<S>) -> Shape {
         leaves = leaves.saturating_add(is_leaf as usize);
         inners = inners.saturating_add(is_inner as usize);
     }
-    let mended = tree.statistic();
+    let rebalanced = tree.statistic();
     Shape {
         height: tree.height(),
         leaves,
         inners,
-        rotated_leaves: mended
+        rotated_leaves: rebalanced
             .rotate_right_leaf
-            .saturating_add(mended.rotate_left_leaf),
-        rotated_inners: mended
+            .saturating_add(rebalanced.rotate_left_leaf),
+        rotated_inners: rebalanced
             .rotate_right_inner
-            .saturating_add(mended.rotate_left_inner),
-        merged_leaves: mended
+            .saturating_add(rebalanced.rotate_left_inner),
+        merged_leaves: rebalanced
             .merge_with_left_leaf
-            .saturating_add(mended.merge_with_right_leaf),
-        merged_inners: mended
+            .saturating_add(rebalanced.merge_with_right_leaf),
+        merged_inners: rebalanced
             .merge_with_left_inner
-            .saturating_add(mended.merge_with_right_inner),
+            .saturating_add(rebalanced.merge_with_right_inner),
     }
 }
 

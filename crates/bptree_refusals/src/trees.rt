@@ -37,6 +37,42 @@ pub fn is_sample<K: Sample>(key: &K, number: u64) -> bool {
     word_of(key) == digest.value()
 }
 
+// Whether a pair that has left is that of a number, where it had that value, with its key as it was put; or none has left.
+fn is_entry<K: Sample>(gone: Option<(K, u64)>, number: u64, old: Option<u64>) -> bool {
+    match gone {
+        Some((key, value)) => is_sample(&key, number) && old == Some(value),
+        None => old.is_none(),
+    }
+}
+
+// Whether the last pair is that of a number.
+fn is_last<S: NodeStore>(tree: &BPlusTree<S>, number: u64) -> bool
+where
+    S::K: Sample,
+{
+    match tree.last() {
+        Some((key, _)) => is_sample(key, number),
+        None => false,
+    }
+}
+
+// The pair of a number leaves: by its key, by its key with the key that was stored, or from the end, in turn.
+fn leaves<S: NodeStore<V = u64>>(
+    tree: &mut BPlusTree<S>,
+    key: &S::K,
+    number: u64,
+    old: Option<u64>,
+) -> Result<bool, AllocError>
+where
+    S::K: Sample,
+{
+    match number % 3 {
+        0 => Ok(tree.remove(key)? == old),
+        1 if is_last(tree, number) => Ok(is_entry(tree.pop_last()?, number, old)),
+        _ => Ok(is_entry(tree.remove_entry(key)?, number, old)),
+    }
+}
+
 // How many keys there are on a cursor's way from one end to the other.
 fn steps<S: NodeStore>(tree: &BPlusTree<S>, from: End) -> Result<usize, AllocError> {
     let mut count: usize = 0;
@@ -123,14 +159,14 @@ where
             }
             Call::Remove(number, old) => {
                 let key = S::K::sample(alloc, number)?;
-                Ok(self.remove(&key)? == old)
+                leaves(self, &key, number, old)
             }
             Call::Lower(number) => {
                 if self.height() < 2 {
                     return Ok(true);
                 }
                 let key = S::K::sample(alloc, number)?;
-                Ok(self.remove(&key)? == Some(number))
+                leaves(self, &key, number, Some(number))
             }
             Call::Clear => {
                 self.clear()?;

@@ -1,6 +1,7 @@
+pub mod EndPaths
 pub mod Removals
 pub mod RemovedLeaf
-pub mod Settled
+pub mod ShrunkRoot
 pub mod Taken
 pub mod TakenOut
 pub mod Withdrawn

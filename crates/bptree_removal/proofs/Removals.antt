@@ -12,12 +12,12 @@ use Rattle.bptree_nodes.proofs.LeafContents.{value_at_place}
 use Rattle.bptree_nodes.specs.LeafResults.{HasEqualAt}
 use Rattle.bptree_shape.specs.Leaves.{IsLeafFor}
 use Rattle.bptree_shape.specs.Shape.{pairs_at, IsWellShaped}
-use Rattle.bptree_insertion.proofs.Upserted.{node_ascends, value_there}
+use Rattle.bptree_shape.proofs.LeafFor.{node_ascends, value_there}
 use Rattle.bptree_nodes.specs.Inner.{Inner}
 use Rattle.bptree_nodes.specs.Leaf.{Leaf}
 use Rattle.bptree_nodes.specs.Slot.{Slot, Slots, Present, UpdatesLeaf}
 use Rattle.bptree_keys.specs.declared.node_id.LeafNodeId.{LeafNodeId}
-use Rattle.bptree_rebalancing.proofs.Shares.{insert_removed}
+use Rattle.bptree_rebalancing.proofs.Transfers.{insert_removed}
 use Rattle.bptree_rebalancing.proofs.Triples.{slots_same}
 use Rattle.bptree_ascent.proofs.Undone.{same_node}
 

@@ -23,7 +23,7 @@ use Rattle.bptree_shape.specs.Outcome.{Done}
 use Rattle.bptree_shape.specs.Shape.{leaf_pairs, pairs_at}
 use Rattle.bptree_removal.specs.Removal.{IsThere, Leaves}
 use Rattle.bptree_ascent.proofs.Climbing.{not_held}
-use Rattle.bptree_insertion.proofs.Placed.{none_is}
+use Rattle.bptree_ascent.proofs.SlotFacts.{none_is}
 use Rattle.bptree_rebalancing.proofs.Loose.{loose_of}
 use Rattle.bptree_removal.proofs.RemovedLeaf.{del_is_local, leaf_removed}
 use Rattle.bptree_ascent.proofs.Rooted.{reach_of, whole_done}

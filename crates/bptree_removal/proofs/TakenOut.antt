@@ -1,4 +1,4 @@
--- What a leaf at the end of a path is once a pair was taken out of it: still long enough, or short of one.
+-- What a leaf at the end of a path is once a pair was taken out of it: still long enough, or underflowed.
 use Rattle.std.proofs.Common.{◌≡◌, ℕ, zero, suc, ◌+◌, ◌<◌, ◌≤◌, List, [], ◌∷◌, ◌++◌, length, false, true, refl, sym, subst, arith, Some, slice_get}
 use mathlib.Core.Bool.{true≢false}
 use Rattle.std.specs.declared.cmp.Ordering.{Ordering}
@@ -19,10 +19,10 @@ use Rattle.bptree_ascent.specs.Climb.{least_at, Climbs, Risen}
 use Rattle.bptree_ascent.specs.LeafChange.{SumsUpLeaf}
 use Rattle.bptree_shape.specs.Path.{Way}
 use Rattle.bptree_shape.specs.Shape.{leaf_pairs}
-use Rattle.bptree_rebalancing.specs.Trim.{ShortLeaf, Trims}
+use Rattle.bptree_rebalancing.specs.Trim.{LeafUnderflow, Trims}
 use Rattle.bptree_removal.specs.Removal.{IsThere, Leaves}
 use Rattle.bptree_ascent.proofs.Climbing.{least_some}
-use Rattle.bptree_insertion.proofs.Placed.{node_of}
+use Rattle.bptree_ascent.proofs.SlotFacts.{node_of}
 use Rattle.bptree_rebalancing.proofs.Seated.{seat_of}
 use Rattle.bptree_removal.proofs.Taken as taken
 use Rattle.bptree_shape.proofs.ListReads.{read_below}
@@ -39,7 +39,7 @@ least_spare cmp slots k (x ∷ path) top root id n way spare = omega (arith, spa
 at_most : (n m : ℕ) → (m < n → ⊥) → n ≤ m
 at_most n m none = omega (arith, none)
 
--- a leaf that can lend no pair is one with few
+-- a leaf that can give no pair is one with few
 pub few_of : {K V : Type 0} (place : Slot (Leaf K V)) (node : Leaf K V) → place ≡ Present node → (16 < length node.pairs → false ≡ true) → length (leaf_pairs place) ≤ 16
 few_of place node is none = rw is (at_most (length node.pairs) 16 (λ some. true≢false (sym (none some))))
 
@@ -121,7 +121,7 @@ module _ {K V A : Type 0} {cmp : K → K → Ordering} (total : IsTotalOrder cmp
           → Risen (climbs_in_place a some none).climb new top → Leaves cmp is_summary old new there.top there.root leaf slot k pair top
       leaves_in_place a some none new top r = taken.leaves_taken total is_summary old path leaf slot k there node here pair read_here mid takes_here (least_at there.top path) stays new top r
 
--- the leaf is short of one
+-- the leaf underflows
 module _ {K V A : Type 0} {cmp : K → K → Ordering} (total : IsTotalOrder cmp) (is_summary : A → List K → Type 0) (old : Slots (Inner K A) (Leaf K V)) (rest : List (InnerNodeId × ℕ × NodeId)) (id : InnerNodeId) (place : ℕ) (child : NodeId) (leaf : LeafNodeId) (slot : ℕ) (k : K)
     (there : IsThere cmp is_summary old (rest ++ (id, place, child) ∷ []) leaf slot k) (pair : K × V) (read : slice_get (leaf_pairs (old.leaf leaf.0)) slot ≡ Some pair)
     (mid : Slots (Inner K A) (Leaf K V)) (takes : (was : Leaf K V) → old.leaf leaf.0 ≡ Present was → UpdatesLeaf old mid leaf.0 (Present (record was { pairs = remove was.pairs slot }))) (low : length (leaf_pairs (old.leaf leaf.0)) ≤ 16) where
@@ -154,7 +154,7 @@ module _ {K V A : Type 0} {cmp : K → K → Ordering} (total : IsTotalOrder cmp
   pub left : 15 ≤ length (remove short_node.pairs slot)
   left = omega (arith, fifteen)
 
-  abbrev pub short_leaf : ShortLeaf cmp is_summary mid rest id place
+  abbrev pub short_leaf : LeafUnderflow cmp is_summary mid rest id place
   short_leaf = record {
     child = child;
     climb = taken.climb_taken total is_summary old path leaf slot k there short_node was_node pair was_pair mid took 15 left;

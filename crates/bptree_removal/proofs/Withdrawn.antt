@@ -15,14 +15,14 @@ use Rattle.bptree_nodes.specs.Slot.{Slots}
 use Rattle.bptree_keys.specs.declared.node_id.InnerNodeId.{InnerNodeId}
 use Rattle.bptree_keys.specs.declared.node_id.LeafNodeId.{LeafNodeId}
 use Rattle.bptree_keys.specs.declared.node_id.NodeId.{NodeId}
-use Rattle.bptree_ways.specs.ByArgument.{IsSelectedAt, IsWithdrawn, GoesOn}
+use Rattle.bptree_descents.specs.ByArgument.{IsSelectedAt, IsWithdrawn, GoesOn}
 use Rattle.bptree_shape.specs.Leaves.{pairs_of}
 use Rattle.bptree_shape.specs.Shape.{leaf_pairs, pairs_at, root_least, IsWellShaped}
 use Rattle.bptree_removal.specs.Removal.{IsThere, Leaves}
 use Rattle.bptree_shape.proofs.Ordered.{by_cases}
 use Rattle.bptree_shape.proofs.Walk.{tree_ascends}
 use Rattle.bptree_shape.proofs.ListReads.{read_some}
-use Rattle.bptree_ways.proofs.Selected.{place_read}
+use Rattle.bptree_descents.proofs.Selected.{place_read}
 
 -- a key equals itself
 pub alike : {K : Type 0} {cmp : K → K → Ordering} → IsTotalOrder cmp → (k : K) → cmp k k ≡ Equal
@@ -54,14 +54,14 @@ module _ {K V A : Type 0} {cmp : K → K → Ordering} (total : IsTotalOrder cmp
     -- and its pair left the whole
     pub withdrawn : (mid new : Slots (Inner K A) (Leaf K V)) (pair : K × V) (a : A) (top : NodeId) (top_height : ℕ) → Leaves cmp is_summary slots mid h root leaf slot found_pair.0.0 pair a → IsWellShaped cmp is_summary new top_height top → pairs_at new top_height top ≡ pairs_at mid h root
         → IsWithdrawn selects query cmp is_summary slots new h root pair top top_height a
-    withdrawn mid new pair a top top_height leaves settled same =
+    withdrawn mid new pair a top top_height leaves shrunk_root same =
         let place = length (pairs_of slots selected.0.before) + slot in
         let sorted = tree_ascends total slots (root_least h) h root None None shape.tree in
         record {
           place = place;
           was = place_read slots h root leaf selected.0 slot pair leaves.pair_was;
           selected = selected.2;
-          shape = settled;
+          shape = shrunk_root;
           pairs = same ∙ (leaves.pairs ∙ sym (deleted_at total (pairs_at slots h root) place found_pair.0 sorted (place_read slots h root leaf selected.0 slot found_pair.0 found_pair.1)));
           told = subst (λ l. is_summary a (keys_of l)) (sym same) leaves.told;
         }

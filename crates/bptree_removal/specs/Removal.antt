@@ -1,6 +1,7 @@
 -- A pair that leaves a whole tree.
-use Rattle.std.specs.Prelude.{◌≡◌, ℕ, ◌<◌, ◌^◌, List, length, Some, slice_get}
+use Rattle.std.specs.Prelude.{◌≡◌, ℕ, ◌<◌, ◌^◌, List, length, Some, slice_get, remove}
 use Rattle.std.specs.declared.cmp.Ordering.{Ordering}
+use Rattle.std.specs.declared.cmp.Ordering.TheVariants.{Equal}
 use Rattle.std.specs.Map.{keys_of}
 use Rattle.bptree_keys.specs.Contents.{value, del}
 use Rattle.bptree_nodes.specs.Inner.{Inner}
@@ -12,6 +13,7 @@ use Rattle.bptree_keys.specs.declared.node_id.LeafNodeId.{LeafNodeId}
 use Rattle.bptree_keys.specs.declared.node_id.NodeId.{NodeId}
 use Rattle.bptree_keys.specs.declared.node_id.NodeId.TheVariants as kind
 use Rattle.bptree_shape.specs.Path.{Way}
+use Rattle.bptree_descents.specs.ByArgument.{GoesOn}
 use Rattle.bptree_shape.specs.Shape.{leaf_pairs, pairs_at, IsWellShaped}
 use Rattle.bptree_rebalancing.specs.Trim.{IsLoose}
 
@@ -37,3 +39,33 @@ pub record IsRemoved {K V A : Type 0} (cmp : K → K → Ordering) (is_summary :
   pub shape : IsWellShaped cmp is_summary new top_height top
   pub pairs : pairs_at new top_height top ≡ del cmp (pairs_at old height root) k
   pub told : is_summary a (keys_of (pairs_at new top_height top))
+
+-- the same of the root and the height that a call names
+pub record IsFound {K V A : Type 0} (cmp : K → K → Ordering) (is_summary : A → List K → Type 0) (slots : Slots (Inner K A) (Leaf K V)) (height : ℕ) (root : NodeId) (path : List (InnerNodeId × ℕ × NodeId)) (leaf : LeafNodeId) (slot : ℕ) (k : K) : Type 0 where
+  pub shape : IsWellShaped cmp is_summary slots height root
+  pub few : length (pairs_at slots height root) < 2 ^ 64
+  pub way : Way cmp slots k height root path 0 (kind.Leaf leaf)
+  pub found : HasEqualAt cmp (leaf_pairs (slots.leaf leaf.0)) k slot
+
+-- the pair at a slot of a leaf left a whole tree by its key, and the tree that a root and a height then name is well shaped
+pub record IsTakenFrom {K V A : Type 0} (cmp : K → K → Ordering) (is_summary : A → List K → Type 0) (old new : Slots (Inner K A) (Leaf K V)) (height : ℕ) (root : NodeId) (leaf : LeafNodeId) (slot : ℕ) (k : K) (pair : K × V) (top : NodeId) (top_height : ℕ) (a : A) : Type 0 where
+  pub pair_was : slice_get (leaf_pairs (old.leaf leaf.0)) slot ≡ Some pair
+  pub shape : IsWellShaped cmp is_summary new top_height top
+  pub pairs : pairs_at new top_height top ≡ del cmp (pairs_at old height root) k
+  pub told : is_summary a (keys_of (pairs_at new top_height top))
+
+-- the pair at a place left a whole tree
+pub record IsTakenAt {K V A : Type 0} (cmp : K → K → Ordering) (is_summary : A → List K → Type 0) (old new : Slots (Inner K A) (Leaf K V)) (height : ℕ) (root : NodeId) (place : ℕ) (pair : K × V) (top : NodeId) (top_height : ℕ) (a : A) : Type 0 where
+  pub was : slice_get (pairs_at old height root) place ≡ Some pair
+  pub shape : IsWellShaped cmp is_summary new top_height top
+  pub pairs : pairs_at new top_height top ≡ remove (pairs_at old height root) place
+  pub told : is_summary a (keys_of (pairs_at new top_height top))
+
+-- the pair whose key equals k left it, with the key that stood there
+abbrev pub IsEntryTaken : {K V A : Type 0} → (K → K → Ordering) → (A → List K → Type 0) → Slots (Inner K A) (Leaf K V) → Slots (Inner K A) (Leaf K V) → ℕ → NodeId → K → K × V → NodeId → ℕ → A → Type 0
+IsEntryTaken cmp is_summary old new height root k pair top top_height a =
+    (place : ℕ) × (cmp pair.0 k ≡ Equal) × IsTakenAt cmp is_summary old new height root place pair top top_height a
+
+-- a search for any key of a leaf, come to a node by a path, goes on from there to the leaf by a longer one
+abbrev pub LeadsOn : {K V A : Type 0} → (K → K → Ordering) → Slots (Inner K A) (Leaf K V) → ℕ → NodeId → List (InnerNodeId × ℕ × NodeId) → List (InnerNodeId × ℕ × NodeId) → LeafNodeId → Type 0
+LeadsOn cmp slots height id path longer leaf = (slot : ℕ) → GoesOn cmp slots height id path longer (Some (leaf, slot))

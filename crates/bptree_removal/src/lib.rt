@@ -1,4 +1,5 @@
 //! Removal from a tree that stands in a store.
 #![tactic(auto)]
 
+pub mod ends;
 pub mod removal;

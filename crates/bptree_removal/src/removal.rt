@@ -1,29 +1,30 @@
 //! Removal from a tree that stands in a store.
-ghost use Rattle.std.specs.Prelude.{◌≡◌, ◌<◌, ◌≤◌, ◌^◌, false, IfOk, OnErr, Some, length, slice_get, remove, MatchOption, [], Ok, None};
+ghost use Rattle.std.specs.Prelude.{◌≡◌, ◌-◌, ◌<◌, ◌≤◌, ◌^◌, false, IfOk, OnErr, Some, length, slice_get, remove, MatchOption, [], Ok, None};
 ghost use Rattle.std.specs.Map.{keys_of};
 ghost use Rattle.bptree_keys.specs.Contents.{has};
 ghost use Rattle.bptree_nodes.specs.Inner.{Inner};
 ghost use Rattle.bptree_nodes.specs.Leaf.{Leaf};
 ghost use Rattle.bptree_nodes.specs.Slot.{Slots, Present, IsPresent, UpdatesLeaf};
-ghost use Rattle.bptree_ways.specs.ByArgument.{IsWithdrawn};
+ghost use Rattle.bptree_descents.specs.ByArgument.{IsWithdrawn};
 ghost use Rattle.bptree_ascent.specs.LeafChange.{SumsUpLeaf};
 ghost use Rattle.bptree_shape.specs.Shape.{leaf_pairs, pairs_at, IsWellShaped};
-ghost use Rattle.bptree_rebalancing.specs.Trim.{ShortLeaf, IsLoose, Trims};
-ghost use Rattle.bptree_removal.specs.Removal.{IsThere, Leaves, IsRemoved};
+ghost use Rattle.bptree_rebalancing.specs.Trim.{LeafUnderflow, IsLoose, Trims};
+ghost use Rattle.bptree_removal.specs.Removal.{IsThere, IsFound, Leaves, IsRemoved, IsTakenFrom, IsTakenAt, IsEntryTaken};
 
+use crate::ends::{first_path, last_path};
 use bptree_arguments::argument::{Argument, SearchArgument};
 use bptree_ascent::ascent::ascend;
-use bptree_insertion::insertion::mend;
+use bptree_ascent::links::relink_next;
+use bptree_descents::by_argument::find_path_by_argument;
 use bptree_keys::entry_ref::VisitStack;
 use bptree_keys::node_id::{InnerNodeId, LeafNodeId, NodeId};
-use bptree_rebalancing::mending::{
-    join_leaves_at, lend_leaves_at, part_leaves_at, unlend_leaves_at,
+use bptree_rebalancing::siblings::{
+    merge_leaves_at, rotate_leaves_at, undo_merge_leaves_at, undo_rotate_leaves_at,
 };
-use bptree_rebalancing::shortage::{ascend_short, leaf_helper, leaves_at};
 use bptree_rebalancing::statistics::Statistic;
+use bptree_rebalancing::underflow::{ascend_underflow, leaf_sibling, leaves_at};
 use bptree_shape::descent::find_path;
 use bptree_stores::node_stores::NodeStore;
-use bptree_ways::by_argument::find_path_by_argument;
 use std::alloc::AllocError;
 
 /// A value, or a pair, that left a tree, with the root, the height, and a summary of all keys.
@@ -35,31 +36,31 @@ pub struct Removed<V, A> {
     pub summary: A,
 }
 
-// Mends a leaf that is short of one pair, at a place of a node: a neighbour lends it one, or the two become one. It answers
-// a summary of all keys.
-fn mend_leaf<S: NodeStore>(
+// Rebalances a leaf that underflowed, at a place of a node: it rotates a pair or merges with its sibling. It answers a summary
+// of all keys.
+fn rebalance_leaf<S: NodeStore>(
     store: &mut S,
     path: &mut VisitStack,
     id: InnerNodeId,
     place: usize,
     statistic: &mut Statistic,
 ) -> Result<S::Argument, AllocError>
-    requires { ShortLeaf S.K.cmp S.Argument.is_summary (S.slots store.old) path.old id place }
-    ensures trims { (c : ShortLeaf S.K.cmp S.Argument.is_summary (S.slots store.old) path.old id place) → IfOk result (λ top. Trims c.climb (S.slots store.new) top) }
+    requires { LeafUnderflow S.K.cmp S.Argument.is_summary (S.slots store.old) path.old id place }
+    ensures trims { (c : LeafUnderflow S.K.cmp S.Argument.is_summary (S.slots store.old) path.old id place) → IfOk result (λ top. Trims c.climb (S.slots store.new) top) }
     ensures refused { OnErr result (S.slots store.new ≡ S.slots store.old) }
 {
-    let (slot, lender) = leaf_helper(store, id, place);
+    let (slot, giver) = leaf_sibling(store, id, place);
     let (left, right) = leaves_at(store, id, slot);
-    match lender {
-        Some(lender) => {
-            let (above, joint) = lend_leaves_at(store, id, slot, lender, left, right)?;
+    match giver {
+        Some(giver) => {
+            let (above, joint) = rotate_leaves_at(store, id, slot, giver, left, right)?;
             match ascend(store, path, above) {
                 Ok(top) => {
-                    statistic.count_leaf(Some(lender), false);
+                    statistic.count_leaf(Some(giver), false);
                     Ok(top)
                 }
                 Err(_) => {
-                    unlend_leaves_at(store, id, slot, lender, joint, left, right);
+                    undo_rotate_leaves_at(store, id, slot, giver, joint, left, right);
                     Err(AllocError)
                 }
             }
@@ -67,16 +68,16 @@ fn mend_leaf<S: NodeStore>(
         None => {
             let kept = store.get_leaf(left).len();
             let next = store.get_leaf(right).next();
-            let (above, joint, emptied) = join_leaves_at(store, id, slot, left, right)?;
-            match ascend_short(store, path, id, above, statistic) {
+            let (above, joint, emptied) = merge_leaves_at(store, id, slot, left, right)?;
+            match ascend_underflow(store, path, id, above, statistic) {
                 Ok(top) => {
                     store.release_leaf(right);
-                    mend(store, left, next);
+                    relink_next(store, left, next);
                     statistic.count_leaf(None, slot < place);
                     Ok(top)
                 }
                 Err(refusal) => {
-                    part_leaves_at(store, id, slot, joint, left, kept, right, emptied);
+                    undo_merge_leaves_at(store, id, slot, joint, left, kept, right, emptied);
                     Err(refusal)
                 }
             }
@@ -164,7 +165,7 @@ pub fn take_out<S: NodeStore>(
         return take_in_place(store, path, leaf, slot);
     };
     let pair = take_pair(store, leaf, slot);
-    match mend_leaf(store, path, id, place, statistic) {
+    match rebalance_leaf(store, path, id, place, statistic) {
         Ok(top) => Ok((pair, top)),
         Err(refusal) => {
             put_pair(store, leaf, slot, pair);
@@ -174,7 +175,7 @@ pub fn take_out<S: NodeStore>(
 }
 
 // A root without a key gives way to its only child. It takes no memory.
-fn settle<S: NodeStore>(store: &mut S, root: NodeId, height: usize) -> (NodeId, usize)
+fn shrink_root<S: NodeStore>(store: &mut S, root: NodeId, height: usize) -> (NodeId, usize)
     requires { IsLoose S.K.cmp S.Argument.is_summary (S.slots store.old) height root }
     ensures shape { IsWellShaped S.K.cmp S.Argument.is_summary (S.slots store.new) result.1 result.0 }
     ensures pairs { pairs_at (S.slots store.new) result.1 result.0 ≡ pairs_at (S.slots store.old) height root }
@@ -192,8 +193,60 @@ fn settle<S: NodeStore>(store: &mut S, root: NodeId, height: usize) -> (NodeId, 
     (child, height - 1)
 }
 
-/// Removes the pair with a key equal to `k` from a whole tree, where there is one. It takes no memory where there is none;
-/// a refusal changes no slot. What the path held before plays no part: it is lent, so that none need be made.
+// Takes the pair at a slot of the leaf at the end of a path out of a whole tree, and settles the root.
+fn take_whole<S: NodeStore>(
+    store: &mut S,
+    path: &mut VisitStack,
+    root: NodeId,
+    height: usize,
+    leaf: LeafNodeId,
+    slot: usize,
+    statistic: &mut Statistic,
+) -> Result<Removed<(S::K, S::V), S::Argument>, AllocError>
+    requires { (k : S.K) × IsFound S.K.cmp S.Argument.is_summary (S.slots store.old) height root path.old leaf slot k }
+    ensures taken { (k : S.K) → IsFound S.K.cmp S.Argument.is_summary (S.slots store.old) height root path.old leaf slot k → IfOk result (λ r. IsTakenFrom S.K.cmp S.Argument.is_summary (S.slots store.old) (S.slots store.new) height root leaf slot k r.value r.root r.height r.summary) }
+    ensures refused { OnErr result (S.slots store.new ≡ S.slots store.old) }
+{
+    let (value, summary) = take_out(store, path, leaf, slot, statistic)?;
+    let (root, height) = shrink_root(store, root, height);
+    Ok(Removed {
+        value,
+        root,
+        height,
+        summary,
+    })
+}
+
+/// Removes the pair with a key equal to `k` from a whole tree, where there is one, and hands it out with the key that stood
+/// there. It takes no memory where there is none; a refusal changes no slot. What the path held before plays no part: it is
+/// rotated, so that none need be made.
+pub fn remove_entry<S: NodeStore>(
+    store: &mut S,
+    path: &mut VisitStack,
+    root: NodeId,
+    height: usize,
+    k: &S::K,
+    statistic: &mut Statistic,
+) -> Result<Option<Removed<(S::K, S::V), S::Argument>>, AllocError>
+    requires shape { IsWellShaped S.K.cmp S.Argument.is_summary (S.slots store.old) height root }
+    requires few { length (pairs_at (S.slots store.old) height root) < 2 ^ 64 }
+    ensures removed { IfOk result (λ gone. MatchOption gone ((S.slots store.new ≡ S.slots store.old) × (has S.K.cmp (pairs_at (S.slots store.old) height root) k.now ≡ false)) (λ r. IsEntryTaken S.K.cmp S.Argument.is_summary (S.slots store.old) (S.slots store.new) height root k.now r.value r.root r.height r.summary)) }
+    ensures absent { has S.K.cmp (pairs_at (S.slots store.old) height root) k.now ≡ false → result ≡ Ok None }
+    ensures refused { OnErr result (S.slots store.new ≡ S.slots store.old) }
+{
+    path.clear();
+    let leaf = find_path(store, root, height, k, path);
+    let found = store.get_leaf(leaf).locate_slot(k);
+    match found {
+        Ok(slot) => {
+            let gone = take_whole(store, path, root, height, leaf, slot, statistic)?;
+            Ok(Some(gone))
+        }
+        Err(_) => Ok(None),
+    }
+}
+
+/// The same as `remove_entry`, with the value alone: the key that stood there is dropped.
 pub fn remove<S: NodeStore>(
     store: &mut S,
     path: &mut VisitStack,
@@ -208,14 +261,16 @@ pub fn remove<S: NodeStore>(
     ensures absent { has S.K.cmp (pairs_at (S.slots store.old) height root) k.now ≡ false → result ≡ Ok None }
     ensures refused { OnErr result (S.slots store.new ≡ S.slots store.old) }
 {
-    path.clear();
-    let leaf = find_path(store, root, height, k, path);
-    let found = store.get_leaf(leaf).locate_slot(k);
-    match found {
-        Ok(slot) => {
-            let (pair, summary) = take_out(store, path, leaf, slot, statistic)?;
+    match remove_entry(store, path, root, height, k, statistic)? {
+        None => Ok(None),
+        Some(gone) => {
+            let Removed {
+                value: pair,
+                root,
+                height,
+                summary,
+            } = gone;
             let (_, value) = pair;
-            let (root, height) = settle(store, root, height);
             Ok(Some(Removed {
                 value,
                 root,
@@ -223,8 +278,55 @@ pub fn remove<S: NodeStore>(
                 summary,
             }))
         }
-        Err(_) => Ok(None),
     }
+}
+
+/// Removes the pair with the least key from a whole tree, where there is one, and hands it out. No key is compared or cloned on
+/// the way down. It takes no memory where there is none; a refusal changes no slot. The path is rotated as to `remove_entry`.
+pub fn remove_first<S: NodeStore>(
+    store: &mut S,
+    path: &mut VisitStack,
+    root: NodeId,
+    height: usize,
+    statistic: &mut Statistic,
+) -> Result<Option<Removed<(S::K, S::V), S::Argument>>, AllocError>
+    requires shape { IsWellShaped S.K.cmp S.Argument.is_summary (S.slots store.old) height root }
+    requires few { length (pairs_at (S.slots store.old) height root) < 2 ^ 64 }
+    ensures removed { IfOk result (λ gone. MatchOption gone ((S.slots store.new ≡ S.slots store.old) × (pairs_at (S.slots store.old) height root ≡ [])) (λ r. IsTakenAt S.K.cmp S.Argument.is_summary (S.slots store.old) (S.slots store.new) height root 0 r.value r.root r.height r.summary)) }
+    ensures empty { pairs_at (S.slots store.old) height root ≡ [] → result ≡ Ok None }
+    ensures refused { OnErr result (S.slots store.new ≡ S.slots store.old) }
+{
+    path.clear();
+    let leaf = first_path(store, root, height, path);
+    if store.get_leaf(leaf).len() == 0 {
+        return Ok(None);
+    }
+    let gone = take_whole(store, path, root, height, leaf, 0, statistic)?;
+    Ok(Some(gone))
+}
+
+/// The same of the pair with the greatest key.
+pub fn remove_last<S: NodeStore>(
+    store: &mut S,
+    path: &mut VisitStack,
+    root: NodeId,
+    height: usize,
+    statistic: &mut Statistic,
+) -> Result<Option<Removed<(S::K, S::V), S::Argument>>, AllocError>
+    requires shape { IsWellShaped S.K.cmp S.Argument.is_summary (S.slots store.old) height root }
+    requires few { length (pairs_at (S.slots store.old) height root) < 2 ^ 64 }
+    ensures removed { IfOk result (λ gone. MatchOption gone ((S.slots store.new ≡ S.slots store.old) × (pairs_at (S.slots store.old) height root ≡ [])) (λ r. IsTakenAt S.K.cmp S.Argument.is_summary (S.slots store.old) (S.slots store.new) height root (length (pairs_at (S.slots store.old) height root) - 1) r.value r.root r.height r.summary)) }
+    ensures empty { pairs_at (S.slots store.old) height root ≡ [] → result ≡ Ok None }
+    ensures refused { OnErr result (S.slots store.new ≡ S.slots store.old) }
+{
+    path.clear();
+    let leaf = last_path(store, root, height, path);
+    let len = store.get_leaf(leaf).len();
+    if len == 0 {
+        return Ok(None);
+    }
+    let gone = take_whole(store, path, root, height, leaf, len - 1, statistic)?;
+    Ok(Some(gone))
 }
 
 /// Removes the pair at a place that is allowed for the query from a whole tree, where one is found; a refusal changes no
@@ -249,7 +351,7 @@ where
         None => Ok(None),
         Some((leaf, slot)) => {
             let (value, summary) = take_out(store, path, leaf, slot, statistic)?;
-            let (root, height) = settle(store, root, height);
+            let (root, height) = shrink_root(store, root, height);
             Ok(Some(Removed {
                 value,
                 root,

@@ -8,7 +8,7 @@ use Rattle.std.specs.declared.cmp.Ordering.TheVariants.{Equal}
 use Rattle.std.proofs.lemmas.Map.Entries.{length-keys_of}
 use Rattle.std.proofs.lemmas.Option.{slice_get_past}
 use Rattle.bptree_arguments.specs.CountLaws.{SelectsPlace}
-use Rattle.bptree_ways.specs.ByArgument.{IsSelected}
+use Rattle.bptree_descents.specs.ByArgument.{IsSelected}
 use Rattle.bptree_tree.specs.Cursor.{cursor_key, StandsAt}
 use Rattle.bptree_tree.specs.declared.cursor.Cursor.{Cursor}
 

@@ -8,7 +8,7 @@ use Rattle.bptree_arguments.specs.Selection.{IsPlaceIn}
 use Rattle.bptree_keys.specs.Contents.{has, value, put, del, next, previous}
 use Rattle.bptree_keys.specs.Ranges.{between}
 use Rattle.bptree_nodes.specs.Leaf.{set_value_at}
-use Rattle.bptree_ways.specs.ByArgument.{IsPartSelected, IsSelected, IsTaken}
+use Rattle.bptree_descents.specs.ByArgument.{IsPartSelected, IsSelected, IsTaken}
 use Rattle.bptree_ascent.specs.Lending.{written}
 use Rattle.bptree_tree.specs.declared.InsertError as insert_error
 use Rattle.bptree_tree.specs.declared.InsertError.TheVariants as refusal

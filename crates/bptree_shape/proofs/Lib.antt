@@ -4,6 +4,7 @@ pub mod Down
 pub mod Ends
 pub mod Frame
 pub mod Hinted
+pub mod LeafFor
 pub mod ListReads
 pub mod NodePieces
 pub mod Ordered

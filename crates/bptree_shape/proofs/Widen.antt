@@ -1,11 +1,15 @@
 -- One level of an edit: from a child of an inner node to the node.
-use Rattle.std.proofs.Common.{◌≡◌, ℕ, zero, suc, ◌+◌, ◌<◌, ◌≤◌, cond, List, [], ◌∷◌, ◌++◌, length, map, get_or, take, drop, refl, sym, ap, subst, ◌∙◌, arith, Option, Some, eqb, append_assoc, slice_get, slice_set}
+use Rattle.std.proofs.Common.{◌≡◌, ℕ, zero, suc, ◌+◌, ◌<◌, ◌≤◌, ◌^◌, cond, List, [], ◌∷◌, ◌++◌, length, map, get_or, take, drop, refl, sym, ap, subst, ◌∙◌, arith, Option, Some, eqb, append_assoc, slice_get, slice_set}
 use Rattle.std.specs.declared.cmp.Ordering.{Ordering}
 use Rattle.std.specs.Cmp.{IsTotalOrder}
 use Rattle.std.specs.List.{AllByRecursion, AllZip, insert}
+use Rattle.std.specs.List.Sorted.{IsStrictlySortedBy}
 use Rattle.std.specs.Map.{keys_of}
 use Rattle.std.proofs.lemmas.Bool.{eq-eqb}
+use Rattle.std.proofs.lemmas.List.{length-map, map-append}
 use Rattle.std.proofs.lemmas.Option.{get_or_from_slice_get}
+use Rattle.bptree_arguments.specs.Replaced.{SumsUpReplaced}
+use Rattle.bptree_keys.specs.Contents.{IsAscending}
 use Rattle.bptree_nodes.specs.Inner.{Inner}
 use Rattle.bptree_nodes.specs.Leaf.{Leaf}
 use Rattle.bptree_nodes.specs.Slot.{Slot, Slots, Present}
@@ -320,3 +324,28 @@ module _ {K V A : Type 0} {cmp : K → K → Ordering} (total' : IsTotalOrder cm
       zip_around_two is_summary (λ c. keys_of (pairs_at old m c)) (λ c. keys_of (pairs_at new m c)) node.arguments node.children i child right l r place zip
       (but_so _ _ (λ c s. ap keys_of s.pairs) node.children i (rest (Split s right) (at_there (Split s right) at)))
       (subst (λ c. is_summary l (keys_of (pairs_at new m c))) (sym here) left_told) right_told
+
+  abbrev front : List (K × V)
+  front = flat (pairs_at old m) (take i node.children)
+
+  abbrev behind : List (K × V)
+  behind = flat (pairs_at old m) (drop (suc i) node.children)
+
+  keys_around : (l : List (K × V)) → keys_of (front ++ (l ++ behind)) ≡ keys_of front ++ (keys_of l ++ keys_of behind)
+  keys_around l = map-append (λ (p : K × V). p.0) front (l ++ behind) ∙ ap (λ rest. keys_of front ++ rest) (map-append (λ (p : K × V). p.0) l behind)
+
+  -- a summary of the node's keys after the edit, by the node's old one and by the child's two
+  pub replaced_around : At child Done → (whole was a b : A) → is_summary whole (keys_of (flat (pairs_at old m) node.children)) → is_summary was (keys_of (pairs_at old m child)) → is_summary a (keys_of (pairs_at new m child))
+      → IsAscending cmp (edit (flat (pairs_at old m) node.children)) → length (edit (flat (pairs_at old m) node.children)) < 2 ^ 64 → SumsUpReplaced is_summary cmp whole was a b
+      → is_summary b (keys_of (edit (flat (pairs_at old m) node.children)))
+  replaced_around at whole was a b told_whole told_was told_new ascends few replaced =
+      let old_is : flat (pairs_at old m) node.children ≡ front ++ (pairs_at old m child ++ behind) =
+      subst (λ c. flat (pairs_at old m) node.children ≡ front ++ (pairs_at old m c ++ behind)) here (flat_parts (pairs_at old m) node.children i child place) in
+      let new_is : edit (flat (pairs_at old m) node.children) ≡ front ++ (pairs_at new m child ++ behind) =
+      subst (λ c. edit (flat (pairs_at old m) node.children) ≡ front ++ (edit (pairs_at old m c) ++ behind)) here around ∙ ap (λ l. front ++ (l ++ behind)) (sym at.pairs) in
+      let keys_is = ap keys_of new_is ∙ keys_around (pairs_at new m child) in
+      subst (λ l. is_summary b l) (sym keys_is)
+      (replaced (keys_of front) (keys_of (pairs_at old m child)) (keys_of (pairs_at new m child)) (keys_of behind)
+      (subst (λ l. is_summary whole l) (ap keys_of old_is ∙ keys_around (pairs_at old m child)) told_whole) told_was told_new
+      (subst (λ l. IsStrictlySortedBy cmp l) keys_is ascends)
+      (subst (λ l. length l < 2 ^ 64) keys_is (omega (arith, few, length-map (edit (flat (pairs_at old m) node.children)) (λ (p : K × V). p.0)))))

@@ -19,7 +19,7 @@ use Rattle.bptree_shape.proofs.Ends.{leaves_have}
 use Rattle.bptree_shape.proofs.Hinted.{count_of, count_leaves, total-append}
 use Rattle.bptree_shape.proofs.Walk.{flat-append}
 use Rattle.bptree_ascent.proofs.Lent.{pairs_apart}
-use Rattle.bptree_ascent.proofs.Mended.{linked_same, one_at, same_links}
+use Rattle.bptree_ascent.proofs.Relinked.{linked_same, one_at, same_links}
 use Rattle.bptree_tree.specs.Chain.{IsChain, IsLeft, chain_pairs}
 use Rattle.bptree_iteration.specs.Span.{IsSpan, leaves_of}
 use Rattle.bptree_iteration.proofs.SpanLemmas.{pairs_left-span}

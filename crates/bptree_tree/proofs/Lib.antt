@@ -1,6 +1,8 @@
 pub mod ChainLemmas
 pub mod Cloned
 pub mod Counted
+pub mod EndLemmas
+pub mod EntryLemmas
 pub mod Heights
 pub mod LentAt
 pub mod PartSpans

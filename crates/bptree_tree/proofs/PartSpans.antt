@@ -17,7 +17,7 @@ use Rattle.bptree_iteration.specs.declared.part.Extent.TheVariants.{Exact}
 use Rattle.bptree_shape.specs.Leaves.{pairs_of, IsFirstLeaf, IsLastLeaf}
 use Rattle.bptree_ranges.specs.Ranges.{ahead, start, place_on, IsPart}
 use Rattle.bptree_shape.specs.Shape.{leaf_pairs, leaf_prev, leaf_next, leaves_at, pairs_at, AreLinked, IsWellShaped}
-use Rattle.bptree_ways.proofs.Beside.{HasPair, others_have}
+use Rattle.bptree_descents.proofs.Beside.{HasPair, others_have}
 use Rattle.bptree_ranges.proofs.Ranged.{sides, start_is, ahead_of, reached, comes_before, take_of_take}
 use Rattle.bptree_shape.proofs.Ordered.{ascending_after}
 use Rattle.bptree_shape.proofs.Spot.{parts_of, ascending_before}

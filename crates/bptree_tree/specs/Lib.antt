@@ -1,5 +1,6 @@
 pub mod Chain
 pub mod Cursor
+pub mod Entries
 pub mod Refusal
 pub mod Whole
 pub mod Writing

@@ -11,6 +11,7 @@ ghost use Rattle.bptree_tree.specs.Whole.{IsWhole, IsUntouched};
 
 mod cloning;
 mod cursors;
+mod entries;
 mod loading;
 mod owning;
 mod queries;
@@ -229,7 +230,7 @@ impl<S: NodeStore> BPlusTree<S> {
         &self.root_argument
     }
 
-    /// How often short nodes were mended. A tree that is new, or was just cleared, has counted nothing.
+    /// How often nodes that underflowed were rebalanced. A tree that is new, or was just cleared, has counted nothing.
     pub fn statistic(&self) -> &Statistic {
         &self.statistic
     }

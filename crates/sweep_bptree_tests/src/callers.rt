@@ -1,5 +1,5 @@
 //! Callers of the library's functions, which know nothing of them but their contracts.
-ghost use Rattle.std.specs.Prelude.{◌≡◌, ◌<◌, ◌≤◌, ◌==◌, ◌-◌, ◌+◌, ◌^◌, ◌↔◌, ◌⊎◌, ℕ, List, [], ◌++◌, ◌∷◌, Option, length, codes, Some, None, IsTrue, true, false, if◌then◌else◌, IsSome, IsErr, IsErrOf, IfOk, OnOk, OnErr, IfSome, MatchResult, slice_get, string_bytes, vec_len};
+ghost use Rattle.std.specs.Prelude.{◌≡◌, ◌<◌, ◌≤◌, ◌==◌, ◌-◌, ◌+◌, ◌^◌, ◌↔◌, ◌⊎◌, ℕ, List, [], ◌++◌, ◌∷◌, Option, length, codes, Some, None, IsNone, IsTrue, true, false, if◌then◌else◌, IsSome, IsErr, IsErrOf, IfOk, OnOk, OnErr, IfSome, MatchResult, slice_get, string_bytes, vec_len};
 ghost use Rattle.std.specs.Io.KnownBytes.{Appends};
 ghost use Rattle.std.specs.List.{slice_split};
 ghost use Rattle.std.specs.Map.{keys_of};
@@ -11,7 +11,8 @@ ghost use Rattle.sweep_bptree.specs.CountLaws.{count_below};
 ghost use Rattle.bptree_script.specs.Lines.{ended_lines};
 ghost use Rattle.bptree_script.specs.Sent.{AppendsBeginning};
 ghost use Rattle.sweep_bptree.specs.Served.{StoppedBy};
-ghost use Rattle.bptree_script.specs.Steps.{Step};
+ghost use Rattle.bptree_script.specs.Steps.{Run, Step};
+ghost use Rattle.bptree_shape.specs.Shape.{pairs_at};
 ghost use Rattle.sweep_bptree.specs.declared.script.session.Stop.TheVariants.{Reader, Writer};
 ghost use Rattle.bptree_nodes.specs.Leaf.{set_value_at};
 ghost use Rattle.bptree_ascent.specs.Lending.{written};
@@ -185,6 +186,22 @@ where
     ensures stays { result ≡ 0 → tree.new.contents ≡ tree.old.contents }
 {
     run(alloc, tree, commands).0.len()
+}
+
+// The nodes of the tree have the list that the run ends with.
+pub fn leaves_its_list_in_the_nodes<S: NodeStore>(
+    alloc: Global,
+    tree: &mut BPlusTree<S>,
+    commands: Vec<CommandOn<S>>,
+) -> (Vec<ReplyOf<S>>, Option<AllocError>)
+where
+    S::V: Copy,
+    S::Argument: SearchArgument<S::K> + RankArgument<S::K>,
+    ensures { IsNone result.1 → (held : List S.K) × Run S.K.cmp S.Argument.selects S.Argument.ranks tree.old.contents [] commands.items result.0.items (pairs_at (S.slots tree.new.store) tree.new.height tree.new.root) held }
+{
+    let answered = run(alloc, tree, commands);
+    tree.node_store();
+    answered
 }
 
 pub fn reply_to_get<S: NodeStore>(

@@ -3,6 +3,9 @@
 use crate::counted::{CountedKey, CountedValue, Counts, Made};
 use crate::tested::{Loaded, Numbered, Walked};
 use bptree_arguments::argument::CloneArgument;
+use bptree_keys::key::Key;
+use bptree_maps::map::BPlusTreeMap;
+use bptree_maps::set::BPlusTreeSet;
 use bptree_stores::node_store_vec::NodeStoreVec;
 use bptree_stores::node_stores::CloneStore;
 use bptree_tree::BPlusTree;
@@ -210,7 +213,8 @@ where
     Ok(all)
 }
 
-// Whether a clone of a tree has the same pairs, and loses half of them alone. It is dropped at the end.
+// Whether a clone of a tree has the same pairs, and loses half of them alone; and a clone of that one has counted no nodes that
+// were rebalanced. Both are dropped at the end.
 fn clone_goes_its_own_way<T: Loaded>(
     tree: &T,
     counts: &Rc<Counts>,
@@ -223,7 +227,9 @@ where
     let same = copy.holds(len, 0) && copy.leaves()?.1 && counts.dropped.get() == 0;
     let half = len / 2;
     let taken = take_below(&mut copy, counts, half)? && copy.number_of_pairs() as u64 == len - half;
-    Ok(same && taken && tree.holds(len, 0))
+    let again = copy.copy()?;
+    let is_new = copy.rebalanced() != [0; 8] && again.rebalanced() == [0; 8] && again.leaves()?.1;
+    Ok(same && taken && is_new && tree.holds(len, 0))
 }
 
 // Half of the pairs are loaded, and the others are put; a clone comes and goes; then all pairs leave.
@@ -238,7 +244,9 @@ where
 {
     let mut tree: T = load(alloc, counts, len / 2, 1)?;
     let mut all = put_from(&mut tree, counts, len / 2, len)?;
-    all = all && clone_goes_its_own_way(&tree, counts, len)? && counts.dropped.get() == len;
+    all = all && clone_goes_its_own_way(&tree, counts, len)?;
+    // Those of a clone, and of another one of its half.
+    all = all && counts.dropped.get() == len.saturating_add(len - len / 2);
     Ok(all && take_below(&mut tree, counts, len)? && tree.number_of_pairs() == 0)
 }
 
@@ -274,6 +282,57 @@ where
     Ok(come_from_both_ends(tree.into_pairs(), counts, from_each_end) && is_whole)
 }
 
+// Of pairs in runs of three equal keys each last one is kept, and none once the tree is cleared.
+fn is_cleared<T: Loaded>(alloc: Global, counts: &Rc<Counts>) -> Result<bool, AllocError>
+where
+    T::Key: Made,
+    T::Value: Made,
+{
+    counts.dropped.set(0);
+    let mut tree: T = load(alloc, counts, 300, 3)?;
+    let is_loaded = tree.holds(100, 2) && counts.dropped.get() == 200;
+    let is_empty = tree.empty_it() && tree.number_of_pairs() == 0;
+    Ok(is_loaded && is_empty && counts.dropped.get() == 300 && Rc::strong_count(counts) == 1)
+}
+
+// Of three pairs that are put at one key, a map keeps one key and the last value.
+fn map_keeps_one<K: Key + Made, V: Made>(
+    alloc: Global,
+    counts: &Rc<Counts>,
+) -> Result<bool, AllocError> {
+    counts.dropped.set(0);
+    let mut map: BPlusTreeMap<K, V> = BPlusTreeMap::new(alloc)?;
+    let mut all = true;
+    for turn in 0..3 {
+        let key = K::made(counts, 7)?;
+        let value = V::made(counts, turn)?;
+        all = matches!(map.insert(key, value), Ok(_)) && map.len() == 1 && all;
+        all = counts.dropped.get() == turn && Rc::strong_count(counts) == 3 && all;
+    }
+    Ok(all)
+}
+
+// Of three equal keys that are put, a set keeps one.
+fn set_keeps_one<K: Key + Made>(alloc: Global, counts: &Rc<Counts>) -> Result<bool, AllocError> {
+    let mut set: BPlusTreeSet<K> = BPlusTreeSet::new(alloc)?;
+    let mut all = true;
+    for turn in 0..3 {
+        let key = K::made(counts, 7)?;
+        all = set.insert(key).ok() == Some(turn == 0) && all;
+        all = Rc::strong_count(counts) == 2 && all;
+    }
+    Ok(all)
+}
+
+// Whether equal keys are dropped as they are put, and what was kept of them at the end.
+fn equals_are_dropped<K: Key + Made, V: Made>(alloc: Global) -> Result<bool, AllocError> {
+    let counts = no_counts(alloc)?;
+    let of_map = map_keeps_one::<K, V>(alloc, &counts)?;
+    let is_over = counts.dropped.get() == 3 && Rc::strong_count(&counts) == 1;
+    let of_set = set_keeps_one::<K>(alloc, &counts)?;
+    Ok(of_map && is_over && of_set && Rc::strong_count(&counts) == 1)
+}
+
 // Whether each value was dropped once, and no key and no value is left.
 fn are_dropped_once<T: Loaded>(alloc: Global) -> Result<bool, AllocError>
 where
@@ -282,13 +341,13 @@ where
 {
     let counts = no_counts(alloc)?;
     let mut all = comes_and_goes::<T>(alloc, &counts, 16_000)?;
-    all = all && counts.dropped.get() == 32_000 && Rc::strong_count(&counts) == 1;
+    all = all && counts.dropped.get() == 40_000 && Rc::strong_count(&counts) == 1;
     for (len, from_each_end) in [(10, 0), (300, 1), (300, 150)] {
         counts.dropped.set(0);
         all = owned_pairs_come::<T>(alloc, &counts, len, from_each_end)? && all;
         all = all && counts.dropped.get() == len && Rc::strong_count(&counts) == 1;
     }
-    Ok(all)
+    Ok(is_cleared::<T>(alloc, &counts)? && all)
 }
 
 // What is asked of trees: the sizes of their nodes, the comparisons of look-ups in one of so many pairs, which are no more than
@@ -345,5 +404,6 @@ fn look_ups_tell_their_comparisons(rt: HostRuntime) -> Result<(), Fail> {
 #[test]
 fn pairs_are_dropped_once(rt: HostRuntime) -> Result<(), Fail> {
     assert!(rt; answers(rt.alloc(), Asked::Drops)?);
+    assert!(rt; equals_are_dropped::<CountedKey, CountedValue>(rt.alloc())?);
     Ok(())
 }

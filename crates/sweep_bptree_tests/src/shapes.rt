@@ -7,9 +7,9 @@ use std::alloc::AllocError;
 // inner nodes and which leaves there are then. The tree is cleared before keys are put from 0 on.
 type Row = (bool, u64, u64, usize, usize, &'static [Ends]);
 
-// A full leaf keeps 32 of its pairs, and the new one has the others. A short leaf in the middle takes from the one behind it, and
+// A full leaf keeps 32 of its pairs, and the new one has the others. A leaf in the middle that underflows takes from the one behind it, and
 // where that has fewer than the one before it, from that one. The first of two leaves loses pairs in place, then the other one
-// lends, and with 16 in each they become one.
+// gives, and with 16 in each they merge.
 const ROWS: [Row; 12] = [
     (true, 0, 64, 64, 0, &[(0, 63, 64)]),
     (true, 64, 65, 65, 1, &[(0, 31, 32), (32, 64, 33)]),
@@ -96,17 +96,17 @@ pub fn lent_key_keeps_its_place<T: Ranked>(tree: &mut T) -> Result<bool, AllocEr
 
 // Whether a tree that is cleared, filled with the keys below a number, and emptied upward or downward, counts this.
 fn counts<T: Ranked>(tree: &mut T, len: u64, is_upward: bool, wanted: [u64; 8]) -> bool {
-    let mut all = refill(tree, 0, len) && tree.mended() == [0; 8];
+    let mut all = refill(tree, 0, len) && tree.rebalanced() == [0; 8];
     for turn in 0..len {
         let key = if is_upward { turn } else { len - 1 - turn };
         all = take(tree, key) && all;
     }
-    all && tree.mended() == wanted
+    all && tree.rebalanced() == wanted
 }
 
-/// Of 65 pairs the first leaf has 32 and the other 33: from the front 17 are lent before the two become one, and from the end
+/// Of 65 pairs the first leaf has 32 and the other 33: from the front 17 are rotated before the two merge, and from the end
 /// 16. The numbers of 2,200 pairs, in 68 leaves below two inner nodes, are those of a model that keeps the sizes of nodes alone.
-pub fn mending_is_counted<T: Ranked>(tree: &mut T) -> bool {
+pub fn rebalancing_is_counted<T: Ranked>(tree: &mut T) -> bool {
     let mut all = true;
     for (len, is_upward, wanted) in [
         (65, true, [0, 0, 0, 0, 0, 17, 0, 1]),
@@ -124,9 +124,9 @@ pub fn is_as_new<T: Ranked>(tree: &mut T) -> Result<bool, AllocError> {
     Ok(
         refill(tree, 0, 200)
             && take_from(tree, 0, 40)
-            && tree.mended() != [0; 8]
+            && tree.rebalanced() != [0; 8]
             && tree.empty_it()
-            && tree.mended() == [0; 8]
+            && tree.rebalanced() == [0; 8]
             && nodes_below(tree, 100) == (1, 0)
             && is_empty(tree)?,
     )

@@ -61,8 +61,14 @@ pub trait Tested: Drop {
     /// Whether the keys below a number come from the front, each with ten times itself and so much more.
     fn holds(&self, end: u64, more: u64) -> bool;
 
+    fn empty_it(&mut self) -> bool;
+
     /// The leaves in order, and whether the tree is well shaped.
     fn leaves(&self) -> Result<(Vec<Ends>, bool), AllocError>;
+
+    /// What was counted of inner nodes and then of leaves: rotations to the right and to the left, merges with the left and with
+    /// the right.
+    fn rebalanced(&self) -> [u64; 8];
 }
 
 /// A tree of numbers that counts its pairs.
@@ -71,8 +77,6 @@ pub trait Ranked: Tested<Key = u64, Value = u64> {
     type Held: Copy;
 
     fn new_one(alloc: Global) -> Result<Self, AllocError>;
-
-    fn empty_it(&mut self) -> bool;
 
     /// Whether the tree has so many pairs, counts as many, and has so many levels of inner nodes, as a visitor finds too.
     fn measures(&self, len: usize, height: usize) -> bool;
@@ -112,10 +116,6 @@ pub trait Ranked: Tested<Key = u64, Value = u64> {
 
     /// Whether a leaf stands under a number, and whether an inner node does.
     fn has_nodes(&self, number: usize) -> (bool, bool);
-
-    /// What was counted of inner nodes and then of leaves: rotations to the right and to the left, merges with the left and with
-    /// the right.
-    fn mended(&self) -> [u64; 8];
 }
 
 /// A tree that is loaded of many pairs at once.

@@ -3,7 +3,7 @@ use crate::cursors::{
     answer_by_their_keys, few_numbers_serve_many_pairs, survives_another_leaf, two_go_on_alone,
 };
 use crate::places::{give_their_pairs, have_places, is_empty};
-use crate::shapes::{have_rows, is_as_new, lent_key_keeps_its_place, mending_is_counted};
+use crate::shapes::{have_rows, is_as_new, lent_key_keeps_its_place, rebalancing_is_counted};
 use crate::tested::Ranked;
 use bptree_arguments::count::Count;
 use bptree_stores::node_store_vec::NodeStoreVec;
@@ -14,7 +14,9 @@ use std::test::Fail;
 
 fn is_right<T: Ranked>(tree: &mut T, other: &mut T) -> Result<bool, AllocError> {
     let reads = is_empty(tree)? && give_their_pairs(tree) && have_places(tree)?;
-    let shapes = have_rows(tree)? && lent_key_keeps_its_place(tree)? && mending_is_counted(tree);
+    let shapes = have_rows(tree)?
+        && lent_key_keeps_its_place(tree)?
+        && rebalancing_is_counted(tree);
     let cursors = answer_by_their_keys(tree, other)? && two_go_on_alone(tree)?;
     let numbers = survives_another_leaf(tree)? && few_numbers_serve_many_pairs(tree)?;
     Ok(reads && shapes && is_as_new(tree)? && cursors && numbers)

@@ -197,6 +197,24 @@ where
         come_by_tens(self.iter(), end, more)
     }
 
+    fn empty_it(&mut self) -> bool {
+        self.clear().is_ok()
+    }
+
+    fn rebalanced(&self) -> [u64; 8] {
+        let counted = self.statistic();
+        [
+            counted.rotate_right_inner,
+            counted.rotate_left_inner,
+            counted.merge_with_left_inner,
+            counted.merge_with_right_inner,
+            counted.rotate_right_leaf,
+            counted.rotate_left_leaf,
+            counted.merge_with_left_leaf,
+            counted.merge_with_right_leaf,
+        ]
+    }
+
     fn leaves(&self) -> Result<(Vec<Ends>, bool), AllocError> {
         let (leaves, _) = leaves_of(self)?;
         Ok((all_ends(self.node_store(), &leaves)?, is_well_shaped(self)?))
@@ -208,10 +226,6 @@ impl<S: NodeStore<K = u64, V = u64, Argument = Count>> Ranked for BPlusTree<S> {
 
     fn new_one(alloc: Global) -> Result<Self, AllocError> {
         BPlusTree::new(S::empty(alloc))
-    }
-
-    fn empty_it(&mut self) -> bool {
-        self.clear().is_ok()
     }
 
     fn measures(&self, len: usize, height: usize) -> bool {
@@ -302,20 +316,6 @@ impl<S: NodeStore<K = u64, V = u64, Argument = Count>> Ranked for BPlusTree<S> {
                 .try_get_inner(InnerNodeId::from_usize(number))
                 .is_some(),
         )
-    }
-
-    fn mended(&self) -> [u64; 8] {
-        let counted = self.statistic();
-        [
-            counted.rotate_right_inner,
-            counted.rotate_left_inner,
-            counted.merge_with_left_inner,
-            counted.merge_with_right_inner,
-            counted.rotate_right_leaf,
-            counted.rotate_left_leaf,
-            counted.merge_with_left_leaf,
-            counted.merge_with_right_leaf,
-        ]
     }
 }
 

@@ -1,5 +1,7 @@
 //! Callers that put and remove pairs, and write values.
 ghost use Rattle.std.specs.Prelude.{◌≡◌, ◌≢◌, ◌<◌, ◌-◌, ◌+◌, ◌^◌, ◌++◌, ◌∷◌, [], length, true, false, if◌then◌else◌, IfOk, OnErr, IfSome, OnOk, IsTrue, Some, None, slice_get};
+ghost use Rattle.std.specs.declared.cmp.Ordering.TheVariants.{Equal};
+ghost use Rattle.std.specs.Option.{option_map};
 ghost use Rattle.bptree_keys.specs.Contents.{has, value as value_of, put, del, pairs_below, pairs_above};
 ghost use Rattle.bptree_ascent.specs.Lending.{written};
 
@@ -124,4 +126,36 @@ where
         Some(there) => Some(*there),
         None => None,
     }
+}
+
+// A pair leaves with the key that was stored, which equals the one asked for. Where that is refused, the tree is as it was.
+fn takes_the_pair_of_a_key<S: NodeStore>(
+    tree: &mut BPlusTree<S>,
+    k: &S::K,
+) -> Result<Option<(S::K, S::V)>, AllocError>
+    ensures key { IfOk result (λ gone. IfSome gone (λ pair. S.K.cmp pair.0 k.now ≡ Equal)) }
+    ensures value { IfOk result (λ gone. option_map (λ pair. pair.1) gone ≡ value_of S.K.cmp tree.old.contents k.now) }
+    ensures others { OnOk result (tree.new.contents ≡ del S.K.cmp tree.old.contents k.now) }
+    ensures refused { OnErr result (S.slots tree.new.store ≡ S.slots tree.old.store) }
+{
+    tree.remove_entry(k)
+}
+
+// The first of two pairs leaves as it was stored, and so does the last.
+fn pops_the_first_of_two<S: NodeStore>(
+    tree: &mut BPlusTree<S>,
+) -> Result<Option<(S::K, S::V)>, AllocError>
+    ensures popped { IfOk result (λ gone. (a b : S.K × S.V) → tree.old.contents ≡ a ∷ b ∷ [] → (gone ≡ Some a) × (tree.new.contents ≡ b ∷ [])) }
+    ensures refused { OnErr result (S.slots tree.new.store ≡ S.slots tree.old.store) }
+{
+    tree.pop_first()
+}
+
+fn pops_the_last_of_two<S: NodeStore>(
+    tree: &mut BPlusTree<S>,
+) -> Result<Option<(S::K, S::V)>, AllocError>
+    ensures popped { IfOk result (λ gone. (a b : S.K × S.V) → tree.old.contents ≡ a ∷ b ∷ [] → (gone ≡ Some b) × (tree.new.contents ≡ a ∷ [])) }
+    ensures refused { OnErr result (S.slots tree.new.store ≡ S.slots tree.old.store) }
+{
+    tree.pop_last()
 }

@@ -1,13 +1,17 @@
 //! Callers of maps.
-ghost use Rattle.std.specs.Prelude.{◌≡◌, ◌<◌, ◌≤◌, ◌-◌, ◌+◌, ◌*◌, ◌^◌, ◌∷◌, [], ℕ, length, min, true, false, slice_get, remove, if◌then◌else◌, IfOk, IfErr, OnErr, OnOk, IfSome, IsTrue, Some, None};
-ghost use Rattle.std.specs.Map.{keys_of};
-ghost use Rattle.std.specs.Option.{option_copied, option_map};
+ghost use Rattle.std.specs.Prelude.{◌≡◌, ◌<◌, ◌≤◌, ◌-◌, ◌+◌, ◌*◌, ◌^◌, ◌∷◌, ◌↔◌, [], ℕ, length, min, true, false, slice_get, remove, if◌then◌else◌, IfOk, IfErr, OnErr, OnOk, IfSome, IsTrue, Some, None};
+ghost use Rattle.std.specs.declared.cmp.Ordering.TheVariants.{Equal, Greater};
+ghost use Rattle.std.specs.Map.{keys_of, values_of};
+ghost use Rattle.std.specs.Option.{option_copied, option_map, IsSomeAnd};
+ghost use Rattle.std.specs.Ordering.{is_lt};
 ghost use Rattle.bptree_arguments.specs.CountLaws.{count_below};
 ghost use Rattle.bptree_arguments.specs.Visits.{answered};
 ghost use Rattle.bptree_ascent.specs.Lending.{written};
 ghost use Rattle.bptree_keys.specs.Contents.{IsAscending, has, value as value_of, put, del, gather, pairs_below};
 ghost use Rattle.bptree_keys.specs.Ranges.{between};
 ghost use Rattle.bptree_nodes.specs.Leaf.{set_value_at};
+ghost use Rattle.bptree_tree.specs.Cursor.{cursor_key};
+ghost use Rattle.bptree_tree.specs.Entries.{entry};
 
 use bptree_arguments::argument::{Argument, CloneArgument, RankArgument, SearchArgument};
 use bptree_arguments::count::Count;
@@ -15,7 +19,7 @@ use bptree_arguments::visit::{DescendError, DescendVisit};
 use bptree_keys::key::Key;
 use bptree_maps::map::{BPlusTreeMap, IntoIter, law_of_from_iter};
 use bptree_stores::node_store_vec::NodeStoreVec;
-use bptree_tree::{BPlusTree, InsertError, SelectError};
+use bptree_tree::{BPlusTree, Cursor, InsertError, SelectError};
 use std::alloc::{AllocError, Global};
 
 // A new map has no pairs, and says so, whichever way it is made.
@@ -488,4 +492,234 @@ fn tells_how_many_it_gives<K: Key, V: Drop>(
 {
     let told = map.range_len(Some(lo), Some(hi));
     (told, map.range(Some(lo), Some(hi)).len())
+}
+
+// A key is contained just where a value is found.
+fn contains_what_it_finds<K: Key, V: Drop, A: Argument<K>>(
+    map: &BPlusTreeMap<K, V, A>,
+    k: &K,
+) -> (bool, bool)
+    ensures { result.0 ≡ result.1 }
+{
+    (map.contains_key(k), map.get(k).is_some())
+}
+
+// A pair that is found has a key that equals the one asked for, and is one of the pairs; its value is the one at the key.
+fn finds_the_pair_of_a_key<'a, K: Key, V: Drop, A: Argument<K>>(
+    map: &'a BPlusTreeMap<K, V, A>,
+    k: &K,
+) -> Option<(&'a K, &'a V)>
+    ensures key { IfSome result (λ pair. K.cmp pair.0.now k.now ≡ Equal) }
+    ensures value { option_map (λ pair. pair.1.now) result ≡ value_of K.cmp map.now k.now }
+    ensures stored { IfSome result (λ pair. (i : ℕ) × (slice_get map.now i ≡ Some (pair.0.now, pair.1.now))) }
+{
+    map.get_key_value(k)
+}
+
+// Both ends of a list of two pairs.
+fn names_both_ends<K: Key, V: Drop, A: Argument<K>>(
+    map: &BPlusTreeMap<K, V, A>,
+) -> (Option<(&K, &V)>, Option<(&K, &V)>)
+    ensures { (a b : K × V) → map.now ≡ a ∷ b ∷ [] → (option_map (λ pair. (pair.0.now, pair.1.now)) result.0 ≡ Some a) × (option_map (λ pair. (pair.0.now, pair.1.now)) result.1 ≡ Some b) }
+{
+    (map.first_key_value(), map.last_key_value())
+}
+
+// A key that is there is the least that is not below it.
+fn begins_at_its_key<K: Key, V: Drop, A: Argument<K>>(
+    map: &BPlusTreeMap<K, V, A>,
+    k: &K,
+) -> Result<Option<Cursor<K>>, AllocError>
+    requires { has K.cmp map.now k.now ≡ true }
+    ensures { IfOk result (λ found. IsSomeAnd found (λ there. K.cmp (cursor_key there) k.now ≡ Equal)) }
+{
+    // Read, so that the keys are known to ascend.
+    let _len = map.len();
+    match map.lower_bound(k)? {
+        Some((cursor, _)) => Ok(Some(cursor)),
+        None => Ok(None),
+    }
+}
+
+// A lower bound is not below its key.
+fn finds_no_smaller_key<K: Key, V: Drop, A: Argument<K>>(
+    map: &BPlusTreeMap<K, V, A>,
+    k: &K,
+) -> Result<Option<Cursor<K>>, AllocError>
+    ensures { IfOk result (λ found. IfSome found (λ there. is_lt (K.cmp (cursor_key there) k.now) ≡ false)) }
+{
+    match map.lower_bound(k)? {
+        Some((cursor, _)) => Ok(Some(cursor)),
+        None => Ok(None),
+    }
+}
+
+// An upper bound is above it.
+fn finds_a_greater_key<K: Key, V: Drop, A: Argument<K>>(
+    map: &BPlusTreeMap<K, V, A>,
+    k: &K,
+) -> Result<Option<Cursor<K>>, AllocError>
+    ensures { IfOk result (λ found. IfSome found (λ there. K.cmp (cursor_key there) k.now ≡ Greater)) }
+{
+    match map.upper_bound(k)? {
+        Some((cursor, _)) => Ok(Some(cursor)),
+        None => Ok(None),
+    }
+}
+
+// The keys come in order, from both ends; and so do the values.
+fn gives_the_keys_at_both_ends<K: Key, V: Drop, A: Argument<K>>(
+    map: &BPlusTreeMap<K, V, A>,
+) -> (Option<&K>, Option<&K>, usize)
+    requires { 1 < length map.now }
+    ensures front { option_copied result.0 ≡ slice_get (keys_of map.now) 0 }
+    ensures back { option_copied result.1 ≡ slice_get (keys_of map.now) (length map.now - 1) }
+    ensures left { result.2 ≡ length map.now - 2 }
+{
+    let mut keys = map.keys();
+    let first = keys.next();
+    let last = keys.next_back();
+    (first, last, keys.len())
+}
+
+fn gives_the_values_at_both_ends<K: Key, V: Drop, A: Argument<K>>(
+    map: &BPlusTreeMap<K, V, A>,
+) -> (Option<&V>, Option<&V>, usize)
+    requires { 1 < length map.now }
+    ensures front { option_copied result.0 ≡ slice_get (values_of map.now) 0 }
+    ensures back { option_copied result.1 ≡ slice_get (values_of map.now) (length map.now - 1) }
+    ensures left { result.2 ≡ length map.now - 2 }
+{
+    let mut values = map.values();
+    let first = values.next();
+    let last = values.next_back();
+    (first, last, values.len())
+}
+
+// The same of a map that is handed over.
+fn hands_over_two_keys<K: Key, V: Drop, A: Argument<K>>(map: BPlusTreeMap<K, V, A>) -> (K, K, usize)
+    requires { length (keys_of map) ≡ 2 }
+    ensures { (keys_of map ≡ result.0 ∷ result.1 ∷ []) × (result.2 ≡ 0) }
+{
+    let mut keys = map.into_keys();
+    match (keys.next(), keys.next_back()) {
+        (Some(first), Some(last)) => (first, last, keys.len()),
+        _ => unreachable!(),
+    }
+}
+
+fn hands_over_two_values<K: Key, V: Drop, A: Argument<K>>(
+    map: BPlusTreeMap<K, V, A>,
+) -> (V, V, usize)
+    requires { length (values_of map) ≡ 2 }
+    ensures { (values_of map ≡ result.0 ∷ result.1 ∷ []) × (result.2 ≡ 0) }
+{
+    let mut values = map.into_values();
+    match (values.next(), values.next_back()) {
+        (Some(first), Some(last)) => (first, last, values.len()),
+        _ => unreachable!(),
+    }
+}
+
+// At the place of a key stands the pair of the key.
+fn finds_a_key_at_its_place<'a, K: Key, V: Drop>(
+    map: &'a BPlusTreeMap<K, V, Count>,
+    k: &K,
+) -> Option<(&'a K, &'a V)>
+    ensures { option_map (λ pair. (pair.0.now, pair.1.now)) result ≡ entry K.cmp map.now k.now }
+{
+    // Read, so that the keys are known to ascend.
+    let _len = map.len();
+    match map.place_of(k) {
+        Some(place) => map.get_at(place),
+        None => None,
+    }
+}
+
+// A value is written at each place that there is, and nothing else is changed.
+fn writes_at_its_place<K: Key, V: Drop>(
+    map: &mut BPlusTreeMap<K, V, Count>,
+    place: usize,
+    v: V,
+) -> bool
+    ensures there { IsTrue result ↔ (place < length map.old) }
+    ensures written { IsTrue result → map.new ≡ set_value_at map.old place v }
+    ensures past { result ≡ false → map.new ≡ map.old }
+{
+    match map.get_mut_at(place) {
+        Ok(there) => {
+            *there = v;
+            true
+        }
+        Err(_) => false,
+    }
+}
+
+// The second of three pairs leaves, and the third takes its place.
+fn takes_the_second<K: Key, V: Drop>(
+    map: &mut BPlusTreeMap<K, V, Count>,
+) -> Result<Option<(K, V)>, AllocError>
+    ensures taken { IfOk result (λ gone. (a b c : K × V) → map.old ≡ a ∷ b ∷ c ∷ [] → (gone ≡ Some b) × (map.new ≡ a ∷ c ∷ [])) }
+    ensures refused { OnErr result (map.new ≡ map.old) }
+{
+    map.remove_at(1)
+}
+
+// Past the end nothing leaves, and nothing is refused.
+fn takes_none_past_the_end<K: Key, V: Drop>(map: &mut BPlusTreeMap<K, V, Count>, place: usize)
+    requires { length map.old ≤ place }
+    ensures { map.new ≡ map.old }
+{
+    match map.remove_at(place) {
+        Ok(None) => {}
+        _ => unreachable!(),
+    }
+}
+
+// A pair leaves with the key that was stored, which equals the one asked for.
+fn takes_the_pair_of_a_key<K: Key, V: Drop, A: Argument<K>>(
+    map: &mut BPlusTreeMap<K, V, A>,
+    k: &K,
+) -> Result<Option<(K, V)>, AllocError>
+    ensures key { IfOk result (λ gone. IfSome gone (λ pair. K.cmp pair.0 k.now ≡ Equal)) }
+    ensures value { IfOk result (λ gone. option_map (λ pair. pair.1) gone ≡ value_of K.cmp map.old k.now) }
+    ensures stored { IfOk result (λ gone. IfSome gone (λ pair. (i : ℕ) × (slice_get map.old i ≡ Some pair))) }
+    ensures others { OnOk result (map.new ≡ del K.cmp map.old k.now) }
+    ensures refused { OnErr result (map.new ≡ map.old) }
+{
+    map.remove_entry(k)
+}
+
+// The first of two pairs leaves as it was stored, and so does the last.
+fn pops_the_first_of_two<K: Key, V: Drop, A: Argument<K>>(
+    map: &mut BPlusTreeMap<K, V, A>,
+) -> Result<Option<(K, V)>, AllocError>
+    ensures popped { IfOk result (λ gone. (a b : K × V) → map.old ≡ a ∷ b ∷ [] → (gone ≡ Some a) × (map.new ≡ b ∷ [])) }
+    ensures refused { OnErr result (map.new ≡ map.old) }
+{
+    map.pop_first()
+}
+
+fn pops_the_last_of_two<K: Key, V: Drop, A: Argument<K>>(
+    map: &mut BPlusTreeMap<K, V, A>,
+) -> Result<Option<(K, V)>, AllocError>
+    ensures popped { IfOk result (λ gone. (a b : K × V) → map.old ≡ a ∷ b ∷ [] → (gone ≡ Some b) × (map.new ≡ a ∷ [])) }
+    ensures refused { OnErr result (map.new ≡ map.old) }
+{
+    map.pop_last()
+}
+
+// Of an empty map none leaves, and nothing is refused.
+fn pops_none_at_either_end<K: Key, V: Drop, A: Argument<K>>(map: &mut BPlusTreeMap<K, V, A>)
+    requires { map.old ≡ [] }
+    ensures { map.new ≡ [] }
+{
+    match map.pop_first() {
+        Ok(None) => {}
+        _ => unreachable!(),
+    }
+    match map.pop_last() {
+        Ok(None) => {}
+        _ => unreachable!(),
+    }
 }

@@ -1,5 +1,5 @@
 //! Callers of the nodes that are lent: whatever changed the list before, they hold it, and none is idle beside it.
-ghost use Rattle.std.specs.Prelude.{◌≡◌, ℕ, IfOk, IsTrue, OnOk, Some, length};
+ghost use Rattle.std.specs.Prelude.{◌≡◌, ℕ, IfOk, IsTrue, OnOk, Some, false, length};
 ghost use Rattle.std.specs.Map.{keys_of};
 ghost use Rattle.bptree_ascent.specs.Lending.{written};
 ghost use Rattle.bptree_keys.specs.Contents.{put};
@@ -7,6 +7,7 @@ ghost use Rattle.bptree_nodes.specs.Leaf.{set_value_at};
 ghost use Rattle.bptree_nodes.specs.Slot.{IsPresent};
 ghost use Rattle.bptree_shape.specs.Shape.{pairs_at, leaf_count, inner_count, leaf_pairs};
 ghost use Rattle.bptree_stores.specs.StoreSlabs.{slots};
+ghost use Rattle.bptree_tree.specs.Whole.{IsUntouched};
 
 use crate::callers::changes::writes;
 use crate::callers::queries::writes_by_a_query;
@@ -99,6 +100,67 @@ fn shows<S: NodeStore>(tree: &BPlusTree<S>, leaf: LeafNodeId) -> Shown
         None => 0,
     };
     (tree.root_id(), tree.height(), held)
+}
+
+fn is_put<S: NodeStore>(tree: &mut BPlusTree<S>, k: S::K, v: S::V) -> bool
+    ensures { result ≡ false → IsUntouched (λ store. S.slots store) tree.new tree.old }
+{
+    tree.insert(k, v).is_ok()
+}
+
+// An insertion that is refused leaves the nodes: whatever leaf is looked at, the same is shown before and after.
+fn shows_the_same_unless_put<S: NodeStore>(
+    tree: &mut BPlusTree<S>,
+    k: S::K,
+    v: S::V,
+    leaf: LeafNodeId,
+) -> (bool, Shown, Shown)
+    ensures { result.0 ≡ false → result.1 ≡ result.2 }
+{
+    let before = shows(tree, leaf);
+    let done = is_put(tree, k, v);
+    (done, before, shows(tree, leaf))
+}
+
+// And so it does in the tree of a map.
+fn keeps_the_nodes_of_a_map_unless_put<K: Key, V: Drop, A: Argument<K>>(
+    map: &mut BPlusTreeMap<K, V, A>,
+    k: K,
+    v: V,
+    leaf: LeafNodeId,
+) -> (bool, Shown, Shown)
+    ensures { result.0 ≡ false → result.1 ≡ result.2 }
+{
+    shows_the_same_unless_put(map.tree_mut(), k, v, leaf)
+}
+
+fn is_taken<S: NodeStore>(tree: &mut BPlusTree<S>, k: &S::K) -> bool
+    ensures { result ≡ false → IsUntouched (λ store. S.slots store) tree.new tree.old }
+{
+    tree.remove(k).is_ok()
+}
+
+// A removal that is refused leaves the nodes too.
+fn shows_the_same_unless_taken<S: NodeStore>(
+    tree: &mut BPlusTree<S>,
+    k: &S::K,
+    leaf: LeafNodeId,
+) -> (bool, Shown, Shown)
+    ensures { result.0 ≡ false → result.1 ≡ result.2 }
+{
+    let before = shows(tree, leaf);
+    let done = is_taken(tree, k);
+    (done, before, shows(tree, leaf))
+}
+
+fn keeps_the_nodes_of_a_map_unless_taken<K: Key, V: Drop, A: Argument<K>>(
+    map: &mut BPlusTreeMap<K, V, A>,
+    k: &K,
+    leaf: LeafNodeId,
+) -> (bool, Shown, Shown)
+    ensures { result.0 ≡ false → result.1 ≡ result.2 }
+{
+    shows_the_same_unless_taken(map.tree_mut(), k, leaf)
 }
 
 // The nodes of a set's tree have its keys.

@@ -1,7 +1,8 @@
 //! Callers of a new tree, and of what is read of any tree.
-ghost use Rattle.std.specs.Prelude.{◌≡◌, ◌≢◌, ◌<◌, ◌≤◌, ◌+◌, ◌*◌, ◌^◌, ◌-◌, [], length, true, false, slice_get, IfOk, Some, None};
+ghost use Rattle.std.specs.Prelude.{◌≡◌, ◌≢◌, ◌<◌, ◌≤◌, ◌+◌, ◌*◌, ◌^◌, ◌-◌, [], length, true, false, slice_get, IfOk, IfSome, Some, None};
+ghost use Rattle.std.specs.declared.cmp.Ordering.TheVariants.{Equal};
 ghost use Rattle.std.specs.Map.{keys_of};
-ghost use Rattle.std.specs.Option.{option_copied};
+ghost use Rattle.std.specs.Option.{option_copied, option_map};
 ghost use Rattle.bptree_keys.specs.Contents.{IsAscending, has, value as value_of};
 ghost use Rattle.bptree_nodes.specs.Slot.{IsEmpty};
 ghost use Rattle.bptree_shape.specs.Shape.{IsWellShaped};
@@ -144,5 +145,35 @@ fn reads_the_root<S: NodeStore>(tree: &BPlusTree<S>) -> bool
         (NodeId::Inner(_), 0) => unreachable!(),
         (NodeId::Inner(id), _) => store.try_get_inner(id).is_some(),
         (NodeId::Leaf(_), _) => unreachable!(),
+    }
+}
+
+// A key is contained just where a value is found.
+fn contains_what_it_finds<S: NodeStore>(tree: &BPlusTree<S>, k: &S::K) -> (bool, bool)
+    ensures { result.0 ≡ result.1 }
+{
+    (tree.contains_key(k), tree.get(k).is_some())
+}
+
+// A pair that is found has a key that equals the one asked for, and its value is the one at the key.
+fn finds_the_pair_of_a_key<'a, S: NodeStore>(
+    tree: &'a BPlusTree<S>,
+    k: &S::K,
+) -> Option<(&'a S::K, &'a S::V)>
+    ensures key { IfSome result (λ pair. S.K.cmp pair.0.now k.now ≡ Equal) }
+    ensures value { option_map (λ pair. pair.1.now) result ≡ value_of S.K.cmp tree.now.contents k.now }
+{
+    tree.get_key_value(k)
+}
+
+// A tree that is not empty has both ends, under either name.
+fn names_both_ends<S: NodeStore>(tree: &BPlusTree<S>) -> ((&S::K, &S::V), (&S::K, &S::V))
+    requires { 0 < length tree.now.contents }
+    ensures first { slice_get tree.now.contents 0 ≡ Some (result.0.0.now, result.0.1.now) }
+    ensures last { slice_get tree.now.contents (length tree.now.contents - 1) ≡ Some (result.1.0.now, result.1.1.now) }
+{
+    match (tree.first_key_value(), tree.last_key_value()) {
+        (Some(first), Some(last)) => (first, last),
+        _ => unreachable!(),
     }
 }

@@ -1,14 +1,20 @@
 //! Callers of sets, of their iterators and of unions.
-ghost use Rattle.std.specs.Prelude.{◌≡◌, ◌+◌, ◌∷◌, ◌≤◌, [], List, ◌||◌, ◌&&◌, length, map, max, not, true, false, slice_get, IfOk, IfSome, IsOk, IsTrue, Err, Ok, Some, None};
+ghost use Rattle.std.specs.Prelude.{◌≡◌, ◌+◌, ◌∷◌, ◌≤◌, [], List, ◌||◌, ◌&&◌, length, map, max, not, true, false, slice_get, is_some, Contains, IfOk, IfSome, IsOk, IsTrue, Err, Ok, Some, None};
+ghost use Rattle.std.specs.declared.cmp.Ordering.TheVariants.{Equal};
 ghost use Rattle.std.specs.List.{find};
 ghost use Rattle.std.specs.Map.Iter.{TakesFirst, deref};
 ghost use Rattle.std.specs.Option.{option_copied, option_or};
 ghost use Rattle.std.specs.Ordering.{is_eq};
-ghost use Rattle.bptree_maps.specs.Keys.{holds, with_key, without_key, gathered, keys_between, keys_without};
+ghost use Rattle.bptree_maps.specs.Keys.{holds, with_key, without_key, gathered, keys_between, keys_within, keys_without};
+ghost use Rattle.bptree_maps.specs.Symmetric.{symmetric};
+ghost use Rattle.bptree_maps.specs.TwoSets.{IsDifference, IsIntersection, IsSymmetricDifference};
 ghost use Rattle.bptree_maps.specs.Union.{union};
 
 use bptree_keys::key::Key;
-use bptree_maps::set::{BPlusTreeSet, IntoIter, Iter, Union, laws_of_keys, laws_of_union};
+use bptree_maps::set::{
+    BPlusTreeSet, Difference, Intersection, IntoIter, Iter, SymmetricDifference, Union,
+    laws_of_keys, laws_of_two_sets, laws_of_union,
+};
 use bptree_tree::InsertError;
 use std::alloc::{AllocError, Global};
 
@@ -212,6 +218,147 @@ fn gives_the_first_left<'a, K: Key>(
     ensures alone { IfSome result (λ key. holds K.cmp second.now key.now ≡ false) }
 {
     first.difference(second).next()
+}
+
+// The first key that both sets hold is one of the first set's own.
+fn gives_the_first_shared<'a, K: Key>(
+    first: &'a BPlusTreeSet<K>,
+    second: &'a BPlusTreeSet<K>,
+) -> Option<&'a K>
+    ensures first { option_copied result ≡ slice_get (keys_within K.cmp first.now second.now) 0 }
+    ensures shared { IfSome result (λ key. IsTrue (holds K.cmp second.now key.now)) }
+    ensures own { IfSome result (λ key. Contains first.now key.now) }
+{
+    first.intersection(second).next()
+}
+
+// What the first set holds is shared or its alone.
+fn parts<'a, K: Key>(
+    first: &'a BPlusTreeSet<K>,
+    second: &'a BPlusTreeSet<K>,
+) -> (Difference<'a, K>, Intersection<'a, K>)
+    ensures difference { IsDifference K.cmp first.now second.now result.0 }
+    ensures intersection { IsIntersection K.cmp first.now second.now result.1 }
+{
+    laws_of_two_sets::<K>();
+    (first.difference(second), first.intersection(second))
+}
+
+// What one of two sets holds and the other does not.
+fn sets_apart<'a, K: Key>(
+    first: &'a BPlusTreeSet<K>,
+    second: &'a BPlusTreeSet<K>,
+) -> SymmetricDifference<'a, K>
+    ensures { IsSymmetricDifference K.cmp first.now second.now (symmetric K.cmp result.0 result.1) }
+{
+    laws_of_two_sets::<K>();
+    let _lens = (first.len(), second.len());
+    first.symmetric_difference(second)
+}
+
+// The keys that are left are between the two numbers, and there is an upper one.
+fn bounds_a_difference<K: Key>(keys: &Difference<'_, K>) -> (usize, usize)
+    ensures lower { result.0 ≤ length keys.now }
+    ensures upper { length keys.now ≤ result.1 }
+{
+    let (low, high) = keys.size_hint();
+    (low, high.unwrap_or(0))
+}
+
+fn bounds_an_intersection<K: Key>(keys: &Intersection<'_, K>) -> usize
+    ensures { length keys.now ≤ result }
+{
+    keys.size_hint().1.unwrap_or(0)
+}
+
+// Between what one side has more and the sum of both.
+fn counts_either<K: Key>(keys: &SymmetricDifference<'_, K>) -> (usize, Option<usize>)
+    requires { (length keys.now.0 ≡ 2) × (length keys.now.1 ≡ 3) }
+    ensures { result ≡ (1, Some 5) }
+{
+    keys.size_hint()
+}
+
+// A step gives the first key that one side has alone.
+fn gives_the_first_of_either<'a, K: Key>(keys: &mut SymmetricDifference<'a, K>) -> Option<&'a K>
+    ensures { option_copied result ≡ slice_get (symmetric K.cmp keys.old.0 keys.old.1) 0 }
+{
+    keys.next()
+}
+
+// Clones have the same keys left, and are never refused.
+fn clones_a_difference<'a, K: Key>(keys: &Difference<'a, K>) -> Difference<'a, K>
+    ensures { result ≡ keys.now }
+{
+    match keys.clone() {
+        Ok(copy) => copy,
+        Err(_) => unreachable!(),
+    }
+}
+
+fn clones_an_intersection<'a, K: Key>(keys: &Intersection<'a, K>) -> Intersection<'a, K>
+    ensures { result ≡ keys.now }
+{
+    match keys.clone() {
+        Ok(copy) => copy,
+        Err(_) => unreachable!(),
+    }
+}
+
+fn clones_a_symmetric_difference<'a, K: Key>(
+    keys: &SymmetricDifference<'a, K>,
+) -> SymmetricDifference<'a, K>
+    ensures { result ≡ keys.now }
+{
+    match keys.clone() {
+        Ok(copy) => copy,
+        Err(_) => unreachable!(),
+    }
+}
+
+// A key is found exactly where the set holds it: one of the set's own, and equal.
+fn finds_the_stored_key<'a, K: Key>(set: &'a BPlusTreeSet<K>, k: &K) -> Option<&'a K>
+    ensures there { is_some result ≡ holds K.cmp set.now k.now }
+    ensures own { IfSome result (λ key. Contains set.now key.now) }
+    ensures equal { IfSome result (λ key. K.cmp key.now k.now ≡ Equal) }
+{
+    set.get(k)
+}
+
+// A set that holds a key which another lacks is no subset of it, and each set is one of itself.
+fn tells_what_is_lacking<K: Key>(
+    few: &BPlusTreeSet<K>,
+    many: &BPlusTreeSet<K>,
+    k: &K,
+) -> (bool, bool, bool)
+    ensures lacking { result.1 ≡ true → result.2 ≡ false → result.0 ≡ false }
+    ensures none { many.now ≡ few.now → result.0 ≡ true }
+{
+    (few.is_subset(many), few.contains(k), many.contains(k))
+}
+
+// Every set has all keys of a set of none.
+fn has_all_of_none<K: Key>(set: &BPlusTreeSet<K>, none: &BPlusTreeSet<K>) -> bool
+    requires { none.now ≡ [] }
+    ensures { result ≡ true }
+{
+    set.is_superset(none)
+}
+
+// Two sets that share a key, be it the last of either, are not disjoint, and a set of no keys shares none.
+fn tells_what_is_shared<K: Key>(
+    first: &BPlusTreeSet<K>,
+    second: &BPlusTreeSet<K>,
+    k: &K,
+) -> (bool, bool, bool)
+    ensures shared { result.1 ≡ true → result.2 ≡ true → result.0 ≡ false }
+    ensures none { second.now ≡ [] → result.0 ≡ true }
+{
+    (
+        first.is_disjoint(second),
+        first.contains(k),
+        second.contains(k),
+    )
 }
 
 // To tell whether a set holds a key, at most seven keys are compared on each of sixteen levels, and two of the remembered leaf.

@@ -2,7 +2,9 @@
 ghost use Rattle.std.specs.Prelude.{◌≡◌, ◌+◌, List, length, not, ◌||◌, ◌&&◌, if◌then◌else◌};
 ghost use Rattle.std.specs.List.Sorted.{IsStrictlySortedBy};
 ghost use Rattle.std.specs.Ordering.{is_eq};
-ghost use Rattle.bptree_maps.specs.Keys.{holds, with_key, without_key, gathered};
+ghost use Rattle.bptree_maps.specs.Keys.{holds, with_key, without_key, gathered, keys_within, keys_without};
+ghost use Rattle.bptree_maps.specs.Symmetric.{symmetric};
+ghost use Rattle.bptree_maps.specs.TwoSets.{KeepsFirstOrder, KeepsOrder, MakesDifference, MakesIntersection, MakesSymmetricDifference};
 
 use bptree_keys::key::Key;
 
@@ -18,4 +20,15 @@ pub fn laws_of_keys<K: Key>()
     ensures without_len { (keys : List K) → (k : K) → IsStrictlySortedBy K.cmp keys → length (without_key K.cmp keys k) + (if holds K.cmp keys k then 1 else 0) ≡ length keys }
     ensures gathered { (keys : List K) → IsStrictlySortedBy K.cmp (gathered K.cmp keys) }
     ensures same { (keys : List K) → IsStrictlySortedBy K.cmp keys → gathered K.cmp keys ≡ keys }
+{}
+
+/// What two lists of keys share, and what one of them holds alone: where the lists ascend, so do these; and which keys they
+/// hold, by which of the lists hold them. It does nothing.
+pub fn laws_of_two_sets<K: Key>()
+    ensures difference_order { KeepsFirstOrder K.cmp (keys_without K.cmp) }
+    ensures difference { MakesDifference K.cmp (keys_without K.cmp) }
+    ensures intersection_order { KeepsFirstOrder K.cmp (keys_within K.cmp) }
+    ensures intersection { MakesIntersection K.cmp (keys_within K.cmp) }
+    ensures symmetric_order { KeepsOrder K.cmp (symmetric K.cmp) }
+    ensures symmetric { MakesSymmetricDifference K.cmp (symmetric K.cmp) }
 {}

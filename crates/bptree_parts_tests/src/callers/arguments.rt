@@ -47,6 +47,23 @@ fn summarizes_two_leaves<K: Key, A: Argument<K>>(
     Ok(both)
 }
 
+// Where the keys of a node's first child gave way to others, and the summaries tell the node's new one, that is a summary of
+// all that stand there then.
+fn replaces_the_first<K: Key, A: Argument<K>>(
+    node: &A,
+    old: &A,
+    new: &A,
+    first: &[K],
+    rest: &[K],
+) -> Option<A>
+    requires new { A.is_summary new.now first.now }
+    requires ascending { IsStrictlySortedBy K.cmp (first.now ++ rest.now) }
+    requires fits { length (first.now ++ rest.now) < 2 ^ 64 }
+    ensures { (was : List K) → A.is_summary old.now was → A.is_summary node.now (was ++ rest.now) → IfSome result (λ a. A.is_summary a (first.now ++ rest.now)) }
+{
+    A::from_replaced(node, old, new)
+}
+
 // Before any key there is the default, which is a summary of no keys.
 fn summarizes_no_keys<K: Key, A: Argument<K>>() -> A
     ensures { A.is_summary result [] }

@@ -53,7 +53,7 @@ fn cuts_and_moves<K: Key>()
 
 // Three neighbours become one, and one gives way to none.
 fn joins_and_leaves_out<K: Key>()
-    ensures joined { (front : List (List K)) → (p q r : List K) → (back : List (List K)) → ArePieces K.cmp (front ++ p ∷ q ∷ r ∷ back) → ArePieces K.cmp (front ++ ((p ++ q) ++ r) ∷ back) }
+    ensures merged { (front : List (List K)) → (p q r : List K) → (back : List (List K)) → ArePieces K.cmp (front ++ p ∷ q ∷ r ∷ back) → ArePieces K.cmp (front ++ ((p ++ q) ++ r) ∷ back) }
     ensures left_out { (front old back : List (List K)) → ArePieces K.cmp (front ++ (old ++ back)) → IsStrictlySortedBy K.cmp (flatten (front ++ ([] ++ back))) → length (flatten (front ++ ([] ++ back))) < 2 ^ 64 → ArePieces K.cmp (front ++ ([] ++ back)) }
     ensures parted { (first second third : List (List K)) → ArePieces K.cmp ((first ++ second) ++ third) → ArePieces K.cmp second }
 {

@@ -229,7 +229,7 @@ fn splits_at_a_new_key<K: Drop, A: Drop>(
     (node.len(), promoted, right.len())
 }
 
-// A split that is joined again leaves the node as it was, and gives back the entry.
+// A split that is merged again leaves the node as it was, and gives back the entry.
 fn takes_a_split_back<K: Drop, A: Drop>(
     node: &mut InnerNode<K, A>,
     slot: usize,
@@ -246,7 +246,7 @@ fn takes_a_split_back<K: Drop, A: Drop>(
 {
     let _before = node.len();
     let (promoted, right) = node.split(slot, key, child, argument, room);
-    node.join_split(slot, promoted, right)
+    node.undo_split(slot, promoted, right)
 }
 
 // A node that is cut, and merged again with the key that was between, is as it was.
@@ -281,7 +281,7 @@ fn lends_its_last<K: Drop, A: Drop>(
     ensures children { (front : List NodeId) → (last : NodeId) → node.old.children ≡ front ++ last ∷ [] → (node.new.children ≡ front) × (right.new.children ≡ last ∷ right.old.children) }
     ensures arguments { (front : List A) → (last : A) → node.old.arguments ≡ front ++ last ∷ [] → (node.new.arguments ≡ front) × (right.new.arguments ≡ last ∷ right.old.arguments) }
 {
-    node.lend_last(key, right)
+    node.rotate_right(key, right)
 }
 
 // The first child of the next node becomes the last of one, with the key that was between.
@@ -297,7 +297,7 @@ fn takes_the_first_of_the_next<K: Drop, A: Drop>(
     ensures children { (node.new.children ≡ node.old.children ++ take 1 right.old.children) × (right.new.children ≡ drop 1 right.old.children) }
     ensures arguments { (node.new.arguments ≡ node.old.arguments ++ take 1 right.old.arguments) × (right.new.arguments ≡ drop 1 right.old.arguments) }
 {
-    node.lend_first(key, right)
+    node.rotate_left(key, right)
 }
 
 // What was taken over is handed over again, and the key between comes back: both nodes are as before.

@@ -386,7 +386,7 @@ fn links_a_split<K: Drop, V: Drop>(
     (leaf.len(), right.len(), right)
 }
 
-// A split that is joined again leaves the leaf as it was, and gives back the item.
+// A split that is merged again leaves the leaf as it was, and gives back the item.
 fn takes_a_split_back<K: Drop, V: Drop>(
     leaf: &mut LeafNode<K, V>,
     slot: usize,
@@ -401,7 +401,7 @@ fn takes_a_split_back<K: Drop, V: Drop>(
     ensures leaf { leaf.new ≡ leaf.old }
 {
     let right = leaf.split_new_leaf(slot, item, ids.1, ids.0, room);
-    leaf.join_split(slot, right)
+    leaf.undo_split(slot, right)
 }
 
 // The last pair of one leaf becomes the first of the next.
@@ -414,7 +414,7 @@ fn lends_its_last<K: Drop, V: Drop>(leaf: &mut LeafNode<K, V>, right: &mut LeafN
     ensures left_links { (leaf.new.prev ≡ leaf.old.prev) × (leaf.new.next ≡ leaf.old.next) }
     ensures right_links { (right.new.prev ≡ right.old.prev) × (right.new.next ≡ right.old.next) }
 {
-    leaf.lend_last(right);
+    leaf.rotate_right(right);
 }
 
 // The first pair of the next leaf becomes the last of one.
@@ -429,7 +429,7 @@ fn takes_the_first_of_the_next<K: Drop, V: Drop>(
     ensures left_links { (leaf.new.prev ≡ leaf.old.prev) × (leaf.new.next ≡ leaf.old.next) }
     ensures right_links { (right.new.prev ≡ right.old.prev) × (right.new.next ≡ right.old.next) }
 {
-    leaf.lend_first(right);
+    leaf.rotate_left(right);
 }
 
 // What was taken over is handed over again: both have the pairs that they had, and `right` all that it had.

@@ -19,7 +19,7 @@ where
     S::Argument: CloneArgument<S::K>,
 {
     /// A tree of its own over a clone of the store: equal keys in the same order, each value what its own clone answers, and
-    /// clones of the nodes under the same numbers. It has counted no mended nodes.
+    /// clones of the nodes under the same numbers. It has counted no rebalanced nodes.
     ///
     /// Each key, value and summary is cloned once. It is refused where a request for memory is, or where one of these
     /// clones is; what was cloned till then is dropped.

@@ -4,13 +4,14 @@ ghost use Rattle.std.specs.declared.cmp.Ordering.TheVariants.{Equal};
 ghost use Rattle.std.specs.Option.{option_copied, option_map};
 ghost use Rattle.bptree_keys.specs.Contents.{next, previous, value};
 ghost use Rattle.bptree_tree.specs.Cursor.{cursor_key, StandsAt};
+ghost use Rattle.bptree_tree.specs.Entries.{at_least};
 
 use crate::cursor::Cursor;
 use crate::tree::BPlusTree;
+use bptree_descents::neighbours;
 use bptree_keys::node_id::LeafNodeId;
 use bptree_shape::reading;
 use bptree_stores::node_stores::NodeStore;
-use bptree_ways::neighbours;
 use std::alloc::AllocError;
 
 impl<S: NodeStore> BPlusTree<S> {
@@ -34,6 +35,37 @@ impl<S: NodeStore> BPlusTree<S> {
         let leaf = reading::leaf_for(&self.store, self.root, self.height, k);
         let (offset, value) = self.store.get_leaf(leaf).locate_slot_with_value(k);
         Ok(Some((Cursor::at((leaf, offset), k)?, value)))
+    }
+
+    /// A cursor on the least key that is not below `k`, and the value there. It takes what a clone of that key takes, and where
+    /// there is none it takes nothing.
+    ///
+    /// It costs what `get` does, and where `k` itself is not there one more search of its leaf.
+    pub fn lower_bound(&self, k: &S::K) -> Result<Option<(Cursor<S::K>, &S::V)>, AllocError>
+        ensures cursor { IfOk result (λ answer. StandsAt S.K.cmp (at_least S.K.cmp self.now.contents k.now) (option_map (λ found. found.0) answer)) }
+        ensures value { IfOk result (λ answer. option_map (λ found. found.1.now) answer ≡ option_map (λ pair. pair.1) (at_least S.K.cmp self.now.contents k.now)) }
+        ensures end { at_least S.K.cmp self.now.contents k.now ≡ None → result ≡ Ok None }
+        ensures sure { ((key : S.K) → S.K.is_infallible key) → IsOk result }
+    {
+        let Some((place, (key, value))) = self.place_from(k) else {
+            return Ok(None);
+        };
+        let cursor = Cursor::at(place, key)?;
+        Ok(Some((cursor, value)))
+    }
+
+    /// A cursor on the least key above `k`, and the value there. It takes what a clone of that key takes, and where there is
+    /// none it takes nothing.
+    ///
+    /// It costs what `get` does, and one more search of the leaf.
+    pub fn upper_bound(&self, k: &S::K) -> Result<Option<(Cursor<S::K>, &S::V)>, AllocError>
+        ensures cursor { IfOk result (λ answer. StandsAt S.K.cmp (next S.K.cmp self.now.contents k.now) (option_map (λ found. found.0) answer)) }
+        ensures value { IfOk result (λ answer. option_map (λ found. found.1.now) answer ≡ option_map (λ pair. pair.1) (next S.K.cmp self.now.contents k.now)) }
+        ensures end { next S.K.cmp self.now.contents k.now ≡ None → result ≡ Ok None }
+        ensures sure { ((key : S.K) → S.K.is_infallible key) → IsOk result }
+    {
+        let leaf = reading::leaf_for(&self.store, self.root, self.height, k);
+        self.cursor_after(leaf, 0, k)
     }
 
     // Cursors at the ends and beside a key, with the values there.
@@ -123,6 +155,18 @@ impl<S: NodeStore> BPlusTree<S> {
         ensures { option_map (λ found. (found.1.0.now, found.1.1.now)) result ≡ next S.K.cmp self.now.contents key.now }
     {
         neighbours::pair_after(&self.store, self.root, self.height, leaf, offset, key)
+    }
+
+    // The pair with the least key that is not below a key.
+    fn place_from(&self, k: &S::K) -> Option<((LeafNodeId, usize), (&S::K, &S::V))>
+        ensures { option_map (λ found. (found.1.0.now, found.1.1.now)) result ≡ at_least S.K.cmp self.now.contents k.now }
+    {
+        let id = reading::leaf_for(&self.store, self.root, self.height, k);
+        let leaf = self.store.get_leaf(id);
+        match leaf.locate_slot(k) {
+            Ok(slot) => Some(((id, slot), leaf.data_at(slot))),
+            Err(slot) => self.place_after(id, slot, k),
+        }
     }
 
     fn place_before(

@@ -6,19 +6,19 @@ ghost use Rattle.bptree_arguments.specs.Visits.{answered, IsAllowedError};
 ghost use Rattle.bptree_keys.specs.Contents.{has};
 ghost use Rattle.bptree_keys.specs.Ranges.{between};
 ghost use Rattle.bptree_ranges.specs.Summaries.{IsPartSummary};
-ghost use Rattle.bptree_ways.specs.ByArgument.{IsSelected};
+ghost use Rattle.bptree_descents.specs.ByArgument.{IsSelected};
 
 use crate::SelectError;
 use crate::tree::BPlusTree;
 use bptree_arguments::argument::{RankArgument, SearchArgument};
 use bptree_arguments::count::Count;
 use bptree_arguments::visit::{DescendError, DescendVisit};
+use bptree_descents::{by_argument, visiting};
 use bptree_keys::key::Key;
 use bptree_ranges::counting::len_between;
 use bptree_ranges::summaries::summary_between;
 use bptree_stores::node_store_vec::NodeStoreVec;
 use bptree_stores::node_stores::NodeStore;
-use bptree_ways::{by_argument, visiting};
 use std::alloc::AllocError;
 
 impl<S: NodeStore> BPlusTree<S> {

@@ -5,7 +5,7 @@ ghost use Rattle.std.specs.Option.{option_copied};
 ghost use Rattle.bptree_arguments.specs.Groups.{of_group};
 ghost use Rattle.bptree_keys.specs.Contents.{IsAscending};
 ghost use Rattle.bptree_keys.specs.Ranges.{between, part};
-ghost use Rattle.bptree_ways.specs.ByArgument.{IsPartSelected};
+ghost use Rattle.bptree_descents.specs.ByArgument.{IsPartSelected};
 
 use crate::tree::BPlusTree;
 use bptree_arguments::argument::SearchArgument;

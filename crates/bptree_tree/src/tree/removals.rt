@@ -1,7 +1,9 @@
-//! Removals by the summaries of keys, and of all pairs.
-ghost use Rattle.std.specs.Prelude.{◌≡◌, [], None, Ok, IfOk, OnErr, MatchOption};
-ghost use Rattle.bptree_keys.specs.Contents.{del};
-ghost use Rattle.bptree_ways.specs.ByArgument.{IsTaken};
+//! Removals of pairs: with their keys, at both ends, by the summaries of keys, and of all.
+ghost use Rattle.std.specs.Prelude.{◌≡◌, [], false, None, Ok, IfOk, OnErr, MatchOption};
+ghost use Rattle.std.specs.Map.Iter.{TakesFirst, TakesLast};
+ghost use Rattle.bptree_keys.specs.Contents.{has, del};
+ghost use Rattle.bptree_descents.specs.ByArgument.{IsTaken};
+ghost use Rattle.bptree_tree.specs.Entries.{entry};
 ghost use Rattle.bptree_tree.specs.Whole.{IsWhole, IsUntouched};
 
 use crate::tree::BPlusTree;
@@ -37,6 +39,121 @@ impl<S: NodeStore> BPlusTree<S> {
             self.root,
             self.height,
             query,
+            &mut self.statistic,
+        )? {
+            None => Ok(None),
+            Some(gone) => {
+                let Removed {
+                    value: pair,
+                    root,
+                    height,
+                    summary,
+                } = gone;
+                self.root = root;
+                self.height = height;
+                self.len -= 1;
+                self.root_argument = summary;
+                Ok(Some(pair))
+            }
+        }
+    }
+
+    /// Removes the pair whose key equals `k`, and hands it back with the key that was stored. Where no key does, nothing
+    /// changes and nothing can be refused.
+    ///
+    /// It costs what `remove` does, which drops that key. Where it is refused, nothing has changed.
+    pub fn remove_entry(&mut self, k: &S::K) -> Result<Option<(S::K, S::V)>, AllocError>
+        ensures ok { IfOk result (λ gone. (gone ≡ entry S.K.cmp self.old.contents k.now) × (self.new.contents ≡ del S.K.cmp self.old.contents k.now)) }
+        ensures absent { has S.K.cmp self.old.contents k.now ≡ false → result ≡ Ok None }
+        ensures whole { IsWhole S.K.cmp S.Argument.is_summary (λ store. S.slots store) self.new }
+        ensures untouched { has S.K.cmp self.old.contents k.now ≡ false → IsUntouched (λ store. S.slots store) self.new self.old }
+        ensures err { OnErr result (self.new.contents ≡ self.old.contents) }
+        ensures unchanged { OnErr result (IsUntouched (λ store. S.slots store) self.new self.old) }
+    {
+        // Read, so that it is known to fit.
+        let _len = self.len;
+        match removal::remove_entry(
+            &mut self.store,
+            &mut self.path,
+            self.root,
+            self.height,
+            k,
+            &mut self.statistic,
+        )? {
+            None => Ok(None),
+            Some(gone) => {
+                let Removed {
+                    value: pair,
+                    root,
+                    height,
+                    summary,
+                } = gone;
+                self.root = root;
+                self.height = height;
+                self.len -= 1;
+                self.root_argument = summary;
+                Ok(Some(pair))
+            }
+        }
+    }
+
+    /// Removes the pair with the least key, and hands it back: none of an empty tree, where nothing can be refused.
+    ///
+    /// It is one way down, on which no key is compared. What a removal takes is what `remove` takes, and where it is refused
+    /// nothing has changed.
+    pub fn pop_first(&mut self) -> Result<Option<(S::K, S::V)>, AllocError>
+        ensures ok { IfOk result (λ gone. TakesFirst (λ pair. pair) self.old.contents gone self.new.contents) }
+        ensures empty { self.old.contents ≡ [] → result ≡ Ok None }
+        ensures whole { IsWhole S.K.cmp S.Argument.is_summary (λ store. S.slots store) self.new }
+        ensures untouched { self.old.contents ≡ [] → IsUntouched (λ store. S.slots store) self.new self.old }
+        ensures err { OnErr result (self.new.contents ≡ self.old.contents) }
+        ensures unchanged { OnErr result (IsUntouched (λ store. S.slots store) self.new self.old) }
+    {
+        // Read, so that it is known to fit.
+        let _len = self.len;
+        match removal::remove_first(
+            &mut self.store,
+            &mut self.path,
+            self.root,
+            self.height,
+            &mut self.statistic,
+        )? {
+            None => Ok(None),
+            Some(gone) => {
+                let Removed {
+                    value: pair,
+                    root,
+                    height,
+                    summary,
+                } = gone;
+                self.root = root;
+                self.height = height;
+                self.len -= 1;
+                self.root_argument = summary;
+                Ok(Some(pair))
+            }
+        }
+    }
+
+    /// Removes the pair with the greatest key, and hands it back: none of an empty tree, where nothing can be refused.
+    ///
+    /// It is one way down, on which no key is compared. What a removal takes is what `remove` takes, and where it is refused
+    /// nothing has changed.
+    pub fn pop_last(&mut self) -> Result<Option<(S::K, S::V)>, AllocError>
+        ensures ok { IfOk result (λ gone. TakesLast (λ pair. pair) self.old.contents gone self.new.contents) }
+        ensures empty { self.old.contents ≡ [] → result ≡ Ok None }
+        ensures whole { IsWhole S.K.cmp S.Argument.is_summary (λ store. S.slots store) self.new }
+        ensures untouched { self.old.contents ≡ [] → IsUntouched (λ store. S.slots store) self.new self.old }
+        ensures err { OnErr result (self.new.contents ≡ self.old.contents) }
+        ensures unchanged { OnErr result (IsUntouched (λ store. S.slots store) self.new self.old) }
+    {
+        // Read, so that it is known to fit.
+        let _len = self.len;
+        match removal::remove_last(
+            &mut self.store,
+            &mut self.path,
+            self.root,
+            self.height,
             &mut self.statistic,
         )? {
             None => Ok(None),

@@ -15,8 +15,8 @@ get_inner-requires g t c = node_present g.met.S.K.Ord.total g.S.Argument.Argumen
 pub link_at-requires-clause-place : goal.link_at-requires-clause-place
 link_at-requires-clause-place g t c = node_place_at g.met.S.K.Ord.total g.S.Argument.Argument.is_summary (g.S.NodeStore.slots c.args.store.now) (g.S.NodeStore.slots c.args.store.now) c.args.path.now c.args.division c.requires.climbs c.pop.new.self c.in-Some.id c.in-Some.place c.in-Some.field-0-2 c.in-Some.ensures.some
 
-pub part_at-requires-clause-place : goal.part_at-requires-clause-place
-part_at-requires-clause-place g t c = node_place_at g.met.S.K.Ord.total g.S.Argument.Argument.is_summary (g.S.NodeStore.slots c.args.store.now) (g.S.NodeStore.slots c.args.store.now) c.args.path.now c.args.division c.requires.climbs c.pop.new.self c.in-Some.id c.in-Some.place c.in-Some.field-0-2 c.in-Some.ensures.some
+pub split_inner_at-requires-clause-place : goal.split_inner_at-requires-clause-place
+split_inner_at-requires-clause-place g t c = node_place_at g.met.S.K.Ord.total g.S.Argument.Argument.is_summary (g.S.NodeStore.slots c.args.store.now) (g.S.NodeStore.slots c.args.store.now) c.args.path.now c.args.division c.requires.climbs c.pop.new.self c.in-Some.id c.in-Some.place c.in-Some.field-0-2 c.in-Some.ensures.some
 
 pub ascend-requires : goal.ascend-requires
 ascend-requires g t c = climbs_linked g.met.S.K.Ord.total g.S.Argument.Argument.is_summary (g.S.NodeStore.slots c.args.store.now) (g.S.NodeStore.slots c.link_at.new.store) c.args.path.now c.args.division c.requires.climbs c.pop.new.self c.in-Some.id c.in-Some.place c.in-Some.field-0-2 c.in-Some.ensures.some c.in_ok-above.field-0.old c.in_ok-above.ensures.links c.in_ok-above.field-0.above c.in_ok-above.ensures.sums
@@ -40,30 +40,30 @@ returns-in-Err-clause-handed_back g t c = (when_linked g.met.S.K.Ord.total g.S.A
 pub ascend_split-requires : goal.ascend_split-requires
 ascend_split-requires g t c κs within = (
   omega (arith, ap length c.in-Some.ensures.some, length-append c.pop.new.self ((c.in-Some.id, c.in-Some.place, c.in-Some.field-0-2) ∷ [])),
-  (within.0, (within.1.0, (within.1.1.0, (within.1.1.1, climbs_split g.met.S.K.Ord.total g.S.Argument.Argument.is_summary (g.S.NodeStore.slots c.args.store.now) (g.S.NodeStore.slots c.part_at.new.store) c.args.path.now c.args.division c.requires.climbs c.pop.new.self c.in-Some.id c.in-Some.place c.in-Some.field-0-2 c.in-Some.ensures.some c.in_ok-left.field-0.up c.in_ok-left.field-0.node c.in_ok-left.field-0.old c.in_ok-left.ensures.splits c.in_ok-left.field-0.left c.in_ok-left.field-0.right c.in_ok-left.ensures.left c.in_ok-left.ensures.right)))),
+  (within.0, (within.1.0, (within.1.1.0, (within.1.1.1, climbs_split g.met.S.K.Ord.total g.S.Argument.Argument.is_summary (g.S.NodeStore.slots c.args.store.now) (g.S.NodeStore.slots c.split_inner_at.new.store) c.args.path.now c.args.division c.requires.climbs c.pop.new.self c.in-Some.id c.in-Some.place c.in-Some.field-0-2 c.in-Some.ensures.some c.in_ok-left.field-0.up c.in_ok-left.field-0.node c.in_ok-left.field-0.old c.in_ok-left.ensures.splits c.in_ok-left.field-0.left c.in_ok-left.field-0.right c.in_ok-left.ensures.left c.in_ok-left.ensures.right)))),
 )
 
-pub unpart_at-requires-clause-left : goal.unpart_at-requires-clause-left
-unpart_at-requires-clause-left g t c = rw c.in-Err-ascend_split.ensures.refused (sizes_split g.met.S.K.Ord.total g.S.Argument.Argument.is_summary (g.S.NodeStore.slots c.args.store.now) (g.S.NodeStore.slots c.part_at.new.store) c.args.path.now c.args.division c.requires.climbs c.pop.new.self c.in-Some.id c.in-Some.place c.in-Some.field-0-2 c.in-Some.ensures.some c.in_ok-left.field-0.up c.in_ok-left.field-0.node c.in_ok-left.field-0.old c.in_ok-left.ensures.splits).0
+pub undo_split_inner_at-requires-clause-left : goal.undo_split_inner_at-requires-clause-left
+undo_split_inner_at-requires-clause-left g t c = rw c.in-Err-ascend_split.ensures.refused (sizes_split g.met.S.K.Ord.total g.S.Argument.Argument.is_summary (g.S.NodeStore.slots c.args.store.now) (g.S.NodeStore.slots c.split_inner_at.new.store) c.args.path.now c.args.division c.requires.climbs c.pop.new.self c.in-Some.id c.in-Some.place c.in-Some.field-0-2 c.in-Some.ensures.some c.in_ok-left.field-0.up c.in_ok-left.field-0.node c.in_ok-left.field-0.old c.in_ok-left.ensures.splits).0
 
-pub unpart_at-requires-clause-right : goal.unpart_at-requires-clause-right
-unpart_at-requires-clause-right g t c = rw c.in-Err-ascend_split.ensures.refused (sizes_split g.met.S.K.Ord.total g.S.Argument.Argument.is_summary (g.S.NodeStore.slots c.args.store.now) (g.S.NodeStore.slots c.part_at.new.store) c.args.path.now c.args.division c.requires.climbs c.pop.new.self c.in-Some.id c.in-Some.place c.in-Some.field-0-2 c.in-Some.ensures.some c.in_ok-left.field-0.up c.in_ok-left.field-0.node c.in_ok-left.field-0.old c.in_ok-left.ensures.splits).1
+pub undo_split_inner_at-requires-clause-right : goal.undo_split_inner_at-requires-clause-right
+undo_split_inner_at-requires-clause-right g t c = rw c.in-Err-ascend_split.ensures.refused (sizes_split g.met.S.K.Ord.total g.S.Argument.Argument.is_summary (g.S.NodeStore.slots c.args.store.now) (g.S.NodeStore.slots c.split_inner_at.new.store) c.args.path.now c.args.division c.requires.climbs c.pop.new.self c.in-Some.id c.in-Some.place c.in-Some.field-0-2 c.in-Some.ensures.some c.in_ok-left.field-0.up c.in_ok-left.field-0.node c.in_ok-left.field-0.old c.in_ok-left.ensures.splits).1
 
-pub unpart_at-requires-clause-apart : goal.unpart_at-requires-clause-apart
-unpart_at-requires-clause-apart g t c = (sizes_split g.met.S.K.Ord.total g.S.Argument.Argument.is_summary (g.S.NodeStore.slots c.args.store.now) (g.S.NodeStore.slots c.part_at.new.store) c.args.path.now c.args.division c.requires.climbs c.pop.new.self c.in-Some.id c.in-Some.place c.in-Some.field-0-2 c.in-Some.ensures.some c.in_ok-left.field-0.up c.in_ok-left.field-0.node c.in_ok-left.field-0.old c.in_ok-left.ensures.splits).2
+pub undo_split_inner_at-requires-clause-apart : goal.undo_split_inner_at-requires-clause-apart
+undo_split_inner_at-requires-clause-apart g t c = (sizes_split g.met.S.K.Ord.total g.S.Argument.Argument.is_summary (g.S.NodeStore.slots c.args.store.now) (g.S.NodeStore.slots c.split_inner_at.new.store) c.args.path.now c.args.division c.requires.climbs c.pop.new.self c.in-Some.id c.in-Some.place c.in-Some.field-0-2 c.in-Some.ensures.some c.in_ok-left.field-0.up c.in_ok-left.field-0.node c.in_ok-left.field-0.old c.in_ok-left.ensures.splits).2
 
-pub unpart_at-requires-clause-place : goal.unpart_at-requires-clause-place
-unpart_at-requires-clause-place g t c = place_split g.met.S.K.Ord.total g.S.Argument.Argument.is_summary (g.S.NodeStore.slots c.args.store.now) (g.S.NodeStore.slots c.part_at.new.store) c.args.path.now c.args.division c.requires.climbs c.pop.new.self c.in-Some.id c.in-Some.place c.in-Some.field-0-2 c.in-Some.ensures.some c.in_ok-left.field-0.up c.in_ok-left.field-0.node c.in_ok-left.field-0.old c.in_ok-left.ensures.splits
+pub undo_split_inner_at-requires-clause-place : goal.undo_split_inner_at-requires-clause-place
+undo_split_inner_at-requires-clause-place g t c = place_split g.met.S.K.Ord.total g.S.Argument.Argument.is_summary (g.S.NodeStore.slots c.args.store.now) (g.S.NodeStore.slots c.split_inner_at.new.store) c.args.path.now c.args.division c.requires.climbs c.pop.new.self c.in-Some.id c.in-Some.place c.in-Some.field-0-2 c.in-Some.ensures.some c.in_ok-left.field-0.up c.in_ok-left.field-0.node c.in_ok-left.field-0.old c.in_ok-left.ensures.splits
 
 pub returns-in-Ok-ascend_split-clause-rises : goal.returns-in-Ok-ascend_split-clause-rises
 returns-in-Ok-ascend_split-clause-rises g t c climbs same =
-    reaches_split g.met.S.K.Ord.total g.S.Argument.Argument.is_summary (g.S.NodeStore.slots c.args.store.now) (g.S.NodeStore.slots c.part_at.new.store) c.args.path.now c.args.division climbs c.pop.new.self c.in-Some.id c.in-Some.place c.in-Some.field-0-2 c.in-Some.ensures.some c.in_ok-left.field-0.up c.in_ok-left.field-0.node c.in_ok-left.field-0.old c.in_ok-left.ensures.splits c.in_ok-left.field-0.left c.in_ok-left.field-0.right c.in_ok-left.ensures.left c.in_ok-left.ensures.right
+    reaches_split g.met.S.K.Ord.total g.S.Argument.Argument.is_summary (g.S.NodeStore.slots c.args.store.now) (g.S.NodeStore.slots c.split_inner_at.new.store) c.args.path.now c.args.division climbs c.pop.new.self c.in-Some.id c.in-Some.place c.in-Some.field-0-2 c.in-Some.ensures.some c.in_ok-left.field-0.up c.in_ok-left.field-0.node c.in_ok-left.field-0.old c.in_ok-left.ensures.splits c.in_ok-left.field-0.left c.in_ok-left.field-0.right c.in_ok-left.ensures.left c.in_ok-left.ensures.right
     (g.S.NodeStore.slots c.ascend_split.new.store) c.in-Ok-ascend_split.top.0 c.in-Ok-ascend_split.top.1 (λ over at. c.in-Ok-ascend_split.ensures.rises over (at ∙ same))
 
 pub returns-in-Err-ascend_split-clause-refused : goal.returns-in-Err-ascend_split-clause-refused
-returns-in-Err-ascend_split-clause-refused g t c = (when_split g.met.S.K.Ord.total g.S.Argument.Argument.is_summary (g.S.NodeStore.slots c.args.store.now) (g.S.NodeStore.slots c.part_at.new.store) c.args.path.now c.args.division c.requires.climbs c.pop.new.self c.in-Some.id c.in-Some.place c.in-Some.field-0-2 c.in-Some.ensures.some c.in_ok-left.field-0.up c.in_ok-left.field-0.node c.in_ok-left.field-0.old c.in_ok-left.ensures.splits
-    (λ was here place full split. c.unpart_at.ensures.undoes (g.S.NodeStore.slots c.args.store.now) was c.args.division here place full (rw (c.in-Err-ascend_split.ensures.refused, c.in-Err-ascend_split.ensures.handed_back) split))).0
+returns-in-Err-ascend_split-clause-refused g t c = (when_split g.met.S.K.Ord.total g.S.Argument.Argument.is_summary (g.S.NodeStore.slots c.args.store.now) (g.S.NodeStore.slots c.split_inner_at.new.store) c.args.path.now c.args.division c.requires.climbs c.pop.new.self c.in-Some.id c.in-Some.place c.in-Some.field-0-2 c.in-Some.ensures.some c.in_ok-left.field-0.up c.in_ok-left.field-0.node c.in_ok-left.field-0.old c.in_ok-left.ensures.splits
+    (λ was here place full split. c.undo_split_inner_at.ensures.undoes (g.S.NodeStore.slots c.args.store.now) was c.args.division here place full (rw (c.in-Err-ascend_split.ensures.refused, c.in-Err-ascend_split.ensures.handed_back) split))).0
 
 pub returns-in-Err-ascend_split-clause-handed_back : goal.returns-in-Err-ascend_split-clause-handed_back
-returns-in-Err-ascend_split-clause-handed_back g t c = (when_split g.met.S.K.Ord.total g.S.Argument.Argument.is_summary (g.S.NodeStore.slots c.args.store.now) (g.S.NodeStore.slots c.part_at.new.store) c.args.path.now c.args.division c.requires.climbs c.pop.new.self c.in-Some.id c.in-Some.place c.in-Some.field-0-2 c.in-Some.ensures.some c.in_ok-left.field-0.up c.in_ok-left.field-0.node c.in_ok-left.field-0.old c.in_ok-left.ensures.splits
-    (λ was here place full split. c.unpart_at.ensures.undoes (g.S.NodeStore.slots c.args.store.now) was c.args.division here place full (rw (c.in-Err-ascend_split.ensures.refused, c.in-Err-ascend_split.ensures.handed_back) split))).1
+returns-in-Err-ascend_split-clause-handed_back g t c = (when_split g.met.S.K.Ord.total g.S.Argument.Argument.is_summary (g.S.NodeStore.slots c.args.store.now) (g.S.NodeStore.slots c.split_inner_at.new.store) c.args.path.now c.args.division c.requires.climbs c.pop.new.self c.in-Some.id c.in-Some.place c.in-Some.field-0-2 c.in-Some.ensures.some c.in_ok-left.field-0.up c.in_ok-left.field-0.node c.in_ok-left.field-0.old c.in_ok-left.ensures.splits
+    (λ was here place full split. c.undo_split_inner_at.ensures.undoes (g.S.NodeStore.slots c.args.store.now) was c.args.division here place full (rw (c.in-Err-ascend_split.ensures.refused, c.in-Err-ascend_split.ensures.handed_back) split))).1

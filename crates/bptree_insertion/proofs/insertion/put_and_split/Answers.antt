@@ -6,34 +6,34 @@ use Rattle.bptree_insertion.proofs.insertion.put_and_split.Goals as goal
 pub split_at-requires-clause-slot : goal.split_at-requires-clause-slot
 split_at-requires-clause-slot g c = omega (arith, c.requires.full, slot_within g.met.S.K.Ord.total g.S.Argument.Argument.is_summary (g.S.NodeStore.slots c.args.store.now) c.args.path.now c.args.id c.args.slot c.args.key c.requires.due.0 c.args.value)
 
-pub join_at-requires-clause-slot : goal.join_at-requires-clause-slot
-join_at-requires-clause-slot g c = omega (arith, c.requires.full, slot_within g.met.S.K.Ord.total g.S.Argument.Argument.is_summary (g.S.NodeStore.slots c.args.store.now) c.args.path.now c.args.id c.args.slot c.args.key c.requires.due.0 c.args.value)
+pub undo_split_at-requires-clause-slot : goal.undo_split_at-requires-clause-slot
+undo_split_at-requires-clause-slot g c = omega (arith, c.requires.full, slot_within g.met.S.K.Ord.total g.S.Argument.Argument.is_summary (g.S.NodeStore.slots c.args.store.now) c.args.path.now c.args.id c.args.slot c.args.key c.requires.due.0 c.args.value)
 
 pub ascend_split-requires : goal.ascend_split-requires
 ascend_split-requires g c = record { climbs = climbs_divided g.met.S.K.Ord.total g.S.Argument.Argument.is_summary (g.S.NodeStore.slots c.args.store.now) c.args.path.now c.args.id c.args.slot c.args.key c.requires.due.0 c.args.value (g.S.NodeStore.slots c.split_at.new.store) c.in_ok-division.division c.in_ok-division.fresh c.in_ok-division.ensures.divides c.in_ok-division.ensures.left c.in_ok-division.ensures.right }
 
-pub mend-requires : goal.mend-requires
-mend-requires g c = record {
+pub relink_next-requires : goal.relink_next-requires
+relink_next-requires g c = record {
   next = next_risen g.met.S.K.Ord.total g.S.Argument.Argument.is_summary (g.S.NodeStore.slots c.args.store.now) c.args.path.now c.args.id c.args.slot c.args.key c.requires.due.0 c.args.value (g.S.NodeStore.slots c.split_at.new.store) c.in_ok-division.division c.in_ok-division.fresh c.in_ok-division.ensures.divides c.in_ok-division.ensures.left c.in_ok-division.ensures.right
       (g.S.NodeStore.slots c.ascend_split.new.store) c.in-Ok.top.0 c.in-Ok.top.1 (λ climbs at. c.in-Ok.ensures.rises climbs (at ∙ c.requires.due.1)) c.next-next.result c.get_leaf.result.now c.get_leaf.ensures c.next-next.ensures;
 }
 
 pub returns-in-Ok-clause-placed : goal.returns-in-Ok-clause-placed
 returns-in-Ok-clause-placed g c given same =
-    subst (λ x. IsPlacedUpTo g.S.K.Ord.cmp g.S.Argument.Argument.is_summary (g.S.NodeStore.slots c.args.store.now) (g.S.NodeStore.slots c.mend.new.store) given.top x c.args.key c.args.value c.in-Ok.top.0 c.in-Ok.top.1) same
+    subst (λ x. IsPlacedUpTo g.S.K.Ord.cmp g.S.Argument.Argument.is_summary (g.S.NodeStore.slots c.args.store.now) (g.S.NodeStore.slots c.relink_next.new.store) given.top x c.args.key c.args.value c.in-Ok.top.0 c.in-Ok.top.1) same
     (placed_divided g.met.S.K.Ord.total g.S.Argument.Argument.is_summary (g.S.NodeStore.slots c.args.store.now) c.args.path.now c.args.id c.args.slot c.args.key given c.args.value (g.S.NodeStore.slots c.split_at.new.store) c.in_ok-division.division c.in_ok-division.fresh c.in_ok-division.ensures.divides c.in_ok-division.ensures.left c.in_ok-division.ensures.right
-    (g.S.NodeStore.slots c.ascend_split.new.store) c.in-Ok.top.0 c.in-Ok.top.1 (λ climbs at. c.in-Ok.ensures.rises climbs (at ∙ same)) c.next-next.result c.get_leaf.result.now c.get_leaf.ensures c.next-next.ensures (g.S.NodeStore.slots c.mend.new.store) c.mend.ensures)
+    (g.S.NodeStore.slots c.ascend_split.new.store) c.in-Ok.top.0 c.in-Ok.top.1 (λ climbs at. c.in-Ok.ensures.rises climbs (at ∙ same)) c.next-next.result c.get_leaf.result.now c.get_leaf.ensures c.next-next.ensures (g.S.NodeStore.slots c.relink_next.new.store) c.relink_next.ensures)
 
-pub join_at-requires-clause-halves : goal.join_at-requires-clause-halves
-join_at-requires-clause-halves g c = rw c.in-Err.ensures.refused (halves_divided g.met.S.K.Ord.total g.S.Argument.Argument.is_summary (g.S.NodeStore.slots c.args.store.now) c.args.path.now c.args.id c.args.slot c.args.key c.requires.due.0 c.args.value (g.S.NodeStore.slots c.split_at.new.store) c.in_ok-division.division c.in_ok-division.fresh c.in_ok-division.ensures.divides c.requires.full).0
+pub undo_split_at-requires-clause-halves : goal.undo_split_at-requires-clause-halves
+undo_split_at-requires-clause-halves g c = rw c.in-Err.ensures.refused (halves_divided g.met.S.K.Ord.total g.S.Argument.Argument.is_summary (g.S.NodeStore.slots c.args.store.now) c.args.path.now c.args.id c.args.slot c.args.key c.requires.due.0 c.args.value (g.S.NodeStore.slots c.split_at.new.store) c.in_ok-division.division c.in_ok-division.fresh c.in_ok-division.ensures.divides c.requires.full).0
 
-pub join_at-requires-clause-apart : goal.join_at-requires-clause-apart
-join_at-requires-clause-apart g c = (halves_divided g.met.S.K.Ord.total g.S.Argument.Argument.is_summary (g.S.NodeStore.slots c.args.store.now) c.args.path.now c.args.id c.args.slot c.args.key c.requires.due.0 c.args.value (g.S.NodeStore.slots c.split_at.new.store) c.in_ok-division.division c.in_ok-division.fresh c.in_ok-division.ensures.divides c.requires.full).1
+pub undo_split_at-requires-clause-apart : goal.undo_split_at-requires-clause-apart
+undo_split_at-requires-clause-apart g c = (halves_divided g.met.S.K.Ord.total g.S.Argument.Argument.is_summary (g.S.NodeStore.slots c.args.store.now) c.args.path.now c.args.id c.args.slot c.args.key c.requires.due.0 c.args.value (g.S.NodeStore.slots c.split_at.new.store) c.in_ok-division.division c.in_ok-division.fresh c.in_ok-division.ensures.divides c.requires.full).1
 
 pub returns-clause-refused : goal.returns-clause-refused
 returns-clause-refused g c = (when_divided g.met.S.K.Ord.total g.S.Argument.Argument.is_summary (g.S.NodeStore.slots c.args.store.now) c.args.path.now c.args.id c.args.slot c.args.key c.requires.due.0 c.args.value (g.S.NodeStore.slots c.split_at.new.store) c.in_ok-division.division c.in_ok-division.fresh c.in_ok-division.ensures.divides
-    (λ was here within divides. c.join_at.ensures.undoes (g.S.NodeStore.slots c.args.store.now) was (c.args.key, c.args.value) c.in_ok-division.division here within (rw c.in-Err.ensures.refused divides))).0
+    (λ was here within divides. c.undo_split_at.ensures.undoes (g.S.NodeStore.slots c.args.store.now) was (c.args.key, c.args.value) c.in_ok-division.division here within (rw c.in-Err.ensures.refused divides))).0
 
 pub returns-clause-handed_back : goal.returns-clause-handed_back
 returns-clause-handed_back g c = (when_divided g.met.S.K.Ord.total g.S.Argument.Argument.is_summary (g.S.NodeStore.slots c.args.store.now) c.args.path.now c.args.id c.args.slot c.args.key c.requires.due.0 c.args.value (g.S.NodeStore.slots c.split_at.new.store) c.in_ok-division.division c.in_ok-division.fresh c.in_ok-division.ensures.divides
-    (λ was here within divides. c.join_at.ensures.undoes (g.S.NodeStore.slots c.args.store.now) was (c.args.key, c.args.value) c.in_ok-division.division here within (rw c.in-Err.ensures.refused divides))).1
+    (λ was here within divides. c.undo_split_at.ensures.undoes (g.S.NodeStore.slots c.args.store.now) was (c.args.key, c.args.value) c.in_ok-division.division here within (rw c.in-Err.ensures.refused divides))).1

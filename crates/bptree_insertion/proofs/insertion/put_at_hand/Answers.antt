@@ -1,6 +1,7 @@
 use Rattle.bptree_ascent.proofs.Lent.{none_if_absent}
 use Rattle.bptree_insertion.proofs.AtHand.{leaf_at_hand, absent_at_hand, placed_at_hand}
-use Rattle.bptree_insertion.proofs.Upserted.{node_ascends, replaced}
+use Rattle.bptree_insertion.proofs.Upserted.{replaced}
+use Rattle.bptree_shape.proofs.LeafFor.{node_ascends}
 use Rattle.bptree_insertion.proofs.insertion.put_at_hand.Goals as goal
 
 pub returns-in-Ok-clause-put : goal.returns-in-Ok-clause-put

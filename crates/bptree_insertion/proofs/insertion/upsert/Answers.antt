@@ -1,7 +1,8 @@
 use Rattle.std.proofs.Common.{refl, ap, length, arith}
 use Rattle.bptree_ascent.proofs.Lent.{none_if_absent}
 use Rattle.bptree_ascent.proofs.Rooted.{low_tree}
-use Rattle.bptree_insertion.proofs.Upserted.{node_ascends, absent_there, replaced, placed_at}
+use Rattle.bptree_insertion.proofs.Upserted.{replaced, placed_at}
+use Rattle.bptree_shape.proofs.LeafFor.{node_ascends, absent_there}
 use Rattle.bptree_insertion.proofs.insertion.upsert.Goals as goal
 
 pub find_path-leaf-requires-clause-room : goal.find_path-leaf-requires-clause-room

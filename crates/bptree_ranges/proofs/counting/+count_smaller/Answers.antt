@@ -3,8 +3,8 @@ use Rattle.bptree_arguments.specs.declared.count.Count.{Count}
 use Rattle.bptree_keys.specs.declared.node_id.NodeId.TheVariants.{Inner, Leaf}
 use Rattle.bptree_ranges.specs.Counting.{CountsKeys}
 use Rattle.bptree_shape.proofs.Down.{inner_present, node_leads}
-use Rattle.bptree_ways.specs.ByArgument.{IsSubtree}
-use Rattle.bptree_ways.proofs.Summed.{child_subtree}
+use Rattle.bptree_descents.specs.ByArgument.{IsSubtree}
+use Rattle.bptree_descents.proofs.Summed.{child_subtree}
 use Rattle.bptree_ranges.proofs.Counts.{leaf_counted}
 use Rattle.bptree_ranges.proofs.Sums.{counted_node}
 use Rattle.bptree_ranges.proofs.counting.+count_smaller.Goals as goal

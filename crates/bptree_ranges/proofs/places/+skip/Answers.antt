@@ -4,8 +4,8 @@ use Rattle.bptree_ranges.specs.Places.{before_entry, IsSkipped}
 use Rattle.bptree_ranges.specs.declared.places.Skipped.TheVariants.{Found}
 use Rattle.bptree_shape.proofs.Down.{inner_present}
 use Rattle.bptree_shape.proofs.ListReads.{read_some}
-use Rattle.bptree_ways.specs.ByArgument.{IsSubtree}
-use Rattle.bptree_ways.proofs.Summed.{child_subtree}
+use Rattle.bptree_descents.specs.ByArgument.{IsSubtree}
+use Rattle.bptree_descents.proofs.Summed.{child_subtree}
 use Rattle.bptree_ranges.proofs.Passing.{leaf_found, leaf_short, child_passed, as_many, ended, told, passed, found_first}
 use Rattle.bptree_ranges.proofs.places.+skip.Goals as goal
 use Rattle.bptree_ranges.proofs.places.+skip.Goals.{in-Some, in-None+in-Short}

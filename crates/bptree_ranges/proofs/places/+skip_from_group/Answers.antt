@@ -6,8 +6,8 @@ use Rattle.bptree_ranges.specs.Places.{before_entry, before_group, IsSkipped}
 use Rattle.bptree_ranges.specs.declared.places.Skipped.TheVariants.{Found, Short}
 use Rattle.bptree_shape.specs.Shape.{pairs_at}
 use Rattle.bptree_shape.proofs.Down.{inner_present, node_children, node_keys}
-use Rattle.bptree_ways.specs.ByArgument.{IsSubtree}
-use Rattle.bptree_ways.proofs.Summed.{child_subtree, leaf_sorted}
+use Rattle.bptree_descents.specs.ByArgument.{IsSubtree}
+use Rattle.bptree_descents.proofs.Summed.{child_subtree, leaf_sorted}
 use Rattle.bptree_ranges.proofs.Bordered.{passed, failed}
 use Rattle.bptree_ranges.proofs.GroupPlaces.{begins, begins_in_leaf}
 use Rattle.bptree_ranges.proofs.Passing.{next_is, found, found_later, short_later}

@@ -2,8 +2,8 @@ use Rattle.std.proofs.Common.{◌+◌, inr, length, refl, arith, take, None, Som
 use Rattle.bptree_ranges.specs.Ranges.{start}
 use Rattle.bptree_shape.specs.Shape.{pairs_at}
 use Rattle.bptree_ranges.proofs.Ranged.{first_place, selected_place, selected_within, empty_part}
-use Rattle.bptree_ways.specs.ByArgument.{IsSelectedAt}
-use Rattle.bptree_ways.proofs.Summed.{whole_subtree}
+use Rattle.bptree_descents.specs.ByArgument.{IsSelectedAt}
+use Rattle.bptree_descents.proofs.Summed.{whole_subtree}
 use Rattle.bptree_ranges.proofs.ranges.part_by_argument.Goals as goal
 
 pub find_by_argument-requires : goal.find_by_argument-requires

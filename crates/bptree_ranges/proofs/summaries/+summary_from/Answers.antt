@@ -6,8 +6,8 @@ use Rattle.bptree_keys.specs.declared.node_id.NodeId.TheVariants.{Inner}
 use Rattle.bptree_ranges.specs.Summaries.{SumsUpSome, SumsUpBoth}
 use Rattle.bptree_shape.specs.Shape.{pairs_at}
 use Rattle.bptree_shape.proofs.Down.{inner_present, node_leads}
-use Rattle.bptree_ways.specs.ByArgument.{IsSubtree}
-use Rattle.bptree_ways.proofs.Summed.{child_subtree}
+use Rattle.bptree_descents.specs.ByArgument.{IsSubtree}
+use Rattle.bptree_descents.proofs.Summed.{child_subtree}
 use Rattle.bptree_ranges.proofs.Sums.{from_node}
 use Rattle.bptree_ranges.proofs.summaries.+summary_from.Goals as goal
 

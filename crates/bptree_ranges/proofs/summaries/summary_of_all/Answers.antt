@@ -5,7 +5,7 @@ use Rattle.bptree_keys.specs.Ranges.{between}
 use Rattle.bptree_keys.specs.declared.node_id.NodeId.TheVariants.{Inner}
 use Rattle.bptree_ranges.specs.Summaries.{SumsUpSome, SumsUpRange}
 use Rattle.bptree_shape.specs.Shape.{pairs_at}
-use Rattle.bptree_ways.specs.ByArgument.{IsSubtree}
+use Rattle.bptree_descents.specs.ByArgument.{IsSubtree}
 use Rattle.bptree_ranges.proofs.Sums.{all_node}
 use Rattle.bptree_ranges.proofs.summaries.summary_of_all.Goals as goal
 

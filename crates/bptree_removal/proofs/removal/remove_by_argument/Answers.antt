@@ -1,7 +1,7 @@
 use Rattle.std.proofs.Common.{Some, arith, ap, length, refl}
-use Rattle.bptree_ways.specs.ByArgument.{IsSelectedAt}
+use Rattle.bptree_descents.specs.ByArgument.{IsSelectedAt}
 use Rattle.bptree_ascent.proofs.Rooted.{low_tree}
-use Rattle.bptree_ways.proofs.Summed.{whole_subtree}
+use Rattle.bptree_descents.proofs.Summed.{whole_subtree}
 use Rattle.bptree_removal.proofs.Withdrawn.{found_pair, is_there, withdrawn}
 use Rattle.bptree_removal.proofs.removal.remove_by_argument.Goals as goal
 
@@ -28,8 +28,8 @@ take_out-requires g c =
     let there = is_there total sum old selects c.args.query c.args.height c.args.root c.requires.shape c.requires.few leaf slot found c.clear.new.self c.find_path_by_argument.new.path c.clear.ensures on in
     ((found_pair total sum old selects c.args.query c.args.height c.args.root c.requires.shape c.requires.few leaf slot found).0.0, there)
 
-pub settle-root-requires : goal.settle-root-requires
-settle-root-requires g c =
+pub shrink_root-root-requires : goal.shrink_root-root-requires
+shrink_root-root-requires g c =
     let total = g.met.S.K.Ord.total in
     let sum = g.S.Argument.Argument.is_summary in
     let selects = g.S.Argument.SearchArgument.selects in
@@ -54,5 +54,5 @@ returns-in_ok-value-in-Some-clause-removed g c =
     let found : IsSelectedAt selects c.args.query old c.args.height c.args.root (Some (leaf, slot)) = rw c.in-Some.is at c.in_ok-find_path_by_argument.ensures.selected in
     let on = rw c.in-Some.is at c.in_ok-find_path_by_argument.ensures.way in
     let there = is_there total sum old selects c.args.query c.args.height c.args.root c.requires.shape c.requires.few leaf slot found c.clear.new.self c.find_path_by_argument.new.path c.clear.ensures on in
-    withdrawn total sum old selects c.args.query c.args.height c.args.root c.requires.shape c.requires.few leaf slot found (slots c.take_out.new.store) (slots c.settle-root.new.store) c.in_ok-value-in-Some.value c.in_ok-value-in-Some.summary c.settle-root.result.0 c.settle-root.result.1
-    (c.in_ok-value-in-Some.ensures.leaves (found_pair total sum old selects c.args.query c.args.height c.args.root c.requires.shape c.requires.few leaf slot found).0.0 there) c.settle-root.ensures.shape c.settle-root.ensures.pairs
+    withdrawn total sum old selects c.args.query c.args.height c.args.root c.requires.shape c.requires.few leaf slot found (slots c.take_out.new.store) (slots c.shrink_root-root.new.store) c.in_ok-value-in-Some.value c.in_ok-value-in-Some.summary c.shrink_root-root.result.0 c.shrink_root-root.result.1
+    (c.in_ok-value-in-Some.ensures.leaves (found_pair total sum old selects c.args.query c.args.height c.args.root c.requires.shape c.requires.few leaf slot found).0.0 there) c.shrink_root-root.ensures.shape c.shrink_root-root.ensures.pairs

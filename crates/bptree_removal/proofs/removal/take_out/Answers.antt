@@ -8,8 +8,8 @@ pub take_pair-pair-requires-clause-slot : goal.take_pair-pair-requires-clause-sl
 take_pair-pair-requires-clause-slot g c =
     out.slot_found g.S.K.Ord.cmp _ c.requires.0 c.args.slot c.requires.1.found
 
-pub mend_leaf-requires : goal.mend_leaf-requires
-mend_leaf-requires g c =
+pub rebalance_leaf-requires : goal.rebalance_leaf-requires
+rebalance_leaf-requires g c =
     let total = g.met.S.K.Ord.total in
     let sum = g.S.Argument.Argument.is_summary in
     let slots = g.S.NodeStore.slots in
@@ -46,7 +46,7 @@ returns-in-Ok-clause-leaves g c k there =
     let took = c.take_pair-pair.ensures in
     let entry : InnerNodeId × ℕ × NodeId = (c.in-Some.id, c.in-Some.place, c.in-Some.field-0-2) in
     let there' = out.there_by (c.pop.new.self ++ entry ∷ []) c.in-Some.ensures.some there in
-    out.leaves_short total sum old c.pop.new.self c.in-Some.id c.in-Some.place c.in-Some.field-0-2 c.args.leaf c.args.slot k there' c.take_pair-pair.result took.pair (slots c.take_pair-pair.new.store) took.takes (out.few_of _ _ c.get_leaf.ensures c.if-able_to_lend.ensures.1) (slots c.mend_leaf.new.store) c.in-Ok.top (c.in-Ok.ensures.trims (out.short_leaf total sum old c.pop.new.self c.in-Some.id c.in-Some.place c.in-Some.field-0-2 c.args.leaf c.args.slot k there' c.take_pair-pair.result took.pair (slots c.take_pair-pair.new.store) took.takes (out.few_of _ _ c.get_leaf.ensures c.if-able_to_lend.ensures.1)))
+    out.leaves_short total sum old c.pop.new.self c.in-Some.id c.in-Some.place c.in-Some.field-0-2 c.args.leaf c.args.slot k there' c.take_pair-pair.result took.pair (slots c.take_pair-pair.new.store) took.takes (out.few_of _ _ c.get_leaf.ensures c.if-able_to_lend.ensures.1) (slots c.rebalance_leaf.new.store) c.in-Ok.top (c.in-Ok.ensures.trims (out.short_leaf total sum old c.pop.new.self c.in-Some.id c.in-Some.place c.in-Some.field-0-2 c.args.leaf c.args.slot k there' c.take_pair-pair.result took.pair (slots c.take_pair-pair.new.store) took.takes (out.few_of _ _ c.get_leaf.ensures c.if-able_to_lend.ensures.1)))
 
 pub returns-in_default-clause-leaves : goal.returns-in_default-clause-leaves
 returns-in_default-clause-leaves g c k there =

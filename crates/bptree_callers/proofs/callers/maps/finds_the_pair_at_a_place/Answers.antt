@@ -3,7 +3,7 @@ use Rattle.std.specs.List.{slice_get}
 use Rattle.std.proofs.lemmas.Map.Entries.{length-keys_of}
 use Rattle.std.proofs.lemmas.Option.{slice_get_past}
 use Rattle.bptree_arguments.specs.CountLaws.{SelectsPlace}
-use Rattle.bptree_ways.specs.ByArgument.{IsSelected}
+use Rattle.bptree_descents.specs.ByArgument.{IsSelected}
 use Rattle.bptree_callers.proofs.callers.maps.finds_the_pair_at_a_place.Goals as goal
 
 -- what is selected by a place is the pair there, or none past the end

@@ -12,4 +12,4 @@ turned false e = refl
 pub returns-clause-alone : goal.returns-clause-alone
 returns-clause-alone g c =
     taken_passes deref (λ key. not (holds g.K.Ord.cmp c.args.second.now key)) (λ key. holds g.K.Ord.cmp c.args.second.now key ≡ false) (λ key e. turned _ e)
-    _ _ c.args.first.now c.next.result c.next.ensures.steps c.difference.ensures
+    _ _ c.args.first.now c.next.result c.next.ensures.steps c.difference.ensures.rest

@@ -1,5 +1,5 @@
 use Rattle.std.proofs.Common.{arith}
-use Rattle.bptree_ways.proofs.Summed.{whole_subtree, pair_selected}
+use Rattle.bptree_descents.proofs.Summed.{whole_subtree, pair_selected}
 use Rattle.bptree_tree.proofs.tree.BPlusTree.get_by_argument.Goals as goal
 
 pub find_by_argument-requires : goal.find_by_argument-requires

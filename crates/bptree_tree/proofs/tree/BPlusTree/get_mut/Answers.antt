@@ -12,7 +12,7 @@ use Rattle.bptree_shape.proofs.Spot.{value_in_leaf, leaf_ascends}
 use Rattle.bptree_shape.proofs.Walk.{tree_ascends}
 use Rattle.bptree_tree.proofs.tree.BPlusTree.get_mut.Goals as goal
 
--- one lender, and the same value at each write
+-- one giver, and the same value at each write
 same_lending : {N W L M : Type 0} {n : N} {F G : W → L} → ((w : W) → F w ≡ G w) → ◌≡◌ {A = (N × (W → L)) ⊎ M} (inl (n, F)) (inl (n, G))
 same_lending {n = n} same = λ i. inl (n, λ w. same w i)
 

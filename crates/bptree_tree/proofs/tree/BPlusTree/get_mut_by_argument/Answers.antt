@@ -1,6 +1,6 @@
 use Rattle.std.proofs.Common.{◌∙◌, sym, ◌+◌, length, refl, Some}
 use Rattle.bptree_nodes.specs.Leaf.{set_value_at}
-use Rattle.bptree_ways.specs.ByArgument.{IsSelectedAt}
+use Rattle.bptree_descents.specs.ByArgument.{IsSelectedAt}
 use Rattle.bptree_shape.specs.Leaves.{pairs_of}
 use Rattle.bptree_ascent.proofs.Lent.{set_shape, set_keys, set_length}
 use Rattle.bptree_tree.proofs.LentAt.{set_pairs, value_of_slot, slot_within}

@@ -8,7 +8,7 @@ use Rattle.bptree_ranges.proofs.Runs.{no_part, whole_part, tail_part}
 use Rattle.bptree_removal.proofs.Withdrawn.{alike}
 use Rattle.bptree_shape.proofs.Walk.{tree_ascends}
 use Rattle.bptree_shape.specs.Shape.{root_least}
-use Rattle.bptree_ways.specs.ByArgument.{IsSelected}
+use Rattle.bptree_descents.specs.ByArgument.{IsSelected}
 use Rattle.bptree_tree.proofs.tree.BPlusTree.part_argument.Goals as goal
 
 pub returns-in_default : goal.returns-in_default

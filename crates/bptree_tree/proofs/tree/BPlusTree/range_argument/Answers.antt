@@ -1,5 +1,5 @@
 use Rattle.std.proofs.Common.{arith}
-use Rattle.bptree_ways.proofs.Summed.{whole_subtree}
+use Rattle.bptree_descents.proofs.Summed.{whole_subtree}
 use Rattle.bptree_tree.proofs.tree.BPlusTree.range_argument.Goals as goal
 
 pub summary_between-requires : goal.summary_between-requires

@@ -1,0 +1,172 @@
+-- What stands beside the place of a key in a tree.
+use Rattle.std.proofs.Common.{◌≡◌, ℕ, zero, suc, ◌-◌, ◌<◌, ◌≤◌, Bool, true, List, [], ◌∷◌, ◌++◌, length, take, drop, refl, sym, ap, subst, ◌∙◌, arith, Option, Some, None, Result, Ok, Err, append_assoc, append-nil, length-append, slice_get, IsSomeAnd}
+use Rattle.std.specs.declared.cmp.Ordering.{Ordering}
+use Rattle.std.specs.declared.cmp.Ordering.TheVariants.{Equal}
+use Rattle.std.specs.Cmp.{IsTotalOrder}
+use Rattle.std.specs.List.{AllByRecursion}
+use Rattle.std.specs.Ordering.{is_gt}
+use Rattle.std.proofs.lemmas.List.Elements.{filter-append}
+use Rattle.std.proofs.lemmas.Option.{get_or_from_slice_get, slice_get_within}
+use Rattle.std.specs.declared.cmp.Ordering.TheVariants.{Less, Greater}
+use Rattle.bptree_keys.specs.Contents.{IsAscending, pairs_below, pairs_above, next, previous, value}
+use Rattle.bptree_keys.specs.Locate.{child_place}
+use Rattle.bptree_keys.specs.Places.{IsHit, IsPlaceOf}
+use Rattle.bptree_keys.specs.declared.node_id.LeafNodeId.{LeafNodeId}
+use Rattle.bptree_keys.specs.declared.node_id.NodeId.{NodeId}
+use Rattle.bptree_keys.specs.declared.node_id.NodeId.TheVariants as kind
+use Rattle.bptree_keys.proofs.Around.{pairs_below_around, pairs_above_around}
+use Rattle.bptree_keys.proofs.Found.{hit_at, gap_at}
+use Rattle.bptree_keys.proofs.Parted.{filter_all, filter_none, pairs_below_hit, pairs_below_gap, pairs_above_gap, value_hit, value_gap}
+use Rattle.bptree_keys.proofs.PieceLemmas.{AllByRecursion-left, AllByRecursion-right}
+use Rattle.bptree_nodes.specs.Inner.{Inner}
+use Rattle.bptree_nodes.specs.Leaf.{Leaf, leaf_in_range}
+use Rattle.bptree_nodes.specs.LeafResults.{place_of}
+use Rattle.bptree_nodes.specs.Slot.{Slot, Slots, Present}
+use Rattle.bptree_stores.specs.Hint.{HoldsKey}
+use Rattle.bptree_shape.specs.Leaves.{pairs_of, StandsIn, IsLeafFor}
+use Rattle.bptree_descents.specs.Neighbours.{IsPlaceAt, leaf_pairs_of}
+use Rattle.bptree_shape.specs.Shape.{leaf_pairs, leaf_prev, leaf_next, pairs_at, AreLinked, IsTree, IsWellShaped, root_least}
+use Rattle.bptree_shape.proofs.Ends.{alone, leaves_have, get_right}
+use Rattle.bptree_shape.proofs.Hinted.{first_or, last_or, hinted, linked_next, linked_prev}
+use Rattle.bptree_shape.proofs.Spot.{leaf_ascends, parts_of_read, value_in_leaf}
+use Rattle.bptree_shape.proofs.Walk.{tree_ascends}
+
+module _ {K V : Type 0} (cmp : K → K → Ordering) (total : IsTotalOrder cmp) (l : List (K × V)) (ascending : IsAscending cmp l) (k : K) where
+  pairs_above_hit : (before : List (K × V)) (pair : K × V) (after : List (K × V)) → IsHit cmp l before pair after k → pairs_above cmp l k ≡ after
+  pairs_above_hit before pair after hit = rw (hit.parts, filter-append, filter_none cmp k is_gt Less before refl hit.smaller, hit.equal, filter_all cmp k is_gt Greater after refl hit.greater) refl
+
+  -- the pair that a search found
+  pair_read : (o : Option (K × V)) → IsSomeAnd o (λ pair. cmp pair.0 k ≡ Equal) → (pair : K × V) × (o ≡ Some pair)
+  pair_read None found = absurd found
+  pair_read (Some pair) found = (pair, refl)
+
+  pair_found : (i : ℕ) → IsSomeAnd (slice_get l i) (λ pair. cmp pair.0 k ≡ Equal) → (pair : K × V) × (slice_get l i ≡ Some pair)
+  pair_found i found = pair_read (slice_get l i) found
+
+  -- behind the place where a search ends stands what is above k, and before it what is below
+  above_from : (place : Result ℕ ℕ) → IsPlaceOf cmp l k place → pairs_above cmp l k ≡ drop (child_place place) l
+  above_from (Ok i) found = pairs_above_hit _ _ _ (hit_at cmp total l ascending k i (pair_found i found).0 found).1
+  above_from (Err i) gap = pairs_above_gap cmp l _ _ k (gap_at cmp total l ascending k i gap.0 gap.1).1
+
+  pub below_upto : (place : Result ℕ ℕ) → IsPlaceOf cmp l k place → pairs_below cmp l k ≡ take (place_of place) l
+  below_upto (Ok i) found = pairs_below_hit cmp l _ _ _ k (hit_at cmp total l ascending k i (pair_found i found).0 found).1
+  below_upto (Err i) gap = pairs_below_gap cmp l _ _ k (gap_at cmp total l ascending k i gap.0 gap.1).1
+
+  pub place_within : (place : Result ℕ ℕ) → IsPlaceOf cmp l k place → place_of place ≤ length l
+  place_within (Ok i) found = let pair = pair_found i found in omega (arith, slice_get_within l i pair.0 pair.1)
+  place_within (Err i) gap = (gap_at cmp total l ascending k i gap.0 gap.1).0
+
+  slot_within : (i : ℕ) → IsPlaceOf cmp l k (Ok i) → i < length l
+  slot_within i found = let pair = pair_found i found in slice_get_within l i pair.0 pair.1
+
+  value_there : (i : ℕ) (pair : K × V) → IsPlaceOf cmp l k (Ok i) → slice_get l i ≡ Some pair → value cmp l k ≡ Some pair.1
+  value_there i pair found read = value_hit cmp l _ _ _ k (hit_at cmp total l ascending k i pair found).1 ∙ ap (λ (p : K × V). Some p.1) (get_or_from_slice_get l i pair pair read)
+
+  value_absent : (i : ℕ) → IsPlaceOf cmp l k (Err i) → value cmp l k ≡ None
+  value_absent i gap = value_gap cmp l _ _ k (gap_at cmp total l ascending k i gap.0 gap.1).1
+
+get_left : {X : Type 0} (xs ys : List X) → 0 < length xs → slice_get xs 0 ≡ slice_get (xs ++ ys) 0
+get_left [] ys some = absurd (omega arith)
+get_left (x ∷ xs) ys some = refl
+
+module _ {K V A : Type 0} (slots : Slots (Inner K A) (Leaf K V)) where
+  abbrev pub HasPair : LeafNodeId → Type 0
+  HasPair l = 0 < length (leaf_pairs (slots.leaf l.0))
+
+  -- the first pair behind a leaf is the first of the next leaf
+  first_behind : (xs : List (K × V)) (after : List LeafNodeId) → AllByRecursion HasPair after → slice_get (xs ++ leaf_pairs_of slots (first_or None after)) 0 ≡ slice_get (xs ++ pairs_of slots after) 0
+  first_behind xs [] all = refl
+  first_behind [] (y ∷ ys) all = get_left (leaf_pairs (slots.leaf y.0)) (pairs_of slots ys) all.0
+  first_behind (x ∷ xs) (y ∷ ys) all = refl
+
+  -- the last pair before a leaf is the last of the leaf before it
+  last_among : (x : LeafNodeId) (xs : List LeafNodeId) (ys : List (K × V)) → AllByRecursion HasPair (x ∷ xs)
+      → slice_get (leaf_pairs_of slots (last_or (Some x) xs) ++ ys) (length (leaf_pairs_of slots (last_or (Some x) xs) ++ ys) - 1) ≡ slice_get (pairs_of slots (x ∷ xs) ++ ys) (length (pairs_of slots (x ∷ xs) ++ ys) - 1)
+  last_among x [] ys all = rw append-nil refl
+  last_among x (y ∷ zs) ys all =
+      let some : 0 < length (pairs_of slots (y ∷ zs) ++ ys) = omega (arith, all.1.0, length-append (leaf_pairs (slots.leaf y.0) ++ pairs_of slots zs) ys, length-append (leaf_pairs (slots.leaf y.0)) (pairs_of slots zs)) in
+      last_among y zs ys all.1 ∙ (sym (get_right (leaf_pairs (slots.leaf x.0)) (pairs_of slots (y ∷ zs) ++ ys) some)
+      ∙ ap (λ (l : List (K × V)). slice_get l (length l - 1)) (sym (append_assoc (leaf_pairs (slots.leaf x.0)) (pairs_of slots (y ∷ zs)) ys)))
+
+  last_before : (before : List LeafNodeId) (ys : List (K × V)) → AllByRecursion HasPair before
+      → slice_get (leaf_pairs_of slots (last_or None before) ++ ys) (length (leaf_pairs_of slots (last_or None before) ++ ys) - 1) ≡ slice_get (pairs_of slots before ++ ys) (length (pairs_of slots before ++ ys) - 1)
+  last_before [] ys all = refl
+  last_before (x ∷ xs) ys all = last_among x xs ys all
+
+  -- where a leaf stands beside others, each has a pair
+  pub others_have : (cmp : K → K → Ordering) (h : ℕ) (root : NodeId) (leaf : LeafNodeId) (in' : StandsIn slots h root leaf) → IsTree cmp slots (root_least h) h root None None → AllByRecursion HasPair in'.before × AllByRecursion HasPair in'.after
+  others_have cmp zero (kind.Leaf id) leaf in' t = let none = alone id in'.before leaf in'.after in'.leaves in rw (none.0, none.1) (tt, tt)
+  others_have cmp zero (kind.Inner id) leaf in' t = absurd t
+  others_have cmp (suc h) (kind.Leaf id) leaf in' t = absurd t
+  others_have cmp (suc h) (kind.Inner id) leaf in' t =
+      let all = subst (AllByRecursion HasPair) in'.leaves (leaves_have cmp slots (root_least (suc h)) (suc h) (kind.Inner id) None None (omega arith) t) in
+      (AllByRecursion-left HasPair in'.before (leaf ∷ in'.after) all, (AllByRecursion-right HasPair in'.before (leaf ∷ in'.after) all).1)
+
+module _ {K V A : Type 0} {cmp : K → K → Ordering} (total : IsTotalOrder cmp) (is_summary : A → List K → Type 0) (slots : Slots (Inner K A) (Leaf K V)) (h : ℕ) (root : NodeId) (shape : IsWellShaped cmp is_summary slots h root) where
+  ascends : (id : LeafNodeId) (leaf : Leaf K V) → StandsIn slots h root id → slots.leaf id.0 ≡ Present leaf → IsAscending cmp leaf.pairs
+  ascends id leaf in' here = leaf_ascends total slots h root id leaf in' (tree_ascends total slots (root_least h) h root None None shape.tree) here
+
+  -- a search in the leaf for a key finds the key's place
+  pub found_at : (k : K) (id : LeafNodeId) (leaf : Leaf K V) (place : Result ℕ ℕ) → IsLeafFor cmp slots h root k id → slots.leaf id.0 ≡ Present leaf → (IsAscending cmp leaf.pairs → IsPlaceOf cmp leaf.pairs k place) → length leaf.pairs ≤ 64 → IsPlaceAt cmp slots h root k id leaf place
+  found_at k id leaf place for' here found fits = record { for_key = for'; here = here; place_is = found (ascends id leaf for'.stands here); fits = fits }
+
+  -- so does one in a present leaf whose range the key is in
+  pub hinted_at : (k : K) (id : LeafNodeId) (leaf : Leaf K V) (place : Result ℕ ℕ) (within : Bool) → slots.leaf id.0 ≡ Present leaf → within ≡ leaf_in_range cmp leaf k → within ≡ true → (IsAscending cmp leaf.pairs → IsPlaceOf cmp leaf.pairs k place) → length leaf.pairs ≤ 64 → IsPlaceAt cmp slots h root k id leaf place
+  hinted_at k id leaf place within here range true' found fits =
+      let holds : HoldsKey cmp (slots.leaf id.0) k = subst (λ (s : Slot (Leaf K V)). HoldsKey cmp s k) (sym here) (sym range ∙ true') in
+      found_at k id leaf place (hinted total is_summary slots h root shape k id holds) here found fits
+
+  module _ (k : K) (id : LeafNodeId) (leaf : Leaf K V) (place : Result ℕ ℕ) (at : IsPlaceAt cmp slots h root k id leaf place) where
+    abbrev in' : StandsIn slots h root id
+    in' = at.for_key.stands
+
+    sorted : IsAscending cmp leaf.pairs
+    sorted = ascends id leaf in' at.here
+
+    links : AreLinked slots None (in'.before ++ id ∷ in'.after) None
+    links = subst (λ ids. AreLinked slots None ids None) in'.leaves shape.linked
+
+    next_is : leaf.next ≡ first_or None in'.after
+    next_is = sym (ap leaf_next at.here) ∙ linked_next slots None in'.before id in'.after None links
+
+    prev_is : leaf.prev ≡ last_or None in'.before
+    prev_is = sym (ap leaf_prev at.here) ∙ linked_prev slots None in'.before id in'.after None links
+
+    -- the place lies within the leaf
+    pub within_leaf : place_of place ≤ length leaf.pairs
+    within_leaf = place_within cmp total leaf.pairs sorted k place at.place_is
+
+    pub slot_in_leaf : (i : ℕ) → place ≡ Ok i → i < length leaf.pairs
+    slot_in_leaf i is = slot_within cmp total leaf.pairs sorted k i (subst (IsPlaceOf cmp leaf.pairs k) is at.place_is)
+
+    -- the pair behind the place of a key is the one with the least greater key
+    pub next_beside : slice_get (drop (child_place place) leaf.pairs ++ leaf_pairs_of slots leaf.next) 0 ≡ next cmp (pairs_at slots h root) k
+    next_beside =
+        let around : pairs_above cmp (pairs_at slots h root) k ≡ drop (child_place place) leaf.pairs ++ pairs_of slots in'.after =
+        ap (λ l. pairs_above cmp l k) (parts_of_read slots h root id in' leaf at.here)
+        ∙ (pairs_above_around cmp k (pairs_of slots in'.before) leaf.pairs (pairs_of slots in'.after) at.for_key.smaller at.for_key.greater
+        ∙ ap (λ l. l ++ pairs_of slots in'.after) (above_from cmp total leaf.pairs sorted k place at.place_is)) in
+        ap (λ o. slice_get (drop (child_place place) leaf.pairs ++ leaf_pairs_of slots o) 0) next_is
+        ∙ (first_behind slots (drop (child_place place) leaf.pairs) in'.after (others_have slots cmp h root id in' shape.tree).1
+        ∙ ap (λ l. slice_get l 0) (sym around))
+
+    -- the pair before the place of a key is the one with the greatest smaller key
+    pub previous_beside : slice_get (leaf_pairs_of slots leaf.prev ++ take (place_of place) leaf.pairs) (length (leaf_pairs_of slots leaf.prev ++ take (place_of place) leaf.pairs) - 1) ≡ previous cmp (pairs_at slots h root) k
+    previous_beside =
+        let around : pairs_below cmp (pairs_at slots h root) k ≡ pairs_of slots in'.before ++ take (place_of place) leaf.pairs =
+        ap (λ l. pairs_below cmp l k) (parts_of_read slots h root id in' leaf at.here)
+        ∙ (pairs_below_around cmp k (pairs_of slots in'.before) leaf.pairs (pairs_of slots in'.after) at.for_key.smaller at.for_key.greater
+        ∙ ap (λ l. pairs_of slots in'.before ++ l) (below_upto cmp total leaf.pairs sorted k place at.place_is)) in
+        ap (λ o. slice_get (leaf_pairs_of slots o ++ take (place_of place) leaf.pairs) (length (leaf_pairs_of slots o ++ take (place_of place) leaf.pairs) - 1)) prev_is
+        ∙ (last_before slots in'.before (take (place_of place) leaf.pairs) (others_have slots cmp h root id in' shape.tree).0
+        ∙ ap (λ (l : List (K × V)). slice_get l (length l - 1)) (sym around))
+
+    whole : value cmp (pairs_at slots h root) k ≡ value cmp leaf.pairs k
+    whole = value_in_leaf total slots h root k id leaf at.for_key at.here
+
+    -- the value at the place is the key's
+    pub value_found : (i : ℕ) (pair : K × V) → place ≡ Ok i → slice_get leaf.pairs i ≡ Some pair → Some pair.1 ≡ value cmp (pairs_at slots h root) k
+    value_found i pair is read = sym (whole ∙ value_there cmp total leaf.pairs sorted k i pair (subst (IsPlaceOf cmp leaf.pairs k) is at.place_is) read)
+
+    pub value_missing : (i : ℕ) → place ≡ Err i → None ≡ value cmp (pairs_at slots h root) k
+    value_missing i is = sym (whole ∙ value_absent cmp total leaf.pairs sorted k i (subst (IsPlaceOf cmp leaf.pairs k) is at.place_is))

@@ -1,0 +1,67 @@
+-- The way by summaries is the way of a search for the key that it finds.
+use Rattle.std.proofs.Common.{◌≡◌, ℕ, zero, suc, ◌+◌, ◌-◌, List, [], ◌∷◌, ◌++◌, length, refl, ap, subst, ◌∙◌, arith, Option, Some, None, slice_get, Result, Ok, Err, IfOk}
+use Rattle.std.specs.declared.cmp.Ordering.{Ordering}
+use Rattle.std.specs.Cmp.{IsTotalOrder}
+use Rattle.bptree_nodes.specs.Inner.{Inner}
+use Rattle.bptree_nodes.specs.Leaf.{Leaf}
+use Rattle.bptree_nodes.specs.Slot.{Slot, Slots, Present}
+use Rattle.bptree_keys.specs.declared.node_id.InnerNodeId.{InnerNodeId}
+use Rattle.bptree_keys.specs.declared.node_id.LeafNodeId.{LeafNodeId}
+use Rattle.bptree_keys.specs.declared.node_id.NodeId.{NodeId}
+use Rattle.bptree_keys.specs.declared.node_id.NodeId.TheVariants as kind
+use Rattle.bptree_descents.specs.ByArgument.{IsSubtree, IsSelectedAt, GoesOn}
+use Rattle.bptree_shape.specs.Leaves.{pairs_of, StandsIn}
+use Rattle.bptree_shape.specs.Order.{AtLeast, Within, Chain, Leads}
+use Rattle.bptree_shape.specs.Shape.{leaf_pairs, inner_keys, inner_children, pairs_at, IsTree}
+use Rattle.bptree_shape.proofs.Ordered.{AtLeast-up}
+use Rattle.bptree_shape.proofs.Spot.{parts_of}
+use Rattle.bptree_descents.proofs.Summed.{get_past, get_early}
+use Rattle.bptree_shape.proofs.Walk.{tree_inside}
+use Rattle.bptree_shape.proofs.Ways.{way_more}
+use Rattle.bptree_shape.proofs.ListReads.{all_read, read_below}
+
+pub ok_both : {T E : Type 0} (r : Result T E) (P Q R : T → Type 0) → IfOk r P → IfOk r Q → ((x : T) → P x → Q x → R x) → IfOk r R
+ok_both (Ok x) P Q R one other so = so x one other
+ok_both (Err e) P Q R one other so = tt
+
+-- the child that holds a key is the one that the key leads to
+chain_to : {C K : Type 0} {cmp : K → K → Ordering} (total : IsTotalOrder cmp) (P : C → Option K → Option K → Type 0) (ks : List K) (cs : List C) (lo hi : Option K) (i : ℕ) (c : C) (k : K)
+    → Chain cmp P ks cs lo hi → slice_get cs i ≡ Some c → ((a b : Option K) → P c a b → Within cmp a b k) → AtLeast cmp lo k × Leads cmp k ks i
+chain_to total P ks [] lo hi i c k h read within = absurd h
+chain_to total P [] (d ∷ []) lo hi zero c k h read within = let e : d ≡ c = cc in ((within lo hi (subst (λ x. P x lo hi) e h)).0, refl)
+chain_to total P [] (d ∷ []) lo hi (suc i) c k h read within = cc
+chain_to total P [] (d ∷ f ∷ cs) lo hi i c k h read within = absurd h
+chain_to total P (s ∷ ss) (d ∷ cs) lo hi zero c k h read within = let e : d ≡ c = cc in within lo (Some s) (subst (λ x. P x lo (Some s)) e h.0)
+chain_to total P (s ∷ ss) (d ∷ cs) lo hi (suc i) c k h read within = let r = chain_to total P ss cs (Some s) hi i c k h.2 read within in (AtLeast-up total lo s k h.1.0 r.0, r)
+
+-- the place of a leaf's pair in the whole
+pub place_read : {K V A : Type 0} (slots : Slots (Inner K A) (Leaf K V)) (h : ℕ) (id : NodeId) (leaf : LeafNodeId) (in' : StandsIn slots h id leaf) (slot : ℕ) (pair : K × V) → slice_get (leaf_pairs (slots.leaf leaf.0)) slot ≡ Some pair → slice_get (pairs_at slots h id) (length (pairs_of slots in'.before) + slot) ≡ Some pair
+place_read slots h id leaf in' slot pair read =
+    let before = pairs_of slots in'.before in
+    let here = leaf_pairs (slots.leaf leaf.0) in
+    let after = pairs_of slots in'.after in
+    ap (λ l. slice_get l (length before + slot)) (parts_of slots h id leaf in') ∙ (get_past before (here ++ after) slot ∙ (get_early here after slot (read_below here slot pair read) ∙ read))
+
+module _ {K V A : Type 0} {cmp : K → K → Ordering} (total : IsTotalOrder cmp) (is_summary : A → List K → Type 0) (slots : Slots (Inner K A) (Leaf K V)) where
+  leads_to : (h : ℕ) (id : InnerNodeId) (node : Inner K A) → IsSubtree cmp is_summary slots (suc h) (kind.Inner id) → slots.inner id.0 ≡ Present node → (i : ℕ) (child : NodeId) → slice_get node.children i ≡ Some child
+      → (leaf : LeafNodeId) → StandsIn slots h child leaf → (slot : ℕ) (pair : K × V) → slice_get (leaf_pairs (slots.leaf leaf.0)) slot ≡ Some pair → Leads cmp pair.0 node.keys i
+  leads_to h id node s e i child read leaf in' slot pair there =
+      let chain = subst (λ (x : Slot (Inner K A)). Chain cmp (IsTree cmp slots 16 h) (inner_keys x) (inner_children x) s.stands.low s.stands.high) e s.stands.tree.1 in
+      (chain_to total (IsTree cmp slots 16 h) node.keys node.children s.stands.low s.stands.high i child pair.0 chain read
+      (λ a b t. all_read (λ p. Within cmp a b p.0) (pairs_at slots h child) (length (pairs_of slots in'.before) + slot) pair (tree_inside total slots 16 h child a b t) (place_read slots h child leaf in' slot pair there))).1
+
+  -- with the entry for the child, a search goes on from the node
+  pub goes_on : {Q : Type 0} (selects : Q → List K → Option ℕ → Type 0) (next : Q) (h : ℕ) (id : InnerNodeId) (node : Inner K A) → IsSubtree cmp is_summary slots h (kind.Inner id) → slots.inner id.0 ≡ Present node → (i : ℕ) (child : NodeId) → slice_get node.children i ≡ Some child
+      → (path longer : List (InnerNodeId × ℕ × NodeId)) (found : Option (LeafNodeId × ℕ)) → IsSelectedAt selects next slots (h - 1) child found → GoesOn cmp slots (h - 1) child (path ++ (id, i, child) ∷ []) longer found → GoesOn cmp slots h (kind.Inner id) path longer found
+  goes_on selects next h id node s e i child read path longer None selected on = tt
+  goes_on selects next zero id node s e i child read path longer (Some at) selected on = absurd s.stands.tree
+  goes_on selects next (suc h) id node s e i child read path longer (Some at) selected on =
+      let down : suc h - 1 ≡ h = omega arith in
+      let in' = (rw down at selected).0 in
+      let below = rw down at on in
+      λ pair there top root way. below pair there top root (way_more cmp slots pair.0 path id i child top root h node way e (leads_to h id node s e i child read at.0 in' at.1 pair there) read)
+
+  -- at a leaf it has come to its end
+  pub goes_here : (h : ℕ) (id : LeafNodeId) → IsSubtree cmp is_summary slots h (kind.Leaf id) → (slot : ℕ) (path : List (InnerNodeId × ℕ × NodeId)) → GoesOn cmp slots h (kind.Leaf id) path path (Some (id, slot))
+  goes_here zero id s slot path pair there top root way = way
+  goes_here (suc h) id s slot path pair there top root way = absurd s.stands.tree

@@ -1,0 +1,113 @@
+-- What a visitor's step at an inner node means for the pairs below the node, and its answer at a leaf.
+use Rattle.std.proofs.Common.{◌≡◌, ℕ, zero, suc, ◌+◌, ◌-◌, ◌<◌, ◌≤◌, List, [], ◌∷◌, ◌++◌, length, map, get_or, refl, sym, ap, subst, ◌∙◌, arith, Option, Some, None, slice_get}
+use Rattle.std.specs.declared.cmp.Ordering.{Ordering}
+use Rattle.std.specs.Cmp.{IsTotalOrder}
+use Rattle.std.specs.List.{AllZip}
+use Rattle.std.specs.List.Sorted.{IsStrictlySortedBy}
+use Rattle.std.specs.Map.{keys_of, values_of}
+use Rattle.std.proofs.lemmas.List.{length-map}
+use Rattle.bptree_arguments.specs.Visits.{VisitAnswer, answered, invalid_child, key_pieces, IsStep, IsAllowedError}
+use Rattle.bptree_arguments.specs.declared.visit.DescendError.{DescendError}
+use Rattle.bptree_arguments.specs.declared.visit.DescendError.TheVariants.{OutOfMemory, InvalidChild}
+use Rattle.bptree_arguments.specs.declared.visit.DescendVisitResult.{DescendVisitResult}
+use Rattle.bptree_arguments.specs.declared.visit.DescendVisitResult.TheVariants.{GoDown, Cancel, Complete}
+use Rattle.bptree_keys.specs.Pieces.{flatten, piece_at, ArePieces}
+use Rattle.bptree_keys.specs.declared.node_id.InnerNodeId.{InnerNodeId}
+use Rattle.bptree_keys.specs.declared.node_id.LeafNodeId.{LeafNodeId}
+use Rattle.bptree_keys.specs.declared.node_id.NodeId.{NodeId}
+use Rattle.bptree_keys.specs.declared.node_id.NodeId.TheVariants as kind
+use Rattle.bptree_nodes.specs.Inner.{Inner}
+use Rattle.bptree_nodes.specs.Leaf.{Leaf}
+use Rattle.bptree_nodes.specs.Slot.{Slots, Present}
+use Rattle.bptree_descents.specs.ByArgument.{IsSubtree}
+use Rattle.bptree_shape.specs.Order.{flat}
+use Rattle.bptree_shape.specs.Shape.{pairs_at}
+use Rattle.bptree_shape.proofs.Down.{node_children}
+use Rattle.bptree_shape.proofs.NodePieces.{keys_each}
+use Rattle.bptree_descents.proofs.Summed.{pieces, summaries, whole, are_pieces, same, down, leaf_whole, leaf_sorted}
+
+module _ {C X : Type 0} (f : C → List X) where
+  flatten_map : (cs : List C) → flatten (map f cs) ≡ flat f cs
+  flatten_map [] = refl
+  flatten_map (c ∷ cs) = ap (λ rest. f c ++ rest) (flatten_map cs)
+
+  piece_of : (cs : List C) (i : ℕ) (d : C) → i < length cs → piece_at (map f cs) i ≡ f (get_or cs i d)
+  piece_of [] i d within = absurd (omega arith)
+  piece_of (c ∷ cs) zero d within = refl
+  piece_of (c ∷ cs) (suc i) d within = let small : i < length cs = omega arith in piece_of cs i d small
+
+keys_of_each : {C K V : Type 0} (f : C → List (K × V)) (cs : List C) → key_pieces (map f cs) ≡ keys_each f cs
+keys_of_each f [] = refl
+keys_of_each f (c ∷ cs) = ap (λ rest. keys_of (f c) ∷ rest) (keys_of_each f cs)
+
+module _ {K V A W R : Type 0} {cmp : K → K → Ordering} (total : IsTotalOrder cmp) (is_summary : A → List K → Type 0) (slots : Slots (Inner K A) (Leaf K V)) (answers : W → List (K × V) → VisitAnswer R → Type 0) where
+  module _ (n : ℕ) (arguments : List A) (old new : W) (step : DescendVisitResult R)
+      (clause : (ps : List (List (K × V))) → ArePieces cmp (key_pieces ps) → AllZip is_summary arguments (key_pieces ps) → length ps ≡ n + 1 → IsStep answers old new ps step)
+    where
+      module _ (h : ℕ) (id : InnerNodeId) (node : Inner K A) (s : IsSubtree cmp is_summary slots (suc h) (kind.Inner id)) (e : slots.inner id.0 ≡ Present node) (wide : n ≡ length node.keys) (is : arguments ≡ node.arguments) where
+        -- the pairs below each child
+        abbrev parts : List (List (K × V))
+        parts = map (pairs_at slots h) node.children
+
+        as_keys : key_pieces parts ≡ pieces total is_summary slots h id node s e
+        as_keys = keys_of_each (pairs_at slots h) node.children
+
+        all_of : flatten parts ≡ pairs_at slots (suc h) (kind.Inner id)
+        all_of = flatten_map (pairs_at slots h) node.children ∙ sym (whole total is_summary slots h id node s e)
+
+        many : length parts ≡ n + 1
+        many = length-map node.children (pairs_at slots h) ∙ (node_children total slots (suc h) id node s.stands e ∙ ap (λ m. m + 1) (sym wide))
+
+        stepped : IsStep answers old new parts step
+        stepped =
+            clause parts
+            (subst (ArePieces cmp) (sym as_keys) (are_pieces total is_summary slots h id node s e))
+            (subst (AllZip is_summary arguments) (sym as_keys) (subst (λ l. AllZip is_summary l (pieces total is_summary slots h id node s e)) (sym is) (summaries total is_summary slots h id node s e)))
+            many
+
+        ended_here : step ≡ Cancel → answers old (pairs_at slots (suc h) (kind.Inner id)) (answered None)
+        ended_here c = subst (λ l. answers old l (answered None)) all_of (subst (IsStep answers old new parts) c stepped)
+
+        told_here : (r : R) → step ≡ Complete r → answers old (pairs_at slots (suc h) (kind.Inner id)) (answered (Some r))
+        told_here r c = subst (λ l. answers old l (answered (Some r))) all_of (subst (IsStep answers old new parts) c stepped)
+
+        lost_here : (i : ℕ) → step ≡ GoDown i → n < i → answers old (pairs_at slots (suc h) (kind.Inner id)) invalid_child
+        lost_here i c past = subst (λ l. answers old l invalid_child) all_of ((subst (IsStep answers old new parts) c stepped).1 (omega (arith, many, past)))
+
+        went_here : (i : ℕ) (child : NodeId) → step ≡ GoDown i → i ≤ n → slice_get node.children i ≡ Some child → (answer : VisitAnswer R) → answers new (pairs_at slots h child) answer → answers old (pairs_at slots (suc h) (kind.Inner id)) answer
+        went_here i child c within read answer there =
+            let short : i < length node.children = omega (arith, many, within, length-map node.children (pairs_at slots h)) in
+            let small : i < length parts = omega (arith, many, within) in
+            let piece : piece_at parts i ≡ pairs_at slots h child = piece_of (pairs_at slots h) node.children i child short ∙ ap (pairs_at slots h) (same total is_summary slots h id node s e i child short read) in
+            subst (λ l. answers old l answer) all_of ((subst (IsStep answers old new parts) c stepped).0 small answer (subst (λ l. answers new l answer) (sym piece) there))
+
+      -- the same at a height that the code knows
+      module _ (id : InnerNodeId) (node : Inner K A) where
+        pub ended : (h : ℕ) → IsSubtree cmp is_summary slots h (kind.Inner id) → slots.inner id.0 ≡ Present node → n ≡ length node.keys → arguments ≡ node.arguments → step ≡ Cancel → answers old (pairs_at slots h (kind.Inner id)) (answered None)
+        ended zero s e wide is c = absurd s.stands.tree
+        ended (suc h) s e wide is c = ended_here h id node s e wide is c
+
+        pub told : (h : ℕ) → IsSubtree cmp is_summary slots h (kind.Inner id) → slots.inner id.0 ≡ Present node → n ≡ length node.keys → arguments ≡ node.arguments → (r : R) → step ≡ Complete r → answers old (pairs_at slots h (kind.Inner id)) (answered (Some r))
+        told zero s e wide is r c = absurd s.stands.tree
+        told (suc h) s e wide is r c = told_here h id node s e wide is r c
+
+        pub lost : (h : ℕ) → IsSubtree cmp is_summary slots h (kind.Inner id) → slots.inner id.0 ≡ Present node → n ≡ length node.keys → arguments ≡ node.arguments → (i : ℕ) → step ≡ GoDown i → n < i → answers old (pairs_at slots h (kind.Inner id)) invalid_child
+        lost zero s e wide is i c past = absurd s.stands.tree
+        lost (suc h) s e wide is i c past = lost_here h id node s e wide is i c past
+
+        pub went : (h : ℕ) → IsSubtree cmp is_summary slots h (kind.Inner id) → slots.inner id.0 ≡ Present node → n ≡ length node.keys → arguments ≡ node.arguments → (i : ℕ) (child : NodeId) → step ≡ GoDown i → i ≤ n → slice_get node.children i ≡ Some child
+            → (answer : VisitAnswer R) → answers new (pairs_at slots (h - 1) child) answer → answers old (pairs_at slots h (kind.Inner id)) answer
+        went zero s e wide is i child c within read answer there = absurd s.stands.tree
+        went (suc h) s e wide is i child c within read answer there = went_here h id node s e wide is i child c within read answer (rw (down total is_summary slots h) at there)
+
+  -- an error below that is allowed there is allowed above
+  pub allowed_above : (old new : W) (above below : List (K × V)) → ((answer : VisitAnswer R) → answers new below answer → answers old above answer) → (error : DescendError) → IsAllowedError answers new below error → IsAllowedError answers old above error
+  allowed_above old new above below carried OutOfMemory there = tt
+  allowed_above old new above below carried InvalidChild there = carried invalid_child there
+
+  -- what a visitor answers at a leaf
+  pub at_leaf : (visitor : W) (keys : List K) (values : List V) (answer : Option R) → ((pairs : List (K × V)) → keys_of pairs ≡ keys → values_of pairs ≡ values → IsStrictlySortedBy cmp keys → answers visitor pairs (answered answer))
+      → (h : ℕ) (id : LeafNodeId) (node : Leaf K V) → IsSubtree cmp is_summary slots h (kind.Leaf id) → slots.leaf id.0 ≡ Present node → keys ≡ keys_of node.pairs → values ≡ values_of node.pairs → answers visitor (pairs_at slots h (kind.Leaf id)) (answered answer)
+  at_leaf visitor keys values answer clause h id node s e is are =
+      subst (λ l. answers visitor l (answered answer)) (sym (leaf_whole total is_summary slots h id node s e))
+      (clause node.pairs (sym is) (sym are) (subst (IsStrictlySortedBy cmp) (sym is) (leaf_sorted total is_summary slots h id node s e)))

@@ -1,0 +1,17 @@
+use Rattle.std.proofs.Common.{MatchResult}
+use Rattle.std.specs.Map.{keys_of}
+use Rattle.std.proofs.lemmas.Result.{IfOk-weaker}
+use Rattle.bptree_descents.specs.ByArgument.{RanksAmong}
+use Rattle.bptree_shape.specs.Shape.{pairs_at}
+use Rattle.bptree_descents.proofs.Summed.{ranked_alone}
+use Rattle.bptree_descents.proofs.by_argument.rank_by_argument.Goals as goal
+
+pub returns-clause-ranked : goal.returns-clause-ranked
+returns-clause-ranked g c =
+    let slots = g.S.NodeStore.slots c.args.store.now in
+    let keys = keys_of (pairs_at slots c.args.height c.args.root) in
+    let stands_for = g.S.Argument.RankArgument.stands_for in
+    let ranks = g.S.Argument.RankArgument.ranks in
+    let rank = c.initial_value-rank.result in
+    IfOk-weaker c.rank_below.result (RanksAmong g.S.K.Ord.cmp stands_for ranks c.args.k.now rank keys) (λ answer. MatchResult answer (ranks c.args.k.now keys) (ranks c.args.k.now keys))
+    (λ answer there. ranked_alone g.met.S.K.Ord.total g.S.Argument.Argument.is_summary slots stands_for ranks c.args.k.now rank (c.initial_value-rank.ensures.stands c.args.k.now) c.args.height c.args.root c.requires answer there) c.rank_below.ensures.ranked

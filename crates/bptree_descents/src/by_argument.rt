@@ -1,0 +1,154 @@
+//! Reads of a tree that stands in a store, by the summaries of its keys.
+ghost use Rattle.std.specs.Prelude.{◌≡◌, ◌+◌, ◌≤◌, length, IfOk, IsOk, MatchResult, is_ok};
+ghost use Rattle.std.specs.Map.{keys_of};
+ghost use Rattle.bptree_keys.specs.Contents.{has};
+ghost use Rattle.bptree_descents.specs.ByArgument.{IsSubtree, IsSelectedAt, GoesOn, RanksAmong};
+ghost use Rattle.bptree_shape.specs.Shape.{pairs_at};
+
+use bptree_arguments::argument::{RankArgument, SearchArgument};
+use bptree_keys::entry_ref::VisitStack;
+use bptree_keys::node_id::{LeafNodeId, NodeId};
+use bptree_stores::node_stores::NodeStore;
+use std::alloc::AllocError;
+
+/// The leaf and the slot of a place that is allowed for the query, in the tree of a height under a number; or none.
+///
+/// The query is asked once on each level: of an inner node by its separators and summaries, and of one leaf by its keys.
+pub fn find_by_argument<S: NodeStore>(
+    store: &S,
+    id: NodeId,
+    height: usize,
+    query: <S::Argument as SearchArgument<S::K>>::Query,
+) -> Result<Option<(LeafNodeId, usize)>, AllocError>
+where
+    S::Argument: SearchArgument<S::K>,
+    requires { IsSubtree S.K.cmp S.Argument.is_summary (S.slots store.now) height id }
+    ensures selected { IfOk result (IsSelectedAt S.Argument.selects query (S.slots store.now) height id) }
+    ensures sure { S.Argument.needs_no_memory → IsOk result }
+{
+    match id {
+        NodeId::Leaf(leaf) => {
+            let keys = store.get_leaf(leaf).keys();
+            match <S::Argument as SearchArgument<S::K>>::locate_in_leaf(query, keys)? {
+                None => Ok(None),
+                Some(slot) => Ok(Some((leaf, slot))),
+            }
+        }
+        NodeId::Inner(inner) => {
+            let node = store.get_inner(inner);
+            match <S::Argument as SearchArgument<S::K>>::locate_in_inner(
+                query,
+                node.keys(),
+                node.arguments(),
+            )? {
+                None => Ok(None),
+                Some((place, next)) => {
+                    let child = node.child_id(place);
+                    find_by_argument(store, child, height - 1, next)
+                }
+            }
+        }
+    }
+}
+
+/// The leaf and the slot of a place that is allowed for the query, and at the end of a path the inner nodes on the way to
+/// it; or none, and then the path may hold some of them.
+pub fn find_path_by_argument<S: NodeStore>(
+    store: &S,
+    id: NodeId,
+    height: usize,
+    query: <S::Argument as SearchArgument<S::K>>::Query,
+    path: &mut VisitStack,
+) -> Result<Option<(LeafNodeId, usize)>, AllocError>
+where
+    S::Argument: SearchArgument<S::K>,
+    requires subtree { IsSubtree S.K.cmp S.Argument.is_summary (S.slots store.now) height id }
+    requires room { length path.old + height ≤ 15 }
+    ensures selected { IfOk result (IsSelectedAt S.Argument.selects query (S.slots store.now) height id) }
+    ensures way { IfOk result (GoesOn S.K.cmp (S.slots store.now) height id path.old path.new) }
+    ensures sure { S.Argument.needs_no_memory → IsOk result }
+{
+    match id {
+        NodeId::Leaf(leaf) => {
+            match <S::Argument as SearchArgument<S::K>>::locate_in_leaf(
+                query,
+                store.get_leaf(leaf).keys(),
+            )? {
+                None => Ok(None),
+                Some(slot) => Ok(Some((leaf, slot))),
+            }
+        }
+        NodeId::Inner(inner) => {
+            let node = store.get_inner(inner);
+            match <S::Argument as SearchArgument<S::K>>::locate_in_inner(
+                query,
+                node.keys(),
+                node.arguments(),
+            )? {
+                None => Ok(None),
+                Some((offset, next)) => {
+                    let child = node.child_id(offset);
+                    path.push(inner, offset, child);
+                    find_path_by_argument(store, child, height - 1, next, path)
+                }
+            }
+        }
+    }
+}
+
+/// The rank of a key in the tree of a height under a number: `Ok` where the key is present.
+///
+/// One descent: on each level the summaries of the children before the one for the key are folded, and then the leaf.
+pub fn rank_by_argument<S: NodeStore>(
+    store: &S,
+    root: NodeId,
+    height: usize,
+    k: &S::K,
+) -> Result<
+    Result<<S::Argument as RankArgument<S::K>>::Rank, <S::Argument as RankArgument<S::K>>::Rank>,
+    AllocError,
+>
+where
+    S::Argument: RankArgument<S::K>,
+    requires { IsSubtree S.K.cmp S.Argument.is_summary (S.slots store.now) height root }
+    ensures ranked { IfOk result (λ answer. MatchResult answer (S.Argument.ranks k.now (keys_of (pairs_at (S.slots store.now) height root))) (S.Argument.ranks k.now (keys_of (pairs_at (S.slots store.now) height root)))) }
+    ensures present { IfOk result (λ answer. is_ok answer ≡ has S.K.cmp (pairs_at (S.slots store.now) height root) k.now) }
+    ensures sure { S.Argument.needs_no_memory → IsOk result }
+{
+    let rank = <S::Argument as RankArgument<S::K>>::initial_value();
+    rank_below(store, root, height, k, rank)
+}
+
+// The same below a node, carried on from the rank that stands for the keys before it.
+fn rank_below<S: NodeStore>(
+    store: &S,
+    id: NodeId,
+    height: usize,
+    k: &S::K,
+    rank: <S::Argument as RankArgument<S::K>>::Rank,
+) -> Result<
+    Result<<S::Argument as RankArgument<S::K>>::Rank, <S::Argument as RankArgument<S::K>>::Rank>,
+    AllocError,
+>
+where
+    S::Argument: RankArgument<S::K>,
+    requires { IsSubtree S.K.cmp S.Argument.is_summary (S.slots store.now) height id }
+    ensures ranked { IfOk result (RanksAmong S.K.cmp S.Argument.stands_for S.Argument.ranks k.now rank (keys_of (pairs_at (S.slots store.now) height id))) }
+    ensures present { IfOk result (λ answer. is_ok answer ≡ has S.K.cmp (pairs_at (S.slots store.now) height id) k.now) }
+    ensures sure { S.Argument.needs_no_memory → IsOk result }
+{
+    match id {
+        NodeId::Leaf(leaf) => {
+            let node = store.get_leaf(leaf);
+            let slot = node.locate_slot(k);
+            <S::Argument as RankArgument<S::K>>::fold_leaf(k, rank, slot, node.keys())
+        }
+        NodeId::Inner(inner) => {
+            let node = store.get_inner(inner);
+            let (place, child) = node.locate_child(k);
+            let before = &node.arguments()[..place];
+            let next = <S::Argument as RankArgument<S::K>>::fold_inner(k, rank, before)?;
+            rank_below(store, child, height - 1, k, next)
+        }
+    }
+}

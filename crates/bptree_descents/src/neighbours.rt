@@ -1,0 +1,217 @@
+//! Places of keys in a tree that stands in a store, and the pairs beside them.
+ghost use Rattle.std.specs.Prelude.{◌≡◌, ◌-◌, ◌≤◌, ◌++◌, length, take, drop, slice_get};
+ghost use Rattle.std.specs.Option.{option_copied, option_map};
+ghost use Rattle.bptree_keys.specs.Contents.{IsAscending, next, previous, value};
+ghost use Rattle.bptree_keys.specs.Places.{IsPlaceOf};
+ghost use Rattle.bptree_descents.specs.Neighbours.{IsPlaceAt, leaf_pairs_of};
+ghost use Rattle.bptree_shape.specs.Shape.{pairs_at, IsWellShaped};
+
+use bptree_keys::node_id::{LeafNodeId, NodeId};
+use bptree_nodes::leaf_node::LeafNode;
+use bptree_shape::descent::{first_leaf, last_leaf};
+use bptree_shape::reading::leaf_for;
+use bptree_stores::node_stores::NodeStore;
+use std::cmp::Ordering;
+
+/// The leaf that a key belongs to, and the key's place in it, or else the number of smaller keys.
+///
+/// Where `hint` is that leaf and the key stands at its place `offset`, nothing is searched: that costs three comparisons.
+/// Where it is the leaf alone, the leaf is searched. Else the tree is, from the root.
+fn place_of<'a, S: NodeStore>(
+    store: &'a S,
+    root: NodeId,
+    height: usize,
+    hint: LeafNodeId,
+    offset: usize,
+    key: &S::K,
+) -> (LeafNodeId, &'a LeafNode<S::K, S::V>, Result<usize, usize>)
+    requires { IsWellShaped S.K.cmp S.Argument.is_summary (S.slots store.now) height root }
+    ensures { IsPlaceAt S.K.cmp (S.slots store.now) height root key.now result.0 result.1.now result.2 }
+{
+    if let Some(leaf) = store.try_get_leaf(hint) {
+        if leaf.in_range(key) {
+            return (hint, leaf, place_in(leaf, offset, key));
+        }
+    }
+    let id = leaf_for(store, root, height, key);
+    let leaf = store.get_leaf(id);
+    (id, leaf, leaf.locate_slot(key))
+}
+
+// The place of a key in a leaf, without a search where the key stands at the place that is tried first.
+fn place_in<K: Ord + Drop, V: Drop>(
+    leaf: &LeafNode<K, V>,
+    offset: usize,
+    key: &K,
+) -> Result<usize, usize>
+    ensures place { IsAscending K.cmp leaf.now.pairs → IsPlaceOf K.cmp leaf.now.pairs key.now result }
+    ensures fits { length leaf.now.pairs ≤ 64 }
+{
+    if let Some((there, _)) = leaf.try_data_at(offset) {
+        match there.cmp(key) {
+            Ordering::Equal => return Ok(offset),
+            Ordering::Less | Ordering::Greater => {}
+        }
+    }
+    leaf.locate_slot(key)
+}
+
+// The pair at a place of a leaf, where there is one.
+fn read_at<K: Drop, V: Drop>(
+    id: LeafNodeId,
+    leaf: &LeafNode<K, V>,
+    offset: usize,
+) -> Option<((LeafNodeId, usize), (&K, &V))>
+    ensures { option_map (λ found. (found.1.0.now, found.1.1.now)) result ≡ slice_get leaf.now.pairs offset }
+{
+    match leaf.try_data_at(offset) {
+        Some(pair) => Some(((id, offset), pair)),
+        None => None,
+    }
+}
+
+// The pair at a place of a leaf, or the first one of the leaf after it.
+fn pair_from<'a, S: NodeStore>(
+    store: &'a S,
+    id: LeafNodeId,
+    leaf: &'a LeafNode<S::K, S::V>,
+    from: usize,
+) -> Option<((LeafNodeId, usize), (&'a S::K, &'a S::V))>
+    ensures { option_map (λ found. (found.1.0.now, found.1.1.now)) result ≡ slice_get (drop from leaf.now.pairs ++ leaf_pairs_of (S.slots store.now) leaf.now.next) 0 }
+{
+    match leaf.try_data_at(from) {
+        Some(pair) => Some(((id, from), pair)),
+        None => first_of(store, leaf.next()),
+    }
+}
+
+// The first pair of a leaf, where there is one.
+fn first_of<S: NodeStore>(
+    store: &S,
+    id: Option<LeafNodeId>,
+) -> Option<((LeafNodeId, usize), (&S::K, &S::V))>
+    ensures { option_map (λ found. (found.1.0.now, found.1.1.now)) result ≡ slice_get (leaf_pairs_of (S.slots store.now) id) 0 }
+{
+    let id = id?;
+    read_at(id, store.try_get_leaf(id)?, 0)
+}
+
+// The pair before a place of a leaf, or the last one of the leaf before it.
+fn pair_upto<'a, S: NodeStore>(
+    store: &'a S,
+    id: LeafNodeId,
+    leaf: &'a LeafNode<S::K, S::V>,
+    to: usize,
+) -> Option<((LeafNodeId, usize), (&'a S::K, &'a S::V))>
+    requires { to ≤ length leaf.now.pairs }
+    ensures { option_map (λ found. (found.1.0.now, found.1.1.now)) result ≡ slice_get (leaf_pairs_of (S.slots store.now) leaf.now.prev ++ take to leaf.now.pairs) (length (leaf_pairs_of (S.slots store.now) leaf.now.prev ++ take to leaf.now.pairs) - 1) }
+{
+    match to {
+        0 => last_of(store, leaf.prev()),
+        _ => Some(((id, to - 1), leaf.data_at(to - 1))),
+    }
+}
+
+// The last pair of a leaf, where there is one.
+fn last_of<S: NodeStore>(
+    store: &S,
+    id: Option<LeafNodeId>,
+) -> Option<((LeafNodeId, usize), (&S::K, &S::V))>
+    ensures { option_map (λ found. (found.1.0.now, found.1.1.now)) result ≡ slice_get (leaf_pairs_of (S.slots store.now) id) (length (leaf_pairs_of (S.slots store.now) id) - 1) }
+{
+    let id = id?;
+    let leaf = store.try_get_leaf(id)?;
+    read_at(id, leaf, leaf.len().saturating_sub(1))
+}
+
+/// The pair with the least greater key, and where it stands. The key need not be there.
+///
+/// A leaf and a place of it are tried first for the key.
+pub fn pair_after<'a, S: NodeStore>(
+    store: &'a S,
+    root: NodeId,
+    height: usize,
+    hint: LeafNodeId,
+    offset: usize,
+    key: &S::K,
+) -> Option<((LeafNodeId, usize), (&'a S::K, &'a S::V))>
+    requires { IsWellShaped S.K.cmp S.Argument.is_summary (S.slots store.now) height root }
+    ensures { option_map (λ found. (found.1.0.now, found.1.1.now)) result ≡ next S.K.cmp (pairs_at (S.slots store.now) height root) key.now }
+{
+    let (id, leaf, place) = place_of(store, root, height, hint, offset, key);
+    let from = match place {
+        Ok(slot) => slot + 1,
+        Err(slot) => slot,
+    };
+    pair_from(store, id, leaf, from)
+}
+
+/// The pair with the greatest smaller key, and where it stands. The key need not be there.
+///
+/// A leaf and a place of it are tried first for the key.
+pub fn pair_before<'a, S: NodeStore>(
+    store: &'a S,
+    root: NodeId,
+    height: usize,
+    hint: LeafNodeId,
+    offset: usize,
+    key: &S::K,
+) -> Option<((LeafNodeId, usize), (&'a S::K, &'a S::V))>
+    requires { IsWellShaped S.K.cmp S.Argument.is_summary (S.slots store.now) height root }
+    ensures { option_map (λ found. (found.1.0.now, found.1.1.now)) result ≡ previous S.K.cmp (pairs_at (S.slots store.now) height root) key.now }
+{
+    let (id, leaf, place) = place_of(store, root, height, hint, offset, key);
+    let to = match place {
+        Ok(slot) => slot,
+        Err(slot) => slot,
+    };
+    pair_upto(store, id, leaf, to)
+}
+
+/// The value at a key.
+///
+/// A leaf and a place of it are tried first for the key.
+pub fn value_at<'a, S: NodeStore>(
+    store: &'a S,
+    root: NodeId,
+    height: usize,
+    hint: LeafNodeId,
+    offset: usize,
+    key: &S::K,
+) -> Option<&'a S::V>
+    requires { IsWellShaped S.K.cmp S.Argument.is_summary (S.slots store.now) height root }
+    ensures { option_copied result ≡ value S.K.cmp (pairs_at (S.slots store.now) height root) key.now }
+{
+    let (_, leaf, place) = place_of(store, root, height, hint, offset, key);
+    match place {
+        Ok(slot) => Some(leaf.data_at(slot).1),
+        Err(_) => None,
+    }
+}
+
+/// The pair with the least key, and where it stands.
+pub fn first_pair<S: NodeStore>(
+    store: &S,
+    root: NodeId,
+    height: usize,
+) -> Option<((LeafNodeId, usize), (&S::K, &S::V))>
+    requires { IsWellShaped S.K.cmp S.Argument.is_summary (S.slots store.now) height root }
+    ensures { option_map (λ found. (found.1.0.now, found.1.1.now)) result ≡ slice_get (pairs_at (S.slots store.now) height root) 0 }
+{
+    let id = first_leaf(store, root, height);
+    read_at(id, store.get_leaf(id), 0)
+}
+
+/// The pair with the greatest key, and where it stands.
+pub fn last_pair<S: NodeStore>(
+    store: &S,
+    root: NodeId,
+    height: usize,
+) -> Option<((LeafNodeId, usize), (&S::K, &S::V))>
+    requires { IsWellShaped S.K.cmp S.Argument.is_summary (S.slots store.now) height root }
+    ensures { option_map (λ found. (found.1.0.now, found.1.1.now)) result ≡ slice_get (pairs_at (S.slots store.now) height root) (length (pairs_at (S.slots store.now) height root) - 1) }
+{
+    let id = last_leaf(store, root, height);
+    let leaf = store.get_leaf(id);
+    read_at(id, leaf, leaf.len().saturating_sub(1))
+}

@@ -1,0 +1,47 @@
+//! Visits of a tree that stands in a store.
+ghost use Rattle.std.specs.Prelude.{MatchResult};
+ghost use Rattle.bptree_arguments.specs.Visits.{answered, IsAllowedError};
+ghost use Rattle.bptree_descents.specs.ByArgument.{IsSubtree};
+ghost use Rattle.bptree_shape.specs.Shape.{pairs_at};
+
+use bptree_arguments::visit::{DescendError, DescendVisit, DescendVisitResult};
+use bptree_keys::node_id::NodeId;
+use bptree_stores::node_stores::NodeStore;
+
+/// What a visitor answers on the tree of a height under a number.
+///
+/// It sees one inner node a level, with that node's own separators and summaries, until it ends or has seen one leaf.
+pub fn descend_visit<S: NodeStore, W: DescendVisit<S::K, S::V, S::Argument>>(
+    store: &S,
+    id: NodeId,
+    height: usize,
+    mut visitor: W,
+) -> Result<Option<W::Result>, DescendError>
+    requires { IsSubtree S.K.cmp S.Argument.is_summary (S.slots store.now) height id }
+    ensures { MatchResult result (λ answer. W.answers visitor (pairs_at (S.slots store.now) height id) (answered answer)) (IsAllowedError W.answers visitor (pairs_at (S.slots store.now) height id)) }
+{
+    match id {
+        NodeId::Leaf(leaf) => {
+            let node = store.get_leaf(leaf);
+            match visitor.visit_leaf(node.keys(), node.values()) {
+                Err(_) => Err(DescendError::OutOfMemory),
+                Ok(answer) => Ok(answer),
+            }
+        }
+        NodeId::Inner(inner) => {
+            let node = store.get_inner(inner);
+            match visitor.visit_inner(node.keys(), node.arguments()) {
+                Err(_) => Err(DescendError::OutOfMemory),
+                Ok(DescendVisitResult::Cancel) => Ok(None),
+                Ok(DescendVisitResult::Complete(answer)) => Ok(Some(answer)),
+                Ok(DescendVisitResult::GoDown(place)) => {
+                    if place > node.len() {
+                        return Err(DescendError::InvalidChild);
+                    }
+                    let child = node.child_id(place);
+                    descend_visit(store, child, height - 1, visitor)
+                }
+            }
+        }
+    }
+}

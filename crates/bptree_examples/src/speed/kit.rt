@@ -1,0 +1,83 @@
+//! The same calls of the toolchain's own `BTreeMap`.
+
+use crate::speed::{now, tell};
+use std::alloc::AllocError;
+use std::collections::BTreeMap;
+
+type Map = BTreeMap<u64, u64>;
+
+fn insert_all(rt: &HostRuntime, call: &str, map: &mut Map, keys: &[u64]) -> Result<(), AllocError> {
+    let start = now(rt);
+    let mut found = 0u64;
+    for key in keys {
+        match map.insert(*key, *key) {
+            Ok(None) => {}
+            Ok(Some(_)) => found = found.wrapping_add(1),
+            Err(_) => return Err(AllocError),
+        }
+    }
+    tell(rt, "kit", call, start, keys.len(), found);
+    Ok(())
+}
+
+fn get_all(rt: &HostRuntime, call: &str, map: &Map, keys: &[u64], mask: u64) {
+    let start = now(rt);
+    let mut sum = 0u64;
+    for key in keys {
+        if let Some(value) = map.get(&(*key & mask)) {
+            sum = sum.wrapping_add(*value);
+        }
+    }
+    tell(rt, "kit", call, start, keys.len(), sum);
+}
+
+fn step_through(rt: &HostRuntime, map: &Map) {
+    let start = now(rt);
+    let mut sum = 0u64;
+    for (key, _) in map.iter() {
+        sum = sum.wrapping_add(*key);
+    }
+    tell(rt, "kit", "step", start, map.len(), sum);
+}
+
+fn lower_all(rt: &HostRuntime, map: &Map, keys: &[u64]) {
+    let start = now(rt);
+    let mut sum = 0u64;
+    for key in keys {
+        let lo = *key & (u64::MAX - 1);
+        if let Some((next, _)) = map.range(lo..).next() {
+            sum = sum.wrapping_add(*next);
+        }
+    }
+    tell(rt, "kit", "lower", start, keys.len(), sum);
+}
+
+fn remove_all(rt: &HostRuntime, map: &mut Map, keys: &[u64]) {
+    let start = now(rt);
+    let mut sum = 0u64;
+    for key in keys {
+        if let Some(value) = map.remove(key) {
+            sum = sum.wrapping_add(value);
+        }
+    }
+    tell(rt, "kit", "remove", start, keys.len(), sum);
+}
+
+/// A map is filled, read and emptied, and another is filled in the order of the keys.
+pub fn take(
+    rt: &HostRuntime,
+    keys: &[u64],
+    others: &[u64],
+    sorted: &[u64],
+) -> Result<(), AllocError> {
+    let mut map = BTreeMap::new(rt.alloc());
+    insert_all(rt, "insert", &mut map, keys)?;
+    get_all(rt, "get", &map, others, u64::MAX);
+    get_all(rt, "absent", &map, others, u64::MAX - 1);
+    get_all(rt, "inorder", &map, sorted, u64::MAX);
+    step_through(rt, &map);
+    lower_all(rt, &map, others);
+    remove_all(rt, &mut map, others);
+    let mut upward = BTreeMap::new(rt.alloc());
+    insert_all(rt, "upward", &mut upward, sorted)
+}

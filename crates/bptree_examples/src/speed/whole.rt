@@ -1,0 +1,48 @@
+//! Calls that go over all of a tree or of two sets: a clone and a union.
+
+use crate::speed::{Tree, now, tell};
+use std::alloc::{AllocError, Global};
+use sweep_bptree::BPlusTreeSet;
+use sweep_bptree::tree::CloneArgument;
+
+/// The clone of a tree, for each pair.
+pub fn clone_all<A: CloneArgument<u64>>(
+    rt: &HostRuntime,
+    kind: &str,
+    tree: &Tree<A>,
+) -> Result<(), AllocError> {
+    let start = now(rt);
+    let other = tree.clone()?;
+    tell(rt, kind, "clone", start, tree.len(), other.len() as u64);
+    Ok(())
+}
+
+// Every second key, from a place on.
+fn every_second(
+    alloc: Global,
+    sorted: &[u64],
+    first: usize,
+) -> Result<BPlusTreeSet<u64>, AllocError> {
+    let mut keys = Vec::with_capacity(alloc, sorted.len())?;
+    for (place, key) in sorted.iter().enumerate() {
+        if place % 2 == first || place % 4 == 0 {
+            keys.push(*key)?;
+        }
+    }
+    BPlusTreeSet::from_iter(alloc, keys)
+}
+
+/// The union of two sets that have a quarter of all keys in common, for each key of the union.
+pub fn union_all(rt: &HostRuntime, sorted: &[u64]) -> Result<(), AllocError> {
+    let first = every_second(rt.alloc(), sorted, 0)?;
+    let second = every_second(rt.alloc(), sorted, 1)?;
+    let start = now(rt);
+    let mut sum = 0u64;
+    let mut many = 0usize;
+    for key in first.union(&second) {
+        sum = sum.wrapping_add(*key);
+        many = many.wrapping_add(1);
+    }
+    tell(rt, "plain", "union", start, many, sum);
+    Ok(())
+}

@@ -1,0 +1,95 @@
+//! Calls of one pair: it is found by its key, stands at a bound of it, or leaves with the key that was stored.
+
+use crate::dice::Sample;
+use crate::drawing::{numbers, own_numbers};
+use crate::plain::Plain;
+use std::alloc::{AllocError, Global};
+use sweep_bptree::tree::{BPlusTree, Cursor, NodeStore};
+
+// The numbers at a bound.
+fn at_bound<K: Sample>(found: Option<(Cursor<K>, &u64)>) -> Option<(u64, u64)> {
+    let (cursor, value) = found?;
+    Some((cursor.key().number(), *value))
+}
+
+// Whether the pair at a place of a list is found by its key, which is a lower bound of itself, and the next pair an upper one.
+fn is_found<S: NodeStore<V = u64>>(
+    alloc: Global,
+    tree: &BPlusTree<S>,
+    plain: &Plain,
+    place: usize,
+) -> Result<bool, AllocError>
+where
+    S::K: Sample,
+{
+    let Some(key) = plain.key_at(place) else {
+        return Ok(true);
+    };
+    let key = S::K::sample(alloc, key)?;
+    let here = plain.pair_at(place);
+    let next = plain.pair_at(place.saturating_add(1));
+    let found = numbers(tree.get_key_value(&key)) == here && tree.contains_key(&key);
+    let lower = at_bound(tree.lower_bound(&key)?) == here;
+    let upper = at_bound(tree.upper_bound(&key)?) == next;
+    Ok(found && lower && upper)
+}
+
+/// Whether the pairs at both ends and at some places between are found.
+pub fn are_found<S: NodeStore<V = u64>>(
+    alloc: Global,
+    tree: &BPlusTree<S>,
+    plain: &Plain,
+) -> Result<bool, AllocError>
+where
+    S::K: Sample,
+{
+    let last = plain.len().saturating_sub(1);
+    let mut well = numbers(tree.first_key_value()) == plain.pair_at(0)
+        && numbers(tree.last_key_value()) == plain.pair_at(last);
+    for place in [0, 1, plain.len() / 3, plain.len() / 2, last] {
+        well = is_found(alloc, tree, plain, place)? && well;
+    }
+    Ok(well)
+}
+
+fn put_again<S: NodeStore<V = u64>>(
+    tree: &mut BPlusTree<S>,
+    pair: Option<(S::K, u64)>,
+) -> Result<bool, AllocError> {
+    match pair {
+        Some((key, value)) => match tree.insert(key, value) {
+            Ok(old) => Ok(old.is_none()),
+            Err(_) => Err(AllocError),
+        },
+        None => Ok(true),
+    }
+}
+
+/// The first pair leaves, then the last, and then one between. They are put again.
+pub fn leave_and_return<S: NodeStore<V = u64>>(
+    alloc: Global,
+    tree: &mut BPlusTree<S>,
+    plain: &Plain,
+) -> Result<bool, AllocError>
+where
+    S::K: Sample,
+{
+    let len = plain.len();
+    let first = tree.pop_first()?;
+    let last = tree.pop_last()?;
+    let mut well = own_numbers(&first) == plain.pair_at(0);
+    let end = plain.pair_at(len.saturating_sub(1));
+    well = own_numbers(&last) == (if len > 1 { end } else { None }) && well;
+    let place = len / 2;
+    if let Some(key) = plain.key_at(place) {
+        let between = tree.remove_entry(&S::K::sample(alloc, key)?)?;
+        let there = if 0 < place && place < len.saturating_sub(1) {
+            plain.pair_at(place)
+        } else {
+            None
+        };
+        well = own_numbers(&between) == there && well;
+        well = put_again(tree, between)? && well;
+    }
+    Ok(put_again(tree, last)? && put_again(tree, first)? && well)
+}

@@ -1,0 +1,149 @@
+-- Two siblings rotate or merge, and what undoes that.
+use Rattle.std.proofs.Common.{◌≡◌, ℕ, zero, suc, ◌+◌, ◌-◌, ◌<◌, ◌≤◌, List, [], ◌∷◌, ◌++◌, length, take, drop, refl, sym, ap, ◌∙◌, arith, Some, slice_get, slice_set, length-append}
+use Rattle.std.specs.declared.cmp.Ordering.{Ordering}
+use Rattle.std.specs.List.{insert, remove}
+use Rattle.std.proofs.lemmas.List.{take_at, drop_at}
+use Rattle.std.proofs.lemmas.List.Edits.{length-remove}
+use Rattle.bptree_keys.specs.declared.node_id.NodeId.{NodeId}
+use Rattle.bptree_nodes.specs.Inner.{Inner, with_entry, without_entry, first_children, later_children}
+use Rattle.bptree_nodes.specs.Leaf.{Leaf}
+use Rattle.bptree_rebalancing.specs.Transfer.{other_of, CanGive, Moves, MovesPair, MovesChild, MergesLeaf, MergesInner, HasEntry, Rotates, Merges}
+use Rattle.bptree_ascent.specs.Sums.{HasPlace}
+use Rattle.bptree_ascent.specs.declared.node_changes.Division.{Division}
+use Rattle.bptree_rebalancing.specs.declared.rotate_merge.Sibling.{Sibling}
+use Rattle.bptree_rebalancing.specs.declared.rotate_merge.Sibling.TheVariants.{Left, Right}
+use Rattle.bptree_rebalancing.proofs.Choosing.{inserted_is}
+use Rattle.bptree_shape.proofs.ListReads.{read_below}
+use Rattle.bptree_ascent.proofs.NodeChanges.{entry_back, sum_back, place_below}
+
+module _ {X : Type 0} where
+  -- what was removed is inserted again
+  pub insert_removed : (xs : List X) (i : ℕ) (x : X) → slice_get xs i ≡ Some x → insert (remove xs i) i x ≡ xs
+  insert_removed [] i x read = cc
+  insert_removed (y ∷ xs) zero x read = let same : y ≡ x = cc in rw same refl
+  insert_removed (y ∷ xs) (suc i) x read = ap (λ l. y ∷ l) (insert_removed xs i x read)
+
+  -- two lists that are put together are known by the length of the first
+  pub split_same : (xs ys zs ws : List X) → xs ++ ys ≡ zs ++ ws → length xs ≡ length zs → (xs ≡ zs) × (ys ≡ ws)
+  split_same xs ys zs ws same long = (
+    sym (take_at xs ys (length xs) refl) ∙ (ap (take (length xs)) same ∙ take_at zs ws (length xs) (sym long)),
+    sym (drop_at xs ys (length xs) refl) ∙ (ap (drop (length xs)) same ∙ drop_at zs ws (length xs) (sym long)),
+  )
+
+  pub read_at_end : (xs ys : List X) (x : X) (i : ℕ) → i ≡ length xs → slice_get (xs ++ x ∷ ys) i ≡ Some x
+  read_at_end [] ys x i e = rw e refl
+  read_at_end (z ∷ xs) ys x zero e = absurd (omega arith)
+  read_at_end (z ∷ xs) ys x (suc i) e = read_at_end xs ys x i (omega arith)
+
+-- how far the giver and its sibling are from what they had, once the one gave and the other gave back
+back_sizes : (giver : Sibling) (a b c d e f : ℕ) → Moves giver a b c d → Moves (other_of giver) c d e f → (e ≡ a) × (f ≡ b)
+back_sizes Left a b c d e f there back = (omega arith, omega arith)
+back_sizes Right a b c d e f there back = (omega arith, omega arith)
+
+pub can_give_back : (giver : Sibling) (a b c d : ℕ) → CanGive giver a b → Moves giver a b c d → CanGive (other_of giver) c d
+can_give_back Left a b c d can moves = (omega arith, omega arith, omega arith)
+can_give_back Right a b c d can moves = (omega arith, omega arith, omega arith)
+
+pub leaf_same : {K V : Type 0} (x y : Leaf K V) → x.pairs ≡ y.pairs → x.prev ≡ y.prev → x.next ≡ y.next → x ≡ y
+leaf_same x y pairs prev next = λ i. record { pairs = pairs i; prev = prev i; next = next i }
+
+pub node_same : {K A : Type 0} (x y : Inner K A) → x.keys ≡ y.keys → x.children ≡ y.children → x.arguments ≡ y.arguments → x ≡ y
+node_same x y keys children arguments = λ i. record { keys = keys i; children = children i; arguments = arguments i }
+
+module _ {K V : Type 0} where
+  -- a pair comes back
+  pub pair_moved_back : (giver : Sibling) (a b c d e f : Leaf K V) → MovesPair giver a b c d → MovesPair (other_of giver) c d e f → (e ≡ a) × (f ≡ b)
+  pair_moved_back giver a b c d e f there back =
+      let sizes = back_sizes giver (length a.pairs) (length b.pairs) (length c.pairs) (length d.pairs) (length e.pairs) (length f.pairs) there.sizes back.sizes in
+      let parts = split_same e.pairs f.pairs a.pairs b.pairs (back.pairs ∙ there.pairs) sizes.0 in (
+        leaf_same e a parts.0 (ap (λ (l : Leaf K V). l.prev) back.left_links ∙ ap (λ (l : Leaf K V). l.prev) there.left_links) (ap (λ (l : Leaf K V). l.next) back.left_links ∙ ap (λ (l : Leaf K V). l.next) there.left_links),
+        leaf_same f b parts.1 (ap (λ (l : Leaf K V). l.prev) back.right_links ∙ ap (λ (l : Leaf K V). l.prev) there.right_links) (ap (λ (l : Leaf K V). l.next) back.right_links ∙ ap (λ (l : Leaf K V). l.next) there.right_links),
+      )
+
+  -- the undo of two leaves that merged
+  pub leaves_unmerged : (a b c d e f : Leaf K V) (kept : ℕ) → MergesLeaf a b c d → kept ≡ length a.pairs → e ≡ record c { pairs = take kept c.pairs; next = a.next } → f ≡ record d { pairs = drop kept c.pairs } → (e ≡ a) × (f ≡ b)
+  leaves_unmerged a b c d e f kept merges long left right =
+      let first : take kept c.pairs ≡ a.pairs = ap (λ (l : Leaf K V). take kept l.pairs) merges.left_is ∙ take_at a.pairs b.pairs kept (sym long) in
+      let second : drop kept c.pairs ≡ b.pairs = ap (λ (l : Leaf K V). drop kept l.pairs) merges.left_is ∙ drop_at a.pairs b.pairs kept (sym long) in (
+        leaf_same e a (ap (λ (l : Leaf K V). l.pairs) left ∙ first) (ap (λ (l : Leaf K V). l.prev) left ∙ ap (λ (l : Leaf K V). l.prev) merges.left_is) (ap (λ (l : Leaf K V). l.next) left),
+        leaf_same f b (ap (λ (l : Leaf K V). l.pairs) right ∙ second) (ap (λ (l : Leaf K V). l.prev) right ∙ ap (λ (l : Leaf K V). l.prev) merges.right_is) (ap (λ (l : Leaf K V). l.next) right ∙ ap (λ (l : Leaf K V). l.next) merges.right_is),
+      )
+
+module _ {K A : Type 0} where
+  -- a child comes back
+  pub child_moved_back : (giver : Sibling) (a b c d e f : Inner K A) (s u v : K) → 0 < length a.children → 0 < length b.children → MovesChild giver a s b c u d → MovesChild (other_of giver) c u d e v f → (e ≡ a) × (f ≡ b) × (v ≡ s)
+  child_moved_back giver a b c d e f s u v some_left some_right there back =
+      let sizes = back_sizes giver (length a.keys) (length b.keys) (length c.keys) (length d.keys) (length e.keys) (length f.keys) there.sizes back.sizes in
+      let keys = split_same e.keys (v ∷ f.keys) a.keys (s ∷ b.keys) (back.keys ∙ there.keys) sizes.0 in
+      let tail : f.keys ≡ b.keys = let z = keys.1 in cc in
+      let head : v ≡ s = let z = keys.1 in cc in
+      let all : e.children ++ f.children ≡ a.children ++ b.children = back.children ∙ there.children in
+      let more : e.arguments ++ f.arguments ≡ a.arguments ++ b.arguments = back.arguments ∙ there.arguments in
+      let long : length e.children ≡ length a.children =
+      omega (arith, some_left, some_right, sizes.0, sizes.1, back.left_fits.0.children, back.right_fits.0.children, there.left_fits.1.children, there.right_fits.1.children, ap length all, length-append e.children f.children, length-append a.children b.children) in
+      let children = split_same e.children f.children a.children b.children all long in
+      let arguments = split_same e.arguments f.arguments a.arguments b.arguments more (omega (arith, long, back.left_fits.0.arguments, there.left_fits.1.arguments)) in
+      (node_same e a keys.0 children.0 arguments.0, node_same f b tail children.1 arguments.1, head)
+
+  -- the undo of two inner nodes that merged
+  pub inners_unmerged : (a b c d e f : Inner K A) (s v : K) (kept : ℕ) → MergesInner a s b c d → kept ≡ length a.keys → length a.children ≡ kept + 1 → length a.arguments ≡ kept + 1
+      → e ≡ first_children (kept + 1) c → slice_get c.keys (kept + 1 - 1) ≡ Some v → f ≡ later_children (kept + 1) c → (e ≡ a) × (f ≡ b) × (v ≡ s)
+  inners_unmerged a b c d e f s v kept merges long children arguments left got right =
+      let less : kept + 1 - 1 ≡ kept = omega arith in
+      let is = merges.left_is in
+      let head : v ≡ s = let z : Some v ≡ Some s = sym got ∙ (ap (λ (n : Inner K A). slice_get n.keys (kept + 1 - 1)) is ∙ read_at_end a.keys b.keys s (kept + 1 - 1) (omega arith)) in cc in
+      let rest : drop (kept + 1) c.keys ≡ b.keys = ap (λ (n : Inner K A). drop (kept + 1) n.keys) is ∙ after a.keys b.keys s (kept + 1) (omega arith) in (
+        node_same e a
+            (ap (λ (n : Inner K A). n.keys) left ∙ (ap (λ (n : Inner K A). take (kept + 1 - 1) n.keys) is ∙ take_at a.keys (s ∷ b.keys) (kept + 1 - 1) (omega arith)))
+            (ap (λ (n : Inner K A). n.children) left ∙ (ap (λ (n : Inner K A). take (kept + 1) n.children) is ∙ take_at a.children b.children (kept + 1) children))
+            (ap (λ (n : Inner K A). n.arguments) left ∙ (ap (λ (n : Inner K A). take (kept + 1) n.arguments) is ∙ take_at a.arguments b.arguments (kept + 1) arguments)),
+        node_same f b (ap (λ (n : Inner K A). n.keys) right ∙ rest)
+            (ap (λ (n : Inner K A). n.children) right ∙ (ap (λ (n : Inner K A). drop (kept + 1) n.children) is ∙ drop_at a.children b.children (kept + 1) children))
+            (ap (λ (n : Inner K A). n.arguments) right ∙ (ap (λ (n : Inner K A). drop (kept + 1) n.arguments) is ∙ drop_at a.arguments b.arguments (kept + 1) arguments)),
+        head,
+      )
+    where
+      after : {X : Type 0} (xs ys : List X) (x : X) (n : ℕ) → n ≡ suc (length xs) → drop n (xs ++ x ∷ ys) ≡ ys
+      after [] ys x n e = rw e refl
+      after (y ∷ xs) ys x zero e = absurd (omega arith)
+      after (y ∷ xs) ys x (suc n) e = after xs ys x n (omega arith)
+
+  -- a node without the entry that was taken out of it
+  pub entry_out : (node bare : Inner K A) (slot : ℕ) (s : K) (child : NodeId) (a : A) → HasPlace node (slot + 1) → slice_get node.keys slot ≡ Some s → slice_get node.children (slot + 1) ≡ Some child → slice_get node.arguments (slot + 1) ≡ Some a
+      → bare ≡ without_entry node slot → HasEntry node bare slot s child a
+  entry_out node bare slot s child a h key at told is =
+      let first = length-remove node.keys slot (read_below node.keys slot s key) in
+      let second = length-remove node.children (slot + 1) (read_below node.children (slot + 1) child at) in
+      let third = length-remove node.arguments (slot + 1) (read_below node.arguments (slot + 1) a told) in
+      rw is (record {
+        place = record { within = omega (arith, first, h.within); children = omega (arith, first, second, h.children, h.within); arguments = omega (arith, second, third, h.arguments) };
+        is = node_same node (with_entry (without_entry node slot) slot s child a) (sym (insert_removed node.keys slot s key)) (sym (insert_removed node.children (slot + 1) child at)) (sym (insert_removed node.arguments (slot + 1) a told));
+      })
+
+  -- it is put in again
+  pub entry_in : (node bare now back : Inner K A) (slot : ℕ) (s : K) (child : NodeId) (a : A) → HasEntry node bare slot s child a → now ≡ bare → back ≡ with_entry now slot s child a → back ≡ node
+  entry_in node bare now back slot s child a entry same is = is ∙ (ap (λ n. with_entry n slot s child a) same ∙ sym entry.is)
+
+  -- a node that took another entry has the old one again
+  module _ (cmp : K → K → Ordering) (node bare now taken set back : Inner K A) (slot : ℕ) (s : K) (child out_child : NodeId) (a before out_a out : A) (out_s : K) (left_told : A → Type 0) (parts : K → Type 0) (right_told : A → Type 0)
+      (entry : HasEntry node bare slot s child a) (rotates : Rotates cmp bare slot child left_told parts right_told now before)
+      (undoes : (w : Inner K A) (key : K) (c : NodeId) (x : A) → now.keys ≡ insert w.keys slot key → now.children ≡ insert w.children (suc slot) c → now.arguments ≡ insert w.arguments (suc slot) x
+      → slot ≤ length w.keys → suc slot ≤ length w.children → suc slot ≤ length w.arguments → (taken ≡ w) × (◌≡◌ {A = K × NodeId × A} (out_s, out_child, out_a) (key, c, x)))
+      (got : slice_get taken.arguments slot ≡ Some out) (put : set ≡ record taken { arguments = slice_set taken.arguments slot before }) where
+    rotated_back : (set ≡ bare) × (◌≡◌ {A = Division K A} (record { left = out; separator = out_s; node = out_child; right = out_a }) (record { left = rotates.left; separator = rotates.separator; node = child; right = rotates.right }))
+    rotated_back = entry_back bare now taken set slot before out out_a out_s out_child (record { left = rotates.left; separator = rotates.separator; node = child; right = rotates.right }) entry.place rotates.summary rotates.is undoes got put
+
+    pub rotated_separator : out_s ≡ rotates.separator
+    rotated_separator = ap (λ (d : Division K A). d.separator) rotated_back.1
+
+    pub rotated_entry : back ≡ with_entry set slot s out_child a → back ≡ node
+    rotated_entry is = is ∙ (rw (rotated_back.0, ap (λ (d : Division K A). d.node) rotated_back.1) (sym entry.is))
+
+  -- a node that lost an entry has it again
+  pub merged_entry : (node bare now set back : Inner K A) (slot : ℕ) (s : K) (child given : NodeId) (a before out : A) (told : A → Type 0) → HasEntry node bare slot s child a → (merges : Merges bare slot told now before)
+      → slice_get now.arguments slot ≡ Some out → set ≡ record now { arguments = slice_set now.arguments slot before } → slice_get node.children (slot + 1) ≡ Some given → back ≡ with_entry set slot s given a → back ≡ node
+  merged_entry node bare now set back slot s child given a before out told entry merges got put read is =
+      let undone = sum_back bare now set slot merges.both before out merges.is (place_below bare slot entry.place) merges.summary got put in
+      let there : child ≡ given =
+      inserted_is bare.children (slot + 1) child given (omega (arith, entry.place.within, entry.place.children)) (ap (λ (n : Inner K A). slice_get n.children (slot + 1)) (sym entry.is) ∙ read) in
+      is ∙ rw (undone.0, ← there) (sym entry.is)

@@ -1,0 +1,426 @@
+//! Two siblings and their parent, all three in hand: one child or pair rotates, or the siblings merge. What can't be had on the
+//! way is refused, and then all three nodes are again what they were.
+ghost use Rattle.std.specs.Prelude.{◌≡◌, ◌<◌, ◌≤◌, ◌+◌, [], length, Some, IfOk, OnErr, IfErr, slice_get};
+ghost use Rattle.bptree_nodes.specs.Inner.{Inner};
+ghost use Rattle.bptree_nodes.specs.Leaf.{Leaf};
+ghost use Rattle.bptree_ascent.specs.Change.{StartsAt};
+ghost use Rattle.bptree_rebalancing.specs.Transfer.{other_of, CanGive, MovesPair, MovesChild, Rotates, Merges};
+ghost use Rattle.bptree_rebalancing.specs.RotateMerge.{RotatesLeaves, MergesLeaves, RotatesInners, MergesInners};
+ghost use Rattle.bptree_ascent.specs.Sums.{HasPlace, SumsUp};
+ghost use Rattle.bptree_ascent.specs.LeafChange.{SumsUpLeaf};
+
+use bptree_arguments::argument::Argument;
+use bptree_ascent::node_changes::{Division, Resummed, resum, take_entry};
+use bptree_keys::key::Key;
+use bptree_keys::node_id::{LeafNodeId, NodeId};
+use bptree_nodes::inner_node::InnerNode;
+use bptree_nodes::leaf_node::LeafNode;
+use std::alloc::AllocError;
+
+/// Which of two siblings gives to the other in a rotation.
+#[derive(Clone, Copy)]
+pub enum Sibling {
+    Left,
+    Right,
+}
+
+impl Sibling {
+    fn other(self) -> Sibling
+        ensures { result ≡ other_of self }
+    {
+        match self {
+            Sibling::Left => Sibling::Right,
+            Sibling::Right => Sibling::Left,
+        }
+    }
+}
+
+/// What stood in a node on both sides of a separator: the summaries of the two children.
+#[derive(Drop)]
+pub struct Sides<A> {
+    pub left: A,
+    pub right: A,
+}
+
+/// The same with the separator.
+#[derive(Drop)]
+pub struct Joint<K, A> {
+    pub left: A,
+    pub separator: K,
+    pub right: A,
+}
+
+// One pair of the giver goes to its sibling.
+fn move_pair<K: Drop, V: Drop>(
+    giver: Sibling,
+    left: &mut LeafNode<K, V>,
+    right: &mut LeafNode<K, V>,
+)
+    requires { CanGive giver (length left.old.pairs) (length right.old.pairs) }
+    ensures { MovesPair giver left.old right.old left.new right.new }
+{
+    match giver {
+        Sibling::Left => left.rotate_right(right),
+        Sibling::Right => left.rotate_left(right),
+    }
+}
+
+// One child of the giver goes to its sibling. It answers the separator that then stands between the two.
+fn move_child<K: Drop, A: Drop>(
+    giver: Sibling,
+    left: &mut InnerNode<K, A>,
+    separator: K,
+    right: &mut InnerNode<K, A>,
+) -> K
+    requires sizes { CanGive giver (length left.old.keys) (length right.old.keys) }
+    requires left { 0 < length left.old.children }
+    requires right { 0 < length right.old.children }
+    ensures { MovesChild giver left.old separator right.old left.new result right.new }
+{
+    match giver {
+        Sibling::Left => left.rotate_right(separator, right),
+        Sibling::Right => left.rotate_left(separator, right),
+    }
+}
+
+// Asks for the summaries of two leaves, and puts them with a separator and the number of the right one into a node
+// without that entry. It answers the node's summary and the left leaf's old one.
+fn ask_leaves<K: Key, V: Drop, A: Argument<K>>(
+    node: &mut InnerNode<K, A>,
+    slot: usize,
+    child: NodeId,
+    left: &LeafNode<K, V>,
+    right: &LeafNode<K, V>,
+) -> Result<Resummed<A>, AllocError>
+    requires place { HasPlace node.old slot }
+    requires room { length node.old.keys < 64 }
+    requires some { 0 < length right.now.pairs }
+    ensures rotates { IfOk result (λ sums. Rotates K.cmp node.old slot child (SumsUpLeaf K.cmp A.is_summary left.now.pairs) (λ s. StartsAt K.cmp s right.now.pairs) (SumsUpLeaf K.cmp A.is_summary right.now.pairs) node.new sums.old) }
+    ensures sums { IfOk result (λ sums. SumsUp K.cmp A.is_summary node.new sums.above) }
+    ensures refused { OnErr result (node.new ≡ node.old) }
+{
+    let separator = right.data_at(0).0.clone()?;
+    let left = A::from_leaf(left.keys())?;
+    let right = A::from_leaf(right.keys())?;
+    let division = Division {
+        left,
+        separator,
+        node: child,
+        right,
+    };
+    match take_entry(node, slot, division) {
+        Ok(sums) => Ok(sums),
+        Err(_) => Err(AllocError),
+    }
+}
+
+// The same of two inner nodes, with the separator between them. Refused, it hands that back.
+fn ask_inners<K: Key, A: Argument<K>>(
+    node: &mut InnerNode<K, A>,
+    slot: usize,
+    child: NodeId,
+    left: &InnerNode<K, A>,
+    separator: K,
+    right: &InnerNode<K, A>,
+) -> Result<Resummed<A>, K>
+    requires place { HasPlace node.old slot }
+    requires room { length node.old.keys < 64 }
+    ensures rotates { IfOk result (λ sums. Rotates K.cmp node.old slot child (SumsUp K.cmp A.is_summary left.now) (λ s. s ≡ separator) (SumsUp K.cmp A.is_summary right.now) node.new sums.old) }
+    ensures sums { IfOk result (λ sums. SumsUp K.cmp A.is_summary node.new sums.above) }
+    ensures refused { OnErr result (node.new ≡ node.old) }
+    ensures handed_back { IfErr result (λ back. back ≡ separator) }
+{
+    let Ok(left) = A::from_inner(left.keys(), left.arguments()) else {
+        return Err(separator);
+    };
+    let Ok(right) = A::from_inner(right.keys(), right.arguments()) else {
+        return Err(separator);
+    };
+    let division = Division {
+        left,
+        separator,
+        node: child,
+        right,
+    };
+    match take_entry(node, slot, division) {
+        Ok(sums) => Ok(sums),
+        Err(division) => Err(division.separator),
+    }
+}
+
+// Asks for the summary of a leaf, and puts it into its node. It answers the node's summary and the leaf's old one.
+fn ask_leaf<K: Key, V: Drop, A: Argument<K>>(
+    node: &mut InnerNode<K, A>,
+    slot: usize,
+    leaf: &LeafNode<K, V>,
+) -> Result<Resummed<A>, AllocError>
+    requires place { slot < length node.old.arguments }
+    ensures merges { IfOk result (λ sums. Merges node.old slot (SumsUpLeaf K.cmp A.is_summary leaf.now.pairs) node.new sums.old) }
+    ensures sums { IfOk result (λ sums. SumsUp K.cmp A.is_summary node.new sums.above) }
+    ensures refused { OnErr result (node.new ≡ node.old) }
+{
+    let both = A::from_leaf(leaf.keys())?;
+    match resum(node, slot, both) {
+        Ok(sums) => Ok(sums),
+        Err(_) => Err(AllocError),
+    }
+}
+
+// The same of an inner node.
+fn ask_inner<K: Key, A: Argument<K>>(
+    node: &mut InnerNode<K, A>,
+    slot: usize,
+    child: &InnerNode<K, A>,
+) -> Result<Resummed<A>, AllocError>
+    requires place { slot < length node.old.arguments }
+    ensures merges { IfOk result (λ sums. Merges node.old slot (SumsUp K.cmp A.is_summary child.now) node.new sums.old) }
+    ensures sums { IfOk result (λ sums. SumsUp K.cmp A.is_summary node.new sums.above) }
+    ensures refused { OnErr result (node.new ≡ node.old) }
+{
+    let both = A::from_inner(child.keys(), child.arguments())?;
+    match resum(node, slot, both) {
+        Ok(sums) => Ok(sums),
+        Err(_) => Err(AllocError),
+    }
+}
+
+/// Rotates a pair from one leaf to its sibling. It answers the parent's summary, and what stood in the parent; refused, all
+/// three are as they were.
+pub fn rotate_leaves<K: Key, V: Drop, A: Argument<K>>(
+    node: &mut InnerNode<K, A>,
+    slot: usize,
+    giver: Sibling,
+    left: &mut LeafNode<K, V>,
+    right: &mut LeafNode<K, V>,
+) -> Result<(A, Joint<K, A>), AllocError>
+    requires place { HasPlace node.old (slot + 1) }
+    requires most { length node.old.keys ≤ 64 }
+    requires rotates { CanGive giver (length left.old.pairs) (length right.old.pairs) }
+    requires some { 1 < length right.old.pairs }
+    ensures rotates { IfOk result (λ done. RotatesLeaves K.cmp A.is_summary giver slot node.old left.old right.old node.new left.new right.new done.1) }
+    ensures sums { IfOk result (λ done. SumsUp K.cmp A.is_summary node.new done.0) }
+    ensures node { OnErr result (node.new ≡ node.old) }
+    ensures left { OnErr result (left.new ≡ left.old) }
+    ensures right { OnErr result (right.new ≡ right.old) }
+{
+    move_pair(giver, left, right);
+    let (separator, child, old) = node.remove_at(slot);
+    match ask_leaves(node, slot, child, left, right) {
+        Ok(Resummed { above, old: before }) => {
+            let joint = Joint {
+                left: before,
+                separator,
+                right: old,
+            };
+            Ok((above, joint))
+        }
+        Err(refusal) => {
+            node.insert_at(slot, separator, child, old);
+            move_pair(giver.other(), left, right);
+            Err(refusal)
+        }
+    }
+}
+
+/// Undoes what `rotate_leaves` did.
+pub fn undo_rotate_leaves<K: Key, V: Drop, A: Argument<K>>(
+    node: &mut InnerNode<K, A>,
+    slot: usize,
+    giver: Sibling,
+    joint: Joint<K, A>,
+    left: &mut LeafNode<K, V>,
+    right: &mut LeafNode<K, V>,
+)
+    requires place { HasPlace node.old (slot + 1) }
+    requires most { length node.old.keys ≤ 64 }
+    requires rotates { CanGive (other_of giver) (length left.old.pairs) (length right.old.pairs) }
+    ensures undoes { (was : Inner K A) (one other : Leaf K V) → RotatesLeaves K.cmp A.is_summary giver slot was one other node.old left.old right.old joint → (node.new ≡ was) × (left.new ≡ one) × (right.new ≡ other) }
+{
+    let (_, child, _) = node.remove_at(slot);
+    node.set_argument(slot, joint.left);
+    node.insert_at(slot, joint.separator, child, joint.right);
+    move_pair(giver.other(), left, right);
+}
+
+/// Merges two leaves into the left one; the right one stays empty. It answers the parent's summary, and what stood in the
+/// parent; refused, all three are as they were.
+pub fn merge_leaves<K: Key, V: Drop, A: Argument<K>>(
+    node: &mut InnerNode<K, A>,
+    slot: usize,
+    left: &mut LeafNode<K, V>,
+    right: &mut LeafNode<K, V>,
+) -> Result<(A, Joint<K, A>), AllocError>
+    requires place { HasPlace node.old (slot + 1) }
+    requires most { length node.old.keys ≤ 64 }
+    requires fits { length left.old.pairs + length right.old.pairs ≤ 64 }
+    ensures merges { IfOk result (λ done. MergesLeaves K.cmp A.is_summary slot node.old left.old right.old node.new left.new right.new done.1) }
+    ensures sums { IfOk result (λ done. SumsUp K.cmp A.is_summary node.new done.0) }
+    ensures node { OnErr result (node.new ≡ node.old) }
+    ensures left { OnErr result (left.new ≡ left.old) }
+    ensures right { OnErr result (right.new ≡ right.old) }
+{
+    let kept = left.len();
+    let next = left.next();
+    left.take_over(right);
+    let (separator, child, old) = node.remove_at(slot);
+    match ask_leaf(node, slot, left) {
+        Ok(Resummed { above, old: before }) => {
+            let joint = Joint {
+                left: before,
+                separator,
+                right: old,
+            };
+            Ok((above, joint))
+        }
+        Err(refusal) => {
+            node.insert_at(slot, separator, child, old);
+            left.hand_over(kept, right);
+            left.set_next(next);
+            Err(refusal)
+        }
+    }
+}
+
+/// Undoes what `merge_leaves` did to a left leaf that had `kept` pairs.
+pub fn undo_merge_leaves<K: Key, V: Drop, A: Argument<K>>(
+    node: &mut InnerNode<K, A>,
+    slot: usize,
+    joint: Joint<K, A>,
+    child: NodeId,
+    left: &mut LeafNode<K, V>,
+    kept: usize,
+    next: Option<LeafNodeId>,
+    right: &mut LeafNode<K, V>,
+)
+    requires place { HasPlace node.old slot }
+    requires room { length node.old.keys < 64 }
+    requires kept { kept ≤ length left.old.pairs }
+    requires empty { right.old.pairs ≡ [] }
+    ensures undoes { (was : Inner K A) (one other : Leaf K V) → MergesLeaves K.cmp A.is_summary slot was one other node.old left.old right.old joint → slice_get was.children (slot + 1) ≡ Some child → kept ≡ length one.pairs → next ≡ one.next → (node.new ≡ was) × (left.new ≡ one) × (right.new ≡ other) }
+{
+    node.set_argument(slot, joint.left);
+    node.insert_at(slot, joint.separator, child, joint.right);
+    left.hand_over(kept, right);
+    left.set_next(next);
+}
+
+/// Rotates a child from one inner node to its sibling, as `rotate_leaves` does a pair. The separator goes down to the one, and
+/// a key of the other comes up.
+pub fn rotate_inners<K: Key, A: Argument<K>>(
+    node: &mut InnerNode<K, A>,
+    slot: usize,
+    giver: Sibling,
+    left: &mut InnerNode<K, A>,
+    right: &mut InnerNode<K, A>,
+) -> Result<(A, Sides<A>), AllocError>
+    requires place { HasPlace node.old (slot + 1) }
+    requires most { length node.old.keys ≤ 64 }
+    requires rotates { CanGive giver (length left.old.keys) (length right.old.keys) }
+    requires left { 0 < length left.old.children }
+    requires right { 0 < length right.old.children }
+    ensures rotates { IfOk result (λ done. RotatesInners K.cmp A.is_summary giver slot node.old left.old right.old node.new left.new right.new done.1) }
+    ensures sums { IfOk result (λ done. SumsUp K.cmp A.is_summary node.new done.0) }
+    ensures node { OnErr result (node.new ≡ node.old) }
+    ensures left { OnErr result (left.new ≡ left.old) }
+    ensures right { OnErr result (right.new ≡ right.old) }
+{
+    let (separator, child, old) = node.remove_at(slot);
+    let up = move_child(giver, left, separator, right);
+    match ask_inners(node, slot, child, left, up, right) {
+        Ok(Resummed { above, old: before }) => {
+            let sides = Sides {
+                left: before,
+                right: old,
+            };
+            Ok((above, sides))
+        }
+        Err(up) => {
+            let separator = move_child(giver.other(), left, up, right);
+            node.insert_at(slot, separator, child, old);
+            Err(AllocError)
+        }
+    }
+}
+
+/// Undoes what `rotate_inners` did.
+pub fn undo_rotate_inners<K: Key, A: Argument<K>>(
+    node: &mut InnerNode<K, A>,
+    slot: usize,
+    giver: Sibling,
+    sides: Sides<A>,
+    left: &mut InnerNode<K, A>,
+    right: &mut InnerNode<K, A>,
+)
+    requires place { HasPlace node.old (slot + 1) }
+    requires most { length node.old.keys ≤ 64 }
+    requires rotates { CanGive (other_of giver) (length left.old.keys) (length right.old.keys) }
+    requires left { 0 < length left.old.children }
+    requires right { 0 < length right.old.children }
+    ensures undoes { (was one other : Inner K A) → RotatesInners K.cmp A.is_summary giver slot was one other node.old left.old right.old sides → (node.new ≡ was) × (left.new ≡ one) × (right.new ≡ other) }
+{
+    let (up, child, _) = node.remove_at(slot);
+    let separator = move_child(giver.other(), left, up, right);
+    node.set_argument(slot, sides.left);
+    node.insert_at(slot, separator, child, sides.right);
+}
+
+/// Merges two inner nodes into the left one, with the separator between; the right one stays as an empty shell.
+pub fn merge_inners<K: Key, A: Argument<K>>(
+    node: &mut InnerNode<K, A>,
+    slot: usize,
+    left: &mut InnerNode<K, A>,
+    right: &mut InnerNode<K, A>,
+) -> Result<(A, Sides<A>), AllocError>
+    requires place { HasPlace node.old (slot + 1) }
+    requires most { length node.old.keys ≤ 64 }
+    requires left { 0 < length left.old.children }
+    requires right { 0 < length right.old.children }
+    requires fits { length left.old.keys + length right.old.keys < 64 }
+    ensures merges { IfOk result (λ done. MergesInners K.cmp A.is_summary slot node.old left.old right.old node.new left.new right.new done.1) }
+    ensures sums { IfOk result (λ done. SumsUp K.cmp A.is_summary node.new done.0) }
+    ensures node { OnErr result (node.new ≡ node.old) }
+    ensures left { OnErr result (left.new ≡ left.old) }
+    ensures right { OnErr result (right.new ≡ right.old) }
+{
+    let kept = left.len();
+    // Read, so that it is known to fit.
+    let _moved = right.len();
+    let (separator, child, old) = node.remove_at(slot);
+    left.take_over(separator, right);
+    match ask_inner(node, slot, left) {
+        Ok(Resummed { above, old: before }) => {
+            let sides = Sides {
+                left: before,
+                right: old,
+            };
+            Ok((above, sides))
+        }
+        Err(refusal) => {
+            let separator = left.hand_over(kept + 1, right);
+            node.insert_at(slot, separator, child, old);
+            Err(refusal)
+        }
+    }
+}
+
+/// Undoes what `merge_inners` did to a left node that had `kept` keys.
+pub fn undo_merge_inners<K: Key, A: Argument<K>>(
+    node: &mut InnerNode<K, A>,
+    slot: usize,
+    sides: Sides<A>,
+    child: NodeId,
+    left: &mut InnerNode<K, A>,
+    kept: usize,
+    right: &mut InnerNode<K, A>,
+)
+    requires place { HasPlace node.old slot }
+    requires room { length node.old.keys < 64 }
+    requires kept { kept < length left.old.keys }
+    requires most { kept ≤ 64 }
+    requires shell { right.old.children ≡ [] }
+    ensures undoes { (was one other : Inner K A) → MergesInners K.cmp A.is_summary slot was one other node.old left.old right.old sides → slice_get was.children (slot + 1) ≡ Some child → kept ≡ length one.keys → (node.new ≡ was) × (left.new ≡ one) × (right.new ≡ other) }
+{
+    let separator = left.hand_over(kept + 1, right);
+    node.set_argument(slot, sides.left);
+    node.insert_at(slot, separator, child, sides.right);
+}

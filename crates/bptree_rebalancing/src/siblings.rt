@@ -1,0 +1,266 @@
+//! Two siblings in a store, under their parent: they rotate or merge. Each change can be undone, and a refused one leaves every
+//! slot as it was.
+ghost use Rattle.std.specs.Prelude.{◌≡◌, ◌<◌, ◌≤◌, ◌+◌, length, IfOk, OnErr, Some, slice_get};
+ghost use Rattle.bptree_nodes.specs.Inner.{Inner};
+ghost use Rattle.bptree_nodes.specs.Leaf.{Leaf};
+ghost use Rattle.bptree_nodes.specs.Slot.{Slots, IsPresent};
+ghost use Rattle.bptree_shape.specs.Shape.{leaf_pairs, leaf_next, inner_keys, inner_children};
+ghost use Rattle.bptree_keys.specs.declared.node_id.NodeId.TheVariants as kind;
+ghost use Rattle.bptree_rebalancing.specs.Transfer.{CanGive};
+ghost use Rattle.bptree_rebalancing.specs.RotateMerge.{RotatesLeavesAt, MergesLeavesAt, RotatesInnersAt, MergesInnersAt};
+ghost use Rattle.bptree_ascent.specs.Sums.{PlaceAt, SumsUpAt};
+
+use crate::rotate_merge::{
+    Joint, Sibling, Sides, merge_inners, merge_leaves, rotate_inners, rotate_leaves,
+    undo_merge_inners, undo_merge_leaves, undo_rotate_inners, undo_rotate_leaves,
+};
+use bptree_keys::node_id::{InnerNodeId, LeafNodeId, NodeId};
+use bptree_nodes::inner_node::InnerNode;
+use bptree_nodes::leaf_node::LeafNode;
+use bptree_stores::node_stores::NodeStore;
+use std::alloc::AllocError;
+
+/// Rotates a pair from one leaf to its sibling. It answers the summary of the parent, and what stood there.
+pub fn rotate_leaves_at<S: NodeStore>(
+    store: &mut S,
+    id: InnerNodeId,
+    slot: usize,
+    giver: Sibling,
+    left: LeafNodeId,
+    right: LeafNodeId,
+) -> Result<(S::Argument, Joint<S::K, S::Argument>), AllocError>
+    requires place { PlaceAt ((S.slots store.old).inner id.0) (slot + 1) }
+    requires most { length (inner_keys ((S.slots store.old).inner id.0)) ≤ 64 }
+    requires left { IsPresent ((S.slots store.old).leaf left.0) }
+    requires right { IsPresent ((S.slots store.old).leaf right.0) }
+    requires rotates { CanGive giver (length (leaf_pairs ((S.slots store.old).leaf left.0))) (length (leaf_pairs ((S.slots store.old).leaf right.0))) }
+    requires some { 1 < length (leaf_pairs ((S.slots store.old).leaf right.0)) }
+    requires apart { left.0 ≡ right.0 → ⊥ }
+    ensures rotates { IfOk result (λ done. RotatesLeavesAt S.K.cmp S.Argument.is_summary slot (S.slots store.old) (S.slots store.new) id giver left right done.1) }
+    ensures sums { IfOk result (λ done. SumsUpAt S.K.cmp S.Argument.is_summary ((S.slots store.new).inner id.0) done.0) }
+    ensures refused { OnErr result (S.slots store.new ≡ S.slots store.old) }
+{
+    let mut node = store.take_inner(id);
+    let mut one = store.take_leaf(left);
+    let mut other = store.take_leaf(right);
+    let asked = rotate_leaves(&mut node, slot, giver, &mut one, &mut other);
+    store.put_back_inner(id, node);
+    store.assign_leaf(left, one);
+    store.assign_leaf(right, other);
+    asked
+}
+
+/// Undoes what `rotate_leaves_at` did.
+pub fn undo_rotate_leaves_at<S: NodeStore>(
+    store: &mut S,
+    id: InnerNodeId,
+    slot: usize,
+    giver: Sibling,
+    joint: Joint<S::K, S::Argument>,
+    left: LeafNodeId,
+    right: LeafNodeId,
+)
+    requires { (was : Slots (Inner S.K S.Argument) (Leaf S.K S.V)) × RotatesLeavesAt S.K.cmp S.Argument.is_summary slot was (S.slots store.old) id giver left right joint }
+    ensures { (was : Slots (Inner S.K S.Argument) (Leaf S.K S.V)) → RotatesLeavesAt S.K.cmp S.Argument.is_summary slot was (S.slots store.old) id giver left right joint → S.slots store.new ≡ was }
+{
+    let mut node = store.take_inner(id);
+    let mut one = store.take_leaf(left);
+    let mut other = store.take_leaf(right);
+    undo_rotate_leaves(&mut node, slot, giver, joint, &mut one, &mut other);
+    store.put_back_inner(id, node);
+    store.assign_leaf(left, one);
+    store.assign_leaf(right, other);
+}
+
+/// Merges two leaves under the number of the left one. It answers the summary of the parent, what stood there, and the emptied
+/// right leaf, whose number stays reserved.
+pub fn merge_leaves_at<S: NodeStore>(
+    store: &mut S,
+    id: InnerNodeId,
+    slot: usize,
+    left: LeafNodeId,
+    right: LeafNodeId,
+) -> Result<
+    (
+        S::Argument,
+        Joint<S::K, S::Argument>,
+        Box<LeafNode<S::K, S::V>>,
+    ),
+    AllocError,
+>
+    requires place { PlaceAt ((S.slots store.old).inner id.0) (slot + 1) }
+    requires most { length (inner_keys ((S.slots store.old).inner id.0)) ≤ 64 }
+    requires left { IsPresent ((S.slots store.old).leaf left.0) }
+    requires right { IsPresent ((S.slots store.old).leaf right.0) }
+    requires fits { length (leaf_pairs ((S.slots store.old).leaf left.0)) + length (leaf_pairs ((S.slots store.old).leaf right.0)) ≤ 64 }
+    requires apart { left.0 ≡ right.0 → ⊥ }
+    ensures merges { IfOk result (λ done. MergesLeavesAt S.K.cmp S.Argument.is_summary slot (S.slots store.old) (S.slots store.new) id left right done.1 done.2.value) }
+    ensures sums { IfOk result (λ done. SumsUpAt S.K.cmp S.Argument.is_summary ((S.slots store.new).inner id.0) done.0) }
+    ensures refused { OnErr result (S.slots store.new ≡ S.slots store.old) }
+{
+    let mut node = store.take_inner(id);
+    let mut one = store.take_leaf(left);
+    let mut other = store.take_leaf(right);
+    let asked = merge_leaves(&mut node, slot, &mut one, &mut other);
+    store.put_back_inner(id, node);
+    store.assign_leaf(left, one);
+    match asked {
+        Ok((above, joint)) => Ok((above, joint, other)),
+        Err(refusal) => {
+            store.assign_leaf(right, other);
+            Err(refusal)
+        }
+    }
+}
+
+/// Undoes what `merge_leaves_at` did to a left leaf that had `kept` pairs.
+pub fn undo_merge_leaves_at<S: NodeStore>(
+    store: &mut S,
+    id: InnerNodeId,
+    slot: usize,
+    joint: Joint<S::K, S::Argument>,
+    left: LeafNodeId,
+    kept: usize,
+    right: LeafNodeId,
+    mut emptied: Box<LeafNode<S::K, S::V>>,
+)
+    requires { (was : Slots (Inner S.K S.Argument) (Leaf S.K S.V)) × MergesLeavesAt S.K.cmp S.Argument.is_summary slot was (S.slots store.old) id left right joint emptied.value × (kept ≡ length (leaf_pairs (was.leaf left.0))) }
+    ensures { (was : Slots (Inner S.K S.Argument) (Leaf S.K S.V)) → MergesLeavesAt S.K.cmp S.Argument.is_summary slot was (S.slots store.old) id left right joint emptied.value → kept ≡ length (leaf_pairs (was.leaf left.0)) → slice_get (inner_children (was.inner id.0)) (slot + 1) ≡ Some (kind.Leaf right) → leaf_next (was.leaf left.0) ≡ Some right → S.slots store.new ≡ was }
+{
+    let mut node = store.take_inner(id);
+    let mut one = store.take_leaf(left);
+    undo_merge_leaves(
+        &mut node,
+        slot,
+        joint,
+        NodeId::Leaf(right),
+        &mut one,
+        kept,
+        Some(right),
+        &mut emptied,
+    );
+    store.put_back_inner(id, node);
+    store.assign_leaf(left, one);
+    store.assign_leaf(right, emptied);
+}
+
+/// Rotates a child from one inner node to its sibling, through the parent.
+pub fn rotate_inners_at<S: NodeStore>(
+    store: &mut S,
+    id: InnerNodeId,
+    slot: usize,
+    giver: Sibling,
+    left: InnerNodeId,
+    right: InnerNodeId,
+) -> Result<(S::Argument, Sides<S::Argument>), AllocError>
+    requires place { PlaceAt ((S.slots store.old).inner id.0) (slot + 1) }
+    requires most { length (inner_keys ((S.slots store.old).inner id.0)) ≤ 64 }
+    requires left { 0 < length (inner_children ((S.slots store.old).inner left.0)) }
+    requires right { 0 < length (inner_children ((S.slots store.old).inner right.0)) }
+    requires rotates { CanGive giver (length (inner_keys ((S.slots store.old).inner left.0))) (length (inner_keys ((S.slots store.old).inner right.0))) }
+    requires apart { (left.0 ≡ right.0 → ⊥) × (left.0 ≡ id.0 → ⊥) × (right.0 ≡ id.0 → ⊥) }
+    ensures rotates { IfOk result (λ done. RotatesInnersAt S.K.cmp S.Argument.is_summary slot (S.slots store.old) (S.slots store.new) id giver left right done.1) }
+    ensures sums { IfOk result (λ done. SumsUpAt S.K.cmp S.Argument.is_summary ((S.slots store.new).inner id.0) done.0) }
+    ensures refused { OnErr result (S.slots store.new ≡ S.slots store.old) }
+{
+    let mut node = store.take_inner(id);
+    let mut one = store.take_inner(left);
+    let mut other = store.take_inner(right);
+    let asked = rotate_inners(&mut node, slot, giver, &mut one, &mut other);
+    store.put_back_inner(id, node);
+    store.put_back_inner(left, one);
+    store.put_back_inner(right, other);
+    asked
+}
+
+/// Undoes what `rotate_inners_at` did.
+pub fn undo_rotate_inners_at<S: NodeStore>(
+    store: &mut S,
+    id: InnerNodeId,
+    slot: usize,
+    giver: Sibling,
+    sides: Sides<S::Argument>,
+    left: InnerNodeId,
+    right: InnerNodeId,
+)
+    requires { (was : Slots (Inner S.K S.Argument) (Leaf S.K S.V)) × RotatesInnersAt S.K.cmp S.Argument.is_summary slot was (S.slots store.old) id giver left right sides }
+    ensures { (was : Slots (Inner S.K S.Argument) (Leaf S.K S.V)) → RotatesInnersAt S.K.cmp S.Argument.is_summary slot was (S.slots store.old) id giver left right sides → S.slots store.new ≡ was }
+{
+    let mut node = store.take_inner(id);
+    let mut one = store.take_inner(left);
+    let mut other = store.take_inner(right);
+    undo_rotate_inners(&mut node, slot, giver, sides, &mut one, &mut other);
+    store.put_back_inner(id, node);
+    store.put_back_inner(left, one);
+    store.put_back_inner(right, other);
+}
+
+/// Merges two inner nodes under the number of the left one; the number of the emptied right one stays reserved.
+pub fn merge_inners_at<S: NodeStore>(
+    store: &mut S,
+    id: InnerNodeId,
+    slot: usize,
+    left: InnerNodeId,
+    right: InnerNodeId,
+) -> Result<
+    (
+        S::Argument,
+        Sides<S::Argument>,
+        Box<InnerNode<S::K, S::Argument>>,
+    ),
+    AllocError,
+>
+    requires place { PlaceAt ((S.slots store.old).inner id.0) (slot + 1) }
+    requires most { length (inner_keys ((S.slots store.old).inner id.0)) ≤ 64 }
+    requires left { 0 < length (inner_children ((S.slots store.old).inner left.0)) }
+    requires right { 0 < length (inner_children ((S.slots store.old).inner right.0)) }
+    requires fits { length (inner_keys ((S.slots store.old).inner left.0)) + length (inner_keys ((S.slots store.old).inner right.0)) < 64 }
+    requires apart { (left.0 ≡ right.0 → ⊥) × (left.0 ≡ id.0 → ⊥) × (right.0 ≡ id.0 → ⊥) }
+    ensures merges { IfOk result (λ done. MergesInnersAt S.K.cmp S.Argument.is_summary slot (S.slots store.old) (S.slots store.new) id left right done.1 done.2.value) }
+    ensures sums { IfOk result (λ done. SumsUpAt S.K.cmp S.Argument.is_summary ((S.slots store.new).inner id.0) done.0) }
+    ensures refused { OnErr result (S.slots store.new ≡ S.slots store.old) }
+{
+    let mut node = store.take_inner(id);
+    let mut one = store.take_inner(left);
+    let mut other = store.take_inner(right);
+    let asked = merge_inners(&mut node, slot, &mut one, &mut other);
+    store.put_back_inner(id, node);
+    store.put_back_inner(left, one);
+    match asked {
+        Ok((above, sides)) => Ok((above, sides, other)),
+        Err(refusal) => {
+            store.put_back_inner(right, other);
+            Err(refusal)
+        }
+    }
+}
+
+/// Undoes what `merge_inners_at` did to a left node that had `kept` keys.
+pub fn undo_merge_inners_at<S: NodeStore>(
+    store: &mut S,
+    id: InnerNodeId,
+    slot: usize,
+    sides: Sides<S::Argument>,
+    left: InnerNodeId,
+    kept: usize,
+    right: InnerNodeId,
+    mut emptied: Box<InnerNode<S::K, S::Argument>>,
+)
+    requires { (was : Slots (Inner S.K S.Argument) (Leaf S.K S.V)) × MergesInnersAt S.K.cmp S.Argument.is_summary slot was (S.slots store.old) id left right sides emptied.value × (kept ≡ length (inner_keys (was.inner left.0))) }
+    ensures { (was : Slots (Inner S.K S.Argument) (Leaf S.K S.V)) → MergesInnersAt S.K.cmp S.Argument.is_summary slot was (S.slots store.old) id left right sides emptied.value → kept ≡ length (inner_keys (was.inner left.0)) → slice_get (inner_children (was.inner id.0)) (slot + 1) ≡ Some (kind.Inner right) → S.slots store.new ≡ was }
+{
+    let mut node = store.take_inner(id);
+    let mut one = store.take_inner(left);
+    undo_merge_inners(
+        &mut node,
+        slot,
+        sides,
+        NodeId::Inner(right),
+        &mut one,
+        kept,
+        &mut emptied,
+    );
+    store.put_back_inner(id, node);
+    store.put_back_inner(left, one);
+    store.put_back_inner(right, emptied);
+}

@@ -1,0 +1,231 @@
+//! Underflow in a tree that stands in a store: which sibling a node rotates or merges with, and inner nodes that are rebalanced
+//! up the path.
+ghost use Rattle.std.specs.Prelude.{◌≡◌, ◌<◌, ◌≤◌, ◌+◌, IfOk, OnErr, IsTrue, Some, length, slice_get};
+ghost use Rattle.bptree_keys.specs.declared.node_id.NodeId.TheVariants as kind;
+ghost use Rattle.bptree_nodes.specs.Slot.{IsPresent};
+ghost use Rattle.bptree_ascent.specs.Climb.{Climbs, Risen};
+ghost use Rattle.bptree_rebalancing.specs.ChooseSibling.{ChosenSibling, ChoosesSibling, child_size, AllInner, AllLeaves};
+ghost use Rattle.bptree_shape.specs.Shape.{inner_keys, inner_children};
+ghost use Rattle.bptree_rebalancing.specs.Trim.{ClimbsUnderflow, Sunk};
+
+use crate::rotate_merge::Sibling;
+use crate::siblings::{
+    merge_inners_at, rotate_inners_at, undo_merge_inners_at, undo_rotate_inners_at,
+};
+use crate::statistics::Statistic;
+use bptree_ascent::ascent::ascend;
+use bptree_keys::entry_ref::VisitStack;
+use bptree_keys::node_id::{InnerNodeId, LeafNodeId, NodeId};
+use bptree_nodes::inner_node::INNER_MINIMUM;
+use bptree_nodes::leaf_node::LEAF_MINIMUM;
+use bptree_stores::node_stores::NodeStore;
+use std::alloc::AllocError;
+
+// The slot of the separator between a child that underflows and its sibling, and which sibling gives, where one can; else the
+// two merge. `gives` is whether the sibling before it gives, and `after` how many the one behind it has, or 0 where none stands.
+fn choose_sibling(place: usize, gives: bool, after: usize) -> (usize, Option<Sibling>)
+    requires { IsTrue gives → 0 < place }
+    ensures { ChosenSibling place gives after result.0 result.1 }
+{
+    if gives {
+        return (place - 1, Some(Sibling::Left));
+    }
+    if after > LEAF_MINIMUM {
+        return (place, Some(Sibling::Right));
+    }
+    if place > 0 {
+        return (place - 1, None);
+    }
+    (0, None)
+}
+
+// How many pairs the leaf at a place has, where one stands there.
+fn leaf_len<S: NodeStore>(store: &S, id: InnerNodeId, place: usize) -> usize
+    requires present { IsPresent ((S.slots store.now).inner id.0) }
+    requires children { AllLeaves (S.slots store.now) (inner_children ((S.slots store.now).inner id.0)) }
+    requires long { length (inner_children ((S.slots store.now).inner id.0)) ≡ length (inner_keys ((S.slots store.now).inner id.0)) + 1 }
+    ensures { result ≡ child_size (S.slots store.now) (inner_children ((S.slots store.now).inner id.0)) place }
+{
+    let node = store.get_inner(id);
+    if place > node.len() {
+        return 0;
+    }
+    match node.child_id(place) {
+        NodeId::Leaf(leaf) => store.get_leaf(leaf).len(),
+        NodeId::Inner(_) => 0,
+    }
+}
+
+// How many keys the inner node at a place has, where one stands there.
+fn inner_len<S: NodeStore>(store: &S, id: InnerNodeId, place: usize) -> usize
+    requires present { IsPresent ((S.slots store.now).inner id.0) }
+    requires children { AllInner (S.slots store.now) (inner_children ((S.slots store.now).inner id.0)) }
+    requires long { length (inner_children ((S.slots store.now).inner id.0)) ≡ length (inner_keys ((S.slots store.now).inner id.0)) + 1 }
+    ensures { result ≡ child_size (S.slots store.now) (inner_children ((S.slots store.now).inner id.0)) place }
+{
+    let node = store.get_inner(id);
+    if place > node.len() {
+        return 0;
+    }
+    match node.child_id(place) {
+        NodeId::Inner(inner) => store.get_inner(inner).len(),
+        NodeId::Leaf(_) => 0,
+    }
+}
+
+/// Which sibling the leaf at a place of a node rotates or merges with, and the slot of the separator between the two.
+pub fn leaf_sibling<S: NodeStore>(
+    store: &S,
+    id: InnerNodeId,
+    place: usize,
+) -> (usize, Option<Sibling>)
+    requires present { IsPresent ((S.slots store.now).inner id.0) }
+    requires children { AllLeaves (S.slots store.now) (inner_children ((S.slots store.now).inner id.0)) }
+    requires long { length (inner_children ((S.slots store.now).inner id.0)) ≡ length (inner_keys ((S.slots store.now).inner id.0)) + 1 }
+    requires place { place < length (inner_children ((S.slots store.now).inner id.0)) }
+    requires fits { length (inner_children ((S.slots store.now).inner id.0)) ≤ 65 }
+    ensures { ChoosesSibling (child_size (S.slots store.now) (inner_children ((S.slots store.now).inner id.0))) place result.0 result.1 }
+{
+    let after = leaf_len(store, id, place + 1);
+    if place == 0 {
+        return choose_sibling(place, false, after);
+    }
+    let before = leaf_len(store, id, place - 1);
+    choose_sibling(place, before > LEAF_MINIMUM && before > after, after)
+}
+
+// The same of an inner node.
+fn inner_sibling<S: NodeStore>(store: &S, id: InnerNodeId, place: usize) -> (usize, Option<Sibling>)
+    requires present { IsPresent ((S.slots store.now).inner id.0) }
+    requires children { AllInner (S.slots store.now) (inner_children ((S.slots store.now).inner id.0)) }
+    requires long { length (inner_children ((S.slots store.now).inner id.0)) ≡ length (inner_keys ((S.slots store.now).inner id.0)) + 1 }
+    requires place { place < length (inner_children ((S.slots store.now).inner id.0)) }
+    requires fits { length (inner_children ((S.slots store.now).inner id.0)) ≤ 65 }
+    ensures { ChoosesSibling (child_size (S.slots store.now) (inner_children ((S.slots store.now).inner id.0))) place result.0 result.1 }
+{
+    let after = inner_len(store, id, place + 1);
+    if place == 0 {
+        return choose_sibling(place, false, after);
+    }
+    let before = inner_len(store, id, place - 1);
+    choose_sibling(place, before > INNER_MINIMUM, after)
+}
+
+// Carries a node's new summary up the path above it.
+fn rise<S: NodeStore>(
+    store: &mut S,
+    path: &mut VisitStack,
+    summary: S::Argument,
+) -> Result<S::Argument, AllocError>
+    requires { Climbs S.K.cmp S.Argument.is_summary (S.slots store.old) path.old summary }
+    ensures rises { (c : Climbs S.K.cmp S.Argument.is_summary (S.slots store.old) path.old summary) → IfOk result (λ top. Risen c.climb (S.slots store.new) top) }
+    ensures refused { OnErr result (S.slots store.new ≡ S.slots store.old) }
+{
+    match ascend(store, path, summary) {
+        Ok(top) => Ok(top),
+        Err(_) => Err(AllocError),
+    }
+}
+
+/// Carries a node's new summary up the path above it, where the node may have underflowed: then it rotates or merges with a
+/// sibling, and after a merge the parent may underflow in turn. It answers a summary of all keys.
+pub fn ascend_underflow<S: NodeStore>(
+    store: &mut S,
+    path: &mut VisitStack,
+    id: InnerNodeId,
+    summary: S::Argument,
+    statistic: &mut Statistic,
+) -> Result<S::Argument, AllocError>
+    requires { ClimbsUnderflow S.K.cmp S.Argument.is_summary (S.slots store.old) path.old id summary }
+    ensures rises { (c : ClimbsUnderflow S.K.cmp S.Argument.is_summary (S.slots store.old) path.old id summary) → IfOk result (λ top. Sunk c.climb (S.slots store.new) top) }
+    ensures refused { OnErr result (S.slots store.new ≡ S.slots store.old) }
+{
+    if store.get_inner(id).len() >= INNER_MINIMUM {
+        return rise(store, path, summary);
+    }
+    let Some((parent, place, _)) = path.pop() else {
+        return Ok(summary);
+    };
+    let (slot, giver) = inner_sibling(store, parent, place);
+    let (left, right) = inners_at(store, parent, slot);
+    match giver {
+        Some(giver) => {
+            let (above, sides) = rotate_inners_at(store, parent, slot, giver, left, right)?;
+            match rise(store, path, above) {
+                Ok(top) => {
+                    statistic.count_inner(Some(giver), false);
+                    Ok(top)
+                }
+                Err(_) => {
+                    undo_rotate_inners_at(store, parent, slot, giver, sides, left, right);
+                    Err(AllocError)
+                }
+            }
+        }
+        None => {
+            let kept = store.get_inner(left).len();
+            let (above, sides, emptied) = merge_inners_at(store, parent, slot, left, right)?;
+            match ascend_underflow(store, path, parent, above, statistic) {
+                Ok(top) => {
+                    store.release_inner(right);
+                    statistic.count_inner(None, slot < place);
+                    Ok(top)
+                }
+                Err(refusal) => {
+                    undo_merge_inners_at(store, parent, slot, sides, left, kept, right, emptied);
+                    Err(refusal)
+                }
+            }
+        }
+    }
+}
+
+// The inner node at a place of a node.
+fn inner_at<S: NodeStore>(store: &S, id: InnerNodeId, place: usize) -> InnerNodeId
+    requires present { IsPresent ((S.slots store.now).inner id.0) }
+    requires children { AllInner (S.slots store.now) (inner_children ((S.slots store.now).inner id.0)) }
+    requires place { place < length (inner_children ((S.slots store.now).inner id.0)) }
+    ensures { slice_get (inner_children ((S.slots store.now).inner id.0)) place ≡ Some (kind.Inner result) }
+{
+    match store.get_inner(id).child_id(place) {
+        NodeId::Inner(child) => child,
+        NodeId::Leaf(_) => unreachable!(),
+    }
+}
+
+// The two inner nodes on both sides of a separator.
+fn inners_at<S: NodeStore>(store: &S, id: InnerNodeId, slot: usize) -> (InnerNodeId, InnerNodeId)
+    requires present { IsPresent ((S.slots store.now).inner id.0) }
+    requires children { AllInner (S.slots store.now) (inner_children ((S.slots store.now).inner id.0)) }
+    requires fits { length (inner_children ((S.slots store.now).inner id.0)) ≤ 65 }
+    requires slot { slot + 1 < length (inner_children ((S.slots store.now).inner id.0)) }
+    ensures left { slice_get (inner_children ((S.slots store.now).inner id.0)) slot ≡ Some (kind.Inner result.0) }
+    ensures right { slice_get (inner_children ((S.slots store.now).inner id.0)) (slot + 1) ≡ Some (kind.Inner result.1) }
+{
+    (inner_at(store, id, slot), inner_at(store, id, slot + 1))
+}
+
+// The leaf at a place of a node.
+fn leaf_at<S: NodeStore>(store: &S, id: InnerNodeId, place: usize) -> LeafNodeId
+    requires present { IsPresent ((S.slots store.now).inner id.0) }
+    requires children { AllLeaves (S.slots store.now) (inner_children ((S.slots store.now).inner id.0)) }
+    requires place { place < length (inner_children ((S.slots store.now).inner id.0)) }
+    ensures { slice_get (inner_children ((S.slots store.now).inner id.0)) place ≡ Some (kind.Leaf result) }
+{
+    match store.get_inner(id).child_id(place) {
+        NodeId::Leaf(child) => child,
+        NodeId::Inner(_) => unreachable!(),
+    }
+}
+
+/// The two leaves on both sides of a separator.
+pub fn leaves_at<S: NodeStore>(store: &S, id: InnerNodeId, slot: usize) -> (LeafNodeId, LeafNodeId)
+    requires present { IsPresent ((S.slots store.now).inner id.0) }
+    requires children { AllLeaves (S.slots store.now) (inner_children ((S.slots store.now).inner id.0)) }
+    requires fits { length (inner_children ((S.slots store.now).inner id.0)) ≤ 65 }
+    requires slot { slot + 1 < length (inner_children ((S.slots store.now).inner id.0)) }
+    ensures left { slice_get (inner_children ((S.slots store.now).inner id.0)) slot ≡ Some (kind.Leaf result.0) }
+    ensures right { slice_get (inner_children ((S.slots store.now).inner id.0)) (slot + 1) ≡ Some (kind.Leaf result.1) }
+{
+    (leaf_at(store, id, slot), leaf_at(store, id, slot + 1))
+}

@@ -1,0 +1,101 @@
+-- A way down to an end leads a search for any key of its leaf there, and a pair that is taken there is the first or the last.
+use Rattle.std.proofs.Common.{◌≡◌, ℕ, ◌+◌, ◌-◌, ◌<◌, ◌^◌, List, [], ◌∷◌, ◌++◌, length, refl, sym, ap, subst, ◌∙◌, arith, None, Some, slice_get}
+use Rattle.std.specs.declared.cmp.Ordering.{Ordering}
+use Rattle.std.specs.declared.cmp.Ordering.TheVariants.{Equal}
+use Rattle.std.specs.Cmp.{IsTotalOrder}
+use Rattle.std.specs.List.{remove}
+use Rattle.std.specs.Map.{keys_of}
+use Rattle.bptree_keys.specs.Contents.{IsAscending, del}
+use Rattle.bptree_keys.specs.declared.node_id.InnerNodeId.{InnerNodeId}
+use Rattle.bptree_keys.specs.declared.node_id.LeafNodeId.{LeafNodeId}
+use Rattle.bptree_keys.specs.declared.node_id.NodeId.{NodeId}
+use Rattle.bptree_keys.specs.declared.node_id.NodeId.TheVariants as kind
+use Rattle.bptree_keys.proofs.Found.{hit_at}
+use Rattle.bptree_keys.proofs.Parted.{del_hit}
+use Rattle.bptree_nodes.proofs.LeafContents.{value_at_place}
+use Rattle.bptree_nodes.specs.Inner.{Inner}
+use Rattle.bptree_nodes.specs.Leaf.{Leaf}
+use Rattle.bptree_nodes.specs.Slot.{Slots, Present}
+use Rattle.bptree_shape.specs.Leaves.{StandsIn}
+use Rattle.bptree_shape.specs.Shape.{leaf_pairs, pairs_at, root_least, IsWellShaped}
+use Rattle.bptree_shape.proofs.ListReads.{read_below, read_some}
+use Rattle.bptree_shape.proofs.Walk.{tree_ascends}
+use Rattle.bptree_descents.specs.ByArgument.{IsSubtree}
+use Rattle.bptree_descents.proofs.Selected.{goes_on}
+use Rattle.bptree_removal.proofs.Removals.{value_read}
+use Rattle.bptree_removal.proofs.Withdrawn.{alike}
+use Rattle.bptree_removal.specs.Removal.{IsThere, IsFound, IsTakenFrom, IsTakenAt, IsEntryTaken, IsRemoved, LeadsOn}
+
+module _ {K V A : Type 0} {cmp : K → K → Ordering} (total : IsTotalOrder cmp) (is_summary : A → List K → Type 0) (slots : Slots (Inner K A) (Leaf K V)) where
+  -- with the entry for the child, a search goes on from the node
+  pub leads_on : (h : ℕ) (id : InnerNodeId) (node : Inner K A) → IsSubtree cmp is_summary slots h (kind.Inner id) → slots.inner id.0 ≡ Present node → (i : ℕ) (child : NodeId) → slice_get node.children i ≡ Some child
+      → (path longer : List (InnerNodeId × ℕ × NodeId)) (leaf : LeafNodeId) → StandsIn slots (h - 1) child leaf → LeadsOn cmp slots (h - 1) child (path ++ (id, i, child) ∷ []) longer leaf → LeadsOn cmp slots h (kind.Inner id) path longer leaf
+  leads_on h id node s e i child read path longer leaf stands on slot =
+      λ pair there. goes_on total is_summary slots (λ (query : Unit {0}) keys place. Unit {0}) (tt {0}) h id node s e i child read path longer (Some (leaf, slot)) (stands, read_below (leaf_pairs (slots.leaf leaf.0)) slot pair there, tt {0}) (on slot) pair there
+
+-- the key that was found is there
+abbrev pub there_of : {K V A : Type 0} {cmp : K → K → Ordering} {is_summary : A → List K → Type 0} {slots : Slots (Inner K A) (Leaf K V)} {height : ℕ} {root : NodeId} {path : List (InnerNodeId × ℕ × NodeId)} {leaf : LeafNodeId} {slot : ℕ} {k : K} → IsFound cmp is_summary slots height root path leaf slot k → IsThere cmp is_summary slots path leaf slot k
+there_of {height = height} {root = root} f = record { top = height; root = root; shape = f.shape; few = f.few; way = f.way; found = f.found }
+
+-- what stands at a place is deleted by a key that equals its key
+pub deleted_by : {K V : Type 0} {cmp : K → K → Ordering} → IsTotalOrder cmp → (pairs : List (K × V)) (i : ℕ) (pair : K × V) (k : K) → IsAscending cmp pairs → slice_get pairs i ≡ Some pair → cmp pair.0 k ≡ Equal → remove pairs i ≡ del cmp pairs k
+deleted_by {cmp = cmp} total pairs i pair k sorted read equal = sym (del_hit cmp pairs _ _ _ k (hit_at cmp total pairs sorted k i pair (rw read equal)).1)
+
+module _ {K V A : Type 0} {cmp : K → K → Ordering} (total : IsTotalOrder cmp) (is_summary : A → List K → Type 0) (old new : Slots (Inner K A) (Leaf K V)) (h : ℕ) (root : NodeId) (shape : IsWellShaped cmp is_summary old h root) where
+  sorted : IsAscending cmp (pairs_at old h root)
+  sorted = tree_ascends total old (root_least h) h root None None shape.tree
+
+  -- the pair that was taken from a leaf is gone from its place
+  pub taken_at : (leaf : LeafNodeId) (slot : ℕ) (k : K) (pair : K × V) (top : NodeId) (top_height : ℕ) (a : A) (place : ℕ) → IsTakenFrom cmp is_summary old new h root leaf slot k pair top top_height a → cmp pair.0 k ≡ Equal → slice_get (pairs_at old h root) place ≡ Some pair → IsTakenAt cmp is_summary old new h root place pair top top_height a
+  taken_at leaf slot k pair top top_height a place taken equal was = record {
+    was = was;
+    shape = taken.shape;
+    pairs = taken.pairs ∙ sym (deleted_by total (pairs_at old h root) place pair k sorted was equal);
+    told = taken.told;
+  }
+
+  -- and its value, with its key
+  pub removed_of : (k : K) (pair : K × V) (top : NodeId) (top_height : ℕ) (a : A) → IsEntryTaken cmp is_summary old new h root k pair top top_height a → IsRemoved cmp is_summary old new h root k pair.1 top top_height a
+  removed_of k pair top top_height a (place, equal, taken) = record {
+    there = sym (value_at_place cmp total (pairs_at old h root) sorted k place (rw taken.was equal)) ∙ value_read (pairs_at old h root) place pair taken.was;
+    shape = taken.shape;
+    pairs = taken.pairs ∙ deleted_by total (pairs_at old h root) place pair k sorted taken.was equal;
+    told = taken.told;
+  }
+
+-- a place within a list, and the ends of an empty one
+pub none_here : {X : Type 0} (xs : List X) (i : ℕ) → length xs ≡ 0 → slice_get xs i ≡ None
+none_here [] i none = refl
+none_here (x ∷ xs) i none = absurd (omega arith)
+
+pub some_here : {X : Type 0} (xs : List X) (i : ℕ) → i < length xs → slice_get xs i ≡ None → ⊥
+some_here xs i within none = let there = read_some xs i within in let z : Some there.0 ≡ None = sym there.1 ∙ none in cc
+
+pub none_first : {X : Type 0} (xs : List X) → slice_get xs 0 ≡ None → xs ≡ []
+none_first [] none = refl
+none_first (x ∷ xs) none = cc
+
+pub none_last : {X : Type 0} (xs : List X) → slice_get xs (length xs - 1) ≡ None → xs ≡ []
+none_last [] none = refl
+none_last (x ∷ xs) none = absurd (some_here (x ∷ xs) (length (x ∷ xs) - 1) (omega arith) none)
+
+module _ {K V A : Type 0} {cmp : K → K → Ordering} (total : IsTotalOrder cmp) (is_summary : A → List K → Type 0) (old : Slots (Inner K A) (Leaf K V)) (h : ℕ) (root : NodeId) (shape : IsWellShaped cmp is_summary old h root) (few : length (pairs_at old h root) < 2 ^ 64)
+    (leaf : LeafNodeId) (slot : ℕ) (within : slot < length (leaf_pairs (old.leaf leaf.0))) (path longer : List (InnerNodeId × ℕ × NodeId)) (none : path ≡ []) (on : LeadsOn cmp old h root path longer leaf) where
+  abbrev pub pair_there : (pair : K × V) × (slice_get (leaf_pairs (old.leaf leaf.0)) slot ≡ Some pair)
+  pair_there = read_some (leaf_pairs (old.leaf leaf.0)) slot within
+
+  -- the key at a slot of the leaf is found by the way to it
+  abbrev pub found_there : IsFound cmp is_summary old h root longer leaf slot pair_there.0.0
+  found_there = record {
+    shape = shape;
+    few = few;
+    way = on slot pair_there.0 pair_there.1 h root (rw none (refl, refl));
+    found = rw pair_there.1 (alike total pair_there.0.0);
+  }
+
+  -- and its pair leaves from its place
+  pub taken_there : (new : Slots (Inner K A) (Leaf K V)) (pair : K × V) (top : NodeId) (top_height : ℕ) (a : A) (place : ℕ) → slice_get (leaf_pairs (old.leaf leaf.0)) slot ≡ slice_get (pairs_at old h root) place → IsTakenFrom cmp is_summary old new h root leaf slot pair_there.0.0 pair top top_height a → IsTakenAt cmp is_summary old new h root place pair top top_height a
+  taken_there new pair top top_height a place at taken =
+      let both : Some pair ≡ Some pair_there.0 = sym taken.pair_was ∙ pair_there.1 in
+      let same : pair ≡ pair_there.0 = cc in
+      taken_at total is_summary old new h root shape leaf slot pair_there.0.0 pair top top_height a place taken (ap (λ (p : K × V). cmp p.0 pair_there.0.0) same ∙ alike total pair_there.0.0) (sym at ∙ taken.pair_was)

@@ -1,0 +1,85 @@
+-- The pair of a key, by the leaf that can hold the key.
+use Rattle.std.proofs.Common.{◌≡◌, ◌+◌, ℕ, suc, true, false, not, List, [], ◌∷◌, ◌++◌, length, take, drop, refl, sym, ap, ◌∙◌, None, Some, slice_get}
+use Rattle.std.specs.Prelude.{◌&&◌}
+use Rattle.std.specs.declared.cmp.Ordering.{Ordering}
+use Rattle.std.specs.declared.cmp.Ordering.TheVariants.{Less, Equal}
+use Rattle.std.specs.Cmp.{IsTotalOrder}
+use Rattle.std.specs.Ordering.{is_lt, is_eq}
+use Rattle.std.proofs.lemmas.List.Elements.{filter-append}
+use Rattle.std.proofs.lemmas.Option.{get_or_from_slice_get}
+use Rattle.bptree_keys.specs.Contents.{IsAscending, has, next, pairs_above}
+use Rattle.bptree_keys.specs.Places.{AllAnswer, IsHit}
+use Rattle.bptree_keys.specs.Ranges.{between}
+use Rattle.bptree_keys.specs.declared.node_id.LeafNodeId.{LeafNodeId}
+use Rattle.bptree_keys.specs.declared.node_id.NodeId.{NodeId}
+use Rattle.bptree_keys.proofs.Found.{hit_at}
+use Rattle.bptree_keys.proofs.Parted.{filter_none}
+use Rattle.bptree_nodes.specs.Inner.{Inner}
+use Rattle.bptree_nodes.specs.Leaf.{Leaf}
+use Rattle.bptree_nodes.specs.LeafResults.{HasEqualAt}
+use Rattle.bptree_nodes.specs.Slot.{Slots, Present}
+use Rattle.bptree_shape.specs.Leaves.{pairs_of, IsLeafFor}
+use Rattle.bptree_shape.specs.Shape.{pairs_at, root_least, IsWellShaped}
+use Rattle.bptree_shape.proofs.Ordered.{by_cases}
+use Rattle.bptree_shape.proofs.Walk.{tree_ascends}
+use Rattle.bptree_descents.proofs.Selected.{place_read}
+use Rattle.bptree_tree.specs.Entries.{entry, at_least}
+
+module _ {K V : Type 0} (cmp : K → K → Ordering) where
+  -- pairs that answer otherwise are passed over
+  entry_past : (k : K) (o : Ordering) (before l : List (K × V)) → is_eq o ≡ false → AllAnswer cmp k o before → entry cmp (before ++ l) k ≡ entry cmp l k
+  entry_past k o [] l fails all = refl
+  entry_past k o (p ∷ before) l fails all = rw (all.0, fails) (entry_past k o before l fails all.1)
+
+  pub entry_hit : (l before : List (K × V)) (pair : K × V) (after : List (K × V)) (k : K) → IsHit cmp l before pair after k → entry cmp l k ≡ Some pair
+  entry_hit l before pair after k hit = rw (hit.parts, entry_past k Less before (pair ∷ after) refl hit.smaller, hit.equal) refl
+
+  pub at_least_hit : (l before : List (K × V)) (pair : K × V) (after : List (K × V)) (k : K) → IsHit cmp l before pair after k → at_least cmp l k ≡ Some pair
+  at_least_hit l before pair after k hit = rw (hit.parts, filter-append, filter_none cmp k (λ o. not (is_lt o) && true) Less before refl hit.smaller, hit.equal) refl
+
+  -- no pair has a key that is not there
+  pub entry_absent : (l : List (K × V)) (k : K) → has cmp l k ≡ false → entry cmp l k ≡ None
+  entry_absent [] k absent = refl
+  entry_absent (p ∷ l) k absent =
+      by_cases (cmp p.0 k) (λ less. rw less (entry_absent l k (rw less at absent))) (λ equal. let z : true ≡ false = rw equal at absent in cc)
+      (λ greater. rw greater (entry_absent l k (rw greater at absent)))
+
+  -- and the keys that are not below it are above it
+  above_if_absent : (l : List (K × V)) (k : K) → has cmp l k ≡ false → between cmp l (Some k) None ≡ pairs_above cmp l k
+  above_if_absent [] k absent = refl
+  above_if_absent (p ∷ l) k absent =
+      by_cases (cmp p.0 k) (λ less. rw less (above_if_absent l k (rw less at absent))) (λ equal. let z : true ≡ false = rw equal at absent in cc)
+      (λ greater. rw greater (ap (λ rest. p ∷ rest) (above_if_absent l k (rw greater at absent))))
+
+  pub at_least_absent : (l : List (K × V)) (k : K) → has cmp l k ≡ false → at_least cmp l k ≡ next cmp l k
+  at_least_absent l k absent = ap (λ rest. slice_get rest 0) (above_if_absent l k absent)
+
+-- the pair at a place is the pair of each key that equals its key
+pub entry_at : {K V : Type 0} {cmp : K → K → Ordering} → IsTotalOrder cmp → (l : List (K × V)) (i : ℕ) (pair : K × V) (k : K) → IsAscending cmp l → slice_get l i ≡ Some pair → cmp pair.0 k ≡ Equal → entry cmp l k ≡ Some pair
+entry_at {cmp = cmp} total l i pair k sorted read equal = entry_hit cmp l _ pair _ k (rw (get_or_from_slice_get l i pair pair read) at (hit_at cmp total l sorted k i pair (rw read equal)).1)
+
+module _ {K V A : Type 0} {cmp : K → K → Ordering} (total : IsTotalOrder cmp) (is_summary : A → List K → Type 0) (slots : Slots (Inner K A) (Leaf K V)) (h : ℕ) (root : NodeId) (shape : IsWellShaped cmp is_summary slots h root)
+    (k : K) (leaf : LeafNodeId) (node : Leaf K V) (for' : IsLeafFor cmp slots h root k leaf) (here : slots.leaf leaf.0 ≡ Present node) (slot : ℕ) (pair : K × V) (found : HasEqualAt cmp node.pairs k slot) (read : slice_get node.pairs slot ≡ Some pair) where
+  abbrev pub whole : List (K × V)
+  whole = pairs_at slots h root
+
+  sorted : IsAscending cmp whole
+  sorted = tree_ascends total slots (root_least h) h root None None shape.tree
+
+  abbrev pub place : ℕ
+  place = length (pairs_of slots for'.stands.before) + slot
+
+  read_whole : slice_get whole place ≡ Some pair
+  read_whole = place_read slots h root leaf for'.stands slot pair (rw here read)
+
+  equal : cmp pair.0 k ≡ Equal
+  equal = rw read at found
+
+  pub hit_there : IsHit cmp whole (take place whole) pair (drop (suc place) whole) k
+  hit_there = rw (get_or_from_slice_get whole place pair pair read_whole) at (hit_at cmp total whole sorted k place pair (rw read_whole equal)).1
+
+  pub entry_there : entry cmp (pairs_at slots h root) k ≡ Some pair
+  entry_there = entry_hit cmp whole _ pair _ k hit_there
+
+  pub at_least_there : at_least cmp (pairs_at slots h root) k ≡ Some pair
+  at_least_there = at_least_hit cmp whole _ pair _ k hit_there
