@@ -1,5 +1,5 @@
 //! Callers of sets, of their iterators and of unions.
-ghost use Rattle.std.specs.Prelude.{◌≡◌, ◌+◌, ◌∷◌, ◌≤◌, [], List, ◌||◌, ◌&&◌, length, map, max, not, true, false, slice_get, is_some, Contains, IfOk, IfSome, IsOk, IsTrue, Err, Ok, Some, None};
+ghost use Rattle.std.specs.Prelude.{◌≡◌, ◌+◌, ◌∷◌, ◌≤◌, [], List, ◌||◌, ◌&&◌, length, map, max, not, true, false, slice_get, is_some, Contains, IfOk, IfSome, IsOk, IsTrue, OnErr, Err, Ok, Some, None};
 ghost use Rattle.std.specs.declared.cmp.Ordering.TheVariants.{Equal};
 ghost use Rattle.std.specs.List.{find};
 ghost use Rattle.std.specs.Map.Iter.{TakesFirst, deref};
@@ -367,4 +367,19 @@ fn counts_a_search<K: Key>(set: &BPlusTreeSet<K>, k: &K) -> (bool, usize)
     ensures most { result.1 ≤ 114 }
 {
     set.contains_counted(k)
+}
+
+// The first of two keys leaves as it was put in, and so does the last.
+fn pops_the_first_key_of_two<K: Key>(set: &mut BPlusTreeSet<K>) -> Result<Option<K>, AllocError>
+    ensures popped { IfOk result (λ gone. (a b : K) → set.old ≡ a ∷ b ∷ [] → (gone ≡ Some a) × (set.new ≡ b ∷ [])) }
+    ensures refused { OnErr result (set.new ≡ set.old) }
+{
+    set.pop_first()
+}
+
+fn pops_the_last_key_of_two<K: Key>(set: &mut BPlusTreeSet<K>) -> Result<Option<K>, AllocError>
+    ensures popped { IfOk result (λ gone. (a b : K) → set.old ≡ a ∷ b ∷ [] → (gone ≡ Some b) × (set.new ≡ a ∷ [])) }
+    ensures refused { OnErr result (set.new ≡ set.old) }
+{
+    set.pop_last()
 }
