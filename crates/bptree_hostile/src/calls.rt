@@ -100,12 +100,18 @@ fn is_counted_at<K: Sample>(
 const WRONG: Option<(u64, u64)> = Some((u64::MAX, u64::MAX));
 
 impl<K: Sample> Places for BPlusTreeMap<K, u64, Count> {
-    // The first pair by a call of its own.
+    // The first pair, and the last, by calls of their own; and of the others each second one by its place alone.
     fn take_at(&mut self, place: usize) -> Result<Option<(u64, u64)>, AllocError> {
-        if place == 0 {
-            return Ok(own_numbers(&self.pop_first()?));
-        }
-        Ok(own_numbers(&self.remove_by_argument(place)?))
+        let gone = if place == 0 {
+            self.pop_first()?
+        } else if place.checked_add(1) == Some(self.len()) {
+            self.pop_last()?
+        } else if place % 2 == 0 {
+            self.remove_at(place)?
+        } else {
+            self.remove_by_argument(place)?
+        };
+        Ok(own_numbers(&gone))
     }
 
     fn write(&mut self, alloc: Global, key: u64, value: u64) -> Result<bool, AllocError> {
@@ -132,7 +138,8 @@ impl<K: Sample> Places for BPlusTreeMap<K, u64, Count> {
     // And the counts of both sides of the place.
     fn at(&self, place: usize) -> Result<Option<(u64, u64)>, AllocError> {
         let pair = numbers(self.get_by_argument(place)?);
-        Ok(if is_counted_at(self, place)? {
+        let same = numbers(self.get_at(place)) == pair;
+        Ok(if is_counted_at(self, place)? && same {
             pair
         } else {
             WRONG
@@ -147,7 +154,8 @@ impl<K: Sample> Places for BPlusTreeMap<K, u64, Count> {
             Ok(below) => *below,
             Err(below) => *below,
         };
-        Ok(if is_counted(self, &key, below)? {
+        let same = self.place_of(&key) == (if rank.is_ok() { Some(below) } else { None });
+        Ok(if is_counted(self, &key, below)? && same {
             rank
         } else {
             Err(usize::MAX)
@@ -163,8 +171,17 @@ impl<K: Sample> Calls for BPlusTreeMap<K, u64, Count> {
         }
     }
 
+    // Of each second key by a call that hands the key out.
     fn take(&mut self, alloc: Global, key: u64) -> Result<Option<u64>, AllocError> {
-        self.remove(&K::sample(alloc, key)?)
+        let wanted = K::sample(alloc, key)?;
+        if key % 2 == 0 {
+            return self.remove(&wanted);
+        }
+        Ok(match own_numbers(&self.remove_entry(&wanted)?) {
+            Some((found, value)) if found == key => Some(value),
+            Some(_) => Some(u64::MAX),
+            None => None,
+        })
     }
 
     fn value(&self, alloc: Global, key: u64) -> Result<Option<u64>, AllocError> {
