@@ -6,3 +6,4 @@ pub mod Passing
 pub mod SetLemmas
 pub mod Shown
 pub mod Sizes
+pub mod SplitAtKey

@@ -3,10 +3,12 @@
 
 mod changes;
 mod cloning;
+mod compared;
 mod cursors;
 mod iteration;
 mod loading;
 mod maps;
+mod moves;
 mod nodes;
 mod owning;
 mod pages;

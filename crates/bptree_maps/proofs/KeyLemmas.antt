@@ -10,6 +10,7 @@ use Rattle.std.specs.Borrow.{Bor}
 use Rattle.std.specs.Option.{is_some, option_copied}
 use Rattle.std.specs.Result.{IsErrAnd}
 use Rattle.std.specs.Ordering.{is_eq, is_gt, is_lt}
+use Rattle.std.specs.declared.ops.Bound.{Bound}
 use Rattle.bptree_keys.specs.Contents.{IsAscending, has, put, del, gather, pairs_below, pairs_above, value}
 use Rattle.bptree_keys.proofs.Equal.{has_where_value}
 use Rattle.bptree_keys.proofs.Laws.{put_ascending, gather_ascending}
@@ -17,6 +18,8 @@ use Rattle.bptree_keys.proofs.Updates.{del_ascending, has_put, has_del, length_p
 use Rattle.bptree_keys.specs.Ranges.{between, falls_short, stays_below}
 use Rattle.bptree_loading.proofs.OrderLemmas.{load_is_gather, load_same, ordered_if_ascending}
 use Rattle.bptree_maps.specs.Keys.{holds, with_key, without_key, gathered, keys_between}
+use Rattle.bptree_maps.specs.KeyBounds.{keys_between_bounds}
+use Rattle.bptree_ranges.specs.Bounds.{between_bounds, is_before_start, is_upto_end}
 
 module _ {K V : Type 0} where
   -- keys of two lists, one behind the other
@@ -55,6 +58,9 @@ module _ {K V : Type 0} (cmp : K → K → Ordering) where
 
   pub keys_between-is : (l : List (K × V)) (lo hi : Option K) → keys_of (between cmp l lo hi) ≡ keys_between cmp (keys_of l) lo hi
   keys_between-is l lo hi = keys_filter (λ key. not (falls_short cmp lo key) && stays_below cmp hi key) l
+
+  pub keys_between_bounds-is : (l : List (K × V)) (lo hi : Bound K) → keys_of (between_bounds cmp l lo hi) ≡ keys_between_bounds cmp (keys_of l) lo hi
+  keys_between_bounds-is l lo hi = keys_filter (λ key. not (is_before_start cmp lo key) && is_upto_end cmp hi key) l
 
   keys_gather-at : (b c : Bool) → b ≡ c → (l : List (K × V)) (keys : List K) (k : K) (v : V) → keys_of l ≡ keys → keys_of (cond b l (put cmp l k v)) ≡ cond c keys (with_key cmp keys k)
   keys_gather-at true true same l keys k v is = is

@@ -2,9 +2,12 @@ pub mod DifferenceLemmas
 pub mod EntryKeys
 pub mod KeyLemmas
 pub mod MemberLemmas
+pub mod MovingLemmas
 pub mod PageLemmas
 pub mod PlaceLemmas
 pub mod PopLemmas
+pub mod SplitLemmas
 pub mod SymmetricLemmas
 pub mod UnionLemmas
 pub mod WalkLemmas
+pub mod UpsertLemmas

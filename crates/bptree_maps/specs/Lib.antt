@@ -1,10 +1,16 @@
 pub mod Beside
+pub mod Comparing
+pub mod KeyBounds
 pub mod Keys
+pub mod Moving
 pub mod Pages
 pub mod Places
 pub mod Popping
+pub mod Replacing
 pub mod Rows
+pub mod Splitting
 pub mod Symmetric
 pub mod TwoSets
 pub mod Union
+pub mod Updates
 pub mod Writing

@@ -2,7 +2,10 @@
 //! its contracts alone.
 #![tactic(auto)]
 
+mod comparing;
 mod gathering;
 pub mod map;
 pub mod page;
+mod refusals;
 pub mod set;
+mod splitting;

@@ -27,11 +27,17 @@ ghost use Rattle.bptree_maps.specs.contracts.map.BPlusTreeMap.{the_row};
 ghost use Rattle.bptree_maps.specs.Rows.{inner_row, count_row, count_argument, count_clone, count_default};
 ghost use Rattle.bptree_maps.specs.Writing.{WritesAt};
 
+mod borrowed;
+mod bounds;
 mod keys;
+mod moving;
+mod places;
+mod updates;
 mod values;
 
 use crate::gathering::gather_tree;
 pub use crate::gathering::law_of_from_iter;
+pub use crate::refusals::{MoveError, SplitError};
 use bptree_arguments::argument::{Argument, CloneArgument, RankArgument, SearchArgument};
 use bptree_arguments::count::Count;
 use bptree_arguments::group::FromRef;

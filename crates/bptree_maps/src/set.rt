@@ -11,14 +11,18 @@ ghost use Rattle.bptree_maps.specs.Keys.{holds, with_key, without_key, gathered,
 ghost use Rattle.bptree_maps.specs.contracts.set.BPlusTreeSet.{the_row};
 ghost use Rattle.bptree_maps.specs.Rows.{inner_row_of_set};
 
+mod borrowed;
+mod bounds;
 mod difference;
 mod intersection;
 mod iter;
 mod laws;
+mod moving;
 mod symmetric;
 mod union;
 
 use crate::gathering::gather_tree;
+pub use crate::refusals::{MoveError, ReplaceError, SplitError};
 use bptree_keys::key::Key;
 use bptree_stores::node_store_vec::NodeStoreVec;
 use bptree_tree::{BPlusTree, InsertError};

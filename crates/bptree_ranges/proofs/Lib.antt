@@ -1,4 +1,5 @@
 pub mod Bordered
+pub mod Bounded
 pub mod Counts
 pub mod GroupPlaces
 pub mod Passing

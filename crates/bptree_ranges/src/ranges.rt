@@ -86,8 +86,8 @@ pub(crate) fn part_of_places<S: NodeStore>(
     }
 }
 
-// The same place, at a pair: the end of a leaf is the start of the next one, where there is one.
-fn settled<S: NodeStore>(
+/// The same place, at a pair: the end of a leaf is the start of the next one, where there is one.
+pub fn settled<S: NodeStore>(
     store: &S,
     root: NodeId,
     height: usize,
@@ -156,7 +156,11 @@ fn back_of<S: NodeStore>(
 }
 
 // The place behind the last pair of all.
-fn end_of_all<S: NodeStore>(store: &S, root: NodeId, height: usize) -> (LeafNodeId, usize)
+pub(crate) fn end_of_all<S: NodeStore>(
+    store: &S,
+    root: NodeId,
+    height: usize,
+) -> (LeafNodeId, usize)
     requires { IsWellShaped S.K.cmp S.Argument.is_summary (S.slots store.now) height root }
     ensures place { IsPlaceOn (S.slots store.now) height root result.0 result.1 }
     ensures end { place_on (S.slots store.now) height root result ≡ length (pairs_at (S.slots store.now) height root) }

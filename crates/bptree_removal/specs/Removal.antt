@@ -12,6 +12,7 @@ use Rattle.bptree_keys.specs.declared.node_id.InnerNodeId.{InnerNodeId}
 use Rattle.bptree_keys.specs.declared.node_id.LeafNodeId.{LeafNodeId}
 use Rattle.bptree_keys.specs.declared.node_id.NodeId.{NodeId}
 use Rattle.bptree_keys.specs.declared.node_id.NodeId.TheVariants as kind
+use Rattle.bptree_shape.specs.Leaves.{IsLeafFor}
 use Rattle.bptree_shape.specs.Path.{Way}
 use Rattle.bptree_descents.specs.ByArgument.{GoesOn}
 use Rattle.bptree_shape.specs.Shape.{leaf_pairs, pairs_at, IsWellShaped}
@@ -46,6 +47,11 @@ pub record IsFound {K V A : Type 0} (cmp : K → K → Ordering) (is_summary : A
   pub few : length (pairs_at slots height root) < 2 ^ 64
   pub way : Way cmp slots k height root path 0 (kind.Leaf leaf)
   pub found : HasEqualAt cmp (leaf_pairs (slots.leaf leaf.0)) k slot
+
+-- and the leaf is the only one that can hold the key
+abbrev pub IsEntryAt : {K V A : Type 0} → (K → K → Ordering) → (A → List K → Type 0) → Slots (Inner K A) (Leaf K V) → ℕ → NodeId → List (InnerNodeId × ℕ × NodeId) → LeafNodeId → ℕ → K → Type 0
+IsEntryAt cmp is_summary slots height root path leaf slot k =
+    IsFound cmp is_summary slots height root path leaf slot k × IsLeafFor cmp slots height root k leaf
 
 -- the pair at a slot of a leaf left a whole tree by its key, and the tree that a root and a height then name is well shaped
 pub record IsTakenFrom {K V A : Type 0} (cmp : K → K → Ordering) (is_summary : A → List K → Type 0) (old new : Slots (Inner K A) (Leaf K V)) (height : ℕ) (root : NodeId) (leaf : LeafNodeId) (slot : ℕ) (k : K) (pair : K × V) (top : NodeId) (top_height : ℕ) (a : A) : Type 0 where

@@ -1,5 +1,6 @@
 //! Removal from a tree that stands in a store.
-ghost use Rattle.std.specs.Prelude.{◌≡◌, ◌-◌, ◌<◌, ◌≤◌, ◌^◌, false, IfOk, OnErr, Some, length, slice_get, remove, MatchOption, [], Ok, None};
+ghost use Rattle.std.specs.Prelude.{◌≡◌, ◌-◌, ◌<◌, ◌≤◌, ◌^◌, false, IfOk, OnErr, IfSome, Some, length, slice_get, remove, MatchOption, [], Ok, None};
+ghost use Rattle.std.specs.Option.{is_some};
 ghost use Rattle.std.specs.Map.{keys_of};
 ghost use Rattle.bptree_keys.specs.Contents.{has};
 ghost use Rattle.bptree_nodes.specs.Inner.{Inner};
@@ -9,7 +10,7 @@ ghost use Rattle.bptree_descents.specs.ByArgument.{IsWithdrawn};
 ghost use Rattle.bptree_ascent.specs.LeafChange.{SumsUpLeaf};
 ghost use Rattle.bptree_shape.specs.Shape.{leaf_pairs, pairs_at, IsWellShaped};
 ghost use Rattle.bptree_rebalancing.specs.Trim.{LeafUnderflow, IsLoose, Trims};
-ghost use Rattle.bptree_removal.specs.Removal.{IsThere, IsFound, Leaves, IsRemoved, IsTakenFrom, IsTakenAt, IsEntryTaken};
+ghost use Rattle.bptree_removal.specs.Removal.{IsThere, IsFound, Leaves, IsRemoved, IsTakenFrom, IsTakenAt, IsEntryAt, IsEntryTaken};
 
 use crate::ends::{first_path, last_path};
 use bptree_arguments::argument::{Argument, SearchArgument};
@@ -217,6 +218,45 @@ fn take_whole<S: NodeStore>(
     })
 }
 
+/// The leaf and the slot of the key that equals `k` in a whole tree, where there is one, and at the end of the path the way
+/// there. It takes no memory. What the path held before plays no part.
+pub fn find_entry<S: NodeStore>(
+    store: &S,
+    path: &mut VisitStack,
+    root: NodeId,
+    height: usize,
+    k: &S::K,
+) -> Option<(LeafNodeId, usize)>
+    requires shape { IsWellShaped S.K.cmp S.Argument.is_summary (S.slots store.now) height root }
+    requires few { length (pairs_at (S.slots store.now) height root) < 2 ^ 64 }
+    ensures way { IfSome result (λ at. IsEntryAt S.K.cmp S.Argument.is_summary (S.slots store.now) height root path.new at.0 at.1 k.now) }
+    ensures there { is_some result ≡ has S.K.cmp (pairs_at (S.slots store.now) height root) k.now }
+{
+    path.clear();
+    let leaf = find_path(store, root, height, k, path);
+    match store.get_leaf(leaf).locate_slot(k) {
+        Ok(slot) => Some((leaf, slot)),
+        Err(_) => None,
+    }
+}
+
+/// Takes the pair that `find_entry` found out of a whole tree, by the way that it left in the path. A refusal changes no slot.
+pub fn take_entry<S: NodeStore>(
+    store: &mut S,
+    path: &mut VisitStack,
+    root: NodeId,
+    height: usize,
+    leaf: LeafNodeId,
+    slot: usize,
+    statistic: &mut Statistic,
+) -> Result<Removed<(S::K, S::V), S::Argument>, AllocError>
+    requires { (k : S.K) × IsEntryAt S.K.cmp S.Argument.is_summary (S.slots store.old) height root path.old leaf slot k }
+    ensures taken { (k : S.K) → IsEntryAt S.K.cmp S.Argument.is_summary (S.slots store.old) height root path.old leaf slot k → IfOk result (λ r. IsEntryTaken S.K.cmp S.Argument.is_summary (S.slots store.old) (S.slots store.new) height root k r.value r.root r.height r.summary) }
+    ensures refused { OnErr result (S.slots store.new ≡ S.slots store.old) }
+{
+    take_whole(store, path, root, height, leaf, slot, statistic)
+}
+
 /// Removes the pair with a key equal to `k` from a whole tree, where there is one, and hands it out with the key that stood
 /// there. It takes no memory where there is none; a refusal changes no slot. What the path held before plays no part: it is
 /// rotated, so that none need be made.
@@ -234,15 +274,12 @@ pub fn remove_entry<S: NodeStore>(
     ensures absent { has S.K.cmp (pairs_at (S.slots store.old) height root) k.now ≡ false → result ≡ Ok None }
     ensures refused { OnErr result (S.slots store.new ≡ S.slots store.old) }
 {
-    path.clear();
-    let leaf = find_path(store, root, height, k, path);
-    let found = store.get_leaf(leaf).locate_slot(k);
-    match found {
-        Ok(slot) => {
-            let gone = take_whole(store, path, root, height, leaf, slot, statistic)?;
+    match find_entry(store, path, root, height, k) {
+        Some((leaf, slot)) => {
+            let gone = take_entry(store, path, root, height, leaf, slot, statistic)?;
             Ok(Some(gone))
         }
-        Err(_) => Ok(None),
+        None => Ok(None),
     }
 }
 

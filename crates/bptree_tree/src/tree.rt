@@ -9,11 +9,13 @@ ghost use Rattle.bptree_tree.specs.Refusal.{pair_of};
 ghost use Rattle.bptree_shape.specs.Shape.{pairs_at, IsWellShaped};
 ghost use Rattle.bptree_tree.specs.Whole.{IsWhole, IsUntouched};
 
+mod bounds;
 mod cloning;
 mod cursors;
 mod entries;
 mod loading;
 mod owning;
+mod places;
 mod queries;
 mod ranges;
 mod removals;

@@ -1,0 +1,28 @@
+-- The end of a list that moves to a list of its own.
+use Rattle.std.specs.Prelude.{◌-◌, Bool, false, not, Option, Some, None, List, [], ◌++◌, length, slice_get}
+use Rattle.std.specs.declared.cmp.Ordering.{Ordering}
+use Rattle.std.specs.Ordering.{is_lt}
+use Rattle.bptree_maps.specs.declared.refusals.MoveError.{MoveError}
+use Rattle.bptree_maps.specs.declared.refusals.SplitError.{SplitError}
+use Rattle.bptree_maps.specs.declared.refusals.SplitError.TheVariants.{NotMade, NotAll}
+use Rattle.bptree_maps.specs.Moving.{in_hand, key_in_hand}
+
+module _ {K V M : Type 0} (pairs : M → List (K × V)) where
+  -- what had left when a split ended early: the pair in hand, and the pairs that were stored
+  abbrev pub gone : SplitError M (MoveError K V) → List (K × V)
+  gone NotMade = []
+  gone (NotAll there refusal) = in_hand refusal ++ pairs there
+
+-- the same of a set: its keys
+abbrev pub keys_gone : {K V : Type 0} → SplitError (List K) (MoveError K V) → List K
+keys_gone NotMade = []
+keys_gone (NotAll there refusal) = key_in_hand refusal ++ there
+
+-- the pair is there, and its key is not below k
+abbrev pub is_not_below : {K V : Type 0} → (K → K → Ordering) → K → Option (K × V) → Bool
+is_not_below cmp k None = false
+is_not_below cmp k (Some pair) = not (is_lt (cmp pair.0 k))
+
+-- the last key is not below k
+abbrev pub reaches : {K V : Type 0} → (K → K → Ordering) → List (K × V) → K → Bool
+reaches cmp l k = is_not_below cmp k (slice_get l (length l - 1))

@@ -1,0 +1,26 @@
+//! The pairs of a map between two bounds.
+ghost use Rattle.std.specs.Prelude.{◌≡◌};
+ghost use Rattle.std.specs.Map.Iter.{ShowsInOrder, deref_pair};
+ghost use Rattle.bptree_keys.specs.Contents.{IsAscending};
+ghost use Rattle.bptree_ranges.specs.Bounds.{between_bounds, bound_copied};
+
+use super::{BPlusTreeMap, Iter};
+use bptree_arguments::argument::Argument;
+use bptree_keys::key::Key;
+use std::ops::Bound;
+
+impl<K: Key, V: Drop, A: Argument<K>> BPlusTreeMap<K, V, A> {
+    /// The pairs from a start on up to an end, in the order of their keys: each bound takes the pair of its key in, leaves it
+    /// out, or is open. Of a start above the end there are none. It takes no memory, and neither do its steps.
+    ///
+    /// It costs what `range` does: each bound that is not open is searched for once.
+    pub fn range_bounds<'b>(&self, lo: Bound<&'b K>, hi: Bound<&'b K>) -> Iter<'_, K, V, A>
+        ensures rest { result ≡ between_bounds K.cmp self.now (bound_copied lo.entry) (bound_copied hi.entry) }
+        ensures ascending { IsAscending K.cmp result }
+        ensures runs { ShowsInOrder (deref_pair {K = K} {X = V}) }
+    {
+        Iter {
+            inner: self.inner.range_bounds(lo, hi),
+        }
+    }
+}

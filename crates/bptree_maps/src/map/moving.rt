@@ -1,0 +1,78 @@
+//! Many pairs at once: those of an iterator, and those of another map.
+ghost use Rattle.std.specs.Prelude.{◌≡◌, ◌++◌, [], Some, None, IfOk, IfErr, OnOk};
+ghost use Rattle.std.specs.Iterator.{IsFinite};
+ghost use Rattle.bptree_keys.specs.Ranges.{between};
+ghost use Rattle.bptree_tree.specs.Refusal.{pair_of};
+ghost use Rattle.bptree_maps.specs.Moving.{put_all, put_pair, in_hand, IsExtended, IsExtendedUpTo, Moves};
+ghost use Rattle.bptree_maps.specs.Splitting.{gone};
+
+use crate::map::BPlusTreeMap;
+use crate::refusals::{MoveError, SplitError};
+use crate::splitting::split_tree;
+use bptree_arguments::argument::Argument;
+use bptree_keys::key::Key;
+use bptree_tree::InsertError;
+
+impl<K: Key, V: Drop, A: Argument<K>> BPlusTreeMap<K, V, A> {
+    /// Puts the pairs that an iterator gives, one after another, as `insert` does: of pairs with equal keys the last value
+    /// stays, and the key that was stored first.
+    ///
+    /// It costs an insertion a pair. Where one is refused, the pairs before it are put and that pair is handed back; the rest
+    /// of the iterator is dropped.
+    pub fn extend<I: IntoIterator<Item = (K, V)>>(
+        &mut self,
+        pairs: I,
+    ) -> Result<(), InsertError<K, V>>
+        requires { (it : I.IntoIter) → I.into_iter_gives pairs it → I.IntoIter.can_next it × IsFinite (I.IntoIter.remaining it) }
+        ensures ok { OnOk result ((it : I.IntoIter) × I.into_iter_gives pairs it × IsExtended (put_pair K.cmp) I.IntoIter.next_gives it self.old self.new) }
+        ensures err { IfErr result (λ refusal. (it : I.IntoIter) × I.into_iter_gives pairs it × IsExtendedUpTo (put_pair K.cmp) I.IntoIter.next_gives it (pair_of refusal) self.old self.new) }
+    {
+        for (k, v) in pairs {
+            match self.insert(k, v) {
+                Ok(_) => {}
+                Err(refusal) => return Err(refusal),
+            }
+        }
+        Ok(())
+    }
+
+    /// Moves all pairs of another map here, one after another, as `insert` does: of two equal keys the other map's value stays,
+    /// and this map's key.
+    ///
+    /// It costs a removal and an insertion a pair. Where one is refused, the first pairs have moved, and the others are still in
+    /// the other map; a pair that was removed and not stored is handed back.
+    pub fn append(&mut self, other: &mut Self) -> Result<(), MoveError<K, V>>
+        ensures ok { OnOk result ((self.new ≡ put_all (put_pair K.cmp) self.old other.old) × (other.new ≡ [])) }
+        ensures err { IfErr result (λ refusal. Moves (put_pair K.cmp) self.old other.old (in_hand refusal) self.new other.new) }
+    {
+        'moves: loop {
+            match other.pop_first() {
+                Ok(Some((k, v))) => match self.insert(k, v) {
+                    Ok(_) => {}
+                    Err(refusal) => return Err(MoveError::NotStored(refusal)),
+                },
+                Ok(None) => return Ok(()),
+                Err(_) => return Err(MoveError::NotTaken),
+            }
+        }
+    }
+
+    /// Moves the pairs whose key is not below `k` to a map of their own, the greatest first.
+    ///
+    /// It costs a removal and an insertion a pair that moves, and what a map with no pairs takes. Where that is refused, nothing
+    /// has changed. Where a move is refused, the greatest pairs have left and are handed back in their map, with the pair that was
+    /// removed and not stored, if there is one; the others stayed.
+    pub fn split_off(&mut self, k: &K) -> Result<Self, SplitError<Self, MoveError<K, V>>>
+        ensures ok { IfOk result (λ there. (self.new ≡ between K.cmp self.old None (Some k.now)) × (there ≡ between K.cmp self.old (Some k.now) None)) }
+        ensures err { IfErr result (λ refusal. self.old ≡ self.new ++ gone (λ there. there) refusal) }
+        ensures kept { between K.cmp self.new None (Some k.now) ≡ between K.cmp self.old None (Some k.now) }
+    {
+        match split_tree(&mut self.inner, k) {
+            Ok(inner) => Ok(BPlusTreeMap { inner }),
+            Err(SplitError::NotMade) => Err(SplitError::NotMade),
+            Err(SplitError::NotAll(inner, refusal)) => {
+                Err(SplitError::NotAll(BPlusTreeMap { inner }, refusal))
+            }
+        }
+    }
+}

@@ -1,0 +1,49 @@
+//! Cursors on the pairs of a map at places: as a query selects them, and as they are counted.
+ghost use Rattle.std.specs.Prelude.{◌≡◌, ◌≤◌, length, slice_get, IfOk, IsOk, Ok, None};
+ghost use Rattle.std.specs.Option.{option_map};
+ghost use Rattle.bptree_tree.specs.Cursor.{StandsAt};
+ghost use Rattle.bptree_tree.specs.Selected.{IsCursorSelected};
+
+use super::BPlusTreeMap;
+use bptree_arguments::argument::{Argument, SearchArgument};
+use bptree_arguments::count::Count;
+use bptree_keys::key::Key;
+use bptree_tree::Cursor;
+use std::alloc::AllocError;
+
+impl<K: Key, V: Drop, A: Argument<K>> BPlusTreeMap<K, V, A> {
+    /// A cursor on the pair at a place that is allowed for the query, and the value there; or none. It takes what a clone of
+    /// that key takes, and what the argument takes.
+    ///
+    /// It costs what `get_by_argument` does.
+    pub fn cursor_by_argument(
+        &self,
+        query: <A as SearchArgument<K>>::Query,
+    ) -> Result<Option<(Cursor<K>, &V)>, AllocError>
+    where
+        A: SearchArgument<K>,
+        ensures selected { IfOk result (λ answer. IsCursorSelected K.cmp A.selects query self.now (option_map (λ found. (found.0, found.1.now)) answer)) }
+        ensures sure { A.needs_no_memory → ((key : K) → K.is_infallible key) → IsOk result }
+    {
+        self.inner.cursor_by_argument(query)
+    }
+}
+
+impl<K: Key, V: Drop> BPlusTreeMap<K, V, Count> {
+    /// A cursor on the pair at a place in the order of the keys, from 0 on, and the value there; or none past the end. It takes
+    /// what a clone of that key takes, and past the end nothing.
+    ///
+    /// It is one way down by the counts.
+    pub fn cursor_at(&self, i: usize) -> Result<Option<(Cursor<K>, &V)>, AllocError>
+        ensures cursor { IfOk result (λ answer. StandsAt K.cmp (slice_get self.now i) (option_map (λ found. found.0) answer)) }
+        ensures value { IfOk result (λ answer. option_map (λ found. found.1.now) answer ≡ option_map (λ pair. pair.1) (slice_get self.now i)) }
+        ensures past { length self.now ≤ i → result ≡ Ok None }
+        ensures sure { ((key : K) → K.is_infallible key) → IsOk result }
+    {
+        if i >= self.len() {
+            return Ok(None);
+        }
+        let found = self.inner.cursor_by_argument(i)?;
+        Ok(found)
+    }
+}

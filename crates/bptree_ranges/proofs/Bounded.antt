@@ -1,0 +1,183 @@
+-- Where the pairs between two bounds begin and end.
+use Rattle.std.proofs.Common.{◌≡◌, ℕ, suc, ◌+◌, ◌-◌, ◌<◌, ◌≤◌, Bool, true, false, not, ◌&&◌, List, [], ◌∷◌, ◌++◌, length, filter, take, drop, refl, sym, ap, subst, ◌∙◌, arith, Result, Ok, Err, Some, slice_get, IsSomeAnd, get_or, length-append}
+use mathlib.Core.Bool.{true≢false}
+use Rattle.std.specs.declared.cmp.Ordering.{Ordering}
+use Rattle.std.specs.declared.cmp.Ordering.TheVariants.{Less, Equal, Greater}
+use Rattle.std.specs.declared.ops.Bound.{Bound}
+use Rattle.std.specs.declared.ops.Bound.TheVariants.{Included, Excluded, Unbounded}
+use Rattle.std.specs.Cmp.{IsTotalOrder}
+use Rattle.std.specs.Ordering.{is_gt, is_lt}
+use Rattle.std.proofs.lemmas.List.Elements.{filter-append}
+use Rattle.std.proofs.lemmas.List.{append-nil, length-take-le}
+use Rattle.bptree_arguments.specs.GroupAnswers.{is_before}
+use Rattle.bptree_arguments.proofs.GroupOrderLemmas.{before_below, less_from}
+use Rattle.bptree_keys.specs.Contents.{IsAscending}
+use Rattle.bptree_keys.specs.Places.{AllAnswer, IsGap, IsHit, IsPlaceOf}
+use Rattle.bptree_keys.specs.Ranges.{part}
+use Rattle.bptree_keys.specs.declared.node_id.LeafNodeId.{LeafNodeId}
+use Rattle.bptree_keys.specs.declared.node_id.NodeId.{NodeId}
+use Rattle.bptree_keys.proofs.Ascending.{less_turned}
+use Rattle.bptree_keys.proofs.Found.{gap_at, hit_at}
+use Rattle.bptree_keys.proofs.Parted.{filter_all, filter_none}
+use Rattle.bptree_nodes.specs.Inner.{Inner}
+use Rattle.bptree_nodes.specs.Leaf.{Leaf}
+use Rattle.bptree_nodes.specs.Slot.{Slots, Present}
+use Rattle.bptree_shape.specs.Leaves.{pairs_of, IsLeafFor}
+use Rattle.bptree_shape.specs.Shape.{leaf_pairs, pairs_at, IsWellShaped}
+use Rattle.bptree_shape.proofs.Between.{cut, none_pass, each_of, all_pass}
+use Rattle.bptree_shape.proofs.Ordered.{by_cases, less_then_up, up_then_up, not_less_back}
+use Rattle.bptree_shape.proofs.Spot.{leaf_ascends, parts_of_read}
+use Rattle.bptree_descents.proofs.Beside.{found_at}
+use Rattle.bptree_ranges.specs.Bounds.{between_bounds, is_before_start, is_upto_end, may_hold}
+use Rattle.bptree_ranges.specs.Ranges.{start, IsPlaceOn}
+use Rattle.bptree_ranges.proofs.Bordered.{falls_all}
+use Rattle.bptree_ranges.proofs.Ranged.{contents_ascend, size_of, start_is}
+
+not_above : (r : Ordering) → not (is_gt r) ≡ true → is_gt r ≡ false
+not_above Less e = refl
+not_above Equal e = refl
+not_above Greater e = absurd (true≢false (sym e))
+
+below_not_above : (r : Ordering) → is_lt r ≡ true → is_gt r ≡ false
+below_not_above Less e = refl
+below_not_above Equal e = absurd (true≢false (sym e))
+below_not_above Greater e = absurd (true≢false (sym e))
+
+below_upto : (r : Ordering) → is_lt r ≡ true → not (is_gt r) ≡ true
+below_upto r e = rw (below_not_above r e) refl
+
+-- one test fails wherever the other passes
+none_by : (s u : Bool) → (u ≡ true → s ≡ true) → (not s && u) ≡ false
+none_by true u h = refl
+none_by false true h = absurd (true≢false (sym (h refl)))
+none_by false false h = refl
+
+module _ {K : Type 0} {cmp : K → K → Ordering} (total : IsTotalOrder cmp) where
+  -- a key that is before a start has none before it that is not, and so at an end
+  start_falls : (lo : Bound K) (x y : K) → is_gt (cmp x y) ≡ false → is_before_start cmp lo y ≡ true → is_before_start cmp lo x ≡ true
+  start_falls (Included b) x y up e = before_below total b false x y up e
+  start_falls (Excluded b) x y up e = before_below total b true x y up e
+  start_falls Unbounded x y up e = absurd (true≢false (sym e))
+
+  end_falls : (hi : Bound K) (x y : K) → is_gt (cmp x y) ≡ false → is_upto_end cmp hi y ≡ true → is_upto_end cmp hi x ≡ true
+  end_falls (Included b) x y up e = before_below total b true x y up e
+  end_falls (Excluded b) x y up e = before_below total b false x y up e
+  end_falls Unbounded x y up e = refl
+
+  pub between_bounds_is : {V : Type 0} (l : List (K × V)) (lo hi : Bound K) (i j : ℕ) → IsAscending cmp l → i ≡ length (filter (λ (p : K × V). is_before_start cmp lo p.0) l) → j ≡ length (filter (λ (p : K × V). is_upto_end cmp hi p.0) l) → between_bounds cmp l lo hi ≡ part l i (j - i)
+  between_bounds_is {V} l lo hi i j ascending e f =
+      rw (e, f) (cut (λ (p : K × V). is_before_start cmp lo p.0) (λ (p : K × V). is_upto_end cmp hi p.0) l (falls_all total (is_before_start cmp lo) (start_falls lo) l ascending) (falls_all total (is_upto_end cmp hi) (end_falls hi) l ascending))
+
+  -- where some key can be between two bounds, what is before the start is not behind the end
+  pub held : (lo hi : Bound K) → may_hold cmp lo hi ≡ true → (k : K) → is_before_start cmp lo k ≡ true → is_upto_end cmp hi k ≡ true
+  held Unbounded hi e k below = absurd (true≢false (sym below))
+  held (Included a) Unbounded e k below = refl
+  held (Included a) (Included b) e k below = before_below total b true k a (below_not_above (cmp k a) below) e
+  held (Included a) (Excluded b) e k below = before_below total b false k a (below_not_above (cmp k a) below) e
+  held (Excluded a) Unbounded e k below = refl
+  held (Excluded a) (Included b) e k below = before_below total b true k a (not_above (cmp k a) below) (below_upto (cmp a b) e)
+  held (Excluded a) (Excluded b) e k below = before_below total b false k a (not_above (cmp k a) below) e
+
+  -- which is not below another has that one not above it
+  turned : (a b : K) → is_lt (cmp a b) ≡ false → not (is_gt (cmp b a)) ≡ true
+  turned a b e =
+      by_cases (cmp b a) (λ f. ap (λ r. not (is_gt r)) f) (λ f. ap (λ r. not (is_gt r)) f)
+      (λ f. absurd (true≢false (sym (ap is_lt (less_turned cmp total b a f)) ∙ e)))
+
+  turned_above : (a b : K) → not (is_gt (cmp a b)) ≡ false → is_lt (cmp b a) ≡ true
+  turned_above a b e =
+      by_cases (cmp a b) (λ f. absurd (true≢false (sym (ap (λ r. not (is_gt r)) f) ∙ e))) (λ f. absurd (true≢false (sym (ap (λ r. not (is_gt r)) f) ∙ e)))
+      (λ f. ap is_lt (less_turned cmp total a b f))
+
+  -- and else what is not behind the end is before the start
+  empty : (lo hi : Bound K) → may_hold cmp lo hi ≡ false → (k : K) → is_upto_end cmp hi k ≡ true → is_before_start cmp lo k ≡ true
+  empty Unbounded hi e k upto = absurd (true≢false e)
+  empty (Included a) Unbounded e k upto = absurd (true≢false e)
+  empty (Included a) (Included b) e k upto = before_below total a false k b (not_above (cmp k b) upto) (turned_above a b e)
+  empty (Included a) (Excluded b) e k upto = ap is_lt (less_then_up total k b a (less_from (cmp k b) upto) e)
+  empty (Excluded a) Unbounded e k upto = absurd (true≢false e)
+  empty (Excluded a) (Included b) e k upto = before_below total a true k b (not_above (cmp k b) upto) (turned a b e)
+  empty (Excluded a) (Excluded b) e k upto = before_below total a true k b (below_not_above (cmp k b) upto) (turned a b e)
+
+  pub between_bounds_none : {V : Type 0} (l : List (K × V)) (lo hi : Bound K) → may_hold cmp lo hi ≡ false → between_bounds cmp l lo hi ≡ []
+  between_bounds_none {V} l lo hi e =
+      none_pass (λ (p : K × V). not (is_before_start cmp lo p.0) && is_upto_end cmp hi p.0) l
+      (each_of (λ (p : K × V). (not (is_before_start cmp lo p.0) && is_upto_end cmp hi p.0) ≡ false) (λ p. none_by (is_before_start cmp lo p.0) (is_upto_end cmp hi p.0) (empty lo hi e p.0)) l)
+
+pub open_start : {K V : Type 0} (cmp : K → K → Ordering) (l : List (K × V)) (lo : Bound K) → lo ≡ Unbounded → length (filter (λ (p : K × V). is_before_start cmp lo p.0) l) ≡ 0
+open_start {K} {V} cmp l lo e = rw e (ap length (none_pass (λ (p : K × V). false) l (each_of (λ (p : K × V). false ≡ false) (λ p. refl) l)))
+
+pub open_end : {K V : Type 0} (cmp : K → K → Ordering) (l : List (K × V)) (hi : Bound K) → hi ≡ Unbounded → length (filter (λ (p : K × V). is_upto_end cmp hi p.0) l) ≡ length l
+open_end {K} {V} cmp l hi e = rw e (ap length (all_pass (λ (p : K × V). true) l (λ p. refl)))
+
+-- a place behind the smaller keys, or behind the key too
+abbrev pub beside : Result ℕ ℕ → Bool → ℕ
+beside (Ok i) true = i + 1
+beside (Ok i) false = i
+beside (Err i) behind = i
+
+less_passes : (behind : Bool) → is_before behind Less ≡ true
+less_passes true = refl
+less_passes false = refl
+
+greater_fails : (behind : Bool) → is_before behind Greater ≡ false
+greater_fails true = refl
+greater_fails false = refl
+
+module _ {K V : Type 0} {cmp : K → K → Ordering} (total : IsTotalOrder cmp) (k : K) where
+  abbrev passes : Bool → K × V → Bool
+  passes behind p = is_before behind (cmp p.0 k)
+
+  parts_pass : (behind : Bool) (l before after : List (K × V)) (pair : K × V) → IsHit cmp l before pair after k → length (filter (passes behind) l) ≡ beside (Ok (length before)) behind
+  parts_pass behind l before after pair hit =
+      ap (λ l. length (filter (passes behind) l)) hit.parts
+      ∙ (ap length (filter-append (passes behind) before (pair ∷ after))
+      ∙ (ap (λ (l : List (K × V)). length (l ++ filter (passes behind) (pair ∷ after))) (filter_all cmp k (is_before behind) Less before (less_passes behind) hit.smaller)
+      ∙ (length-append before (filter (passes behind) (pair ∷ after)) ∙ rest behind)))
+    where
+      rest : (b : Bool) → length before + length (filter (passes b) (pair ∷ after)) ≡ beside (Ok (length before)) b
+      rest true = rw (hit.equal, filter_none cmp k (is_before true) Greater after refl hit.greater) refl
+      rest false = rw (hit.equal, filter_none cmp k (is_before false) Greater after refl hit.greater) (omega arith)
+
+  parts_apart : (behind : Bool) (l before after : List (K × V)) → IsGap cmp l before after k → length (filter (passes behind) l) ≡ length before
+  parts_apart behind l before after gap =
+      ap (λ l. length (filter (passes behind) l)) gap.parts
+      ∙ (ap length (filter-append (passes behind) before after)
+      ∙ (ap (λ (l : List (K × V)). length (l ++ filter (passes behind) after)) (filter_all cmp k (is_before behind) Less before (less_passes behind) gap.smaller)
+      ∙ (ap (λ (l : List (K × V)). length (before ++ l)) (filter_none cmp k (is_before behind) Greater after (greater_fails behind) gap.greater) ∙ ap length (append-nil before))))
+
+  -- how many pairs of an ascending list pass, and that the place is within the list
+  pub place_counts : (behind : Bool) (l : List (K × V)) (r : Result ℕ ℕ) → IsAscending cmp l → IsPlaceOf cmp l k r → (beside r behind ≤ length l) × (length (filter (passes behind) l) ≡ beside r behind)
+  place_counts behind [] (Ok i) ascending found = absurd found
+  place_counts behind (p ∷ l) (Ok i) ascending found =
+      let (within, hit) = hit_at cmp total (p ∷ l) ascending k i p found in
+      let long = length-take-le i (p ∷ l) (omega (arith, within)) in
+      (beside_within behind i (length (p ∷ l)) within, parts_pass behind (p ∷ l) (take i (p ∷ l)) (drop (suc i) (p ∷ l)) (get_or (p ∷ l) i p) hit ∙ ap (λ n. beside (Ok n) behind) long)
+    where
+      beside_within : (b : Bool) (i n : ℕ) → i < n → beside (Ok i) b ≤ n
+      beside_within true i n less = omega (arith, less)
+      beside_within false i n less = omega (arith, less)
+  place_counts behind l (Err i) ascending found =
+      let (within, gap) = gap_at cmp total l ascending k i found.0 found.1 in
+      (within, parts_apart behind l (take i l) (drop i l) gap ∙ length-take-le i l within)
+
+module _ {K V A : Type 0} {cmp : K → K → Ordering} (total : IsTotalOrder cmp) (is_summary : A → List K → Type 0) (slots : Slots (Inner K A) (Leaf K V)) (h : ℕ) (root : NodeId) (shape : IsWellShaped cmp is_summary slots h root) where
+  -- the place beside a key in the leaf for it is one in the tree
+  pub place_beside : (k : K) (id : LeafNodeId) (leaf : Leaf K V) (r : Result ℕ ℕ) (behind : Bool) → IsLeafFor cmp slots h root k id → slots.leaf id.0 ≡ Present leaf → (IsAscending cmp leaf.pairs → IsPlaceOf cmp leaf.pairs k r) → length leaf.pairs ≤ 64
+      → IsPlaceOn slots h root id (beside r behind) × (start slots h root id + beside r behind ≡ length (filter (λ (p : K × V). is_before behind (cmp p.0 k)) (pairs_at slots h root)))
+  place_beside k id leaf r behind for' here found fits =
+      let at = found_at total is_summary slots h root shape k id leaf r for' here found fits in
+      let in' = for'.stands in
+      let ascending = leaf_ascends total slots h root id leaf in' (contents_ascend is_summary slots h root shape total) here in
+      let counts = place_counts total k behind leaf.pairs r ascending at.place_is in
+      let t = λ (p : K × V). is_before behind (cmp p.0 k) in
+      let before = pairs_of slots in'.before in
+      let after = pairs_of slots in'.after in
+      let all : filter t (pairs_at slots h root) ≡ before ++ (filter t leaf.pairs ++ []) =
+      ap (filter t) (parts_of_read slots h root id in' leaf here)
+      ∙ (filter-append t before (leaf.pairs ++ after)
+      ∙ (ap (λ l. l ++ filter t (leaf.pairs ++ after)) (filter_all cmp k (is_before behind) Less before (less_passes behind) for'.smaller)
+      ∙ ap (λ l. before ++ l) (filter-append t leaf.pairs after ∙ ap (λ l. filter t leaf.pairs ++ l) (filter_none cmp k (is_before behind) Greater after (greater_fails behind) for'.greater)))) in (
+        record { stands = in'; within = omega (arith, counts.0, size_of is_summary slots h root shape id leaf here) },
+        omega (arith, start_is is_summary slots h root shape id in', ap length all, length-append before (filter t leaf.pairs ++ []), length-append (filter t leaf.pairs) [], counts.1),
+      )

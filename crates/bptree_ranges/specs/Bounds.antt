@@ -1,0 +1,39 @@
+-- The part of the contents between two bounds, each of which takes its key in, leaves it out, or is open.
+use Rattle.std.specs.Prelude.{Bool, true, false, not, ◌&&◌, List, filter}
+use Rattle.std.specs.Borrow.{Bor}
+use Rattle.std.specs.declared.cmp.Ordering.{Ordering}
+use Rattle.std.specs.declared.ops.Bound.{Bound}
+use Rattle.std.specs.declared.ops.Bound.TheVariants.{Included, Excluded, Unbounded}
+use Rattle.std.specs.Ordering.{is_lt, is_gt}
+use Rattle.std.specs.Range.Bound.{bound_map}
+
+-- the bound by the key that a reference shows
+abbrev pub bound_copied : {K : Type 0} → Bound (Bor K) → Bound K
+bound_copied bound = bound_map (λ key. key.now) bound
+
+module _ {K : Type 0} (cmp : K → K → Ordering) where
+  -- the key comes before the start
+  abbrev pub is_before_start : Bound K → K → Bool
+  is_before_start (Included lo) k = is_lt (cmp k lo)
+  is_before_start (Excluded lo) k = not (is_gt (cmp k lo))
+  is_before_start Unbounded k = false
+
+  -- the key does not come behind the end
+  abbrev pub is_upto_end : Bound K → K → Bool
+  is_upto_end (Included hi) k = not (is_gt (cmp k hi))
+  is_upto_end (Excluded hi) k = is_lt (cmp k hi)
+  is_upto_end Unbounded k = true
+
+  -- the pairs whose key is neither before the start nor behind the end
+  abbrev pub between_bounds : {V : Type 0} → List (K × V) → Bound K → Bound K → List (K × V)
+  between_bounds l lo hi = filter (λ pair. not (is_before_start lo pair.0) && is_upto_end hi pair.0) l
+
+  -- some key can be between the two, as far as they tell
+  abbrev pub may_hold : Bound K → Bound K → Bool
+  may_hold Unbounded hi = true
+  may_hold (Included lo) Unbounded = true
+  may_hold (Included lo) (Included hi) = not (is_gt (cmp lo hi))
+  may_hold (Included lo) (Excluded hi) = is_lt (cmp lo hi)
+  may_hold (Excluded lo) Unbounded = true
+  may_hold (Excluded lo) (Included hi) = is_lt (cmp lo hi)
+  may_hold (Excluded lo) (Excluded hi) = is_lt (cmp lo hi)

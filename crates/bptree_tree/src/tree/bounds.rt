@@ -1,0 +1,26 @@
+//! The part of a tree between two bounds.
+ghost use Rattle.std.specs.Prelude.{◌≡◌};
+ghost use Rattle.std.specs.Map.Iter.{ShowsInOrder, deref_pair};
+ghost use Rattle.bptree_keys.specs.Contents.{IsAscending};
+ghost use Rattle.bptree_ranges.specs.Bounds.{between_bounds, bound_copied};
+
+use crate::tree::BPlusTree;
+use bptree_iteration::iterator::Iter;
+use bptree_ranges::bounds::part_between_bounds;
+use bptree_stores::node_stores::NodeStore;
+use std::ops::Bound;
+
+impl<S: NodeStore> BPlusTree<S> {
+    /// The pairs from a start on up to an end, in the order of their keys: each bound takes the pair of its key in, leaves it
+    /// out, or is open. Of a start above the end there are none. It takes no memory, and neither do its steps.
+    ///
+    /// It costs what `range` does: each bound that is not open is searched for once, from the root.
+    pub fn range_bounds<'b>(&self, lo: Bound<&'b S::K>, hi: Bound<&'b S::K>) -> Iter<'_, S>
+        ensures rest { result ≡ between_bounds S.K.cmp self.now.contents (bound_copied lo.entry) (bound_copied hi.entry) }
+        ensures ascending { IsAscending S.K.cmp result }
+        ensures runs { ShowsInOrder (deref_pair {K = S.K} {X = S.V}) }
+    {
+        let part = part_between_bounds(&self.store, self.root, self.height, self.len, lo, hi);
+        Iter::new(&self.store, part)
+    }
+}

@@ -1,0 +1,53 @@
+//! Cursors at places that a query selects.
+ghost use Rattle.std.specs.Prelude.{IfOk, IsOk};
+ghost use Rattle.std.specs.Option.{option_map};
+ghost use Rattle.bptree_descents.specs.ByArgument.{IsSelected};
+ghost use Rattle.bptree_tree.specs.Selected.{IsCursorSelected};
+
+use crate::cursor::Cursor;
+use crate::tree::BPlusTree;
+use bptree_arguments::argument::SearchArgument;
+use bptree_descents::by_argument;
+use bptree_keys::node_id::LeafNodeId;
+use bptree_stores::node_stores::NodeStore;
+use std::alloc::AllocError;
+
+impl<S: NodeStore> BPlusTree<S> {
+    /// A cursor on the pair at a place that is allowed for the query, and the value there; or none. It takes what a clone of
+    /// that key takes, and what the argument takes.
+    ///
+    /// It costs what `get_by_argument` does.
+    pub fn cursor_by_argument(
+        &self,
+        query: <S::Argument as SearchArgument<S::K>>::Query,
+    ) -> Result<Option<(Cursor<S::K>, &S::V)>, AllocError>
+    where
+        S::Argument: SearchArgument<S::K>,
+        ensures selected { IfOk result (λ answer. IsCursorSelected S.K.cmp S.Argument.selects query self.now.contents (option_map (λ found. (found.0, found.1.now)) answer)) }
+        ensures sure { S.Argument.needs_no_memory → ((key : S.K) → S.K.is_infallible key) → IsOk result }
+    {
+        let Some((place, (key, value))) = self.place_by_argument(query)? else {
+            return Ok(None);
+        };
+        let cursor = Cursor::at(place, key)?;
+        Ok(Some((cursor, value)))
+    }
+
+    // The pair at a place that is allowed for the query, with the leaf and the slot where it stands.
+    fn place_by_argument(
+        &self,
+        query: <S::Argument as SearchArgument<S::K>>::Query,
+    ) -> Result<Option<((LeafNodeId, usize), (&S::K, &S::V))>, AllocError>
+    where
+        S::Argument: SearchArgument<S::K>,
+        ensures selected { IfOk result (λ answer. IsSelected S.Argument.selects query self.now.contents (option_map (λ found. (found.1.0.now, found.1.1.now)) answer)) }
+        ensures sure { S.Argument.needs_no_memory → IsOk result }
+    {
+        // Read, so that it is known to fit.
+        let _len = self.len;
+        match by_argument::find_by_argument(&self.store, self.root, self.height, query)? {
+            None => Ok(None),
+            Some(place) => Ok(Some((place, self.store.get_leaf(place.0).data_at(place.1)))),
+        }
+    }
+}
