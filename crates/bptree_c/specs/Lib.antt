@@ -1,0 +1,4 @@
+pub mod Ends
+pub mod Held
+pub mod Pairs
+pub mod Popped

@@ -1,0 +1,14 @@
+-- Pairs as C has them, and what is copied into a caller's array.
+use Rattle.std.specs.Prelude.{◌≡◌, ℕ, List, ◌++◌, length, map, take, drop}
+use Rattle.bptree_c.specs.declared.pair.Pair.{Pair}
+
+abbrev pub as_tuple : Pair → ℕ × ℕ
+as_tuple pair = (pair.key, pair.value)
+
+abbrev pub as_pair : ℕ × ℕ → Pair
+as_pair pair = record { key = pair.0; value = pair.1 }
+
+-- the first pairs of the list, as many as the array takes, stand at its beginning, and the rest of the array is as it was
+abbrev pub IsCopied : List (ℕ × ℕ) → List Pair → List Pair → ℕ → Type 0
+IsCopied l old new count =
+    (count ≡ length (take (length old) l)) × (new ≡ map as_pair (take (length old) l) ++ drop count old)

@@ -1,0 +1,24 @@
+-- What leaves a map, and how it is told.
+use Rattle.std.specs.Prelude.{◌≡◌, ℕ, List, [], ◌∷◌, ◌++◌, Option, Some, Result, MatchOption, MatchResult, slice_get}
+use Rattle.std.specs.List.{remove}
+use Rattle.std.specs.declared.alloc.AllocError.{AllocError}
+use Rattle.bptree_c.specs.declared.pair.Pair.{Pair}
+use Rattle.bptree_c.specs.Pairs.{as_tuple}
+
+-- the pair at a place has left the list, and is told
+abbrev pub LeftAt : List (ℕ × ℕ) → ℕ → Option (List (ℕ × ℕ)) → Pair → Type 0
+LeftAt old i new told = (slice_get old i ≡ Some (as_tuple told)) × (new ≡ Some (remove old i))
+
+-- the first pair has left the list, and is told
+abbrev pub LeftFirst : List (ℕ × ℕ) → Option (List (ℕ × ℕ)) → Pair → Type 0
+LeftFirst old new told = (rest : List (ℕ × ℕ)) × (old ≡ as_tuple told ∷ rest) × (new ≡ Some rest)
+
+-- the last pair has left the list, and is told
+abbrev pub LeftLast : List (ℕ × ℕ) → Option (List (ℕ × ℕ)) → Pair → Type 0
+LeftLast old new told = (rest : List (ℕ × ℕ)) × (old ≡ rest ++ as_tuple told ∷ []) × (new ≡ Some rest)
+
+-- 0 for none, 1 for a pair that stands where C reads it, and 2 for a refusal
+abbrev pub IsTold : Result (Option (ℕ × ℕ)) AllocError → ℕ → Pair → Type 0
+IsTold answer code pair = MatchResult answer
+    (λ found. MatchOption found (code ≡ 0) (λ it. (code ≡ 1) × (it ≡ as_tuple pair)))
+    (λ _. code ≡ 2)

@@ -1,0 +1,23 @@
+//! The map of numbers to numbers with places, as functions for callers in C. `include/sweep_bptree.h` declares them.
+//!
+//! A caller keeps a `Handle`: a pointer to a map on the heap, or none. Each function takes the map out of the handle, calls
+//! it, and gives it back; its contract is the map's own, stated again over the list that the handle holds.
+#![tactic(auto)]
+
+mod handle;
+mod loose;
+mod making;
+mod many;
+mod pair;
+mod reading;
+mod writing;
+
+pub use handle::Handle;
+pub use making::{bptree_clear, bptree_free, bptree_load, bptree_new};
+pub use many::{bptree_page, bptree_range, bptree_range_back};
+pub use pair::Pair;
+pub use reading::{
+    bptree_at, bptree_contains, bptree_first, bptree_get, bptree_last, bptree_len, bptree_next,
+    bptree_prev, bptree_range_len, bptree_rank,
+};
+pub use writing::{bptree_del, bptree_pop_first, bptree_pop_last, bptree_put, bptree_remove_at};

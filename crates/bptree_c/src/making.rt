@@ -1,0 +1,97 @@
+//! How a map is made, filled at once, emptied and freed.
+ghost use Rattle.std.specs.Prelude.{◌≡◌, ℕ, List, [], Some, None, IsTrue, false, IfOk, OnErr, map as each};
+ghost use Rattle.bptree_c.specs.Pairs.{as_tuple};
+ghost use Rattle.bptree_keys.specs.Contents.{gather};
+ghost use Rattle.std.specs.Ordering.{nat_cmp};
+
+use crate::handle::{Handle, Map};
+use crate::pair::Pair;
+use bptree_arguments::count::Count;
+use bptree_maps::map::BPlusTreeMap;
+use std::alloc::{AllocError, Global};
+
+/// Makes a map with no pairs. It is false where memory is refused; then the handle holds no map.
+#[unsafe(no_mangle)]
+pub extern "C" fn bptree_new(alloc: Global, map: &mut Handle) -> bool
+    requires closed { map.old.held ≡ None }
+    ensures made { IsTrue result → map.new.held ≡ Some [] }
+    ensures refused { result ≡ false → map.new.held ≡ None }
+{
+    let pairs = match BPlusTreeMap::new(alloc) {
+        Ok(pairs) => pairs,
+        Err(_) => return false,
+    };
+    match Box::new(alloc, Map { pairs }) {
+        Ok(whole) => {
+            map.give(whole);
+            true
+        }
+        Err(_) => false,
+    }
+}
+
+/// Frees a map. The handle holds none then.
+#[unsafe(no_mangle)]
+pub extern "C" fn bptree_free(alloc: Global, map: &mut Handle)
+    ghost pairs: { List (ℕ × ℕ) }
+    requires open { map.old.held ≡ Some pairs }
+    ensures closed { map.new.held ≡ None }
+{
+    let _whole = map.take(alloc);
+}
+
+/// Removes all pairs. It is false where the memory of one node is refused; then nothing has changed.
+#[unsafe(no_mangle)]
+pub extern "C" fn bptree_clear(alloc: Global, map: &mut Handle) -> bool
+    ghost pairs: { List (ℕ × ℕ) }
+    requires open { map.old.held ≡ Some pairs }
+    ensures cleared { IsTrue result → map.new.held ≡ Some [] }
+    ensures refused { result ≡ false → map.new.held ≡ Some pairs }
+{
+    let mut whole = map.take(alloc);
+    let answer = whole.pairs.clear();
+    map.give(whole);
+    answer.is_ok()
+}
+
+/// Puts the given pairs, in any order, in place of what the map held: of equal keys the last is held. It is false where
+/// memory is refused; then nothing has changed.
+#[unsafe(no_mangle)]
+pub extern "C" fn bptree_load(alloc: Global, map: &mut Handle, given: &[Pair]) -> bool
+    ghost pairs: { List (ℕ × ℕ) }
+    requires open { map.old.held ≡ Some pairs }
+    ensures loaded { IsTrue result → map.new.held ≡ Some (gather nat_cmp (each as_tuple given.now)) }
+    ensures refused { result ≡ false → map.new.held ≡ Some pairs }
+{
+    let mut whole = map.take(alloc);
+    let answer = load_into(alloc, &mut whole, given);
+    map.give(whole);
+    answer.is_ok()
+}
+
+fn load_into(alloc: Global, map: &mut Map, given: &[Pair]) -> Result<(), AllocError>
+    ensures ok { IfOk result (λ _. map.new ≡ gather nat_cmp (each as_tuple given.now)) }
+    ensures err { OnErr result (map.new ≡ map.old) }
+{
+    map.pairs = gathered(alloc, given)?;
+    Ok(())
+}
+
+fn gathered(alloc: Global, given: &[Pair]) -> Result<BPlusTreeMap<u64, u64, Count>, AllocError>
+    ensures { IfOk result (λ pairs. pairs ≡ gather nat_cmp (each as_tuple given.now)) }
+{
+    let copied = tuples(alloc, given)?;
+    BPlusTreeMap::from_iter(alloc, copied)
+}
+
+fn tuples(alloc: Global, given: &[Pair]) -> Result<Vec<(u64, u64)>, AllocError>
+    ensures { IfOk result (λ copied. copied.items ≡ each as_tuple given.now) }
+{
+    let mut copied = Vec::with_capacity(alloc, given.len())?;
+    let mut rest = given;
+    while let Some((pair, tail)) = rest.split_first() {
+        copied.push((pair.key, pair.value))?;
+        rest = tail;
+    }
+    Ok(copied)
+}

@@ -1,0 +1,251 @@
+//! Calls that read a map. None of them is ever refused.
+ghost use Rattle.std.specs.Prelude.{◌≡◌, ◌-◌, ◌≤◌, ℕ, List, [], Option, Some, None, IsTrue, true, false, MatchOption, length, slice_get};
+ghost use Rattle.std.specs.Map.{keys_of};
+ghost use Rattle.std.specs.Option.{option_map};
+ghost use Rattle.std.specs.Ordering.{nat_cmp};
+ghost use Rattle.bptree_arguments.specs.CountLaws.{count_below};
+ghost use Rattle.bptree_c.specs.Pairs.{as_tuple};
+ghost use Rattle.bptree_keys.specs.Contents.{has, value, next, previous};
+ghost use Rattle.bptree_keys.specs.Ranges.{between};
+
+use crate::handle::{Handle, Map};
+use crate::pair::Pair;
+use bptree_tree::Cursor;
+use std::alloc::Global;
+
+/// The number of pairs.
+#[unsafe(no_mangle)]
+pub extern "C" fn bptree_len(alloc: Global, map: &mut Handle) -> usize
+    ghost pairs: { List (ℕ × ℕ) }
+    requires open { map.old.held ≡ Some pairs }
+    ensures kept { map.new.held ≡ Some pairs }
+    ensures len { result ≡ length pairs }
+{
+    let whole = map.take(alloc);
+    let len = whole.pairs.len();
+    map.give(whole);
+    len
+}
+
+/// Whether a key is there.
+#[unsafe(no_mangle)]
+pub extern "C" fn bptree_contains(alloc: Global, map: &mut Handle, key: u64) -> bool
+    ghost pairs: { List (ℕ × ℕ) }
+    requires open { map.old.held ≡ Some pairs }
+    ensures kept { map.new.held ≡ Some pairs }
+    ensures there { result ≡ has nat_cmp pairs key }
+{
+    let whole = map.take(alloc);
+    let answer = whole.pairs.contains_key(&key);
+    map.give(whole);
+    answer
+}
+
+/// The value at a key, in `found`. It is false where the key is absent.
+#[unsafe(no_mangle)]
+pub extern "C" fn bptree_get(alloc: Global, map: &mut Handle, key: u64, found: &mut u64) -> bool
+    ghost pairs: { List (ℕ × ℕ) }
+    requires open { map.old.held ≡ Some pairs }
+    ensures kept { map.new.held ≡ Some pairs }
+    ensures found { IsTrue result → value nat_cmp pairs key ≡ Some found.new }
+    ensures absent { result ≡ false → value nat_cmp pairs key ≡ None }
+{
+    let whole = map.take(alloc);
+    let answer = whole.pairs.get(&key).copied();
+    map.give(whole);
+    match answer {
+        Some(it) => {
+            *found = it;
+            true
+        }
+        None => false,
+    }
+}
+
+/// The pair with the least key, in `pair`. It is false where the map is empty.
+#[unsafe(no_mangle)]
+pub extern "C" fn bptree_first(alloc: Global, map: &mut Handle, pair: &mut Pair) -> bool
+    ghost pairs: { List (ℕ × ℕ) }
+    requires open { map.old.held ≡ Some pairs }
+    ensures kept { map.new.held ≡ Some pairs }
+    ensures found { IsTrue result → slice_get pairs 0 ≡ Some (as_tuple pair.new) }
+    ensures empty { result ≡ false → slice_get pairs 0 ≡ None }
+{
+    let whole = map.take(alloc);
+    let answer = first_in(&whole);
+    map.give(whole);
+    is_told(answer, pair)
+}
+
+fn first_in(map: &Map) -> Option<(u64, u64)>
+    ensures { result ≡ slice_get map.now 0 }
+{
+    owned(map.pairs.first())
+}
+
+// The pair that two references point to.
+fn owned(pair: Option<(&u64, &u64)>) -> Option<(u64, u64)>
+    ensures { result ≡ option_map (λ it. (it.0.now, it.1.now)) pair.entry }
+{
+    match pair {
+        Some((key, value)) => Some((*key, *value)),
+        None => None,
+    }
+}
+
+// Whether there is a pair, which is written where there is one.
+fn is_told(answer: Option<(u64, u64)>, pair: &mut Pair) -> bool
+    ensures { MatchOption answer (result ≡ false) (λ it. (result ≡ true) × (it ≡ as_tuple pair.new)) }
+{
+    match answer {
+        Some((key, value)) => {
+            *pair = Pair { key, value };
+            true
+        }
+        None => false,
+    }
+}
+
+/// The pair with the greatest key, in `pair`. It is false where the map is empty.
+#[unsafe(no_mangle)]
+pub extern "C" fn bptree_last(alloc: Global, map: &mut Handle, pair: &mut Pair) -> bool
+    ghost pairs: { List (ℕ × ℕ) }
+    requires open { map.old.held ≡ Some pairs }
+    ensures kept { map.new.held ≡ Some pairs }
+    ensures found { IsTrue result → slice_get pairs (length pairs - 1) ≡ Some (as_tuple pair.new) }
+    ensures empty { result ≡ false → slice_get pairs (length pairs - 1) ≡ None }
+{
+    let whole = map.take(alloc);
+    let answer = last_in(&whole);
+    map.give(whole);
+    is_told(answer, pair)
+}
+
+fn last_in(map: &Map) -> Option<(u64, u64)>
+    ensures { result ≡ slice_get map.now (length map.now - 1) }
+{
+    owned(map.pairs.last())
+}
+
+/// The pair with the least greater key, in `pair`. It is false where there is none.
+#[unsafe(no_mangle)]
+pub extern "C" fn bptree_next(alloc: Global, map: &mut Handle, key: u64, pair: &mut Pair) -> bool
+    ghost pairs: { List (ℕ × ℕ) }
+    requires open { map.old.held ≡ Some pairs }
+    ensures kept { map.new.held ≡ Some pairs }
+    ensures found { IsTrue result → next nat_cmp pairs key ≡ Some (as_tuple pair.new) }
+    ensures none { result ≡ false → next nat_cmp pairs key ≡ None }
+{
+    let whole = map.take(alloc);
+    let answer = next_in(&whole, key);
+    map.give(whole);
+    is_told(answer, pair)
+}
+
+fn next_in(map: &Map, key: u64) -> Option<(u64, u64)>
+    ensures { result ≡ next nat_cmp map.now key }
+{
+    match cursor_on(map, key).next_with_value(map.pairs.tree()) {
+        Ok(Some((beside, value))) => Some((*beside.key(), *value)),
+        Ok(None) => None,
+        Err(_) => unreachable!(),
+    }
+}
+
+// A cursor on a key, which need not be there.
+fn cursor_on(map: &Map, key: u64) -> Cursor<u64>
+    ensures { result.key ≡ key }
+{
+    match map.pairs.tree().get_cursor(&key) {
+        Ok(Some((cursor, _))) => cursor,
+        Ok(None) => unreachable!(),
+        Err(_) => unreachable!(),
+    }
+}
+
+/// The pair with the greatest smaller key, in `pair`. It is false where there is none.
+#[unsafe(no_mangle)]
+pub extern "C" fn bptree_prev(alloc: Global, map: &mut Handle, key: u64, pair: &mut Pair) -> bool
+    ghost pairs: { List (ℕ × ℕ) }
+    requires open { map.old.held ≡ Some pairs }
+    ensures kept { map.new.held ≡ Some pairs }
+    ensures found { IsTrue result → previous nat_cmp pairs key ≡ Some (as_tuple pair.new) }
+    ensures none { result ≡ false → previous nat_cmp pairs key ≡ None }
+{
+    let whole = map.take(alloc);
+    let answer = prev_in(&whole, key);
+    map.give(whole);
+    is_told(answer, pair)
+}
+
+fn prev_in(map: &Map, key: u64) -> Option<(u64, u64)>
+    ensures { result ≡ previous nat_cmp map.now key }
+{
+    match cursor_on(map, key).prev_with_value(map.pairs.tree()) {
+        Ok(Some((beside, value))) => Some((*beside.key(), *value)),
+        Ok(None) => None,
+        Err(_) => unreachable!(),
+    }
+}
+
+/// The pair at a place in the order of the keys, from 0 on, in `pair`. It is false past the end.
+#[unsafe(no_mangle)]
+pub extern "C" fn bptree_at(alloc: Global, map: &mut Handle, place: usize, pair: &mut Pair) -> bool
+    ghost pairs: { List (ℕ × ℕ) }
+    requires open { map.old.held ≡ Some pairs }
+    ensures kept { map.new.held ≡ Some pairs }
+    ensures found { IsTrue result → slice_get pairs place ≡ Some (as_tuple pair.new) }
+    ensures past { result ≡ false → slice_get pairs place ≡ None }
+{
+    let whole = map.take(alloc);
+    let answer = at_in(&whole, place);
+    map.give(whole);
+    is_told(answer, pair)
+}
+
+fn at_in(map: &Map, place: usize) -> Option<(u64, u64)>
+    ensures { result ≡ slice_get map.now place }
+{
+    owned(map.pairs.get_at(place))
+}
+
+/// How many keys are smaller, in `rank`, and whether the key itself is there.
+#[unsafe(no_mangle)]
+pub extern "C" fn bptree_rank(alloc: Global, map: &mut Handle, key: u64, rank: &mut usize) -> bool
+    ghost pairs: { List (ℕ × ℕ) }
+    requires open { map.old.held ≡ Some pairs }
+    ensures kept { map.new.held ≡ Some pairs }
+    ensures rank { rank.new ≡ count_below nat_cmp key (keys_of pairs) }
+    ensures there { result ≡ has nat_cmp pairs key }
+{
+    let whole = map.take(alloc);
+    let (is_there, smaller) = rank_in(&whole, key);
+    map.give(whole);
+    *rank = smaller;
+    is_there
+}
+
+fn rank_in(map: &Map, key: u64) -> (bool, usize)
+    ensures there { result.0 ≡ has nat_cmp map.now key }
+    ensures rank { result.1 ≡ count_below nat_cmp key (keys_of map.now) }
+{
+    match map.pairs.rank_by_argument(&key) {
+        Ok(Ok(rank)) => (true, rank),
+        Ok(Err(rank)) => (false, rank),
+        Err(_) => unreachable!(),
+    }
+}
+
+/// How many keys are not below `from` and are below `to`.
+#[unsafe(no_mangle)]
+pub extern "C" fn bptree_range_len(alloc: Global, map: &mut Handle, from: u64, to: u64) -> usize
+    ghost pairs: { List (ℕ × ℕ) }
+    requires open { map.old.held ≡ Some pairs }
+    ensures kept { map.new.held ≡ Some pairs }
+    ensures len { result ≡ length (between nat_cmp pairs (Some from) (Some to)) }
+{
+    let whole = map.take(alloc);
+    let len = whole.pairs.range_len(Some(&from), Some(&to));
+    map.give(whole);
+    len
+}

@@ -1,0 +1,189 @@
+//! Calls that change a map: a refused one leaves it as it was.
+ghost use Rattle.std.specs.Prelude.{◌≡◌, ◌≤◌, ℕ, List, [], Option, Some, None, Ok, IfOk, OnErr, IsOk, IsTrue, false, length, slice_get};
+ghost use Rattle.std.specs.List.{remove};
+ghost use Rattle.std.specs.Map.Iter.{TakesFirst, TakesLast};
+ghost use Rattle.std.specs.Ordering.{nat_cmp};
+ghost use Rattle.bptree_c.specs.Popped.{IsTold, LeftAt, LeftFirst, LeftLast};
+ghost use Rattle.bptree_keys.specs.Contents.{has, value, put, del};
+
+use crate::handle::{Handle, Map};
+use crate::pair::Pair;
+use std::alloc::{AllocError, Global};
+
+/// Puts a value at a key: 0 where the key is new, and 1 where it had a value, which is then in `old`. It is 2 where it is
+/// refused for want of memory; then nothing has changed. A key that is there takes no memory and is never refused.
+#[unsafe(no_mangle)]
+pub extern "C" fn bptree_put(
+    alloc: Global,
+    map: &mut Handle,
+    key: u64,
+    new: u64,
+    old: &mut u64,
+) -> u32
+    ghost pairs: { List (ℕ × ℕ) }
+    requires open { map.old.held ≡ Some pairs }
+    ensures codes { result ≤ 2 }
+    ensures added { result ≡ 0 →
+        (value nat_cmp pairs key ≡ None) × (map.new.held ≡ Some (put nat_cmp pairs key new)) }
+    ensures replaced { result ≡ 1 →
+        (value nat_cmp pairs key ≡ Some old.new) × (map.new.held ≡ Some (put nat_cmp pairs key new)) }
+    ensures refused { result ≡ 2 → map.new.held ≡ Some pairs }
+    ensures sure { IsTrue (has nat_cmp pairs key) → result ≤ 1 }
+{
+    let mut whole = map.take(alloc);
+    let answer = put_in(&mut whole, key, new);
+    map.give(whole);
+    match answer {
+        Ok(None) => 0,
+        Ok(Some(was)) => {
+            *old = was;
+            1
+        }
+        Err(_) => 2,
+    }
+}
+
+fn put_in(map: &mut Map, key: u64, new: u64) -> Result<Option<u64>, AllocError>
+    ensures ok { IfOk result (λ old.
+        (old ≡ value nat_cmp map.old key) × (map.new ≡ put nat_cmp map.old key new)) }
+    ensures present { IsTrue (has nat_cmp map.old key) → IsOk result }
+    ensures err { OnErr result (map.new ≡ map.old) }
+{
+    match map.pairs.insert(key, new) {
+        Ok(old) => Ok(old),
+        Err(_) => Err(AllocError),
+    }
+}
+
+/// Removes the pair at a key: 1 where there was one, whose value is then in `old`, and 0 where not. It is 2 where it is
+/// refused for want of memory; then nothing has changed. A key that is not there is never refused.
+#[unsafe(no_mangle)]
+pub extern "C" fn bptree_del(alloc: Global, map: &mut Handle, key: u64, old: &mut u64) -> u32
+    ghost pairs: { List (ℕ × ℕ) }
+    requires open { map.old.held ≡ Some pairs }
+    ensures codes { result ≤ 2 }
+    ensures absent { result ≡ 0 →
+        (value nat_cmp pairs key ≡ None) × (map.new.held ≡ Some (del nat_cmp pairs key)) }
+    ensures removed { result ≡ 1 →
+        (value nat_cmp pairs key ≡ Some old.new) × (map.new.held ≡ Some (del nat_cmp pairs key)) }
+    ensures refused { result ≡ 2 → map.new.held ≡ Some pairs }
+    ensures sure { has nat_cmp pairs key ≡ false → result ≡ 0 }
+{
+    let mut whole = map.take(alloc);
+    let answer = del_in(&mut whole, key);
+    map.give(whole);
+    match answer {
+        Ok(None) => 0,
+        Ok(Some(was)) => {
+            *old = was;
+            1
+        }
+        Err(_) => 2,
+    }
+}
+
+fn del_in(map: &mut Map, key: u64) -> Result<Option<u64>, AllocError>
+    ensures ok { IfOk result (λ old.
+        (old ≡ value nat_cmp map.old key) × (map.new ≡ del nat_cmp map.old key)) }
+    ensures absent { has nat_cmp map.old key ≡ false → result ≡ Ok None }
+    ensures err { OnErr result (map.new ≡ map.old) }
+{
+    map.pairs.remove(&key)
+}
+
+/// Removes the pair at a place in the order of the keys, from 0 on: 1 where there was one, which is then in `pair`, and 0 past
+/// the end. It is 2 where it is refused for want of memory; then nothing has changed. Past the end it is never refused.
+#[unsafe(no_mangle)]
+pub extern "C" fn bptree_remove_at(
+    alloc: Global,
+    map: &mut Handle,
+    place: usize,
+    pair: &mut Pair,
+) -> u32
+    ghost pairs: { List (ℕ × ℕ) }
+    requires open { map.old.held ≡ Some pairs }
+    ensures codes { result ≤ 2 }
+    ensures past { result ≡ 0 → (length pairs ≤ place) × (map.new.held ≡ Some pairs) }
+    ensures removed { result ≡ 1 → LeftAt pairs place map.new.held pair.new }
+    ensures refused { result ≡ 2 → map.new.held ≡ Some pairs }
+    ensures sure { length pairs ≤ place → result ≡ 0 }
+{
+    let mut whole = map.take(alloc);
+    let answer = remove_in(&mut whole, place);
+    map.give(whole);
+    told(answer, pair)
+}
+
+fn remove_in(map: &mut Map, place: usize) -> Result<Option<(u64, u64)>, AllocError>
+    ensures ok { IfOk result (λ gone.
+        (gone ≡ slice_get map.old place) × (map.new ≡ remove map.old place)) }
+    ensures past { length map.old ≤ place → (result ≡ Ok None) × (map.new ≡ map.old) }
+    ensures err { OnErr result (map.new ≡ map.old) }
+{
+    map.pairs.remove_at(place)
+}
+
+// The code for a pair that has left, which is written where there is one.
+fn told(answer: Result<Option<(u64, u64)>, AllocError>, pair: &mut Pair) -> u32
+    ensures { IsTold answer result pair.new }
+{
+    match answer {
+        Ok(Some((key, value))) => {
+            *pair = Pair { key, value };
+            1
+        }
+        Ok(None) => 0,
+        Err(_) => 2,
+    }
+}
+
+/// Removes the pair with the least key: 1 where there was one, which is then in `pair`, and 0 where the map is empty. It is 2
+/// where it is refused for want of memory; then nothing has changed. An empty map is never refused.
+#[unsafe(no_mangle)]
+pub extern "C" fn bptree_pop_first(alloc: Global, map: &mut Handle, pair: &mut Pair) -> u32
+    ghost pairs: { List (ℕ × ℕ) }
+    requires open { map.old.held ≡ Some pairs }
+    ensures codes { result ≤ 2 }
+    ensures empty { result ≡ 0 → (pairs ≡ []) × (map.new.held ≡ Some pairs) }
+    ensures removed { result ≡ 1 → LeftFirst pairs map.new.held pair.new }
+    ensures refused { result ≡ 2 → map.new.held ≡ Some pairs }
+    ensures sure { pairs ≡ [] → result ≡ 0 }
+{
+    let mut whole = map.take(alloc);
+    let answer = pop_first_in(&mut whole);
+    map.give(whole);
+    told(answer, pair)
+}
+
+fn pop_first_in(map: &mut Map) -> Result<Option<(u64, u64)>, AllocError>
+    ensures ok { IfOk result (λ gone. TakesFirst (λ pair. pair) map.old gone map.new) }
+    ensures empty { map.old ≡ [] → (result ≡ Ok None) × (map.new ≡ map.old) }
+    ensures err { OnErr result (map.new ≡ map.old) }
+{
+    map.pairs.pop_first()
+}
+
+/// Removes the pair with the greatest key. The answers are those of `bptree_pop_first`.
+#[unsafe(no_mangle)]
+pub extern "C" fn bptree_pop_last(alloc: Global, map: &mut Handle, pair: &mut Pair) -> u32
+    ghost pairs: { List (ℕ × ℕ) }
+    requires open { map.old.held ≡ Some pairs }
+    ensures codes { result ≤ 2 }
+    ensures empty { result ≡ 0 → (pairs ≡ []) × (map.new.held ≡ Some pairs) }
+    ensures removed { result ≡ 1 → LeftLast pairs map.new.held pair.new }
+    ensures refused { result ≡ 2 → map.new.held ≡ Some pairs }
+    ensures sure { pairs ≡ [] → result ≡ 0 }
+{
+    let mut whole = map.take(alloc);
+    let answer = pop_last_in(&mut whole);
+    map.give(whole);
+    told(answer, pair)
+}
+
+fn pop_last_in(map: &mut Map) -> Result<Option<(u64, u64)>, AllocError>
+    ensures ok { IfOk result (λ gone. TakesLast (λ pair. pair) map.old gone map.new) }
+    ensures empty { map.old ≡ [] → (result ≡ Ok None) × (map.new ≡ map.old) }
+    ensures err { OnErr result (map.new ≡ map.old) }
+{
+    map.pairs.pop_last()
+}

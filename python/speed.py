@@ -1,0 +1,83 @@
+"""Times of the calls beside `sortedcontainers.SortedDict`, where that is installed: for each number of pairs in the arguments
+a line for each call, in nanoseconds, the least of some turns; and what a call costs that does nothing but cross over."""
+
+import random
+import sys
+import time
+
+from sweep_bptree import SortedMap
+
+try:
+    from sortedcontainers import SortedDict
+except ImportError:
+    SortedDict = None
+    print("sortedcontainers is not installed: no column of it", file=sys.stderr)
+
+TURNS = 5
+
+
+def figures(make, rank, place, n):
+    dice = random.Random(7)
+    keys = dice.sample(range(2**63), n)
+    others = dice.sample(keys, n)
+    pairs = [(key, key >> 7) for key in keys]
+    least = {}
+
+    def took(call, start, calls):
+        each = (time.perf_counter_ns() - start) / calls
+        least[call] = min(least.get(call, each), each)
+
+    for _ in range(TURNS):
+        start = time.perf_counter_ns()
+        full = make(pairs)
+        took("load, a pair", start, n)
+        map_ = make(())
+        start = time.perf_counter_ns()
+        for key in keys:
+            map_[key] = 7
+        took("put", start, n)
+        start = time.perf_counter_ns()
+        for key in others:
+            full[key]
+        took("get", start, n)
+        start = time.perf_counter_ns()
+        for key in others:
+            rank(full, key)
+        took("rank", start, n)
+        start = time.perf_counter_ns()
+        for at in range(0, n, 7):
+            place(full, at)
+        took("at", start, (n + 6) // 7)
+        start = time.perf_counter_ns()
+        for key in others[: n // 64]:
+            for found, _ in zip(full.irange(key), range(64)):
+                pass
+        took("range of 64, a pair", start, max(n // 64, 1) * 64)
+        start = time.perf_counter_ns()
+        for _ in full:
+            pass
+        took("iteration, a pair", start, n)
+        start = time.perf_counter_ns()
+        full.values().tolist() if make is SortedMap else list(full.values())
+        took("values, a pair", start, n)
+        start = time.perf_counter_ns()
+        for key in others:
+            del full[key]
+        took("del", start, n)
+    map_ = SortedMap()
+    start = time.perf_counter_ns()
+    for _ in range(100000):
+        len(map_)
+    if make is SortedMap:
+        took("len, which only crosses over", start, 100000)
+    return least
+
+
+for n in map(int, sys.argv[1:]):
+    for name, make, rank, place in [
+        ("python", SortedMap, SortedMap.rank, SortedMap.peekitem),
+        ("SortedDict", SortedDict, lambda map_, key: map_.bisect_left(key), lambda map_, at: map_.peekitem(at)),
+    ]:
+        if make:
+            for call, each in figures(make, rank, place, n).items():
+                print(n, name, call, f"{each:.0f}")

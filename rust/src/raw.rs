@@ -1,0 +1,42 @@
+//! The functions of `sweep_bptree.h`.
+
+/// A map, or none.
+#[repr(C)]
+pub struct Handle {
+    pub at: *mut u8,
+}
+
+#[repr(C)]
+#[derive(Clone, Copy, Default)]
+pub struct Pair {
+    pub key: u64,
+    pub value: u64,
+}
+
+pub const FOUND: u32 = 1;
+pub const REFUSED: u32 = 2;
+
+extern "C" {
+    pub fn bptree_new(map: &mut Handle) -> bool;
+    pub fn bptree_free(map: &mut Handle);
+    pub fn bptree_clear(map: &mut Handle) -> bool;
+    pub fn bptree_load(map: &mut Handle, given: *const Pair, n: usize) -> bool;
+    pub fn bptree_len(map: &mut Handle) -> usize;
+    pub fn bptree_contains(map: &mut Handle, key: u64) -> bool;
+    pub fn bptree_get(map: &mut Handle, key: u64, value: &mut u64) -> bool;
+    pub fn bptree_first(map: &mut Handle, pair: &mut Pair) -> bool;
+    pub fn bptree_last(map: &mut Handle, pair: &mut Pair) -> bool;
+    pub fn bptree_next(map: &mut Handle, key: u64, pair: &mut Pair) -> bool;
+    pub fn bptree_prev(map: &mut Handle, key: u64, pair: &mut Pair) -> bool;
+    pub fn bptree_at(map: &mut Handle, place: usize, pair: &mut Pair) -> bool;
+    pub fn bptree_rank(map: &mut Handle, key: u64, rank: &mut usize) -> bool;
+    pub fn bptree_range_len(map: &mut Handle, from: u64, to: u64) -> usize;
+    pub fn bptree_put(map: &mut Handle, key: u64, value: u64, old: &mut u64) -> u32;
+    pub fn bptree_del(map: &mut Handle, key: u64, old: &mut u64) -> u32;
+    pub fn bptree_remove_at(map: &mut Handle, place: usize, pair: &mut Pair) -> u32;
+    pub fn bptree_pop_first(map: &mut Handle, pair: &mut Pair) -> u32;
+    pub fn bptree_pop_last(map: &mut Handle, pair: &mut Pair) -> u32;
+    pub fn bptree_range(map: &mut Handle, from: u64, out: *mut Pair, n: usize) -> usize;
+    pub fn bptree_range_back(map: &mut Handle, from: u64, out: *mut Pair, n: usize) -> usize;
+    pub fn bptree_page(map: &mut Handle, number: usize, out: *mut Pair, n: usize) -> usize;
+}
