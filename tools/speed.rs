@@ -11,7 +11,7 @@ fn next_number(state: u64) -> u64 {
     next
 }
 
-fn odd_numbers(many: usize) -> Vec<u64> {
+pub fn odd_numbers(many: usize) -> Vec<u64> {
     let mut state = 0x9e37_79b9_7f4a_7c15;
     (0..many)
         .map(|_| {
@@ -21,7 +21,7 @@ fn odd_numbers(many: usize) -> Vec<u64> {
         .collect()
 }
 
-fn shuffled(numbers: &[u64]) -> Vec<u64> {
+pub fn shuffled(numbers: &[u64]) -> Vec<u64> {
     let mut others = numbers.to_vec();
     let mut state = 0x2545_f491_4f6c_dd1d;
     for i in 1..others.len() {
@@ -31,9 +31,9 @@ fn shuffled(numbers: &[u64]) -> Vec<u64> {
     others
 }
 
-fn tell(call: &str, start: Instant, calls: usize, sum: u64) {
+pub fn tell(kind: &str, call: &str, start: Instant, calls: usize, sum: u64) {
     let each = start.elapsed().as_nanos() * 100 / (calls as u128 + 1);
-    println!("{calls} map {call} {each} {sum}");
+    println!("{calls} {kind} {call} {each} {sum}");
 }
 
 fn get_all(map: &BTreeMap<u64, u64>, keys: &[u64], mask: u64) -> u64 {
@@ -46,7 +46,7 @@ fn get_all(map: &BTreeMap<u64, u64>, keys: &[u64], mask: u64) -> u64 {
     sum
 }
 
-fn text_of(number: u64) -> String {
+pub fn text_of(number: u64) -> String {
     format!("{number:016x}")
 }
 
@@ -58,7 +58,7 @@ fn texts(keys: &[u64], others: &[u64]) {
     for text in given {
         map.insert(text, 1u64);
     }
-    tell("text-insert", start, keys.len(), map.len() as u64);
+    tell("map", "text-insert", start, keys.len(), map.len() as u64);
     let start = Instant::now();
     let mut sum = 0u64;
     for text in &wanted {
@@ -66,19 +66,19 @@ fn texts(keys: &[u64], others: &[u64]) {
             sum = sum.wrapping_add(*value);
         }
     }
-    tell("text-get", start, keys.len(), sum);
+    tell("map", "text-get", start, keys.len(), sum);
 }
 
 // Every second key, from a place on, and every fourth.
-fn every_second(sorted: &[u64], first: usize) -> BTreeSet<u64> {
+pub fn every_second(sorted: &[u64], first: usize) -> Vec<u64> {
     let chosen = |place: &usize| place % 2 == first || place % 4 == 0;
     let places = (0..sorted.len()).filter(chosen);
     places.map(|place| sorted[place]).collect()
 }
 
-fn union(sorted: &[u64]) {
-    let first = every_second(sorted, 0);
-    let second = every_second(sorted, 1);
+fn both(sorted: &[u64]) {
+    let first: BTreeSet<u64> = every_second(sorted, 0).into_iter().collect();
+    let second: BTreeSet<u64> = every_second(sorted, 1).into_iter().collect();
     let start = Instant::now();
     let mut sum = 0u64;
     let mut many = 0;
@@ -86,7 +86,49 @@ fn union(sorted: &[u64]) {
         sum = sum.wrapping_add(*key);
         many += 1;
     }
-    tell("union", start, many, sum);
+    tell("map", "union", start, many, sum);
+    let start = Instant::now();
+    let mut sum = 0u64;
+    for key in first.intersection(&second) {
+        sum = sum.wrapping_add(*key);
+    }
+    tell("map", "intersection", start, many, sum);
+}
+
+// Whether keys are there; keys and values alone; and all pairs from the front, and from the back.
+fn ends(keys: &[u64], others: &[u64]) {
+    let mut map: BTreeMap<u64, u64> = keys.iter().map(|key| (*key, *key)).collect();
+    let start = Instant::now();
+    let mut sum = 0u64;
+    for key in others {
+        sum = sum.wrapping_add(map.contains_key(key) as u64);
+    }
+    tell("map", "contains", start, others.len(), sum);
+    let start = Instant::now();
+    let mut sum = 0u64;
+    for key in map.keys() {
+        sum = sum.wrapping_add(*key);
+    }
+    tell("map", "keys", start, keys.len(), sum);
+    let start = Instant::now();
+    let mut sum = 0u64;
+    for value in map.values() {
+        sum = sum.wrapping_add(*value);
+    }
+    tell("map", "values", start, keys.len(), sum);
+    let mut other = map.clone();
+    let start = Instant::now();
+    let mut sum = 0u64;
+    while let Some((key, _)) = map.pop_first() {
+        sum = sum.wrapping_add(key);
+    }
+    tell("map", "popfirst", start, keys.len(), sum);
+    let start = Instant::now();
+    let mut sum = 0u64;
+    while let Some((key, _)) = other.pop_last() {
+        sum = sum.wrapping_add(key);
+    }
+    tell("map", "poplast", start, keys.len(), sum);
 }
 
 // A map of so many pairs in no order, and nothing else.
@@ -121,7 +163,7 @@ fn main() {
                     sum += 1;
                 }
             }
-            tell("insert", start, keys.len(), sum);
+            tell("map", "insert", start, keys.len(), sum);
             for (call, wanted, mask) in [
                 ("get", &others, u64::MAX),
                 ("absent", &others, u64::MAX - 1),
@@ -129,14 +171,14 @@ fn main() {
             ] {
                 let start = Instant::now();
                 let sum = get_all(&map, wanted, mask);
-                tell(call, start, wanted.len(), sum);
+                tell("map", call, start, wanted.len(), sum);
             }
             let start = Instant::now();
             let mut sum = 0u64;
             for (key, _) in &map {
                 sum = sum.wrapping_add(*key);
             }
-            tell("step", start, keys.len(), sum);
+            tell("map", "step", start, keys.len(), sum);
             let start = Instant::now();
             let mut sum = 0u64;
             for key in &others {
@@ -144,7 +186,7 @@ fn main() {
                     sum = sum.wrapping_add(*next);
                 }
             }
-            tell("lower", start, keys.len(), sum);
+            tell("map", "lower", start, keys.len(), sum);
             let start = Instant::now();
             let mut sum = 0u64;
             for place in &places {
@@ -155,7 +197,7 @@ fn main() {
                     }
                 }
             }
-            tell("range", start, places.len(), sum);
+            tell("map", "range", start, places.len(), sum);
             let start = Instant::now();
             let mut sum = 0u64;
             for key in &others {
@@ -163,7 +205,7 @@ fn main() {
                     sum = sum.wrapping_add(value);
                 }
             }
-            tell("remove", start, keys.len(), sum);
+            tell("map", "remove", start, keys.len(), sum);
             let mut map = BTreeMap::new();
             let start = Instant::now();
             let mut sum = 0u64;
@@ -172,23 +214,24 @@ fn main() {
                     sum += 1;
                 }
             }
-            tell("upward", start, keys.len(), sum);
+            tell("map", "upward", start, keys.len(), sum);
             let pairs: Vec<(u64, u64)> = sorted.iter().map(|key| (*key, *key)).collect();
             let start = Instant::now();
             let map: BTreeMap<u64, u64> = pairs.into_iter().collect();
-            tell("load", start, keys.len(), map.len() as u64);
+            tell("map", "load", start, keys.len(), map.len() as u64);
             let start = Instant::now();
             let other = map.clone();
-            tell("clone", start, keys.len(), other.len() as u64);
+            tell("map", "clone", start, keys.len(), other.len() as u64);
             drop(other);
             let start = Instant::now();
             let mut sum = 0u64;
             for (key, _) in map {
                 sum = sum.wrapping_add(key);
             }
-            tell("drain", start, keys.len(), sum);
+            tell("map", "drain", start, keys.len(), sum);
             texts(&keys, &others);
-            union(&sorted);
+            both(&sorted);
+            ends(&keys, &others);
         }
     }
 }
