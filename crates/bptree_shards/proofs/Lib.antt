@@ -1,0 +1,3 @@
+pub mod KeptKeys
+pub mod PartLemmas
+pub mod ShardLemmas

@@ -1,0 +1,41 @@
+-- One ascending list in shards: consecutive pieces of it, cut at ascending bounds. A shard may be empty.
+use Rattle.std.specs.Prelude.{◌≡◌, ℕ, zero, suc, false, List, [], ◌∷◌, set, if◌then◌else◌}
+use Rattle.std.specs.declared.cmp.Ordering.{Ordering}
+use Rattle.std.specs.declared.cmp.Ordering.TheVariants.{Less}
+use Rattle.std.specs.Ordering.{is_lt}
+use Rattle.std.specs.List.{AllByRecursion}
+use Rattle.bptree_keys.specs.Contents.{IsAscending}
+use Rattle.bptree_keys.specs.Pieces.{flatten, piece_at}
+use Rattle.bptree_keys.specs.Places.{AllAnswer}
+
+module _ {K : Type 0} (cmp : K → K → Ordering) where
+  -- the number of the shard of a key: it stands before the first bound that is above it, so a key that equals a bound
+  -- stands behind it
+  abbrev pub shard_of : List K → K → ℕ
+  shard_of [] k = zero
+  shard_of (bound ∷ bounds) k = if is_lt (cmp k bound) then zero else suc (shard_of bounds k)
+
+  module _ {V : Type 0} where
+    -- no key is below the bound
+    abbrev pub NoneBelow : K → List (K × V) → Type 0
+    NoneBelow bound l = AllByRecursion (λ pair. is_lt (cmp pair.0 bound) ≡ false) l
+
+    -- the pieces stand between the bounds, one more than there are bounds
+    abbrev pub StandBetween : List K → List (List (K × V)) → Type 0
+    StandBetween bounds [] = ⊥
+    StandBetween [] (piece ∷ pieces) = pieces ≡ []
+    StandBetween (bound ∷ bounds) (piece ∷ pieces) = AllAnswer cmp bound Less piece × NoneBelow bound (flatten pieces) × StandBetween bounds pieces
+
+    -- and they are one ascending list
+    pub record AreShards (bounds : List K) (shards : List (List (K × V))) : Type 0 where
+      pub between : StandBetween bounds shards
+      pub ascending : IsAscending cmp (flatten shards)
+
+    -- the shard of a key
+    abbrev pub own_shard : List K → List (List (K × V)) → K → List (K × V)
+    own_shard bounds shards k = piece_at shards (shard_of bounds k)
+
+    -- with another list in the place of a key's shard, the shards are those of another whole
+    abbrev pub IsOneChanged : List K → List (List (K × V)) → K → List (K × V) → List (K × V) → Type 0
+    IsOneChanged bounds shards k new whole =
+        let after = set shards (shard_of bounds k) new in AreShards bounds after × (flatten after ≡ whole)
