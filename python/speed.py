@@ -18,7 +18,7 @@ TURNS = 5
 
 def figures(make, rank, place, n):
     dice = random.Random(7)
-    keys = dice.sample(range(2**63), n)
+    keys = dice.sample(range(2**62), n)
     others = dice.sample(keys, n)
     pairs = [(key, key >> 7) for key in keys]
     least = {}

@@ -11,7 +11,8 @@ ghost use Rattle.bptree_keys.specs.Pieces.{AllNonEmpty, ArePieces, flatten};
 use bptree_keys::key::Key;
 use std::alloc::AllocError;
 
-/// What an inner node keeps of each child: a summary of the keys below it. The default is a summary of no keys.
+/// What an inner node keeps of each child: a summary of the keys below it. The default is a summary
+/// of no keys.
 pub trait Argument<K: Key>: Clone + Default + Drop {
     /// The value is a summary of the keys.
     ghost is_summary: { Self → List K → Type 0 };
@@ -31,14 +32,15 @@ pub trait Argument<K: Key>: Clone + Default + Drop {
         ensures summary { IfOk result (λ a. 0 < length keys.now → IsStrictlySortedBy K.cmp keys.now → is_summary a keys.now) }
         ensures sure { needs_no_memory → IsOk result };
 
-    /// A summary of all keys below an inner node, of its separators and of one summary for each child. A separator
-    /// need not be a key. It fails only where memory is refused.
+    /// A summary of all keys below an inner node, of its separators and of one summary for each
+    /// child. A separator need not be a key. It fails only where memory is refused.
     fn from_inner(keys: &[K], arguments: &[Self]) -> Result<Self, AllocError>
         ensures summary { IfOk result (λ a. (pieces : List (List K)) → ArePieces K.cmp pieces → AllZip is_summary arguments.now pieces → is_summary a (flatten pieces)) }
         ensures sure { needs_no_memory → IsOk result };
 
-    /// The summary of a node of which one child's summary changed: of the node's old one and of the child's old and new one, where
-    /// they tell it without the other children's. By default they don't, and the node is asked anew by `from_inner`.
+    /// The summary of a node of which one child's summary changed: of the node's old one and of the
+    /// child's old and new one, where they tell it without the other children's. By default they
+    /// don't, and the node is asked anew by `from_inner`.
     fn from_replaced(_node: &Self, _old: &Self, _new: &Self) -> Option<Self>
         ensures replaced { IfSome result (SumsUpReplaced is_summary K.cmp _node.now _old.now _new.now) }
     {
@@ -63,15 +65,17 @@ pub trait SearchArgument<K: Key>: Argument<K> {
     /// The place, or none, is allowed for the query on the keys.
     ghost selects: { Self.Query → List K → Option ℕ → Type 0 };
 
-    /// A place among the keys of a leaf, which ascend, or none. It fails only where memory is refused.
+    /// A place among the keys of a leaf, which ascend, or none. It fails only where memory is
+    /// refused.
     fn locate_in_leaf(query: Self::Query, keys: &[K]) -> Result<Option<usize>, AllocError>
         requires { length keys.now ≤ 64 }
         ensures in_range { IfOk result (λ place. IsStrictlySortedBy K.cmp keys.now → IsPlaceIn keys.now place) }
         ensures selected { IfOk result (λ place. IsStrictlySortedBy K.cmp keys.now → selects query keys.now place) }
         ensures sure { Self.needs_no_memory → IsOk result };
 
-    /// The child of an inner node to go on in, with the query that is asked there; or none, where no place is allowed
-    /// for the query. It is given the separators and one summary for each child, and fails only where memory is refused.
+    /// The child of an inner node to go on in, with the query that is asked there; or none, where
+    /// no place is allowed for the query. It is given the separators and one summary for each
+    /// child, and fails only where memory is refused.
     fn locate_in_inner(
         query: Self::Query,
         keys: &[K],
@@ -96,14 +100,14 @@ pub trait RankArgument<K: Key>: Argument<K> {
     fn initial_value() -> Self::Rank
         ensures stands { (k : K) → stands_for result k [] };
 
-    /// The rank carried on over the children of an inner node before the one for the key; there may be none. It is given
-    /// one summary for each of them, and fails only where memory is refused.
+    /// The rank carried on over the children of an inner node before the one for the key; there may
+    /// be none. It is given one summary for each of them, and fails only where memory is refused.
     fn fold_inner(k: &K, rank: Self::Rank, arguments: &[Self]) -> Result<Self::Rank, AllocError>
         ensures carries { IfOk result (λ next. (before : List K) (pieces : List (List K)) → AllNonEmpty pieces → AllZip Self.is_summary arguments.now pieces → IsStrictlySortedBy K.cmp (before ++ flatten pieces) → AllBelow K.cmp k.now (before ++ flatten pieces) → length (before ++ flatten pieces) < 2 ^ 64 → stands_for rank k.now before → stands_for next k.now (before ++ flatten pieces)) }
         ensures sure { Self.needs_no_memory → IsOk result };
 
-    /// The rank of a key by a slot of its leaf, `Ok` exactly where the slot is. A rank for the key comes of the slot that is
-    /// its place there. It fails only where memory is refused.
+    /// The rank of a key by a slot of its leaf, `Ok` exactly where the slot is. A rank for the key
+    /// comes of the slot that is its place there. It fails only where memory is refused.
     fn fold_leaf(
         k: &K,
         rank: Self::Rank,
@@ -117,8 +121,9 @@ pub trait RankArgument<K: Key>: Argument<K> {
         ensures sure { Self.needs_no_memory → IsOk result };
 }
 
-/// An argument whose summaries see keys up to equality: a clone of a summary is a summary of each list of keys that are equal
-/// to the original's, one by one. So a tree and its clone, with clones of the keys and of the summaries, are both summed up.
+/// An argument whose summaries see keys up to equality: a clone of a summary is a summary of each
+/// list of keys that are equal to the original's, one by one. So a tree and its clone, with clones
+/// of the keys and of the summaries, are both summed up.
 pub trait CloneArgument<K: Key>: Argument<K> {
     ghost clone_is_summary: { (a b : Self) (keys copies : List K) → Self.is_clone a b → AllZip (λ k c. K.cmp k c ≡ Equal) keys copies → Self.is_summary a keys → Self.is_summary b copies };
 }

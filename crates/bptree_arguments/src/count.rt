@@ -25,14 +25,16 @@ impl Count {
     }
 }
 
-// As many numbers, each below `SMALL`, add up to less than two to the power of 64: here a start, and fewer counts.
+// As many numbers, each below `SMALL`, add up to less than two to the power of 64: here a start,
+// and fewer counts.
 const FEW: usize = 128;
 
 // The least number that isn't small.
 const SMALL: usize = 1 << 57;
 
-/// The counts added to a number, or the greatest `usize` where that is less. The counts of a node are added without a look at
-/// each sum, and so some at a time, where the bits of all of them tell that they are small; else one after another.
+/// The counts added to a number, or the greatest `usize` where that is less. Where the bits of all
+/// counts of a node tell that they are small, these are added without a look at each sum, and so
+/// some at a time. Else they are added one after another.
 pub fn total_of(start: usize, arguments: &[Count]) -> usize
     ensures { result ≡ min (start + sum_by (λ b. b.0) arguments.now) (2 ^ 64 - 1) }
 {
@@ -50,7 +52,8 @@ pub fn total_of(start: usize, arguments: &[Count]) -> usize
     capped_total_of(start, arguments)
 }
 
-// The same for counts of any size: a step is one addition, and the first sum that doesn't fit ends it.
+// The same for counts of any size: a step is one addition, and the first sum that doesn't fit ends
+// it.
 fn capped_total_of(start: usize, arguments: &[Count]) -> usize
     ensures { result ≡ min (start + sum_by (λ b. b.0) arguments.now) (2 ^ 64 - 1) }
 {
@@ -78,8 +81,8 @@ impl<K: Key> Argument<K> for Count {
         Ok(Count(keys.len()))
     }
 
-    /// The sum of the counts, in one step a child. It stops at the greatest `usize`, which no list of keys is longer
-    /// than. The separators don't count.
+    /// The sum of the counts, in one step a child. It stops at the greatest `usize`, which no list
+    /// of keys is longer than. The separators don't count.
     fn from_inner(_keys: &[K], arguments: &[Count]) -> Result<Count, AllocError>
         ensures summary { IfOk result (λ a. (pieces : List (List K)) → ArePieces K.cmp pieces → AllZip (λ b keys. b.0 ≡ length keys) arguments.now pieces → a.0 ≡ length (flatten pieces)) }
         ensures capped { IfOk result (λ a. a.0 ≡ min (sum_by (λ b. b.0) arguments.now) (2 ^ 64 - 1)) }
@@ -88,7 +91,8 @@ impl<K: Key> Argument<K> for Count {
         Ok(Count(total_of(0, arguments)))
     }
 
-    /// The node's count less the child's old one and with its new one, in constant time; none where that is no count.
+    /// The node's count less the child's old one and with its new one, in constant time; none where
+    /// that is no count.
     fn from_replaced(node: &Count, old: &Count, new: &Count) -> Option<Count>
         ensures replaced { IfSome result (SumsUpReplaced (λ a keys. a.0 ≡ length keys) K.cmp node.now old.now new.now) }
         ensures exact { IfSome result (λ a. a.0 + old.now.0 ≡ node.now.0 + new.now.0) }

@@ -42,17 +42,17 @@ impl<T1: Key, T2: Key> FromRef<(T1, T2)> for Tuple2<T1> {
     ghost keeps_order = { λ x y h. first_not_above (T1.cmp x.0 y.0) (T2.cmp x.1 y.1) h };
 }
 
-/// A law of groups: it does nothing, its contract is the law. The size of a group is the number of its keys, and the
-/// keys of a group of two lists, one after the other, are those of the first and then those of the second. A clone of a
-/// summary is a summary of the same groups.
+/// A law of groups: it does nothing, its contract is the law. The size of a group is the number of
+/// its keys. The keys of a group of two lists, one after the other, are those of the first and then
+/// those of the second. A clone of a summary is a summary of the same groups.
 pub fn laws_of_groups<K: Key, G: FromRef<K> + Key>()
     ensures size { (g : G) → (keys : List K) → group_size G.cmp g (map G.group_of keys) ≡ length (group G.cmp G.group_of g keys) }
     ensures append { (g : G) → (front back : List K) → group G.cmp G.group_of g (front ++ back) ≡ group G.cmp G.group_of g front ++ group G.cmp G.group_of g back }
     ensures clones { (a b : GroupCount G) → (groups : List G) → AreAlike G.cmp a b → IsGroupSummary G.cmp a groups → IsGroupSummary G.cmp b groups }
 {}
 
-/// The groups of a list of keys: none, one with its size, or the least and the greatest with their sizes and the number
-/// of groups. The default has none.
+/// The groups of a list of keys: none, one with its size, or the least and the greatest with their
+/// sizes and the number of groups. The default has none.
 #[derive(Debug, Drop)]
 pub enum GroupCount<G> {
     Zero,
@@ -269,8 +269,8 @@ impl<'a, G: Key> Ends<'a, G> {
 impl<K: Key, G: FromRef<K> + Key> Argument<K> for GroupCount<G> {
     ghost is_summary = { λ a keys. IsGroupSummary G.cmp a (map G.group_of keys) };
 
-    /// Where the first and the last key have equal groups, these two groups alone are made of keys. Else one is made of
-    /// each key, and none is cloned.
+    /// Where the first and the last key have equal groups, these two groups alone are made of keys.
+    /// Else one is made of each key, and none is cloned.
     fn from_leaf(keys: &[K]) -> Result<Self, AllocError>
         ensures summary { IfOk result (λ a. 0 < length keys.now → IsStrictlySortedBy K.cmp keys.now → IsGroupSummary G.cmp a (map G.group_of keys.now)) }
         ensures empty { keys.now ≡ [] → result ≡ Ok Zero }
@@ -290,8 +290,8 @@ impl<K: Key, G: FromRef<K> + Key> Argument<K> for GroupCount<G> {
         Ok(summary.with_next(last))
     }
 
-    /// One comparison a child, and at most two clones of groups. Each sum of sizes and of groups stops at the greatest
-    /// `usize`, which no list of keys is longer than.
+    /// One comparison a child, and at most two clones of groups. Each sum of sizes and of groups
+    /// stops at the greatest `usize`, which no list of keys is longer than.
     fn from_inner(_keys: &[K], arguments: &[Self]) -> Result<Self, AllocError>
         ensures summary { IfOk result (λ a. (pieces : List (List K)) → ArePieces K.cmp pieces → AllZip (λ b keys. IsGroupSummary G.cmp b (map G.group_of keys)) arguments.now pieces → IsGroupSummary G.cmp a (map G.group_of (flatten pieces))) }
         ensures empty { arguments.now ≡ [] → result ≡ Ok Zero }
@@ -315,8 +315,8 @@ impl<K: Key, G: FromRef<K> + Key> Argument<K> for GroupCount<G> {
         }
     }
 
-    /// The size of the only group, or 0 where there is none, in constant time. Of several groups it tells nothing, since
-    /// those between the least and the greatest have no sizes here.
+    /// The size of the only group, or 0 where there is none, in constant time. Of several groups it
+    /// tells nothing, since those between the least and the greatest have no sizes here.
     fn key_count(&self) -> Option<usize> {
         match self {
             GroupCount::Zero => Some(0),

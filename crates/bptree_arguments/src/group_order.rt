@@ -19,8 +19,8 @@ fn is_before(order: Ordering, end: bool) -> bool
     }
 }
 
-/// How many of ascending keys are before the end of a group, or else before its beginning: a binary search. Of 64 keys
-/// it makes the groups of at most 7, and it fails only where one of those does.
+/// How many of ascending keys are before the end of a group, or else before its beginning: a binary
+/// search. Of 64 keys it makes the groups of at most 7, and it fails only where one of those does.
 pub fn keys_before<K: Key, G: FromRef<K> + Key>(
     keys: &[K],
     group: &G,

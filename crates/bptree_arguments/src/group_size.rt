@@ -11,7 +11,8 @@ use std::alloc::AllocError;
 use std::cmp::Ordering;
 use std::marker::{Model, PhantomData};
 
-/// Counts the keys of one group. It answers 0 where there is none, and stops at the greatest `usize`.
+/// Counts the keys of one group. It answers 0 where there is none, and stops at the greatest
+/// `usize`.
 #[derive(Drop)]
 pub struct ExtractGroupSize<G, K> {
     group: G,
@@ -46,8 +47,8 @@ impl<K: Key, V, G: FromRef<K> + Key> DescendVisit<K, V, GroupCount<G>> for Extra
 
     ghost answers = { λ v pairs answer. IsSizeAnswer G.cmp v (map G.group_of (keys_of pairs)) answer };
 
-    /// One comparison a child up to the group, and one more there. It goes down only into a child that has keys on both
-    /// sides of the group's beginning.
+    /// One comparison a child up to the group, and one more there. It goes down only into a child
+    /// that has keys on both sides of the group's beginning.
     fn visit_inner(
         &mut self,
         _keys: &[K],

@@ -1,4 +1,5 @@
-//! What an inner node keeps of each child beside its number: summaries of the child's keys; and visitors that read them.
+//! What an inner node keeps of each child beside its number: summaries of the child's keys; and
+//! visitors that read them.
 #![tactic(auto)]
 
 pub mod argument;

@@ -38,7 +38,8 @@ pub trait DescendVisit<K: Key, V, A: Argument<K>>: Drop {
     /// The answer is allowed for the visitor on the pairs.
     ghost answers: { Self → List (K × V) → VisitAnswer Self.Result → Type 0 };
 
-    /// Sees an inner node: its separators, and one summary for each child. It fails only where memory is refused.
+    /// Sees an inner node: its separators, and one summary for each child. It fails only where
+    /// memory is refused.
     fn visit_inner(
         &mut self,
         keys: &[K],
@@ -46,7 +47,8 @@ pub trait DescendVisit<K: Key, V, A: Argument<K>>: Drop {
     ) -> Result<DescendVisitResult<Self::Result>, AllocError>
         ensures step { IfOk result (λ step. (pieces : List (List (K × V))) → ArePieces K.cmp (key_pieces pieces) → AllZip A.is_summary arguments.now (key_pieces pieces) → length pieces ≡ length keys.now + 1 → IsStep answers self.old self.new pieces step) };
 
-    /// Sees the pairs of a leaf, whose keys ascend, and answers. It fails only where memory is refused.
+    /// Sees the pairs of a leaf, whose keys ascend, and answers. It fails only where memory is
+    /// refused.
     fn visit_leaf(&mut self, keys: &[K], values: &[V]) -> Result<Option<Self::Result>, AllocError>
         requires few { length keys.now ≤ 64 }
         requires paired { length keys.now ≡ length values.now }

@@ -1,5 +1,5 @@
-//! A changed child's summary, or the node that it was split into, carried up a path to the root. What can't be had on
-//! the way is refused, and then every node of the path is again what it was.
+//! A changed child's summary, or the node that it was split into, carried up a path to the root.
+//! What can't be had on the way is refused, and then every node of the path is again what it was.
 ghost use Rattle.std.specs.Prelude.{◌≡◌, ◌+◌, ◌<◌, ◌≤◌, List, ◌∷◌, [], length, slice_get, Some, IfOk, IfErr, IfSome, OnErr};
 ghost use Rattle.bptree_nodes.specs.Inner.{Inner, HasKeys};
 ghost use Rattle.bptree_nodes.specs.Leaf.{Leaf};
@@ -36,7 +36,8 @@ fn set_at<S: NodeStore>(
     store.get_mut_inner(id).set_argument(place, summary)
 }
 
-// The summary that the last node of a path keeps of the child that the path goes on to; none where the path is empty.
+// The summary that the last node of a path keeps of the child that the path goes on to; none where
+// the path is empty.
 fn kept_above<'a, S: NodeStore>(store: &'a S, path: &mut VisitStack) -> Option<&'a S::Argument>
     requires { HasPlaceAbove (S.slots store.now) path.old }
     ensures path { path.new ≡ path.old }
@@ -50,8 +51,8 @@ fn kept_above<'a, S: NodeStore>(store: &'a S, path: &mut VisitStack) -> Option<&
     Some(kept)
 }
 
-// A node's summary after that of one child was replaced: by the node's old one, which the node above keeps, and the child's two,
-// where these tell it; else it is asked for anew.
+// A node's summary after that of one child was replaced. It is told by the node's old one, which
+// the node above keeps, and the child's two, where these tell it. Else it is asked for anew.
 fn sum_of_changed<S: NodeStore>(
     store: &S,
     path: &mut VisitStack,
@@ -91,9 +92,10 @@ fn restore_at<S: NodeStore>(
     summary
 }
 
-/// Carries a node's new summary up the path above it. It answers that of the root. Refused, it hands the summary back.
-/// A node's summary is told by what changed in one child where the argument can (`from_replaced`), and else asked
-/// for anew. Where every value is a summary of every list, no node is touched.
+/// Carries a node's new summary up the path above it. It answers that of the root. Refused, it
+/// hands the summary back. A node's summary is told by what changed in one child where the argument
+/// can (`from_replaced`), and else asked for anew. Where every value is a summary of every list, no
+/// node is touched.
 pub fn ascend<S: NodeStore>(
     store: &mut S,
     path: &mut VisitStack,
@@ -156,8 +158,8 @@ fn unlink_at<S: NodeStore>(
     division
 }
 
-// Puts the node to the right of a child that was split into its node, which is full and is split in turn. It answers what
-// the node above has to take, and the child's old summary.
+// Puts the node to the right of a child that was split into its node, which is full and is split in
+// turn. It answers what the node above has to take, and the child's old summary.
 fn split_inner_at<S: NodeStore>(
     store: &mut S,
     id: InnerNodeId,
@@ -274,9 +276,9 @@ fn grow_root<S: NodeStore>(
     }
 }
 
-/// Carries the node that a node was split into up the path above it. It answers the number of a new root, where the root
-/// was split too, and the root's summary. It takes memory for one node on each level that is split. Refused, it hands
-/// back what it was given.
+/// Carries the node that a node was split into up the path above it. It answers the number of a new
+/// root, where the root was split too, and the root's summary. It takes memory for one node on each
+/// level that is split. Refused, it hands back what it was given.
 pub fn ascend_split<S: NodeStore>(
     store: &mut S,
     path: &mut VisitStack,

@@ -1,4 +1,5 @@
-//! An inner node that takes new summaries of its children, and is asked for its own. Each change can be undone.
+//! An inner node that takes new summaries of its children, and is asked for its own. Each change
+//! can be undone.
 ghost use Rattle.std.specs.Prelude.{◌≡◌, ◌<◌, ◌≤◌, ◌+◌, List, [], length, slice_get, Some, IfOk, IfErr, OnErr};
 ghost use Rattle.bptree_nodes.specs.Inner.{Inner, HasKeys};
 ghost use Rattle.bptree_ascent.specs.Sums.{SumsUp, with_summary, with_split, HasPlace, IsCut};
@@ -8,7 +9,8 @@ use bptree_keys::key::Key;
 use bptree_keys::node_id::NodeId;
 use bptree_nodes::inner_node::InnerNode;
 
-/// A node that was split: a summary of what it has left, and a key before the node to its right, with that one's summary.
+/// A node that was split: a summary of what it has left, and a key before the node to its right,
+/// with that one's summary.
 #[derive(Drop)]
 pub struct Division<K, A> {
     pub left: A,
@@ -24,8 +26,8 @@ pub struct Resummed<A> {
     pub old: A,
 }
 
-/// An inner node that was split, with the half to its right, itself or by its number, and the summary that was in the
-/// child's place.
+/// An inner node that was split, with the half to its right, itself or by its number, and the
+/// summary that was in the child's place.
 #[derive(Drop)]
 pub struct SplitNode<K, A, N> {
     pub left: A,
@@ -35,8 +37,8 @@ pub struct SplitNode<K, A, N> {
     pub old: A,
 }
 
-/// Puts a child's new summary in its place. It answers the node's summary and the child's old one; refused, it hands the
-/// new one back and leaves the node as it was.
+/// Puts a child's new summary in its place. It answers the node's summary and the child's old one;
+/// refused, it hands the new one back and leaves the node as it was.
 pub fn resum<K: Key, A: Argument<K>>(
     node: &mut InnerNode<K, A>,
     place: usize,
@@ -56,8 +58,9 @@ pub fn resum<K: Key, A: Argument<K>>(
     }
 }
 
-/// Takes the node to the right of a child that was split, where there is room. It answers the node's summary and the
-/// child's old one; refused, it hands all back and leaves the node as it was.
+/// Takes the node to the right of a child that was split, where there is room. It answers the
+/// node's summary and the child's old one; refused, it hands all back and leaves the node as it
+/// was.
 pub fn take_entry<K: Key, A: Argument<K>>(
     node: &mut InnerNode<K, A>,
     place: usize,
@@ -106,8 +109,8 @@ pub fn give_entry<K: Key, A: Argument<K>>(
     }
 }
 
-/// Takes the node to the right of a child that was split into a full node, which is split in turn. Refused, it hands all
-/// back and leaves the node as it was.
+/// Takes the node to the right of a child that was split into a full node, which is split in turn.
+/// Refused, it hands all back and leaves the node as it was.
 pub fn take_and_split<K: Key, A: Argument<K>>(
     node: &mut InnerNode<K, A>,
     place: usize,

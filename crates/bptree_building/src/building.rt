@@ -11,7 +11,8 @@ use bptree_keys::node_id::NodeId;
 use bptree_stores::node_stores::NodeStore;
 use std::alloc::AllocError;
 
-/// What was built: the number of the top node, the steps from it down to each leaf, and a summary of all keys.
+/// What was built: the number of the top node, the steps from it down to each leaf, and a summary
+/// of all keys.
 #[derive(Drop)]
 pub struct Built<A> {
     pub root: NodeId,
@@ -19,10 +20,12 @@ pub struct Built<A> {
     pub summary: A,
 }
 
-/// Builds a tree of ascending pairs in an empty store. Each pair is moved once, and of each leaf one key is cloned.
+/// Builds a tree of ascending pairs in an empty store. Each pair is moved once, and of each leaf
+/// one key is cloned.
 ///
-/// A node takes as much as it has room for, but for the last two of a layer where the last would have too little: they
-/// share what is left. A refusal drops the pairs, and leaves in the store what was built so far.
+/// A node takes as much as it has room for, but for the last two of a layer where the last would
+/// have too little: they share what is left. A refusal drops the pairs, and leaves in the store
+/// what was built so far.
 pub fn build<S: NodeStore>(
     store: &mut S,
     pairs: Vec<(S::K, S::V)>,

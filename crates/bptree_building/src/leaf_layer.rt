@@ -1,4 +1,5 @@
-//! The leaves of a tree that is built, each with a number of its own and the numbers of the leaves beside it.
+//! The leaves of a tree that is built, each with a number of its own and the numbers of the leaves
+//! beside it.
 ghost use Rattle.std.specs.Prelude.{◌≡◌, ◌+◌, ◌<◌, ◌≤◌, ◌++◌, List, [], length, IfOk, Some};
 ghost use Rattle.std.specs.Vec.Iter.{into_iter_items, into_iter_len};
 ghost use Rattle.bptree_keys.specs.Contents.{IsAscending};
@@ -78,7 +79,8 @@ fn fill<K: Key, V: Drop, A: Argument<K>>(
     })
 }
 
-// Puts a leaf of the first `count` of the items under the held number `id`, and holds a number for the leaf behind it.
+// Puts a leaf of the first `count` of the items under the held number `id`, and holds a number for
+// the leaf behind it.
 fn add_leaf<S: NodeStore>(
     store: &mut S,
     layer: &mut Vec<Subtree<S::K, S::Argument>>,
@@ -140,8 +142,8 @@ fn add_last_leaf<S: NodeStore>(
     Ok(())
 }
 
-/// The leaves of ascending pairs, in an empty store, with the links between them. Each pair is moved once, and each leaf is
-/// put into the store once.
+/// The leaves of ascending pairs, in an empty store, with the links between them. Each pair is
+/// moved once, and each leaf is put into the store once.
 pub fn build_leaves<S: NodeStore>(
     store: &mut S,
     pairs: Vec<(S::K, S::V)>,

@@ -40,7 +40,8 @@ pub extern "C" fn bptree_free(alloc: Global, map: &mut Handle)
     let _whole = map.take(alloc);
 }
 
-/// Removes all pairs. It is false where the memory of one node is refused; then nothing has changed.
+/// Removes all pairs. It is false where the memory of one node is refused; then nothing has
+/// changed.
 #[unsafe(no_mangle)]
 pub extern "C" fn bptree_clear(alloc: Global, map: &mut Handle) -> bool
     ghost pairs: { List (ℕ × ℕ) }
@@ -54,8 +55,8 @@ pub extern "C" fn bptree_clear(alloc: Global, map: &mut Handle) -> bool
     answer.is_ok()
 }
 
-/// Puts the given pairs, in any order, in place of what the map held: of equal keys the last is held. It is false where
-/// memory is refused; then nothing has changed.
+/// Puts the given pairs, in any order, in place of what the map held: of equal keys the last is
+/// held. It is false where memory is refused; then nothing has changed.
 #[unsafe(no_mangle)]
 pub extern "C" fn bptree_load(alloc: Global, map: &mut Handle, given: &[Pair]) -> bool
     ghost pairs: { List (ℕ × ℕ) }

@@ -13,8 +13,8 @@ use bptree_maps::map::Iter;
 use std::alloc::Global;
 use std::ops::Bound;
 
-/// Copies the pairs whose keys are not below `from`, in the order of their keys, until the array is full or there are no more.
-/// It gives how many.
+/// Copies the pairs whose keys are not below `from`, in the order of their keys, until the array is
+/// full or there are no more. It gives how many.
 #[unsafe(no_mangle)]
 pub extern "C" fn bptree_range(
     alloc: Global,
@@ -33,8 +33,8 @@ pub extern "C" fn bptree_range(
     count
 }
 
-/// Copies the pairs whose keys are not above `from`, from the greatest key down, until the array is full or there are no more.
-/// It gives how many.
+/// Copies the pairs whose keys are not above `from`, from the greatest key down, until the array is
+/// full or there are no more. It gives how many.
 #[unsafe(no_mangle)]
 pub extern "C" fn bptree_range_back(
     alloc: Global,
@@ -53,8 +53,8 @@ pub extern "C" fn bptree_range_back(
     count
 }
 
-/// Copies the pairs of a page, each page as many as the array takes, and the first page 0. It gives how many: none past the
-/// last page, and none where the array takes none.
+/// Copies the pairs of a page, each page as many as the array takes, and the first page 0. It gives
+/// how many: none past the last page, and none where the array takes none.
 #[unsafe(no_mangle)]
 pub extern "C" fn bptree_page(
     alloc: Global,

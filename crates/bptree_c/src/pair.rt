@@ -4,6 +4,8 @@
 #[repr(C)]
 #[derive(Clone, Copy)]
 pub struct Pair {
+    /// The key.
     pub key: u64,
+    /// The value.
     pub value: u64,
 }

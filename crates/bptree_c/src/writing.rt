@@ -10,8 +10,9 @@ use crate::handle::{Handle, Map};
 use crate::pair::Pair;
 use std::alloc::{AllocError, Global};
 
-/// Puts a value at a key: 0 where the key is new, and 1 where it had a value, which is then in `old`. It is 2 where it is
-/// refused for want of memory; then nothing has changed. A key that is there takes no memory and is never refused.
+/// Puts a value at a key: 0 where the key is new, and 1 where it had a value, which is then in
+/// `old`. It is 2 where it is refused for want of memory; then nothing has changed. A key that is
+/// there takes no memory and is never refused.
 #[unsafe(no_mangle)]
 pub extern "C" fn bptree_put(
     alloc: Global,
@@ -55,8 +56,9 @@ fn put_in(map: &mut Map, key: u64, new: u64) -> Result<Option<u64>, AllocError>
     }
 }
 
-/// Removes the pair at a key: 1 where there was one, whose value is then in `old`, and 0 where not. It is 2 where it is
-/// refused for want of memory; then nothing has changed. A key that is not there is never refused.
+/// Removes the pair at a key: 1 where there was one, whose value is then in `old`, and 0 where not.
+/// It is 2 where it is refused for want of memory; then nothing has changed. A key that is not
+/// there is never refused.
 #[unsafe(no_mangle)]
 pub extern "C" fn bptree_del(alloc: Global, map: &mut Handle, key: u64, old: &mut u64) -> u32
     ghost pairs: { List (ℕ × ℕ) }
@@ -91,8 +93,9 @@ fn del_in(map: &mut Map, key: u64) -> Result<Option<u64>, AllocError>
     map.pairs.remove(&key)
 }
 
-/// Removes the pair at a place in the order of the keys, from 0 on: 1 where there was one, which is then in `pair`, and 0 past
-/// the end. It is 2 where it is refused for want of memory; then nothing has changed. Past the end it is never refused.
+/// Removes the pair at a place in the order of the keys, from 0 on: 1 where there was one, which is
+/// then in `pair`, and 0 past the end. It is 2 where it is refused for want of memory; then nothing
+/// has changed. Past the end it is never refused.
 #[unsafe(no_mangle)]
 pub extern "C" fn bptree_remove_at(
     alloc: Global,
@@ -137,8 +140,9 @@ fn told(answer: Result<Option<(u64, u64)>, AllocError>, pair: &mut Pair) -> u32
     }
 }
 
-/// Removes the pair with the least key: 1 where there was one, which is then in `pair`, and 0 where the map is empty. It is 2
-/// where it is refused for want of memory; then nothing has changed. An empty map is never refused.
+/// Removes the pair with the least key: 1 where there was one, which is then in `pair`, and 0 where
+/// the map is empty. It is 2 where it is refused for want of memory; then nothing has changed. An
+/// empty map is never refused.
 #[unsafe(no_mangle)]
 pub extern "C" fn bptree_pop_first(alloc: Global, map: &mut Handle, pair: &mut Pair) -> u32
     ghost pairs: { List (ℕ × ℕ) }

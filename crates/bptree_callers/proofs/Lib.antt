@@ -7,3 +7,4 @@ pub mod SetLemmas
 pub mod Shown
 pub mod Sizes
 pub mod SplitAtKey
+pub mod ThinLemmas

@@ -1,10 +1,11 @@
-//! Callers that are proved, of maps and sets, and of a tree over any store: what each ensures follows from the contracts of the
-//! functions that it calls.
+//! Callers that are proved, of maps and sets, and of a tree over any store: what each ensures
+//! follows from the contracts of the functions that it calls.
 
 mod changes;
 mod cloning;
 mod compared;
 mod cursors;
+mod equals;
 mod iteration;
 mod loading;
 mod maps;
@@ -16,5 +17,7 @@ mod queries;
 mod ranges;
 mod reads;
 mod sets;
+mod thinned;
 mod together;
+mod updates;
 mod visits;

@@ -4,8 +4,8 @@ ghost use Rattle.std.specs.Prelude.{⊤};
 use bptree_arguments::argument::{Argument, RankArgument, SearchArgument};
 use std::alloc::AllocError;
 
-/// A summary that tells nothing of the keys. Every value serves for every list of keys, every place for every query, and every
-/// rank for every key.
+/// A summary that tells nothing of the keys. Every value serves for every list of keys, every place
+/// for every query, and every rank for every key.
 #[derive(Clone, Copy, Default, PartialEq, Debug)]
 pub struct Probe;
 

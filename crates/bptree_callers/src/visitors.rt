@@ -12,6 +12,7 @@ use std::alloc::AllocError;
 pub struct GetTreeDepth(usize);
 
 impl GetTreeDepth {
+    /// A count that begins with no node.
     pub fn new() -> Self {
         GetTreeDepth(0)
     }

@@ -7,7 +7,8 @@ use bptree_stores::node_stores::NodeStore;
 use bptree_tree::BPlusTree;
 use std::alloc::AllocError;
 
-// Whether so many keys or pairs are enough for a node between these bounds, and not too many. The root alone has no bounds.
+// Whether so many keys or pairs are enough for a node between these bounds, and not too many. The
+// root alone has no bounds.
 fn fits<K>(len: usize, root_least: usize, low: Option<&K>, high: Option<&K>) -> bool {
     let least = if low.is_none() && high.is_none() {
         root_least
@@ -37,7 +38,8 @@ fn ascend<K: Key>(keys: &[K], low: Option<&K>, high: Option<&K>) -> bool {
     }
 }
 
-// Whether the nodes of a tree of a height have the right sizes, depths and bounds. It gathers the leaves in order.
+// Whether the nodes of a tree of a height have the right sizes, depths and bounds. It gathers the
+// leaves in order.
 fn is_subtree<'a, S: NodeStore>(
     store: &'a S,
     id: NodeId,
@@ -124,7 +126,8 @@ fn keeps<K: Drop>(node: &InnerNode<K, Count>, place: usize, count: usize) -> boo
     }
 }
 
-// The number of pairs of a tree of a height, or none where an inner node keeps another count of a child.
+// The number of pairs of a tree of a height, or none where an inner node keeps another count of a
+// child.
 fn pairs_below<S: NodeStore<Argument = Count>>(
     store: &S,
     id: NodeId,
@@ -148,7 +151,8 @@ fn pairs_below<S: NodeStore<Argument = Count>>(
     if well { Some(all) } else { None }
 }
 
-/// Whether each inner node keeps the number of pairs below each of its children, and the tree the number of all.
+/// Whether each inner node keeps the number of pairs below each of its children, and the tree the
+/// number of all.
 pub fn is_counted<S: NodeStore<Argument = Count>>(tree: &BPlusTree<S>) -> bool {
     let all = pairs_below(tree.node_store(), tree.root_id(), tree.height());
     all == Some(tree.len()) && tree.root_argument().count() == tree.len()

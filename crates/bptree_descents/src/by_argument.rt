@@ -11,9 +11,11 @@ use bptree_keys::node_id::{LeafNodeId, NodeId};
 use bptree_stores::node_stores::NodeStore;
 use std::alloc::AllocError;
 
-/// The leaf and the slot of a place that is allowed for the query, in the tree of a height under a number; or none.
+/// The leaf and the slot of a place that is allowed for the query, in the tree of a height under a
+/// number; or none.
 ///
-/// The query is asked once on each level: of an inner node by its separators and summaries, and of one leaf by its keys.
+/// The query is asked once on each level: of an inner node by its separators and summaries, and of
+/// one leaf by its keys.
 pub fn find_by_argument<S: NodeStore>(
     store: &S,
     id: NodeId,
@@ -51,8 +53,8 @@ where
     }
 }
 
-/// The leaf and the slot of a place that is allowed for the query, and at the end of a path the inner nodes on the way to
-/// it; or none, and then the path may hold some of them.
+/// The leaf and the slot of a place that is allowed for the query, and at the end of a path the
+/// inner nodes on the way to it. Where there is none, the path may hold some of them.
 pub fn find_path_by_argument<S: NodeStore>(
     store: &S,
     id: NodeId,
@@ -98,7 +100,8 @@ where
 
 /// The rank of a key in the tree of a height under a number: `Ok` where the key is present.
 ///
-/// One descent: on each level the summaries of the children before the one for the key are folded, and then the leaf.
+/// One descent: on each level the summaries of the children before the one for the key are folded,
+/// and then the leaf.
 pub fn rank_by_argument<S: NodeStore>(
     store: &S,
     root: NodeId,

@@ -15,8 +15,9 @@ use std::cmp::Ordering;
 
 /// The leaf that a key belongs to, and the key's place in it, or else the number of smaller keys.
 ///
-/// Where `hint` is that leaf and the key stands at its place `offset`, nothing is searched: that costs three comparisons.
-/// Where it is the leaf alone, the leaf is searched. Else the tree is, from the root.
+/// Where `hint` is that leaf and the key stands at its place `offset`, nothing is searched: that
+/// costs three comparisons. Where it is the leaf alone, the leaf is searched. Else the tree is,
+/// from the root.
 fn place_of<'a, S: NodeStore>(
     store: &'a S,
     root: NodeId,
@@ -38,7 +39,8 @@ fn place_of<'a, S: NodeStore>(
     (id, leaf, leaf.locate_slot(key))
 }
 
-// The place of a key in a leaf, without a search where the key stands at the place that is tried first.
+// The place of a key in a leaf, without a search where the key stands at the place that is tried
+// first.
 fn place_in<K: Ord + Drop, V: Drop>(
     leaf: &LeafNode<K, V>,
     offset: usize,

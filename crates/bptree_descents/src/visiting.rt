@@ -10,7 +10,8 @@ use bptree_stores::node_stores::NodeStore;
 
 /// What a visitor answers on the tree of a height under a number.
 ///
-/// It sees one inner node a level, with that node's own separators and summaries, until it ends or has seen one leaf.
+/// It sees one inner node a level, with that node's own separators and summaries, until it ends or
+/// has seen one leaf.
 pub fn descend_visit<S: NodeStore, W: DescendVisit<S::K, S::V, S::Argument>>(
     store: &S,
     id: NodeId,

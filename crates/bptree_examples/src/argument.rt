@@ -20,7 +20,8 @@ fn evens_in(keys: &[u64]) -> usize
     keys.iter().filter(|key| **key % 2 == 0).count()
 }
 
-/// No memory is asked for, so nothing fails. The sum stops at the greatest `usize`, which no list of keys is longer than.
+/// No memory is asked for, so nothing fails. The sum stops at the greatest `usize`, which no list
+/// of keys is longer than.
 impl Argument<u64> for EvenCount {
     ghost is_summary = { λ count keys. count.0 ≡ length (filter (λ key. nat_eq (key % 2) 0) keys) };
 
@@ -68,8 +69,8 @@ pub fn even_count(numbers: &Numbers) -> usize
     numbers.root_argument().0
 }
 
-/// How many of the numbers below 100,000 are even: of all, with the first hundred even ones removed, and with the first hundred odd
-/// ones removed too.
+/// How many of the numbers below 100,000 are even: of all, with the first hundred even ones
+/// removed, and with the first hundred odd ones removed too.
 pub fn run(alloc: Global) -> Result<(usize, usize, usize), AllocError> {
     let mut numbers = numbers_below(alloc, 100_000)?;
     counts(&mut numbers)

@@ -1,4 +1,5 @@
-//! How many keys of a calendar lie in a year, by summaries that know the first and the last date below a node.
+//! How many keys of a calendar lie in a year, by summaries that know the first and the last date
+//! below a node.
 ghost use Rattle.std.specs.Prelude.{◌≡◌, ◌+◌, ◌-◌, ◌^◌, cond, min, Some, IfOk, IfErr};
 ghost use Rattle.bptree_arguments.specs.declared.visit.DescendError.TheVariants.{OutOfMemory};
 ghost use Rattle.std.specs.Map.{keys_of};
@@ -38,7 +39,8 @@ pub struct DateStatisticEntry {
     pub counter: Counter,
 }
 
-/// The first and the last date below a node, each with its counters. The default has counted nothing.
+/// The first and the last date below a node, each with its counters. The default has counted
+/// nothing.
 #[derive(Clone, Copy, Default)]
 pub struct DateStatisticArgument {
     pub min: DateStatisticEntry,
@@ -46,7 +48,8 @@ pub struct DateStatisticArgument {
 }
 
 impl Counter {
-    // With the counters of an entry added, as far as its date shares the year of a date, its month and its day.
+    // With the counters of an entry added, as far as its date shares the year of a date, its month
+    // and its day.
     fn with(self, date: Date, entry: &DateStatisticEntry) -> Counter
         ensures year { result.year ≡ min (self.year + cond (same_year date entry.now.date) entry.now.counter.year 0) (2 ^ 64 - 1) }
         ensures month { result.month ≡ min (self.month + cond (same_month date entry.now.date) entry.now.counter.month 0) (2 ^ 64 - 1) }
@@ -97,7 +100,8 @@ fn counted(date: Date, dates: &[Date]) -> DateStatisticEntry
     DateStatisticEntry { date, counter }
 }
 
-/// No memory is asked for, so nothing fails. Each sum stops at the greatest `usize`, which no list of keys is longer than.
+/// No memory is asked for, so nothing fails. Each sum stops at the greatest `usize`, which no list
+/// of keys is longer than.
 impl Argument<Date> for DateStatisticArgument {
     ghost is_summary = { IsStatistic };
 
@@ -140,7 +144,8 @@ impl Argument<Date> for DateStatisticArgument {
     ghost default_is_summary = { λ a h. Prim.search rules };
 }
 
-/// Counts the keys of one year. It answers 0 where there is none, and stops at the greatest `usize`.
+/// Counts the keys of one year. It answers 0 where there is none, and stops at the greatest
+/// `usize`.
 #[derive(Drop)]
 pub struct CountForYear {
     pub year: u16,
@@ -169,8 +174,9 @@ impl<V> DescendVisit<Date, V, DateStatisticArgument> for CountForYear {
 
     ghost answers = { λ v pairs answer. IsYearAnswer v.year v.counted (keys_of pairs) answer };
 
-    /// At most four comparisons of years a child, up to the year. It goes down only into a child that has keys on both sides of
-    /// the year's beginning or of its end. Of a summary whose last date is before its first it answers nothing.
+    /// At most four comparisons of years a child, up to the year. It goes down only into a child
+    /// that has keys on both sides of the year's beginning or of its end. Of a summary whose last
+    /// date is before its first it answers nothing.
     fn visit_inner(
         &mut self,
         _keys: &[Date],
@@ -225,8 +231,8 @@ pub fn each_day(alloc: Global, from: u16, to: u16) -> Result<Calendar, AllocErro
 
 /// How many dates of a year are there.
 ///
-/// It needs a map that keeps `DateStatisticArgument`, and `descend_visit`, which sees one node a level and takes no memory. No
-/// call is refused.
+/// It needs a map that keeps `DateStatisticArgument`, and `descend_visit`, which sees one node a
+/// level and takes no memory. No call is refused.
 pub fn days_of(calendar: &Calendar, year: u16) -> Result<Option<usize>, DescendError>
     ensures counted { IfOk result (λ days. days ≡ Some (in_year year (keys_of calendar.now))) }
     ensures refused { IfErr result (λ error. error ≡ OutOfMemory) }
@@ -243,7 +249,8 @@ fn counted_days(calendar: &Calendar, year: u16) -> Result<usize, AllocError> {
     }
 }
 
-/// The days of 2011 to 2020: of all these years, of 2011, 2012, 2020 and 2021, and of 2011 once three are removed.
+/// The days of 2011 to 2020: of all these years, of 2011, 2012, 2020 and 2021, and of 2011 once
+/// three are removed.
 pub fn run(alloc: Global) -> Result<(usize, [usize; 4], usize), AllocError> {
     let mut calendar = each_day(alloc, 2011, 2021)?;
     counts(&mut calendar)

@@ -1,11 +1,13 @@
-//! Four examples of a map and a set, and short uses of their reads and changes. Where standard input has lines, times of the
-//! calls of a tree instead: each line has a number of pairs and a number of rounds.
+//! Four examples of a map and a set, and short uses of their reads and changes. Where standard
+//! input has lines, times of the calls of a tree instead: each line has a number of pairs and a
+//! number of rounds.
 #![tactic(auto)]
 
 mod argument;
 mod calendar;
 mod date_statistic;
 mod filling;
+mod race;
 mod speed;
 mod string;
 mod uses;
@@ -29,6 +31,7 @@ fn tell<T: Debug + Drop>(
 
 fn tell_all(rt: &HostRuntime) -> io::Result<()> {
     let alloc = rt.alloc();
+    tell(rt, "race", race::run(alloc))?;
     tell(rt, "hello, world, other", string::run(alloc))?;
     tell(rt, "size, depth", visit_depth::run(alloc, 10000))?;
     tell(rt, "even numbers", argument::run(alloc))?;

@@ -1,7 +1,8 @@
-//! Times of the calls of a tree: for each call and round the number of pairs, the tree's kind, the call, the time of one in
-//! hundredths of a nanosecond, and a sum of what was answered.
+//! Times of the calls of a tree. A line for each call and round has the number of pairs, the tree's
+//! kind, the call, the time of one in hundredths of a nanosecond, and a sum of what was answered.
 
 mod kit;
+mod maps;
 mod strings;
 mod whole;
 
@@ -519,6 +520,7 @@ fn round(rt: &HostRuntime, numbers: &Numbers<'_>, again: &[u64]) -> Result<(), A
     counted::<Count>(rt, numbers)?;
     kit::take(rt, numbers.keys, numbers.others, numbers.sorted)?;
     strings::take(rt, numbers.keys, numbers.others)?;
+    maps::take(rt, numbers.keys, numbers.others, numbers.sorted)?;
     whole::union_all(rt, numbers.sorted)?;
     loaded::<()>(rt, "plain", numbers.sorted)?;
     loaded::<Count>(rt, "count", numbers.sorted)
@@ -555,8 +557,9 @@ fn fill<A: Argument<u64>>(rt: &HostRuntime, kind: &str, many: usize) -> Result<(
     Ok(())
 }
 
-/// Takes the times of so many pairs in so many rounds, as a line has them, and answers whether that went well. Where a line has
-/// a number alone, a tree without summaries is filled with as many pairs.
+/// Takes the times of so many pairs in so many rounds, as a line has them, and answers whether that
+/// went well. Where a line has a number alone, a tree without summaries is filled with as many
+/// pairs.
 pub fn run(rt: &HostRuntime, line: &str) -> bool {
     let Some((pairs, times)) = line.split_once(' ') else {
         return match line.parse::<usize>() {

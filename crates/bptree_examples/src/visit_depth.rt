@@ -30,8 +30,8 @@ impl<K: Key, V, A: Argument<K>> DescendVisit<K, V, A> for GetTreeDepth {
     }
 }
 
-/// The number of pairs of a map that is collected of the first numbers, each with its tenfold, and how many nodes stand on the way to its
-/// first leaf.
+/// The number of pairs of a map that is collected of the first numbers, each with its tenfold, and
+/// how many nodes stand on the way to its first leaf.
 pub fn run(alloc: Global, len: u32) -> Result<(usize, Option<usize>), AllocError> {
     let pairs = (0..len).map(|i| (u64::from(i), u64::from(i) * 10));
     let map: BPlusTreeMap<u64, u64> = BPlusTreeMap::from_iter(alloc, pairs)?;

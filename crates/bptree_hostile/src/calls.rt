@@ -2,8 +2,8 @@
 
 use crate::dice::Sample;
 use crate::drawing::{Talk, is_same, numbers, own_numbers};
-use crate::holds::number;
 use crate::plain::{Answered, Asked};
+use crate::whole::number;
 use std::alloc::{AllocError, Global};
 use sweep_bptree::script::{Command, Reply};
 use sweep_bptree::tree::count::Count;
@@ -100,7 +100,8 @@ fn is_counted_at<K: Sample>(
 const WRONG: Option<(u64, u64)> = Some((u64::MAX, u64::MAX));
 
 impl<K: Sample> Places for BPlusTreeMap<K, u64, Count> {
-    // The first pair, and the last, by calls of their own; and of the others each second one by its place alone.
+    // The first pair, and the last, by calls of their own; and of the others each second one by its
+    // place alone.
     fn take_at(&mut self, place: usize) -> Result<Option<(u64, u64)>, AllocError> {
         let gone = if place == 0 {
             self.pop_first()?

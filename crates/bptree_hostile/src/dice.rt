@@ -13,6 +13,7 @@ impl Dice {
         Dice(seed.wrapping_mul(0x9e37_79b9_7f4a_7c15) | 1)
     }
 
+    /// The next number.
     pub fn number(&mut self) -> u64 {
         let mut next = self.0;
         next ^= next << 13;

@@ -34,6 +34,7 @@ pub struct Drawing {
 }
 
 impl Drawing {
+    /// Calls on an empty list, drawn by a seed, with keys below `end`.
     pub fn new(alloc: Global, seed: u64, end: u64) -> Drawing {
         Drawing {
             alloc,
@@ -163,7 +164,8 @@ impl Drawing {
         }
     }
 
-    // Some pairs are taken from both ends: of all, of those between two keys, or of so many from a place on.
+    // Some pairs are taken from both ends: of all, of those between two keys, or of so many from a
+    // place on.
     fn part(&mut self) -> Result<Asked, AllocError> {
         let word = self.word()?;
         Ok(match self.below(3) {

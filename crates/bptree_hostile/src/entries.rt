@@ -1,4 +1,5 @@
-//! Calls of one pair: it is found by its key, stands at a bound of it, or leaves with the key that was stored.
+//! Calls of one pair: it is found by its key, stands at a bound of it, or leaves with the key that
+//! was stored.
 
 use crate::dice::Sample;
 use crate::drawing::{numbers, own_numbers};
@@ -12,7 +13,8 @@ fn at_bound<K: Sample>(found: Option<(Cursor<K>, &u64)>) -> Option<(u64, u64)> {
     Some((cursor.key().number(), *value))
 }
 
-// Whether the pair at a place of a list is found by its key, which is a lower bound of itself, and the next pair an upper one.
+// Whether the pair at a place of a list is found by its key, which is a lower bound of itself, and
+// the next pair an upper one.
 fn is_found<S: NodeStore<V = u64>>(
     alloc: Global,
     tree: &BPlusTree<S>,
@@ -65,7 +67,7 @@ fn put_again<S: NodeStore<V = u64>>(
     }
 }
 
-/// The first pair leaves, then the last, and then one between. They are put again.
+/// The first pair leaves, then the last, then one between, and then none by an empty range. They are put again.
 pub fn leave_and_return<S: NodeStore<V = u64>>(
     alloc: Global,
     tree: &mut BPlusTree<S>,
@@ -90,6 +92,10 @@ where
         };
         well = own_numbers(&between) == there && well;
         well = put_again(tree, between)? && well;
+    }
+    if let Some((key, _)) = &first {
+        well = tree.remove_range(Some(key), Some(key))? == 0 && well;
+        well = tree.remove_range(None, Some(key))? == 0 && well;
     }
     Ok(put_again(tree, last)? && put_again(tree, first)? && well)
 }

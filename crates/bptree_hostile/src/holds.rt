@@ -6,6 +6,10 @@ use crate::drawing::{Kinds, Talk, are_same, numbers, own_numbers};
 use crate::entries::{are_found, leave_and_return};
 use crate::plain::{Asked, Plain};
 use crate::rows::loaded;
+use crate::whole::{
+    is_mended, is_thinned, keys_are_thinned, keys_leave_and_join, keys_leave_and_return,
+    leave_and_join, number, shows_keys, shows_parts,
+};
 use std::alloc::{AllocError, Global};
 use std::mem;
 use sweep_bptree::script::{Command, run};
@@ -15,7 +19,8 @@ use sweep_bptree::tree::{
 };
 use sweep_bptree::{BPlusTreeMap, BPlusTreeSet, CloneStore};
 
-/// What holds pairs, and is empty at first. Each call answers false where a reply or what is held is not as the list has it.
+/// What holds pairs, and is empty at first. Each call answers false where a reply or what is held
+/// is not as the list has it.
 pub trait Holds: Drop {
     fn begin(alloc: Global) -> Result<Self, AllocError>;
 
@@ -129,8 +134,8 @@ where
     well && pairs.next().is_none() && pairs.next_back().is_none()
 }
 
-// Whether pairs are those of a list from one place up to another: one is taken from the back, two from the front, and the rest
-// of a clone. How many are left is asked at each turn.
+// Whether pairs are those of a list from one place up to another: one is taken from the back, two
+// from the front, and the rest of a clone. How many are left is asked at each turn.
 fn is_part<S: NodeStore<V = u64>>(
     pairs: Iter<'_, S>,
     plain: &Plain,
@@ -163,7 +168,8 @@ where
     Ok(well && rest.next().is_none() && rest.next_back().is_none() && pairs.len() == left)
 }
 
-// Whether the summaries of the keys from one place up to another, and up to the end, tell how many there are.
+// Whether the summaries of the keys from one place up to another, and up to the end, tell how many
+// there are.
 fn is_summed<S: NodeStore<V = u64>>(
     tree: &BPlusTree<S>,
     from: usize,
@@ -179,7 +185,8 @@ where
     Ok(part.key_count() == Some(to.saturating_sub(from)) && rest.key_count() == Some(left))
 }
 
-// Whether a tree has the parts of a list: with open ends, empty ones, one of one key, and one whose ends fall.
+// Whether a tree has the parts of a list: with open ends, empty ones, one of one key, and one whose
+// ends fall.
 fn has_parts<S: NodeStore<V = u64>>(
     alloc: Global,
     tree: &BPlusTree<S>,
@@ -256,8 +263,8 @@ where
         runs(alloc, self, talk)
     }
 
-    // It is a clone, or one that is loaded with what the list holds, each pair after one of the same key with another value; or
-    // some pairs leave and are put again.
+    // It is a clone, or one that is loaded with what the list holds, each pair after one of the
+    // same key with another value. Or some pairs leave and are put again.
     fn renews(&mut self, alloc: Global, plain: &Plain, turn: u64) -> Result<bool, AllocError> {
         let next = match turn % 5 {
             0 => self.clone()?,
@@ -296,16 +303,24 @@ impl<K: Sample> Holds for BPlusTreeMap<K, u64, Count> {
         }
     }
 
-    // It is collected from what the list holds, twice, in two orders.
+    // It is collected from what the list holds, twice, in two orders; or many pairs leave and come back.
     fn renews(&mut self, alloc: Global, plain: &Plain, turn: u64) -> Result<bool, AllocError> {
-        if turn % 7 == 0 {
-            let pairs = pairs_on_keys(alloc, &plain.both_ways()?)?;
-            *self = BPlusTreeMap::from_iter(alloc, pairs)?;
+        match turn % 7 {
+            0 => {
+                let pairs = pairs_on_keys(alloc, &plain.both_ways()?)?;
+                *self = BPlusTreeMap::from_iter(alloc, pairs)?;
+                Ok(true)
+            }
+            1 => leave_and_join(alloc, self, plain, plain.len() / 2),
+            2 => is_mended(alloc, self, plain, false),
+            3 => is_mended(alloc, self, plain, true),
+            4 => leave_and_join(alloc, self, plain, 0),
+            5 => is_thinned(alloc, self, plain, true),
+            _ => is_thinned(alloc, self, plain, false),
         }
-        Ok(true)
     }
 
-    fn shows(&self, _alloc: Global, plain: &Plain) -> Result<bool, AllocError> {
+    fn shows(&self, alloc: Global, plain: &Plain) -> Result<bool, AllocError> {
         let mut pairs = self.iter();
         let mut well = pairs.len() == plain.len();
         for place in 0..plain.len() {
@@ -314,7 +329,8 @@ impl<K: Sample> Holds for BPlusTreeMap<K, u64, Count> {
         let last = plain.len().saturating_sub(1);
         well = plain.pair_at(0) == numbers(self.first()) && well;
         well = plain.pair_at(last) == numbers(self.last()) && well;
-        Ok(well && pairs.next().is_none() && has_all(self.tree(), plain))
+        well = pairs.next().is_none() && has_all(self.tree(), plain) && well;
+        Ok(shows_parts(alloc, self, plain)? && well)
     }
 }
 
@@ -331,7 +347,8 @@ fn most_keys<K: Sample>(alloc: Global, plain: &Plain) -> Result<Vec<K>, AllocErr
     Ok(keys)
 }
 
-// Whether a set that lacks every third key of another, from the first on, is told to be a subset of it, and what else that is.
+// Whether a set that lacks every third key of another, from the first on, is told to be a subset of
+// it, and what else that is.
 fn is_beside<K: Sample>(set: &BPlusTreeSet<K>, other: &BPlusTreeSet<K>) -> bool {
     let within = other.is_subset(set) && set.is_superset(other);
     let lacks = set.is_subset(other) == set.is_empty();
@@ -340,11 +357,6 @@ fn is_beside<K: Sample>(set: &BPlusTreeSet<K>, other: &BPlusTreeSet<K>) -> bool 
         None => true,
     };
     within && lacks && found && set.is_disjoint(other) == other.is_empty()
-}
-
-// The number of a key.
-pub fn number<K: Sample>(key: Option<&K>) -> Option<u64> {
-    Some(key?.number())
 }
 
 impl<K: Sample> Holds for BPlusTreeSet<K> {
@@ -360,11 +372,19 @@ impl<K: Sample> Holds for BPlusTreeSet<K> {
         carry_out(alloc, self, &talk)
     }
 
-    fn renews(&mut self, _alloc: Global, _plain: &Plain, _turn: u64) -> Result<bool, AllocError> {
-        Ok(true)
+    // Keys leave, and come back.
+    fn renews(&mut self, alloc: Global, plain: &Plain, turn: u64) -> Result<bool, AllocError> {
+        match turn % 5 {
+            0 => keys_leave_and_return(alloc, self, plain),
+            1 => keys_leave_and_join(alloc, self, plain, plain.len() / 2),
+            2 => keys_leave_and_join(alloc, self, plain, 0),
+            3 => keys_are_thinned(alloc, self, plain, true),
+            _ => keys_are_thinned(alloc, self, plain, false),
+        }
     }
 
-    // Also beside a set of all of them but some: what both have together, what they share, and what one has alone.
+    // Also beside a set of all of them but some: what both have together, what they share, and what
+    // one has alone.
     fn shows(&self, alloc: Global, plain: &Plain) -> Result<bool, AllocError> {
         let other = BPlusTreeSet::from_iter(alloc, most_keys(alloc, plain)?)?;
         let mut keys = self.iter();
@@ -384,6 +404,7 @@ impl<K: Sample> Holds for BPlusTreeSet<K> {
         }
         let is_over = keys.next().is_none() && union.next().is_none() && left.next().is_none();
         let are_over = alone.next().is_none() && shared.next().is_none();
-        Ok(well && is_over && are_over && is_beside(self, &other))
+        well = is_over && are_over && is_beside(self, &other) && well;
+        Ok(shows_keys(alloc, self, plain)? && well)
     }
 }

@@ -1,5 +1,6 @@
-//! Hostile use: odd keys, false hints, foreign visitors, and calls in no order beside a plain list. Each byte of standard
-//! input names what is to be done, and for each its name is printed, and whether all was as it should be.
+//! Hostile use: odd keys, false hints, foreign visitors, and calls in no order beside a plain list.
+//! Each byte of standard input names what is to be done, and for each its name is printed, and
+//! whether all was as it should be.
 #![tactic(auto)]
 
 mod calls;
@@ -11,14 +12,15 @@ mod holds;
 mod plain;
 mod rounds;
 mod rows;
+mod whole;
 
 use crate::rounds::Counted;
 use std::alloc::{AllocError, Global};
 use std::io::Read;
 use std::process::ExitCode;
 
-// What a byte names: a tree of known pairs, or calls in no order. There a capital letter stands for many keys, of which few
-// come twice.
+// What a byte names: a tree of known pairs, or calls in no order. There a capital letter stands for
+// many keys, of which few come twice.
 fn name_of(letter: u8) -> &'static str {
     match letter {
         b'a' => "false hints",

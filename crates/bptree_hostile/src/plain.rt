@@ -4,8 +4,10 @@ use std::alloc::{AllocError, Global};
 use std::mem;
 use sweep_bptree::script::{Command, End, Reply};
 
+/// A command of numbers.
 pub type Asked = Command<u64, u64, usize>;
 
+/// A reply of numbers.
 pub type Answered = Reply<u64, u64, usize>;
 
 /// The pairs in the order of their keys, and the keys of the cursors that are held.
@@ -16,6 +18,7 @@ pub struct Plain {
 }
 
 impl Plain {
+    /// A list without pairs, and no cursor held.
     pub fn new(alloc: Global) -> Plain {
         Plain {
             pairs: Vec::new(alloc),
@@ -23,6 +26,7 @@ impl Plain {
         }
     }
 
+    /// How many pairs there are.
     pub fn len(&self) -> usize {
         self.pairs.len()
     }

@@ -41,7 +41,8 @@ fn round<H: Holds>(alloc: Global, seed: u64, end: u64) -> Result<bool, AllocErro
 /// A store of the library's.
 pub type Counted<K> = NodeStoreVec<K, u64, Count>;
 
-/// What a letter names of the calls in no order, with keys of one type: a capital letter stands for many keys.
+/// What a letter names of the calls in no order, with keys of one type: a capital letter stands for
+/// many keys.
 pub fn no_order<K: Sample>(alloc: Global, letter: u8, seed: u64) -> Result<bool, AllocError> {
     let end = if letter.is_ascii_uppercase() {
         u64::MAX

@@ -144,8 +144,8 @@ fn ten(key: u64) -> Option<u64> {
     if key < 10_000 { Some(key * 10) } else { None }
 }
 
-// Whether keys at the ends, in the middle and behind all are looked up right, once a number was given as the remembered
-// leaf's: once, and then twice in turn.
+// Whether keys at the ends, in the middle and behind all are looked up right, once a number was
+// given as the remembered leaf's: once, and then twice in turn.
 fn finds_after<T: Known>(tree: &T, number: usize) -> bool {
     let mut well = true;
     for key in [0, 4_999, 9_999, 10_000] {
@@ -181,7 +181,8 @@ fn visitors<T: Known>(tree: &T) -> bool {
     well && tree.visit(Says::Nothing) == Ok(None) && tree.visit(Says::Number(7)) == Ok(Some(7))
 }
 
-// Whether a visitor that names a child of the root, and each time the same place, is asked about the node below it.
+// Whether a visitor that names a child of the root, and each time the same place, is asked about
+// the node below it.
 fn went_down<T: Known>(tree: &T, place: usize) -> bool {
     matches!(tree.visit(Says::Child(place)), Ok(Some(keys)) if 0 < keys && keys <= 64)
 }
@@ -280,7 +281,8 @@ fn of_tree<T: Known>(alloc: Global, letter: u8) -> Result<bool, AllocError> {
     })
 }
 
-/// What a letter names of the trees of known pairs: one of them over a store that remembers no leaf.
+/// What a letter names of the trees of known pairs: one of them over a store that remembers no
+/// leaf.
 pub fn known_pairs<S: NodeStore<K = u64, V = u64, Argument = Count>>(
     alloc: Global,
     letter: u8,

@@ -33,7 +33,8 @@ pub enum Put<V, A> {
     Added(NodeId, usize, A),
 }
 
-// A clone of the key that will be the first of the right half, where a full leaf is split with a new key at the slot.
+// A clone of the key that will be the first of the right half, where a full leaf is split with a
+// new key at the slot.
 fn separator<S: NodeStore>(
     store: &S,
     id: LeafNodeId,
@@ -86,7 +87,8 @@ fn take_back<S: NodeStore>(store: &mut S, id: LeafNodeId, slot: usize) -> (S::K,
     pair
 }
 
-// Puts a pair with a new key into the leaf at the end of a path, which has room. It answers a summary of all keys.
+// Puts a pair with a new key into the leaf at the end of a path, which has room. It answers a
+// summary of all keys.
 fn put_in_room<S: NodeStore>(
     store: &mut S,
     path: &mut VisitStack,
@@ -108,7 +110,8 @@ fn put_in_room<S: NodeStore>(
     }
 }
 
-// Splits a full leaf, and puts the pair into one of the parts. It answers what the node above has to take.
+// Splits a full leaf, and puts the pair into one of the parts. It answers what the node above has
+// to take.
 fn split_at<S: NodeStore>(
     store: &mut S,
     id: LeafNodeId,
@@ -151,7 +154,8 @@ fn split_at<S: NodeStore>(
     }
 }
 
-// What the node above has to take of two leaves: summaries of their keys, and the separator before the right one.
+// What the node above has to take of two leaves: summaries of their keys, and the separator before
+// the right one.
 fn divided<K: Key, V: Drop, A: Argument<K>>(
     left: &LeafNode<K, V>,
     separator: K,
@@ -193,8 +197,8 @@ fn undo_split_at<S: NodeStore>(
     pair
 }
 
-// Puts a pair with a new key into the leaf at the end of a path, which is full and is split. It answers the number of a
-// new root, where the root was split too, and a summary of all keys.
+// Puts a pair with a new key into the leaf at the end of a path, which is full and is split. It
+// answers the number of a new root, where the root was split too, and a summary of all keys.
 fn put_and_split<S: NodeStore>(
     store: &mut S,
     path: &mut VisitStack,
@@ -221,8 +225,8 @@ fn put_and_split<S: NodeStore>(
     }
 }
 
-// Puts a pair with a new key into the leaf at the end of a path. It answers the number of a new root, where the root was
-// split, and a summary of all keys.
+// Puts a pair with a new key into the leaf at the end of a path. It answers the number of a new
+// root, where the root was split, and a summary of all keys.
 fn put_new<S: NodeStore>(
     store: &mut S,
     path: &mut VisitStack,
@@ -265,7 +269,8 @@ fn top_of(root: NodeId, height: usize, top: Option<InnerNodeId>) -> (NodeId, usi
     }
 }
 
-/// Whether a tree of so many pairs takes no pair with a new key: its length could not count one more.
+/// Whether a tree of so many pairs takes no pair with a new key: its length could not count one
+/// more.
 pub fn is_full(len: usize) -> bool
     ensures full { result ≡ true → len ≡ usize.MAX }
     ensures room { result ≡ false → len ≢ usize.MAX }
@@ -273,8 +278,8 @@ pub fn is_full(len: usize) -> bool
     len == usize::MAX
 }
 
-// The remembered leaf, where it holds the key and has room, and where no node above it is told of a change: every value
-// is a summary of every list.
+// The remembered leaf, where it holds the key and has room, and where no node above it is told of a
+// change: every value is a summary of every list.
 #[inline(always)]
 fn leaf_at_hand<S: NodeStore>(store: &S, k: &S::K) -> Option<LeafNodeId>
     ensures holds { IfSome result (λ leaf. HoldsKey S.K.cmp ((S.slots store.now).leaf leaf.0) k.now) }
@@ -291,8 +296,8 @@ fn leaf_at_hand<S: NodeStore>(store: &S, k: &S::K) -> Option<LeafNodeId>
     Some(leaf)
 }
 
-// Puts a pair into a leaf that holds its key and has room, where every value is a summary of every list. No other node is
-// touched.
+// Puts a pair into a leaf that holds its key and has room, where every value is a summary of every
+// list. No other node is touched.
 fn put_at_hand<S: NodeStore>(
     store: &mut S,
     root: NodeId,
@@ -323,10 +328,11 @@ fn put_at_hand<S: NodeStore>(
 
 /// Puts a pair into a whole tree.
 ///
-/// An equal key stays, and its value alone is replaced. A new key's leaf, and each node above it, takes a new summary;
-/// each of them that is full is split. A refusal hands the pair back, and no slot has changed. What the path held before
-/// plays no part: it is lent, so that none need be made. Where no summary is kept, the leaf is given to the store to
-/// remember, and a pair that belongs into the remembered leaf takes no way down, as long as that leaf has room.
+/// An equal key stays, and its value alone is replaced. A new key's leaf, and each node above it,
+/// takes a new summary; each of them that is full is split. A refusal hands the pair back, and no
+/// slot has changed. What the path held before plays no part: it is lent, so that none need be
+/// made. Where no summary is kept, the leaf is given to the store to remember. A pair that belongs
+/// into the remembered leaf takes no way down, as long as that leaf has room.
 pub fn upsert<S: NodeStore>(
     store: &mut S,
     path: &mut VisitStack,

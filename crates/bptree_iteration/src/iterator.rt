@@ -26,8 +26,8 @@ pub struct Iter<'a, S: NodeStore> {
     end: usize,
     // The leaf under the number `front`, so that a step within it asks nothing of the store.
     leaf: &'a LeafNode<S::K, S::V>,
-    // The leaf of the last pair and the place after it, or the leaf after it and 0; where `extent` is `Cut`, a place
-    // that may be behind it.
+    // The leaf of the last pair and the place after it, or the leaf after it and 0. Where `extent`
+    // is `Cut`, it is a place that may be behind it.
     back: LeafNodeId,
     to: usize,
     // No more pairs than these are left.
@@ -77,7 +77,8 @@ fn leaf_at<S: NodeStore>(store: &S, id: LeafNodeId) -> &LeafNode<S::K, S::V>
     store.get_leaf(id)
 }
 
-// The place in the first leaf up to which its pairs are between the two ends: its end, where it is not the last leaf too.
+// The place in the first leaf up to which its pairs are between the two ends: its end, where it is
+// not the last leaf too.
 fn end_in<K: Drop, V: Drop>(
     front: LeafNodeId,
     leaf: &LeafNode<K, V>,
@@ -93,8 +94,9 @@ fn end_in<K: Drop, V: Drop>(
     }
 }
 
-// The leaf that the front place goes on to, the place of the next pair there, and where the leaf's pairs end: where the place
-// at hand is the end of a leaf before the last one, the start of the next.
+// The leaf that the front place goes on to, the place of the next pair there, and where the leaf's
+// pairs end. Where the place at hand is the end of a leaf before the last one, it goes on to the
+// start of the next.
 fn front_place<'a, S: NodeStore>(
     store: &'a S,
     id: LeafNodeId,
@@ -119,8 +121,8 @@ fn front_place<'a, S: NodeStore>(
     (next, after, 0, end_in(next, after, back, to))
 }
 
-// The place behind the last pair: where the place at hand is the start of a leaf behind the first one, the end of the one
-// before.
+// The place behind the last pair. Where the place at hand is the start of a leaf behind the first
+// one, it is the end of the one before.
 fn back_place<S: NodeStore>(
     store: &S,
     id: LeafNodeId,
@@ -137,7 +139,8 @@ fn back_place<S: NodeStore>(
     (before, leaf_at(store, before).len())
 }
 
-// Whether a pair stands between two places: a leaf that is not the last one has one behind the front place.
+// Whether a pair stands between two places: a leaf that is not the last one has one behind the
+// front place.
 fn are_apart(front: LeafNodeId, from: usize, back: LeafNodeId, to: usize) -> bool
     ensures some { result ≡ true → front ≡ back → from < to }
     ensures none { result ≡ false → (front ≡ back) × (to ≤ from) }
@@ -145,7 +148,8 @@ fn are_apart(front: LeafNodeId, from: usize, back: LeafNodeId, to: usize) -> boo
     front.as_usize() != back.as_usize() || from < to
 }
 
-// Where the first `limit` of the pairs between two places end, or all where there are fewer, and how many they are.
+// Where the first `limit` of the pairs between two places end, or all where there are fewer, and
+// how many they are.
 //
 // A step for each leaf up to that place.
 fn end_of_first<S: NodeStore>(
@@ -200,8 +204,8 @@ fn count_left<S: NodeStore>(
     }
 }
 
-// Where the pairs end that are left, with what is known of how many they are: where the end is not known, a step for each of
-// their leaves.
+// Where the pairs end that are left, with what is known of how many they are. Where the end is not
+// known, it takes a step for each of their leaves.
 fn known_end<S: NodeStore>(
     store: &S,
     front: LeafNodeId,

@@ -17,10 +17,14 @@ pub enum Extent {
 pub struct Part {
     /// The leaf of the first pair and the pair's place, or the leaf before it and its length.
     pub front: LeafNodeId,
+    /// The place in that leaf.
     pub from: usize,
     /// The leaf of the last pair and the place after it, or the leaf after it and 0.
     pub back: LeafNodeId,
+    /// The place in that leaf.
     pub to: usize,
+    /// How many pairs stand between the two, as far as `extent` says.
     pub limit: usize,
+    /// What `limit` tells.
     pub extent: Extent,
 }

@@ -52,8 +52,8 @@ impl Compares {
     }
 }
 
-/// Finds `key` in ascending `keys`, or the place where it belongs. The widths of the steps are fixed, and each step
-/// moves by a product, so that the compiler makes no branch on a comparison.
+/// Finds `key` in ascending `keys`, or the place where it belongs. The widths of the steps are
+/// fixed, and each step moves by a product, so that the compiler makes no branch on a comparison.
 #[inline]
 fn search<K: Ord>(keys: &[K], key: &K, compares: &mut Compares) -> Result<usize, usize>
     requires { length keys.now ≤ 64 }
@@ -83,8 +83,8 @@ fn search<K: Ord>(keys: &[K], key: &K, compares: &mut Compares) -> Result<usize,
     }
 }
 
-/// The same, with a branch on each comparison, so that the next key can be fetched before a comparison is done: for keys that
-/// are long, or whose bytes stand elsewhere, as a string's.
+/// The same, with a branch on each comparison, so that the next key can be fetched before a
+/// comparison is done. It is for keys that are long, or whose bytes stand elsewhere, as a string's.
 #[inline]
 fn search_by_branches<K: Ord>(keys: &[K], key: &K, compares: &mut Compares) -> Result<usize, usize>
     requires { length keys.now ≤ 64 }

@@ -29,8 +29,8 @@ pub fn law_of_gather<K: Key, V>()
     ensures { (pairs : List (K × V)) → IsAscending K.cmp (gather K.cmp pairs) }
 {}
 
-/// On an ascending list the next pair is the one with the least greater key, and the previous the one with the greatest
-/// smaller key.
+/// On an ascending list the next pair is the one with the least greater key, and the previous the
+/// one with the greatest smaller key.
 pub fn laws_of_neighbours<K: Key, V>()
     ensures next { (l : List (K × V)) → (k : K) → IsAscending K.cmp l → IsAfter K.cmp l k (next K.cmp l k) }
     ensures previous { (l : List (K × V)) → (k : K) → IsAscending K.cmp l → IsBefore K.cmp l k (previous K.cmp l k) }

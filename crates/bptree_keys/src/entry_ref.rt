@@ -25,6 +25,7 @@ impl Model for VisitStack {
 }
 
 impl VisitStack {
+    /// A path with no entry.
     pub fn new() -> Self
         ensures { result ≡ [] }
     {
@@ -41,6 +42,7 @@ impl VisitStack {
         self.entries.len()
     }
 
+    /// Whether there is no entry.
     pub fn is_empty(&self) -> bool
         ensures { result ≡ (length self.now == 0) }
     {
@@ -75,21 +77,29 @@ impl VisitStack {
 /// An entry of a leaf of a tree, with the path to it.
 #[derive(Drop)]
 pub struct EntryRef<TR> {
+    /// The tree.
     pub tree: TR,
+    /// The inner nodes on the way to the leaf.
     pub inner_stack: VisitStack,
+    /// The leaf.
     pub leaf_id: LeafNodeId,
+    /// The place of the entry in the leaf.
     pub offset: usize,
 }
 
 /// An entry of a leaf, without its tree.
 #[derive(Drop)]
 pub struct EntryRefDetached {
+    /// The inner nodes on the way to the leaf.
     pub inner_stack: VisitStack,
+    /// The leaf.
     pub leaf_id: LeafNodeId,
+    /// The place of the entry in the leaf.
     pub offset: usize,
 }
 
 impl<TR> EntryRef<TR> {
+    /// An entry of a leaf, at an offset in it, with the path to it and its tree.
     pub fn new(tree: TR, inner_stack: VisitStack, leaf_id: LeafNodeId, offset: usize) -> Self
         ensures { result ≡ record { tree = tree; inner_stack = inner_stack; leaf_id = leaf_id; offset = offset } }
     {

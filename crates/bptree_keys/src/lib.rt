@@ -1,4 +1,5 @@
-//! The keys and the numbers of a B+ tree, searches of a node's keys, and the list of pairs that a tree is.
+//! The keys and the numbers of a B+ tree, searches of a node's keys, and the list of pairs that a
+//! tree is.
 #![tactic(auto)]
 
 pub mod compares;

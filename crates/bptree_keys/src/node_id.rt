@@ -29,12 +29,14 @@ impl InnerNodeId {
     /// A placeholder, which names no node.
     pub const INVALID: InnerNodeId = InnerNodeId(usize::MAX);
 
+    /// The inner node under a number.
     pub fn from_usize(number: usize) -> Self
         ensures { result ≡ record { 0 = number } }
     {
         InnerNodeId(number)
     }
 
+    /// The number itself.
     pub fn as_usize(self) -> usize
         ensures { result ≡ self.0 }
     {
@@ -43,12 +45,14 @@ impl InnerNodeId {
 }
 
 impl LeafNodeId {
+    /// The leaf under a number.
     pub fn from_usize(number: usize) -> Self
         ensures { result ≡ record { 0 = number } }
     {
         LeafNodeId(number)
     }
 
+    /// The number itself.
     pub fn as_usize(self) -> usize
         ensures { result ≡ self.0 }
     {
@@ -100,7 +104,8 @@ impl NodeId {
     }
 }
 
-/// How two numbers are ordered. The clauses speak of every comparison of numbers, those of one kind too.
+/// How two numbers are ordered. The clauses speak of every comparison of numbers, those of one kind
+/// too.
 pub fn order_of(a: NodeId, b: NodeId) -> Ordering
     ensures value { result ≡ node_order a b }
     ensures equal { (result ≡ Equal) ↔ (a ≡ b) }

@@ -1,9 +1,9 @@
 //! The keys below the children of a node: one list a child, and together one ascending list.
 ghost use Rattle.bptree_keys.specs.Pieces.{PiecesReplaced, PieceSplits, PiecesJoin, LastPartMoves, FirstPartMoves, PiecesPart};
 
-/// What stays of the pieces of an ascending list where a node is changed: where some of them give way to others, one
-/// is cut in two, two are put together, or a part of one goes to its neighbour, and where the node itself is cut.
-/// It does nothing when it runs.
+/// What stays of the pieces of an ascending list where a node is changed. Some of them give way to
+/// others, one is cut in two, two are put together, or a part of one goes to its neighbour. Or the
+/// node itself is cut. It does nothing when it runs.
 #[tactic(auto, using(crate::proofs::PieceLemmas::laws))]
 pub fn piece_laws<K: Ord>()
     ensures replaced { PiecesReplaced K.cmp }

@@ -8,7 +8,8 @@ ghost use Rattle.bptree_loading.specs.Dedup.{GivesAll, dedup_source, dedup_ahead
 use std::iter::FusedIterator;
 use std::mem;
 
-// What is known of the source: it was not asked yet, it has given the first item of the next run, or it has ended.
+// What is known of the source: it was not asked yet, it has given the first item of the next run,
+// or it has ended.
 #[derive(Drop)]
 enum Ahead<T> {
     Unasked,
@@ -64,8 +65,9 @@ where
 
 /// Iterators of which the last item of each run can be kept.
 pub trait DedupByExt: Iterator {
-    /// Gives each item after which `same` answers false for it and the next one, and the last item of all. A call reads
-    /// on to the first item of the next run, and holds that back. Once the iterator has ended it is not asked again.
+    /// Gives each item after which `same` answers false for it and the next one, and the last item
+    /// of all. A call reads on to the first item of the next run, and holds that back. Once the
+    /// iterator has ended it is not asked again.
     final fn dedup_keep_last<F: FnMut(&Self::Item, &Self::Item) -> bool>(
         self,
         same: F,

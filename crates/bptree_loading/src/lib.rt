@@ -1,4 +1,5 @@
-//! Pairs that come in the order of their keys: of each run of equal keys the last pair, and how many of them each node takes.
+//! Pairs that come in the order of their keys: the last pair of each run of equal keys, and how
+//! many each node takes.
 #![tactic(auto)]
 
 pub mod cuts;

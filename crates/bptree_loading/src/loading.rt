@@ -9,7 +9,8 @@ use bptree_keys::key::Key;
 use std::alloc::AllocError;
 use std::cmp::Ordering;
 
-/// Whether no key is above the next one. Each key is compared with the next, up to the first that is above it.
+/// Whether no key is above the next one. Each key is compared with the next, up to the first that
+/// is above it.
 pub fn in_load_order<K: Key, V>(pairs: &[(K, V)]) -> bool
     ensures { IsTrue result ↔ IsInLoadOrder K.cmp pairs.now }
 {
@@ -50,8 +51,8 @@ fn move_down<T>(items: &mut Vec<T>, kept: usize, at: usize)
     }
 }
 
-/// Of each run of pairs with equal keys the last pair stays, and the others are dropped. Each key is compared with the
-/// next, and the vector keeps its room.
+/// Of each run of pairs with equal keys the last pair stays, and the others are dropped. Each key
+/// is compared with the next, and the vector keeps its room.
 pub fn keep_last_of_each_run<K: Key, V: Drop>(pairs: &mut Vec<(K, V)>)
     requires { IsInLoadOrder K.cmp pairs.old.items }
     ensures items { pairs.new.items ≡ load K.cmp pairs.old.items }
@@ -76,8 +77,9 @@ fn by_key<K: Key, V>(pair: &(K, V), other: &(K, V)) -> Ordering
     pair.0.cmp(&other.0)
 }
 
-/// Sorts pairs by their keys, so that they are in load order, with the standard library's sort. Pairs with equal keys keep
-/// the order that they came in: so the last of them is the last of its run.
+/// Sorts pairs by their keys, so that they are in load order, with the standard library's sort.
+/// Pairs with equal keys keep the order that they came in: so the last of them is the last of its
+/// run.
 ///
 /// More than 20 pairs take memory while they are sorted. A refusal leaves them in their places.
 pub fn sort_for_load<K: Key, V: Drop>(pairs: &mut Vec<(K, V)>) -> Result<(), AllocError>
@@ -88,8 +90,9 @@ pub fn sort_for_load<K: Key, V: Drop>(pairs: &mut Vec<(K, V)>) -> Result<(), All
     pairs.sort_by(by_key)
 }
 
-/// Pairs in load order, of which the last of each run is kept: they ascend, they are what is gathered of all, and at each
-/// key is the value of the last pair with an equal key. Pairs that ascend are in load order, and all are kept.
+/// Pairs in load order, of which the last of each run is kept. They ascend, and they are what is
+/// gathered of all. At each key is the value of the last pair with an equal key. Pairs that ascend
+/// are in load order, and all are kept.
 pub fn laws_of_load<K: Key, V>()
     ensures order { (l : List (K × V)) → IsInLoadOrder K.cmp l → IsAscending K.cmp (load K.cmp l) }
     ensures gather { (l : List (K × V)) → IsInLoadOrder K.cmp l → load K.cmp l ≡ gather K.cmp l }

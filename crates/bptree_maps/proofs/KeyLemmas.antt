@@ -18,6 +18,8 @@ use Rattle.bptree_keys.proofs.Updates.{del_ascending, has_put, has_del, length_p
 use Rattle.bptree_keys.specs.Ranges.{between, falls_short, stays_below}
 use Rattle.bptree_loading.proofs.OrderLemmas.{load_is_gather, load_same, ordered_if_ascending}
 use Rattle.bptree_maps.specs.Keys.{holds, with_key, without_key, gathered, keys_between}
+use Rattle.bptree_maps.specs.RetainedKeys.{keys_outside}
+use Rattle.bptree_tree.specs.RangeRemoval.{outside}
 use Rattle.bptree_maps.specs.KeyBounds.{keys_between_bounds}
 use Rattle.bptree_ranges.specs.Bounds.{between_bounds, is_before_start, is_upto_end}
 
@@ -58,6 +60,9 @@ module _ {K V : Type 0} (cmp : K → K → Ordering) where
 
   pub keys_between-is : (l : List (K × V)) (lo hi : Option K) → keys_of (between cmp l lo hi) ≡ keys_between cmp (keys_of l) lo hi
   keys_between-is l lo hi = keys_filter (λ key. not (falls_short cmp lo key) && stays_below cmp hi key) l
+
+  pub keys_outside-is : (l : List (K × V)) (lo hi : Option K) → keys_of (outside cmp l lo hi) ≡ keys_outside cmp (keys_of l) lo hi
+  keys_outside-is l lo hi = keys_filter (λ key. not (not (falls_short cmp lo key) && stays_below cmp hi key)) l
 
   pub keys_between_bounds-is : (l : List (K × V)) (lo hi : Bound K) → keys_of (between_bounds cmp l lo hi) ≡ keys_between_bounds cmp (keys_of l) lo hi
   keys_between_bounds-is l lo hi = keys_filter (λ key. not (is_before_start cmp lo key) && is_upto_end cmp hi key) l

@@ -6,6 +6,7 @@ pub mod MovingLemmas
 pub mod PageLemmas
 pub mod PlaceLemmas
 pub mod PopLemmas
+pub mod RetainLemmas
 pub mod SplitLemmas
 pub mod SymmetricLemmas
 pub mod UnionLemmas

@@ -7,6 +7,8 @@ pub mod Pages
 pub mod Places
 pub mod Popping
 pub mod Replacing
+pub mod RetainedKeys
+pub mod Retaining
 pub mod Rows
 pub mod Splitting
 pub mod Symmetric

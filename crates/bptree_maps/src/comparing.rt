@@ -17,7 +17,8 @@ use std::fmt;
 use std::fmt::{Debug, Formatter, Write};
 use std::hash::{Hash, Hasher};
 
-/// Two maps are equal where they have as many pairs, and at each place equal keys and equal values. It takes no memory.
+/// Two maps are equal where they have as many pairs, and at each place equal keys and equal values.
+/// It takes no memory.
 ///
 /// Where the lengths differ, nothing is compared; else it stops at the first two pairs that differ.
 impl<K: Key, V: PartialEq + Drop, A: Argument<K>> PartialEq for BPlusTreeMap<K, V, A> {
@@ -46,8 +47,9 @@ impl<K: Key, V: Eq + Drop, A: Argument<K>> Eq for BPlusTreeMap<K, V, A> {
     ghost laws = { lists_equiv (and_equiv (on_equiv (λ p. p.0) K.Eq.laws) (on_equiv (λ p. p.1) V.Eq.laws)) };
 }
 
-/// The first two pairs that differ decide, by their keys, and by their values where the keys are equal; and else the lengths
-/// do. There is no order where these two values have none. It takes no memory.
+/// The first two pairs that differ decide, by their keys, and by their values where the keys are
+/// equal; and else the lengths do. There is no order where these two values have none. It takes no
+/// memory.
 impl<K: Key, V: PartialOrd + Drop, A: Argument<K>> PartialOrd for BPlusTreeMap<K, V, A> {
     ghost partial_cmp = { pairs_partial_cmp K.partial_cmp V.partial_cmp };
 
@@ -71,8 +73,8 @@ impl<K: Key, V: PartialOrd + Drop, A: Argument<K>> PartialOrd for BPlusTreeMap<K
     }
 }
 
-/// The first two pairs that differ decide, by their keys, and by their values where the keys are equal; and else the lengths
-/// do. It takes no memory.
+/// The first two pairs that differ decide, by their keys, and by their values where the keys are
+/// equal; and else the lengths do. It takes no memory.
 impl<K: Key, V: Ord + Drop, A: Argument<K>> Ord for BPlusTreeMap<K, V, A> {
     ghost cmp = { pairs_cmp K.cmp V.cmp };
 
@@ -117,7 +119,8 @@ impl<K: Key + Debug, V: Debug + Drop, A: Argument<K>> Debug for BPlusTreeMap<K, 
     }
 }
 
-/// Two sets are equal where they have as many keys, and at each place equal ones. It takes no memory.
+/// Two sets are equal where they have as many keys, and at each place equal ones. It takes no
+/// memory.
 ///
 /// Where the lengths differ, nothing is compared; else it stops at the first two keys that differ.
 impl<K: Key> PartialEq for BPlusTreeSet<K> {

@@ -9,7 +9,8 @@ use bptree_stores::node_store_vec::NodeStoreVec;
 use bptree_tree::BPlusTree;
 use std::alloc::AllocError;
 
-// Sorts the pairs by their keys, equal ones in the order that they came in, and loads them: of each key the last pair stays.
+// Sorts the pairs by their keys, equal ones in the order that they came in, and loads them: of each
+// key the last pair stays.
 pub(crate) fn gather_tree<K: Key, V: Drop, A: Argument<K>>(
     mut pairs: Vec<(K, V)>,
 ) -> Result<BPlusTree<NodeStoreVec<K, V, A>>, AllocError>
@@ -19,8 +20,8 @@ pub(crate) fn gather_tree<K: Key, V: Drop, A: Argument<K>>(
     BPlusTree::bulk_load(pairs)
 }
 
-/// What is gathered of pairs whose keys ascend is these pairs: so `from_iter` of what `into_iter` gives is the same list. It
-/// does nothing.
+/// What is gathered of pairs whose keys ascend is these pairs: so `from_iter` of what `into_iter`
+/// gives is the same list. It does nothing.
 pub fn law_of_from_iter<K: Key, V>()
     ensures { (l : List (K × V)) → IsAscending K.cmp l → gather K.cmp l ≡ l }
 {}

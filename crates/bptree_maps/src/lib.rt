@@ -1,5 +1,5 @@
-//! The map and the set: an ordered map and an ordered set over a B+ tree of their own; and pages of a map by rank, through
-//! its contracts alone.
+//! The map and the set: an ordered map and an ordered set over a B+ tree of their own; and pages of
+//! a map by rank, through its contracts alone.
 #![tactic(auto)]
 
 mod comparing;
@@ -7,5 +7,6 @@ mod gathering;
 pub mod map;
 pub mod page;
 mod refusals;
+mod retaining;
 pub mod set;
 mod splitting;

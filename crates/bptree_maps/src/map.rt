@@ -32,12 +32,13 @@ mod bounds;
 mod keys;
 mod moving;
 mod places;
+mod retaining;
 mod updates;
 mod values;
 
 use crate::gathering::gather_tree;
 pub use crate::gathering::law_of_from_iter;
-pub use crate::refusals::{MoveError, SplitError};
+pub use crate::refusals::{MoveError, RetainError, SplitError};
 use bptree_arguments::argument::{Argument, CloneArgument, RankArgument, SearchArgument};
 use bptree_arguments::count::Count;
 use bptree_arguments::group::FromRef;
@@ -51,7 +52,8 @@ use std::iter::{ExactSizeIterator, FusedIterator};
 use std::marker::Model;
 pub use values::{IntoValues, Values};
 
-/// Pairs of a key and a value, in the strictly ascending order of their keys, with summaries of the keys.
+/// Pairs of a key and a value, in the strictly ascending order of their keys, with summaries of the
+/// keys.
 #[derive(Drop)]
 pub struct BPlusTreeMap<K: Key, V: Drop, A: Argument<K> = ()> {
     inner: BPlusTree<NodeStoreVec<K, V, A>>,
@@ -82,10 +84,11 @@ impl<K: Key, V: Drop, A: Argument<K>> BPlusTreeMap<K, V, A> {
         BPlusTreeMap::new(alloc)
     }
 
-    /// The pairs that an iterator gives, in the order of their keys: of each key the last pair, with its key, is held.
+    /// The pairs that an iterator gives, in the order of their keys: of each key the last pair,
+    /// with its key, is held.
     ///
-    /// The pairs are collected, sorted by the standard library's stable sort, and loaded at once. A refusal for want of
-    /// memory drops all that was given.
+    /// The pairs are collected, sorted by the standard library's stable sort, and loaded at once. A
+    /// refusal for want of memory drops all that was given.
     pub fn from_iter<I: IntoIterator<Item = (K, V)>>(
         alloc: Global,
         pairs: I,
@@ -156,8 +159,9 @@ impl<K: Key, V: Drop, A: Argument<K>> BPlusTreeMap<K, V, A> {
 
     /// Puts `v` at `k`, and hands back the value that was there.
     ///
-    /// A key that equals `k` stays, and its value alone is replaced: that takes no memory and is never refused. A pair with a
-    /// new key can be refused: for want of memory, or in a map of `usize::MAX` pairs. Then nothing has changed.
+    /// A key that equals `k` stays, and its value alone is replaced: that takes no memory and is
+    /// never refused. A pair with a new key can be refused: for want of memory, or in a map of
+    /// `usize::MAX` pairs. Then nothing has changed.
     pub fn insert(&mut self, k: K, v: V) -> Result<Option<V>, InsertError<K, V>>
         ensures ok { IfOk result (λ old. (old ≡ value K.cmp self.old k) × (self.new ≡ put K.cmp self.old k v)) }
         ensures err { IfErr result (λ refusal. (pair_of refusal ≡ (k, v)) × (self.new ≡ self.old)) }
@@ -167,8 +171,9 @@ impl<K: Key, V: Drop, A: Argument<K>> BPlusTreeMap<K, V, A> {
         self.inner.insert(k, v)
     }
 
-    /// Removes the pair whose key equals `k`, and hands back its value. Where no key does, nothing changes and nothing can be
-    /// refused. The removal of a pair can be refused for want of memory; then nothing has changed.
+    /// Removes the pair whose key equals `k`, and hands back its value. Where no key does, nothing
+    /// changes and nothing can be refused. The removal of a pair can be refused for want of memory;
+    /// then nothing has changed.
     pub fn remove(&mut self, k: &K) -> Result<Option<V>, AllocError>
         ensures ok { IfOk result (λ old. (old ≡ value K.cmp self.old k.now) × (self.new ≡ del K.cmp self.old k.now)) }
         ensures absent { has K.cmp self.old k.now ≡ false → result ≡ Ok None }
@@ -205,8 +210,8 @@ impl<K: Key, V: Drop, A: Argument<K>> BPlusTreeMap<K, V, A> {
         self.inner.last()
     }
 
-    /// A cursor on the least key that is not below `k`, and the value there. It takes what a clone of that key takes, and where
-    /// there is none it takes nothing.
+    /// A cursor on the least key that is not below `k`, and the value there. It takes what a clone
+    /// of that key takes, and where there is none it takes nothing.
     ///
     /// It costs what `get` does, and where `k` itself is not there one more search of its leaf.
     pub fn lower_bound(&self, k: &K) -> Result<Option<(Cursor<K>, &V)>, AllocError>
@@ -218,8 +223,8 @@ impl<K: Key, V: Drop, A: Argument<K>> BPlusTreeMap<K, V, A> {
         self.inner.lower_bound(k)
     }
 
-    /// A cursor on the least key above `k`, and the value there. It takes what a clone of that key takes, and where there is
-    /// none it takes nothing.
+    /// A cursor on the least key above `k`, and the value there. It takes what a clone of that key
+    /// takes, and where there is none it takes nothing.
     ///
     /// It costs what `get` does, and one more search of the leaf.
     pub fn upper_bound(&self, k: &K) -> Result<Option<(Cursor<K>, &V)>, AllocError>
@@ -231,8 +236,9 @@ impl<K: Key, V: Drop, A: Argument<K>> BPlusTreeMap<K, V, A> {
         self.inner.upper_bound(k)
     }
 
-    /// Removes the pair whose key equals `k`, and hands it back with the key that was stored. Where no key does, nothing
-    /// changes and nothing can be refused. Where the removal is refused for want of memory, nothing has changed.
+    /// Removes the pair whose key equals `k`, and hands it back with the key that was stored. Where
+    /// no key does, nothing changes and nothing can be refused. Where the removal is refused for
+    /// want of memory, nothing has changed.
     pub fn remove_entry(&mut self, k: &K) -> Result<Option<(K, V)>, AllocError>
         ensures ok { IfOk result (λ gone. (gone ≡ entry K.cmp self.old k.now) × (self.new ≡ del K.cmp self.old k.now)) }
         ensures absent { has K.cmp self.old k.now ≡ false → result ≡ Ok None }
@@ -241,10 +247,11 @@ impl<K: Key, V: Drop, A: Argument<K>> BPlusTreeMap<K, V, A> {
         self.inner.remove_entry(k)
     }
 
-    /// Removes the pair with the least key, and hands it back with the key that was stored: none of an empty map, where nothing
-    /// can be refused.
+    /// Removes the pair with the least key, and hands it back with the key that was stored: none of
+    /// an empty map, where nothing can be refused.
     ///
-    /// It is one way down, on which no key is compared. Where the removal is refused for want of memory, nothing has changed.
+    /// It is one way down, on which no key is compared. Where the removal is refused for want of
+    /// memory, nothing has changed.
     pub fn pop_first(&mut self) -> Result<Option<(K, V)>, AllocError>
         ensures ok { IfOk result (IsPopped K.cmp self.old self.new) }
         ensures stored { IfOk result (λ gone. TakesFirst (λ pair. pair) self.old gone self.new) }
@@ -254,10 +261,11 @@ impl<K: Key, V: Drop, A: Argument<K>> BPlusTreeMap<K, V, A> {
         self.inner.pop_first()
     }
 
-    /// Removes the pair with the greatest key, and hands it back with the key that was stored: none of an empty map, where
-    /// nothing can be refused.
+    /// Removes the pair with the greatest key, and hands it back with the key that was stored: none
+    /// of an empty map, where nothing can be refused.
     ///
-    /// It is one way down, on which no key is compared. Where the removal is refused for want of memory, nothing has changed.
+    /// It is one way down, on which no key is compared. Where the removal is refused for want of
+    /// memory, nothing has changed.
     pub fn pop_last(&mut self) -> Result<Option<(K, V)>, AllocError>
         ensures stored { IfOk result (λ gone. TakesLast (λ pair. pair) self.old gone self.new) }
         ensures empty { self.old ≡ [] → result ≡ Ok None }
@@ -281,7 +289,8 @@ impl<K: Key, V: Drop, A: Argument<K>> BPlusTreeMap<K, V, A> {
         self.inner.root_argument()
     }
 
-    /// The pair at a place that is allowed for the query, or none. It takes no memory but what the argument takes.
+    /// The pair at a place that is allowed for the query, or none. It takes no memory but what the
+    /// argument takes.
     pub fn get_by_argument(
         &self,
         query: <A as SearchArgument<K>>::Query,
@@ -294,10 +303,12 @@ impl<K: Key, V: Drop, A: Argument<K>> BPlusTreeMap<K, V, A> {
         self.inner.get_by_argument(query)
     }
 
-    /// The value at a place that is allowed for the query, for writing. It takes no memory but what the argument takes.
+    /// The value at a place that is allowed for the query, for writing. It takes no memory but what
+    /// the argument takes.
     ///
-    /// That one value alone is written, and no key, so that the summaries stay. With `NotFound`, where no place is allowed,
-    /// and with `OutOfMemory`, where the argument is refused memory, nothing has changed.
+    /// That one value alone is written, and no key, so that the summaries stay. With `NotFound`,
+    /// where no place is allowed, and with `OutOfMemory`, where the argument is refused memory,
+    /// nothing has changed.
     pub fn get_mut_by_argument(
         &mut self,
         query: <A as SearchArgument<K>>::Query,
@@ -312,8 +323,8 @@ impl<K: Key, V: Drop, A: Argument<K>> BPlusTreeMap<K, V, A> {
         self.inner.get_mut_by_argument(query)
     }
 
-    /// Removes the pair at a place that is allowed for the query, and hands it back. Where none is found, nothing changes; a
-    /// refusal for want of memory changes nothing either.
+    /// Removes the pair at a place that is allowed for the query, and hands it back. Where none is
+    /// found, nothing changes; a refusal for want of memory changes nothing either.
     pub fn remove_by_argument(
         &mut self,
         query: <A as SearchArgument<K>>::Query,
@@ -327,7 +338,8 @@ impl<K: Key, V: Drop, A: Argument<K>> BPlusTreeMap<K, V, A> {
         self.inner.remove_by_argument(query)
     }
 
-    /// The rank of a key, which need not be present: `Ok` where it is. It takes no memory but what the argument takes.
+    /// The rank of a key, which need not be present: `Ok` where it is. It takes no memory but what
+    /// the argument takes.
     pub fn rank_by_argument(
         &self,
         k: &K,
@@ -341,8 +353,8 @@ impl<K: Key, V: Drop, A: Argument<K>> BPlusTreeMap<K, V, A> {
         self.inner.rank_by_argument(k)
     }
 
-    /// What a visitor answers on its way down, or none where it ends without an answer. It takes no memory but what the
-    /// visitor takes.
+    /// What a visitor answers on its way down, or none where it ends without an answer. It takes no
+    /// memory but what the visitor takes.
     pub fn descend_visit<W: DescendVisit<K, V, A>>(
         &self,
         visitor: W,
@@ -381,8 +393,8 @@ impl<K: Key, V: Drop, A: Argument<K>> BPlusTreeMap<K, V, A> {
         Values::new(self.inner.iter())
     }
 
-    /// The keys in their order, each handed over; each value is dropped at its step. It takes no memory, and neither do its
-    /// steps.
+    /// The keys in their order, each handed over; each value is dropped at its step. It takes no
+    /// memory, and neither do its steps.
     pub fn into_keys(self) -> IntoKeys<K, V, A>
         ensures rest { result ≡ keys_of self }
         ensures ascending { IsStrictlySortedBy K.cmp result }
@@ -392,8 +404,8 @@ impl<K: Key, V: Drop, A: Argument<K>> BPlusTreeMap<K, V, A> {
         IntoKeys::new(self.inner.into_iter())
     }
 
-    /// The values in the order of their keys, each handed over; each key is dropped at its step. It takes no memory, and
-    /// neither do its steps.
+    /// The values in the order of their keys, each handed over; each key is dropped at its step. It
+    /// takes no memory, and neither do its steps.
     pub fn into_values(self) -> IntoValues<K, V, A>
         ensures rest { result ≡ values_of self }
         ensures runs { GivesInOrder V }
@@ -402,7 +414,8 @@ impl<K: Key, V: Drop, A: Argument<K>> BPlusTreeMap<K, V, A> {
         IntoValues::new(self.inner.into_iter())
     }
 
-    /// The pairs in the order of their keys, each with its value. It takes no memory, and neither do its steps.
+    /// The pairs in the order of their keys, each with its value. It takes no memory, and neither
+    /// do its steps.
     pub fn into_iter(self) -> IntoIter<K, V, A>
         ensures rest { result ≡ self }
         ensures ascending { IsAscending K.cmp self }
@@ -412,11 +425,11 @@ impl<K: Key, V: Drop, A: Argument<K>> BPlusTreeMap<K, V, A> {
         self.inner.into_iter()
     }
 
-    /// The pairs whose key is not below `lo` and is below `hi`, where they are given, in the order of their keys. It takes no
-    /// memory, and neither do its steps.
+    /// The pairs whose key is not below `lo` and is below `hi`, where they are given, in the order
+    /// of their keys. It takes no memory, and neither do its steps.
     ///
-    /// Each end that is given is searched for once. How many pairs there are is told when it is asked, by a step for each leaf
-    /// between.
+    /// Each end that is given is searched for once. How many pairs there are is told when it is
+    /// asked, by a step for each leaf between.
     pub fn range<'b>(&self, lo: Option<&'b K>, hi: Option<&'b K>) -> Iter<'_, K, V, A>
         ensures rest { result ≡ between K.cmp self.now (option_copied lo.entry) (option_copied hi.entry) }
         ensures ascending { IsAscending K.cmp result }
@@ -427,18 +440,21 @@ impl<K: Key, V: Drop, A: Argument<K>> BPlusTreeMap<K, V, A> {
         }
     }
 
-    /// A summary of the keys that are not below `lo` and are below `hi`, where they are given; of no keys what `Default` makes.
+    /// A summary of the keys that are not below `lo` and are below `hi`, where they are given; of
+    /// no keys what `Default` makes.
     ///
-    /// It takes a way down for each end that is given, however many pairs stand between: the summaries of the children
-    /// between the ways are summed up. It fails only where the argument does, or where room for two summaries is refused.
+    /// It takes a way down for each end that is given, however many pairs stand between: the
+    /// summaries of the children between the ways are summed up. It fails only where the argument
+    /// does, or where room for two summaries is refused.
     pub fn range_argument<'b>(&self, lo: Option<&'b K>, hi: Option<&'b K>) -> Result<A, AllocError>
         ensures { IfOk result (λ summary. A.is_summary summary (keys_of (between K.cmp self.now (option_copied lo.entry) (option_copied hi.entry)))) }
     {
         self.inner.range_argument(lo, hi)
     }
 
-    /// A summary of the keys from a place that is allowed for one query on, up to a place that is allowed for another: where
-    /// there is none for the second, up to the end; of no keys where there is none for the first.
+    /// A summary of the keys from a place that is allowed for one query on, up to a place that is
+    /// allowed for another. Where there is none for the second, it goes up to the end. Where there
+    /// is none for the first, it is of no keys.
     pub fn part_argument(
         &self,
         from: <A as SearchArgument<K>>::Query,
@@ -451,11 +467,12 @@ impl<K: Key, V: Drop, A: Argument<K>> BPlusTreeMap<K, V, A> {
         self.inner.part_argument(from, to)
     }
 
-    /// The first `n` pairs, or all where there are fewer, from a place on that is allowed for the query, in the order of
-    /// their keys; none where none is. It takes no memory but what the argument takes, and its steps take none.
+    /// The first `n` pairs, or all where there are fewer, from a place on that is allowed for the
+    /// query, in the order of their keys; none where none is. It takes no memory but what the
+    /// argument takes, and its steps take none.
     ///
-    /// The query is asked once on each level. How many pairs there are is told when it is asked, by a step for each leaf of the
-    /// part.
+    /// The query is asked once on each level. How many pairs there are is told when it is asked, by
+    /// a step for each leaf of the part.
     pub fn range_by_argument(
         &self,
         query: <A as SearchArgument<K>>::Query,
@@ -473,12 +490,12 @@ impl<K: Key, V: Drop, A: Argument<K>> BPlusTreeMap<K, V, A> {
         })
     }
 
-    /// The pairs whose key's group equals the group, in the order of their keys. It takes no memory but what the groups of
-    /// keys take, and its steps take none.
+    /// The pairs whose key's group equals the group, in the order of their keys. It takes no memory
+    /// but what the groups of keys take, and its steps take none.
     ///
-    /// No summary is asked: the group is searched for by the groups of at most 7 keys or separators a node, once for its
-    /// beginning and once for its end. How many pairs there are is told when it is asked,
-    /// by a step for each leaf of it.
+    /// No summary is asked: the group is searched for by the groups of at most 7 keys or separators
+    /// a node, once for its beginning and once for its end. How many pairs there are is told when
+    /// it is asked, by a step for each leaf of it.
     pub fn group_range<G: FromRef<K> + Key>(
         &self,
         group: &G,
@@ -492,9 +509,10 @@ impl<K: Key, V: Drop, A: Argument<K>> BPlusTreeMap<K, V, A> {
         })
     }
 
-    /// The first `n` pairs of a group, or all where there are fewer, without its first `i`. What it takes is the same as of
-    /// `group_range`, and so is what it costs, with a look at the summaries of the children before the first pair, where these tell
-    /// how many keys they stand for. Where they don't, the pairs left out are walked over.
+    /// The first `n` pairs of a group, or all where there are fewer, without its first `i`. What it
+    /// takes is the same as of `group_range`, and so is what it costs. There is also a look at the
+    /// summaries of the children before the first pair, where these tell how many keys they stand
+    /// for. Where they don't, the pairs left out are walked over.
     pub fn group_part<G: FromRef<K> + Key>(
         &self,
         group: &G,
@@ -517,7 +535,8 @@ impl<K: Key, V: Drop, A: Argument<K>> BPlusTreeMap<K, V, A> {
         &self.inner
     }
 
-    /// The tree inside, for writing: once it is given back, the map has what the tree's contents are then.
+    /// The tree inside, for writing: once it is given back, the map has what the tree's contents
+    /// are then.
     pub fn tree_mut(&mut self) -> &mut BPlusTree<NodeStoreVec<K, V, A>>
         ensures* writes_back { sem 𝓛 (Lends (the_row K.row V.row A.row K.Key.own K.Clone K.Ord.own K.Eq.own K.PartialEq K.PartialOrd.own A.Argument.own A.Clone A.Default) (inner_row K.row V.row A.row K.Key.own K.Clone K.Ord.own K.Eq.own K.PartialEq K.PartialOrd.own A.Argument.own A.Clone A.Default) self.entry result (λ tree. tree.contents)) }
         ensures value { result.now.contents ≡ self.old }
@@ -527,16 +546,16 @@ impl<K: Key, V: Drop, A: Argument<K>> BPlusTreeMap<K, V, A> {
 }
 
 impl<K: Key, V: Drop> BPlusTreeMap<K, V, Count> {
-    /// How many keys are not below `lo` and are below `hi`, where they are given. It takes a way down for each end that is
-    /// given, however many pairs stand between, and is never refused.
+    /// How many keys are not below `lo` and are below `hi`, where they are given. It takes a way
+    /// down for each end that is given, however many pairs stand between, and is never refused.
     pub fn range_len<'b>(&self, lo: Option<&'b K>, hi: Option<&'b K>) -> usize
         ensures { result ≡ length (between K.cmp self.now (option_copied lo.entry) (option_copied hi.entry)) }
     {
         self.inner.range_len(lo, hi)
     }
 
-    /// The place of the key that equals `k` among all keys, from 0 on: the number of smaller keys. It is one way down, takes no
-    /// memory, and is never refused.
+    /// The place of the key that equals `k` among all keys, from 0 on: the number of smaller keys.
+    /// It is one way down, takes no memory, and is never refused.
     pub fn place_of(&self, k: &K) -> Option<usize>
         ensures { result ≡ place K.cmp self.now k.now }
     {
@@ -547,8 +566,8 @@ impl<K: Key, V: Drop> BPlusTreeMap<K, V, Count> {
         }
     }
 
-    /// The pair at a place in the order of the keys, from 0 on, or none past the end. It is one way down, takes no memory, and
-    /// is never refused.
+    /// The pair at a place in the order of the keys, from 0 on, or none past the end. It is one way
+    /// down, takes no memory, and is never refused.
     pub fn get_at(&self, i: usize) -> Option<(&K, &V)>
         ensures { option_map (λ pair. (pair.0.now, pair.1.now)) result ≡ slice_get self.now i }
     {
@@ -558,8 +577,8 @@ impl<K: Key, V: Drop> BPlusTreeMap<K, V, Count> {
         }
     }
 
-    /// The value at a place in the order of the keys, for writing. It is one way down, takes no memory, and fails with
-    /// `NotFound` alone, past the end; then nothing has changed.
+    /// The value at a place in the order of the keys, for writing. It is one way down, takes no
+    /// memory, and fails with `NotFound` alone, past the end; then nothing has changed.
     pub fn get_mut_at(&mut self, i: usize) -> Result<&mut V, SelectError>
         ensures* writes_back { sem 𝓛 (LendsSoOk (the_row K.row V.row count_row K.Key.own K.Clone K.Ord.own K.Eq.own K.PartialEq K.PartialOrd.own (count_argument K.row K.Key.own K.Clone K.Ord.own K.Eq.own K.PartialEq K.PartialOrd.own) count_clone count_default) V.row self.entry result (λ n w. n ≡ set_value_at self.old i w) (λ n. n ≡ self.old)) }
         ensures value { IfOk result (λ lent. slice_get (values_of self.old) i ≡ Some lent.now) }
@@ -568,11 +587,11 @@ impl<K: Key, V: Drop> BPlusTreeMap<K, V, Count> {
         self.inner.get_mut_by_argument(i)
     }
 
-    /// Removes the pair at a place in the order of the keys, from 0 on, and hands it back; those behind it move up by one. Past
-    /// the end nothing changes, and nothing can be refused.
+    /// Removes the pair at a place in the order of the keys, from 0 on, and hands it back; those
+    /// behind it move up by one. Past the end nothing changes, and nothing can be refused.
     ///
-    /// It is one way down by the counts. Each node on the way takes a new count of its child, and a leaf's new separator is a
-    /// clone of a key, which can be refused; then nothing has changed.
+    /// It is one way down by the counts. Each node on the way takes a new count of its child, and a
+    /// leaf's new separator is a clone of a key, which can be refused; then nothing has changed.
     pub fn remove_at(&mut self, i: usize) -> Result<Option<(K, V)>, AllocError>
         ensures ok { IfOk result (λ gone. (gone ≡ slice_get self.old i) × (self.new ≡ remove self.old i)) }
         ensures past { length self.old ≤ i → result ≡ Ok None }
@@ -588,8 +607,8 @@ impl<K: Key, V: Drop> BPlusTreeMap<K, V, Count> {
 impl<K: Key, V: Clone + Drop, A: CloneArgument<K>> BPlusTreeMap<K, V, A> {
     /// A map of its own: equal keys in the same order, and each value what its own clone answers.
     ///
-    /// Each key, value and summary is cloned once. It is refused where a request for memory is, or where one of these
-    /// clones is; what was cloned till then is dropped.
+    /// Each key, value and summary is cloned once. It is refused where a request for memory is, or
+    /// where one of these clones is; what was cloned till then is dropped.
     pub fn clone(&self) -> Result<Self, AllocError>
         ensures { IfOk result (λ copy. AllZip
             (λ p q. (K.cmp p.0 q.0 ≡ Equal) × V.is_clone p.1 q.1) self.now copy) }

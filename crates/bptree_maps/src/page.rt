@@ -16,7 +16,8 @@ use std::alloc::AllocError;
 
 /// The pairs of a page of `s`: the first page is 0, and a page past the last one has none.
 ///
-/// One way down by the counts, and one to the last leaf. It takes no memory, and neither do the steps.
+/// One way down by the counts, and one to the last leaf. It takes no memory, and neither do the
+/// steps.
 pub fn page<K: Key, V: Drop>(
     map: &BPlusTreeMap<K, V, Count>,
     p: usize,
@@ -33,11 +34,12 @@ pub fn page<K: Key, V: Drop>(
     map.range_by_argument(p.saturating_mul(s), s)
 }
 
-/// The pairs of a page of `s` of one group: the first page of the group is 0, and a page past its last one has none.
+/// The pairs of a page of `s` of one group: the first page of the group is 0, and a page past its
+/// last one has none.
 ///
-/// The group is searched for by the groups of keys, as `group_range` does, and the pages before by the summaries, where these
-/// tell how many keys they stand for; else the pairs before are walked over. It takes no memory
-/// but what the groups of keys take, and the steps take none.
+/// The group is searched for by the groups of keys, as `group_range` does. The pages before are
+/// passed by the summaries, where these tell how many keys they stand for. Else the pairs before
+/// are walked over. It takes no memory but what the groups of keys take, and the steps take none.
 pub fn group_page<'a, K: Key, V: Drop, A: Argument<K>, G: FromRef<K> + Key>(
     map: &'a BPlusTreeMap<K, V, A>,
     group: &G,
@@ -54,7 +56,8 @@ pub fn group_page<'a, K: Key, V: Drop, A: Argument<K>, G: FromRef<K> + Key>(
     map.group_part(group, p.saturating_mul(s), s)
 }
 
-/// How many pages of `s` pairs the map has: its length divided by `s`, rounded up. It is never refused.
+/// How many pages of `s` pairs the map has: its length divided by `s`, rounded up. It is never
+/// refused.
 pub fn pages<K: Key, V: Drop, A: Argument<K>>(map: &BPlusTreeMap<K, V, A>, s: usize) -> usize
     requires { 1 ≤ s }
     ensures { result ≡ div_ceil (length map.now) s }
@@ -62,8 +65,8 @@ pub fn pages<K: Key, V: Drop, A: Argument<K>>(map: &BPlusTreeMap<K, V, A>, s: us
     map.len().div_ceil(s)
 }
 
-/// The page of `s` pairs on which a key stands, or would stand: the number of smaller keys divided by `s`, rounded down. `Ok`
-/// exactly where the key is present.
+/// The page of `s` pairs on which a key stands, or would stand: the number of smaller keys divided
+/// by `s`, rounded down. `Ok` exactly where the key is present.
 pub fn page_of<K: Key, V: Drop>(
     map: &BPlusTreeMap<K, V, Count>,
     k: &K,
@@ -79,8 +82,8 @@ pub fn page_of<K: Key, V: Drop>(
     }
 }
 
-/// The pages of a list, from the first to the last, are the list, one after another; and each later page is empty. It does
-/// nothing.
+/// The pages of a list, from the first to the last, are the list, one after another; and each later
+/// page is empty. It does nothing.
 pub fn laws_of_pages<K: Key, V: Drop>()
     ensures all { (l : List (K × V)) → (s : ℕ) → 1 ≤ s → first_pages l s (div_ceil (length l) s) ≡ l }
     ensures later { (l : List (K × V)) → (p s : ℕ) → 1 ≤ s → div_ceil (length l) s ≤ p → page_of_list l p s ≡ [] }

@@ -1,7 +1,8 @@
 //! Why pairs, or keys, did not all move.
 use bptree_tree::InsertError;
 
-/// Why not all pairs of one map moved to another. The first of them have moved, and the others stay where they were.
+/// Why not all pairs of one map moved to another. The first of them have moved, and the others stay
+/// where they were.
 #[derive(Debug, Drop)]
 pub enum MoveError<K, V> {
     /// The removal of the next pair was refused: it stays, too.
@@ -13,10 +14,11 @@ pub enum MoveError<K, V> {
 /// Why a key did not take the place of the one that equals it.
 #[derive(Debug, Drop)]
 pub enum ReplaceError<K> {
-    /// The removal of the key that equals it was refused: nothing has changed. The new key is handed back.
+    /// The removal of the key that equals it was refused: nothing has changed. The new key is
+    /// handed back.
     NotTaken(K),
-    /// The insertion was refused. The new key is handed back, and the key that equalled it, where there was one: that key has
-    /// left.
+    /// The insertion was refused. The new key is handed back, and the key that equalled it, where
+    /// there was one: that key has left.
     NotStored(InsertError<K, ()>, Option<K>),
 }
 
@@ -25,6 +27,17 @@ pub enum ReplaceError<K> {
 pub enum SplitError<M, R> {
     /// Memory for what is to hold them was refused: nothing has changed.
     NotMade,
-    /// The greatest of them have left for the map or set that is here; then a move was refused. The others stayed.
+    /// The greatest of them have left for the map or set that is here; then a move was refused. The
+    /// others stayed.
     NotAll(M, R),
+}
+
+/// Why not all pairs, or keys, were asked whether they stay.
+#[derive(Debug, Drop)]
+pub enum RetainError<X, I> {
+    /// Memory for what is to hold those that stay was refused: nothing has changed.
+    NotMade,
+    /// The insertion of one that is to stay was refused: it is handed back, with those behind it, which were not asked. Those
+    /// before it that are to stay are stored.
+    NotStored(X, I),
 }

@@ -18,11 +18,12 @@ mod intersection;
 mod iter;
 mod laws;
 mod moving;
+mod retaining;
 mod symmetric;
 mod union;
 
 use crate::gathering::gather_tree;
-pub use crate::refusals::{MoveError, ReplaceError, SplitError};
+pub use crate::refusals::{MoveError, ReplaceError, RetainError, SplitError};
 use bptree_keys::key::Key;
 use bptree_stores::node_store_vec::NodeStoreVec;
 use bptree_tree::{BPlusTree, InsertError};
@@ -72,7 +73,8 @@ impl<K: Key> BPlusTreeSet<K> {
 
     /// The keys that an iterator gives, in any order; of equal ones the last stays.
     ///
-    /// They are held in one vector, which is sorted and then loaded. A refusal for want of memory drops the keys.
+    /// They are held in one vector, which is sorted and then loaded. A refusal for want of memory
+    /// drops the keys.
     pub fn from_iter<I: IntoIterator<Item = K>>(alloc: Global, iter: I) -> Result<Self, AllocError>
         requires { (it : I.IntoIter) → I.into_iter_gives iter it → I.IntoIter.can_next it × IsFinite (I.IntoIter.remaining it) }
         ensures { IfOk result (λ set. (it : I.IntoIter) × (xs : List K) × I.into_iter_gives iter it × DrainsIf I.IntoIter.next_gives ⊤ it xs × (set ≡ gathered K.cmp xs)) }
@@ -104,8 +106,9 @@ impl<K: Key> BPlusTreeSet<K> {
 
     /// Puts `k` in, and says whether no key equalled it.
     ///
-    /// A key that equals `k` stays, and `k` is dropped: that takes no memory and is never refused. A new key can be refused: for
-    /// want of memory, or in a set of `usize::MAX` keys. Then nothing has changed.
+    /// A key that equals `k` stays, and `k` is dropped: that takes no memory and is never refused.
+    /// A new key can be refused: for want of memory, or in a set of `usize::MAX` keys. Then nothing
+    /// has changed.
     pub fn insert(&mut self, k: K) -> Result<bool, InsertError<K, ()>>
         ensures ok { IfOk result (λ is_new. (is_new ≡ not (holds K.cmp self.old k)) × (self.new ≡ with_key K.cmp self.old k)) }
         ensures err { IfErr result (λ refusal. (pair_of refusal ≡ (k, tt)) × (self.new ≡ self.old)) }
@@ -115,8 +118,9 @@ impl<K: Key> BPlusTreeSet<K> {
         Ok(self.tree.insert(k, ())?.is_none())
     }
 
-    /// Removes the key that equals `k`, and says whether there was one. Where there is none, nothing changes and nothing can
-    /// be refused. The removal of a key can be refused for want of memory; then nothing has changed.
+    /// Removes the key that equals `k`, and says whether there was one. Where there is none,
+    /// nothing changes and nothing can be refused. The removal of a key can be refused for want of
+    /// memory; then nothing has changed.
     pub fn remove(&mut self, k: &K) -> Result<bool, AllocError>
         ensures ok { IfOk result (λ was. (was ≡ holds K.cmp self.old k.now) × (self.new ≡ without_key K.cmp self.old k.now)) }
         ensures absent { holds K.cmp self.old k.now ≡ false → result ≡ Ok false }
@@ -143,7 +147,8 @@ impl<K: Key> BPlusTreeSet<K> {
         (value.is_some(), compares)
     }
 
-    /// The key that equals `k`, as it was put in. It takes no memory, and costs what `contains` does.
+    /// The key that equals `k`, as it was put in. It takes no memory, and costs what `contains`
+    /// does.
     pub fn get(&self, k: &K) -> Option<&K>
         ensures { option_copied result ≡ key_found K.cmp self.now k.now }
     {
@@ -153,10 +158,11 @@ impl<K: Key> BPlusTreeSet<K> {
         }
     }
 
-    /// Removes the least key, and hands it back: none of an empty set, where nothing can be refused.
+    /// Removes the least key, and hands it back: none of an empty set, where nothing can be
+    /// refused.
     ///
-    /// It is one way down, on which no key is compared. What a removal takes is what `remove` takes, and where it is refused
-    /// nothing has changed.
+    /// It is one way down, on which no key is compared. What a removal takes is what `remove`
+    /// takes, and where it is refused nothing has changed.
     pub fn pop_first(&mut self) -> Result<Option<K>, AllocError>
         ensures ok { IfOk result (λ gone. TakesFirst (λ key. key) self.old gone self.new) }
         ensures empty { self.old ≡ [] → result ≡ Ok None }
@@ -168,10 +174,11 @@ impl<K: Key> BPlusTreeSet<K> {
         }
     }
 
-    /// Removes the greatest key, and hands it back: none of an empty set, where nothing can be refused.
+    /// Removes the greatest key, and hands it back: none of an empty set, where nothing can be
+    /// refused.
     ///
-    /// It is one way down, on which no key is compared. What a removal takes is what `remove` takes, and where it is refused
-    /// nothing has changed.
+    /// It is one way down, on which no key is compared. What a removal takes is what `remove`
+    /// takes, and where it is refused nothing has changed.
     pub fn pop_last(&mut self) -> Result<Option<K>, AllocError>
         ensures ok { IfOk result (λ gone. TakesLast (λ key. key) self.old gone self.new) }
         ensures empty { self.old ≡ [] → result ≡ Ok None }
@@ -216,11 +223,11 @@ impl<K: Key> BPlusTreeSet<K> {
         Iter::new(self.tree.iter())
     }
 
-    /// The keys that are not below `lo` and are below `hi`, where they are given, in their order. It takes no memory, and
-    /// neither do its steps.
+    /// The keys that are not below `lo` and are below `hi`, where they are given, in their order.
+    /// It takes no memory, and neither do its steps.
     ///
-    /// Each end that is given is searched for once. How many keys there are is told when it is asked, by a step for each leaf
-    /// between.
+    /// Each end that is given is searched for once. How many keys there are is told when it is
+    /// asked, by a step for each leaf between.
     pub fn range<'b>(&self, lo: Option<&'b K>, hi: Option<&'b K>) -> Iter<'_, K>
         ensures rest { result ≡ keys_between K.cmp self.now (option_copied lo.entry) (option_copied hi.entry) }
         ensures ascending { IsStrictlySortedBy K.cmp result }
@@ -239,17 +246,19 @@ impl<K: Key> BPlusTreeSet<K> {
         IntoIter::new(self.tree.into_iter())
     }
 
-    /// The keys of both sets in their order; of two equal keys that of this set. It takes no memory, and neither do its steps.
+    /// The keys of both sets in their order; of two equal keys that of this set. It takes no
+    /// memory, and neither do its steps.
     pub fn union<'a>(&'a self, other: &'a Self) -> Union<'a, K>
         ensures { result ≡ (self.now, other.now) }
     {
         Union::new(self.iter(), other.iter())
     }
 
-    /// The keys of this set that no key of the other equals, in their order. It takes no memory, and neither do its steps.
+    /// The keys of this set that no key of the other equals, in their order. It takes no memory,
+    /// and neither do its steps.
     ///
-    /// Both sets are walked side by side, with a comparison for each key of either. Where this set has at most a sixteenth of
-    /// the other's keys, each of its keys is looked up in the other.
+    /// Both sets are walked side by side, with a comparison for each key of either. Where this set
+    /// has at most a sixteenth of the other's keys, each of its keys is looked up in the other.
     pub fn difference<'a>(&'a self, other: &'a Self) -> Difference<'a, K>
         ensures rest { result ≡ keys_without K.cmp self.now other.now }
         ensures ascending { IsStrictlySortedBy K.cmp result }
@@ -258,10 +267,11 @@ impl<K: Key> BPlusTreeSet<K> {
         Difference::new(self, other)
     }
 
-    /// The keys of this set that a key of the other equals, in their order. It takes no memory, and neither do its steps.
+    /// The keys of this set that a key of the other equals, in their order. It takes no memory, and
+    /// neither do its steps.
     ///
-    /// Both sets are walked side by side, with a comparison for each key of either. Where one has at most a sixteenth of the
-    /// other's keys, each of its keys is looked up in the other.
+    /// Both sets are walked side by side, with a comparison for each key of either. Where one has
+    /// at most a sixteenth of the other's keys, each of its keys is looked up in the other.
     pub fn intersection<'a>(&'a self, other: &'a Self) -> Intersection<'a, K>
         ensures rest { result ≡ keys_within K.cmp self.now other.now }
         ensures ascending { IsStrictlySortedBy K.cmp result }
@@ -270,8 +280,8 @@ impl<K: Key> BPlusTreeSet<K> {
         Intersection::new(self, other)
     }
 
-    /// The keys of both sets in their order, without those that are in both. It takes no memory, and neither do its steps: to
-    /// give all takes at most as many comparisons as there are keys.
+    /// The keys of both sets in their order, without those that are in both. It takes no memory,
+    /// and neither do its steps: to give all takes at most as many comparisons as there are keys.
     pub fn symmetric_difference<'a>(&'a self, other: &'a Self) -> SymmetricDifference<'a, K>
         ensures { result ≡ (self.now, other.now) }
     {
@@ -280,8 +290,8 @@ impl<K: Key> BPlusTreeSet<K> {
 
     /// Whether each key of this set equals one of the other. It takes no memory.
     ///
-    /// Where this set has more keys it is told without a comparison. Else it costs what `difference` costs up to the first key
-    /// that the other lacks.
+    /// Where this set has more keys it is told without a comparison. Else it costs what
+    /// `difference` costs up to the first key that the other lacks.
     pub fn is_subset(&self, other: &Self) -> bool
         ensures { IsTrue result ↔ IsSubset K.cmp self.now other.now }
     {
@@ -298,8 +308,8 @@ impl<K: Key> BPlusTreeSet<K> {
         other.is_subset(self)
     }
 
-    /// Whether no key of this set equals one of the other. It takes no memory, and costs what `intersection` costs up to the
-    /// first key that both have.
+    /// Whether no key of this set equals one of the other. It takes no memory, and costs what
+    /// `intersection` costs up to the first key that both have.
     pub fn is_disjoint(&self, other: &Self) -> bool
         ensures { IsTrue result ↔ IsDisjoint K.cmp self.now other.now }
     {
@@ -313,7 +323,8 @@ impl<K: Key> BPlusTreeSet<K> {
         &self.tree
     }
 
-    /// The tree inside, for writing: once it is given back, the set has the keys of what the tree's contents are then.
+    /// The tree inside, for writing: once it is given back, the set has the keys of what the tree's
+    /// contents are then.
     pub fn tree_mut(&mut self) -> &mut BPlusTree<NodeStoreVec<K, ()>>
         ensures* writes_back { sem 𝓛 (Lends (the_row K.row K.Key.own K.Clone K.Ord.own K.Eq.own K.PartialEq K.PartialOrd.own) (inner_row_of_set K.row K.Key.own K.Clone K.Ord.own K.Eq.own K.PartialEq K.PartialOrd.own) self.entry result (λ tree. keys_of tree.contents)) }
         ensures value { keys_of result.now.contents ≡ self.old }

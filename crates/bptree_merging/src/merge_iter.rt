@@ -17,7 +17,8 @@ use std::iter::FusedIterator;
 use std::marker::Model;
 use std::slice;
 
-/// An iterator whose items show the elements of a list, one after another, and that can always be asked for the next one.
+/// An iterator whose items show the elements of a list, one after another, and that can always be
+/// asked for the next one.
 pub trait Listed: FusedIterator {
     type Element;
 
@@ -57,7 +58,8 @@ enum Peeked<T> {
     B(T),
 }
 
-/// The merge of two sources, seen as what is left of each. It holds at most one item that it hasn't given.
+/// The merge of two sources, seen as what is left of each. It holds at most one item that it hasn't
+/// given.
 #[derive(Drop)]
 pub struct MergeIterInner<I: Listed>
 where
@@ -92,9 +94,10 @@ where
         MergeIterInner { a, b, peeked: None }
     }
 
-    /// One step of the merge by the order that `cmp` answers: the smaller head alone, or both where they are equal. Where
-    /// one side has ended the other's items come alone, whatever `cmp` answers, and at the end of both there is none,
-    /// however often it is asked. One item is asked of each side that has none waiting, and `cmp` is called at most once.
+    /// One step of the merge by the order that `cmp` answers: the smaller head alone, or both where
+    /// they are equal. Where one side has ended the other's items come alone, whatever `cmp`
+    /// answers. At the end of both there is none, however often it is asked. One item is asked of
+    /// each side that has none waiting, and `cmp` is called at most once.
     pub fn nexts<Cmp: Fn(&I::Item, &I::Item) -> Ordering>(
         &mut self,
         cmp: Cmp,
@@ -140,8 +143,9 @@ impl<T: Clone> Clone for Peeked<T> {
     }
 }
 
-// The clone has the same left of each side, where a clone of a source has the same elements left and a clone of an item
-// shows the same one. It fails only where a clone of a source or of an item does.
+// The clone has the same left of each side. That asks that a clone of a source has the same
+// elements left and a clone of an item shows the same one. It fails only where a clone of a source
+// or of an item does.
 impl<I: Listed + Clone> Clone for MergeIterInner<I>
 where
     I::Item: Clone + Drop,
@@ -169,7 +173,8 @@ impl<I: Listed + ExactSizeIterator> MergeIterInner<I>
 where
     I::Item: Drop,
 {
-    /// How many items are left of each side, with the one that waits. Each count stops at the greatest `usize`.
+    /// How many items are left of each side, with the one that waits. Each count stops at the
+    /// greatest `usize`.
     pub fn lens(&self) -> (usize, usize)
         ensures first { result.0 ≡ min (length self.now.0) (2 ^ 64 - 1) }
         ensures second { result.1 ≡ min (length self.now.1) (2 ^ 64 - 1) }
@@ -201,8 +206,9 @@ where
     }
 }
 
-/// What all the steps of a merge give: each list whole and in its order, two keys at once only where they are equal, and
-/// the keys of both lists in their order, where an equal key of the second list is left out. It does nothing.
+/// What all the steps of a merge give: each list whole and in its order, and two keys at once only
+/// where they are equal. Together they give the keys of both lists in their order, where an equal
+/// key of the second list is left out. It does nothing.
 pub fn laws_of_merge<K>()
     ensures steps { (order : K → K → Ordering) → (us vs : List K) → 0 < length us + length vs
         → let step = merge_step order us vs in

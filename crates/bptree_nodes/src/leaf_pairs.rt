@@ -7,8 +7,8 @@ use std::alloc::Global;
 use std::marker::Model;
 use std::vec;
 
-/// The pairs that are left of a leaf, in the order of their keys. A step from either end moves no other pair and takes no
-/// memory. What is left is dropped with it.
+/// The pairs that are left of a leaf, in the order of their keys. A step from either end moves no
+/// other pair and takes no memory. What is left is dropped with it.
 #[derive(Drop)]
 pub struct LeafPairs<K, V> {
     keys: vec::IntoIter<K>,

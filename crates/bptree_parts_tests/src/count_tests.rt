@@ -19,7 +19,8 @@ fn replaced(node: &Count, old: &Count, new: &Count) -> Option<usize> {
     Some(count.count())
 }
 
-// A child of three keys gives way to one of two, and one of more keys than the node has can't have stood there.
+// A child of three keys gives way to one of two, and one of more keys than the node has can't have
+// stood there.
 fn counts() -> Result<bool, AllocError> {
     let two = of_leaf(&[1, 2])?;
     let three = of_leaf(&[1, 2, 3])?;

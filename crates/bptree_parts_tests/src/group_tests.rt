@@ -86,8 +86,8 @@ fn tells_each_kind() -> Result<bool, AllocError> {
     )
 }
 
-// The keys of one group, in a child and in the next, are as many as both sizes say, and at most the greatest number. So are
-// those that a rank in the group carries past both.
+// The keys of one group, in a child and in the next, are as many as both sizes say, and at most the
+// greatest number. So are those that a rank in the group carries past both.
 fn stops_at_the_greatest(alloc: Global) -> Result<bool, AllocError> {
     for (first, second, sum) in [
         (3, 4, 7),

@@ -86,7 +86,8 @@ type Parts = (
     Box<InnerNode<usize, usize>>,
 );
 
-// The two parts of that node, and the key between, where another key with the leaf 100 is put at a slot.
+// The two parts of that node, and the key between, where another key with the leaf 100 is put at a
+// slot.
 fn split_of_tens(alloc: Global, slot: usize, key: usize) -> Result<Option<Parts>, AllocError> {
     let mut node = node_of_tens(alloc)?;
     let room = InnerNode::empty(alloc)?;

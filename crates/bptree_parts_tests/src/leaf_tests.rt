@@ -114,7 +114,8 @@ fn ranges(leaf: &LeafNode<u64, u64>) -> [bool; 4] {
     [0, 2, 128, 129].map(|key| leaf.in_range(&key))
 }
 
-// The ranges of a leaf of 2, 4, .. 128 without links, with one before it, and with one on each side.
+// The ranges of a leaf of 2, 4, .. 128 without links, with one before it, and with one on each
+// side.
 fn links(alloc: Global) -> Result<[[bool; 4]; 3], AllocError> {
     let mut leaf = even_leaf(alloc, 2, 128)?;
     let alone = ranges(&leaf);

@@ -1,5 +1,5 @@
-//! Tests of what a B+ tree is made of: its numbers, its nodes and their stores, summaries, loading and merging; and callers of
-//! these and of requests.
+//! Tests of what a B+ tree is made of: its numbers, its nodes and their stores, summaries, loading
+//! and merging; and callers of these and of requests.
 #![tactic(auto)]
 
 #[cfg(test)]

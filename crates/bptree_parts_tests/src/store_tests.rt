@@ -6,8 +6,9 @@ use bptree_stores::node_stores::{CloneStore, NodeStore};
 use std::alloc::AllocError;
 use std::test::Fail;
 
-// Of two numbers of leaves that are held the first is released and is given out again. Then both are released, the second one
-// last, and come back in the other order, and before any other; in a clone too.
+// Of two numbers of leaves that are held the first is released and is given out again. Then both
+// are released, the second one last, and come back in the other order, and before any other; in a
+// clone too.
 fn leaf_numbers_come_back<S: CloneStore>(store: &mut S) -> Result<bool, AllocError>
 where
     S::V: Clone,

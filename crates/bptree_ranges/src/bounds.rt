@@ -13,10 +13,11 @@ use bptree_shape::reading::leaf_for;
 use bptree_stores::node_stores::NodeStore;
 use std::ops::Bound;
 
-/// The pairs whose key is neither before the start nor behind the end, of a tree of at most `len` pairs.
+/// The pairs whose key is neither before the start nor behind the end, of a tree of at most `len`
+/// pairs.
 ///
-/// One descent for each bound, and no step from the one to the other. Where no key can be between them, that is told by one
-/// comparison.
+/// One descent for each bound, and no step from the one to the other. Where no key can be between
+/// them, that is told by one comparison.
 pub fn part_between_bounds<S: NodeStore>(
     store: &S,
     root: NodeId,

@@ -12,9 +12,11 @@ use bptree_arguments::count::{Count, total_of};
 use bptree_keys::node_id::NodeId;
 use bptree_stores::node_stores::NodeStore;
 
-/// How many keys are not below `lo` and are below `hi`, where they are given, in a tree of `len` pairs.
+/// How many keys are not below `lo` and are below `hi`, where they are given, in a tree of `len`
+/// pairs.
 ///
-/// One descent for each end that is given: on each level the counts of the children before the way are added up.
+/// One descent for each end that is given: on each level the counts of the children before the way
+/// are added up.
 pub fn len_between<S: NodeStore<Argument = Count>>(
     store: &S,
     root: NodeId,

@@ -20,8 +20,8 @@ use std::alloc::AllocError;
 
 /// The pairs whose key's group equals the group, of a tree of at most `len` pairs.
 ///
-/// Two descents, for where the group begins and where it ends, which make the groups of at most 7 keys or separators of each
-/// node. It fails only where one of these groups does.
+/// Two descents, for where the group begins and where it ends, which make the groups of at most 7
+/// keys or separators of each node. It fails only where one of these groups does.
 pub fn part_of_group<S: NodeStore, G: FromRef<S::K> + Key>(
     store: &S,
     root: NodeId,
@@ -40,9 +40,9 @@ pub fn part_of_group<S: NodeStore, G: FromRef<S::K> + Key>(
 
 /// So many pairs of a group, or all where there are fewer, without its first `i`.
 ///
-/// Two descents, for where the pairs begin and where the group ends, which make the groups of at most 7 keys or separators of
-/// each node. Where the summaries tell how many keys they stand for, the pairs before the first one cost no step; else they
-/// are walked over.
+/// Two descents, for where the pairs begin and where the group ends. They make the groups of at
+/// most 7 keys or separators of each node. Where the summaries tell how many keys they stand for,
+/// the pairs before the first one cost no step; else they are walked over.
 pub fn part_within_group<S: NodeStore, G: FromRef<S::K> + Key>(
     store: &S,
     root: NodeId,

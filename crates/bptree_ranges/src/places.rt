@@ -1,4 +1,5 @@
-//! Places in a tree that stands in a store, by the summaries that tell how many keys they stand for.
+//! Places in a tree that stands in a store, by the summaries that tell how many keys they stand
+//! for.
 ghost use Rattle.std.specs.Prelude.{◌≡◌, ◌<◌, ◌≤◌, ◌^◌, IfOk, IfSome, List, length};
 ghost use Rattle.bptree_ranges.specs.Places.{before_entry, before_group, IsPlaceInGroup, IsSkipped};
 ghost use Rattle.bptree_shape.specs.Shape.{pairs_at, IsWellShaped};
@@ -23,9 +24,10 @@ pub(crate) enum Skipped {
 
 /// The place of the pair behind the first `i` of a group, or none where the group has no more.
 ///
-/// One descent for where the group begins, which makes the groups of at most 7 keys or separators of each node. On its way
-/// back it passes children by their summaries, where these tell how many keys they stand for, and goes down into one that
-/// has more. Where no summary tells, it goes down into each child on the way.
+/// One descent for where the group begins, which makes the groups of at most 7 keys or separators
+/// of each node. On its way back it passes children by their summaries, where these tell how many
+/// keys they stand for, and goes down into one that has more. Where no summary tells, it goes down
+/// into each child on the way.
 pub(crate) fn place_in_group<S: NodeStore, G: FromRef<S::K> + Key>(
     store: &S,
     root: NodeId,
@@ -81,8 +83,8 @@ fn skip_from_group<S: NodeStore, G: FromRef<S::K> + Key>(
     }
 }
 
-// The place behind `i` pairs from a slot of a leaf on, or else from a child on. Each child whose summary tells that it has no
-// more keys is passed in one step.
+// The place behind `i` pairs from a slot of a leaf on, or else from a child on. Each child whose
+// summary tells that it has no more keys is passed in one step.
 fn skip<S: NodeStore>(store: &S, id: NodeId, height: usize, first: usize, i: usize) -> Skipped
     requires { IsSubtree S.K.cmp S.Argument.is_summary (S.slots store.now) height id }
     ensures { IsSkipped (S.slots store.now) height id (before_entry (S.slots store.now) height id first) i result }

@@ -19,10 +19,11 @@ use bptree_stores::node_stores::NodeStore;
 use std::alloc::AllocError;
 use std::cmp::Ordering;
 
-/// The pairs whose key is not below `lo` and is below `hi`, where they are given, of a tree of at most `len` pairs.
+/// The pairs whose key is not below `lo` and is below `hi`, where they are given, of a tree of at
+/// most `len` pairs.
 ///
-/// One descent for each end, and no step from the one to the other. Where `lo` is not below `hi`, that is told by one
-/// comparison.
+/// One descent for each end, and no step from the one to the other. Where `lo` is not below `hi`,
+/// that is told by one comparison.
 pub fn part_between<S: NodeStore>(
     store: &S,
     root: NodeId,
@@ -57,7 +58,8 @@ pub(crate) fn no_part(at: (LeafNodeId, usize)) -> Part
     }
 }
 
-/// The pairs between two places, of which the second is not before the first; or the first `limit` of them.
+/// The pairs between two places, of which the second is not before the first; or the first `limit`
+/// of them.
 pub(crate) fn part_of_places<S: NodeStore>(
     store: &S,
     root: NodeId,
@@ -187,7 +189,8 @@ fn place_of_key<S: NodeStore>(
     }
 }
 
-/// The first `n` pairs, or all where there are fewer, from a place on that is allowed for the query; none where none is.
+/// The first `n` pairs, or all where there are fewer, from a place on that is allowed for the
+/// query; none where none is.
 ///
 /// One descent for the query, and one to the last leaf.
 pub fn part_by_argument<S: NodeStore>(

@@ -19,9 +19,10 @@ use std::cmp::Ordering;
 
 /// A summary of the keys that are not below `lo` and are below `hi`, where they are given.
 ///
-/// One descent to the node where the ways to both ends part, and from there one for each end: on each level the summaries of
-/// the children between the two ways are summed up, and at last the keys of one leaf for each end. It fails only where the
-/// argument does, or where room for two summaries is refused.
+/// One descent to the node where the ways to both ends part, and from there one for each end. On
+/// each level the summaries of the children between the two ways are summed up, and at last the
+/// keys of one leaf for each end. It fails only where the argument does, or where room for two
+/// summaries is refused.
 pub fn summary_between<S: NodeStore>(
     store: &S,
     root: NodeId,
@@ -202,7 +203,8 @@ pub(crate) fn slot_of<K: Key, V: Drop>(leaf: &LeafNode<K, V>, key: &K) -> usize
     }
 }
 
-// A summary of all keys below the children of a node from one place to another, by the children's summaries.
+// A summary of all keys below the children of a node from one place to another, by the children's
+// summaries.
 //
 // The law of summaries holds whatever the separators are, so none are passed.
 fn sum_of_some<K: Key, A: Argument<K>>(
@@ -219,7 +221,8 @@ fn sum_of_some<K: Key, A: Argument<K>>(
     Ok(Some(A::from_inner(&[], &arguments[from..to])?))
 }
 
-// A summary of two lists of keys, one before the other. Where both have a key, room for two summaries is asked for.
+// A summary of two lists of keys, one before the other. Where both have a key, room for two
+// summaries is asked for.
 fn sum_of_both<K: Key, A: Argument<K>>(
     alloc: Global,
     first: Option<A>,

@@ -1,5 +1,6 @@
-//! Two siblings and their parent, all three in hand: one child or pair rotates, or the siblings merge. What can't be had on the
-//! way is refused, and then all three nodes are again what they were.
+//! Two siblings and their parent, all three in hand: one child or pair rotates, or the siblings
+//! merge. What can't be had on the way is refused, and then all three nodes are again what they
+//! were.
 ghost use Rattle.std.specs.Prelude.{◌≡◌, ◌<◌, ◌≤◌, ◌+◌, [], length, Some, IfOk, OnErr, IfErr, slice_get};
 ghost use Rattle.bptree_nodes.specs.Inner.{Inner};
 ghost use Rattle.bptree_nodes.specs.Leaf.{Leaf};
@@ -65,7 +66,8 @@ fn move_pair<K: Drop, V: Drop>(
     }
 }
 
-// One child of the giver goes to its sibling. It answers the separator that then stands between the two.
+// One child of the giver goes to its sibling. It answers the separator that then stands between the
+// two.
 fn move_child<K: Drop, A: Drop>(
     giver: Sibling,
     left: &mut InnerNode<K, A>,
@@ -83,8 +85,8 @@ fn move_child<K: Drop, A: Drop>(
     }
 }
 
-// Asks for the summaries of two leaves, and puts them with a separator and the number of the right one into a node
-// without that entry. It answers the node's summary and the left leaf's old one.
+// Asks for the summaries of two leaves, and puts them with a separator and the number of the right
+// one into a node without that entry. It answers the node's summary and the left leaf's old one.
 fn ask_leaves<K: Key, V: Drop, A: Argument<K>>(
     node: &mut InnerNode<K, A>,
     slot: usize,
@@ -148,7 +150,8 @@ fn ask_inners<K: Key, A: Argument<K>>(
     }
 }
 
-// Asks for the summary of a leaf, and puts it into its node. It answers the node's summary and the leaf's old one.
+// Asks for the summary of a leaf, and puts it into its node. It answers the node's summary and the
+// leaf's old one.
 fn ask_leaf<K: Key, V: Drop, A: Argument<K>>(
     node: &mut InnerNode<K, A>,
     slot: usize,
@@ -184,8 +187,8 @@ fn ask_inner<K: Key, A: Argument<K>>(
     }
 }
 
-/// Rotates a pair from one leaf to its sibling. It answers the parent's summary, and what stood in the parent; refused, all
-/// three are as they were.
+/// Rotates a pair from one leaf to its sibling. It answers the parent's summary, and what stood in
+/// the parent; refused, all three are as they were.
 pub fn rotate_leaves<K: Key, V: Drop, A: Argument<K>>(
     node: &mut InnerNode<K, A>,
     slot: usize,
@@ -242,8 +245,8 @@ pub fn undo_rotate_leaves<K: Key, V: Drop, A: Argument<K>>(
     move_pair(giver.other(), left, right);
 }
 
-/// Merges two leaves into the left one; the right one stays empty. It answers the parent's summary, and what stood in the
-/// parent; refused, all three are as they were.
+/// Merges two leaves into the left one; the right one stays empty. It answers the parent's summary,
+/// and what stood in the parent; refused, all three are as they were.
 pub fn merge_leaves<K: Key, V: Drop, A: Argument<K>>(
     node: &mut InnerNode<K, A>,
     slot: usize,
@@ -304,8 +307,8 @@ pub fn undo_merge_leaves<K: Key, V: Drop, A: Argument<K>>(
     left.set_next(next);
 }
 
-/// Rotates a child from one inner node to its sibling, as `rotate_leaves` does a pair. The separator goes down to the one, and
-/// a key of the other comes up.
+/// Rotates a child from one inner node to its sibling, as `rotate_leaves` does a pair. The
+/// separator goes down to the one, and a key of the other comes up.
 pub fn rotate_inners<K: Key, A: Argument<K>>(
     node: &mut InnerNode<K, A>,
     slot: usize,
@@ -364,7 +367,8 @@ pub fn undo_rotate_inners<K: Key, A: Argument<K>>(
     node.insert_at(slot, separator, child, sides.right);
 }
 
-/// Merges two inner nodes into the left one, with the separator between; the right one stays as an empty shell.
+/// Merges two inner nodes into the left one, with the separator between; the right one stays as an
+/// empty shell.
 pub fn merge_inners<K: Key, A: Argument<K>>(
     node: &mut InnerNode<K, A>,
     slot: usize,

@@ -1,5 +1,5 @@
-//! Two siblings in a store, under their parent: they rotate or merge. Each change can be undone, and a refused one leaves every
-//! slot as it was.
+//! Two siblings in a store, under their parent: they rotate or merge. Each change can be undone,
+//! and a refused one leaves every slot as it was.
 ghost use Rattle.std.specs.Prelude.{◌≡◌, ◌<◌, ◌≤◌, ◌+◌, length, IfOk, OnErr, Some, slice_get};
 ghost use Rattle.bptree_nodes.specs.Inner.{Inner};
 ghost use Rattle.bptree_nodes.specs.Leaf.{Leaf};
@@ -20,7 +20,8 @@ use bptree_nodes::leaf_node::LeafNode;
 use bptree_stores::node_stores::NodeStore;
 use std::alloc::AllocError;
 
-/// Rotates a pair from one leaf to its sibling. It answers the summary of the parent, and what stood there.
+/// Rotates a pair from one leaf to its sibling. It answers the summary of the parent, and what
+/// stood there.
 pub fn rotate_leaves_at<S: NodeStore>(
     store: &mut S,
     id: InnerNodeId,
@@ -72,8 +73,8 @@ pub fn undo_rotate_leaves_at<S: NodeStore>(
     store.assign_leaf(right, other);
 }
 
-/// Merges two leaves under the number of the left one. It answers the summary of the parent, what stood there, and the emptied
-/// right leaf, whose number stays reserved.
+/// Merges two leaves under the number of the left one. It answers the summary of the parent, what
+/// stood there, and the emptied right leaf, whose number stays reserved.
 pub fn merge_leaves_at<S: NodeStore>(
     store: &mut S,
     id: InnerNodeId,
@@ -195,7 +196,8 @@ pub fn undo_rotate_inners_at<S: NodeStore>(
     store.put_back_inner(right, other);
 }
 
-/// Merges two inner nodes under the number of the left one; the number of the emptied right one stays reserved.
+/// Merges two inner nodes under the number of the left one; the number of the emptied right one
+/// stays reserved.
 pub fn merge_inners_at<S: NodeStore>(
     store: &mut S,
     id: InnerNodeId,

@@ -1,5 +1,5 @@
-//! Underflow in a tree that stands in a store: which sibling a node rotates or merges with, and inner nodes that are rebalanced
-//! up the path.
+//! Underflow in a tree that stands in a store: which sibling a node rotates or merges with, and
+//! inner nodes that are rebalanced up the path.
 ghost use Rattle.std.specs.Prelude.{◌≡◌, ◌<◌, ◌≤◌, ◌+◌, IfOk, OnErr, IsTrue, Some, length, slice_get};
 ghost use Rattle.bptree_keys.specs.declared.node_id.NodeId.TheVariants as kind;
 ghost use Rattle.bptree_nodes.specs.Slot.{IsPresent};
@@ -21,8 +21,9 @@ use bptree_nodes::leaf_node::LEAF_MINIMUM;
 use bptree_stores::node_stores::NodeStore;
 use std::alloc::AllocError;
 
-// The slot of the separator between a child that underflows and its sibling, and which sibling gives, where one can; else the
-// two merge. `gives` is whether the sibling before it gives, and `after` how many the one behind it has, or 0 where none stands.
+// The slot of the separator between a child that underflows and its sibling, and which sibling
+// gives, where one can; else the two merge. `gives` is whether the sibling before it gives, and
+// `after` how many the one behind it has, or 0 where none stands.
 fn choose_sibling(place: usize, gives: bool, after: usize) -> (usize, Option<Sibling>)
     requires { IsTrue gives → 0 < place }
     ensures { ChosenSibling place gives after result.0 result.1 }
@@ -73,7 +74,8 @@ fn inner_len<S: NodeStore>(store: &S, id: InnerNodeId, place: usize) -> usize
     }
 }
 
-/// Which sibling the leaf at a place of a node rotates or merges with, and the slot of the separator between the two.
+/// Which sibling the leaf at a place of a node rotates or merges with, and the slot of the
+/// separator between the two.
 pub fn leaf_sibling<S: NodeStore>(
     store: &S,
     id: InnerNodeId,
@@ -127,8 +129,9 @@ fn rise<S: NodeStore>(
     }
 }
 
-/// Carries a node's new summary up the path above it, where the node may have underflowed: then it rotates or merges with a
-/// sibling, and after a merge the parent may underflow in turn. It answers a summary of all keys.
+/// Carries a node's new summary up the path above it, where the node may have underflowed. Then it
+/// rotates or merges with a sibling, and after a merge the parent may underflow in turn. It answers
+/// a summary of all keys.
 pub fn ascend_underflow<S: NodeStore>(
     store: &mut S,
     path: &mut VisitStack,

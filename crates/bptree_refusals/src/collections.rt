@@ -104,8 +104,8 @@ impl<K: Sample> Subject for BPlusTreeSet<K> {
         }
     }
 
-    // The keys, and how many are compared to find each of them: that tells the places of a key in its nodes. All are looked up
-    // once before, so that the same leaf is remembered.
+    // The keys, and how many are compared to find each of them: that tells the places of a key in
+    // its nodes. All are looked up once before, so that the same leaf is remembered.
     fn told(&self) -> (u64, usize) {
         let mut digest = Digest::new();
         for key in self.iter() {

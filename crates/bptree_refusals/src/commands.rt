@@ -1,4 +1,5 @@
-//! Lists of commands on a tree, whose replies have to be those that a tree gives where nothing is refused.
+//! Lists of commands on a tree, whose replies have to be those that a tree gives where nothing is
+//! refused.
 
 use crate::digest::{Digest, Told};
 use crate::plans::{Call, lists_of};
@@ -110,7 +111,8 @@ enum Base {
     Low,
     /// Its height is 2 and its leaves are full, so that each takes no pair before it is split.
     Full,
-    /// Its height is 2, its leaves are as short as they can be, and each node above them has one child more than it needs.
+    /// Its height is 2, its leaves are as short as they can be, and each node above them has one
+    /// child more than it needs.
     Short,
 }
 
@@ -155,7 +157,8 @@ impl Base {
         }
     }
 
-    // A key that most changes of a turn put or remove. Where the leaves are many, it is of the leaf whose turn it is.
+    // A key that most changes of a turn put or remove. Where the leaves are many, it is of the leaf
+    // whose turn it is.
     fn number_of(self, turn: u64) -> u64 {
         let word = drawn(turn, 1);
         let leaf = match self {
@@ -277,7 +280,8 @@ where
     }
 }
 
-// The commands of a turn: one change, or else commands that change no tree, with those on one cursor.
+// The commands of a turn: one change, or else commands that change no tree, with those on one
+// cursor.
 fn listed<S: NodeStore<V = u64>>(
     alloc: Global,
     base: Base,
@@ -301,7 +305,8 @@ where
     Ok(commands)
 }
 
-// Runs the commands of a turn, and tells their replies. An error stands for any refusal among these.
+// Runs the commands of a turn, and tells their replies. An error stands for any refusal among
+// these.
 fn replies<S: NodeStore<V = u64>>(
     alloc: Global,
     tree: &mut BPlusTree<S>,
@@ -346,7 +351,8 @@ where
     Ok(tree)
 }
 
-// Of each leaf 16 pairs are kept; and then each second leaf is emptied, up to three of the 33 below each node.
+// Of each leaf 16 pairs are kept; and then each second leaf is emptied, up to three of the 33 below
+// each node.
 fn shorten<S: NodeStore<V = u64>>(
     alloc: Global,
     tree: &mut BPlusTree<S>,

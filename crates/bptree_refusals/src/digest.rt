@@ -11,16 +11,19 @@ use sweep_bptree::tree::{
 pub struct Digest(u64);
 
 impl Digest {
+    /// The digest of no words.
     pub fn new() -> Digest {
         Digest(0)
     }
 
+    /// Adds a word.
     pub fn add(&mut self, word: u64) {
         let mixed = (self.0 ^ word).wrapping_add(1);
         let mixed = mixed.wrapping_mul(0x9e37_79b9_7f4a_7c15);
         self.0 = mixed ^ (mixed >> 29);
     }
 
+    /// The number that the words make.
     pub fn value(&self) -> u64 {
         self.0
     }
@@ -144,6 +147,7 @@ fn tell_link(link: Option<LeafNodeId>, digest: &mut Digest) {
     }
 }
 
+/// Tells an inner node: its keys, its summaries and the numbers of its children.
 pub fn tell_inner<K: Told + Drop, A: Told + Drop>(node: &InnerNode<K, A>, digest: &mut Digest) {
     digest.add(node.len() as u64);
     for key in node.keys() {
@@ -161,6 +165,7 @@ pub fn tell_inner<K: Told + Drop, A: Told + Drop>(node: &InnerNode<K, A>, digest
     tell_number(node.child_id(node.len()), digest);
 }
 
+/// Tells a leaf: its keys, its values and its links.
 pub fn tell_leaf<K: Told + Ord + Drop, V: Told + Drop>(leaf: &LeafNode<K, V>, digest: &mut Digest) {
     digest.add(leaf.len() as u64);
     for key in leaf.keys() {

@@ -1,4 +1,5 @@
-//! Pairs that are given to be loaded, and are dropped: by a refusal at once, else with what was loaded of them.
+//! Pairs that are given to be loaded, and are dropped: by a refusal at once, else with what was
+//! loaded of them.
 ghost use Rattle.std.specs.Prelude.{◌≡◌, ◌==◌, IfOk};
 ghost use Rattle.std.proofs.Common.{rules};
 ghost use Rattle.std.specs.Cmp.{partial_order_from_own_ties};
@@ -14,7 +15,8 @@ use std::rc::Rc;
 use sweep_bptree::tree::in_load_order;
 use sweep_bptree::{BPlusTree, BPlusTreeMap, BPlusTreeSet, Key, NodeStore, NodeStoreVec};
 
-/// How many were made, and how many of these were dropped. Each that is left has one more pointer to it.
+/// How many were made, and how many of these were dropped. Each that is left has one more pointer
+/// to it.
 #[derive(Drop)]
 pub struct Tally {
     made: Cell<u64>,

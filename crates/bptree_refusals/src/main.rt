@@ -1,6 +1,7 @@
-//! Calls that can be refused memory. Each letter of standard input, with a digit before it or none, names a scenario, which
-//! makes calls, and makes a refused one again once what it left was looked at. For each it prints its name, whether all was
-//! as it should be, and how many calls were refused.
+//! Calls that can be refused memory. Each letter of standard input, with a digit before it or none,
+//! names a scenario, which makes calls, and makes a refused one again once what it left was looked
+//! at. For each it prints its name, whether all was as it should be, and how many calls were
+//! refused.
 #![tactic(auto)]
 
 mod collections;
@@ -8,6 +9,7 @@ mod commands;
 mod digest;
 mod dropped;
 mod groups;
+mod moved;
 mod parts;
 mod places;
 mod plans;
@@ -22,6 +24,7 @@ mod trial;
 use crate::commands::{Asked, Commanded};
 use crate::dropped::{Dropped, LoadedTree, Tallied};
 use crate::groups::Grouped;
+use crate::moved::{Moved, MovedKeys};
 use crate::parts::{InnerGiven, InnerParts, LeafParts, Made, Numbered, Reserved, Roomy};
 use crate::places::Placed;
 use crate::plans::{Plan, plan_of};
@@ -41,6 +44,7 @@ type Pair = (String, u64);
 fn on_trees<K: Sample, A: Asked<K>>(trial: &mut Trial, letter: u8, plan: &Plan) {
     match letter {
         b'm' if plan.size > 0 => trial.carry_out::<Reserved<K, A>>(plan),
+        b'o' if plan.size > 1 => trial.carry_out::<Moved<K, A>>(plan),
         b'o' if plan.size > 0 => trial.carry_out::<Placed<K, A>>(plan),
         b'k' => trial.carry_out::<Commanded<NodeStoreVec<K, u64, A>>>(plan),
         b'l' => trial.carry_out::<Readings<NodeStoreVec<K, u64, A>>>(plan),
@@ -57,6 +61,7 @@ fn on_keys<K: Sample>(trial: &mut Trial, letter: u8, plan: &Plan) {
         b'q' => trial.carry_out::<Made<LeafParts<K>>>(plan),
         b'r' => trial.carry_out::<Made<InnerParts<K>>>(plan),
         b's' => trial.carry_out::<BPlusTree<NodeStoreVec<K, u64>>>(plan),
+        b'u' if plan.size > 0 => trial.carry_out::<MovedKeys<K>>(plan),
         b't' | b'u' => trial.carry_out::<BPlusTreeSet<K>>(plan),
         _ => trial.carry_out::<SetReadings<K>>(plan),
     }

@@ -5,7 +5,7 @@ use crate::digest::digest_of;
 use crate::plans::Call;
 use crate::sample::{Sample, pairs_of};
 use crate::shapes::{Shape, shape_of};
-use crate::trees::is_tidy_tree;
+use crate::trees::{is_sample, is_tidy_tree};
 use crate::trial::Subject;
 use std::alloc::{AllocError, Global};
 use sweep_bptree::BPlusTreeMap;
@@ -48,7 +48,8 @@ fn writes_at<K: Sample, A: Asked<K>>(
     }
 }
 
-// Whether three pairs from a place of the first group on have the values of a number and the next ones.
+// Whether three pairs from a place of the first group on have the values of a number and the next
+// ones.
 fn has_three<K: Sample, A: Asked<K>>(
     alloc: Global,
     map: &BPlusTreeMap<K, u64, A>,
@@ -68,6 +69,20 @@ fn has_three<K: Sample, A: Asked<K>>(
     Ok(all)
 }
 
+// Whether a cursor on a place of the first group stands on the pair of a number.
+fn stands_at<K: Sample, A: Asked<K>>(
+    alloc: Global,
+    map: &BPlusTreeMap<K, u64, A>,
+    place: usize,
+    number: u64,
+) -> Result<bool, AllocError> {
+    let query = A::query(alloc, 0, place)?;
+    let Some((cursor, value)) = map.cursor_by_argument(query)? else {
+        return Ok(false);
+    };
+    Ok(*value == number && is_sample(cursor.key(), number))
+}
+
 // Whether a pair has the value of a number.
 fn is_of<K: Drop>(pair: Option<(K, u64)>, number: u64) -> bool {
     match pair {
@@ -82,14 +97,15 @@ impl<K: Sample, A: Asked<K>> Subject for Placed<K, A> {
         Ok(Placed(map))
     }
 
-    // In each round the first pair has gone that was there before, and of the pairs from 100 on each second one.
+    // In each round the first pair has gone that was there before, and of the pairs from 100 on
+    // each second one.
     fn answers(&mut self, alloc: Global, call: Call) -> Result<bool, AllocError> {
         let Call::Own(turn) = call else {
             return Ok(false);
         };
         let map = &mut self.0;
-        let round = turn / 5;
-        match turn % 5 {
+        let round = turn / 6;
+        match turn % 6 {
             0 => has_at(alloc, map, 5, round.wrapping_add(5)),
             1 => writes_at(alloc, map, 7, round.wrapping_add(7)),
             2 => has_three(alloc, map, 9, round.wrapping_add(9)),
@@ -98,6 +114,7 @@ impl<K: Sample, A: Asked<K>> Subject for Placed<K, A> {
                 let number = round.wrapping_mul(2).wrapping_add(100);
                 Ok(is_of(map.remove_by_argument(query)?, number))
             }
+            4 => stands_at(alloc, map, 11, round.wrapping_add(11)),
             _ => Ok(is_of(map.pop_first()?, round)),
         }
     }

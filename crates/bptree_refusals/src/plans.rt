@@ -25,7 +25,8 @@ pub struct Plan {
     pub name: &'static str,
     /// How many pairs or keys it begins with.
     pub many: u64,
-    /// The turn from which on requests are refused; none where they are from the beginning on, where all is made.
+    /// The turn from which on requests are refused; none where they are from the beginning on,
+    /// where all is made.
     pub begins: Option<u64>,
     /// How many pairs or keys it ends with, at least.
     pub least: usize,
@@ -33,7 +34,8 @@ pub struct Plan {
     pub most: usize,
 }
 
-/// How many lists of commands a tree is given: with no pairs at first, with 100, with 4161, or with 4224 of which few are kept.
+/// How many lists of commands a tree is given: with no pairs at first, with 100, with 4161, or with
+/// 4224 of which few are kept.
 pub fn lists_of(many: u64) -> u64 {
     match many {
         0 => 400,
@@ -149,7 +151,9 @@ impl Plan {
             b'e' => high(turn, self.last_turn(), 3),
             b'k' => own(turn, lists_of(self.many)),
             b'm' => own(turn, 8),
-            b'o' => own(turn, 20),
+            b'o' if self.size > 1 => own(turn, 7),
+            b'o' => own(turn, 24),
+            b'u' => own(turn, 6),
             _ => None,
         }
     }
@@ -221,8 +225,8 @@ const GROUP_NAMES: [&str; 25] = [
     "groups, summed",
 ];
 
-// Of each letter how many pairs or keys there are at first, the turn from which on requests are refused, and how many there are
-// at the end, at least and at most.
+// Of each letter: how many pairs or keys there are at first, the turn from which on requests are
+// refused, and how many there are at the end, at least and at most.
 const ROWS: [(u64, Option<u64>, usize, usize); 25] = [
     (0, None, 65, 65),
     (4160, Some(0), 4161, 4161),
@@ -251,14 +255,15 @@ const ROWS: [(u64, Option<u64>, usize, usize); 25] = [
     (5000, Some(0), 5000, 5000),
 ];
 
-// A scenario on a larger tree, or by other calls: its letter and its digit, its names on numbers and on groups, and the rest.
+// A scenario on a larger tree, or by other calls: its letter and its digit, its names on numbers
+// and on groups, and the rest.
 type Row = (
     (u8, u8),
     (&'static str, &'static str),
     (u64, Option<u64>, usize, usize),
 );
 
-const LARGER: [Row; 11] = [
+const LARGER: [Row; 17] = [
     (
         (b'b', 1),
         ("numbers, full root, high", "groups, full root, high"),
@@ -304,6 +309,54 @@ const LARGER: [Row; 11] = [
             "groups, map by places",
         ),
         (400, Some(0), 392, 392),
+    ),
+    (
+        (b'o', 2),
+        (
+            "numbers, few moved between maps",
+            "groups, few moved between maps",
+        ),
+        (40, Some(0), 44, 44),
+    ),
+    (
+        (b'o', 3),
+        (
+            "numbers, moved between maps",
+            "groups, moved between maps",
+        ),
+        (150, Some(0), 154, 154),
+    ),
+    (
+        (b'o', 4),
+        (
+            "numbers, many moved between maps",
+            "groups, many moved between maps",
+        ),
+        (4161, Some(0), 4165, 4165),
+    ),
+    (
+        (b'u', 1),
+        (
+            "numbers, few moved between sets",
+            "pairs, few moved between sets",
+        ),
+        (40, Some(0), 43, 43),
+    ),
+    (
+        (b'u', 2),
+        (
+            "numbers, moved between sets",
+            "pairs, moved between sets",
+        ),
+        (150, Some(0), 153, 153),
+    ),
+    (
+        (b'u', 3),
+        (
+            "numbers, many moved between sets",
+            "pairs, many moved between sets",
+        ),
+        (4161, Some(0), 4164, 4164),
     ),
     (
         (b'g', 1),

@@ -9,7 +9,8 @@ use std::alloc::{AllocError, Global};
 use sweep_bptree::BPlusTreeSet;
 use sweep_bptree::tree::{BPlusTree, CloneArgument, CloneStore, Cursor, NodeStore};
 
-/// A tree that is read, an empty one, and one that is handed over; with its last key, that key once more, and a greater one.
+/// A tree that is read, an empty one, and one that is handed over; with its last key, that key once
+/// more, and a greater one.
 #[derive(Drop)]
 pub struct Readings<S: NodeStore> {
     tree: BPlusTree<S>,
@@ -153,7 +154,8 @@ where
     }
 }
 
-/// Two sets that are read, of which one is handed over, with the last key of both, that key once more, and a greater one.
+/// Two sets that are read, of which one is handed over, with the last key of both, that key once
+/// more, and a greater one.
 #[derive(Drop)]
 pub struct SetReadings<K: Sample> {
     one: BPlusTreeSet<K>,
@@ -163,8 +165,8 @@ pub struct SetReadings<K: Sample> {
     gone: K,
 }
 
-// How many keys of two equal sets there are together, with those that one has alone and those that both have, and how many the
-// second hands over.
+// How many keys of two equal sets there are together, with those that one has alone and those that
+// both have, and how many the second hands over.
 fn counted<K: Sample>(one: &BPlusTreeSet<K>, other: BPlusTreeSet<K>) -> usize {
     let mut count: usize = 0;
     for _key in one.union(&other) {

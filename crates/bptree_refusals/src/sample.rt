@@ -56,7 +56,8 @@ fn group_name(number: u64) -> &'static str {
     GROUPS[(number / 170).min(25) as usize]
 }
 
-/// Pairs of the keys of so many numbers, in their order; or else in no order, each of 100 again and again.
+/// Pairs of the keys of so many numbers, in their order; or else in no order, each of 100 again and
+/// again.
 pub fn pairs_of<K: Sample>(
     alloc: Global,
     many: u64,

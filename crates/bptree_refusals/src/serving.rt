@@ -72,9 +72,10 @@ const INPUT: &str =
 
 const OUTPUT: &str = "new\nnew\nold 20\nin 1\nout 2\n1 10\n2 21\ngone 10\n2 21\nbad\n";
 
-// How many bytes answer the lines before the one that is refused, once so many pieces were read. Before the first one the tree is
-// made, and no line is answered. A leaf has room for 64 pairs, and where one more comes behind them 32 stay in it: so of pairs
-// that come in their order those at places 64, 96, 128 and so on take memory, which are one of each piece behind the first. Each
+// How many bytes answer the lines before the one that is refused, once so many pieces were read.
+// Before the first one the tree is made, and no line is answered. A leaf has room for 64 pairs, and
+// where one more comes behind them 32 stay in it. So of pairs that come in their order those at
+// places 64, 96, 128 and so on take memory. They are one of each piece behind the first. Each
 // answer to a line that puts has 4 bytes.
 fn answered_before(pieces: usize) -> Option<usize> {
     match pieces {

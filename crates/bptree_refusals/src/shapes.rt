@@ -3,7 +3,8 @@
 use crate::digest::NUMBERS;
 use sweep_bptree::tree::{BPlusTree, InnerNodeId, LeafNodeId, NodeStore};
 
-/// The height of a tree, the number of its nodes, and how often it was rebalanced by rotations and by merges.
+/// The height of a tree, the number of its nodes, and how often it was rebalanced by rotations and
+/// by merges.
 #[derive(Clone, Copy)]
 pub struct Shape {
     height: usize,

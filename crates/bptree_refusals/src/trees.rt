@@ -37,7 +37,8 @@ pub fn is_sample<K: Sample>(key: &K, number: u64) -> bool {
     word_of(key) == digest.value()
 }
 
-// Whether a pair that has left is that of a number, where it had that value, with its key as it was put; or none has left.
+// Whether a pair that has left is that of a number, where it had that value, with its key as it was
+// put; or none has left.
 fn is_entry<K: Sample>(gone: Option<(K, u64)>, number: u64, old: Option<u64>) -> bool {
     match gone {
         Some((key, value)) => is_sample(&key, number) && old == Some(value),
@@ -56,7 +57,8 @@ where
     }
 }
 
-// The pair of a number leaves: by its key, by its key with the key that was stored, or from the end, in turn.
+// The pair of a number leaves: by its key, by its key with the key that was stored, or from the
+// end, in turn.
 fn leaves<S: NodeStore<V = u64>>(
     tree: &mut BPlusTree<S>,
     key: &S::K,

@@ -41,6 +41,7 @@ pub struct Trial<'a> {
 }
 
 impl<'a> Trial<'a> {
+    /// A scenario in which nothing was refused yet and all is well.
     pub fn new(rt: &'a HostRuntime) -> Trial<'a> {
         Trial {
             rt,
@@ -50,33 +51,38 @@ impl<'a> Trial<'a> {
         }
     }
 
+    /// The allocator that requests go to.
     pub fn allocator(&self) -> Global {
         self.rt.alloc()
     }
 
+    /// Counts a call that was refused.
     pub fn count(&mut self) {
         self.refused = self.refused.wrapping_add(1);
     }
 
+    /// Notes whether something was as it should be.
     pub fn check(&mut self, is_well: bool) {
         self.is_well = self.is_well && is_well;
     }
 
-    /// Prints the name of a scenario. The first line that is written is the sign from which on requests are refused: so what
-    /// a scenario makes ready before it is never refused.
+    /// Prints the name of a scenario. The first line that is written is the sign from which on
+    /// requests are refused: so what a scenario makes ready before it is never refused.
     pub fn begin(&mut self, name: &str) {
         let is_said = print!(self.rt; "{name}").is_ok();
         self.check(is_said);
     }
 
-    /// Prints a colon. The second line that is written is the sign from which on nothing is refused.
+    /// Prints a colon. The second line that is written is the sign from which on nothing is
+    /// refused.
     pub fn end(&mut self) {
         let is_said = print!(self.rt; ":").is_ok();
         self.check(is_said);
     }
 
-    /// Prints whether all was as it should be, which is the answer, and how many calls were refused. Behind that stands the
-    /// height of the tree that was refused, and what the same call does to its nodes when it is made again.
+    /// Prints whether all was as it should be, which is the answer, and how many calls were
+    /// refused. Behind that stands the height of the tree that was refused, and what the same call
+    /// does to its nodes when it is made again.
     pub fn tell(self) -> bool {
         let word = if self.is_well { "ok" } else { "failed" };
         let refused = self.refused;
@@ -103,7 +109,8 @@ impl<'a> Trial<'a> {
         }
     }
 
-    // A refused call must leave all as the calls before its turn made it, with no number held, and is made again.
+    // A refused call must leave all as the calls before its turn made it, with no number held, and
+    // is made again.
     fn call<T: Subject>(&mut self, subject: &mut T, plan: &Plan, turn: u64, call: Call) {
         let is_well = match subject.answers(self.allocator(), call) {
             Ok(is_well) => is_well,
@@ -127,7 +134,8 @@ impl<'a> Trial<'a> {
         is_well
     }
 
-    /// Carries out a scenario. What is made after a refusal has to be the same as where nothing is refused.
+    /// Carries out a scenario. What is made after a refusal has to be the same as where nothing is
+    /// refused.
     pub fn carry_out<T: Subject>(&mut self, plan: &Plan) {
         let name = plan.name;
         if plan.begins.is_none() {

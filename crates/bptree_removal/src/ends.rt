@@ -8,8 +8,8 @@ use bptree_keys::entry_ref::VisitStack;
 use bptree_keys::node_id::{LeafNodeId, NodeId};
 use bptree_stores::node_stores::NodeStore;
 
-/// The first leaf of the tree of a height under a number, and at the end of a path the inner nodes on the way to it. No key is
-/// compared.
+/// The first leaf of the tree of a height under a number, and at the end of a path the inner nodes
+/// on the way to it. No key is compared.
 pub fn first_path<S: NodeStore>(
     store: &S,
     id: NodeId,

@@ -37,8 +37,8 @@ pub struct Removed<V, A> {
     pub summary: A,
 }
 
-// Rebalances a leaf that underflowed, at a place of a node: it rotates a pair or merges with its sibling. It answers a summary
-// of all keys.
+// Rebalances a leaf that underflowed, at a place of a node: it rotates a pair or merges with its
+// sibling. It answers a summary of all keys.
 fn rebalance_leaf<S: NodeStore>(
     store: &mut S,
     path: &mut VisitStack,
@@ -120,8 +120,8 @@ fn sum_of<S: NodeStore>(store: &S, id: LeafNodeId) -> Result<S::Argument, AllocE
     S::Argument::from_leaf(leaf.keys())
 }
 
-// Takes the pair at a slot out of the leaf at the end of a path, which stays where it is. It answers the pair and a summary
-// of all keys.
+// Takes the pair at a slot out of the leaf at the end of a path, which stays where it is. It
+// answers the pair and a summary of all keys.
 fn take_in_place<S: NodeStore>(
     store: &mut S,
     path: &mut VisitStack,
@@ -147,7 +147,8 @@ fn take_in_place<S: NodeStore>(
     }
 }
 
-/// Takes the pair at a slot out of the leaf at the end of a path. It answers the pair and a summary of all keys.
+/// Takes the pair at a slot out of the leaf at the end of a path. It answers the pair and a summary
+/// of all keys.
 pub fn take_out<S: NodeStore>(
     store: &mut S,
     path: &mut VisitStack,
@@ -194,7 +195,8 @@ fn shrink_root<S: NodeStore>(store: &mut S, root: NodeId, height: usize) -> (Nod
     (child, height - 1)
 }
 
-// Takes the pair at a slot of the leaf at the end of a path out of a whole tree, and settles the root.
+// Takes the pair at a slot of the leaf at the end of a path out of a whole tree, and settles the
+// root.
 fn take_whole<S: NodeStore>(
     store: &mut S,
     path: &mut VisitStack,
@@ -218,8 +220,8 @@ fn take_whole<S: NodeStore>(
     })
 }
 
-/// The leaf and the slot of the key that equals `k` in a whole tree, where there is one, and at the end of the path the way
-/// there. It takes no memory. What the path held before plays no part.
+/// The leaf and the slot of the key that equals `k` in a whole tree, where there is one, and at the
+/// end of the path the way there. It takes no memory. What the path held before plays no part.
 pub fn find_entry<S: NodeStore>(
     store: &S,
     path: &mut VisitStack,
@@ -240,7 +242,8 @@ pub fn find_entry<S: NodeStore>(
     }
 }
 
-/// Takes the pair that `find_entry` found out of a whole tree, by the way that it left in the path. A refusal changes no slot.
+/// Takes the pair that `find_entry` found out of a whole tree, by the way that it left in the path.
+/// A refusal changes no slot.
 pub fn take_entry<S: NodeStore>(
     store: &mut S,
     path: &mut VisitStack,
@@ -257,9 +260,9 @@ pub fn take_entry<S: NodeStore>(
     take_whole(store, path, root, height, leaf, slot, statistic)
 }
 
-/// Removes the pair with a key equal to `k` from a whole tree, where there is one, and hands it out with the key that stood
-/// there. It takes no memory where there is none; a refusal changes no slot. What the path held before plays no part: it is
-/// rotated, so that none need be made.
+/// Removes the pair with a key equal to `k` from a whole tree, where there is one, and hands it out
+/// with the key that stood there. It takes no memory where there is none; a refusal changes no
+/// slot. What the path held before plays no part: it is rotated, so that none need be made.
 pub fn remove_entry<S: NodeStore>(
     store: &mut S,
     path: &mut VisitStack,
@@ -318,8 +321,9 @@ pub fn remove<S: NodeStore>(
     }
 }
 
-/// Removes the pair with the least key from a whole tree, where there is one, and hands it out. No key is compared or cloned on
-/// the way down. It takes no memory where there is none; a refusal changes no slot. The path is rotated as to `remove_entry`.
+/// Removes the pair with the least key from a whole tree, where there is one, and hands it out. No
+/// key is compared or cloned on the way down. It takes no memory where there is none; a refusal
+/// changes no slot. The path is rotated as to `remove_entry`.
 pub fn remove_first<S: NodeStore>(
     store: &mut S,
     path: &mut VisitStack,
@@ -366,8 +370,8 @@ pub fn remove_last<S: NodeStore>(
     Ok(Some(gone))
 }
 
-/// Removes the pair at a place that is allowed for the query from a whole tree, where one is found; a refusal changes no
-/// slot. The path is lent as to `remove`.
+/// Removes the pair at a place that is allowed for the query from a whole tree, where one is found;
+/// a refusal changes no slot. The path is lent as to `remove`.
 pub fn remove_by_argument<S: NodeStore>(
     store: &mut S,
     path: &mut VisitStack,

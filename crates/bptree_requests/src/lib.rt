@@ -45,8 +45,9 @@ pub enum Request {
     Page(u64, u64),
 }
 
-/// The number that a word writes: `0`, or a digit 1 to 9 and then digits, below 2 to the power of 64. A sign, a leading
-/// zero and any byte that is no digit make it none. Each byte is looked at once.
+/// The number that a word writes: `0`, or a digit 1 to 9 and then digits, below 2 to the power of
+/// 64. A sign, a leading zero and any byte that is no digit make it none. Each byte is looked at
+/// once.
 #[tactic(auto, unfolding(crate::specs::Number::number_of))]
 pub fn number(word: &[u8]) -> Option<u64>
     ensures { result ≡ number_of word.now }
@@ -86,8 +87,8 @@ fn first_word(line: &[u8]) -> (&[u8], Option<&[u8]>)
     (line, None)
 }
 
-/// The request that a line writes, or none. One space stands between two words, and none before the first or after the
-/// last. The line comes without its line feed.
+/// The request that a line writes, or none. One space stands between two words, and none before the
+/// first or after the last. The line comes without its line feed.
 pub fn read_request(line: &[u8]) -> Option<Request>
     ensures { result ≡ request_of line.now }
 {
@@ -160,7 +161,8 @@ fn pair_request(name: &[u8], first: &[u8], second: &[u8]) -> Option<Request>
     }
 }
 
-/// A line is read as a request exactly where it is the line that writes the request and its numbers fit 64 bits.
+/// A line is read as a request exactly where it is the line that writes the request and its numbers
+/// fit 64 bits.
 pub fn one_writing()
     ensures { OneWriting }
 {}

@@ -13,8 +13,8 @@ use bptree_tree::cursor::Cursor;
 use bptree_tree::{BPlusTree, InsertError, SelectError};
 use std::alloc::{AllocError, Global};
 
-/// What is asked of a tree, or of a cursor that is held. Held cursors are numbered 0, 1, and so on, in the order in which
-/// they were made.
+/// What is asked of a tree, or of a cursor that is held. Held cursors are numbered 0, 1, and so on,
+/// in the order in which they were made.
 #[derive(Debug, Drop)]
 pub enum Command<K, V, Q> {
     /// Puts the value at the key.
@@ -57,10 +57,11 @@ pub enum Command<K, V, Q> {
     Value(usize),
     /// Takes pairs from the ends of an iterator that is made for it.
     Walk(Vec<End>),
-    /// Takes pairs from the ends of an iterator over those whose key is not below the first, where it is given, and is below
-    /// the second, where it is given.
+    /// Takes pairs from the ends of an iterator over those whose key is not below the first, where
+    /// it is given, and is below the second, where it is given.
     Range(Option<K>, Option<K>, Vec<End>),
-    /// Takes pairs from the ends of an iterator over so many, from a place on that is allowed for the query.
+    /// Takes pairs from the ends of an iterator over so many, from a place on that is allowed for
+    /// the query.
     RangeAt(Q, usize, Vec<End>),
 }
 
@@ -69,12 +70,13 @@ pub enum Command<K, V, Q> {
 pub enum Reply<K, V, R> {
     /// The value at the key, before the command.
     Value(Option<V>),
-    /// A pair: the one that was removed, or a copy with a clone of its key. None where there is none: a cursor that was to
-    /// move stays, and none is held anew.
+    /// A pair: the one that was removed, or a copy with a clone of its key. None where there is
+    /// none: a cursor that was to move stays, and none is held anew.
     Pair(Option<(K, V)>),
     /// A number of pairs.
     Number(usize),
-    /// Whether there was a value to replace; true where all pairs were removed; whether the cursor's key is present.
+    /// Whether there was a value to replace; true where all pairs were removed; whether the
+    /// cursor's key is present.
     Done(bool),
     /// The rank of the key: `Ok` where it is present.
     Rank(Result<R, R>),
@@ -327,8 +329,9 @@ where
 
 /// Carries out the commands in order, and answers each.
 ///
-/// Room for all replies is found by one request, before the first command. Where that is refused, no command is carried
-/// out, and the error is answered with no reply. No cursor is held at first, and all are dropped at the end.
+/// Room for all replies is found by one request, before the first command. Where that is refused,
+/// no command is carried out, and the error is answered with no reply. No cursor is held at first,
+/// and all are dropped at the end.
 pub fn run<S: NodeStore>(
     alloc: Global,
     tree: &mut BPlusTree<S>,

@@ -88,7 +88,8 @@ where
     }
 }
 
-// Moves the cursor of a number to a pair, where there is one, and copies the pair. A refused clone leaves the cursor.
+// Moves the cursor of a number to a pair, where there is one, and copies the pair. A refused clone
+// leaves the cursor.
 fn move_to<K: Key, V: Copy, R>(
     cursors: &mut Vec<Cursor<K>>,
     number: usize,

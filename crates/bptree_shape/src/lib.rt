@@ -1,4 +1,5 @@
-//! The shape of a B+ tree of nodes in a store, ways down it to a key and to both ends, and reads at their end.
+//! The shape of a B+ tree of nodes in a store, ways down it to a key and to both ends, and reads at
+//! their end.
 #![tactic(auto)]
 
 pub mod descent;

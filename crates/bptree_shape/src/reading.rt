@@ -10,7 +10,8 @@ use bptree_keys::compares::Compares;
 use bptree_keys::node_id::{LeafNodeId, NodeId};
 use bptree_stores::node_stores::NodeStore;
 
-/// The leaf that a key belongs to: the remembered one where it is that, else it is searched for from the root.
+/// The leaf that a key belongs to: the remembered one where it is that, else it is searched for
+/// from the root.
 ///
 /// The leaf is then remembered.
 #[inline(always)]

@@ -1,3 +1,7 @@
+pub mod EmptyLemmas
 pub mod KeptKeys
+pub mod LengthLemmas
+pub mod MoveLemmas
 pub mod PartLemmas
+pub mod RangeLemmas
 pub mod ShardLemmas

@@ -34,7 +34,7 @@ module _ {K : Type 0} (cmp : K → K → Ordering) (total : IsTotalOrder cmp) (k
   below_bound : {V : Type 0} (bound : K) (l : List (K × V)) → is_lt (cmp k bound) ≡ false → AllAnswer cmp bound Less l → AllAnswer cmp k Less l
   below_bound bound l h all = AllByRecursion-weaker (λ pair. cmp pair.0 bound ≡ Less) (λ pair. cmp pair.0 k ≡ Less) (λ pair less. past_bound (cmp k bound) bound pair.0 refl h less) l all
 
-  above_bound : {V : Type 0} (bound : K) (l : List (K × V)) → cmp k bound ≡ Less → NoneBelow cmp bound l → AllAnswer cmp k Greater l
+  pub above_bound : {V : Type 0} (bound : K) (l : List (K × V)) → cmp k bound ≡ Less → NoneBelow cmp bound l → AllAnswer cmp k Greater l
   above_bound bound l h all = AllByRecursion-weaker (λ pair. is_lt (cmp pair.0 bound) ≡ false) (λ pair. cmp pair.0 k ≡ Greater) (λ pair none. before_bound (cmp pair.0 bound) bound pair.0 refl none h) l all
 
 -- where a key's shard stands: behind smaller keys, and before greater ones
@@ -43,7 +43,7 @@ pub record Routed {K V : Type 0} (cmp : K → K → Ordering) (shards : List (Li
   pub smaller : AllAnswer cmp k Less (flatten (take i shards))
   pub greater : AllAnswer cmp k Greater (flatten (drop (suc i) shards))
 
-less_is : (o : Ordering) → is_lt o ≡ true → o ≡ Less
+pub less_is : (o : Ordering) → is_lt o ≡ true → o ≡ Less
 less_is Less h = refl
 less_is Equal h = absurd cc
 less_is Greater h = absurd cc

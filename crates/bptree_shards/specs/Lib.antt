@@ -1,1 +1,3 @@
+pub mod Lengths
+pub mod Moves
 pub mod Shards

@@ -1,12 +1,13 @@
 -- One ascending list in shards: consecutive pieces of it, cut at ascending bounds. A shard may be empty.
-use Rattle.std.specs.Prelude.{◌≡◌, ℕ, zero, suc, false, List, [], ◌∷◌, set, if◌then◌else◌}
+use Rattle.std.specs.Prelude.{◌≡◌, ◌+◌, ◌-◌, ℕ, zero, suc, false, List, [], ◌∷◌, Option, Some, None, length, set, not, filter, reverse, if◌then◌else◌}
 use Rattle.std.specs.declared.cmp.Ordering.{Ordering}
 use Rattle.std.specs.declared.cmp.Ordering.TheVariants.{Less}
-use Rattle.std.specs.Ordering.{is_lt}
+use Rattle.std.specs.Ordering.{is_lt, is_gt}
 use Rattle.std.specs.List.{AllByRecursion}
 use Rattle.bptree_keys.specs.Contents.{IsAscending}
 use Rattle.bptree_keys.specs.Pieces.{flatten, piece_at}
 use Rattle.bptree_keys.specs.Places.{AllAnswer}
+use Rattle.bptree_keys.specs.Ranges.{between, part}
 
 module _ {K : Type 0} (cmp : K → K → Ordering) where
   -- the number of the shard of a key: it stands before the first bound that is above it, so a key that equals a bound
@@ -14,6 +15,20 @@ module _ {K : Type 0} (cmp : K → K → Ordering) where
   abbrev pub shard_of : List K → K → ℕ
   shard_of [] k = zero
   shard_of (bound ∷ bounds) k = if is_lt (cmp k bound) then zero else suc (shard_of bounds k)
+
+  -- the number of the last shard that may have a key below k: it stands before the first bound that is not below k
+  abbrev pub shard_below : List K → K → ℕ
+  shard_below [] k = zero
+  shard_below (bound ∷ bounds) k = if is_gt (cmp k bound) then suc (shard_below bounds k) else zero
+
+  -- the first shard that may have a pair between two keys, either of which may be left out, and the last one
+  abbrev pub first_shard : List K → Option K → ℕ
+  first_shard bounds None = zero
+  first_shard bounds (Some lo) = shard_of bounds lo
+
+  abbrev pub last_shard : List K → Option K → ℕ
+  last_shard bounds None = length bounds
+  last_shard bounds (Some hi) = shard_below bounds hi
 
   module _ {V : Type 0} where
     -- no key is below the bound
@@ -35,7 +50,22 @@ module _ {K : Type 0} (cmp : K → K → Ordering) where
     abbrev pub own_shard : List K → List (List (K × V)) → K → List (K × V)
     own_shard bounds shards k = piece_at shards (shard_of bounds k)
 
+    -- the last shard that may have a key below a key
+    abbrev pub lower_shard : List K → List (List (K × V)) → K → List (K × V)
+    lower_shard bounds shards k = piece_at shards (shard_below bounds k)
+
+    -- the shards that may have a pair between two keys
+    abbrev pub shards_between : List K → List (List (K × V)) → Option K → Option K → List (List (K × V))
+    shards_between bounds shards lo hi = part shards (first_shard bounds lo) (last_shard bounds hi + 1 - first_shard bounds lo)
+
     -- with another list in the place of a key's shard, the shards are those of another whole
     abbrev pub IsOneChanged : List K → List (List (K × V)) → K → List (K × V) → List (K × V) → Type 0
     IsOneChanged bounds shards k new whole =
         let after = set shards (shard_of bounds k) new in AreShards bounds after × (flatten after ≡ whole)
+
+    -- the pairs from a key on, and those up to it, the last one first
+    abbrev pub from_key : List (K × V) → K → List (K × V)
+    from_key l k = between cmp l (Some k) None
+
+    abbrev pub back_from : List (K × V) → K → List (K × V)
+    back_from l k = reverse (filter (λ pair. not (is_gt (cmp pair.0 k))) l)

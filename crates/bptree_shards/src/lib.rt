@@ -1,5 +1,9 @@
-//! One ordered list over shards: which shard a call goes to, and how the answers of shards make the answer of the whole.
+//! One ordered list over shards: which shard a call goes to, and how the answers of shards make the
+//! answer of the whole.
 #![tactic(auto)]
 
+pub mod combining;
 pub mod laws;
+pub mod moves;
 pub mod routing;
+pub mod whole;

@@ -23,20 +23,22 @@ fn is_vacant<N>(places: &Slab<Place<N>>) -> bool
     places.is_empty()
 }
 
-/// Nodes in boxes, whose places stand in two slabs. A released number is given out again, the last released first; where
-/// none is left of these, the next number is the least one that was never given out. So each number is less than the most that
-/// were taken at a time, and a remembered number can stand for another leaf than it did.
+/// Nodes in boxes, whose places stand in two slabs. A released number is given out again, the last
+/// released first; where none is left of these, the next number is the least one that was never
+/// given out. So each number is less than the most that were taken at a time, and a remembered
+/// number can stand for another leaf than it did.
 ///
-/// A new number takes amortised constant time, moves no node, and takes no memory where a released one is left. A clone copies
-/// every node; `try_cache` compares the key with at most two others. Each other call takes constant time. A store that is
-/// dropped drops each node that is present.
+/// A new number takes amortised constant time, moves no node, and takes no memory where a released
+/// one is left. A clone copies every node; `try_cache` compares the key with at most two others.
+/// Each other call takes constant time. A store that is dropped drops each node that is present.
 #[derive(Drop)]
 pub struct NodeStoreVec<K: Key, V, A: Argument<K> = ()> {
     inner_nodes: Slab<Place<InnerNode<K, A>>>,
     leaf_nodes: Slab<Place<LeafNode<K, V>>>,
     alloc: Global,
     cached_leaf: Cell<usize>,
-    // The number that was given last to be remembered. It is remembered once it is given twice in turn.
+    // The number that was given last to be remembered. It is remembered once it is given twice in
+    // turn.
     last_leaf: Cell<usize>,
 }
 
@@ -222,8 +224,8 @@ impl<K: Key, V: Clone, A: Argument<K>> Clone for NodeStoreVec<K, V, A> {
 
     ghost is_clone = { IsStoreClone K.is_clone V.is_clone A.is_clone };
 
-    /// A store of clones, which remembers the same hint and gives out the released numbers in the same order. A refusal drops
-    /// the clones made so far.
+    /// A store of clones, which remembers the same hint and gives out the released numbers in the
+    /// same order. A refusal drops the clones made so far.
     fn clone(&self) -> Result<Self, AllocError> {
         Ok(NodeStoreVec {
             inner_nodes: self.inner_nodes.clone()?,

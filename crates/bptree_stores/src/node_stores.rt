@@ -18,8 +18,8 @@ use std::alloc::{AllocError, Global};
 
 /// Inner nodes and leaves, each under a number. A number is free, held, or present with its node.
 ///
-/// A call changes what stands under the one number that it names or answers. A call on `&self` and a refused call change
-/// nothing. Only the calls that answer a new number can be refused.
+/// A call changes what stands under the one number that it names or answers. A call on `&self` and
+/// a refused call change nothing. Only the calls that answer a new number can be refused.
 pub trait NodeStore: Drop {
     /// The keys of the nodes.
     type K: Key;
@@ -58,7 +58,8 @@ pub trait NodeStore: Drop {
         LeafNode::<Self::K, Self::V>::max_capacity()
     }
 
-    /// A store with no node and no number held, which takes memory from `alloc` as it grows. It takes none now.
+    /// A store with no node and no number held, which takes memory from `alloc` as it grows. It
+    /// takes none now.
     fn empty(alloc: Global) -> Self
         ensures { IsEmpty (slots result) };
 
@@ -133,7 +134,8 @@ pub trait NodeStore: Drop {
     fn try_get_leaf(&self, id: LeafNodeId) -> Option<&LeafNode<Self::K, Self::V>>
         ensures { MatchOption result (¬ (IsPresent ((slots self.now).leaf id.0))) (λ leaf. (slots self.now).leaf id.0 ≡ Present leaf.now) };
 
-    /// Takes an inner node out. Its number is held, until the node is put back or the number released.
+    /// Takes an inner node out. Its number is held, until the node is put back or the number
+    /// released.
     fn take_inner(&mut self, id: InnerNodeId) -> Box<InnerNode<Self::K, Self::Argument>>
         requires { IsPresent ((slots self.old).inner id.0) }
         ensures value { (slots self.old).inner id.0 ≡ Present result.value }
@@ -168,8 +170,8 @@ pub trait NodeStore: Drop {
     /// Remembers the number of a leaf as a hint. Any number will do, since `try_cache` trusts none.
     fn cache_leaf(&self, id: LeafNodeId);
 
-    /// The remembered leaf, where one is present under that number and no leaf beside it can hold the key. A store may
-    /// forget the number at any time.
+    /// The remembered leaf, where one is present under that number and no leaf beside it can hold
+    /// the key. A store may forget the number at any time.
     #[inline]
     fn try_cache(&self, k: &Self::K) -> Option<LeafNodeId>
         ensures { IfSome result (λ id. HoldsKey Self.K.cmp ((slots self.now).leaf id.0) k.now) }
@@ -199,7 +201,8 @@ pub trait NodeStore: Drop {
 
 /// A store that can be cloned.
 ///
-/// A clone that succeeds has the same numbers present and held, and under each present number a clone of its node.
+/// A clone that succeeds has the same numbers present and held, and under each present number a
+/// clone of its node.
 pub trait CloneStore: NodeStore + Clone
 where
     Self::V: Clone,

@@ -6,5 +6,6 @@ pub mod EntryLemmas
 pub mod Heights
 pub mod LentAt
 pub mod PartSpans
+pub mod RangeRemovalLemmas
 pub mod Spans
 pub mod Started

@@ -8,8 +8,8 @@ use bptree_nodes::leaf_node::LeafNode;
 use bptree_stores::node_stores::NodeStore;
 use std::marker::Model;
 
-/// The leaves that are left, seen as their pairs. A leaf that is taken is out of the store, and its number is released; those
-/// that are left are dropped with the store, as the inner nodes are.
+/// The leaves that are left, seen as their pairs. A leaf that is taken is out of the store, and its
+/// number is released; those that are left are dropped with the store, as the inner nodes are.
 #[derive(Drop)]
 pub(crate) struct Chain<S: NodeStore> {
     store: S,

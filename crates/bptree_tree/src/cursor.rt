@@ -11,11 +11,12 @@ use bptree_keys::node_id::LeafNodeId;
 use bptree_stores::node_stores::NodeStore;
 use std::alloc::AllocError;
 
-/// A key, which need not be in any tree: each call names the tree that it asks, and answers by the key alone.
+/// A key, which need not be in any tree: each call names the tree that it asks, and answers by the
+/// key alone.
 ///
-/// A cursor remembers where its key stood. Each use tests that place, so that it may be wrong, and the tree may have changed
-/// since, or be another one. Where it is right a step takes no search; where only the leaf is, it takes a search of that leaf;
-/// else it takes a search from the root.
+/// A cursor remembers where its key stood. Each use tests that place, so that it may be wrong, and
+/// the tree may have changed since, or be another one. Where it is right a step takes no search;
+/// where only the leaf is, it takes a search of that leaf; else it takes a search from the root.
 #[derive(Clone, Copy, Debug, Drop)]
 pub struct Cursor<K> {
     key: K,
@@ -44,8 +45,8 @@ impl<K: Key> Cursor<K> {
         &self.key
     }
 
-    /// A cursor on the least key of a tree, and the value there. It takes what a clone of the key takes, and of an
-    /// empty tree nothing.
+    /// A cursor on the least key of a tree, and the value there. It takes what a clone of the key
+    /// takes, and of an empty tree nothing.
     pub fn first<'t, S: NodeStore<K = K>>(
         tree: &'t BPlusTree<S>,
     ) -> Result<Option<(Self, &'t S::V)>, AllocError>
@@ -57,8 +58,8 @@ impl<K: Key> Cursor<K> {
         tree.cursor_at_first()
     }
 
-    /// A cursor on the greatest key of a tree, and the value there. It takes what a clone of the key takes, and of an
-    /// empty tree nothing.
+    /// A cursor on the greatest key of a tree, and the value there. It takes what a clone of the
+    /// key takes, and of an empty tree nothing.
     pub fn last<'t, S: NodeStore<K = K>>(
         tree: &'t BPlusTree<S>,
     ) -> Result<Option<(Self, &'t S::V)>, AllocError>
@@ -70,8 +71,8 @@ impl<K: Key> Cursor<K> {
         tree.cursor_at_last()
     }
 
-    /// A cursor on the least greater key, where there is one. It takes what a clone of that key takes, and where there is none
-    /// it takes nothing.
+    /// A cursor on the least greater key, where there is one. It takes what a clone of that key
+    /// takes, and where there is none it takes nothing.
     pub fn next<S: NodeStore<K = K>>(&self, tree: &BPlusTree<S>) -> Result<Option<Self>, AllocError>
         ensures cursor { IfOk result (StandsAt K.cmp (next K.cmp tree.now.contents (cursor_key self.now))) }
         ensures end { next K.cmp tree.now.contents (cursor_key self.now) ≡ None → result ≡ Ok None }
@@ -83,8 +84,8 @@ impl<K: Key> Cursor<K> {
         }
     }
 
-    /// A cursor on the greatest smaller key, where there is one. It takes what a clone of that key takes, and where there is
-    /// none it takes nothing.
+    /// A cursor on the greatest smaller key, where there is one. It takes what a clone of that key
+    /// takes, and where there is none it takes nothing.
     pub fn prev<S: NodeStore<K = K>>(&self, tree: &BPlusTree<S>) -> Result<Option<Self>, AllocError>
         ensures cursor { IfOk result (StandsAt K.cmp (previous K.cmp tree.now.contents (cursor_key self.now))) }
         ensures end { previous K.cmp tree.now.contents (cursor_key self.now) ≡ None → result ≡ Ok None }
@@ -129,7 +130,8 @@ impl<K: Key> Cursor<K> {
         self.value(tree).is_some()
     }
 
-    /// The value at the key of the tree that equals the cursor's, where one does. It takes no memory.
+    /// The value at the key of the tree that equals the cursor's, where one does. It takes no
+    /// memory.
     pub fn value<'t, S: NodeStore<K = K>>(&self, tree: &'t BPlusTree<S>) -> Option<&'t S::V>
         ensures { option_copied result ≡ value K.cmp tree.now.contents (cursor_key self.now) }
     {

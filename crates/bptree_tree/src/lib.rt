@@ -1,4 +1,5 @@
-//! An ordered map in memory that is one strictly ascending list of pairs, kept in a B+ tree over a store of nodes.
+//! An ordered map in memory that is one strictly ascending list of pairs, kept in a B+ tree over a
+//! store of nodes.
 #![tactic(auto)]
 
 mod chain;

@@ -17,6 +17,7 @@ mod loading;
 mod owning;
 mod places;
 mod queries;
+mod range_removal;
 mod ranges;
 mod removals;
 
@@ -36,7 +37,8 @@ pub use owning::IntoIter;
 use std::alloc::AllocError;
 use std::marker::Model;
 
-/// Pairs of a key and a value, in the strictly ascending order of their keys, in the nodes of a store.
+/// Pairs of a key and a value, in the strictly ascending order of their keys, in the nodes of a
+/// store.
 #[derive(Drop)]
 pub struct BPlusTree<S: NodeStore> {
     store: S,
@@ -151,9 +153,11 @@ impl<S: NodeStore> BPlusTree<S> {
 
     /// Puts `v` at `k`, and hands back the value that was there.
     ///
-    /// A key that equals `k` stays, and its value alone is replaced: that takes no memory and is never refused. A new key
-    /// takes memory where a leaf is full: for one node on each level that is split, for a new root where the root is, for the
-    /// places of their numbers in the store, and for a clone of one key; and where a summary takes some. Each node on the way to its leaf takes a new summary of its child. A pair with a new key can be
+    /// A key that equals `k` stays, and its value alone is replaced: that takes no memory and is
+    /// never refused. A new key takes memory where a leaf is full. It takes some for one node on
+    /// each level that is split, for a new root where the root is, for the places of their numbers
+    /// in the store, and for a clone of one key. It takes some too where a summary does. Each node
+    /// on the way to its leaf takes a new summary of its child. A pair with a new key can be
     /// refused: for want of memory, or in a tree of `usize::MAX` pairs. Then nothing has changed.
     pub fn insert(&mut self, k: S::K, v: S::V) -> Result<Option<S::V>, InsertError<S::K, S::V>>
         ensures ok { IfOk result (λ old. (old ≡ value S.K.cmp self.old.contents k) × (self.new.contents ≡ put S.K.cmp self.old.contents k v)) }
@@ -186,11 +190,12 @@ impl<S: NodeStore> BPlusTree<S> {
         }
     }
 
-    /// Removes the pair whose key equals `k`, and hands back its value. Where no key does, nothing changes and nothing can be
-    /// refused.
+    /// Removes the pair whose key equals `k`, and hands back its value. Where no key does, nothing
+    /// changes and nothing can be refused.
     ///
-    /// Each node on the way to its leaf takes a new summary of its child, and a leaf's new separator is a clone of a key: both
-    /// may take memory. Then a removal can be refused, and nothing has changed.
+    /// Each node on the way to its leaf takes a new summary of its child, and a leaf's new
+    /// separator is a clone of a key: both may take memory. Then a removal can be refused, and
+    /// nothing has changed.
     pub fn remove(&mut self, k: &S::K) -> Result<Option<S::V>, AllocError>
         ensures ok { IfOk result (λ old. (old ≡ value S.K.cmp self.old.contents k.now) × (self.new.contents ≡ del S.K.cmp self.old.contents k.now)) }
         ensures absent { has S.K.cmp self.old.contents k.now ≡ false → result ≡ Ok None }
@@ -232,7 +237,8 @@ impl<S: NodeStore> BPlusTree<S> {
         &self.root_argument
     }
 
-    /// How often nodes that underflowed were rebalanced. A tree that is new, or was just cleared, has counted nothing.
+    /// How often nodes that underflowed were rebalanced. A tree that is new, or was just cleared,
+    /// has counted nothing.
     pub fn statistic(&self) -> &Statistic {
         &self.statistic
     }

@@ -28,33 +28,35 @@ use sweep_bptree::{BPlusTree, NodeStore, NodeStoreVec};
 
 // ---- how a program ends
 
-// No error is told as success.
+/// No error is told as success.
 pub fn has_failed(served: &Result<(), ServeError>) -> bool
     ensures { IsTrue result ↔ IsErr served.now }
 {
     exit_status(served) != 0
 }
 
-// Each of the three endings has a status of its own.
+/// Each of the three endings has a status of its own.
 pub fn end_alike(one: &Result<(), ServeError>, other: &Result<(), ServeError>) -> bool
     ensures { IsTrue result ↔ (one.now ≡ other.now) }
 {
     exit_status(one) == exit_status(other)
 }
 
-// The status of an error is that of a program that ends by it.
+/// The status of an error is that of a program that ends by it.
 pub fn status_twice(error: ServeError) -> (u8, u8)
     ensures { result.0 ≡ result.1 }
 {
     (error.status(), exit_status(&Err(error)))
 }
 
+/// What is told of a fault.
 pub fn text_of_fault(alloc: Global) -> Result<String, AllocError>
     ensures { IfOk result (λ text. string_bytes text ≡ codes "i/o fault") }
 {
     ServeError::Io.to_string(alloc)
 }
 
+/// What is told of a refusal.
 pub fn text_of_refusal(alloc: Global) -> Result<String, AllocError>
     ensures { IfOk result (λ text. string_bytes text ≡ codes "out of memory") }
 {
@@ -63,7 +65,7 @@ pub fn text_of_refusal(alloc: Global) -> Result<String, AllocError>
 
 // ---- lines
 
-// There is one part more than there are line feeds.
+/// There is one part more than there are line feeds.
 pub fn parts_of_lines()
     ensures { (bytes : List ℕ) → length (slice_split (λ b. b == 10) bytes) ≡ length (ended_lines bytes) + 1 }
 {
@@ -72,7 +74,7 @@ pub fn parts_of_lines()
 
 // ---- whole inputs
 
-// What is put is got, looked for, counted and shown, the last line without a line feed too.
+/// What is put is got, looked for, counted and shown, the last line without a line feed too.
 pub fn puts_and_gets<R: Read, W: Write>(
     alloc: Global,
     reader: &mut R,
@@ -85,7 +87,7 @@ pub fn puts_and_gets<R: Read, W: Write>(
     serve(alloc, reader, writer)
 }
 
-// Places, ends and ranks, in a map without pairs and in one with two.
+/// Places, ends and ranks, in a map without pairs and in one with two.
 pub fn places_and_ranks<R: Read, W: Write>(
     alloc: Global,
     reader: &mut R,
@@ -98,7 +100,8 @@ pub fn places_and_ranks<R: Read, W: Write>(
     serve(alloc, reader, writer)
 }
 
-// The pairs beside a key, whether it is there or not, all pairs from the last one, those between two keys, and pages.
+/// The pairs beside a key, whether it is there or not, all pairs from the last one, those between
+/// two keys, and pages.
 pub fn neighbours_and_back<R: Read, W: Write>(
     alloc: Global,
     reader: &mut R,
@@ -111,7 +114,7 @@ pub fn neighbours_and_back<R: Read, W: Write>(
     serve(alloc, reader, writer)
 }
 
-// However serving ends early, what was written is a beginning of what the whole input is answered.
+/// However serving ends early, what was written is a beginning of what the whole input is answered.
 pub fn writes_a_beginning<R: Read, W: Write>(
     alloc: Global,
     reader: &mut R,
@@ -123,7 +126,7 @@ pub fn writes_a_beginning<R: Read, W: Write>(
     serve(alloc, reader, writer)
 }
 
-// A known input is too short to have no end: `Io` tells of a reader or a writer that failed.
+/// A known input is too short to have no end: `Io` tells of a reader or a writer that failed.
 pub fn gives_up_by_a_fault_alone<R: Read, W: Write>(
     alloc: Global,
     reader: &mut R,
@@ -140,7 +143,7 @@ pub fn gives_up_by_a_fault_alone<R: Read, W: Write>(
 
 // ---- commands
 
-// One command is answered by one reply that it allows, or is not carried out.
+/// One command is answered by one reply that it allows, or is not carried out.
 pub fn reply_to<S: NodeStore>(
     alloc: Global,
     tree: &mut BPlusTree<S>,
@@ -162,7 +165,7 @@ where
     }
 }
 
-// No command needs no memory, and changes nothing.
+/// No command needs no memory, and changes nothing.
 pub fn runs_nothing<S: NodeStore>(alloc: Global, tree: &mut BPlusTree<S>) -> Option<AllocError>
 where
     S::V: Copy,
@@ -173,7 +176,7 @@ where
     run(alloc, tree, Vec::new(alloc)).1
 }
 
-// Where not all commands were carried out, none was.
+/// Where not all commands were carried out, none was.
 pub fn runs_all_or_none<S: NodeStore>(
     alloc: Global,
     tree: &mut BPlusTree<S>,
@@ -188,7 +191,7 @@ where
     run(alloc, tree, commands).0.len()
 }
 
-// The nodes of the tree have the list that the run ends with.
+/// The nodes of the tree have the list that the run ends with.
 pub fn leaves_its_list_in_the_nodes<S: NodeStore>(
     alloc: Global,
     tree: &mut BPlusTree<S>,
@@ -204,6 +207,7 @@ where
     answered
 }
 
+/// The value at a key is told, and nothing changes.
 pub fn reply_to_get<S: NodeStore>(
     alloc: Global,
     tree: &mut BPlusTree<S>,
@@ -218,6 +222,7 @@ where
     reply_to(alloc, tree, Command::Get(key))
 }
 
+/// The length is told, and nothing changes.
 pub fn reply_to_len<S: NodeStore>(
     alloc: Global,
     tree: &mut BPlusTree<S>,
@@ -231,7 +236,7 @@ where
     reply_to(alloc, tree, Command::Len)
 }
 
-// A pair is put, or it is told why not and nothing changes.
+/// A pair is put, or it is told why not and nothing changes.
 pub fn reply_to_insert<S: NodeStore>(
     alloc: Global,
     tree: &mut BPlusTree<S>,
@@ -248,7 +253,7 @@ where
     reply_to(alloc, tree, Command::Insert(key, new))
 }
 
-// A value is written where the key is there, and nothing else is changed; memory is not asked for.
+/// A value is written where the key is there, and nothing else is changed; memory is not asked for.
 pub fn reply_to_set<S: NodeStore>(
     alloc: Global,
     tree: &mut BPlusTree<S>,
@@ -267,7 +272,7 @@ where
 /// A tree of numbers that counts its keys.
 pub type NumberTree = BPlusTree<NodeStoreVec<u64, u64, Count>>;
 
-// The first and the last pair, of numbers, and none of an empty tree.
+/// The first and the last pair, of numbers, and none of an empty tree.
 pub fn replies_to_ends(
     alloc: Global,
     tree: &mut NumberTree,
@@ -282,6 +287,7 @@ pub fn replies_to_ends(
     Ok((first, last))
 }
 
+/// The pair at a place is told, or that memory was refused.
 pub fn reply_to_at(
     alloc: Global,
     tree: &mut NumberTree,
@@ -293,7 +299,7 @@ pub fn reply_to_at(
     reply_to(alloc, tree, Command::At(place))
 }
 
-// Whether the key is there, and how many are smaller.
+/// Whether the key is there, and how many are smaller.
 pub fn reply_to_rank(
     alloc: Global,
     tree: &mut NumberTree,
@@ -306,7 +312,7 @@ pub fn reply_to_rank(
     reply_to(alloc, tree, Command::Rank(key))
 }
 
-// The value at a place is written, and nothing where there is no place.
+/// The value at a place is written, and nothing where there is no place.
 pub fn reply_to_set_at(
     alloc: Global,
     tree: &mut NumberTree,
@@ -321,7 +327,7 @@ pub fn reply_to_set_at(
     reply_to(alloc, tree, Command::SetAt(place, new))
 }
 
-// A range with no upper end begins with the first pair whose key is not below the lower one.
+/// A range with no upper end begins with the first pair whose key is not below the lower one.
 pub fn first_from(
     alloc: Global,
     tree: &mut NumberTree,

@@ -12,8 +12,8 @@ use std::cell::Cell;
 use std::cmp::Ordering;
 use std::rc::Rc;
 
-/// How many comparisons were made of the keys that share it, and how many of the values were dropped. Each key and each value that
-/// is left has one more pointer to it.
+/// How many comparisons were made of the keys that share it, and how many of the values were
+/// dropped. Each key and each value that is left has one more pointer to it.
 #[derive(Drop)]
 pub struct Counts {
     pub compared: Cell<u64>,

@@ -1,5 +1,5 @@
-//! Trees that are loaded of many pairs at once, of keys and values that are counted: the sizes of their nodes, the comparisons
-//! of look-ups, and what is dropped.
+//! Trees that are loaded of many pairs at once, of keys and values that are counted: the sizes of
+//! their nodes, the comparisons of look-ups, and what is dropped.
 use crate::counted::{CountedKey, CountedValue, Counts, Made};
 use crate::tested::{Loaded, Numbered, Walked};
 use bptree_arguments::argument::CloneArgument;
@@ -63,7 +63,8 @@ fn has_line<T: Loaded>(tree: &T, full: usize, last: &[usize]) -> Result<bool, Al
     Ok(all)
 }
 
-// Whether the nodes below the root have so many children. Where none are named, no inner nodes stand there.
+// Whether the nodes below the root have so many children. Where none are named, no inner nodes
+// stand there.
 fn has_nodes<T: Loaded>(tree: &T, wanted: &[usize]) -> Result<bool, AllocError> {
     if wanted.is_empty() {
         return Ok(tree.levels() < 2);
@@ -76,8 +77,8 @@ fn has_nodes<T: Loaded>(tree: &T, wanted: &[usize]) -> Result<bool, AllocError> 
     Ok(all)
 }
 
-// How many pairs there are and how long the runs of equal keys; then the number of full leaves, the sizes of the others, and how
-// many children the nodes below the root have.
+// How many pairs there are and how long the runs of equal keys are. Then come the number of full
+// leaves, the sizes of the others, and how many children the nodes below the root have.
 type Row = (u64, u64, usize, &'static [usize], &'static [usize]);
 
 const ROWS: [Row; 9] = [
@@ -127,8 +128,8 @@ where
     Ok(all)
 }
 
-// Whether a look-up finds what is there, answers as many comparisons as the keys counted, and all three look-ups make no more
-// than so many.
+// Whether a look-up finds what is there, answers as many comparisons as the keys counted, and all
+// three look-ups make no more than so many.
 fn is_looked_up<T: Loaded>(tree: &mut T, counts: &Counts, key: &T::Key, most: u64) -> bool
 where
     T::Key: Made,
@@ -213,8 +214,8 @@ where
     Ok(all)
 }
 
-// Whether a clone of a tree has the same pairs, and loses half of them alone; and a clone of that one has counted no nodes that
-// were rebalanced. Both are dropped at the end.
+// Whether a clone of a tree has the same pairs, and loses half of them alone; and a clone of that
+// one has counted no nodes that were rebalanced. Both are dropped at the end.
 fn clone_goes_its_own_way<T: Loaded>(
     tree: &T,
     counts: &Rc<Counts>,
@@ -232,7 +233,8 @@ where
     Ok(same && taken && is_new && tree.holds(len, 0))
 }
 
-// Half of the pairs are loaded, and the others are put; a clone comes and goes; then all pairs leave.
+// Half of the pairs are loaded, and the others are put; a clone comes and goes; then all pairs
+// leave.
 fn comes_and_goes<T: Loaded>(
     alloc: Global,
     counts: &Rc<Counts>,
@@ -254,8 +256,8 @@ fn is_pair(found: Option<(u64, u64)>, number: u64) -> bool {
     found == Some((number, number.wrapping_mul(10)))
 }
 
-// Whether so many pairs come from the front, as many from the back, and are dropped as they come. What is left is dropped at the
-// end.
+// Whether so many pairs come from the front, as many from the back, and are dropped as they come.
+// What is left is dropped at the end.
 fn come_from_both_ends<P: Walked>(mut pairs: P, counts: &Counts, from_each_end: u64) -> bool {
     let mut back = pairs.left() as u64;
     let mut all = true;
@@ -350,8 +352,8 @@ where
     Ok(is_cleared::<T>(alloc, &counts)? && all)
 }
 
-// What is asked of trees: the sizes of their nodes, the comparisons of look-ups in one of so many pairs, which are no more than
-// so many, or what is dropped.
+// What is asked of trees: the sizes of their nodes, the comparisons of look-ups in one of so many
+// pairs, which are no more than so many, or what is dropped.
 #[derive(Drop)]
 enum Asked {
     Sizes,
@@ -371,7 +373,8 @@ where
     }
 }
 
-// Trees over any store answer it. A function that names a tree over a store of a known type is dearer to prove.
+// Trees over any store answer it. A function that names a tree over a store of a known type is
+// dearer to prove.
 fn tree_answers<S: CloneStore<K = CountedKey, V = CountedValue>>(
     alloc: Global,
     asked: Asked,
@@ -392,8 +395,8 @@ fn nodes_are_as_full_as_they_can_be(rt: HostRuntime) -> Result<(), Fail> {
     Ok(())
 }
 
-// An empty tree compares nothing. One of 10,000 pairs has three levels, with 7 comparisons each, and 2 are made of the
-// remembered leaf.
+// An empty tree compares nothing. One of 10,000 pairs has three levels, with 7 comparisons each,
+// and 2 are made of the remembered leaf.
 #[test]
 fn look_ups_tell_their_comparisons(rt: HostRuntime) -> Result<(), Fail> {
     assert!(rt; answers(rt.alloc(), Asked::Comparisons(0, 0))?);

@@ -1,12 +1,12 @@
-//! Cursors, on trees that change, and on others than the one that they came from; and numbers of nodes that are released, and
-//! stand for other nodes later.
+//! Cursors, on trees that change, and on others than the one that they came from; and numbers of
+//! nodes that are released, and stand for other nodes later.
 use crate::tested::{
     Ranked, nodes_below, pair_of, put, put_from, refill, take, take_from, value_of,
 };
 use std::alloc::AllocError;
 
-/// Whether cursors on 10 and on a key past the end answer by these keys alone: once 10 has left, and in another tree of 5 and
-/// 20, which is empty at last.
+/// Whether cursors on 10 and on a key past the end answer by these keys alone, once 10 has left,
+/// and in another tree of 5 and 20. That one is empty at last.
 pub fn answer_by_their_keys<T: Ranked>(tree: &mut T, other: &mut T) -> Result<bool, AllocError> {
     let mut all = refill(tree, 0, 30) && refill(other, 5, 6) && put(other, 20);
     let (Some((cursor, value)), Some((past, none))) = (tree.hold(10)?, tree.hold(70)?) else {
@@ -23,7 +23,8 @@ pub fn answer_by_their_keys<T: Ranked>(tree: &mut T, other: &mut T) -> Result<bo
     Ok(all)
 }
 
-/// Whether two cursors from the first key go their own ways while it leaves and comes again with another value.
+/// Whether two cursors from the first key go their own ways while it leaves and comes again with
+/// another value.
 pub fn two_go_on_alone<T: Ranked>(tree: &mut T) -> Result<bool, AllocError> {
     let filled = refill(tree, 0, 100);
     let ends = tree.ends()? == (pair_of(Some(0)), pair_of(Some(99)));
@@ -36,8 +37,9 @@ pub fn two_go_on_alone<T: Ranked>(tree: &mut T) -> Result<bool, AllocError> {
     Ok(filled && ends && gone && back && tree.read_held(&first).1)
 }
 
-/// Of 65 pairs the second leaf has 40, and stands under number 1. Once the keys below 34 have left, the pairs are in one leaf
-/// under number 0, and number 1 is released. Another 34 pairs split that leaf, and number 1 is given out for the greater ones.
+/// Of 65 pairs the second leaf has 40, and stands under number 1. Once the keys below 34 have left,
+/// the pairs are in one leaf under number 0, and number 1 is released. Another 34 pairs split that
+/// leaf, and number 1 is given out for the greater ones.
 pub fn survives_another_leaf<T: Ranked>(tree: &mut T) -> Result<bool, AllocError> {
     let mut all = refill(tree, 0, 65);
     let Some((cursor, _)) = tree.hold(40)? else {
@@ -54,8 +56,8 @@ pub fn survives_another_leaf<T: Ranked>(tree: &mut T) -> Result<bool, AllocError
     Ok(all)
 }
 
-/// 100,000 keys come in order, and each leaves once 1,000 others have come. Each number of a node is less than the most nodes of
-/// its kind that there were at a time.
+/// 100,000 keys come in order, and each leaves once 1,000 others have come. Each number of a node
+/// is less than the most nodes of its kind that there were at a time.
 pub fn few_numbers_serve_many_pairs<T: Ranked>(tree: &mut T) -> Result<bool, AllocError> {
     let mut all = refill(tree, 0, 1000);
     let mut most_leaves: usize = 0;

@@ -12,8 +12,8 @@ use std::test::Fail;
 
 type Pair = (u64, u64);
 
-/// A summary of groups, which finds and ranks keys in them. The tests know no more of it: a map over `GroupCount` of
-/// `Tuple2` has more types than a proof of a caller follows.
+/// A summary of groups, which finds and ranks keys in them. The tests know no more of it: a map
+/// over `GroupCount` of `Tuple2` has more types than a proof of a caller follows.
 trait Grouping: SearchArgument<Pair, Query = (Tuple2<u64>, usize)>
     + RankArgument<Pair, Rank = Option<(Tuple2<u64>, usize)>>
     + CloneArgument<Pair> {
@@ -167,7 +167,8 @@ fn are_ranked<A: Grouping>(alloc: Global) -> Result<bool, AllocError> {
     Ok(all)
 }
 
-// Groups 0 and 1 have 500 keys each, and group 2 has 50, in a clone too. The visitors are those of groups 0, 1, 2 and 7.
+// Groups 0 and 1 have 500 keys each, and group 2 has 50, in a clone too. The visitors are those of
+// groups 0, 1, 2 and 7.
 fn are_sized<A: Grouping, W: DescendVisit<Pair, u64, A, Result = usize>>(
     alloc: Global,
     zero: W,

@@ -1,4 +1,5 @@
-//! Tests of trees, of maps and of sets, of lists of commands and of lines; and callers of these last two.
+//! Tests of trees, of maps and of sets, of lists of commands and of lines; and callers of these
+//! last two.
 #![tactic(auto)]
 
 #[cfg(test)]

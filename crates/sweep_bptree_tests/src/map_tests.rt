@@ -30,7 +30,8 @@ fn are_placed<A: SearchArgument<u64, Query = usize> + RankArgument<u64, Rank = u
     all
 }
 
-// Whether a value is written at the first place, and none behind the last, and then the pairs leave from the first place.
+// Whether a value is written at the first place, and none behind the last, and then the pairs leave
+// from the first place.
 fn are_written_and_taken<A: SearchArgument<u64, Query = usize>>(map: &mut Map<A>) -> bool {
     let mut all = write(map, 3, 20) == Some(SelectError::NotFound);
     all = write(map, 0, 20).is_none() && all;
@@ -74,7 +75,8 @@ fn removes_the_last_of_many<A: Argument<u64>>(alloc: Global) -> Result<bool, All
     Ok(take(&mut map, 4160, 4160) && is_deep && measures(&map, 4160, 2))
 }
 
-// A map of two levels above its leaves, of which the root has fewer than 65 keys; and one leaf alone, of one pair.
+// A map of two levels above its leaves, of which the root has fewer than 65 keys; and one leaf
+// alone, of one pair.
 fn goes_down_ten_thousand<A: Argument<u64>>(alloc: Global) -> Result<bool, AllocError> {
     let map: Map<A> = collect_times(alloc, 10_000, 10)?;
     let leaf: Map<A> = collect_times(alloc, 1, 10)?;
@@ -97,8 +99,8 @@ fn keeps_the_last_of_each_key<A: Argument<u64>>(alloc: Global) -> Result<bool, A
     )
 }
 
-// A clone keeps the pairs of a map that is cleared, and hands them over from both ends. The map, and one that is made by
-// default, then take a pair each.
+// A clone keeps the pairs of a map that is cleared, and hands them over from both ends. The map,
+// and one that is made by default, then take a pair each.
 fn is_cloned_and_cleared<A: CloneArgument<u64>>(alloc: Global) -> Result<bool, AllocError> {
     let mut map: Map<A> = collect_times(alloc, 3, 10)?;
     let mut pairs = map.clone()?.into_iter();
@@ -118,7 +120,8 @@ fn asks_each_level_once<A: SearchArgument<u64, Query = usize> + RankArgument<u64
     Ok(has_at(&map, 0, Some((2, 20))) && has_rank(&map, 9_999, Ok(2)))
 }
 
-// The ends of a part, how many pairs it has, and the keys that come from the front, or else from the back.
+// The ends of a part, how many pairs it has, and the keys that come from the front, or else from
+// the back.
 type Part = (Option<u64>, Option<u64>, usize, &'static [(bool, u64)]);
 
 const PARTS: [Part; 5] = [

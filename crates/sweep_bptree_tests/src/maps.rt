@@ -99,8 +99,8 @@ pub fn takes_at<A: SearchArgument<u64, Query = usize>>(
     map.remove_by_argument(place) == Ok(wanted)
 }
 
-/// Whether there are so many pairs, of which those with these keys come from the front, or else from the back, and no more
-/// after them.
+/// Whether there are so many pairs, of which those with these keys come from the front, or else
+/// from the back, and no more after them.
 pub fn gives<A: Argument<u64>>(
     mut pairs: Iter<'_, u64, u64, A>,
     len: usize,

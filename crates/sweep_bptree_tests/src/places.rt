@@ -25,8 +25,8 @@ pub fn give_their_pairs<T: Ranked>(tree: &mut T) -> bool {
     few && many
 }
 
-/// Whether the keys from 2 to 499 have their places and their ranks; and whether the value at a place is written, and the pair
-/// there leaves, so that those behind it move up.
+/// Whether the keys from 2 to 499 have their places and their ranks. Then whether the value at a
+/// place is written, and the pair there leaves, so that those behind it move up.
 pub fn have_places<T: Ranked>(tree: &mut T) -> Result<bool, AllocError> {
     let ranked = refill(tree, 2, 500)
         && tree.measures(498, 1)

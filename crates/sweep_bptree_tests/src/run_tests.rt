@@ -114,8 +114,9 @@ fn replies_to(alloc: Global, commands: Vec<Asked>) -> Result<Vec<Answered>, Allo
     }
 }
 
-// A command by its name, with the number and the letter of its key, or a place, or the number of a cursor; with a value, the number
-// of a second key or how many pairs, none of them where it is 0; with a word of ends; and with its reply, as it prints.
+// A command by its name, with the number and the letter of its key, or a place, or the number of a
+// cursor. Then comes a value, the number of a second key or how many pairs, none of them where it
+// is 0. Then come a word of ends, and its reply, as it prints.
 type Row = (&'static str, u64, char, i32, &'static str, &'static str);
 
 const EACH: [Row; 43] = [
@@ -404,7 +405,8 @@ fn a_run_answers_each_command(rt: HostRuntime) -> Result<(), Fail> {
     Ok(())
 }
 
-// Whether each of many commands is answered: new keys are put, and the length is asked for after each.
+// Whether each of many commands is answered: new keys are put, and the length is asked for after
+// each.
 fn runs_many(alloc: Global) -> Result<bool, AllocError> {
     let mut commands = Vec::new(alloc);
     for turn in 0..5_000u64 {

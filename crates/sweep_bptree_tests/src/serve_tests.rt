@@ -1,4 +1,4 @@
-// Inputs and what is answered, and readers and writers that fail.
+//! Inputs and what is answered, and readers and writers that fail.
 ghost use Rattle.std.specs.Prelude.{◌<◌, Some};
 
 use std::alloc::{AllocError, Global};

@@ -1,15 +1,18 @@
-//! Shapes of trees that grow and shrink, which follow from how many pairs a leaf takes; and what is counted of them.
+//! Shapes of trees that grow and shrink, which follow from how many pairs a leaf takes; and what is
+//! counted of them.
 use crate::places::is_empty;
 use crate::tested::{Ends, Ranked, has_leaves, nodes_below, put_from, refill, take, take_from};
 use std::alloc::AllocError;
 
-// Whether the keys from one on are put or leave, up to another, that one not included; and how many pairs, how many levels of
-// inner nodes and which leaves there are then. The tree is cleared before keys are put from 0 on.
+// Whether the keys from one on are put or leave, up to another, that one not included. Then how
+// many pairs, how many levels of inner nodes and which leaves there are. The tree is cleared before
+// keys are put from 0 on.
 type Row = (bool, u64, u64, usize, usize, &'static [Ends]);
 
-// A full leaf keeps 32 of its pairs, and the new one has the others. A leaf in the middle that underflows takes from the one behind it, and
-// where that has fewer than the one before it, from that one. The first of two leaves loses pairs in place, then the other one
-// gives, and with 16 in each they merge.
+// A full leaf keeps 32 of its pairs, and the new one has the others. A leaf in the middle that
+// underflows takes from the one behind it, and where that has fewer than the one before it, from
+// that one. The first of two leaves loses pairs in place, then the other one gives, and with 16 in
+// each they merge.
 const ROWS: [Row; 12] = [
     (true, 0, 64, 64, 0, &[(0, 63, 64)]),
     (true, 64, 65, 65, 1, &[(0, 31, 32), (32, 64, 33)]),
@@ -80,7 +83,8 @@ pub fn have_rows<T: Ranked>(tree: &mut T) -> Result<bool, AllocError> {
     Ok(all)
 }
 
-/// Of 65 pairs the last key has 64 smaller ones. Once the first leaf was lent 32, that key comes behind 31, with 15 smaller ones.
+/// Of 65 pairs the last key has 64 smaller ones. Once the first leaf was lent 32, that key comes
+/// behind 31, with 15 smaller ones.
 pub fn lent_key_keeps_its_place<T: Ranked>(tree: &mut T) -> Result<bool, AllocError> {
     let ranked = refill(tree, 0, 65)
         && tree.rank(64)? == Ok(64)
@@ -94,7 +98,8 @@ pub fn lent_key_keeps_its_place<T: Ranked>(tree: &mut T) -> Result<bool, AllocEr
     }
 }
 
-// Whether a tree that is cleared, filled with the keys below a number, and emptied upward or downward, counts this.
+// Whether a tree that is cleared, filled with the keys below a number, and emptied upward or
+// downward, counts this.
 fn counts<T: Ranked>(tree: &mut T, len: u64, is_upward: bool, wanted: [u64; 8]) -> bool {
     let mut all = refill(tree, 0, len) && tree.rebalanced() == [0; 8];
     for turn in 0..len {
@@ -104,8 +109,9 @@ fn counts<T: Ranked>(tree: &mut T, len: u64, is_upward: bool, wanted: [u64; 8]) 
     all && tree.rebalanced() == wanted
 }
 
-/// Of 65 pairs the first leaf has 32 and the other 33: from the front 17 are rotated before the two merge, and from the end
-/// 16. The numbers of 2,200 pairs, in 68 leaves below two inner nodes, are those of a model that keeps the sizes of nodes alone.
+/// Of 65 pairs the first leaf has 32 and the other 33: from the front 17 are rotated before the two
+/// merge, and from the end 16. The numbers of 2,200 pairs, in 68 leaves below two inner nodes, are
+/// those of a model that keeps the sizes of nodes alone.
 pub fn rebalancing_is_counted<T: Ranked>(tree: &mut T) -> bool {
     let mut all = true;
     for (len, is_upward, wanted) in [
@@ -119,7 +125,8 @@ pub fn rebalancing_is_counted<T: Ranked>(tree: &mut T) -> bool {
     all
 }
 
-/// Whether a tree that changed and is cleared is as a new one, with no node but a leaf, and no counts.
+/// Whether a tree that changed and is cleared is as a new one, with no node but a leaf, and no
+/// counts.
 pub fn is_as_new<T: Ranked>(tree: &mut T) -> Result<bool, AllocError> {
     Ok(
         refill(tree, 0, 200)

@@ -52,13 +52,15 @@ pub trait Tested: Drop {
     /// How many levels of inner nodes there are.
     fn levels(&self) -> usize;
 
-    /// Whether just these keys come, from the front and from the back in turn, each with a value so much greater.
+    /// Whether just these keys come, from the front and from the back in turn, each with a value so
+    /// much greater.
     fn gives(&self, keys: &[u64], more: u64) -> bool;
 
     /// Whether the keys below a number come from the back, each with a value so much greater.
     fn gives_backward(&self, end: u64, more: u64) -> bool;
 
-    /// Whether the keys below a number come from the front, each with ten times itself and so much more.
+    /// Whether the keys below a number come from the front, each with ten times itself and so much
+    /// more.
     fn holds(&self, end: u64, more: u64) -> bool;
 
     fn empty_it(&mut self) -> bool;
@@ -66,8 +68,8 @@ pub trait Tested: Drop {
     /// The leaves in order, and whether the tree is well shaped.
     fn leaves(&self) -> Result<(Vec<Ends>, bool), AllocError>;
 
-    /// What was counted of inner nodes and then of leaves: rotations to the right and to the left, merges with the left and with
-    /// the right.
+    /// What was counted of inner nodes and then of leaves: rotations to the right and to the left,
+    /// merges with the left and with the right.
     fn rebalanced(&self) -> [u64; 8];
 }
 
@@ -78,7 +80,8 @@ pub trait Ranked: Tested<Key = u64, Value = u64> {
 
     fn new_one(alloc: Global) -> Result<Self, AllocError>;
 
-    /// Whether the tree has so many pairs, counts as many, and has so many levels of inner nodes, as a visitor finds too.
+    /// Whether the tree has so many pairs, counts as many, and has so many levels of inner nodes,
+    /// as a visitor finds too.
     fn measures(&self, len: usize, height: usize) -> bool;
 
     /// The rank of a key: `Ok` where it is there.
@@ -132,7 +135,8 @@ pub trait Loaded: Tested {
     fn children(&self) -> Result<Vec<usize>, AllocError>;
 }
 
-/// Whether just these keys come, from the front and from the back in turn, with the number of those left told each time.
+/// Whether just these keys come, from the front and from the back in turn, with the number of those
+/// left told each time.
 pub fn come_in_turn<P: Walked>(mut pairs: P, keys: &[u64], more: u64) -> bool {
     let mut left = keys;
     let mut all = true;
@@ -170,7 +174,8 @@ pub fn come_backward<P: Walked>(mut pairs: P, end: u64, more: u64) -> bool {
     all && is_at_the_end(pairs)
 }
 
-/// Whether the keys below a number come from the front, each with ten times itself and so much more, and nothing else.
+/// Whether the keys below a number come from the front, each with ten times itself and so much
+/// more, and nothing else.
 pub fn come_by_tens<P: Walked>(mut pairs: P, end: u64, more: u64) -> bool {
     let mut all = pairs.left() as u64 == end;
     for key in 0..end {

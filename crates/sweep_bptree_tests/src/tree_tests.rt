@@ -28,7 +28,8 @@ fn answers<T: Ranked>(alloc: Global) -> Result<bool, AllocError> {
     is_right(&mut tree, &mut other)
 }
 
-// Trees over any store answer so. A function that names a tree over a store of a known type is dearer to prove.
+// Trees over any store answer so. A function that names a tree over a store of a known type is
+// dearer to prove.
 fn tree_answers<S: NodeStore<K = u64, V = u64, Argument = Count>>(
     alloc: Global,
 ) -> Result<bool, AllocError> {

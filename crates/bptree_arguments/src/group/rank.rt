@@ -25,8 +25,8 @@ fn carried_for<G: Key>(rank: Option<(G, usize)>, group: &G) -> usize
     }
 }
 
-/// The group of a key, with the number of keys in it among the smaller ones: those of the key's leaf, and where none of
-/// these is of a lesser group, those that the rank carries too.
+/// The group of a key, with the number of keys in it among the smaller ones. These are those of the
+/// key's leaf, and where none of them is of a lesser group, those that the rank carries too.
 fn ranked_after<K: Key, G: FromRef<K> + Key>(
     k: &K,
     rank: Option<(G, usize)>,
@@ -46,7 +46,8 @@ fn ranked_after<K: Key, G: FromRef<K> + Key>(
     Ok((group, count.saturating_add(before)))
 }
 
-/// The rank of a key is its group, with the number of smaller keys of that group. Before any key there is none.
+/// The rank of a key is its group, with the number of smaller keys of that group. Before any key
+/// there is none.
 impl<K: Key, G: FromRef<K> + Key> RankArgument<K> for GroupCount<G> {
     type Rank = Option<(G, usize)>;
 
@@ -61,8 +62,9 @@ impl<K: Key, G: FromRef<K> + Key> RankArgument<K> for GroupCount<G> {
         None
     }
 
-    /// From the last child backwards, up to the first whose greatest group is below the key's: at most one step a child.
-    /// A sum stops at the greatest `usize`, which no list of keys is longer than.
+    /// From the last child backwards, up to the first whose greatest group is below the key's: at
+    /// most one step a child. A sum stops at the greatest `usize`, which no list of keys is longer
+    /// than.
     fn fold_inner(
         k: &K,
         rank: Option<(G, usize)>,

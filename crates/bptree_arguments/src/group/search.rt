@@ -9,7 +9,8 @@ use bptree_keys::key::Key;
 use std::alloc::AllocError;
 use std::cmp::Ordering;
 
-/// A query is a group and a place in it: it selects the key there, or none where the group has no more keys.
+/// A query is a group and a place in it: it selects the key there, or none where the group has no
+/// more keys.
 impl<K: Key, G: FromRef<K> + Key> SearchArgument<K> for GroupCount<G> {
     type Query = (G, usize);
 
@@ -29,8 +30,8 @@ impl<K: Key, G: FromRef<K> + Key> SearchArgument<K> for GroupCount<G> {
         Ok(None)
     }
 
-    /// The child in which the key lies, and the query's group with the place in it there. At most one step a child, up to
-    /// the first whose greatest group is above the query's.
+    /// The child in which the key lies, and the query's group with the place in it there. At most
+    /// one step a child, up to the first whose greatest group is above the query's.
     fn locate_in_inner(
         query: (G, usize),
         _keys: &[K],

@@ -22,7 +22,8 @@ fn replaces<S: NodeStore>(tree: &mut BPlusTree<S>, k: S::K, v: S::V) -> S::V
     }
 }
 
-// A key that is not there has no value before, and its pair comes between the smaller and the greater keys.
+// A key that is not there has no value before, and its pair comes between the smaller and the
+// greater keys.
 fn adds<S: NodeStore>(tree: &mut BPlusTree<S>, k: S::K, v: S::V) -> bool
     requires { has S.K.cmp tree.old.contents k ≡ false }
     ensures added { IsTrue result → tree.new.contents ≡ pairs_below S.K.cmp tree.old.contents k ++ (k, v) ∷ pairs_above S.K.cmp tree.old.contents k }
@@ -48,7 +49,8 @@ fn is_full<S: NodeStore>(tree: &mut BPlusTree<S>, k: S::K, v: S::V) -> (S::K, S:
     }
 }
 
-// One of fewer pairs is never full, and hands a pair back for want of memory alone. Then it is as before.
+// One of fewer pairs is never full, and hands a pair back for want of memory alone. Then it is as
+// before.
 fn has_room<S: NodeStore>(tree: &mut BPlusTree<S>, k: S::K, v: S::V) -> Option<(S::K, S::V)>
     requires { length tree.old.contents < 2 ^ 64 - 1 }
     ensures pair { IfSome result (λ pair. pair ≡ (k, v)) }
@@ -128,7 +130,8 @@ where
     }
 }
 
-// A pair leaves with the key that was stored, which equals the one asked for. Where that is refused, the tree is as it was.
+// A pair leaves with the key that was stored, which equals the one asked for. Where that is
+// refused, the tree is as it was.
 fn takes_the_pair_of_a_key<S: NodeStore>(
     tree: &mut BPlusTree<S>,
     k: &S::K,

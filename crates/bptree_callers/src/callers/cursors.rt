@@ -97,8 +97,8 @@ fn begins_on_the_first<S: NodeStore<K = u64>>(
     Ok(key_of(tree.cursor_first()?))
 }
 
-// The key after a cursor and the one before it, with their values and without. A clone of a number is never refused, and so no
-// step is.
+// The key after a cursor and the one before it, with their values and without. A clone of a number
+// is never refused, and so no step is.
 fn goes_on<S: NodeStore<K = u64>>(cursor: &Cursor<u64>, tree: &BPlusTree<S>) -> Option<u64>
     ensures { result ≡ option_map (λ pair. pair.0) (next nat_cmp tree.now.contents (cursor_key cursor.now)) }
 {
@@ -117,7 +117,8 @@ fn goes_back<S: NodeStore<K = u64>>(cursor: &Cursor<u64>, tree: &BPlusTree<S>) -
     }
 }
 
-// Nor is a step over keys of any kind whose clones are never refused, nor a copy of a cursor on such a key.
+// Nor is a step over keys of any kind whose clones are never refused, nor a copy of a cursor on
+// such a key.
 fn steps_without_memory<S: NodeStore>(cursor: &Cursor<S::K>, tree: &BPlusTree<S>) -> bool
     requires { (key : S.K) → S.K.is_infallible key }
     ensures { result ≡ true }
@@ -222,7 +223,8 @@ fn is_there<S: NodeStore<K = u64>>(tree: &BPlusTree<S>, k: u64) -> Result<bool, 
     }
 }
 
-// The next key of ascending pairs is the least greater one, and the previous one the greatest smaller one.
+// The next key of ascending pairs is the least greater one, and the previous one the greatest
+// smaller one.
 fn steps_to_the_nearest<S: NodeStore>(tree: &BPlusTree<S>, k: &S::K) -> usize
     ensures after { IsAfter S.K.cmp tree.now.contents k.now (next S.K.cmp tree.now.contents k.now) }
     ensures before { IsBefore S.K.cmp tree.now.contents k.now (previous S.K.cmp tree.now.contents k.now) }

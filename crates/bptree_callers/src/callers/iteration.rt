@@ -24,7 +24,8 @@ fn gives_the_first<S: NodeStore>(tree: &BPlusTree<S>) -> Option<(&S::K, &S::V)>
     tree.iter().next()
 }
 
-// Of three pairs each comes once: the first, the last, the one between, and then none from either end.
+// Of three pairs each comes once: the first, the last, the one between, and then none from either
+// end.
 fn gives_three_from_both_ends<'a, S: NodeStore>(
     pairs: &mut Iter<'a, S>,
 ) -> (

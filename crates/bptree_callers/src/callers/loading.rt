@@ -11,8 +11,8 @@ use bptree_stores::node_stores::NodeStore;
 use bptree_tree::BPlusTree;
 use std::alloc::{AllocError, Global};
 
-// As many as a leaf holds are one leaf, and one more is shared between two. So of 4161 pairs the last two leaves share the 65
-// behind 64 full ones.
+// As many as a leaf holds are one leaf, and one more is shared between two. So of 4161 pairs the
+// last two leaves share the 65 behind 64 full ones.
 fn one_leaf_or_two() -> (usize, usize, usize, usize, usize)
     ensures { result ≡ (1, 64, 33, 32, 64) }
 {

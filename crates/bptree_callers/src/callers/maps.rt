@@ -41,7 +41,8 @@ fn starts_empty_by_default<K: Key, V: Drop, A: Argument<K>>(
     Ok(BPlusTreeMap::<K, V, A>::default(alloc)?.is_empty())
 }
 
-// A look-up makes at most seven comparisons on each level, of which there are few, and two of the remembered leaf.
+// A look-up makes at most seven comparisons on each level, of which there are few, and two of the
+// remembered leaf.
 fn counts_a_look_up<'a, K: Key, V: Drop, A: Argument<K>>(
     map: &'a BPlusTreeMap<K, V, A>,
     k: &K,
@@ -118,7 +119,8 @@ fn replaces<K: Key, V: Drop, A: Argument<K>>(map: &mut BPlusTreeMap<K, V, A>, k:
     }
 }
 
-// A map of fewer pairs than can be counted is never full, and hands a pair back for want of memory alone. Then it is as it was.
+// A map of fewer pairs than can be counted is never full, and hands a pair back for want of memory
+// alone. Then it is as it was.
 fn adds<K: Key, V: Drop, A: Argument<K>>(
     map: &mut BPlusTreeMap<K, V, A>,
     k: K,
@@ -290,7 +292,8 @@ fn finds_the_pair_at_a_place<K: Key, V: Drop>(
     }
 }
 
-// By a count so many pairs are given from a place on, or those that are left there. No memory is asked for.
+// By a count so many pairs are given from a place on, or those that are left there. No memory is
+// asked for.
 fn counts_the_pairs_from_a_place<K: Key, V: Drop>(
     map: &BPlusTreeMap<K, V, Count>,
     place: usize,
@@ -304,7 +307,8 @@ fn counts_the_pairs_from_a_place<K: Key, V: Drop>(
     }
 }
 
-// By a count the rank of a key is how many keys are smaller, and tells whether the key is there. No memory is asked for.
+// By a count the rank of a key is how many keys are smaller, and tells whether the key is there. No
+// memory is asked for.
 fn ranks_by_the_smaller_keys<K: Key, V: Drop>(
     map: &BPlusTreeMap<K, V, Count>,
     k: &K,
@@ -352,7 +356,8 @@ fn takes_the_pair_at_a_place(
     }
 }
 
-// A value is written at an allowed place, and no key changes. Where the query is refused, nothing does.
+// A value is written at an allowed place, and no key changes. Where the query is refused, nothing
+// does.
 fn writes_by_a_query<K: Key, V: Drop, A: SearchArgument<K>>(
     map: &mut BPlusTreeMap<K, V, A>,
     query: A::Query,
@@ -422,7 +427,8 @@ fn gives_both_ends<K: Key, V: Drop, A: Argument<K>>(
     (map.first(), map.last())
 }
 
-// The first pair leaves with its value, and the others stay. Where that is refused, nothing changes.
+// The first pair leaves with its value, and the others stay. Where that is refused, nothing
+// changes.
 fn pops_the_first<K: Key, V: Drop, A: Argument<K>>(
     map: &mut BPlusTreeMap<K, V, A>,
 ) -> Result<V, AllocError>
@@ -504,7 +510,8 @@ fn contains_what_it_finds<K: Key, V: Drop, A: Argument<K>>(
     (map.contains_key(k), map.get(k).is_some())
 }
 
-// A pair that is found has a key that equals the one asked for, and is one of the pairs; its value is the one at the key.
+// A pair that is found has a key that equals the one asked for, and is one of the pairs; its value
+// is the one at the key.
 fn finds_the_pair_of_a_key<'a, K: Key, V: Drop, A: Argument<K>>(
     map: &'a BPlusTreeMap<K, V, A>,
     k: &K,

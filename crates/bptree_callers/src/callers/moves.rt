@@ -9,7 +9,8 @@ use bptree_maps::map::{BPlusTreeMap, MoveError, SplitError};
 use bptree_maps::set::{BPlusTreeSet, ReplaceError};
 use std::alloc::AllocError;
 
-// One pair of another map is put here, and its value stays. Where that is refused, it is still there or is handed back.
+// One pair of another map is put here, and its value stays. Where that is refused, it is still
+// there or is handed back.
 fn moves_one_pair<K: Key, V: Drop, A: Argument<K>>(
     map: &mut BPlusTreeMap<K, V, A>,
     other: &mut BPlusTreeMap<K, V, A>,

@@ -1,4 +1,5 @@
-//! Callers of the nodes that are lent: whatever changed the list before, they hold it, and none is idle beside it.
+//! Callers of the nodes that are lent: whatever changed the list before, they hold it, and none is
+//! idle beside it.
 ghost use Rattle.std.specs.Prelude.{◌≡◌, ℕ, IfOk, IsTrue, OnOk, Some, false, length};
 ghost use Rattle.std.specs.Map.{keys_of};
 ghost use Rattle.bptree_ascent.specs.Lending.{written};
@@ -67,7 +68,8 @@ fn lends_the_pairs_of_a_map<K: Key, V: Drop, A: Argument<K>>(
     lends_the_list(map.tree())
 }
 
-// Each node that stands in the store is reached from the root, and once: no tree keeps a list beside idle nodes.
+// Each node that stands in the store is reached from the root, and once: no tree keeps a list
+// beside idle nodes.
 fn has_no_idle_node<S: NodeStore>(tree: &BPlusTree<S>) -> (&S, NodeId, usize)
     ensures leaves { (n : ℕ) → IsPresent ((S.slots result.0.now).leaf n) → leaf_count (S.slots result.0.now) result.2 result.1 n ≡ 1 }
     ensures inners { (n : ℕ) → IsPresent ((S.slots result.0.now).inner n) → inner_count (S.slots result.0.now) result.2 result.1 n ≡ 1 }
@@ -88,8 +90,8 @@ fn leaves_no_node_idle<S: NodeStore>(
     tree.insert(k, v)
 }
 
-// What a tree shows of its nodes: the root, the height, and how many pairs stand in the leaf of a number, none where there is
-// no leaf.
+// What a tree shows of its nodes: the root, the height, and how many pairs stand in the leaf of a
+// number, none where there is no leaf.
 type Shown = (NodeId, usize, usize);
 
 fn shows<S: NodeStore>(tree: &BPlusTree<S>, leaf: LeafNodeId) -> Shown
@@ -108,7 +110,8 @@ fn is_put<S: NodeStore>(tree: &mut BPlusTree<S>, k: S::K, v: S::V) -> bool
     tree.insert(k, v).is_ok()
 }
 
-// An insertion that is refused leaves the nodes: whatever leaf is looked at, the same is shown before and after.
+// An insertion that is refused leaves the nodes: whatever leaf is looked at, the same is shown
+// before and after.
 fn shows_the_same_unless_put<S: NodeStore>(
     tree: &mut BPlusTree<S>,
     k: S::K,

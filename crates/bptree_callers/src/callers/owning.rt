@@ -22,7 +22,8 @@ fn gives_the_first<S: NodeStore>(tree: BPlusTree<S>) -> Option<(S::K, S::V)>
     tree.into_iter().next()
 }
 
-// Of three pairs each comes once: the first, the last, the one between, and then none from either end.
+// Of three pairs each comes once: the first, the last, the one between, and then none from either
+// end.
 fn gives_three_from_both_ends<S: NodeStore>(
     pairs: &mut IntoIter<S>,
 ) -> ((S::K, S::V), (S::K, S::V), (S::K, S::V))

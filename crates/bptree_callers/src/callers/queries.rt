@@ -40,7 +40,8 @@ fn finds_the_pair_at_a_place<S: NodeStore<K = u64, V = u64, Argument = Count>>(
     }
 }
 
-// By a count the rank of a key is how many keys are smaller, and tells whether the key is there. No memory is asked for.
+// By a count the rank of a key is how many keys are smaller, and tells whether the key is there. No
+// memory is asked for.
 fn ranks_by_the_smaller_keys<S: NodeStore<K = u64, V = u64, Argument = Count>>(
     tree: &BPlusTree<S>,
     k: &u64,
@@ -106,7 +107,8 @@ where
     }
 }
 
-// The pair that leaves is the one with its key. Where none leaves, and where memory is refused, nothing changes.
+// The pair that leaves is the one with its key. Where none leaves, and where memory is refused,
+// nothing changes.
 fn takes_a_pair<S: NodeStore>(
     tree: &mut BPlusTree<S>,
     query: <S::Argument as SearchArgument<S::K>>::Query,
@@ -154,8 +156,9 @@ fn takes_nothing_past_the_end<S: NodeStore<K = u64, V = u64, Argument = Count>>(
     }
 }
 
-// A value is written at an allowed place, and no key changes. Where the query is refused, nothing does: what stands under
-// each number of the store, the root, the height and the root's summary are as they were.
+// A value is written at an allowed place, and no key changes. Where the query is refused, nothing
+// does: what stands under each number of the store, the root, the height and the root's summary are
+// as they were.
 pub(crate) fn writes_by_a_query<S: NodeStore>(
     tree: &mut BPlusTree<S>,
     query: <S::Argument as SearchArgument<S::K>>::Query,

@@ -45,7 +45,8 @@ where
     Ok(tree.range_by_argument(query, n)?.len())
 }
 
-// Where pairs are asked for, it gives none only where no place is allowed for the query: each place begins a part.
+// Where pairs are asked for, it gives none only where no place is allowed for the query: each place
+// begins a part.
 fn gives_none_only_where_none_is_allowed<S: NodeStore>(
     tree: &BPlusTree<S>,
     query: <S::Argument as SearchArgument<S::K>>::Query,

@@ -112,7 +112,8 @@ pub(crate) fn shows_its_nodes<S: NodeStore>(tree: &BPlusTree<S>) -> (&S, NodeId,
     (tree.node_store(), tree.root_id(), tree.height())
 }
 
-// A look-up and how many comparisons it made: at most seven on each level, and those of the remembered leaf.
+// A look-up and how many comparisons it made: at most seven on each level, and those of the
+// remembered leaf.
 fn counts_a_look_up<'a, S: NodeStore>(
     tree: &'a BPlusTree<S>,
     k: &S::K,
@@ -155,7 +156,8 @@ fn contains_what_it_finds<S: NodeStore>(tree: &BPlusTree<S>, k: &S::K) -> (bool,
     (tree.contains_key(k), tree.get(k).is_some())
 }
 
-// A pair that is found has a key that equals the one asked for, and its value is the one at the key.
+// A pair that is found has a key that equals the one asked for, and its value is the one at the
+// key.
 fn finds_the_pair_of_a_key<'a, S: NodeStore>(
     tree: &'a BPlusTree<S>,
     k: &S::K,

@@ -61,7 +61,8 @@ fn holds_what_was_put_in<K: Key>(
     Ok(set.contains(other))
 }
 
-// In a set of fewer keys than there can be, the one refusal is for want of memory, and hands the key back.
+// In a set of fewer keys than there can be, the one refusal is for want of memory, and hands the
+// key back.
 fn hands_back<K: Key>(set: &mut BPlusTreeSet<K>, k: K) -> Result<bool, K>
     requires { length set.old ≡ 2 }
     ensures { (key : K) → result ≡ Err key → (key ≡ k) × (set.new ≡ set.old) }
@@ -345,7 +346,8 @@ fn has_all_of_none<K: Key>(set: &BPlusTreeSet<K>, none: &BPlusTreeSet<K>) -> boo
     set.is_superset(none)
 }
 
-// Two sets that share a key, be it the last of either, are not disjoint, and a set of no keys shares none.
+// Two sets that share a key, be it the last of either, are not disjoint, and a set of no keys
+// shares none.
 fn tells_what_is_shared<K: Key>(
     first: &BPlusTreeSet<K>,
     second: &BPlusTreeSet<K>,
@@ -361,7 +363,8 @@ fn tells_what_is_shared<K: Key>(
     )
 }
 
-// To tell whether a set holds a key, at most seven keys are compared on each of sixteen levels, and two of the remembered leaf.
+// To tell whether a set holds a key, at most seven keys are compared on each of sixteen levels, and
+// two of the remembered leaf.
 fn counts_a_search<K: Key>(set: &BPlusTreeSet<K>, k: &K) -> (bool, usize)
     ensures value { result.0 ≡ holds K.cmp set.now k.now }
     ensures most { result.1 ≤ 114 }

@@ -15,7 +15,9 @@ use sweep_bptree::tree::{DescendError, Key};
 /// An item of a group. The items of a group stand side by side.
 #[derive(Clone, Copy, PartialEq, Eq, PartialOrd, Ord)]
 pub struct Item {
+    /// The group.
     pub group: u32,
+    /// The number of the item.
     pub number: u32,
 }
 
@@ -41,6 +43,7 @@ impl FromRef<Item> for Group {
     ghost keeps_order = { λ x y h. Prim.search rules };
 }
 
+/// Items by their groups, with the sizes of groups.
 pub type Items = BPlusTreeMap<Item, (), GroupCount<Group>>;
 
 /// An index of items, each with its group.
@@ -58,8 +61,9 @@ pub fn new_items(alloc: Global, all: &[(u32, u32)]) -> Result<Items, AllocError>
 
 /// The number of items of a group, 0 where there is none.
 ///
-/// It needs a map that keeps `GroupCount`, and `descend_visit` with `ExtractGroupSize`, which compares at most two groups a child
-/// and goes down one way. It is refused only where a group that is made of a key is refused memory, here never.
+/// It needs a map that keeps `GroupCount`, and `descend_visit` with `ExtractGroupSize`, which
+/// compares at most two groups a child and goes down one way. It is refused only where a group that
+/// is made of a key is refused memory, here never.
 pub fn group_len(items: &Items, group: u32) -> Result<Option<usize>, DescendError>
     ensures counted { IfOk result (λ size. size ≡ Some (length (items_of group (keys_of items.now)))) }
     ensures refused { IfErr result (λ error. error ≡ OutOfMemory) }
@@ -71,8 +75,9 @@ pub fn group_len(items: &Items, group: u32) -> Result<Option<usize>, DescendErro
 
 /// The item of a group before which so many of the group stand; none past its last.
 ///
-/// It needs a map that keeps `GroupCount`, and `get_by_argument`, which compares at most two groups a child and goes down one way.
-/// It is refused only where a group that is made of a key is refused memory, here never.
+/// It needs a map that keeps `GroupCount`, and `get_by_argument`, which compares at most two groups
+/// a child and goes down one way. It is refused only where a group that is made of a key is refused
+/// memory, here never.
 pub fn item_at(items: &Items, group: u32, place: usize) -> Result<Option<u32>, AllocError>
     ensures { IfOk result (λ number. number ≡ option_map (λ item. item.number) (slice_get (items_of group (keys_of items.now)) place)) }
 {

@@ -16,7 +16,9 @@ use sweep_bptree::tree::count::Count;
 /// A score and who has it. The greatest score comes first, and of equal scores the least player.
 #[derive(Clone, Copy, PartialEq, Eq, PartialOrd, Ord)]
 pub struct Standing {
+    /// The score.
     pub score: Reverse<u32>,
+    /// Who has it.
     pub player: u32,
 }
 
@@ -24,6 +26,7 @@ impl Key for Standing {
     ghost clone_is_equal = { Prim.search rules };
 }
 
+/// Standings in their order, with places and ranks.
 pub type Board = BPlusTreeMap<Standing, (), Count>;
 
 /// A board of scores, each with its player.
@@ -41,8 +44,9 @@ pub fn new_board(alloc: Global, scores: &[(u32, u32)]) -> Result<Board, AllocErr
 
 /// How many stand before a standing that is on the board; none where it is not there.
 ///
-/// It needs a map that keeps `Count`, and `rank_by_argument`, which goes down one way: a search a level, and one addition a child
-/// before the one on the way. It takes no memory, and no call is refused.
+/// It needs a map that keeps `Count`, and `rank_by_argument`, which goes down one way: a search a
+/// level, and one addition a child before the one on the way. It takes no memory, and no call is
+/// refused.
 pub fn rank_of(board: &Board, standing: &Standing) -> Option<usize>
     ensures { result ≡ cond (has ⟦<Standing as Ord>⟧.cmp board.now standing.now) (Some (count_below ⟦<Standing as Ord>⟧.cmp standing.now (keys_of board.now))) None }
 {
@@ -56,8 +60,8 @@ pub fn rank_of(board: &Board, standing: &Standing) -> Option<usize>
 
 /// The player before whom so many stand; none past the end.
 ///
-/// It needs a map that keeps `Count`, and `get_by_argument`, which goes down one way with at most one subtraction a child. It takes
-/// no memory, and no call is refused.
+/// It needs a map that keeps `Count`, and `get_by_argument`, which goes down one way with at most
+/// one subtraction a child. It takes no memory, and no call is refused.
 pub fn player_at(board: &Board, rank: usize) -> Option<u32>
     ensures { result ≡ option_map (λ pair. pair.0.player) (slice_get board.now rank) }
 {
@@ -69,7 +73,8 @@ pub fn player_at(board: &Board, rank: usize) -> Option<u32>
     }
 }
 
-/// The ranks of two standings of four, of which one is not on the board, and the players at three places.
+/// The ranks of two standings of four, of which one is not on the board, and the players at three
+/// places.
 pub fn run(alloc: Global) -> Result<([Option<usize>; 2], [Option<u32>; 3]), AllocError> {
     let board = new_board(alloc, &[(50, 7), (90, 3), (70, 5), (70, 2)])?;
     Ok(answers(&board))

@@ -12,7 +12,9 @@ use sweep_bptree::tree::Key;
 /// A value and the number of a row that has it.
 #[derive(Clone, Copy, PartialEq, Eq, PartialOrd, Ord)]
 pub struct Entry {
+    /// The value of the row.
     pub value: u64,
+    /// The number of the row.
     pub row: u64,
 }
 
@@ -20,6 +22,7 @@ impl Key for Entry {
     ghost clone_is_equal = { Prim.search rules };
 }
 
+/// The rows in the order of their values.
 pub type Index = BPlusTreeMap<Entry, ()>;
 
 /// The value of each row, by the row's number.
@@ -40,9 +43,10 @@ pub fn new_index(alloc: Global, values: &[(u64, u64)]) -> Result<Index, AllocErr
 
 /// Puts a new entry, and removes an old one. Where both are the same entry, it is put and stays.
 ///
-/// It needs `insert` and `remove`, each of which goes down one way. The new entry is put first, since that alone takes memory for
-/// nodes: where it is refused, the index is as it was. Where the old entry can't be removed, the new one is taken back; where that
-/// can't be done either, it stays.
+/// It needs `insert` and `remove`, each of which goes down one way. The new entry is put first,
+/// since that alone takes memory for nodes: where it is refused, the index is as it was. Where the
+/// old entry can't be removed, the new one is taken back; where that can't be done either, it
+/// stays.
 pub fn move_entry(index: &mut Index, old: Entry, new: Entry) -> Result<(), AllocError>
     ensures moved { OnOk result (old ≢ new → index.new ≡ del ⟦<Entry as Ord>⟧.cmp (put ⟦<Entry as Ord>⟧.cmp index.old new tt) old) }
     ensures stayed { OnOk result (old ≡ new → index.new ≡ put ⟦<Entry as Ord>⟧.cmp index.old new tt) }
@@ -70,8 +74,8 @@ pub fn move_entry(index: &mut Index, old: Entry, new: Entry) -> Result<(), Alloc
 
 /// Gives a row another value, and tells whether the row is there.
 ///
-/// It needs `get`, `move_entry` and `insert`, which searches once and is never refused for a row that is there. So the index is
-/// changed first: where that is refused, the row keeps its value.
+/// It needs `get`, `move_entry` and `insert`, which searches once and is never refused for a row
+/// that is there. So the index is changed first: where that is refused, the row keeps its value.
 pub fn set_value(rows: &mut Rows, index: &mut Index, row: u64, now: u64) -> Result<bool, AllocError>
     ensures there { IfOk result (λ there. there ≡ has nat_cmp rows.old row) }
     ensures row { IfOk result (λ there. IsTrue there → rows.new ≡ put nat_cmp rows.old row now) }
@@ -101,7 +105,8 @@ pub fn rows_by_value(alloc: Global, index: &Index) -> Result<Vec<u64>, AllocErro
     Ok(rows)
 }
 
-/// Three rows by their values, before one takes another value and after, and whether a fourth is there to take one.
+/// Three rows by their values, before one takes another value and after, and whether a fourth is
+/// there to take one.
 pub fn run(alloc: Global) -> Result<(Vec<u64>, Vec<u64>, bool), AllocError> {
     let values = [(3, 60), (1, 40), (2, 50)];
     let mut rows = filled(alloc, &values)?;

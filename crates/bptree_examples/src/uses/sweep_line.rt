@@ -19,8 +19,10 @@ pub fn new_line(alloc: Global, segments: &[(u64, u32)]) -> Result<Line, AllocErr
 
 /// The segments next below a height and next above it. The height itself may be there or not.
 ///
-/// It needs the cursors of the tree inside the map: `get_cursor`, which searches once from the root, and the cursor's `prev_with_value` and `next_with_value`, which take
-/// constant time where the cursor's leaf has the pair. Each takes what a clone of a key takes, here nothing; no call is refused.
+/// It needs the cursors of the tree inside the map. `get_cursor` searches once from the root. The
+/// cursor's `prev_with_value` and `next_with_value` take constant time where the cursor's leaf has
+/// the pair. Each takes what a clone of a key takes, here nothing; no call is
+/// refused.
 pub fn beside(line: &Line, height: u64) -> Result<(Option<u32>, Option<u32>), AllocError>
     ensures { IfOk result (λ both. both ≡ (option_map (λ pair. pair.1) (previous nat_cmp line.now height), option_map (λ pair. pair.1) (next nat_cmp line.now height))) }
 {

@@ -10,11 +10,15 @@ use std::alloc::{AllocError, Global};
 use sweep_bptree::BPlusTreeMap;
 use sweep_bptree::tree::{Argument, Key};
 
-/// A sale. Its amount is in the key, since a summary is of keys alone; day and number come first, and so give the order.
+/// A sale. Its amount is in the key, since a summary is of keys alone; day and number come first,
+/// and so give the order.
 #[derive(Clone, Copy, PartialEq, Eq, PartialOrd, Ord)]
 pub struct Sale {
+    /// The day.
     pub day: u32,
+    /// The number of the sale on that day.
     pub number: u32,
+    /// What was paid.
     pub amount: u64,
 }
 
@@ -59,7 +63,8 @@ impl Argument<Sale> for Takings {
 /// Sales as keys, with no values.
 pub type Ledger = BPlusTreeMap<Sale, (), Takings>;
 
-/// A ledger of so many sales on each of some days, from the first day on: each amount is the number of its day.
+/// A ledger of so many sales on each of some days, from the first day on: each amount is the number
+/// of its day.
 pub fn new_ledger(alloc: Global, days: u32, each: u32) -> Result<Ledger, AllocError> {
     let mut sales = Vec::new(alloc);
     for day in 1..days.saturating_add(1) {
@@ -89,8 +94,9 @@ fn start_of(day: u32) -> Sale
 
 /// The sum of the amounts from one day on, up to another.
 ///
-/// It needs a map that keeps `Takings`, and `range_argument`, which goes down one way for each day, and adds up one sum a child
-/// between the ways: however many sales there are, it looks at those of two leaves. It is refused only where room for two sums is.
+/// It needs a map that keeps `Takings`, and `range_argument`. That goes down one way for each day,
+/// and adds up one sum a child between the ways. However many sales there are, it looks at those of
+/// two leaves. It is refused only where room for two sums is.
 pub fn taken(ledger: &Ledger, from: u32, to: u32) -> Result<u64, AllocError>
     ensures { IfOk result (λ total. total ≡ sum_of_amounts (keys_of (between ⟦<Sale as Ord>⟧.cmp ledger.now (Some (start_of_day from)) (Some (start_of_day to))))) }
 {
@@ -100,7 +106,8 @@ pub fn taken(ledger: &Ledger, from: u32, to: u32) -> Result<u64, AllocError>
     Ok(takings.0)
 }
 
-/// Ten sales on each day of a year: what was taken in all, in February, on no day, and from the last day on.
+/// Ten sales on each day of a year: what was taken in all, in February, on no day, and from the
+/// last day on.
 pub fn run(alloc: Global) -> Result<[u64; 4], AllocError> {
     let ledger = new_ledger(alloc, 365, 10)?;
     Ok([

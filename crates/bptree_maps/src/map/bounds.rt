@@ -10,8 +10,9 @@ use bptree_keys::key::Key;
 use std::ops::Bound;
 
 impl<K: Key, V: Drop, A: Argument<K>> BPlusTreeMap<K, V, A> {
-    /// The pairs from a start on up to an end, in the order of their keys: each bound takes the pair of its key in, leaves it
-    /// out, or is open. Of a start above the end there are none. It takes no memory, and neither do its steps.
+    /// The pairs from a start on up to an end, in the order of their keys: each bound takes the
+    /// pair of its key in, leaves it out, or is open. Of a start above the end there are none. It
+    /// takes no memory, and neither do its steps.
     ///
     /// It costs what `range` does: each bound that is not open is searched for once.
     pub fn range_bounds<'b>(&self, lo: Bound<&'b K>, hi: Bound<&'b K>) -> Iter<'_, K, V, A>

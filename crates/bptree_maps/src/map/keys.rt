@@ -86,8 +86,8 @@ impl<'a, K: Key, V: Drop, A: Argument<K>> Clone for Keys<'a, K, V, A> {
     }
 }
 
-/// The keys of an owned map that are left, in their order. A step drops the value beside, takes no memory, and is not
-/// refused; what is left is dropped with it.
+/// The keys of an owned map that are left, in their order. A step drops the value beside, takes no
+/// memory, and is not refused; what is left is dropped with it.
 #[derive(Drop)]
 pub struct IntoKeys<K: Key, V: Drop, A: Argument<K>> {
     pairs: tree::IntoIter<NodeStoreVec<K, V, A>>,

@@ -14,11 +14,11 @@ use bptree_keys::key::Key;
 use bptree_tree::InsertError;
 
 impl<K: Key, V: Drop, A: Argument<K>> BPlusTreeMap<K, V, A> {
-    /// Puts the pairs that an iterator gives, one after another, as `insert` does: of pairs with equal keys the last value
-    /// stays, and the key that was stored first.
+    /// Puts the pairs that an iterator gives, one after another, as `insert` does: of pairs with
+    /// equal keys the last value stays, and the key that was stored first.
     ///
-    /// It costs an insertion a pair. Where one is refused, the pairs before it are put and that pair is handed back; the rest
-    /// of the iterator is dropped.
+    /// It costs an insertion a pair. Where one is refused, the pairs before it are put and that
+    /// pair is handed back; the rest of the iterator is dropped.
     pub fn extend<I: IntoIterator<Item = (K, V)>>(
         &mut self,
         pairs: I,
@@ -36,11 +36,12 @@ impl<K: Key, V: Drop, A: Argument<K>> BPlusTreeMap<K, V, A> {
         Ok(())
     }
 
-    /// Moves all pairs of another map here, one after another, as `insert` does: of two equal keys the other map's value stays,
-    /// and this map's key.
+    /// Moves all pairs of another map here, one after another, as `insert` does: of two equal keys
+    /// the other map's value stays, and this map's key.
     ///
-    /// It costs a removal and an insertion a pair. Where one is refused, the first pairs have moved, and the others are still in
-    /// the other map; a pair that was removed and not stored is handed back.
+    /// It costs a removal and an insertion a pair. Where one is refused, the first pairs have
+    /// moved, and the others are still in the other map; a pair that was removed and not stored is
+    /// handed back.
     pub fn append(&mut self, other: &mut Self) -> Result<(), MoveError<K, V>>
         ensures ok { OnOk result ((self.new ≡ put_all (put_pair K.cmp) self.old other.old) × (other.new ≡ [])) }
         ensures err { IfErr result (λ refusal. Moves (put_pair K.cmp) self.old other.old (in_hand refusal) self.new other.new) }
@@ -59,9 +60,10 @@ impl<K: Key, V: Drop, A: Argument<K>> BPlusTreeMap<K, V, A> {
 
     /// Moves the pairs whose key is not below `k` to a map of their own, the greatest first.
     ///
-    /// It costs a removal and an insertion a pair that moves, and what a map with no pairs takes. Where that is refused, nothing
-    /// has changed. Where a move is refused, the greatest pairs have left and are handed back in their map, with the pair that was
-    /// removed and not stored, if there is one; the others stayed.
+    /// It costs a removal and an insertion a pair that moves, and what a map with no pairs takes.
+    /// Where that is refused, nothing has changed. Where a move is refused, the greatest pairs have
+    /// left and are handed back in their map. With them comes the pair that was removed and not
+    /// stored, if there is one. The others stayed.
     pub fn split_off(&mut self, k: &K) -> Result<Self, SplitError<Self, MoveError<K, V>>>
         ensures ok { IfOk result (λ there. (self.new ≡ between K.cmp self.old None (Some k.now)) × (there ≡ between K.cmp self.old (Some k.now) None)) }
         ensures err { IfErr result (λ refusal. self.old ≡ self.new ++ gone (λ there. there) refusal) }

@@ -12,8 +12,8 @@ use bptree_tree::Cursor;
 use std::alloc::AllocError;
 
 impl<K: Key, V: Drop, A: Argument<K>> BPlusTreeMap<K, V, A> {
-    /// A cursor on the pair at a place that is allowed for the query, and the value there; or none. It takes what a clone of
-    /// that key takes, and what the argument takes.
+    /// A cursor on the pair at a place that is allowed for the query, and the value there; or none.
+    /// It takes what a clone of that key takes, and what the argument takes.
     ///
     /// It costs what `get_by_argument` does.
     pub fn cursor_by_argument(
@@ -30,8 +30,8 @@ impl<K: Key, V: Drop, A: Argument<K>> BPlusTreeMap<K, V, A> {
 }
 
 impl<K: Key, V: Drop> BPlusTreeMap<K, V, Count> {
-    /// A cursor on the pair at a place in the order of the keys, from 0 on, and the value there; or none past the end. It takes
-    /// what a clone of that key takes, and past the end nothing.
+    /// A cursor on the pair at a place in the order of the keys, from 0 on, and the value there; or
+    /// none past the end. It takes what a clone of that key takes, and past the end nothing.
     ///
     /// It is one way down by the counts.
     pub fn cursor_at(&self, i: usize) -> Result<Option<(Cursor<K>, &V)>, AllocError>

@@ -10,11 +10,13 @@ use bptree_keys::key::Key;
 use bptree_tree::InsertError;
 
 impl<K: Key, V: Drop, A: Argument<K>> BPlusTreeMap<K, V, A> {
-    /// Changes the value at `k` by a closure, or puts `v` at `k` where no key equals it. It answers whether a pair was added.
+    /// Changes the value at `k` by a closure, or puts `v` at `k` where no key equals it. It answers
+    /// whether a pair was added.
     ///
-    /// Where a key equals `k`, it stays, its value alone is changed, and `k` and `v` are dropped: that takes no memory and is
-    /// never refused. A pair with a new key can be refused, as by `insert`: then it is handed back, and nothing has changed.
-    /// It costs what `get_mut` does, and where no key equals `k` what `insert` does too.
+    /// Where a key equals `k`, it stays, its value alone is changed, and `k` and `v` are dropped:
+    /// that takes no memory and is never refused. A pair with a new key can be refused, as by
+    /// `insert`: then it is handed back, and nothing has changed. It costs what `get_mut` does, and
+    /// where no key equals `k` what `insert` does too.
     pub fn upsert_with<F: FnOnce(&mut V)>(
         &mut self,
         k: K,

@@ -86,8 +86,8 @@ impl<'a, K: Key, V: Drop, A: Argument<K>> Clone for Values<'a, K, V, A> {
     }
 }
 
-/// The values of an owned map that are left, in the order of their keys. A step drops the key beside, takes no memory, and is not
-/// refused; what is left is dropped with it.
+/// The values of an owned map that are left, in the order of their keys. A step drops the key
+/// beside, takes no memory, and is not refused; what is left is dropped with it.
 #[derive(Drop)]
 pub struct IntoValues<K: Key, V: Drop, A: Argument<K>> {
     pairs: tree::IntoIter<NodeStoreVec<K, V, A>>,

@@ -14,7 +14,8 @@ use std::alloc::AllocError;
 use std::iter::FusedIterator;
 use std::marker::Model;
 
-/// The keys of a set that no key of another set equals, in their order, seen as what is left of them. No step takes memory.
+/// The keys of a set that no key of another set equals, in their order, seen as what is left of
+/// them. No step takes memory.
 #[derive(Drop)]
 pub struct Difference<'a, K: Key> {
     lacking: Lacking<'a, K>,

@@ -14,7 +14,8 @@ use std::alloc::AllocError;
 use std::iter::FusedIterator;
 use std::marker::Model;
 
-/// The keys of a set that a key of another set equals, in their order, seen as what is left of them. No step takes memory.
+/// The keys of a set that a key of another set equals, in their order, seen as what is left of
+/// them. No step takes memory.
 #[derive(Drop)]
 pub struct Intersection<'a, K: Key> {
     shared: Shared<'a, K>,
@@ -25,7 +26,8 @@ pub struct Intersection<'a, K: Key> {
 enum Shared<'a, K: Key> {
     // Each key of the first set is looked up in the other, the second.
     Seek(Iter<'a, K>),
-    // Each key of the second set is looked up in the other, the first, which gives the key that it has.
+    // Each key of the second set is looked up in the other, the first, which gives the key that it
+    // has.
     Fetch(Iter<'a, K>),
     // Both are walked side by side.
     Walk(MergeIterInner<Iter<'a, K>>),

@@ -100,8 +100,8 @@ impl<'a, K: Key> Listed for Iter<'a, K> {
     ghost counted = { λ _. refl };
 }
 
-/// The keys of an owned set that are left, in their order. No step takes memory, and none is refused; what is left is dropped
-/// with it.
+/// The keys of an owned set that are left, in their order. No step takes memory, and none is
+/// refused; what is left is dropped with it.
 #[derive(Drop)]
 pub struct IntoIter<K: Key> {
     pairs: tree::IntoIter<NodeStoreVec<K, ()>>,

@@ -8,9 +8,10 @@ ghost use Rattle.bptree_maps.specs.TwoSets.{KeepsFirstOrder, KeepsOrder, MakesDi
 
 use bptree_keys::key::Key;
 
-/// After a key was put in, it is held, and others as before; after one was removed, none equal to it is held, and others as
-/// before. Both leave an ascending list ascending, and what is gathered of any list is ascending: of an ascending one that
-/// list, so that `from_iter` of what `into_iter` gives is the same. It does nothing.
+/// After a key was put in, it is held, and others as before; after one was removed, none equal to
+/// it is held, and others as before. Both leave an ascending list ascending, and what is gathered
+/// of any list is ascending: of an ascending one that list, so that `from_iter` of what `into_iter`
+/// gives is the same. It does nothing.
 pub fn laws_of_keys<K: Key>()
     ensures with_order { (keys : List K) → (k : K) → IsStrictlySortedBy K.cmp keys → IsStrictlySortedBy K.cmp (with_key K.cmp keys k) }
     ensures with_holds { (keys : List K) → (k j : K) → IsStrictlySortedBy K.cmp keys → holds K.cmp (with_key K.cmp keys k) j ≡ is_eq (K.cmp k j) || holds K.cmp keys j }
@@ -22,8 +23,8 @@ pub fn laws_of_keys<K: Key>()
     ensures same { (keys : List K) → IsStrictlySortedBy K.cmp keys → gathered K.cmp keys ≡ keys }
 {}
 
-/// What two lists of keys share, and what one of them holds alone: where the lists ascend, so do these; and which keys they
-/// hold, by which of the lists hold them. It does nothing.
+/// What two lists of keys share, and what one of them holds alone: where the lists ascend, so do
+/// these; and which keys they hold, by which of the lists hold them. It does nothing.
 pub fn laws_of_two_sets<K: Key>()
     ensures difference_order { KeepsFirstOrder K.cmp (keys_without K.cmp) }
     ensures difference { MakesDifference K.cmp (keys_without K.cmp) }

@@ -26,8 +26,8 @@ fn key_alone<K: Drop>(pair: Option<(K, ())>) -> Option<K>
 }
 
 impl<K: Key> BPlusTreeSet<K> {
-    /// Removes the key that equals `k`, and hands it back as it was stored. Where there is none, nothing changes and nothing can
-    /// be refused.
+    /// Removes the key that equals `k`, and hands it back as it was stored. Where there is none,
+    /// nothing changes and nothing can be refused.
     ///
     /// It costs what `remove` does, which drops that key. Where it is refused, nothing has changed.
     pub fn take(&mut self, k: &K) -> Result<Option<K>, AllocError>
@@ -39,11 +39,12 @@ impl<K: Key> BPlusTreeSet<K> {
         Ok(key_alone(gone))
     }
 
-    /// Puts `k` in the place of the key that equals it, and hands that key out: none where no key does.
+    /// Puts `k` in the place of the key that equals it, and hands that key out: none where no key
+    /// does.
     ///
-    /// It costs a removal and an insertion, since the sums of the keys on the way are made anew. Where the removal is refused,
-    /// nothing has changed, and `k` is handed back. Where the insertion is, the key that equals `k` has left, and both are handed
-    /// back.
+    /// It costs a removal and an insertion, since the sums of the keys on the way are made anew.
+    /// Where the removal is refused, nothing has changed, and `k` is handed back. Where the
+    /// insertion is, the key that equals `k` has left, and both are handed back.
     pub fn replace(&mut self, k: K) -> Result<Option<K>, ReplaceError<K>>
         ensures ok { IfOk result (λ gone. (gone ≡ key_found K.cmp self.old k) × (self.new ≡ with_key K.cmp (without_key K.cmp self.old k) k)) }
         ensures err { IfErr result (IsNotReplaced K.cmp k self.old self.new) }
@@ -57,10 +58,11 @@ impl<K: Key> BPlusTreeSet<K> {
         }
     }
 
-    /// Puts the keys in that an iterator gives, one after another, as `insert` does: a key that was stored stays.
+    /// Puts the keys in that an iterator gives, one after another, as `insert` does: a key that was
+    /// stored stays.
     ///
-    /// It costs an insertion a key. Where one is refused, the keys before it are in and that key is handed back; the rest of the
-    /// iterator is dropped.
+    /// It costs an insertion a key. Where one is refused, the keys before it are in and that key is
+    /// handed back; the rest of the iterator is dropped.
     pub fn extend<I: IntoIterator<Item = K>>(&mut self, keys: I) -> Result<(), InsertError<K, ()>>
         requires { (it : I.IntoIter) → I.into_iter_gives keys it → I.IntoIter.can_next it × IsFinite (I.IntoIter.remaining it) }
         ensures ok { OnOk result ((it : I.IntoIter) × I.into_iter_gives keys it × IsExtended (with_key K.cmp) I.IntoIter.next_gives it self.old self.new) }
@@ -75,11 +77,12 @@ impl<K: Key> BPlusTreeSet<K> {
         Ok(())
     }
 
-    /// Moves all keys of another set here, one after another, as `insert` does: of two equal keys this set's stays, and the
-    /// other's is dropped.
+    /// Moves all keys of another set here, one after another, as `insert` does: of two equal keys
+    /// this set's stays, and the other's is dropped.
     ///
-    /// It costs a removal and an insertion a key. Where one is refused, the first keys have moved, and the others are still in
-    /// the other set; a key that was removed and not stored is handed back.
+    /// It costs a removal and an insertion a key. Where one is refused, the first keys have moved,
+    /// and the others are still in the other set; a key that was removed and not stored is handed
+    /// back.
     pub fn append(&mut self, other: &mut Self) -> Result<(), MoveError<K, ()>>
         ensures ok { OnOk result ((self.new ≡ put_all (with_key K.cmp) self.old other.old) × (other.new ≡ [])) }
         ensures err { IfErr result (λ refusal. Moves (with_key K.cmp) self.old other.old (key_in_hand refusal) self.new other.new) }
@@ -98,9 +101,10 @@ impl<K: Key> BPlusTreeSet<K> {
 
     /// Moves the keys that are not below `k` to a set of their own, the greatest first.
     ///
-    /// It costs a removal and an insertion a key that moves, and what a set with no keys takes. Where that is refused, nothing
-    /// has changed. Where a move is refused, the greatest keys have left and are handed back in their set, with the key that was
-    /// removed and not stored, if there is one; the others stayed.
+    /// It costs a removal and an insertion a key that moves, and what a set with no keys takes.
+    /// Where that is refused, nothing has changed. Where a move is refused, the greatest keys have
+    /// left and are handed back in their set. With them comes the key that was removed and not
+    /// stored, if there is one. The others stayed.
     pub fn split_off(&mut self, k: &K) -> Result<Self, SplitError<Self, MoveError<K, ()>>>
         ensures ok { IfOk result (λ there. (self.new ≡ keys_between K.cmp self.old None (Some k.now)) × (there ≡ keys_between K.cmp self.old (Some k.now) None)) }
         ensures err { IfErr result (λ refusal. self.old ≡ self.new ++ keys_gone refusal) }

@@ -11,8 +11,8 @@ use std::alloc::AllocError;
 use std::iter::FusedIterator;
 use std::marker::Model;
 
-/// The keys of two sets in their order, without those that are equal, seen as what is left of each. No step takes memory; one
-/// takes a comparison for each key that it gives or passes by.
+/// The keys of two sets in their order, without those that are equal, seen as what is left of each.
+/// No step takes memory; one takes a comparison for each key that it gives or passes by.
 #[derive(Drop)]
 pub struct SymmetricDifference<'a, K: Key> {
     merge: MergeIterInner<Iter<'a, K>>,
@@ -57,7 +57,8 @@ impl<'a, K: Key> Iterator for SymmetricDifference<'a, K> {
         }
     }
 
-    /// The sum of what is left of both sets at most, where that is a number, and at least the difference of both.
+    /// The sum of what is left of both sets at most, where that is a number, and at least the
+    /// difference of both.
     fn size_hint(&self) -> (usize, Option<usize>)
         ensures lower { IsWithinCount result.0 (symmetric_count K.cmp self.now) }
         ensures upper { IfSome result.1 (UpTo (symmetric_count K.cmp self.now)) }

@@ -16,8 +16,8 @@ use std::alloc::AllocError;
 use std::iter::FusedIterator;
 use std::marker::Model;
 
-/// The keys of two sets in their order, seen as what is left of each. Of two equal keys the first set's is given, and the
-/// other is left out. No step takes memory; one takes a comparison.
+/// The keys of two sets in their order, seen as what is left of each. Of two equal keys the first
+/// set's is given, and the other is left out. No step takes memory; one takes a comparison.
 #[derive(Drop)]
 pub struct Union<'a, K: Key> {
     merge: MergeIterInner<Iter<'a, K>>,
@@ -81,8 +81,9 @@ impl<'a, K: Key> Clone for Union<'a, K> {
     }
 }
 
-/// What the union of two ascending lists of keys is: ascending; a key equals one of it exactly where it equals one of a list;
-/// and the key that is found in it is the first list's where that has one, and else the second's. It does nothing.
+/// What the union of two ascending lists of keys is. It ascends. A key equals one of it exactly
+/// where it equals one of a list. The key that is found in it is the first list's where that has
+/// one, and else the second's. It does nothing.
 pub fn laws_of_union<K: Key>()
     ensures order { (first second : List K) → IsStrictlySortedBy K.cmp first → IsStrictlySortedBy K.cmp second → IsStrictlySortedBy K.cmp (union K.cmp first second) }
     ensures holds { (first second : List K) → (k : K) → holds K.cmp (union K.cmp first second) k ≡ holds K.cmp first k || holds K.cmp second k }

@@ -32,7 +32,8 @@ fn summarizes_without_memory<K: Key, A: Argument<K>>(keys: &[K]) -> A
     }
 }
 
-// And the summary of a node over two leaves is one of the keys of both, whatever the separators are.
+// And the summary of a node over two leaves is one of the keys of both, whatever the separators
+// are.
 fn summarizes_two_leaves<K: Key, A: Argument<K>>(
     left: &[K],
     separators: &[K],
@@ -47,8 +48,8 @@ fn summarizes_two_leaves<K: Key, A: Argument<K>>(
     Ok(both)
 }
 
-// Where the keys of a node's first child gave way to others, and the summaries tell the node's new one, that is a summary of
-// all that stand there then.
+// Where the keys of a node's first child gave way to others, and the summaries tell the node's new
+// one, that is a summary of all that stand there then.
 fn replaces_the_first<K: Key, A: Argument<K>>(
     node: &A,
     old: &A,
@@ -111,7 +112,8 @@ fn selects_in_a_leaf<K: Key, A: SearchArgument<K>>(
     A::locate_in_leaf(query, keys)
 }
 
-// The rank of a key behind one leaf is one for the keys of both, and tells whether the key is present.
+// The rank of a key behind one leaf is one for the keys of both, and tells whether the key is
+// present.
 fn ranks_behind_one_leaf<K: Key, A: RankArgument<K>>(
     k: &K,
     before: &[K],

@@ -61,7 +61,8 @@ fn adds_two_counts<K: Key>(
     Ok((left.count(), right.count(), both.count()))
 }
 
-// A place in a leaf is the place that is asked for, the last one too, and past the end there is none.
+// A place in a leaf is the place that is asked for, the last one too, and past the end there is
+// none.
 fn finds_the_place<K: Key>(query: usize, keys: &[K]) -> Result<Option<usize>, AllocError>
     requires few { length keys.now ≤ 64 }
     requires ascending { IsStrictlySortedBy K.cmp keys.now }
@@ -105,7 +106,8 @@ fn takes_in_two_counts<K: Key>(
     Ok((left.count(), right.count(), rank))
 }
 
-// A slot of a leaf is added, whether or not the key's place is there: `Ok` stays `Ok`, and `Err` stays `Err`.
+// A slot of a leaf is added, whether or not the key's place is there: `Ok` stays `Ok`, and `Err`
+// stays `Err`.
 fn adds_the_place<K: Key>(
     k: &K,
     rank: usize,

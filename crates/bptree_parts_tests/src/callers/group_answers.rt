@@ -14,8 +14,8 @@ use bptree_arguments::group::{FromRef, GroupCount};
 use bptree_keys::key::Key;
 use std::alloc::AllocError;
 
-// The key at the place is of the group, and as many keys of the group stand before it as the place in the group says.
-// Past the last key of the group there is no place.
+// The key at the place is of the group, and as many keys of the group stand before it as the place
+// in the group says. Past the last key of the group there is no place.
 fn finds_a_key_of_the_group<K: Key, G: FromRef<K> + Key>(
     group: G,
     place: usize,
@@ -46,7 +46,8 @@ fn finds_the_item_of_the_group<K: Key, G: FromRef<K> + Key>(
     Ok(found)
 }
 
-// Below a node of two leaves, the leaf to which the node leads has the item of the group's keys in both.
+// Below a node of two leaves, the leaf to which the node leads has the item of the group's keys in
+// both.
 fn finds_the_item_below_a_node<K: Key, G: FromRef<K> + Key>(
     group: G,
     place: usize,
@@ -95,7 +96,8 @@ fn carries_the_rank_over_no_child<K: Key, G: FromRef<K> + Key>(
     <GroupCount<G> as RankArgument<K>>::fold_inner(k, rank, arguments)
 }
 
-// Over a child of the key's group alone its size is added to what is carried, up to the greatest number.
+// Over a child of the key's group alone its size is added to what is carried, up to the greatest
+// number.
 fn carries_the_rank_over_the_group<K: Key, G: FromRef<K> + Key>(
     k: &K,
     carried: usize,
@@ -112,8 +114,8 @@ fn carries_the_rank_over_the_group<K: Key, G: FromRef<K> + Key>(
     <GroupCount<G> as RankArgument<K>>::fold_inner(k, Some((group, carried)), arguments)
 }
 
-// The rank in one leaf is the key's group, and how many keys are in it and smaller: `Ok` where the key is present, and
-// `Err` where it is absent.
+// The rank in one leaf is the key's group, and how many keys are in it and smaller: `Ok` where the
+// key is present, and `Err` where it is absent.
 fn ranks_in_a_leaf<K: Key, G: FromRef<K> + Key>(
     k: &K,
     slot: Result<usize, usize>,

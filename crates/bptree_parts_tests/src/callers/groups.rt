@@ -116,7 +116,8 @@ fn tells_the_size<G: Key>(group: G, size: usize) -> usize
     }
 }
 
-// The sizes of a group in two children are added, up to the greatest number, and the separators don't count.
+// The sizes of a group in two children are added, up to the greatest number, and the separators
+// don't count.
 fn adds_two_sizes<K: Key, G: FromRef<K> + Key>(
     separators: &[K],
     first: &G,
@@ -166,8 +167,8 @@ fn counts_a_group_of_a_leaf<K: Key, V, G: FromRef<K> + Key>(
     )
 }
 
-// Above two leaves the count is complete, and that of the group in both, or one of the two is named; there is always an
-// answer.
+// Above two leaves the count is complete, and that of the group in both, or one of the two is
+// named; there is always an answer.
 fn counts_a_group_above_two_leaves<K: Key, V, G: FromRef<K> + Key>(
     group: G,
     separators: &[K],

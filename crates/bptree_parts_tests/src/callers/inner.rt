@@ -194,7 +194,8 @@ fn pops_what_was_pushed_in_front<K: Drop, A: Drop>(
     node.pop_front()
 }
 
-// A node of two keys that loses the first: the child before it stays, and the one behind goes. Then it is too small.
+// A node of two keys that loses the first: the child before it stays, and the one behind goes. Then
+// it is too small.
 fn removes_the_right_child<K: Drop, A: Drop>(node: &mut InnerNode<K, A>) -> (InnerMergeResult, K)
     requires { 0 < length node.old.keys }
     ensures key { (first : K) → (rest : List K) → node.old.keys ≡ first ∷ rest → (result.1 ≡ first) × (node.new.keys ≡ rest) }
@@ -206,8 +207,8 @@ fn removes_the_right_child<K: Drop, A: Drop>(node: &mut InnerNode<K, A>) -> (Inn
     node.remove_slot_with_right(0)
 }
 
-// A full node that is split: each part has 32 keys, and the key between the parts goes up. A new key in the middle is
-// that key, and one at an end is not.
+// A full node that is split: each part has 32 keys, and the key between the parts goes up. A new
+// key in the middle is that key, and one at an end is not.
 fn splits_at_a_new_key<K: Drop, A: Drop>(
     node: &mut InnerNode<K, A>,
     slot: usize,
@@ -267,7 +268,8 @@ fn merges_what_was_cut<K: Drop, A: Drop>(
     node.merge_next(between, right);
 }
 
-// The last child of one node becomes the first of the next: its key goes up, and the key between goes down with it.
+// The last child of one node becomes the first of the next: its key goes up, and the key between
+// goes down with it.
 #[tactic(auto, using(crate::proofs::Ends::last_moves, crate::proofs::Ends::last_turns))]
 fn lends_its_last<K: Drop, A: Drop>(
     node: &mut InnerNode<K, A>,
@@ -300,7 +302,8 @@ fn takes_the_first_of_the_next<K: Drop, A: Drop>(
     node.rotate_left(key, right)
 }
 
-// What was taken over is handed over again, and the key between comes back: both nodes are as before.
+// What was taken over is handed over again, and the key between comes back: both nodes are as
+// before.
 #[tactic(auto, using(crate::proofs::Ends::handed_over))]
 fn hands_over_what_it_took<K: Drop, A: Drop>(
     node: &mut InnerNode<K, A>,

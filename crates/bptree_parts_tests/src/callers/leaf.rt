@@ -54,8 +54,8 @@ fn sets_links<K: Drop, V: Drop>(
     (leaf.prev(), leaf.next())
 }
 
-// A leaf without neighbours is in range of every key, and an empty one with a neighbour of none. With a neighbour the
-// key at that end counts as in range, and one past it does not.
+// A leaf without neighbours is in range of every key, and an empty one with a neighbour of none.
+// With a neighbour the key at that end counts as in range, and one past it does not.
 fn is_in_range_of<K: Ord + Drop, V: Drop>(leaf: &LeafNode<K, V>, key: &K) -> bool
     ensures alone { leaf.now.prev ≡ None → leaf.now.next ≡ None → result ≡ true }
     ensures empty { (before : LeafNodeId) → leaf.now.prev ≡ Some before → leaf.now.pairs ≡ [] → result ≡ false }
@@ -67,7 +67,8 @@ fn is_in_range_of<K: Ord + Drop, V: Drop>(leaf: &LeafNode<K, V>, key: &K) -> boo
     leaf.in_range(key)
 }
 
-// Of a leaf of two pairs with a leaf before it and none after it: a clone of the first key, and none.
+// Of a leaf of two pairs with a leaf before it and none after it: a clone of the first key, and
+// none.
 fn shows_its_first_key<K: Clone + Drop, V: Drop>(
     leaf: &LeafNode<K, V>,
 ) -> Result<(Option<K>, Option<K>), AllocError>
@@ -173,7 +174,8 @@ fn finds_an_equal_key<K: Ord + Drop, V: Drop>(leaf: &LeafNode<K, V>, key: &K) ->
     }
 }
 
-// Where it finds none in an ascending leaf, the key is not there, and the place is the number of smaller keys.
+// Where it finds none in an ascending leaf, the key is not there, and the place is the number of
+// smaller keys.
 fn counts_smaller_keys<K: Ord + Drop, V: Drop>(leaf: &LeafNode<K, V>, key: &K) -> Option<usize>
     requires { IsAscending K.cmp leaf.now.pairs }
     ensures absent { IfSome result (λ _. has K.cmp leaf.now.pairs key.now ≡ false) }
@@ -190,7 +192,8 @@ fn reads_the_value<'a, K: Ord + Drop, V: Drop>(leaf: &'a LeafNode<K, V>, key: &K
     leaf.locate_slot_with_value(key).1
 }
 
-// The same searches, with their comparisons counted: at most seven for the slot, as many for the value, and two for the range.
+// The same searches, with their comparisons counted: at most seven for the slot, as many for the
+// value, and two for the range.
 fn counts_a_value_in_seven<'a, K: Ord + Drop, V: Drop>(
     leaf: &'a LeafNode<K, V>,
     key: &K,
@@ -226,7 +229,8 @@ fn tells_its_range_in_two<K: Ord + Drop, V: Drop>(leaf: &LeafNode<K, V>, key: &K
     (within == leaf.in_range(key), compares.count())
 }
 
-// A pair that is put where there is room: the contents are those of a map, and an old value is handed back.
+// A pair that is put where there is room: the contents are those of a map, and an old value is
+// handed back.
 fn puts_a_pair<K: Ord + Drop, V: Drop>(leaf: &mut LeafNode<K, V>, key: K, value: V) -> Option<V>
     requires ascending { IsAscending K.cmp leaf.old.pairs }
     requires room { length leaf.old.pairs < 64 }
@@ -366,7 +370,8 @@ fn merges_but_for_one<K: Drop, V: Drop>(
     leaf.merge_right_delete_first(0, right)
 }
 
-// A full leaf that is split at any slot: how many pairs each part has, and the links from left to right.
+// A full leaf that is split at any slot: how many pairs each part has, and the links from left to
+// right.
 fn links_a_split<K: Drop, V: Drop>(
     leaf: &mut LeafNode<K, V>,
     slot: usize,
@@ -432,7 +437,8 @@ fn takes_the_first_of_the_next<K: Drop, V: Drop>(
     leaf.rotate_left(right);
 }
 
-// What was taken over is handed over again: both have the pairs that they had, and `right` all that it had.
+// What was taken over is handed over again: both have the pairs that they had, and `right` all that
+// it had.
 fn hands_over_what_it_took<K: Drop, V: Drop>(leaf: &mut LeafNode<K, V>, right: &mut LeafNode<K, V>)
     requires { length leaf.old.pairs + length right.old.pairs ≤ 64 }
     ensures left { leaf.new ≡ record leaf.old { next = right.old.next } }

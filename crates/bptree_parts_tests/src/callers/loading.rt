@@ -55,7 +55,8 @@ fn keeps_all_of_what_was_kept<K: Key, V: Drop>(pairs: &mut Vec<(K, V)>)
     keep_last_of_each_run(pairs);
 }
 
-// Of pairs that were sorted, and of which the last of each run was kept, what is left is what is gathered of them as they came.
+// Of pairs that were sorted, and of which the last of each run was kept, what is left is what is
+// gathered of them as they came.
 fn gathers_by_sorting<K: Key, V: Drop>(pairs: &mut Vec<(K, V)>) -> bool
     ensures gathered { IsTrue result → pairs.new.items ≡ gather K.cmp pairs.old.items }
     ensures refused { result ≡ false → pairs.new.items ≡ pairs.old.items }

@@ -69,7 +69,8 @@ fn gives_the_first_of_all_steps<'a, K: Key>(
     merge.nexts(|a, b| a.cmp(b))
 }
 
-// The one item, or the first of the two, is the next key of both lists, and the keys behind it are left.
+// The one item, or the first of the two, is the next key of both lists, and the keys behind it are
+// left.
 fn gives_the_next_key<'a, K: Key>(merge: &mut MergeIterInner<slice::Iter<'a, K>>) -> Option<&'a K>
     ensures { TakesFirst deref (keys_given (merged K.cmp merge.old.0 merge.old.1)) result (keys_given (merged K.cmp merge.new.0 merge.new.1)) }
 {

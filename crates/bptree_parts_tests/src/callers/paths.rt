@@ -44,7 +44,8 @@ fn grows_by_one(
     (before, stack.len(), stack.is_empty())
 }
 
-// An entry that goes without its tree, and then into another, keeps its path, its leaf and its place there.
+// An entry that goes without its tree, and then into another, keeps its path, its leaf and its
+// place there.
 fn goes_into_another_tree<T: Drop, U>(
     tree: T,
     other: U,

@@ -82,7 +82,8 @@ fn reads_bare_words(
     )
 }
 
-// A line is read as no request but the one that it writes: a leading zero, one more space or one more word is none.
+// A line is read as no request but the one that it writes: a leading zero, one more space or one
+// more word is none.
 fn reads_no_other_line(line: &[u8]) -> Option<Request>
     ensures { (request : Request) → result ≡ Some request → line.now ≡ line_of request }
 {

@@ -27,7 +27,8 @@ fn counts_two<K: Ord>(a: &K, b: &K) -> (Ordering, Ordering, usize)
     (first, second, compares.count())
 }
 
-// A search of ascending keys: the place of the key or how many are smaller, after at most seven comparisons.
+// A search of ascending keys: the place of the key or how many are smaller, after at most seven
+// comparisons.
 fn finds_in_seven<K: Ord>(keys: &[K], key: &K) -> (Result<usize, usize>, usize)
     requires few { length keys.now ≤ 64 }
     requires ascending { IsStrictlySortedBy K.cmp keys.now }

@@ -1,4 +1,5 @@
-//! Callers that are proved, of any store: what each ensures follows from the contracts of the functions that it calls.
+//! Callers that are proved, of any store: what each ensures follows from the contracts of the
+//! functions that it calls.
 ghost use Rattle.std.specs.Prelude.{◌≡◌, ◌≢◌, ◌<◌, ◌≤◌, ◌∷◌, [], ℕ, true, false, length, slice_set, IfOk, IfErr, IfSome, OnErr, IsSome};
 ghost use Rattle.bptree_nodes.specs.Clones.{IsInnerClone, IsLeafClone};
 ghost use Rattle.bptree_nodes.specs.Inner.{Inner};
@@ -57,7 +58,8 @@ fn knows_the_sizes<S: NodeStore>() -> (u16, u16)
     (S::inner_n(), S::leaf_n())
 }
 
-// A new node stands under a number apart from one that is held, which stays held. A refusal hands the node back.
+// A new node stands under a number apart from one that is held, which stays held. A refusal hands
+// the node back.
 fn adds_beside_a_held_number<S: NodeStore>(
     store: &mut S,
     node: Box<InnerNode<S::K, S::Argument>>,
@@ -73,7 +75,7 @@ fn adds_beside_a_held_number<S: NodeStore>(
     store.add_inner(node)
 }
 
-// Two numbers that are held are two.
+/// Two numbers that are held are two.
 pub fn holds_two_inner_nodes<S: NodeStore>(
     store: &mut S,
 ) -> Result<(InnerNodeId, InnerNodeId), AllocError>
@@ -85,6 +87,7 @@ pub fn holds_two_inner_nodes<S: NodeStore>(
     Ok((first, second))
 }
 
+/// Two numbers that are held for leaves differ.
 pub fn holds_two_leaves<S: NodeStore>(store: &mut S) -> Result<(LeafNodeId, LeafNodeId), AllocError>
     ensures apart { IfOk result (λ ids. ids.0.0 ≢ ids.1.0) }
     ensures held { IfOk result (λ ids. ((S.slots store.new).leaf ids.0.0 ≡ Held) × ((S.slots store.new).leaf ids.1.0 ≡ Held)) }
@@ -94,7 +97,8 @@ pub fn holds_two_leaves<S: NodeStore>(store: &mut S) -> Result<(LeafNodeId, Leaf
     Ok((first, second))
 }
 
-// A number that goes through all its states: the node comes back, the number is free as before, and so is all else.
+/// A number that goes through all its states: the node comes back, the number is free as before,
+/// and so is all else.
 pub fn walks_an_inner_number<S: NodeStore>(
     store: &mut S,
     node: Box<InnerNode<S::K, S::Argument>>,
@@ -112,6 +116,7 @@ pub fn walks_an_inner_number<S: NodeStore>(
     Ok((id, node))
 }
 
+/// The same of the number of a leaf.
 pub fn walks_a_leaf_number<S: NodeStore>(
     store: &mut S,
     leaf: Box<LeafNode<S::K, S::V>>,
@@ -129,7 +134,7 @@ pub fn walks_a_leaf_number<S: NodeStore>(
     Ok((id, leaf))
 }
 
-// A new leaf that takes a pair has that pair alone, and no neighbours.
+/// A new leaf that takes a pair has that pair alone, and no neighbours.
 pub fn starts_a_leaf<S: NodeStore>(
     store: &mut S,
     key: S::K,
@@ -152,7 +157,7 @@ fn makes_a_leaf_for<S: NodeStore>(store: &S) -> Result<Box<LeafNode<S::K, S::V>>
     LeafNode::new(store.allocator())
 }
 
-// A write to a node where it stands changes nothing else.
+/// A write to a node where it stands changes nothing else.
 pub fn writes_a_leaf<S: NodeStore>(store: &mut S, id: LeafNodeId)
     requires { IsPresent ((S.slots store.old).leaf id.0) }
     ensures there { (leaf : Leaf S.K S.V) → (S.slots store.old).leaf id.0 ≡ Present leaf → (S.slots store.new).leaf id.0 ≡ Present (record leaf { prev = None }) }
@@ -250,7 +255,7 @@ fn compares_two_keys<K: Key, V: Drop, A: Argument<K>>(
     compares.count()
 }
 
-// A number that is held is held in the clone too, which can take a leaf there.
+/// A number that is held is held in the clone too, which can take a leaf there.
 pub fn assigns_in_a_clone<S: CloneStore>(
     store: &S,
     id: LeafNodeId,

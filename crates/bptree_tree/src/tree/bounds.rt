@@ -11,8 +11,9 @@ use bptree_stores::node_stores::NodeStore;
 use std::ops::Bound;
 
 impl<S: NodeStore> BPlusTree<S> {
-    /// The pairs from a start on up to an end, in the order of their keys: each bound takes the pair of its key in, leaves it
-    /// out, or is open. Of a start above the end there are none. It takes no memory, and neither do its steps.
+    /// The pairs from a start on up to an end, in the order of their keys: each bound takes the
+    /// pair of its key in, leaves it out, or is open. Of a start above the end there are none. It
+    /// takes no memory, and neither do its steps.
     ///
     /// It costs what `range` does: each bound that is not open is searched for once, from the root.
     pub fn range_bounds<'b>(&self, lo: Bound<&'b S::K>, hi: Bound<&'b S::K>) -> Iter<'_, S>

@@ -18,11 +18,12 @@ where
     S::V: Clone,
     S::Argument: CloneArgument<S::K>,
 {
-    /// A tree of its own over a clone of the store: equal keys in the same order, each value what its own clone answers, and
-    /// clones of the nodes under the same numbers. It has counted no rebalanced nodes.
+    /// A tree of its own over a clone of the store. It has equal keys in the same order, each value
+    /// what its own clone answers, and clones of the nodes under the same numbers. It has counted
+    /// no rebalanced nodes.
     ///
-    /// Each key, value and summary is cloned once. It is refused where a request for memory is, or where one of these
-    /// clones is; what was cloned till then is dropped.
+    /// Each key, value and summary is cloned once. It is refused where a request for memory is, or
+    /// where one of these clones is; what was cloned till then is dropped.
     pub fn clone(&self) -> Result<Self, AllocError>
         ensures contents { IfOk result (λ copy. AllZip (λ p q. (S.K.cmp p.0 q.0 ≡ Equal) × S.V.is_clone p.1 q.1) self.now.contents copy.contents) }
         ensures whole { IfOk result (λ copy. IsWhole S.K.cmp S.Argument.is_summary (λ store. S.slots store) copy) }

@@ -15,7 +15,8 @@ use bptree_stores::node_stores::NodeStore;
 use std::alloc::AllocError;
 
 impl<S: NodeStore> BPlusTree<S> {
-    /// A cursor on the least key. It takes what a clone of the key takes, and of an empty tree nothing.
+    /// A cursor on the least key. It takes what a clone of the key takes, and of an empty tree
+    /// nothing.
     pub fn cursor_first(&self) -> Result<Option<Cursor<S::K>>, AllocError>
         ensures cursor { IfOk result (StandsAt S.K.cmp (slice_get self.now.contents 0)) }
         ensures empty { self.now.contents ≡ [] → result ≡ Ok None }
@@ -27,7 +28,8 @@ impl<S: NodeStore> BPlusTree<S> {
         }
     }
 
-    /// A cursor on `k`, which need not be there, and its value where it is. It takes what a clone of `k` takes.
+    /// A cursor on `k`, which need not be there, and its value where it is. It takes what a clone
+    /// of `k` takes.
     pub fn get_cursor(&self, k: &S::K) -> Result<Option<(Cursor<S::K>, Option<&S::V>)>, AllocError>
         ensures cursor { IfOk result (λ answer. IsSomeAnd answer (λ found. (S.K.cmp (cursor_key found.0) k.now ≡ Equal) × (option_copied found.1 ≡ value S.K.cmp self.now.contents k.now))) }
         ensures sure { S.K.is_infallible k.now → IsOk result }
@@ -37,8 +39,8 @@ impl<S: NodeStore> BPlusTree<S> {
         Ok(Some((Cursor::at((leaf, offset), k)?, value)))
     }
 
-    /// A cursor on the least key that is not below `k`, and the value there. It takes what a clone of that key takes, and where
-    /// there is none it takes nothing.
+    /// A cursor on the least key that is not below `k`, and the value there. It takes what a clone
+    /// of that key takes, and where there is none it takes nothing.
     ///
     /// It costs what `get` does, and where `k` itself is not there one more search of its leaf.
     pub fn lower_bound(&self, k: &S::K) -> Result<Option<(Cursor<S::K>, &S::V)>, AllocError>
@@ -54,8 +56,8 @@ impl<S: NodeStore> BPlusTree<S> {
         Ok(Some((cursor, value)))
     }
 
-    /// A cursor on the least key above `k`, and the value there. It takes what a clone of that key takes, and where there is
-    /// none it takes nothing.
+    /// A cursor on the least key above `k`, and the value there. It takes what a clone of that key
+    /// takes, and where there is none it takes nothing.
     ///
     /// It costs what `get` does, and one more search of the leaf.
     pub fn upper_bound(&self, k: &S::K) -> Result<Option<(Cursor<S::K>, &S::V)>, AllocError>

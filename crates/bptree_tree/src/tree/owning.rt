@@ -14,10 +14,11 @@ use bptree_stores::node_stores::NodeStore;
 use std::iter::{ExactSizeIterator, FusedIterator};
 use std::marker::Model;
 
-/// The pairs of an owned tree that are left, in the order of their keys. No step takes memory, and none is refused; what is
-/// left is dropped with it.
+/// The pairs of an owned tree that are left, in the order of their keys. No step takes memory, and
+/// none is refused; what is left is dropped with it.
 ///
-/// A step takes constant time: within a leaf it moves one pair alone. The first step into a leaf takes it out of its store.
+/// A step takes constant time: within a leaf it moves one pair alone. The first step into a leaf
+/// takes it out of its store.
 #[derive(Drop)]
 pub struct IntoIter<S: NodeStore> {
     leaves: Chain<S>,
@@ -67,7 +68,8 @@ impl<S: NodeStore> IntoIter<S> {
 }
 
 impl<S: NodeStore> BPlusTree<S> {
-    /// The pairs in the order of their keys, each with its value. It takes no memory, and neither do its steps.
+    /// The pairs in the order of their keys, each with its value. It takes no memory, and neither
+    /// do its steps.
     pub fn into_iter(self) -> IntoIter<S>
         ensures rest { result ≡ self.contents }
         ensures ascending { IsAscending S.K.cmp self.contents }

@@ -13,8 +13,8 @@ use bptree_stores::node_stores::NodeStore;
 use std::alloc::AllocError;
 
 impl<S: NodeStore> BPlusTree<S> {
-    /// A cursor on the pair at a place that is allowed for the query, and the value there; or none. It takes what a clone of
-    /// that key takes, and what the argument takes.
+    /// A cursor on the pair at a place that is allowed for the query, and the value there; or none.
+    /// It takes what a clone of that key takes, and what the argument takes.
     ///
     /// It costs what `get_by_argument` does.
     pub fn cursor_by_argument(
@@ -33,7 +33,8 @@ impl<S: NodeStore> BPlusTree<S> {
         Ok(Some((cursor, value)))
     }
 
-    // The pair at a place that is allowed for the query, with the leaf and the slot where it stands.
+    // The pair at a place that is allowed for the query, with the leaf and the slot where it
+    // stands.
     fn place_by_argument(
         &self,
         query: <S::Argument as SearchArgument<S::K>>::Query,

@@ -22,9 +22,11 @@ use bptree_stores::node_stores::NodeStore;
 use std::alloc::AllocError;
 
 impl<S: NodeStore> BPlusTree<S> {
-    /// The pair at a place that is allowed for the query, or none. It takes no memory but what the argument takes.
+    /// The pair at a place that is allowed for the query, or none. It takes no memory but what the
+    /// argument takes.
     ///
-    /// The query is asked once on each level, of one node's separators and summaries, and at last of one leaf's keys.
+    /// The query is asked once on each level, of one node's separators and summaries, and at last
+    /// of one leaf's keys.
     pub fn get_by_argument(
         &self,
         query: <S::Argument as SearchArgument<S::K>>::Query,
@@ -42,9 +44,11 @@ impl<S: NodeStore> BPlusTree<S> {
         }
     }
 
-    /// The rank of a key, which need not be present: `Ok` where it is. It takes no memory but what the argument takes.
+    /// The rank of a key, which need not be present: `Ok` where it is. It takes no memory but what
+    /// the argument takes.
     ///
-    /// On each level the summaries of the children before the one for the key are folded, and at last one leaf's keys.
+    /// On each level the summaries of the children before the one for the key are folded, and at
+    /// last one leaf's keys.
     pub fn rank_by_argument(
         &self,
         k: &S::K,
@@ -66,12 +70,13 @@ impl<S: NodeStore> BPlusTree<S> {
         by_argument::rank_by_argument(&self.store, self.root, self.height, k)
     }
 
-    /// A summary of the keys that are not below `lo` and are below `hi`, where they are given; of no keys what `Default` makes.
+    /// A summary of the keys that are not below `lo` and are below `hi`, where they are given; of
+    /// no keys what `Default` makes.
     ///
-    /// One way down to the node where the ways to the two ends part, and from there one for each end: on each level the
-    /// summaries of the children between the ways are summed up, and at last the keys of one leaf for each end. So it takes
-    /// the same however many pairs stand between. It fails only where the argument does, or where room for two summaries is
-    /// refused.
+    /// One way down to the node where the ways to the two ends part, and from there one for each
+    /// end. On each level the summaries of the children between the ways are summed up, and at last
+    /// the keys of one leaf for each end. So it takes the same however many pairs stand between. It
+    /// fails only where the argument does, or where room for two summaries is refused.
     pub fn range_argument<'b>(
         &self,
         lo: Option<&'b S::K>,
@@ -84,8 +89,9 @@ impl<S: NodeStore> BPlusTree<S> {
         summary_between(&self.store, self.root, self.height, lo, hi)
     }
 
-    /// A summary of the keys from a place that is allowed for one query on, up to a place that is allowed for another: where
-    /// there is none for the second, up to the end; of no keys where there is none for the first.
+    /// A summary of the keys from a place that is allowed for one query on, up to a place that is
+    /// allowed for another. Where there is none for the second, it goes up to the end. Where there
+    /// is none for the first, it is of no keys.
     ///
     /// It costs a way down for each query, and then what `range_argument` does.
     pub fn part_argument(
@@ -108,12 +114,13 @@ impl<S: NodeStore> BPlusTree<S> {
         }
     }
 
-    /// What a visitor answers on its way down, or none where it ends without an answer. It takes no memory but what the
-    /// visitor takes.
+    /// What a visitor answers on its way down, or none where it ends without an answer. It takes no
+    /// memory but what the visitor takes.
     ///
-    /// The visitor sees one node a level, from the root down: an inner node by its separators and summaries, and at last one
-    /// leaf, unless it ends before. It fails with `OutOfMemory` where the visitor is refused memory, and with `InvalidChild`
-    /// where it names a child whose number is above the number of separators.
+    /// The visitor sees one node a level, from the root down: an inner node by its separators and
+    /// summaries, and at last one leaf, unless it ends before. It fails with `OutOfMemory` where
+    /// the visitor is refused memory, and with `InvalidChild` where it names a child whose number
+    /// is above the number of separators.
     pub fn descend_visit<W: DescendVisit<S::K, S::V, S::Argument>>(
         &self,
         visitor: W,
@@ -134,10 +141,12 @@ impl<S: NodeStore> BPlusTree<S> {
     ghost use Rattle.bptree_tree.specs.Writing.{WritesSelected};
     ghost use Rattle.bptree_tree.specs.contracts.tree.BPlusTree.{the_row};
 
-    /// The value at a place that is allowed for the query, for writing. It takes no memory but what the argument takes.
+    /// The value at a place that is allowed for the query, for writing. It takes no memory but what
+    /// the argument takes.
     ///
-    /// That one value alone is written, and no key, so that the summaries stay. With `NotFound`, where no place is allowed,
-    /// and with `OutOfMemory`, where the argument is refused memory, nothing has changed.
+    /// That one value alone is written, and no key, so that the summaries stay. With `NotFound`,
+    /// where no place is allowed, and with `OutOfMemory`, where the argument is refused memory,
+    /// nothing has changed.
     pub fn get_mut_by_argument(
         &mut self,
         query: <S::Argument as SearchArgument<S::K>>::Query,
@@ -160,10 +169,11 @@ impl<S: NodeStore> BPlusTree<S> {
 }
 
 impl<K: Key, V: Drop> BPlusTree<NodeStoreVec<K, V, Count>> {
-    /// How many keys are not below `lo` and are below `hi`, where they are given. It is never refused.
+    /// How many keys are not below `lo` and are below `hi`, where they are given. It is never
+    /// refused.
     ///
-    /// One way down for each end that is given: on each level the counts of the children before the way are added up. So it
-    /// takes the same however many pairs stand between.
+    /// One way down for each end that is given: on each level the counts of the children before the
+    /// way are added up. So it takes the same however many pairs stand between.
     pub fn range_len<'b>(&self, lo: Option<&'b K>, hi: Option<&'b K>) -> usize
         ensures { result ≡ length (between K.cmp self.now.contents (option_copied lo.entry) (option_copied hi.entry)) }
     {

@@ -18,11 +18,11 @@ use bptree_stores::node_stores::NodeStore;
 use std::alloc::AllocError;
 
 impl<S: NodeStore> BPlusTree<S> {
-    /// The pairs whose key is not below `lo` and is below `hi`, where they are given, in the order of their keys. It takes no
-    /// memory, and neither do its steps.
+    /// The pairs whose key is not below `lo` and is below `hi`, where they are given, in the order
+    /// of their keys. It takes no memory, and neither do its steps.
     ///
-    /// Each end that is given is searched for once, from the root. How many pairs there are is told when it is asked, by a step
-    /// for each leaf from the one end to the other.
+    /// Each end that is given is searched for once, from the root. How many pairs there are is told
+    /// when it is asked, by a step for each leaf from the one end to the other.
     pub fn range<'b>(&self, lo: Option<&'b S::K>, hi: Option<&'b S::K>) -> Iter<'_, S>
         ensures rest { result ≡ between S.K.cmp self.now.contents (option_copied lo.entry) (option_copied hi.entry) }
         ensures ascending { IsAscending S.K.cmp result }
@@ -32,11 +32,13 @@ impl<S: NodeStore> BPlusTree<S> {
         Iter::new(&self.store, part)
     }
 
-    /// The first `n` pairs, or all where there are fewer, from a place on that is allowed for the query, in the order of
-    /// their keys; none where none is. It takes no memory but what the argument takes, and its steps take none.
+    /// The first `n` pairs, or all where there are fewer, from a place on that is allowed for the
+    /// query, in the order of their keys; none where none is. It takes no memory but what the
+    /// argument takes, and its steps take none.
     ///
-    /// The query is asked once on each level. How many pairs there are is told when it is asked, by a step for each leaf of the
-    /// part; the first step from the back finds the end in the same way.
+    /// The query is asked once on each level. How many pairs there are is told when it is asked, by
+    /// a step for each leaf of the part. The first step from the back finds the end in the same
+    /// way.
     pub fn range_by_argument(
         &self,
         query: <S::Argument as SearchArgument<S::K>>::Query,
@@ -55,12 +57,13 @@ impl<S: NodeStore> BPlusTree<S> {
         Ok(Iter::new(&self.store, part))
     }
 
-    /// The pairs whose key's group equals the group, in the order of their keys. Its steps take no memory, and it takes none
-    /// but what the groups of keys take.
+    /// The pairs whose key's group equals the group, in the order of their keys. Its steps take no
+    /// memory, and it takes none but what the groups of keys take.
     ///
-    /// The beginning and the end of the group are searched for once each, from the root, by the groups of separators and
-    /// keys: no summary is asked, so it can be had whatever the argument is. At most 7 groups are made of each node on the
-    /// way. How many pairs there are is told when it is asked, by a step for each leaf of the group.
+    /// The beginning and the end of the group are searched for once each, from the root, by the
+    /// groups of separators and keys. No summary is asked, so it can be had whatever the argument
+    /// is. At most 7 groups are made of each node on the way. How many pairs there are is told when
+    /// it is asked, by a step for each leaf of the group.
     pub fn group_range<G: FromRef<S::K> + Key>(&self, group: &G) -> Result<Iter<'_, S>, AllocError>
         ensures rest { IfOk result (λ it. it ≡ of_group G.cmp G.group_of group.now self.now.contents) }
         ensures ascending { IfOk result (λ it. IsAscending S.K.cmp it) }
@@ -70,12 +73,13 @@ impl<S: NodeStore> BPlusTree<S> {
         Ok(Iter::new(&self.store, part))
     }
 
-    /// So many pairs of a group, or all where there are fewer, without its first `i`: a page of the group. What it takes is the
-    /// same as of `group_range`.
+    /// So many pairs of a group, or all where there are fewer, without its first `i`: a page of the
+    /// group. What it takes is the same as of `group_range`.
     ///
-    /// It costs the same as `group_range`, and on the way to the first pair a look at the summaries of the children before it,
-    /// where these tell how many keys they stand for (`Argument::key_count`). Where they don't, the pairs left out are walked
-    /// over. The first step from the back finds the end, by a step for each leaf of the part.
+    /// It costs the same as `group_range`. On the way to the first pair it also looks at the
+    /// summaries of the children before it, where these tell how many keys they stand for
+    /// (`Argument::key_count`). Where they don't, the pairs left out are walked over. The first
+    /// step from the back finds the end, by a step for each leaf of the part.
     pub fn group_part<G: FromRef<S::K> + Key>(
         &self,
         group: &G,

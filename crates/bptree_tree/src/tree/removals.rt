@@ -13,11 +13,13 @@ use bptree_stores::node_stores::NodeStore;
 use std::alloc::AllocError;
 
 impl<S: NodeStore> BPlusTree<S> {
-    /// Removes the pair at a place that is allowed for the query, and hands it back. Where none is found, nothing changes.
+    /// Removes the pair at a place that is allowed for the query, and hands it back. Where none is
+    /// found, nothing changes.
     ///
-    /// The query is asked once on each level, as `get_by_argument` does. Each node on the way to the leaf takes a new summary
-    /// of its child, and a leaf's new separator is a clone of a key: both may take memory, and the argument may take some too.
-    /// Then a removal can be refused, and nothing has changed.
+    /// The query is asked once on each level, as `get_by_argument` does. Each node on the way to
+    /// the leaf takes a new summary of its child, and a leaf's new separator is a clone of a key.
+    /// Both may take memory, and the argument may take some too. Then a removal can be refused, and
+    /// nothing has changed.
     pub fn remove_by_argument(
         &mut self,
         query: <S::Argument as SearchArgument<S::K>>::Query,
@@ -58,8 +60,8 @@ impl<S: NodeStore> BPlusTree<S> {
         }
     }
 
-    /// Removes the pair whose key equals `k`, and hands it back with the key that was stored. Where no key does, nothing
-    /// changes and nothing can be refused.
+    /// Removes the pair whose key equals `k`, and hands it back with the key that was stored. Where
+    /// no key does, nothing changes and nothing can be refused.
     ///
     /// It costs what `remove` does, which drops that key. Where it is refused, nothing has changed.
     pub fn remove_entry(&mut self, k: &S::K) -> Result<Option<(S::K, S::V)>, AllocError>
@@ -97,10 +99,11 @@ impl<S: NodeStore> BPlusTree<S> {
         }
     }
 
-    /// Removes the pair with the least key, and hands it back: none of an empty tree, where nothing can be refused.
+    /// Removes the pair with the least key, and hands it back: none of an empty tree, where nothing
+    /// can be refused.
     ///
-    /// It is one way down, on which no key is compared. What a removal takes is what `remove` takes, and where it is refused
-    /// nothing has changed.
+    /// It is one way down, on which no key is compared. What a removal takes is what `remove`
+    /// takes, and where it is refused nothing has changed.
     pub fn pop_first(&mut self) -> Result<Option<(S::K, S::V)>, AllocError>
         ensures ok { IfOk result (λ gone. TakesFirst (λ pair. pair) self.old.contents gone self.new.contents) }
         ensures empty { self.old.contents ≡ [] → result ≡ Ok None }
@@ -135,10 +138,11 @@ impl<S: NodeStore> BPlusTree<S> {
         }
     }
 
-    /// Removes the pair with the greatest key, and hands it back: none of an empty tree, where nothing can be refused.
+    /// Removes the pair with the greatest key, and hands it back: none of an empty tree, where
+    /// nothing can be refused.
     ///
-    /// It is one way down, on which no key is compared. What a removal takes is what `remove` takes, and where it is refused
-    /// nothing has changed.
+    /// It is one way down, on which no key is compared. What a removal takes is what `remove`
+    /// takes, and where it is refused nothing has changed.
     pub fn pop_last(&mut self) -> Result<Option<(S::K, S::V)>, AllocError>
         ensures ok { IfOk result (λ gone. TakesLast (λ pair. pair) self.old.contents gone self.new.contents) }
         ensures empty { self.old.contents ≡ [] → result ≡ Ok None }
@@ -173,7 +177,8 @@ impl<S: NodeStore> BPlusTree<S> {
         }
     }
 
-    /// Removes all pairs. It takes memory for one leaf, before the nodes are let go: a refusal changes nothing.
+    /// Removes all pairs. It takes memory for one leaf, before the nodes are let go: a refusal
+    /// changes nothing.
     pub fn clear(&mut self) -> Result<(), AllocError>
         ensures whole { IsWhole S.K.cmp S.Argument.is_summary (λ store. S.slots store) self.new }
         ensures ok { IfOk result (λ _. self.new.contents ≡ []) }

@@ -1,4 +1,4 @@
-// An input in, its answers out.
+//! An input in, its answers out.
 ghost use Rattle.std.specs.Prelude.{◌≡◌, ◌≤◌, [], OnOk, IfSome, IsErrOf};
 ghost use Rattle.std.specs.Io.KnownBytes.{Appends};
 ghost use Rattle.arrayvec.specs.ArrayVec.{array_vec_len};
@@ -128,11 +128,13 @@ fn serve_pieces<R: Read, W: Write>(
     Err(Stop::NoEnd)
 }
 
-/// Reads lines to the end of the input, carries out each on the tree of a map that begins empty, and writes the answer to each.
+/// Reads lines to the end of the input, carries out each on the tree of a map that begins empty,
+/// and writes the answer to each.
 ///
-/// The answers to all lines that were read are written before more is read, and the writer is flushed at the end. Of a
-/// line no more than 48 bytes are kept, and no memory is taken beside the map's. A write that takes no byte is a fault,
-/// and so is an input without an end after `u64::MAX` reads.
+/// The answers to all lines that were read are written before more is read, and the writer is
+/// flushed at the end. Of a line no more than 48 bytes are kept, and no memory is taken beside the
+/// map's. A write that takes no byte is a fault, and so is an input without an end after `u64::MAX`
+/// reads.
 pub fn serve<R: Read, W: Write>(
     alloc: Global,
     reader: &mut R,
@@ -153,7 +155,8 @@ pub fn serve<R: Read, W: Write>(
     Ok(served?)
 }
 
-/// The lines of an input are the parts between its line feeds: those that a line feed ends, and what follows the last.
+/// The lines of an input are the parts between its line feeds: those that a line feed ends, and
+/// what follows the last.
 pub fn parts_are_lines()
     ensures { PartsAreLines }
 {}

@@ -1,0 +1,72 @@
+//! Callers that keep some pairs or keys, or take out those between two keys.
+ghost use Rattle.std.specs.Prelude.{◌≡◌, [], Some, None, OnOk};
+ghost use Rattle.bptree_keys.specs.Contents.{has};
+ghost use Rattle.bptree_keys.specs.Ranges.{between};
+ghost use Rattle.bptree_maps.specs.Keys.{holds, keys_between};
+
+use bptree_arguments::argument::Argument;
+use bptree_keys::key::Key;
+use bptree_maps::map::{BPlusTreeMap, IntoIter, RetainError};
+use bptree_maps::set;
+use bptree_maps::set::BPlusTreeSet;
+use bptree_stores::node_stores::NodeStore;
+use bptree_tree::BPlusTree;
+use std::alloc::AllocError;
+
+// Between two keys no pair is left, and the second one is as it was.
+fn empties_a_part_of_a_tree<S: NodeStore>(
+    tree: &mut BPlusTree<S>,
+    lo: &S::K,
+    hi: &S::K,
+) -> Result<usize, AllocError>
+    ensures between { OnOk result (between S.K.cmp tree.new.contents (Some lo.now) (Some hi.now) ≡ []) }
+    ensures end { OnOk result (has S.K.cmp tree.new.contents hi.now ≡ has S.K.cmp tree.old.contents hi.now) }
+{
+    tree.remove_range(Some(lo), Some(hi))
+}
+
+// The same of a map.
+fn empties_a_part<K: Key, V: Drop, A: Argument<K>>(
+    map: &mut BPlusTreeMap<K, V, A>,
+    lo: &K,
+    hi: &K,
+) -> Result<usize, AllocError>
+    ensures between { OnOk result (between K.cmp map.new (Some lo.now) (Some hi.now) ≡ []) }
+    ensures end { OnOk result (has K.cmp map.new hi.now ≡ has K.cmp map.old hi.now) }
+{
+    map.remove_range(Some(lo), Some(hi))
+}
+
+// The same of a set.
+fn empties_a_part_of_a_set<K: Key>(
+    set: &mut BPlusTreeSet<K>,
+    lo: &K,
+    hi: &K,
+) -> Result<usize, AllocError>
+    ensures between { OnOk result (keys_between K.cmp set.new (Some lo.now) (Some hi.now) ≡ []) }
+    ensures end { OnOk result (holds K.cmp set.new hi.now ≡ holds K.cmp set.old hi.now) }
+{
+    set.remove_range(Some(lo), Some(hi))
+}
+
+// A map with no pairs keeps none.
+fn keeps_none<K: Key, V: Drop, A: Argument<K>, F: FnMut(&K, &mut V) -> bool>(
+    map: &mut BPlusTreeMap<K, V, A>,
+    f: F,
+) -> Result<(), RetainError<(K, V), IntoIter<K, V, A>>>
+    requires { F.IsAlwaysCallable f }
+    ensures { OnOk result (map.old ≡ [] → map.new ≡ []) }
+{
+    map.retain(f)
+}
+
+// A set with no keys keeps none.
+fn keeps_no_key<K: Key, F: FnMut(&K) -> bool>(
+    set: &mut BPlusTreeSet<K>,
+    f: F,
+) -> Result<(), RetainError<K, set::IntoIter<K>>>
+    requires { F.IsAlwaysCallable f }
+    ensures { OnOk result (set.old ≡ [] → set.new ≡ []) }
+{
+    set.retain(f)
+}

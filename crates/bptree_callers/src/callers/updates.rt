@@ -1,0 +1,72 @@
+//! Callers that change a value in place or put one, and those that read by bounds and places.
+ghost use Rattle.std.specs.Prelude.{◌≡◌, true, false, None, Ok, Some, OnOk, slice_get};
+ghost use Rattle.std.specs.Option.{option_map};
+ghost use Rattle.bptree_keys.specs.Contents.{has, value as value_of};
+
+use bptree_arguments::argument::Argument;
+use bptree_arguments::count::Count;
+use bptree_keys::key::Key;
+use bptree_maps::map::BPlusTreeMap;
+use bptree_maps::set::BPlusTreeSet;
+use bptree_stores::node_stores::NodeStore;
+use bptree_tree::{BPlusTree, Cursor, InsertError};
+use std::alloc::AllocError;
+use std::ops::Bound;
+
+// Where no key equals k, the value at k is the given one; and else no pair is added.
+fn begins_at<K: Key, A: Argument<K>>(
+    map: &mut BPlusTreeMap<K, u64, A>,
+    k: K,
+) -> Result<bool, InsertError<K, u64>>
+    ensures begins { has K.cmp map.old k ≡ false → OnOk result (value_of K.cmp map.new k ≡ Some 1) }
+    ensures goes_on { has K.cmp map.old k ≡ true → result ≡ Ok false }
+{
+    map.upsert_with(k, 1, |count: &mut u64| *count = count.wrapping_add(1))
+}
+
+// Behind a key and before it there is no pair.
+fn has_none_beside_itself<S: NodeStore>(tree: &BPlusTree<S>, k: &S::K) -> bool
+    ensures { result ≡ true }
+{
+    let mut pairs = tree.range_bounds(Bound::Excluded(k), Bound::Excluded(k));
+    pairs.next().is_none()
+}
+
+// The same of a map.
+fn has_no_pair_beside_itself<K: Key, V: Drop, A: Argument<K>>(
+    map: &BPlusTreeMap<K, V, A>,
+    k: &K,
+) -> bool
+    ensures { result ≡ true }
+{
+    let mut pairs = map.range_bounds(Bound::Excluded(k), Bound::Excluded(k));
+    pairs.next().is_none()
+}
+
+// The same of a set.
+fn has_no_key_beside_itself<K: Key>(set: &BPlusTreeSet<K>, k: &K) -> bool
+    ensures { result ≡ true }
+{
+    let mut keys = set.range_bounds(Bound::Excluded(k), Bound::Excluded(k));
+    keys.next().is_none()
+}
+
+// Past the end no cursor can stand.
+fn has_no_place_at_the_end<K: Key, V: Drop>(
+    map: &BPlusTreeMap<K, V, Count>,
+) -> Result<Option<(Cursor<K>, &V)>, AllocError>
+    ensures { result ≡ Ok None }
+{
+    map.cursor_at(map.len())
+}
+
+// The value at a place, by a cursor: numbers are cloned without memory.
+fn reads_at_a_place(map: &BPlusTreeMap<u64, u64, Count>, i: usize) -> Option<u64>
+    ensures { result ≡ option_map (λ pair. pair.1) (slice_get map.now i) }
+{
+    match map.cursor_at(i) {
+        Ok(Some((_, value))) => Some(*value),
+        Ok(None) => None,
+        Err(_) => unreachable!(),
+    }
+}

@@ -1,0 +1,25 @@
+//! A race: times in seconds, each with the number of the runner.
+
+use std::alloc::{AllocError, Global};
+use sweep_bptree::BPlusTreeMap;
+use sweep_bptree::page::page;
+use sweep_bptree::tree::count::Count;
+
+/// The fastest runner, the place of a time, who took from 570 to 620 seconds, and who comes first
+/// on the second page of two.
+pub fn run(
+    alloc: Global,
+) -> Result<(Option<u64>, Option<usize>, Vec<u64>, Option<u64>), AllocError> {
+    let mut race = BPlusTreeMap::<u64, u64, Count>::new(alloc)?;
+    for (time, runner) in [(583, 7), (561, 3), (610, 5)] {
+        race.insert(time, runner).or(Err(AllocError))?;
+    }
+    let fastest = race.get_at(0).map(|(_, runner)| *runner);
+    let place = race.place_of(&583);
+    let mut between = Vec::new(alloc);
+    for (_, runner) in race.range(Some(&570), Some(&620)) {
+        between.push(*runner)?;
+    }
+    let second_page = page(&race, 1, 2)?.next().map(|(_, runner)| *runner);
+    Ok((fastest, place, between, second_page))
+}

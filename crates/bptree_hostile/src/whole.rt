@@ -1,0 +1,412 @@
+//! Calls of a whole map or set: its keys and values alone, a part between two bounds, many pairs that come or leave at once, and
+//! a comparison with another.
+
+use crate::dice::Sample;
+use crate::drawing::numbers;
+use crate::plain::Plain;
+use std::alloc::{AllocError, Global};
+use std::cmp::Ordering;
+use std::ops::Bound;
+use sweep_bptree::tree::Cursor;
+use sweep_bptree::tree::count::Count;
+use sweep_bptree::{BPlusTreeMap, BPlusTreeSet};
+
+type Map<K> = BPlusTreeMap<K, u64, Count>;
+
+/// The number of a key.
+pub fn number<K: Sample>(key: Option<&K>) -> Option<u64> {
+    Some(key?.number())
+}
+
+// The number of a key that is owned.
+fn own_number<K: Sample>(key: &Option<K>) -> Option<u64> {
+    number(key.as_ref())
+}
+
+// The value at a place of a list.
+fn value_at(plain: &Plain, place: usize) -> Option<u64> {
+    let (_, value) = plain.pair_at(place)?;
+    Some(value)
+}
+
+// Whether the keys and the values of a map are those of a list, once from the front and once from the back.
+fn has_halves<K: Sample>(map: &Map<K>, plain: &Plain) -> bool {
+    let (mut keys, mut values) = (map.keys(), map.values());
+    let mut well = keys.len() == plain.len() && values.len() == plain.len();
+    let mut back = plain.len();
+    for place in 0..plain.len() {
+        if place % 2 == 0 {
+            let front = place / 2;
+            well = number(keys.next()) == plain.key_at(front) && well;
+            well = values.next().copied() == value_at(plain, front) && well;
+        } else {
+            back = back.saturating_sub(1);
+            well = number(keys.next_back()) == plain.key_at(back) && well;
+            well = values.next_back().copied() == value_at(plain, back) && well;
+        }
+    }
+    well && keys.next().is_none() && values.next_back().is_none()
+}
+
+// Whether the keys of a map that is given away, and the values of another, are those of a list.
+fn gives_halves<K: Sample>(map: Map<K>, other: Map<K>, plain: &Plain) -> bool {
+    let (mut keys, mut values) = (map.into_keys(), other.into_values());
+    let mut well = keys.len() == plain.len() && values.len() == plain.len();
+    let mut back = plain.len();
+    for place in 0..plain.len() {
+        back = back.saturating_sub(1);
+        well = own_number(&keys.next()) == plain.key_at(place) && well;
+        well = values.next_back() == value_at(plain, back) && well;
+    }
+    well && keys.next().is_none() && values.next().is_none()
+}
+
+// A bound at the key of a place: of a start or an end, with the pair of its key or without it.
+fn bound_at<K: Sample>(key: &Option<K>, is_in: bool) -> Bound<&K> {
+    match key {
+        Some(key) if is_in => Bound::Included(key),
+        Some(key) => Bound::Excluded(key),
+        None => Bound::Unbounded,
+    }
+}
+
+// The key of a place, if there is one.
+fn key_of<K: Sample>(alloc: Global, plain: &Plain, place: usize) -> Result<Option<K>, AllocError> {
+    match plain.key_at(place) {
+        Some(key) => Ok(Some(K::sample(alloc, key)?)),
+        None => Ok(None),
+    }
+}
+
+// The places between two bounds, of which each takes the pair of its key in or not.
+fn places(plain: &Plain, (from, from_in): (usize, bool), (to, to_in): (usize, bool)) -> (usize, usize) {
+    let start = if from >= plain.len() {
+        0
+    } else if from_in {
+        from
+    } else {
+        from.saturating_add(1)
+    };
+    let end = if to >= plain.len() {
+        plain.len()
+    } else if to_in {
+        to.saturating_add(1)
+    } else {
+        to
+    };
+    (start, end.max(start))
+}
+
+// Whether the pairs of a map between bounds at two places are those of a list; and those of its tree.
+fn is_bounded<K: Sample>(
+    alloc: Global,
+    map: &Map<K>,
+    plain: &Plain,
+    from: usize,
+    to: usize,
+) -> Result<bool, AllocError> {
+    let (lo, hi) = (key_of(alloc, plain, from)?, key_of(alloc, plain, to)?);
+    let mut well = true;
+    for turn in 0..4 {
+        let (from_in, to_in) = (turn % 2 == 0, turn < 2);
+        let (start, end) = places(plain, (from, from_in), (to, to_in));
+        let mut pairs = map.range_bounds(bound_at(&lo, from_in), bound_at(&hi, to_in));
+        let mut beside = map.tree().range_bounds(bound_at(&lo, from_in), bound_at(&hi, to_in));
+        let few = end.saturating_sub(start);
+        well = pairs.len() == few && beside.len() == few && well;
+        if few > 0 {
+            let last = end.saturating_sub(1);
+            well = numbers(pairs.next()) == plain.pair_at(start) && well;
+            well = numbers(beside.next_back()) == plain.pair_at(last) && well;
+        }
+    }
+    Ok(well)
+}
+
+// Whether the cursor at a place stands on its pair, and there is none past the end.
+fn is_pointed_at<K: Sample>(map: &Map<K>, plain: &Plain, place: usize) -> Result<bool, AllocError> {
+    let counted = at_cursor(map.cursor_at(place)?);
+    let found = at_cursor(map.cursor_by_argument(place)?);
+    Ok(counted == plain.pair_at(place) && found == counted)
+}
+
+// The numbers where a cursor stands.
+fn at_cursor<K: Sample>(found: Option<(Cursor<K>, &u64)>) -> Option<(u64, u64)> {
+    let (cursor, value) = found?;
+    Some((cursor.key().number(), *value))
+}
+
+/// Whether a map shows a list by its keys and values, between bounds, and by cursors on places.
+pub fn shows_parts<K: Sample>(
+    alloc: Global,
+    map: &Map<K>,
+    plain: &Plain,
+) -> Result<bool, AllocError> {
+    let len = plain.len();
+    let (third, late) = (len / 3, len.saturating_sub(2));
+    let mut well = has_halves(map, plain);
+    for (from, to) in [(third, late), (len, third), (late, len), (third, third), (late, third)] {
+        well = is_bounded(alloc, map, plain, from, to)? && well;
+    }
+    for place in [0, third, late, len, usize::MAX] {
+        well = is_pointed_at(map, plain, place)? && well;
+    }
+    Ok(well)
+}
+
+// Each third value is another one.
+fn is_spoiled<K: Sample>(
+    alloc: Global,
+    map: &mut Map<K>,
+    plain: &Plain,
+) -> Result<bool, AllocError> {
+    let mut well = true;
+    for place in 0..plain.len() {
+        if place % 3 == 0
+            && let Some(key) = key_of(alloc, plain, place)?
+        {
+            let added = map.upsert_with(key, 0, |value: &mut u64| *value = value.wrapping_add(1));
+            well = matches!(added, Ok(false)) && well;
+            well = map.get_at(place).is_some() && well;
+        }
+    }
+    Ok(well)
+}
+
+// A map with the pairs of a list.
+fn made<K: Sample>(alloc: Global, plain: &Plain) -> Result<Map<K>, AllocError> {
+    BPlusTreeMap::from_iter(alloc, own_pairs(alloc, plain)?)
+}
+
+fn own_pairs<K: Sample>(alloc: Global, plain: &Plain) -> Result<Vec<(K, u64)>, AllocError> {
+    let mut pairs = Vec::new(alloc);
+    for place in 0..plain.len() {
+        if let Some((key, value)) = plain.pair_at(place) {
+            pairs.push((K::sample(alloc, key)?, value))?;
+        }
+    }
+    Ok(pairs)
+}
+
+// How a map with the pairs of a list stands to one of which some values are greater, or which is equal.
+fn is_compared<K: Sample>(one: &Map<K>, other: &Map<K>, is_less: bool) -> bool {
+    let order = if is_less { Ordering::Less } else { Ordering::Equal };
+    (one == other) != is_less
+        && one.cmp(other) == order
+        && one.partial_cmp(other) == Some(order)
+        && other.cmp(one) == order.reverse()
+}
+
+/// A map loses some of its values, and has them again from another one, or from pairs that come. What it was is given away.
+pub fn is_mended<K: Sample>(
+    alloc: Global,
+    map: &mut Map<K>,
+    plain: &Plain,
+    by_pairs: bool,
+) -> Result<bool, AllocError> {
+    let mut other = made(alloc, plain)?;
+    let mut well = is_compared(&other, map, false);
+    // No value is the greatest number, so the first that is changed is greater.
+    let is_least = value_at(plain, 0) != Some(u64::MAX);
+    well = is_spoiled(alloc, map, plain)? && well;
+    if is_least {
+        well = is_compared(&other, map, plain.len() > 0) && well;
+    }
+    if by_pairs {
+        well = map.extend(own_pairs(alloc, plain)?).is_ok() && well;
+        return Ok(gives_halves(other, made(alloc, plain)?, plain) && well);
+    }
+    well = map.append(&mut other).is_ok() && well;
+    Ok(other.is_empty() && well)
+}
+
+/// The pairs from a place on leave for a map of their own, and come back.
+pub fn leave_and_join<K: Sample>(
+    alloc: Global,
+    map: &mut Map<K>,
+    plain: &Plain,
+    place: usize,
+) -> Result<bool, AllocError> {
+    let Some(key) = key_of::<K>(alloc, plain, place)? else {
+        return Ok(true);
+    };
+    let Ok(mut left) = map.split_off(&key) else {
+        return Err(AllocError);
+    };
+    let few = plain.len().saturating_sub(place);
+    let mut well = map.len() == place && left.len() == few;
+    well = numbers(left.first()) == plain.pair_at(place) && well;
+    well = numbers(left.last()) == plain.pair_at(plain.len().saturating_sub(1)) && well;
+    well = map.append(&mut left).is_ok() && well;
+    Ok(left.is_empty() && well)
+}
+
+// Whether the pairs of a map are those of a list whose keys' numbers are no multiples of three, each value one greater.
+fn is_thin<K: Sample>(map: &Map<K>, plain: &Plain) -> bool {
+    let mut pairs = map.iter();
+    let mut well = true;
+    for place in 0..plain.len() {
+        let (key, value) = plain.pair_at(place).unwrap_or((0, 0));
+        if key % 3 != 0 {
+            well = numbers(pairs.next()) == Some((key, value.wrapping_add(1))) && well;
+        }
+    }
+    well && pairs.next().is_none()
+}
+
+/// Pairs leave a map as a closure says, or those between two keys do, and come again.
+pub fn is_thinned<K: Sample>(
+    alloc: Global,
+    map: &mut Map<K>,
+    plain: &Plain,
+    by_range: bool,
+) -> Result<bool, AllocError> {
+    let (from, to) = (plain.len() / 3, plain.len().saturating_sub(2));
+    let mut well = true;
+    if by_range && from < to {
+        let (lo, hi) = (key_of(alloc, plain, from)?, key_of(alloc, plain, to)?);
+        let gone = map.remove_range(lo.as_ref(), hi.as_ref())?;
+        well = gone == to.saturating_sub(from) && map.len() == plain.len().saturating_sub(gone);
+        well = numbers(map.get_at(from)) == plain.pair_at(to) && well;
+        well = map.remove_range(hi.as_ref(), lo.as_ref())? == 0 && well;
+        let left = map.len().saturating_sub(from);
+        well = map.remove_range(lo.as_ref(), None)? == left && map.len() == from && well;
+        well = map.remove_range(None, lo.as_ref())? == from && map.is_empty() && well;
+    } else {
+        let kept = map.retain(|key: &K, value: &mut u64| {
+            *value = value.wrapping_add(1);
+            key.number() % 3 != 0
+        });
+        well = kept.is_ok() && is_thin(map, plain);
+    }
+    Ok(map.extend(own_pairs(alloc, plain)?).is_ok() && well)
+}
+
+// Whether the keys of a set between bounds at two places are those of a list.
+fn are_keys_bounded<K: Sample>(
+    alloc: Global,
+    set: &BPlusTreeSet<K>,
+    plain: &Plain,
+    from: usize,
+    to: usize,
+) -> Result<bool, AllocError> {
+    let (lo, hi) = (key_of(alloc, plain, from)?, key_of(alloc, plain, to)?);
+    let mut well = true;
+    for turn in 0..4 {
+        let (from_in, to_in) = (turn % 2 == 0, turn < 2);
+        let (start, end) = places(plain, (from, from_in), (to, to_in));
+        let mut keys = set.range_bounds(bound_at(&lo, from_in), bound_at(&hi, to_in));
+        let few = end.saturating_sub(start);
+        well = keys.len() == few && well;
+        if few > 0 {
+            well = number(keys.next()) == plain.key_at(start) && well;
+        }
+    }
+    Ok(well)
+}
+
+/// Whether a set shows the keys of a list between bounds.
+pub fn shows_keys<K: Sample>(
+    alloc: Global,
+    set: &BPlusTreeSet<K>,
+    plain: &Plain,
+) -> Result<bool, AllocError> {
+    let len = plain.len();
+    let (third, late) = (len / 3, len.saturating_sub(2));
+    let mut well = true;
+    for (from, to) in [(third, late), (len, third), (late, len), (third, third), (late, third)] {
+        well = are_keys_bounded(alloc, set, plain, from, to)? && well;
+    }
+    Ok(well)
+}
+
+// The keys of a list.
+fn own_keys<K: Sample>(alloc: Global, plain: &Plain) -> Result<Vec<K>, AllocError> {
+    let mut keys = Vec::new(alloc);
+    for place in 0..plain.len() {
+        if let Some(key) = key_of(alloc, plain, place)? {
+            keys.push(key)?;
+        }
+    }
+    Ok(keys)
+}
+
+/// Its first key and its last leave a set, and others by their keys, and all come again.
+pub fn keys_leave_and_return<K: Sample>(
+    alloc: Global,
+    set: &mut BPlusTreeSet<K>,
+    plain: &Plain,
+) -> Result<bool, AllocError> {
+    let len = plain.len();
+    let before = BPlusTreeSet::from_iter(alloc, own_keys(alloc, plain)?)?;
+    let mut well = *set == before && before.cmp(&*set) == Ordering::Equal;
+    let first = set.pop_first()?;
+    well = own_number(&first) == plain.key_at(0) && well;
+    if len > 2 {
+        well = *set != before && before.cmp(&*set) == Ordering::Less && well;
+        well = own_number(&set.pop_last()?) == plain.key_at(len.saturating_sub(1)) && well;
+        if let Some(key) = key_of(alloc, plain, 1)? {
+            well = own_number(&set.take(&key)?) == plain.key_at(1) && well;
+            well = set.take(&key)?.is_none() && well;
+            let Ok(gone) = set.replace(key) else {
+                return Err(AllocError);
+            };
+            well = gone.is_none() && well;
+        }
+        if let Some(key) = key_of(alloc, plain, 1)? {
+            let Ok(gone) = set.replace(key) else {
+                return Err(AllocError);
+            };
+            well = own_number(&gone) == plain.key_at(1) && well;
+        }
+    }
+    well = set.extend(own_keys(alloc, plain)?).is_ok() && well;
+    Ok(*set == before && well)
+}
+
+/// Keys leave a set as a closure says, or those between two keys do, and come again.
+pub fn keys_are_thinned<K: Sample>(
+    alloc: Global,
+    set: &mut BPlusTreeSet<K>,
+    plain: &Plain,
+    by_range: bool,
+) -> Result<bool, AllocError> {
+    let (from, to) = (plain.len() / 3, plain.len().saturating_sub(2));
+    let mut well = true;
+    if by_range && from < to {
+        let (lo, hi) = (key_of(alloc, plain, from)?, key_of(alloc, plain, to)?);
+        let gone = set.remove_range(lo.as_ref(), hi.as_ref())?;
+        well = gone == to.saturating_sub(from) && set.len() == plain.len().saturating_sub(gone);
+    } else {
+        well = set.retain(|key: &K| key.number() % 3 != 0).is_ok();
+        let mut keys = set.iter();
+        for place in 0..plain.len() {
+            let key = plain.key_at(place).unwrap_or(0);
+            if key % 3 != 0 {
+                well = number(keys.next()) == Some(key) && well;
+            }
+        }
+        well = keys.next().is_none() && well;
+    }
+    Ok(set.extend(own_keys(alloc, plain)?).is_ok() && well)
+}
+
+/// The keys from a place on leave for a set of their own, and come back.
+pub fn keys_leave_and_join<K: Sample>(
+    alloc: Global,
+    set: &mut BPlusTreeSet<K>,
+    plain: &Plain,
+    place: usize,
+) -> Result<bool, AllocError> {
+    let Some(key) = key_of::<K>(alloc, plain, place)? else {
+        return Ok(true);
+    };
+    let Ok(mut left) = set.split_off(&key) else {
+        return Err(AllocError);
+    };
+    let few = plain.len().saturating_sub(place);
+    let mut well = set.len() == place && left.len() == few;
+    well = number(left.first()) == plain.key_at(place) && well;
+    well = set.append(&mut left).is_ok() && well;
+    Ok(left.is_empty() && well)
+}

@@ -1,0 +1,16 @@
+-- The pairs that stay stand before those that were not asked, all in the order of their keys.
+use Rattle.std.proofs.Common.{◌++◌, length}
+use Rattle.bptree_keys.specs.Contents.{IsAscending}
+use Rattle.bptree_maps.specs.Retaining.{IsRetained}
+use Rattle.bptree_maps.proofs.RetainLemmas.{AsksOn}
+use Rattle.bptree_maps.proofs.retaining.retain_in_tree.Given as goal
+
+abbrev pub invariant-pairs : goal.invariant-pairs
+invariant-pairs g l = record {
+  callable : goal.F-IsAlwaysCallable g l.f;
+  ascending : IsAscending g.K.Ord.cmp (l.tree.contents ++ l.pairs);
+  asked : AsksOn (IsRetained g.F.FnMut) l.fn.f l.fn.tree.contents l.f l.tree.contents l.pairs;
+}
+
+abbrev pub decreases-pairs : goal.decreases-pairs
+decreases-pairs g l = length l.pairs

@@ -1,0 +1,32 @@
+-- What a closure keeps of a list.
+use Rattle.std.specs.Prelude.{◌≡◌, Bool, List, [], ◌∷◌, ◌++◌}
+use Rattle.std.specs.Borrow.{Bor, MutBor}
+use Rattle.std.specs.Fn.{Called, CalledAt, Mut}
+use Rattle.std.specs.List.Retain.{IsFiltered, RetainsInTurn}
+use Rattle.bptree_tree.specs.Refusal.{pair_of}
+use Rattle.bptree_maps.specs.declared.refusals.RetainError.{RetainError}
+use Rattle.bptree_maps.specs.declared.refusals.RetainError.TheVariants.{NotMade, NotStored}
+
+module _ {F K V : Type 0} (calls : Mut F (Bor K × (MutBor V × Unit {0})) (Bool × (MutBor V × Unit {0}))) where
+  -- a call at the key and the value of a pair answers whether the pair stays, and leaves the value, and the closure, so
+  pub record CallsAtPair (f : F) (pair : K × V) (stays : Bool) (after : F) (left : K × V) : Type 0 where
+    pub key : Bor K
+    pub value : MutBor V
+    pub lent : MutBor V
+    pub shows : (key.now ≡ pair.0) × (value.now ≡ pair.1)
+    pub called : Called calls f (key, (value, tt)) (stays, (lent, tt)) after
+    pub leaves : left ≡ (pair.0, lent.now)
+
+  -- the pairs that stay, as the closure left them
+  abbrev pub IsRetained : F → List (K × V) → List (K × V) → Type 0
+  IsRetained f old new = RetainsInTurn CallsAtPair f old new
+
+  -- up to the pair in hand, which is to stay; the rest was not asked for
+  abbrev pub IsRetainedUpTo : F → List (K × V) → List (K × V) → K × V → List (K × V) → Type 0
+  IsRetainedUpTo f old new hand rest =
+      (first : List (K × V)) × (pair : K × V) × (old ≡ first ++ pair ∷ rest) × IsRetained f (first ++ pair ∷ []) (new ++ hand ∷ [])
+
+  -- what is left where memory was refused
+  abbrev pub IsRetainRefused : F → List (K × V) → List (K × V) → RetainError (K × V) (List (K × V)) → Type 0
+  IsRetainRefused f old new NotMade = new ≡ old
+  IsRetainRefused f old new (NotStored hand rest) = IsRetainedUpTo f old new hand rest

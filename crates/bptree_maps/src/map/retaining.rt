@@ -1,0 +1,48 @@
+//! The pairs of a map that a closure keeps, and those outside a range.
+ghost use Rattle.std.specs.Prelude.{◌≡◌, length, IfErr, IfOk, OnErr, OnOk};
+ghost use Rattle.std.specs.Option.{option_copied};
+ghost use Rattle.bptree_keys.specs.Ranges.{between};
+ghost use Rattle.bptree_maps.specs.Retaining.{IsRetained, IsRetainRefused};
+ghost use Rattle.bptree_tree.specs.RangeRemoval.{outside, FirstsLeft};
+
+use super::{BPlusTreeMap, IntoIter};
+use crate::refusals::RetainError;
+use crate::retaining::retain_in_tree;
+use bptree_arguments::argument::Argument;
+use bptree_keys::key::Key;
+use std::alloc::AllocError;
+
+impl<K: Key, V: Drop, A: Argument<K>> BPlusTreeMap<K, V, A> {
+    /// Keeps the pairs for which a closure answers true, in the order of their keys, with their values as it leaves them, and
+    /// drops the others.
+    ///
+    /// It costs an insertion in order of each pair that stays, with no way down but for a new leaf. Where memory for the map
+    /// that holds them is refused, nothing has changed. Where an insertion is, its pair is handed back with the pairs that were
+    /// not asked; those before it that are to stay are here.
+    pub fn retain<F: FnMut(&K, &mut V) -> bool>(
+        &mut self,
+        f: F,
+    ) -> Result<(), RetainError<(K, V), IntoIter<K, V, A>>>
+        requires { F.IsAlwaysCallable f }
+        ensures ok { OnOk result (IsRetained F.FnMut f self.old self.new) }
+        ensures err { IfErr result (IsRetainRefused F.FnMut f self.old self.new) }
+    {
+        retain_in_tree(&mut self.inner, f)
+    }
+
+    /// Removes the pairs whose key is not below `lo` and is below `hi`, where they are given, and answers how many there were.
+    ///
+    /// It costs a removal a pair, and a search for its key and for each end that is given. Where one is refused, the first of
+    /// the pairs have left, and nothing else has changed.
+    pub fn remove_range<'b>(
+        &mut self,
+        lo: Option<&'b K>,
+        hi: Option<&'b K>,
+    ) -> Result<usize, AllocError>
+        ensures rest { IfOk result (λ _. self.new ≡ outside K.cmp self.old (option_copied lo.entry) (option_copied hi.entry)) }
+        ensures count { IfOk result (λ n. n ≡ length (between K.cmp self.old (option_copied lo.entry) (option_copied hi.entry))) }
+        ensures err { OnErr result (FirstsLeft K.cmp (option_copied lo.entry) (option_copied hi.entry) self.old self.new) }
+    {
+        self.inner.remove_range(lo, hi)
+    }
+}

@@ -1,0 +1,97 @@
+//! A map in memory that counts its keys is a shard.
+ghost use Rattle.std.specs.Prelude.{◌≡◌, ◌<◌, ◌^◌, [], length, IfOk};
+ghost use Rattle.std.specs.Map.{keys_of};
+ghost use Rattle.bptree_arguments.specs.CountLaws.{count_below};
+ghost use Rattle.bptree_keys.specs.Contents.{IsAscending, has};
+
+use crate::shard::Shard;
+use crate::whole::Shards;
+use bptree_arguments::count::Count;
+use bptree_keys::key::Key;
+use bptree_maps::map::BPlusTreeMap;
+use bptree_shards::laws::law_of_empty_shards;
+use bptree_tree::InsertError;
+use std::alloc::{AllocError, Global};
+
+// The number of smaller keys, and whether the key is there.
+fn rank_in<K: Key, V: Drop>(map: &BPlusTreeMap<K, V, Count>, k: &K) -> (usize, bool)
+    ensures rank { result.0 ≡ count_below K.cmp k.now (keys_of map.now) }
+    ensures present { result.1 ≡ has K.cmp map.now k.now }
+    ensures ascending { IsAscending K.cmp map.now }
+    ensures small { length map.now < 2 ^ 64 }
+{
+    let _len = map.len();
+    match map.rank_by_argument(k) {
+        Ok(Ok(rank)) => (rank, true),
+        Ok(Err(rank)) => (rank, false),
+        Err(_) => unreachable!(),
+    }
+}
+
+/// A map with no pairs over as many maps as there are bounds, and one more: their keys are cut at the bounds.
+pub fn empty_over<K: Key, V: Drop>(
+    alloc: Global,
+    bounds: Vec<K>,
+) -> Result<Shards<BPlusTreeMap<K, V, Count>>, AllocError>
+    ensures { IfOk result (λ whole. whole ≡ []) }
+{
+    law_of_empty_shards::<K, V>();
+    let mut maps = Vec::new(alloc);
+    maps.push(BPlusTreeMap::new(alloc)?)?;
+    for _ in 0..bounds.len() {
+        maps.push(BPlusTreeMap::new(alloc)?)?;
+    }
+    Shards::new(alloc, bounds, maps)
+}
+
+impl<K: Key, V: Drop> Shard for BPlusTreeMap<K, V, Count> {
+    type K = K;
+
+    type V = V;
+
+    ghost pairs = { λ map. map };
+
+    fn len(&self) -> usize {
+        BPlusTreeMap::len(self)
+    }
+
+    fn get(&self, k: &K) -> Option<&V> {
+        BPlusTreeMap::get(self, k)
+    }
+
+    fn put(&mut self, k: K, v: V) -> Result<Option<V>, (K, V)> {
+        match self.insert(k, v) {
+            Ok(old) => Ok(old),
+            Err(InsertError::OutOfMemory(k, v)) => Err((k, v)),
+            Err(InsertError::Full(k, v)) => Err((k, v)),
+        }
+    }
+
+    fn del(&mut self, k: &K) -> Result<Option<V>, AllocError> {
+        self.remove(k)
+    }
+
+    fn rank(&self, k: &K) -> usize {
+        rank_in(self, k).0
+    }
+
+    fn at(&self, place: usize) -> Option<(&K, &V)> {
+        self.get_at(place)
+    }
+
+    fn next(&self, k: &K) -> Option<(&K, &V)> {
+        let (rank, present) = rank_in(self, k);
+        if present {
+            return self.get_at(rank + 1);
+        }
+        self.get_at(rank)
+    }
+
+    fn prev(&self, k: &K) -> Option<(&K, &V)> {
+        let (rank, _) = rank_in(self, k);
+        if rank == 0 {
+            return None;
+        }
+        self.get_at(rank - 1)
+    }
+}

@@ -1,0 +1,122 @@
+//! Maps as shards beside a plain list: the same calls of both, and each answer compared.
+
+use bptree_arguments::count::Count;
+use bptree_maps::map::BPlusTreeMap;
+use bptree_sharded::map_shard::empty_over;
+use bptree_sharded::whole::Shards;
+use std::alloc::{AllocError, Global};
+use std::test::Fail;
+
+// The value of each key below 64, or none: a list in which a key is its place.
+type Plain = [Option<u64>; 64];
+
+// Three bounds, one of them twice, so that a shard stays empty.
+fn shards(alloc: Global) -> Result<Shards<BPlusTreeMap<u64, u64, Count>>, AllocError> {
+    let mut bounds = Vec::new(alloc);
+    bounds.push(16u64)?;
+    bounds.push(40)?;
+    bounds.push(40)?;
+    empty_over(alloc, bounds)
+}
+
+// The least key from one on that the list has, and the greatest below one.
+fn least_from(plain: &Plain, from: usize) -> Option<u64> {
+    for key in from..64 {
+        if plain[key].is_some() {
+            return Some(key as u64);
+        }
+    }
+    None
+}
+
+fn greatest_below(plain: &Plain, to: usize) -> Option<u64> {
+    let mut found = None;
+    for key in 0..to.min(64) {
+        if plain[key].is_some() {
+            found = Some(key as u64);
+        }
+    }
+    found
+}
+
+fn count_below(plain: &Plain, to: usize) -> usize {
+    let mut count = 0usize;
+    for key in 0..to.min(64) {
+        if plain[key].is_some() {
+            count = count.saturating_add(1);
+        }
+    }
+    count
+}
+
+fn key_of(pair: Option<(&u64, &u64)>) -> Option<u64> {
+    match pair {
+        None => None,
+        Some((key, _)) => Some(*key),
+    }
+}
+
+// Whether each read of a key is answered as the list answers it.
+fn reads_alike(whole: &Shards<BPlusTreeMap<u64, u64, Count>>, plain: &Plain, key: usize) -> bool {
+    let k = key as u64;
+    let rank = count_below(plain, key);
+    let next = least_from(plain, key.saturating_add(1));
+    whole.get(&k).copied() == plain[key % 64]
+        && whole.rank(&k) == rank
+        && key_of(whole.next(&k)) == next
+        && key_of(whole.prev(&k)) == greatest_below(plain, key)
+        && key_of(whole.at(rank)) == least_from(plain, key)
+}
+
+fn ends_alike(whole: &Shards<BPlusTreeMap<u64, u64, Count>>, plain: &Plain) -> bool {
+    whole.len() == count_below(plain, 64)
+        && key_of(whole.first()) == least_from(plain, 0)
+        && key_of(whole.last()) == greatest_below(plain, 64)
+        && whole.at(whole.len()).is_none()
+}
+
+// Puts and deletes keys in an order that a multiplier draws, and reads each key after each.
+fn alike(alloc: Global) -> Result<bool, AllocError> {
+    let mut whole = shards(alloc)?;
+    let mut plain: Plain = [None; 64];
+    let mut drawn = 1u64;
+    for step in 0..200u64 {
+        drawn = drawn
+            .wrapping_mul(6364136223846793005)
+            .wrapping_add(1442695040888963407);
+        let key = (drawn >> 33) % 64;
+        let at = (key % 64) as usize;
+        if (drawn >> 40) % 3 == 0 {
+            let old = whole.del(&key)?;
+            if old != plain[at] {
+                return Ok(false);
+            }
+            plain[at] = None;
+        } else {
+            match whole.put(key, step) {
+                Ok(old) => {
+                    if old != plain[at] {
+                        return Ok(false);
+                    }
+                }
+                Err(_) => return Ok(false),
+            }
+            plain[at] = Some(step);
+        }
+        for read in 0..64 {
+            if !reads_alike(&whole, &plain, read) {
+                return Ok(false);
+            }
+        }
+        if !ends_alike(&whole, &plain) {
+            return Ok(false);
+        }
+    }
+    Ok(true)
+}
+
+#[test]
+fn answers_as_a_plain_list_does(rt: HostRuntime) -> Result<(), Fail> {
+    assert!(rt; alike(rt.alloc())?);
+    Ok(())
+}

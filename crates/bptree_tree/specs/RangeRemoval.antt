@@ -1,0 +1,19 @@
+-- The pairs between two keys that leave.
+use Rattle.std.specs.Prelude.{◌≡◌, Bool, true, false, not, ◌&&◌, Option, List, [], ◌∷◌, ◌++◌, filter}
+use Rattle.std.specs.declared.cmp.Ordering.{Ordering}
+use Rattle.bptree_keys.specs.Ranges.{falls_short, stays_below, between}
+
+module _ {K V : Type 0} (cmp : K → K → Ordering) where
+  -- the pairs whose key is below lo, where lo is given, or is not below hi, where hi is given
+  abbrev pub outside : List (K × V) → Option K → Option K → List (K × V)
+  outside l lo hi = filter (λ pair. not (not (falls_short cmp lo pair.0) && stays_below cmp hi pair.0)) l
+
+  module _ (lo hi : Option K) where
+    -- the first pair between two keys left and no other did, or there was none
+    abbrev pub FirstLeaves : Bool → List (K × V) → List (K × V) → Type 0
+    FirstLeaves false old new = (between cmp old lo hi ≡ []) × (new ≡ old)
+    FirstLeaves true old new = (pair : K × V) × (between cmp old lo hi ≡ pair ∷ between cmp new lo hi) × (outside new lo hi ≡ outside old lo hi)
+
+    -- the first ones of the pairs between two keys left, and all others stayed
+    abbrev pub FirstsLeft : List (K × V) → List (K × V) → Type 0
+    FirstsLeft old new = (gone : List (K × V)) × (between cmp old lo hi ≡ gone ++ between cmp new lo hi) × (outside new lo hi ≡ outside old lo hi)

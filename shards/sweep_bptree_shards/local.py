@@ -1,0 +1,42 @@
+"""Workers on this machine alone, in processes of their own."""
+
+from __future__ import annotations
+
+import logging
+import os
+import tempfile
+from collections.abc import Iterator
+from contextlib import contextmanager
+
+import dask
+from distributed import Client, LocalCluster
+
+__all__ = ["local_client"]
+
+
+@contextmanager
+def local_client(workers: int = 3) -> Iterator[Client]:
+    """A client of a cluster of so many workers. All of it listens on the loopback device alone."""
+    logging.getLogger("distributed").setLevel(logging.CRITICAL)
+    # (for the processes of the workers)
+    os.environ.setdefault("DASK_LOGGING__DISTRIBUTED", "critical")
+    with tempfile.TemporaryDirectory(prefix="sweep-bptree-") as folder, dask.config.set({"temporary-directory": folder}):
+        cluster = LocalCluster(
+            n_workers=workers,
+            threads_per_worker=1,
+            processes=True,
+            host="127.0.0.1",
+            dashboard_address="127.0.0.1:0",
+            worker_dashboard_address="127.0.0.1:0",
+            local_directory=os.path.join(folder, "workers"),
+            silence_logs=logging.CRITICAL,
+            # (a map is no result of a task that Dask could put aside)
+            memory_limit=0,
+            # (none is used here, and a worker that is closed twice at once fails in one of them)
+            extensions={},
+        )
+        try:
+            with Client(cluster, direct_to_workers=True) as client:
+                yield client
+        finally:
+            cluster.close()
