@@ -34,9 +34,9 @@ module _ {K V : Type 0} (cmp : K → K → Ordering) where
   end_stays (p ∷ l) lo hi =
       let rest = end_stays l lo hi in
       by_cases (cmp p.0 hi)
-        (λ is. by_cases (cmp p.0 lo) (λ low. rw (is, low, is) rest) (λ low. rw (is, low) rest) (λ low. rw (is, low) rest))
-        (λ is. by_cases (cmp p.0 lo) (λ low. rw (is, low, is) refl) (λ low. rw (is, low, is) refl) (λ low. rw (is, low, is) refl))
-        (λ is. by_cases (cmp p.0 lo) (λ low. rw (is, low, is) rest) (λ low. rw (is, low, is) rest) (λ low. rw (is, low, is) rest))
+      (λ is. by_cases (cmp p.0 lo) (λ low. rw (is, low, is) rest) (λ low. rw (is, low) rest) (λ low. rw (is, low) rest))
+      (λ is. by_cases (cmp p.0 lo) (λ low. rw (is, low, is) refl) (λ low. rw (is, low, is) refl) (λ low. rw (is, low, is) refl))
+      (λ is. by_cases (cmp p.0 lo) (λ low. rw (is, low, is) rest) (λ low. rw (is, low, is) rest) (λ low. rw (is, low, is) rest))
 
   -- no key stands before and behind the same one
   pub none_beside : (l : List (K × V)) (k : K) → between_bounds cmp l (Excluded k) (Excluded k) ≡ []
@@ -52,9 +52,9 @@ module _ {K : Type 0} (cmp : K → K → Ordering) where
   end_key_stays (k ∷ l) lo hi =
       let rest = end_key_stays l lo hi in
       by_cases (cmp k hi)
-        (λ is. by_cases (cmp k lo) (λ low. rw (is, low, is) rest) (λ low. rw (is, low) rest) (λ low. rw (is, low) rest))
-        (λ is. by_cases (cmp k lo) (λ low. rw (is, low, is) refl) (λ low. rw (is, low, is) refl) (λ low. rw (is, low, is) refl))
-        (λ is. by_cases (cmp k lo) (λ low. rw (is, low, is) rest) (λ low. rw (is, low, is) rest) (λ low. rw (is, low, is) rest))
+      (λ is. by_cases (cmp k lo) (λ low. rw (is, low, is) rest) (λ low. rw (is, low) rest) (λ low. rw (is, low) rest))
+      (λ is. by_cases (cmp k lo) (λ low. rw (is, low, is) refl) (λ low. rw (is, low, is) refl) (λ low. rw (is, low, is) refl))
+      (λ is. by_cases (cmp k lo) (λ low. rw (is, low, is) rest) (λ low. rw (is, low, is) rest) (λ low. rw (is, low, is) rest))
 
   pub no_key_beside : (l : List K) (k : K) → keys_between_bounds cmp l (Excluded k) (Excluded k) ≡ []
   no_key_beside [] k = refl

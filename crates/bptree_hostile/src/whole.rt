@@ -79,7 +79,11 @@ fn key_of<K: Sample>(alloc: Global, plain: &Plain, place: usize) -> Result<Optio
 }
 
 // The places between two bounds, of which each takes the pair of its key in or not.
-fn places(plain: &Plain, (from, from_in): (usize, bool), (to, to_in): (usize, bool)) -> (usize, usize) {
+fn places(
+    plain: &Plain,
+    (from, from_in): (usize, bool),
+    (to, to_in): (usize, bool),
+) -> (usize, usize) {
     let start = if from >= plain.len() {
         0
     } else if from_in {
@@ -111,7 +115,9 @@ fn is_bounded<K: Sample>(
         let (from_in, to_in) = (turn % 2 == 0, turn < 2);
         let (start, end) = places(plain, (from, from_in), (to, to_in));
         let mut pairs = map.range_bounds(bound_at(&lo, from_in), bound_at(&hi, to_in));
-        let mut beside = map.tree().range_bounds(bound_at(&lo, from_in), bound_at(&hi, to_in));
+        let mut beside = map
+            .tree()
+            .range_bounds(bound_at(&lo, from_in), bound_at(&hi, to_in));
         let few = end.saturating_sub(start);
         well = pairs.len() == few && beside.len() == few && well;
         if few > 0 {
@@ -145,7 +151,13 @@ pub fn shows_parts<K: Sample>(
     let len = plain.len();
     let (third, late) = (len / 3, len.saturating_sub(2));
     let mut well = has_halves(map, plain);
-    for (from, to) in [(third, late), (len, third), (late, len), (third, third), (late, third)] {
+    for (from, to) in [
+        (third, late),
+        (len, third),
+        (late, len),
+        (third, third),
+        (late, third),
+    ] {
         well = is_bounded(alloc, map, plain, from, to)? && well;
     }
     for place in [0, third, late, len, usize::MAX] {
@@ -190,7 +202,11 @@ fn own_pairs<K: Sample>(alloc: Global, plain: &Plain) -> Result<Vec<(K, u64)>, A
 
 // How a map with the pairs of a list stands to one of which some values are greater, or which is equal.
 fn is_compared<K: Sample>(one: &Map<K>, other: &Map<K>, is_less: bool) -> bool {
-    let order = if is_less { Ordering::Less } else { Ordering::Equal };
+    let order = if is_less {
+        Ordering::Less
+    } else {
+        Ordering::Equal
+    };
     (one == other) != is_less
         && one.cmp(other) == order
         && one.partial_cmp(other) == Some(order)
@@ -314,7 +330,13 @@ pub fn shows_keys<K: Sample>(
     let len = plain.len();
     let (third, late) = (len / 3, len.saturating_sub(2));
     let mut well = true;
-    for (from, to) in [(third, late), (len, third), (late, len), (third, third), (late, third)] {
+    for (from, to) in [
+        (third, late),
+        (len, third),
+        (late, len),
+        (third, third),
+        (late, third),
+    ] {
         well = are_keys_bounded(alloc, set, plain, from, to)? && well;
     }
     Ok(well)

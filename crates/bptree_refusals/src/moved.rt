@@ -105,7 +105,8 @@ impl<K: Sample, A: Argument<K> + Told> Moved<K, A> {
             Err(RetainError::NotMade) => Err(AllocError),
             Err(RetainError::NotStored(pair, rest)) => {
                 let (key, value) = pair;
-                let is_back = self.here.insert(key, value).is_ok() && self.here.extend(rest).is_ok();
+                let is_back = self.here.insert(key, value).is_ok()
+                    && self.here.extend(rest).is_ok();
                 if is_back { Err(AllocError) } else { Ok(false) }
             }
         }
@@ -193,7 +194,10 @@ impl<K: Sample, A: Argument<K> + Told> Subject for Moved<K, A> {
             key.tell(&mut digest);
             digest.add(*value);
         }
-        (digest.value(), self.here.len().saturating_add(self.there.len()))
+        (
+            digest.value(),
+            self.here.len().saturating_add(self.there.len()),
+        )
     }
 
     fn is_tidy(&self) -> bool {
@@ -360,7 +364,10 @@ impl<K: Sample> Subject for MovedKeys<K> {
         for key in self.there.iter() {
             key.tell(&mut digest);
         }
-        (digest.value(), self.here.len().saturating_add(self.there.len()))
+        (
+            digest.value(),
+            self.here.len().saturating_add(self.there.len()),
+        )
     }
 
     fn shape(&self) -> Option<Shape> {

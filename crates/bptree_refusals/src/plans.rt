@@ -320,10 +320,7 @@ const LARGER: [Row; 17] = [
     ),
     (
         (b'o', 3),
-        (
-            "numbers, moved between maps",
-            "groups, moved between maps",
-        ),
+        ("numbers, moved between maps", "groups, moved between maps"),
         (150, Some(0), 154, 154),
     ),
     (
@@ -344,10 +341,7 @@ const LARGER: [Row; 17] = [
     ),
     (
         (b'u', 2),
-        (
-            "numbers, moved between sets",
-            "pairs, moved between sets",
-        ),
+        ("numbers, moved between sets", "pairs, moved between sets"),
         (150, Some(0), 153, 153),
     ),
     (

@@ -63,9 +63,9 @@ module _ {K V : Type 0} (cmp : K → K → Ordering) (test : K × V → Bool) (k
     -- the first pair that passes is the one that leaves, and all that fail stay
     pub first_leaves : (filter test l ≡ pair ∷ filter test (del cmp l k)) × (filter (λ x. not (test x)) (del cmp l k) ≡ filter (λ x. not (test x)) l)
     first_leaves = rw (del_hit cmp l before pair after k hit) (
-        rw (filter-append test before after, parted, none_before, passes) refl,
-        rw (hit.parts, filter-append (λ x. not (test x)) before after, filter-append (λ x. not (test x)) before (pair ∷ after), passes) refl,
-      )
+      rw (filter-append test before after, parted, none_before, passes) refl,
+      rw (hit.parts, filter-append (λ x. not (test x)) before after, filter-append (λ x. not (test x)) before (pair ∷ after), passes) refl,
+    )
 
 -- no more pass than there are
 module _ {X : Type 0} (test : X → Bool) where

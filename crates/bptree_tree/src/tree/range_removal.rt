@@ -30,9 +30,13 @@ impl<S: NodeStore> BPlusTree<S> {
             return Ok(false);
         };
         let mut path = VisitStack::new();
-        let Some((leaf, slot)) =
-            removal::find_entry(&self.store, &mut path, self.root, self.height, k)
-        else {
+        let Some((leaf, slot)) = removal::find_entry(
+            &self.store,
+            &mut path,
+            self.root,
+            self.height,
+            k,
+        ) else {
             return Ok(false);
         };
         let gone = removal::take_entry(

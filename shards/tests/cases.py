@@ -1,0 +1,48 @@
+"""Prints what crates/bptree_shards_cases prints, told from plain lists of pairs in place of sums and searches.
+
+    python3 shards/tests/cases.py > crates/bptree_shards_cases/stdout
+"""
+
+BOUNDS = [[], [0], [5], [1, 1, 1], [2, 7, 7, 9], [4, 8, 10]]
+LENGTHS = [[], [0], [5], [3, 0, 4], [0, 0, 2, 0], [1, 1, 1, 1]]
+
+
+def tell(name, numbers, *others):
+    *asked, answer = others
+    words = [name, ",".join(map(str, numbers)) or "-", *map(str, asked)]
+    if isinstance(answer, tuple):
+        answer = ",".join(map(str, answer))
+    print(*words, "=", "none" if answer is None else answer)
+
+
+def keys_of(bounds, key):
+    """The shards that a key lies in, and the last shard that has a key below it, by asking each shard for its two ends."""
+    last = len(bounds)
+    ends = [(bounds[shard - 1] if shard else -1, bounds[shard] if shard < last else 99) for shard in range(last + 1)]
+    own = [shard for shard, (low, high) in enumerate(ends) if low <= key < high]
+    below = [shard for shard, (low, _) in enumerate(ends) if low < key]
+    return own[0], below[-1]
+
+
+for bounds in BOUNDS:
+    for key in range(12):
+        own, below = keys_of(bounds, key)
+        tell("route", bounds, key, own)
+        tell("route_below", bounds, key, below)
+        tell("route_range", bounds, key, "none", (own, len(bounds)))
+        tell("route_range", bounds, "none", key, (0, below))
+
+for lengths in LENGTHS:
+    pairs = [(shard, own) for shard, length in enumerate(lengths) for own in range(length)]
+    full = [shard for shard, _ in pairs]
+    tell("first_full", lengths, full[0] if full else None)
+    tell("last_full", lengths, full[-1] if full else None)
+    for shard in range(len(lengths)):
+        tell("next_full", lengths, shard, min((other for other in full if other > shard), default=None))
+        tell("prev_full", lengths, shard, max((other for other in full if other < shard), default=None))
+    for place in range(9):
+        tell("locate", lengths, place, pairs[place] if place < len(pairs) else None)
+        for most in range(4):
+            page = pairs[place:place + most]
+            part = [pair for pair in page if pair[0] == page[0][0]]
+            tell("next_part", lengths, place, most, (*part[0], len(part)) if part else None)
