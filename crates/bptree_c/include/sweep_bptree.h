@@ -67,6 +67,25 @@ size_t bptree_range_back(bptree *map, uint64_t from, bptree_pair *out, size_t n)
 /* A page of n pairs: the first page is 0. */
 size_t bptree_page(bptree *map, size_t number, bptree_pair *out, size_t n);
 
+/* A set of byte strings, or none. Its caller keeps the same three things as of a map. Keys are copied in, may be empty and may
+   hold any bytes. The first byte that differs decides their order, and of two keys, one of which begins the other, the shorter
+   is less. */
+typedef struct bptree_bytes { void *at; } bptree_bytes;
+
+bool bptree_bytes_new(bptree_bytes *set);
+void bptree_bytes_free(bptree_bytes *set);
+bool bptree_bytes_clear(bptree_bytes *set);
+size_t bptree_bytes_len(bptree_bytes *set);
+/* Calls that are given a key copy its n bytes. BPTREE_REFUSED: memory was refused, for a look-up too, and nothing has changed. */
+/* BPTREE_FOUND: the key is there. BPTREE_NONE: it is not. */
+uint32_t bptree_bytes_contains(bptree_bytes *set, const uint8_t *key, size_t n);
+/* The same, and how many keys are smaller, in *rank. */
+uint32_t bptree_bytes_rank(bptree_bytes *set, const uint8_t *key, size_t n, size_t *rank);
+/* BPTREE_NONE: the key is new. BPTREE_FOUND: it was there. */
+uint32_t bptree_bytes_insert(bptree_bytes *set, const uint8_t *key, size_t n);
+/* BPTREE_NONE: there was none. BPTREE_FOUND: it is gone. */
+uint32_t bptree_bytes_remove(bptree_bytes *set, const uint8_t *key, size_t n);
+
 #ifndef NDEBUG
 #include <assert.h>
 static inline bptree *bptree_made(bptree *map) {
@@ -99,6 +118,22 @@ static inline bptree *bptree_none(bptree *map) {
 #define bptree_range(map, from, out, n) bptree_range(bptree_made(map), from, out, n)
 #define bptree_range_back(map, from, out, n) bptree_range_back(bptree_made(map), from, out, n)
 #define bptree_page(map, number, out, n) bptree_page(bptree_made(map), number, out, n)
+static inline bptree_bytes *bptree_bytes_made(bptree_bytes *set) {
+    assert(set && set->at && "the set was not made, was freed, or is in use");
+    return set;
+}
+static inline bptree_bytes *bptree_bytes_none(bptree_bytes *set) {
+    assert(set && !set->at && "there is a set already");
+    return set;
+}
+#define bptree_bytes_new(set) bptree_bytes_new(bptree_bytes_none(set))
+#define bptree_bytes_free(set) bptree_bytes_free(bptree_bytes_made(set))
+#define bptree_bytes_clear(set) bptree_bytes_clear(bptree_bytes_made(set))
+#define bptree_bytes_len(set) bptree_bytes_len(bptree_bytes_made(set))
+#define bptree_bytes_contains(set, key, n) bptree_bytes_contains(bptree_bytes_made(set), key, n)
+#define bptree_bytes_rank(set, key, n, rank) bptree_bytes_rank(bptree_bytes_made(set), key, n, rank)
+#define bptree_bytes_insert(set, key, n) bptree_bytes_insert(bptree_bytes_made(set), key, n)
+#define bptree_bytes_remove(set, key, n) bptree_bytes_remove(bptree_bytes_made(set), key, n)
 #endif
 
 #ifdef __cplusplus
