@@ -15,7 +15,7 @@ key_after keys k = slice_get (filter (λ key. is_gt (by_bytes key k)) keys) 0
 abbrev pub key_before : List (List ℕ) → List ℕ → Option (List ℕ)
 key_before keys k = let smaller = filter (λ key. is_lt (by_bytes key k)) keys in slice_get smaller (length smaller - 1)
 
--- of a key that is told, as many bytes as the array takes stand at its beginning, the rest of the array is as it was, and the key's whole length is told; of none, nothing is written
-abbrev pub IsTold : Option (List ℕ) → Bool → List ℕ → List ℕ → ℕ → Type 0
-IsTold None found old new len = (found ≡ false) × (new ≡ old)
-IsTold (Some key) found old new len = (found ≡ true) × (new ≡ take (length old) key ++ drop (length key) old) × (len ≡ length key)
+-- what a call tells of a key, by what an array and a number hold before and after it: as many bytes as the array takes stand at its beginning, and the rest of it is as it was; the number is the key's whole length. Of no key nothing is written
+abbrev pub IsTold : Option (List ℕ) → Bool → List ℕ × ℕ → List ℕ × ℕ → Type 0
+IsTold None found old new = (found ≡ false) × (new ≡ old)
+IsTold (Some key) found old new = (found ≡ true) × (new ≡ (take (length old.0) key ++ drop (length key) old.0, length key))

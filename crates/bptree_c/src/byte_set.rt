@@ -227,7 +227,7 @@ pub extern "C" fn bptree_bytes_first(
     ghost keys: { List (List ℕ) }
     requires open { set.old.held ≡ Some keys }
     ensures kept { set.new.held ≡ Some keys }
-    ensures told { IsTold (slice_get keys 0) result out.old out.new len.new }
+    ensures told { IsTold (slice_get keys 0) result (out.old, len.old) (out.new, len.new) }
 {
     let whole = set.take(alloc);
     let answer = told(first_in(&whole), out, len);
@@ -244,7 +244,7 @@ fn first_in(set: &ByteSet) -> Option<&Bytes>
 
 // Whether there is a key, which is copied where there is one.
 fn told(key: Option<&Bytes>, out: &mut [u8], len: &mut usize) -> bool
-    ensures { IsTold (option_copied key.entry) result out.old out.new len.new }
+    ensures { IsTold (option_copied key.entry) result (out.old, len.old) (out.new, len.new) }
 {
     match key {
         Some(key) => {
@@ -277,7 +277,7 @@ pub extern "C" fn bptree_bytes_last(
     ghost keys: { List (List ℕ) }
     requires open { set.old.held ≡ Some keys }
     ensures kept { set.new.held ≡ Some keys }
-    ensures told { IsTold (slice_get keys (length keys - 1)) result out.old out.new len.new }
+    ensures told { IsTold (slice_get keys (length keys - 1)) result (out.old, len.old) (out.new, len.new) }
 {
     let whole = set.take(alloc);
     let answer = told(last_in(&whole), out, len);
@@ -305,7 +305,7 @@ pub extern "C" fn bptree_bytes_at(
     ghost keys: { List (List ℕ) }
     requires open { set.old.held ≡ Some keys }
     ensures kept { set.new.held ≡ Some keys }
-    ensures told { IsTold (slice_get keys place) result out.old out.new len.new }
+    ensures told { IsTold (slice_get keys place) result (out.old, len.old) (out.new, len.new) }
 {
     let whole = set.take(alloc);
     let answer = told(at_in(&whole, place), out, len);
@@ -335,9 +335,9 @@ pub extern "C" fn bptree_bytes_next(
     requires open { set.old.held ≡ Some keys }
     ensures codes { result ≤ 2 }
     ensures kept { set.new.held ≡ Some keys }
-    ensures none { result ≡ 0 → IsTold None false out.old out.new len.new × (key_after keys key.now ≡ None) }
-    ensures found { result ≡ 1 → IsTold (key_after keys key.now) true out.old out.new len.new }
-    ensures refused { result ≡ 2 → out.new ≡ out.old }
+    ensures none { result ≡ 0 → IsTold (key_after keys key.now) false (out.old, len.old) (out.new, len.new) }
+    ensures found { result ≡ 1 → IsTold (key_after keys key.now) true (out.old, len.old) (out.new, len.new) }
+    ensures refused { result ≡ 2 → (out.new ≡ out.old) × (len.new ≡ len.old) }
 {
     let Ok(copy) = Bytes::copy_of(alloc, key) else {
         return 2;
@@ -380,9 +380,9 @@ pub extern "C" fn bptree_bytes_prev(
     requires open { set.old.held ≡ Some keys }
     ensures codes { result ≤ 2 }
     ensures kept { set.new.held ≡ Some keys }
-    ensures none { result ≡ 0 → IsTold None false out.old out.new len.new × (key_before keys key.now ≡ None) }
-    ensures found { result ≡ 1 → IsTold (key_before keys key.now) true out.old out.new len.new }
-    ensures refused { result ≡ 2 → out.new ≡ out.old }
+    ensures none { result ≡ 0 → IsTold (key_before keys key.now) false (out.old, len.old) (out.new, len.new) }
+    ensures found { result ≡ 1 → IsTold (key_before keys key.now) true (out.old, len.old) (out.new, len.new) }
+    ensures refused { result ≡ 2 → (out.new ≡ out.old) × (len.new ≡ len.old) }
 {
     let Ok(copy) = Bytes::copy_of(alloc, key) else {
         return 2;
