@@ -4,7 +4,7 @@
 #include <stdlib.h>
 #include <string.h>
 
-enum { MOST = 3000, LONGEST = 6, CALLS = 150000 };
+enum { MOST = 3000, LONGEST = 6, ROOM = 8, CALLS = 150000 };
 
 typedef struct string { size_t n; uint8_t bytes[LONGEST]; } string;
 
@@ -66,6 +66,34 @@ static void change(bptree_bytes *set, const string *key) {
     }
 }
 
+/* What a call told of a key: whether there is one, as many of its bytes as there is room for, and the rest as it was. */
+static uint8_t out[ROOM];
+static size_t room, told;
+
+static void blank(void) {
+    memset(out, 0x55, sizeof out);
+    room = roll(ROOM + 1), told = 77;
+}
+
+static void told_of(bool is_there, size_t at, bool answer, const char *call) {
+    alike(answer, is_there, call);
+    alike(told, is_there ? plain[at].n : 77, call);
+    for (size_t i = 0; i < ROOM; i++)
+        alike(out[i], is_there && i < plain[at].n && i < room ? plain[at].bytes[i] : 0x55, call);
+    blank();
+}
+
+static void ask_for_keys(bptree_bytes *set, const string *key) {
+    size_t at = smaller(key), place = roll(len + 2);
+    size_t above = at + (at < len && !compared(&plain[at], key));
+    blank();
+    told_of(len > 0, 0, bptree_bytes_first(set, out, room, &told), "first");
+    told_of(len > 0, len - 1, bptree_bytes_last(set, out, room, &told), "last");
+    told_of(place < len, place, bptree_bytes_at(set, place, out, room, &told), "at");
+    told_of(above < len, above, bptree_bytes_next(set, key->bytes, key->n, out, room, &told) == BPTREE_FOUND, "next");
+    told_of(at > 0, at - 1, bptree_bytes_prev(set, key->bytes, key->n, out, room, &told) == BPTREE_FOUND, "prev");
+}
+
 static void ask(bptree_bytes *set, const string *key) {
     size_t at = smaller(key), rank = 7;
     bool there = at < len && !compared(&plain[at], key);
@@ -82,6 +110,7 @@ int main(void) {
         string key = any_string(), other = any_string();
         change(&set, &key);
         ask(&set, &other);
+        ask_for_keys(&set, &other);
         if (call == CALLS / 2) alike(bptree_bytes_clear(&set), true, "clear"), len = 0;
     }
     bptree_bytes_free(&set);

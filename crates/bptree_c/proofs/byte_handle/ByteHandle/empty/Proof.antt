@@ -1,33 +1,18 @@
 -- `empty` owns nothing.
-use Rattle.std.proofs.Common.{◌≡◌, ℕ, List, [], ◌∷◌, ◌++◌, refl, Option, None, lit<}
-use mir.Val.{Val, vptr}
-use base.Logic.{SProp, ent, emp, id⊢, never, fst∗}
+use Rattle.std.proofs.Common.{◌≡◌, ℕ, List, [], ◌∷◌, refl, Option, None, lit<}
+use mir.Val.{Val}
+use base.Logic.{SProp, emp}
 use base.Fml.{ftrue}
-use prog.Wp.{WpFn}
-use types.Logic.{sem}
-use types.Kit.{‵, raw, ◌⊛◌, ◌$◌, ◌∵◌, !, qed, by, move, keep, drop, split, join, fsplit, fjoin, suffices, use0, use1, rewrite, feq_l}
-use types.Run.{stop, fld, of_opd, no_more, and_then, returns, enter, lit}
-use types.ByLocal.{alloc_all, pass_all, free_all, look_at, get, get_in, sets}
-use types.Part.{agg, sub, whole}
+use types.Kit.{‵, raw, ◌⊛◌, ◌$◌, ◌∵◌, !, qed, by, keep, drop, split, use0}
+use types.Run.{no_more, and_then, returns, enter, lit}
+use types.ByLocal.{alloc_all, pass_all, free_all, look_at, sets}
+use types.Part.{agg}
 use contract.Monad.{fact, fact_i}
 use contract.Running.{tables}
-use denote.Exit.{yes, no}
-use denote.RattleType.{RattleType, owns}
-use denote.Signature.{types_at, plain}
-use denote.RawPtr.{Ptr, block_ptr, null_ptr, ptr_val, in_a_block}
-use denote.Steps.{nothing, heard}
-use denote.Triple.Walked.{Stays, stay_dropped, walk_of, Goes-dropped}
-use Rattle.std.proofs.alloc.Calls.{Goes-blank}
+use denote.RawPtr.{null_ptr}
+use denote.Triple.Walked.{Stays, walk_of}
 use Rattle.std.proofs.raw_atomic.Walks.{proved_at, leaves}
-use Rattle.std.proofs.alloc.Global.TheLaws.{the_row_laws}
-use Rattle.std.specs.contracts.alloc.Global.{the_row as Heap}
-use Rattle.std.specs.contracts.impls.GlobalAllocator.TheImpl.{ghosts}
-use Rattle.std.specs.Box.Ownership.{box_owns}
-use Rattle.bptree_c.specs.Held.{the_heap}
-use Rattle.bptree_c.specs.HeldBytes.{held_owns}
-use Rattle.bptree_c.specs.contracts.byte_handle.ByteSet.{the_row as Tree}
-use Rattle.bptree_c.proofs.Values.{both, Loose, loose_good, loose_out, loose_in}
-use Rattle.bptree_c.proofs.ByteHandles.{Row, word, handle_in, handle_out}
+use Rattle.bptree_c.proofs.ByteHandles.{word, handle_in}
 use Rattle.bptree_c.specs.contracts.byte_handle.ByteHandle.empty.{ended, clauses}
 use Rattle.bptree_c.specs.contracts.byte_handle.ByteHandle.empty.Key.{name as #self}
 use Rattle.bptree_c.proofs.byte_handle.ByteHandle.empty.Statement.{statement}

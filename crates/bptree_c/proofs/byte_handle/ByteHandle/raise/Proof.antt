@@ -1,23 +1,22 @@
 -- `raise` gives the pointer its type again.
-use Rattle.std.proofs.Common.{◌≡◌, ℕ, List, [], ◌∷◌, ◌++◌, refl, sym, ap, ◌∙◌, subst, Option, Some, IsSome}
+use Rattle.std.proofs.Common.{◌≡◌, List, [], ◌∷◌, ◌++◌, refl, sym, ap, ◌∙◌, subst, Option, Some, IsSome}
 use mir.Val.{Val, vptr}
 use base.Logic.{SProp, ent, emp, id⊢, never, fst∗}
 use base.Fml.{ftrue}
 use prog.Wp.{WpFn}
 use types.Logic.{sem}
-use types.Kit.{‵, raw, ◌⊛◌, ◌$◌, ◌∵◌, !, qed, by, move, keep, drop, split, join, fsplit, fjoin, suffices, use0, use1, rewrite, feq_l}
-use types.Run.{stop, fld, of_opd, no_more, and_then, returns, enter, lit}
+use types.Kit.{‵, raw, ◌⊛◌, ◌$◌, ◌∵◌, !, qed, by, move, keep, split, fsplit, fjoin, suffices, use0, rewrite}
+use types.Run.{stop, fld, of_opd, no_more, and_then, returns, enter}
 use types.ByLocal.{alloc_all, pass_all, free_all, look_at, get, get_in, sets}
 use types.Part.{agg, sub, whole}
 use contract.Monad.{fact, fact_i}
 use contract.Running.{tables}
-use denote.Exit.{yes, no}
-use denote.RattleType.{RattleType, owns}
+use denote.Exit.{yes}
+use denote.RattleType.{owns}
 use denote.Signature.{types_at, plain}
-use denote.RawPtr.{Ptr, block_ptr, null_ptr, ptr_val, in_a_block}
+use denote.RawPtr.{Ptr, block_ptr, null_ptr, in_a_block}
 use denote.Steps.{nothing, heard}
 use denote.Triple.Walked.{Stays, stay_dropped, walk_of, Goes-dropped}
-use Rattle.std.proofs.alloc.Calls.{Goes-blank}
 use Rattle.std.proofs.raw_atomic.Walks.{proved_at, leaves}
 use Rattle.std.proofs.alloc.Global.TheLaws.{the_row_laws}
 use Rattle.std.specs.contracts.alloc.Global.{the_row as Heap}
@@ -26,9 +25,9 @@ use Rattle.std.specs.Box.Ownership.{box_owns}
 use Rattle.bptree_c.specs.Held.{the_heap}
 use Rattle.bptree_c.specs.HeldBytes.{held_owns}
 use Rattle.bptree_c.specs.contracts.byte_handle.ByteSet.{the_row as Tree}
-use Rattle.bptree_c.proofs.Values.{both, Loose, loose_good, loose_out, loose_in}
+use Rattle.bptree_c.proofs.Values.{both, loose_good, loose_in}
 use Rattle.bptree_c.proofs.Handles.{unsome}
-use Rattle.bptree_c.proofs.ByteHandles.{Row, word, handle_in, handle_out}
+use Rattle.bptree_c.proofs.ByteHandles.{Row, word, handle_out}
 use mir.Raw.{raw as bare}
 use denote.Memory.{lone}
 use Rattle.std.proofs.alloc.Calls.{Al, handle_tells}
