@@ -1,4 +1,5 @@
-/* sweep_bptree: an ordered map from 64-bit numbers to 64-bit numbers, with the place of each key, kept in a B+ tree.
+/* sweep_bptree: an ordered map from 64-bit numbers to 64-bit numbers, and an ordered set of byte strings, each with the place of
+   each key, kept in a B+ tree.
 
    Keys and values may stand for handles, pointers or numbers of the caller's own. A look-up, an insertion, a removal, a place
    and a rank take one way down the tree, whatever its size. docs/FACES.md tells how to build and link, and what is proved. */
@@ -67,6 +68,33 @@ size_t bptree_range_back(bptree *map, uint64_t from, bptree_pair *out, size_t n)
 /* A page of n pairs: the first page is 0. */
 size_t bptree_page(bptree *map, size_t number, bptree_pair *out, size_t n);
 
+/* A set of byte strings, or none. Its caller keeps the same three things as of a map. Keys are copied in, may be empty and may
+   hold any bytes. The first byte that differs decides their order; of two keys, one of which begins the other, the shorter is
+   less. A call that is given a key copies its n bytes first, so that a look-up can be refused too. A refused call changes
+   nothing and writes nothing. */
+typedef struct bptree_bytes { void *at; } bptree_bytes;
+
+bool bptree_bytes_new(bptree_bytes *set);
+void bptree_bytes_free(bptree_bytes *set);
+bool bptree_bytes_clear(bptree_bytes *set);
+size_t bptree_bytes_len(bptree_bytes *set);
+/* BPTREE_FOUND: the key is there. BPTREE_NONE: it is not. Either way bptree_bytes_rank tells how many keys are smaller. */
+uint32_t bptree_bytes_contains(bptree_bytes *set, const uint8_t *key, size_t n);
+uint32_t bptree_bytes_rank(bptree_bytes *set, const uint8_t *key, size_t n, size_t *rank);
+/* BPTREE_NONE: the key is new, and is put in. BPTREE_FOUND: it was there. */
+uint32_t bptree_bytes_insert(bptree_bytes *set, const uint8_t *key, size_t n);
+/* BPTREE_NONE: there was none. BPTREE_FOUND: it is gone. */
+uint32_t bptree_bytes_remove(bptree_bytes *set, const uint8_t *key, size_t n);
+/* Calls that tell a key copy its bytes into an array that takes `room` of them, as many as fit, and its whole length into *len;
+   where that is more than `room`, the key was cut. False and BPTREE_NONE: there is no such key, and nothing is written. */
+bool bptree_bytes_first(bptree_bytes *set, uint8_t *out, size_t room, size_t *len);
+bool bptree_bytes_last(bptree_bytes *set, uint8_t *out, size_t room, size_t *len);
+/* Places count from 0, in the order of the keys. */
+bool bptree_bytes_at(bptree_bytes *set, size_t place, uint8_t *out, size_t room, size_t *len);
+/* The least greater key, and the greatest smaller key. The key itself need not be there. */
+uint32_t bptree_bytes_next(bptree_bytes *set, const uint8_t *key, size_t n, uint8_t *out, size_t room, size_t *len);
+uint32_t bptree_bytes_prev(bptree_bytes *set, const uint8_t *key, size_t n, uint8_t *out, size_t room, size_t *len);
+
 #ifndef NDEBUG
 #include <assert.h>
 static inline bptree *bptree_made(bptree *map) {
@@ -99,6 +127,27 @@ static inline bptree *bptree_none(bptree *map) {
 #define bptree_range(map, from, out, n) bptree_range(bptree_made(map), from, out, n)
 #define bptree_range_back(map, from, out, n) bptree_range_back(bptree_made(map), from, out, n)
 #define bptree_page(map, number, out, n) bptree_page(bptree_made(map), number, out, n)
+static inline bptree_bytes *bptree_bytes_made(bptree_bytes *set) {
+    assert(set && set->at && "the set was not made, was freed, or is in use");
+    return set;
+}
+static inline bptree_bytes *bptree_bytes_none(bptree_bytes *set) {
+    assert(set && !set->at && "there is a set already");
+    return set;
+}
+#define bptree_bytes_new(set) bptree_bytes_new(bptree_bytes_none(set))
+#define bptree_bytes_free(set) bptree_bytes_free(bptree_bytes_made(set))
+#define bptree_bytes_clear(set) bptree_bytes_clear(bptree_bytes_made(set))
+#define bptree_bytes_len(set) bptree_bytes_len(bptree_bytes_made(set))
+#define bptree_bytes_contains(set, key, n) bptree_bytes_contains(bptree_bytes_made(set), key, n)
+#define bptree_bytes_rank(set, key, n, rank) bptree_bytes_rank(bptree_bytes_made(set), key, n, rank)
+#define bptree_bytes_insert(set, key, n) bptree_bytes_insert(bptree_bytes_made(set), key, n)
+#define bptree_bytes_remove(set, key, n) bptree_bytes_remove(bptree_bytes_made(set), key, n)
+#define bptree_bytes_first(set, out, room, len) bptree_bytes_first(bptree_bytes_made(set), out, room, len)
+#define bptree_bytes_last(set, out, room, len) bptree_bytes_last(bptree_bytes_made(set), out, room, len)
+#define bptree_bytes_at(set, place, out, room, len) bptree_bytes_at(bptree_bytes_made(set), place, out, room, len)
+#define bptree_bytes_next(set, key, n, out, room, len) bptree_bytes_next(bptree_bytes_made(set), key, n, out, room, len)
+#define bptree_bytes_prev(set, key, n, out, room, len) bptree_bytes_prev(bptree_bytes_made(set), key, n, out, room, len)
 #endif
 
 #ifdef __cplusplus

@@ -1,3 +1,5 @@
+pub mod ByteHandles
+pub mod ByteLemmas
 pub mod CopyLemmas
 pub mod Handles
 pub mod Values

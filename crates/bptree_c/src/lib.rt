@@ -6,6 +6,9 @@
 //! the list that the handle holds.
 #![tactic(auto)]
 
+mod byte_handle;
+mod byte_set;
+mod bytes;
 mod handle;
 mod loose;
 mod making;
@@ -14,6 +17,12 @@ mod pair;
 mod reading;
 mod writing;
 
+pub use byte_handle::ByteHandle;
+pub use byte_set::{
+    bptree_bytes_at, bptree_bytes_clear, bptree_bytes_contains, bptree_bytes_first,
+    bptree_bytes_free, bptree_bytes_insert, bptree_bytes_last, bptree_bytes_len, bptree_bytes_new,
+    bptree_bytes_next, bptree_bytes_prev, bptree_bytes_rank, bptree_bytes_remove,
+};
 pub use handle::Handle;
 pub use making::{bptree_clear, bptree_free, bptree_load, bptree_new};
 pub use many::{bptree_page, bptree_range, bptree_range_back};

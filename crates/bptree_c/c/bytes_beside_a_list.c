@@ -1,0 +1,120 @@
+/* Calls of a set of byte strings in no order beside a plain ascending array, which must answer alike. The last line is 'ok'. */
+#include "sweep_bptree.h"
+#include <stdio.h>
+#include <stdlib.h>
+#include <string.h>
+
+enum { MOST = 3000, LONGEST = 6, ROOM = 8, CALLS = 150000 };
+
+typedef struct string { size_t n; uint8_t bytes[LONGEST]; } string;
+
+static string plain[MOST + 1];
+static size_t len;
+
+static uint64_t dice = 0x9e3779b97f4a7c15;
+
+static uint64_t roll(uint64_t below) {
+    dice ^= dice << 13;
+    dice ^= dice >> 7;
+    dice ^= dice << 17;
+    return (dice >> 11) % below;
+}
+
+/* Ends the program where two answers differ. */
+static void alike(uint64_t one, uint64_t other, const char *call) {
+    if (one != other) {
+        printf("%s: %llu in place of %llu\n", call, (unsigned long long)one, (unsigned long long)other);
+        exit(1);
+    }
+}
+
+/* A string of few bytes, among them the least and the greatest, so that many are equal or begin one another. */
+static string any_string(void) {
+    static const uint8_t some[] = {0, 1, 'a', 'b', 0x7f, 0x80, 0xff};
+    string it = {roll(LONGEST + 1), {0}};
+    for (size_t i = 0; i < it.n; i++) it.bytes[i] = some[roll(sizeof some)];
+    return it;
+}
+
+static int compared(const string *one, const string *other) {
+    int by_bytes = memcmp(one->bytes, other->bytes, one->n < other->n ? one->n : other->n);
+    return by_bytes ? by_bytes : (one->n > other->n) - (one->n < other->n);
+}
+
+/* How many strings of the array are smaller. */
+static size_t smaller(const string *key) {
+    size_t low = 0, high = len;
+    while (low < high) {
+        size_t at = low + (high - low) / 2;
+        if (compared(&plain[at], key) < 0) low = at + 1; else high = at;
+    }
+    return low;
+}
+
+static void change(bptree_bytes *set, const string *key) {
+    size_t at = smaller(key);
+    bool there = at < len && !compared(&plain[at], key);
+    if (roll(5) < 3) {
+        if (len == MOST && !there) return;
+        alike(bptree_bytes_insert(set, key->bytes, key->n), there ? BPTREE_FOUND : BPTREE_NONE, "insert");
+        if (there) return;
+        memmove(plain + at + 1, plain + at, (len++ - at) * sizeof *plain);
+        plain[at] = *key;
+    } else {
+        alike(bptree_bytes_remove(set, key->bytes, key->n), there ? BPTREE_FOUND : BPTREE_NONE, "remove");
+        if (there) memmove(plain + at, plain + at + 1, (--len - at) * sizeof *plain);
+    }
+}
+
+/* What a call told of a key: whether there is one, as many of its bytes as there is room for, and the rest as it was. */
+static uint8_t out[ROOM];
+static size_t room, told;
+
+static void blank(void) {
+    memset(out, 0x55, sizeof out);
+    room = roll(ROOM + 1), told = 77;
+}
+
+static void told_of(bool is_there, size_t at, bool answer, const char *call) {
+    alike(answer, is_there, call);
+    alike(told, is_there ? plain[at].n : 77, call);
+    for (size_t i = 0; i < ROOM; i++)
+        alike(out[i], is_there && i < plain[at].n && i < room ? plain[at].bytes[i] : 0x55, call);
+    blank();
+}
+
+static void ask_for_keys(bptree_bytes *set, const string *key) {
+    size_t at = smaller(key), place = roll(len + 2);
+    size_t above = at + (at < len && !compared(&plain[at], key));
+    blank();
+    told_of(len > 0, 0, bptree_bytes_first(set, out, room, &told), "first");
+    told_of(len > 0, len - 1, bptree_bytes_last(set, out, room, &told), "last");
+    told_of(place < len, place, bptree_bytes_at(set, place, out, room, &told), "at");
+    told_of(above < len, above, bptree_bytes_next(set, key->bytes, key->n, out, room, &told) == BPTREE_FOUND, "next");
+    told_of(at > 0, at - 1, bptree_bytes_prev(set, key->bytes, key->n, out, room, &told) == BPTREE_FOUND, "prev");
+}
+
+static void ask(bptree_bytes *set, const string *key) {
+    size_t at = smaller(key), rank = 7;
+    bool there = at < len && !compared(&plain[at], key);
+    alike(bptree_bytes_len(set), len, "len");
+    alike(bptree_bytes_contains(set, key->bytes, key->n), there ? BPTREE_FOUND : BPTREE_NONE, "contains");
+    alike(bptree_bytes_rank(set, key->bytes, key->n, &rank), there ? BPTREE_FOUND : BPTREE_NONE, "rank, there");
+    alike(rank, at, "rank");
+}
+
+int main(void) {
+    bptree_bytes set = {0};
+    alike(bptree_bytes_new(&set), true, "new");
+    for (int call = 0; call < CALLS; call++) {
+        string key = any_string(), other = any_string();
+        change(&set, &key);
+        ask(&set, &other);
+        ask_for_keys(&set, &other);
+        if (call == CALLS / 2) alike(bptree_bytes_clear(&set), true, "clear"), len = 0;
+    }
+    bptree_bytes_free(&set);
+    alike(set.at == NULL, true, "free");
+    puts("ok");
+    return 0;
+}

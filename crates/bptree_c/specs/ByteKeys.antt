@@ -1,0 +1,21 @@
+-- Keys of bytes in their order, and what is copied of them into a caller's array.
+use Rattle.std.specs.Prelude.{◌≡◌, ◌-◌, ℕ, Bool, true, false, List, ◌++◌, Option, Some, None, filter, length, slice_get, take, drop}
+use Rattle.std.specs.declared.cmp.Ordering.{Ordering}
+use Rattle.std.specs.Cmp.Lexicographic.{slice_cmp}
+use Rattle.std.specs.Ordering.{nat_cmp, is_lt, is_gt}
+
+-- the first byte that differs decides, and else the lengths do
+abbrev pub by_bytes : List ℕ → List ℕ → Ordering
+by_bytes = slice_cmp nat_cmp
+
+-- the least greater key, and the greatest smaller key
+abbrev pub key_after : List (List ℕ) → List ℕ → Option (List ℕ)
+key_after keys k = slice_get (filter (λ key. is_gt (by_bytes key k)) keys) 0
+
+abbrev pub key_before : List (List ℕ) → List ℕ → Option (List ℕ)
+key_before keys k = let smaller = filter (λ key. is_lt (by_bytes key k)) keys in slice_get smaller (length smaller - 1)
+
+-- what a call tells of a key, by what an array and a number hold before and after it: as many bytes as the array takes stand at its beginning, and the rest of it is as it was; the number is the key's whole length. Of no key nothing is written
+abbrev pub IsTold : Option (List ℕ) → Bool → List ℕ × ℕ → List ℕ × ℕ → Type 0
+IsTold None found old new = (found ≡ false) × (new ≡ old)
+IsTold (Some key) found old new = (found ≡ true) × (new ≡ (take (length old.0) key ++ drop (length key) old.0, length key))

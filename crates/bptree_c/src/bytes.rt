@@ -1,0 +1,94 @@
+//! A key of bytes.
+ghost use Rattle.std.specs.Prelude.{◌≡◌, Some, IfOk, length, nat_eq};
+ghost use Rattle.std.specs.Cmp.Lexicographic.{pointwise, slice_cmp, nat_list_eq_equiv, nat_list_cmp_total, texts_po, texts_ties};
+ghost use Rattle.std.specs.Cmp.{partial_equiv_from_equiv};
+ghost use Rattle.std.specs.Ordering.{nat_cmp};
+ghost use Rattle.std.proofs.Common.{refl};
+ghost use Rattle.bptree_keys.specs.Keys.{equal_if_same};
+
+use bptree_keys::key::Key;
+use std::alloc::{AllocError, Global};
+use std::cmp::Ordering;
+use std::marker::Model;
+
+/// A string of bytes, which may be empty. The order is lexicographic.
+#[derive(Drop)]
+pub(crate) struct Bytes {
+    own: Vec<u8>,
+}
+
+impl Model for Bytes {
+    ghost use Rattle.std.specs.Prelude.{List, ℕ};
+
+    ghost Value = { List ℕ };
+
+    ghost view = { λ bytes. bytes.own.items };
+}
+
+impl Bytes {
+    /// A copy of the given bytes. It is refused where the memory for them is.
+    pub(crate) fn copy_of(alloc: Global, given: &[u8]) -> Result<Bytes, AllocError>
+        ensures { IfOk result (λ bytes. bytes ≡ given.now) }
+    {
+        Ok(Bytes {
+            own: Vec::from_slice(alloc, given)?,
+        })
+    }
+
+    /// The bytes.
+    pub(crate) fn as_slice(&self) -> &[u8]
+        ensures { result.now ≡ self.now }
+    {
+        self.own.as_slice()
+    }
+}
+
+impl Clone for Bytes {
+    ghost is_clone = { λ x y. y ≡ x };
+
+    fn clone(&self) -> Result<Bytes, AllocError> {
+        Bytes::copy_of(self.own.allocator().clone()?, self.as_slice())
+    }
+}
+
+impl PartialEq for Bytes {
+    ghost eq = { pointwise nat_eq };
+
+    ghost laws = { partial_equiv_from_equiv nat_list_eq_equiv };
+
+    fn eq(&self, other: &Bytes) -> bool {
+        self.as_slice() == other.as_slice()
+    }
+}
+
+impl Eq for Bytes {
+    ghost laws = { nat_list_eq_equiv };
+}
+
+impl PartialOrd for Bytes {
+    ghost partial_cmp = { λ x y. Some (slice_cmp nat_cmp x y) };
+
+    ghost laws = { texts_po };
+
+    fn partial_cmp(&self, other: &Bytes) -> Option<Ordering> {
+        Some(self.cmp(other))
+    }
+}
+
+impl Ord for Bytes {
+    ghost cmp = { slice_cmp nat_cmp };
+
+    ghost total = { nat_list_cmp_total };
+
+    ghost matches_partial_cmp = { λ x y. refl };
+
+    ghost matches_eq = { texts_ties };
+
+    fn cmp(&self, other: &Bytes) -> Ordering {
+        self.as_slice().cmp(other.as_slice())
+    }
+}
+
+impl Key for Bytes {
+    ghost clone_is_equal = { λ x y same. equal_if_same nat_list_cmp_total x y same };
+}
