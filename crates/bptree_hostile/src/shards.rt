@@ -103,12 +103,16 @@ impl Cuts {
         self.below(end as u64) as usize
     }
 
+    // The bound of a number, or the greatest number where there is none.
+    fn bound(&self, number: usize) -> u64 {
+        self.bounds.get(number).copied().unwrap_or(u64::MAX)
+    }
+
     // A bound, and the one behind it.
     fn bounds_of_one(&mut self) -> (u64, u64) {
-        let shard = self.below(self.bounds.len() as u64) as usize;
-        let low = self.bounds.get(shard).copied().unwrap_or(0);
-        let high = self.bounds.get(shard.saturating_add(1)).copied();
-        (low, high.unwrap_or(u64::MAX))
+        let many = self.bounds.len() as u64;
+        let shard = self.below(many) as usize;
+        (self.bound(shard), self.bound(shard.saturating_add(1)))
     }
 
     // A key at a place for keys.
@@ -241,36 +245,6 @@ fn looks<K: Sample>(whole: &Whole<K>, cuts: &mut Cuts) -> Result<bool, AllocErro
     })
 }
 
-// Some steps from a key on, or back from it.
-fn steps<K: Sample>(whole: &Whole<K>, cuts: &mut Cuts) -> Result<bool, AllocError> {
-    let number = cuts.key();
-    let start = K::sample(cuts.alloc, number)?;
-    let (many, is_back) = (cuts.below(8), cuts.below(2) == 0);
-    let plain = &cuts.plain;
-    let end = if is_back { End::Back } else { End::Front };
-    let mut place = plain.beside(number, end);
-    let mut key = &start;
-    let mut well = true;
-    for _ in 0..many {
-        let found = if is_back {
-            whole.prev(key)
-        } else {
-            whole.next(key)
-        };
-        well = numbers(found) == plain.pair_at(place) && well;
-        let Some((next, _)) = found else {
-            return Ok(well);
-        };
-        key = next;
-        place = if is_back {
-            place.wrapping_sub(1)
-        } else {
-            place.saturating_add(1)
-        };
-    }
-    Ok(well)
-}
-
 // The pair beside another one, where there is one.
 fn next_of<'a, K: Sample>(
     whole: &'a Whole<K>,
@@ -286,6 +260,51 @@ fn prev_of<'a, K: Sample>(
 ) -> Option<(&'a K, &'a u64)> {
     let (key, _) = pair?;
     whole.prev(key)
+}
+
+// So many steps from a key on, of which the first one comes to a place.
+fn steps_on<K: Sample>(whole: &Whole<K>, plain: &Plain, key: &K, place: usize, many: u64) -> bool {
+    let mut found = whole.next(key);
+    let mut place = place;
+    let mut well = true;
+    for _ in 0..many {
+        well = numbers(found) == plain.pair_at(place) && well;
+        found = next_of(whole, found);
+        place = place.saturating_add(1);
+    }
+    well
+}
+
+// The same back from a key. There is no pair before the first place, nor at the greatest ones.
+fn steps_back<K: Sample>(
+    whole: &Whole<K>,
+    plain: &Plain,
+    key: &K,
+    place: usize,
+    many: u64,
+) -> bool {
+    let mut found = whole.prev(key);
+    let mut place = place;
+    let mut well = true;
+    for _ in 0..many {
+        well = numbers(found) == plain.pair_at(place) && well;
+        found = prev_of(whole, found);
+        place = place.wrapping_sub(1);
+    }
+    well
+}
+
+// Some steps from a key on, or back from it.
+fn steps<K: Sample>(whole: &Whole<K>, cuts: &mut Cuts) -> Result<bool, AllocError> {
+    let number = cuts.key();
+    let key = K::sample(cuts.alloc, number)?;
+    let (many, is_back) = (cuts.below(8), cuts.below(2) == 0);
+    let plain = &cuts.plain;
+    Ok(if is_back {
+        steps_back(whole, plain, &key, plain.beside(number, End::Back), many)
+    } else {
+        steps_on(whole, plain, &key, plain.beside(number, End::Front), many)
+    })
 }
 
 // Whether the pairs are those of the list: by their places, and from both ends step by step.
