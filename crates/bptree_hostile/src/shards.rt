@@ -140,16 +140,16 @@ impl Cuts {
 
     // Whether there is a shard of each size, by how many keys are below its bounds.
     fn has_sizes(&self) -> bool {
-        let (mut empty, mut few, mut hundreds, mut thousands) = (0, 0, 0, 0);
+        let (mut empty, mut few, mut hundreds, mut thousands) = (0usize, 0usize, 0usize, 0usize);
         let mut below: usize = 0;
         for bound in &self.bounds {
             let many = self.plain.rank(*bound).saturating_sub(below);
             below = below.saturating_add(many);
             match many {
-                0 => empty += 1,
-                1..=31 => few += 1,
-                100..=499 => hundreds += 1,
-                4200.. => thousands += 1,
+                0 => empty = empty.saturating_add(1),
+                1..=31 => few = few.saturating_add(1),
+                100..=499 => hundreds = hundreds.saturating_add(1),
+                4200.. => thousands = thousands.saturating_add(1),
                 _ => {}
             }
         }
