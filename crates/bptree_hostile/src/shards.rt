@@ -1,5 +1,5 @@
-//! A map over shards beside a plain list, by calls in no order: over shards of few pairs, of hundreds
-//! and of thousands, over some with none, and over one that no key comes to.
+//! A map over shards beside a plain list, by calls in no order. At first two shards have few pairs,
+//! one has hundreds, one has thousands, and others have none. To one of these no key ever comes.
 
 use crate::dice::{Dice, Sample};
 use crate::drawing::numbers;
@@ -14,18 +14,18 @@ use sweep_bptree::tree::count::Count;
 
 type Whole<K> = Shards<BPlusTreeMap<K, u64, Count>>;
 
-// What a shard is at first. Its leaves have at most 64 pairs, and at least 16 where there are others.
+// What a shard is at first. A leaf has at most 64 pairs, and at least 16 where there are others.
 #[derive(Clone, Copy)]
 enum Size {
     // No pair, since both its bounds are the same.
     Empty,
     // At most 31 pairs: fewer than two leaves have, so the height is 0.
     Few,
-    // From 100 to 499 pairs: more than one leaf has, and fewer than 34 have, which a root of height 2
-    // is above. So the height is 1.
+    // From 100 to 499 pairs: more than one leaf has, and fewer than 34 leaves have. A root of
+    // height 2 is above at least as many, so the height is 1.
     Hundreds,
-    // At least 4200 pairs: more than 65 leaves have, which a root of height 1 is above at most. So the
-    // height is at least 2.
+    // At least 4200 pairs: more than 65 leaves have. A root of height 1 is above at most as many,
+    // so the height is at least 2.
     Thousands,
     // No pair ever, since its end is below its start.
     Unreached,

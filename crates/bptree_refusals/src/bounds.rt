@@ -15,8 +15,8 @@ use sweep_bptree::tree::Cursor;
 #[derive(Drop)]
 pub struct Bounded<K: Sample, A: Asked<K>>(BPlusTreeMap<K, u64, A>);
 
-// The numbers whose bounds are asked for, of so many pairs: the first key, the next number, the 64th
-// key, which is the last of a full leaf, and the next number, the last key, and the number behind it.
+// The numbers whose bounds are asked for, of so many pairs: those of the first key, of the 64th,
+// which is the last of a full leaf, and of the last one, each with the number behind it.
 fn asked(turn: u64, many: u64) -> u64 {
     let last = many.saturating_sub(1).saturating_mul(2);
     match turn {
