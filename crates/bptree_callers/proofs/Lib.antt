@@ -1,5 +1,6 @@
 pub mod CloneSizes
 pub mod EntryLemmas
+pub mod ExtendLemmas
 pub mod GatherLemmas
 pub mod PartLemmas
 pub mod Passing

@@ -12,6 +12,7 @@ mod holds;
 mod plain;
 mod rounds;
 mod rows;
+mod shards;
 mod whole;
 
 use crate::rounds::Counted;
@@ -33,6 +34,8 @@ fn name_of(letter: u8) -> &'static str {
         b'w' | b'W' => "a map of strings",
         b'k' | b'K' => "a set of numbers",
         b'l' | b'L' => "a set of strings",
+        b'h' | b'H' => "shards of numbers",
+        b'r' | b'R' => "shards of strings",
         _ => "nothing",
     }
 }
@@ -43,6 +46,8 @@ fn carry_out(alloc: Global, letter: u8, seed: u64) -> Result<bool, AllocError> {
         b'a' | b'b' | b'c' | b'd' => rows::known_pairs::<Counted<u64>>(alloc, letter),
         b't' | b'T' | b'm' | b'M' | b'k' | b'K' => rounds::no_order::<u64>(alloc, letter, seed),
         b's' | b'S' | b'w' | b'W' | b'l' | b'L' => rounds::no_order::<String>(alloc, letter, seed),
+        b'h' | b'H' => shards::no_order::<u64>(alloc, letter, seed),
+        b'r' | b'R' => shards::no_order::<String>(alloc, letter, seed),
         _ => Ok(false),
     }
 }

@@ -41,8 +41,8 @@ impl Plain {
         self.held.clear();
     }
 
-    // How many keys are smaller.
-    fn rank(&self, key: u64) -> usize {
+    /// How many keys are smaller.
+    pub fn rank(&self, key: u64) -> usize {
         let mut low: usize = 0;
         let mut high = self.pairs.len();
         for _ in 0..64 {
@@ -69,8 +69,8 @@ impl Plain {
         Some(key)
     }
 
-    // The last pair.
-    fn last(&self) -> Option<(u64, u64)> {
+    /// The last pair.
+    pub fn last(&self) -> Option<(u64, u64)> {
         self.pairs.last().copied()
     }
 
@@ -84,7 +84,8 @@ impl Plain {
         }
     }
 
-    fn get(&self, key: u64) -> Option<u64> {
+    /// The value at a key.
+    pub fn get(&self, key: u64) -> Option<u64> {
         let (_, value) = self.pair_at(self.find(key).ok()?)?;
         Some(value)
     }
@@ -100,7 +101,8 @@ impl Plain {
         self.set_at(self.find(key).ok()?, value)
     }
 
-    fn put(&mut self, key: u64, value: u64) -> Result<Option<u64>, AllocError> {
+    /// Writes the value at a key, and answers what was there.
+    pub fn put(&mut self, key: u64, value: u64) -> Result<Option<u64>, AllocError> {
         match self.find(key) {
             Ok(place) => Ok(self.set_at(place, value)),
             Err(place) => {
@@ -119,7 +121,8 @@ impl Plain {
         }
     }
 
-    fn take(&mut self, key: u64) -> Option<u64> {
+    /// The value at a key leaves, and is answered.
+    pub fn take(&mut self, key: u64) -> Option<u64> {
         let (_, value) = self.take_at(self.find(key).ok()?)?;
         Some(value)
     }
@@ -139,8 +142,8 @@ impl Plain {
         }
     }
 
-    // The place beside a key, behind all where there is none.
-    fn beside(&self, key: u64, end: End) -> usize {
+    /// The place beside a key, behind all where there is none.
+    pub fn beside(&self, key: u64, end: End) -> usize {
         match end {
             End::Front => match self.find(key) {
                 Ok(place) => place.saturating_add(1),

@@ -11,8 +11,8 @@ use sweep_bptree::{BPlusTreeMap, BPlusTreeSet, NodeStoreVec};
 /// The number of calls of a round.
 pub const CALLS: u64 = 20_000;
 
-// The number of commands of a turn.
-const RUN: u64 = 400;
+/// The number of commands of a turn.
+pub const RUN: u64 = 400;
 
 // More pairs are put than are taken in six turns of ten, and fewer in the others.
 fn turns<H: Holds>(

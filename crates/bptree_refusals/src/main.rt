@@ -4,6 +4,7 @@
 //! refused.
 #![tactic(auto)]
 
+mod bounds;
 mod collections;
 mod commands;
 mod digest;
@@ -21,6 +22,7 @@ mod summed;
 mod trees;
 mod trial;
 
+use crate::bounds::Bounded;
 use crate::commands::{Asked, Commanded};
 use crate::dropped::{Dropped, LoadedTree, Tallied};
 use crate::groups::Grouped;
@@ -44,6 +46,7 @@ type Pair = (String, u64);
 fn on_trees<K: Sample, A: Asked<K>>(trial: &mut Trial, letter: u8, plan: &Plan) {
     match letter {
         b'm' if plan.size > 0 => trial.carry_out::<Reserved<K, A>>(plan),
+        b'o' if plan.size > 4 => trial.carry_out::<Bounded<K, A>>(plan),
         b'o' if plan.size > 1 => trial.carry_out::<Moved<K, A>>(plan),
         b'o' if plan.size > 0 => trial.carry_out::<Placed<K, A>>(plan),
         b'k' => trial.carry_out::<Commanded<NodeStoreVec<K, u64, A>>>(plan),

@@ -151,6 +151,7 @@ impl Plan {
             b'e' => high(turn, self.last_turn(), 3),
             b'k' => own(turn, lists_of(self.many)),
             b'm' => own(turn, 8),
+            b'o' if self.size > 4 => own(turn, 6),
             b'o' if self.size > 1 => own(turn, 7),
             b'o' => own(turn, 24),
             b'u' => own(turn, 6),
@@ -263,7 +264,7 @@ type Row = (
     (u64, Option<u64>, usize, usize),
 );
 
-const LARGER: [Row; 17] = [
+const LARGER: [Row; 20] = [
     (
         (b'b', 1),
         ("numbers, full root, high", "groups, full root, high"),
@@ -330,6 +331,27 @@ const LARGER: [Row; 17] = [
             "groups, many moved between maps",
         ),
         (4161, Some(0), 4165, 4165),
+    ),
+    (
+        (b'o', 5),
+        (
+            "numbers, few bounded, without memory",
+            "groups, few bounded",
+        ),
+        (40, Some(0), 40, 40),
+    ),
+    (
+        (b'o', 6),
+        ("numbers, bounded, without memory", "groups, bounded"),
+        (400, Some(0), 400, 400),
+    ),
+    (
+        (b'o', 7),
+        (
+            "numbers, many bounded, without memory",
+            "groups, many bounded",
+        ),
+        (4161, Some(0), 4161, 4161),
     ),
     (
         (b'u', 1),

@@ -1,12 +1,13 @@
 //! Callers that move many pairs or keys at once, and one that hands a key out.
-ghost use Rattle.std.specs.Prelude.{◌≡◌, ◌∷◌, [], false, IfOk, OnErr, OnOk, None};
-ghost use Rattle.bptree_keys.specs.Contents.{has, put};
+ghost use Rattle.std.specs.Prelude.{◌≡◌, ◌∷◌, ◌++◌, ◌||◌, [], List, false, IfOk, OnErr, OnOk, Some, None};
+ghost use Rattle.bptree_keys.specs.Contents.{has, put, value as value_of};
 ghost use Rattle.bptree_maps.specs.Keys.{holds, key_found, with_key};
 
 use bptree_arguments::argument::Argument;
 use bptree_keys::key::Key;
 use bptree_maps::map::{BPlusTreeMap, MoveError, SplitError};
 use bptree_maps::set::{BPlusTreeSet, ReplaceError};
+use bptree_tree::InsertError;
 use std::alloc::AllocError;
 
 // One pair of another map is put here, and its value stays. Where that is refused, it is still
@@ -67,4 +68,27 @@ fn splits_a_set_at_a_key<K: Key>(
     ensures there { IfOk result (λ there. holds K.cmp there k.now ≡ holds K.cmp set.old k.now) }
 {
     set.split_off(k)
+}
+
+// Of many pairs that come the last one of each key stays, and other keys have the values they had.
+fn puts_the_last_of_each_key<K: Key, V: Drop, A: Argument<K>>(
+    map: &mut BPlusTreeMap<K, V, A>,
+    pairs: Vec<(K, V)>,
+) -> Result<(), InsertError<K, V>>
+    ensures last { OnOk result ((before after : List (K × V)) → (pair : K × V) → pairs.items ≡ before ++ pair ∷ after → has K.cmp after pair.0 ≡ false → value_of K.cmp map.new pair.0 ≡ Some pair.1) }
+    ensures others { OnOk result ((k : K) → has K.cmp pairs.items k ≡ false → value_of K.cmp map.new k ≡ value_of K.cmp map.old k) }
+{
+    let _len = map.len();
+    map.extend(pairs)
+}
+
+// After many keys came, a set holds what it held and what came.
+fn holds_what_came<K: Key>(
+    set: &mut BPlusTreeSet<K>,
+    keys: Vec<K>,
+) -> Result<(), InsertError<K, ()>>
+    ensures { OnOk result ((k : K) → holds K.cmp set.new k ≡ holds K.cmp set.old k || holds K.cmp keys.items k) }
+{
+    let _len = set.len();
+    set.extend(keys)
 }

@@ -1,0 +1,11 @@
+use Rattle.std.proofs.Common.{arith}
+use Rattle.std.proofs.lemmas.Iterator.Adapters.{YieldsList-from_vec}
+use Rattle.std.proofs.lemmas.Result.{IfOk-weaker}
+use Rattle.bptree_callers.proofs.ExtendLemmas.{kept_beside, last_of_all}
+use Rattle.bptree_callers.proofs.callers.moves.puts_the_last_of_each_key.Goals as goal
+
+pub returns-clause-last : goal.returns-clause-last
+returns-clause-last g c = IfOk-weaker c.extend.result _ _ (λ _ (it, gives, put). last_of_all g.met.K.Ord.total c.args.pairs.items _ _ (YieldsList-from_vec c.args.pairs.items gives.0 (omega (arith, gives.1))) c.len-len.ensures.ascending put) c.extend.ensures.ok
+
+pub returns-clause-others : goal.returns-clause-others
+returns-clause-others g c = IfOk-weaker c.extend.result _ _ (λ _ (it, gives, put). kept_beside g.met.K.Ord.total c.args.pairs.items _ _ (YieldsList-from_vec c.args.pairs.items gives.0 (omega (arith, gives.1))) c.len-len.ensures.ascending put) c.extend.ensures.ok

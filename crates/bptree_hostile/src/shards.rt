@@ -1,0 +1,376 @@
+//! A map over shards beside a plain list, by calls in no order. At first two shards have few pairs,
+//! one has hundreds, one has thousands, and others have none. To one of these no key ever comes.
+
+use crate::dice::{Dice, Sample};
+use crate::drawing::numbers;
+use crate::plain::Plain;
+use crate::rounds::{CALLS, RUN};
+use bptree_sharded::map_shard::empty_over;
+use bptree_sharded::whole::Shards;
+use std::alloc::{AllocError, Global};
+use sweep_bptree::BPlusTreeMap;
+use sweep_bptree::script::End;
+use sweep_bptree::tree::count::Count;
+
+type Whole<K> = Shards<BPlusTreeMap<K, u64, Count>>;
+
+// What a shard is at first. A leaf has at most 64 pairs, and at least 16 where there are others.
+#[derive(Clone, Copy)]
+enum Size {
+    // No pair, since both its bounds are the same.
+    Empty,
+    // At most 31 pairs: fewer than two leaves have, so the height is 0.
+    Few,
+    // From 100 to 499 pairs: more than one leaf has, and fewer than 34 leaves have. A root of
+    // height 2 is above at least as many, so the height is 1.
+    Hundreds,
+    // At least 4200 pairs: more than 65 leaves have. A root of height 1 is above at most as many,
+    // so the height is at least 2.
+    Thousands,
+    // No pair ever, since its end is below its start.
+    Unreached,
+}
+
+// A prime, and more than there are places for keys.
+const STRIDE: u64 = 7919;
+
+// What is drawn from, where the shards are cut, and what the list holds by now.
+#[derive(Drop)]
+struct Cuts {
+    alloc: Global,
+    dice: Dice,
+    bounds: Vec<u64>,
+    // From the first bound to the last there are so many places for keys.
+    places: u64,
+    // So many numbers has each place, and so many are below the first bound.
+    unit: u64,
+    plain: Plain,
+}
+
+impl Cuts {
+    // Shards of each size stand in a drawn order.
+    fn new(alloc: Global, seed: u64, is_wide: bool) -> Result<Cuts, AllocError> {
+        let mut dice = Dice::new(seed);
+        let mut sizes = Vec::new(alloc);
+        for size in [
+            Size::Few,
+            Size::Empty,
+            Size::Hundreds,
+            Size::Unreached,
+            Size::Thousands,
+            Size::Few,
+        ] {
+            let end = sizes.len().saturating_add(1);
+            let at = dice.below(end as u64) as usize;
+            sizes.insert(at.min(sizes.len()), (size, width(&mut dice, size)))?;
+        }
+        let mut places: u64 = 0;
+        for (_, width) in &sizes {
+            places = places.saturating_add(*width);
+        }
+        let unit = if is_wide {
+            u64::MAX / places.saturating_add(1)
+        } else {
+            2
+        };
+        let mut bounds = Vec::new(alloc);
+        let mut end = unit;
+        bounds.push(end)?;
+        for (size, width) in &sizes {
+            end = end.saturating_add(unit.saturating_mul(*width));
+            bounds.push(match size {
+                Size::Unreached => end / 2,
+                _ => end,
+            })?;
+        }
+        Ok(Cuts {
+            alloc,
+            dice,
+            bounds,
+            places,
+            unit,
+            plain: Plain::new(alloc),
+        })
+    }
+
+    fn below(&mut self, end: u64) -> u64 {
+        self.dice.number() % end.max(1)
+    }
+
+    // A place of the list, at most three behind the last one.
+    fn place(&mut self) -> usize {
+        let end = self.plain.len().saturating_add(3);
+        self.below(end as u64) as usize
+    }
+
+    // The bound of a number, or the greatest number where there is none.
+    fn bound(&self, number: usize) -> u64 {
+        self.bounds.get(number).copied().unwrap_or(u64::MAX)
+    }
+
+    // A bound, and the one behind it.
+    fn bounds_of_one(&mut self) -> (u64, u64) {
+        let many = self.bounds.len() as u64;
+        let shard = self.below(many) as usize;
+        (self.bound(shard), self.bound(shard.saturating_add(1)))
+    }
+
+    // A key at a place for keys.
+    fn key_at(&mut self, place: u64) -> u64 {
+        let start = self.unit.saturating_mul(place.saturating_add(1));
+        start.saturating_add(self.below(self.unit))
+    }
+
+    // A key: one that is there, a bound or the number before it, one between two bounds, or any.
+    fn key(&mut self) -> u64 {
+        let (low, high) = self.bounds_of_one();
+        match self.below(4) {
+            0 => {
+                let place = self.place();
+                self.plain.key_at(place).unwrap_or(high)
+            }
+            1 => low.saturating_sub(self.below(2)),
+            2 => low.saturating_add(self.below(high.saturating_sub(low))),
+            _ => {
+                let place = self.below(self.places);
+                self.key_at(place)
+            }
+        }
+    }
+
+    // Whether there is a shard of each size, by how many keys are below its bounds.
+    fn has_sizes(&self) -> bool {
+        let (mut empty, mut few, mut hundreds, mut thousands) = (0usize, 0usize, 0usize, 0usize);
+        let mut below: usize = 0;
+        for bound in &self.bounds {
+            let many = self.plain.rank(*bound).saturating_sub(below);
+            below = below.saturating_add(many);
+            match many {
+                0 => empty = empty.saturating_add(1),
+                1..=31 => few = few.saturating_add(1),
+                100..=499 => hundreds = hundreds.saturating_add(1),
+                4200.. => thousands = thousands.saturating_add(1),
+                _ => {}
+            }
+        }
+        // With the one before the first bound there are three with no pair.
+        empty == 3 && few == 2 && hundreds == 1 && thousands == 1
+    }
+}
+
+// How many places for keys a shard has.
+fn width(dice: &mut Dice, size: Size) -> u64 {
+    match size {
+        Size::Empty | Size::Unreached => 0,
+        Size::Few => dice.below(31).saturating_add(1),
+        Size::Hundreds => dice.below(400).saturating_add(100),
+        Size::Thousands => dice.below(400).saturating_add(4200),
+    }
+}
+
+// A map with no pairs that is cut at the bounds.
+fn cut<K: Sample>(alloc: Global, bounds: &[u64]) -> Result<Whole<K>, AllocError> {
+    let mut keys = Vec::new(alloc);
+    for bound in bounds {
+        keys.push(K::sample(alloc, *bound)?)?;
+    }
+    empty_over(alloc, keys)
+}
+
+// A value is put at a key.
+fn puts<K: Sample>(
+    whole: &mut Whole<K>,
+    cuts: &mut Cuts,
+    number: u64,
+    value: u64,
+) -> Result<bool, AllocError> {
+    let key = K::sample(cuts.alloc, number)?;
+    let wanted = cuts.plain.put(number, value)?;
+    match whole.put(key, value) {
+        Ok(old) => Ok(old == wanted),
+        Err(_) => Err(AllocError),
+    }
+}
+
+// The pair of a key leaves.
+fn takes<K: Sample>(
+    whole: &mut Whole<K>,
+    cuts: &mut Cuts,
+    number: u64,
+) -> Result<bool, AllocError> {
+    let key = K::sample(cuts.alloc, number)?;
+    Ok(whole.del(&key)? == cuts.plain.take(number))
+}
+
+// A key at each place for keys is put, in an order of strides.
+fn fills<K: Sample>(whole: &mut Whole<K>, cuts: &mut Cuts) -> Result<bool, AllocError> {
+    let mut well = true;
+    for turn in 0..cuts.places {
+        let place = turn.wrapping_mul(STRIDE) % cuts.places.max(1);
+        let (number, value) = (cuts.key_at(place), cuts.dice.number());
+        well = puts(whole, cuts, number, value)? && well;
+    }
+    Ok(cuts.has_sizes() && well)
+}
+
+// A change of the pairs: of ten, so many put one.
+fn changes<K: Sample>(
+    whole: &mut Whole<K>,
+    cuts: &mut Cuts,
+    puts_of_ten: u64,
+) -> Result<bool, AllocError> {
+    let (number, value) = (cuts.key(), cuts.dice.number());
+    if cuts.below(10) < puts_of_ten {
+        puts(whole, cuts, number, value)
+    } else {
+        takes(whole, cuts, number)
+    }
+}
+
+// A look at the pairs: at an end, at a place, or at a key and beside it.
+fn looks<K: Sample>(whole: &Whole<K>, cuts: &mut Cuts) -> Result<bool, AllocError> {
+    let (number, place) = (cuts.key(), cuts.place());
+    let key = K::sample(cuts.alloc, number)?;
+    let kind = cuts.below(8);
+    let plain = &cuts.plain;
+    Ok(match kind {
+        0 => whole.len() == plain.len(),
+        1 => numbers(whole.first()) == plain.pair_at(0),
+        2 => numbers(whole.last()) == plain.last(),
+        3 => whole.get(&key).copied() == plain.get(number),
+        4 => whole.rank(&key) == plain.rank(number),
+        5 => numbers(whole.at(place)) == plain.pair_at(place),
+        6 => numbers(whole.next(&key)) == plain.pair_at(plain.beside(number, End::Front)),
+        _ => numbers(whole.prev(&key)) == plain.pair_at(plain.beside(number, End::Back)),
+    })
+}
+
+// The pair beside another one, where there is one.
+fn next_of<'a, K: Sample>(
+    whole: &'a Whole<K>,
+    pair: Option<(&'a K, &'a u64)>,
+) -> Option<(&'a K, &'a u64)> {
+    let (key, _) = pair?;
+    whole.next(key)
+}
+
+fn prev_of<'a, K: Sample>(
+    whole: &'a Whole<K>,
+    pair: Option<(&'a K, &'a u64)>,
+) -> Option<(&'a K, &'a u64)> {
+    let (key, _) = pair?;
+    whole.prev(key)
+}
+
+// So many steps from a key on, of which the first one comes to a place.
+fn steps_on<K: Sample>(whole: &Whole<K>, plain: &Plain, key: &K, place: usize, many: u64) -> bool {
+    let mut found = whole.next(key);
+    let mut place = place;
+    let mut well = true;
+    for _ in 0..many {
+        well = numbers(found) == plain.pair_at(place) && well;
+        found = next_of(whole, found);
+        place = place.saturating_add(1);
+    }
+    well
+}
+
+// The same back from a key. There is no pair before the first place, nor at the greatest ones.
+fn steps_back<K: Sample>(
+    whole: &Whole<K>,
+    plain: &Plain,
+    key: &K,
+    place: usize,
+    many: u64,
+) -> bool {
+    let mut found = whole.prev(key);
+    let mut place = place;
+    let mut well = true;
+    for _ in 0..many {
+        well = numbers(found) == plain.pair_at(place) && well;
+        found = prev_of(whole, found);
+        place = place.wrapping_sub(1);
+    }
+    well
+}
+
+// Some steps from a key on, or back from it.
+fn steps<K: Sample>(whole: &Whole<K>, cuts: &mut Cuts) -> Result<bool, AllocError> {
+    let number = cuts.key();
+    let key = K::sample(cuts.alloc, number)?;
+    let (many, is_back) = (cuts.below(8), cuts.below(2) == 0);
+    let plain = &cuts.plain;
+    Ok(if is_back {
+        steps_back(whole, plain, &key, plain.beside(number, End::Back), many)
+    } else {
+        steps_on(whole, plain, &key, plain.beside(number, End::Front), many)
+    })
+}
+
+// Whether the pairs are those of the list: by their places, and from both ends step by step.
+fn shows<K: Sample>(whole: &Whole<K>, plain: &Plain) -> bool {
+    let mut well = whole.len() == plain.len();
+    let (mut front, mut back) = (whole.first(), whole.last());
+    let mut left = plain.len();
+    for place in 0..plain.len() {
+        left = left.saturating_sub(1);
+        well = numbers(whole.at(place)) == plain.pair_at(place) && well;
+        well = numbers(front) == plain.pair_at(place) && well;
+        well = numbers(back) == plain.pair_at(left) && well;
+        front = next_of(whole, front);
+        back = prev_of(whole, back);
+    }
+    well && front.is_none() && back.is_none() && whole.at(plain.len()).is_none()
+}
+
+// The pairs between two bounds leave, and come back.
+fn leave_and_return<K: Sample>(whole: &mut Whole<K>, cuts: &mut Cuts) -> Result<bool, AllocError> {
+    let (low, high) = cuts.bounds_of_one();
+    let (from, to) = (cuts.plain.rank(low), cuts.plain.rank(high));
+    let mut gone = Vec::new(cuts.alloc);
+    let mut well = true;
+    for _ in from..to {
+        if let Some(pair) = cuts.plain.pair_at(from) {
+            well = takes(whole, cuts, pair.0)? && well;
+            gone.push(pair)?;
+        }
+    }
+    well = shows(whole, &cuts.plain) && well;
+    for pair in &gone {
+        let (number, value) = *pair;
+        well = puts(whole, cuts, number, value)? && well;
+    }
+    Ok(well)
+}
+
+// More pairs are put than leave in six turns of ten, and fewer in the others. The last of ten turns
+// ends with a walk over all.
+fn turns<K: Sample>(whole: &mut Whole<K>, cuts: &mut Cuts, turn: u64) -> Result<bool, AllocError> {
+    let puts_of_ten = if turn % 10 < 6 { 7 } else { 3 };
+    let mut well = true;
+    for _ in 0..RUN {
+        let kind = cuts.below(10);
+        well = match kind {
+            0..=4 => changes(whole, cuts, puts_of_ten)? && well,
+            5..=8 => looks(whole, cuts)? && well,
+            _ => steps(whole, cuts)? && well,
+        };
+    }
+    if turn % 10 == 9 {
+        well = leave_and_return(whole, cuts)? && shows(whole, &cuts.plain) && well;
+    }
+    Ok(well)
+}
+
+/// What a letter names of the calls in no order of a map over shards, with keys of one type: a
+/// capital letter stands for keys of all sizes.
+pub fn no_order<K: Sample>(alloc: Global, letter: u8, seed: u64) -> Result<bool, AllocError> {
+    let mut cuts = Cuts::new(alloc, seed, letter.is_ascii_uppercase())?;
+    let mut whole: Whole<K> = cut(alloc, &cuts.bounds)?;
+    let mut well = shows(&whole, &cuts.plain);
+    well = fills(&mut whole, &mut cuts)? && shows(&whole, &cuts.plain) && well;
+    for turn in 0..CALLS / RUN {
+        well = turns(&mut whole, &mut cuts, turn)? && well;
+    }
+    Ok(shows(&whole, &cuts.plain) && well)
+}
