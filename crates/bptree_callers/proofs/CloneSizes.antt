@@ -1,5 +1,5 @@
 -- How many pairs a clone of a leaf has.
-use Rattle.std.proofs.Common.{◌≡◌, length, ap, ◌∙◌}
+use Rattle.std.proofs.Common.{◌≡◌, List, length, ap, ◌∙◌}
 use Rattle.bptree_nodes.specs.Clones.{IsLeafClone}
 use Rattle.bptree_nodes.specs.Leaf.{Leaf}
 use Rattle.bptree_nodes.specs.Slot.{Slot, Free, Held, Present}

@@ -1,5 +1,5 @@
 -- What a visitor that has counted nothing answers of a group.
-use Rattle.std.proofs.Common.{◌≡◌, ℕ, ◌+◌, ◌-◌, ◌^◌, ◌<◌, min, Option, Some, None, ap, ◌∙◌, arith}
+use Rattle.std.proofs.Common.{◌≡◌, ℕ, ◌+◌, ◌-◌, ◌^◌, ◌<◌, ◌≤◌, min, Option, Some, None, refl, ap, ◌∙◌, arith}
 use Rattle.bptree_arguments.specs.Visits.{VisitAnswer, answered, invalid_child}
 
 abbrev told : {R : Type 0} → Option R → VisitAnswer R → Option R

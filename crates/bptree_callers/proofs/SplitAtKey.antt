@@ -1,5 +1,5 @@
 -- A key in the two parts of a list that is split at it.
-use Rattle.std.proofs.Common.{◌≡◌, Some, None, List, [], ◌∷◌, false, refl}
+use Rattle.std.proofs.Common.{◌≡◌, Some, None, List, [], ◌∷◌, true, false, refl, ap}
 use Rattle.std.specs.declared.cmp.Ordering.{Ordering}
 use Rattle.bptree_keys.specs.Contents.{has}
 use Rattle.bptree_keys.specs.Ranges.{between}

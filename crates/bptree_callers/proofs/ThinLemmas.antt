@@ -1,5 +1,5 @@
 -- What is left outside two keys.
-use Rattle.std.proofs.Common.{◌≡◌, Option, Bool, true, false, not, ◌&&◌, cond, filter, Some, None, List, [], ◌∷◌, ◌++◌, refl}
+use Rattle.std.proofs.Common.{◌≡◌, Option, Bool, true, false, not, ◌&&◌, cond, filter, Some, None, List, [], ◌∷◌, ◌++◌, refl, ap}
 use Rattle.std.specs.declared.cmp.Ordering.{Ordering}
 use Rattle.std.specs.Cmp.{IsTotalOrder}
 use Rattle.std.specs.Map.Iter.{TakesFirst}

@@ -1,5 +1,5 @@
 -- A pair with a key that is in the whole tree, or is not.
-use Rattle.std.proofs.Common.{◌≡◌, ℕ, true, None, List, sym, ap, ◌∙◌, Some, is_some, slice_get, Option, suc, ◌+◌, subst, arith}
+use Rattle.std.proofs.Common.{◌≡◌, ℕ, true, false, None, List, sym, ap, ◌∙◌, Some, is_some, slice_get, Option, suc, ◌+◌, subst, arith}
 use Rattle.std.specs.declared.cmp.Ordering.{Ordering}
 use Rattle.std.specs.Cmp.{IsTotalOrder}
 use Rattle.std.specs.Map.{values_of}
@@ -16,7 +16,7 @@ use Rattle.bptree_keys.proofs.Equal.{has_where_value}
 use Rattle.bptree_nodes.proofs.LeafContents.{value_at_place}
 use Rattle.bptree_shape.specs.Leaves.{IsLeafFor}
 use Rattle.bptree_insertion.specs.Puts.{IsReplaced, IsPlaced, IsPlacedUpTo, risen}
-use Rattle.bptree_shape.specs.Shape.{pairs_at, IsWellShaped}
+use Rattle.bptree_shape.specs.Shape.{pairs_at, root_least, IsWellShaped}
 use Rattle.bptree_ascent.proofs.Lent.{set_shape, set_keys, lent_pairs}
 use Rattle.bptree_shape.proofs.LeafFor.{whole_ascends, node_ascends, value_there}
 

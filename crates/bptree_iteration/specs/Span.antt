@@ -1,5 +1,5 @@
 -- Leaves that follow one another by their links, and the pairs between two places in them.
-use Rattle.std.specs.Prelude.{◌≡◌, ◌==◌, ℕ, zero, suc, ◌+◌, ◌<◌, ◌≤◌, ◌≢◌, ⊤, cond, IsSome, List, [], ◌∷◌, ◌++◌, length, take, drop, Option, Some, None}
+use Rattle.std.specs.Prelude.{◌≡◌, ◌==◌, ℕ, zero, suc, ◌+◌, ◌-◌, ◌<◌, ◌≤◌, ◌≢◌, ⊤, cond, IsSome, List, [], ◌∷◌, ◌++◌, length, slice_get, take, drop, Option, Some, None}
 use Rattle.std.specs.Option.{option_map_or}
 use Rattle.bptree_iteration.specs.declared.part.Extent.{Extent}
 use Rattle.bptree_iteration.specs.declared.part.Extent.TheVariants.{Exact, Open, Cut}

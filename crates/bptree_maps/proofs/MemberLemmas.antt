@@ -1,5 +1,5 @@
 -- Which keys of one set another holds, and how many.
-use Rattle.std.proofs.Common.{◌≡◌, ◌∙◌, ◌+◌, ◌≤◌, ◌&&◌, ◌||◌, arith, List, [], ◌∷◌, Bool, true, false, not, cond, filter, length, Option, Some, None, is_some, refl, sym, ap}
+use Rattle.std.proofs.Common.{◌≡◌, ◌∙◌, ◌+◌, ◌≤◌, ◌&&◌, ◌||◌, ◌⊎◌, inl, inr, arith, List, [], ◌∷◌, Bool, true, false, not, cond, filter, length, Option, Some, None, is_some, refl, sym, ap}
 use mathlib.Core.Bool.{true≢false}
 use Rattle.std.proofs.lemmas.Cmp.{alike_right, tied_itself}
 use Rattle.std.proofs.lemmas.List.Filters.{length-filter_both}
@@ -11,9 +11,9 @@ use Rattle.std.specs.Cmp.{IsTotalOrder}
 use Rattle.std.specs.List.{AllByRecursion}
 use Rattle.std.specs.List.Sorted.{IsStrictlySortedBy}
 use Rattle.std.specs.Map.Iter.{TakesFirst}
-use Rattle.std.specs.Ordering.{is_eq}
+use Rattle.std.specs.Ordering.{is_eq, is_lt}
 use Rattle.bptree_keys.proofs.Ascending.{greater_turned, less_turned}
-use Rattle.bptree_maps.specs.Keys.{holds, key_found, keys_within, keys_without, without_key, IsDisjoint, IsSubset}
+use Rattle.bptree_maps.specs.Keys.{holds, key_found, keys_between, keys_within, keys_without, without_key, IsDisjoint, IsSubset}
 use Rattle.bptree_maps.proofs.KeyLemmas.{without_ascending, without_holds, without_length}
 
 -- a step of a walk over the keys of a list that another holds

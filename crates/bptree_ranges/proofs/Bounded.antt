@@ -1,5 +1,5 @@
 -- Where the pairs between two bounds begin and end.
-use Rattle.std.proofs.Common.{◌≡◌, ℕ, suc, ◌+◌, ◌-◌, ◌<◌, ◌≤◌, Bool, true, false, not, ◌&&◌, List, [], ◌∷◌, ◌++◌, length, filter, take, drop, refl, sym, ap, ◌∙◌, arith, Result, Ok, Err, get_or, length-append}
+use Rattle.std.proofs.Common.{◌≡◌, ℕ, suc, ◌+◌, ◌-◌, ◌<◌, ◌≤◌, Bool, true, false, not, ◌&&◌, List, [], ◌∷◌, ◌++◌, length, filter, take, drop, refl, sym, ap, subst, ◌∙◌, arith, Result, Ok, Err, Some, slice_get, IsSomeAnd, get_or, length-append}
 use mathlib.Core.Bool.{true≢false}
 use Rattle.std.specs.declared.cmp.Ordering.{Ordering}
 use Rattle.std.specs.declared.cmp.Ordering.TheVariants.{Less, Equal, Greater}
@@ -12,7 +12,7 @@ use Rattle.std.proofs.lemmas.List.{append-nil, length-take-le}
 use Rattle.bptree_arguments.specs.GroupAnswers.{is_before}
 use Rattle.bptree_arguments.proofs.GroupOrderLemmas.{before_below, less_from}
 use Rattle.bptree_keys.specs.Contents.{IsAscending}
-use Rattle.bptree_keys.specs.Places.{IsGap, IsHit, IsPlaceOf}
+use Rattle.bptree_keys.specs.Places.{AllAnswer, IsGap, IsHit, IsPlaceOf}
 use Rattle.bptree_keys.specs.Ranges.{part}
 use Rattle.bptree_keys.specs.declared.node_id.LeafNodeId.{LeafNodeId}
 use Rattle.bptree_keys.specs.declared.node_id.NodeId.{NodeId}
@@ -23,9 +23,9 @@ use Rattle.bptree_nodes.specs.Inner.{Inner}
 use Rattle.bptree_nodes.specs.Leaf.{Leaf}
 use Rattle.bptree_nodes.specs.Slot.{Slots, Present}
 use Rattle.bptree_shape.specs.Leaves.{pairs_of, IsLeafFor}
-use Rattle.bptree_shape.specs.Shape.{pairs_at, IsWellShaped}
+use Rattle.bptree_shape.specs.Shape.{leaf_pairs, pairs_at, IsWellShaped}
 use Rattle.bptree_shape.proofs.Between.{cut, none_pass, each_of, all_pass}
-use Rattle.bptree_shape.proofs.Ordered.{by_cases, less_then_up}
+use Rattle.bptree_shape.proofs.Ordered.{by_cases, less_then_up, up_then_up, not_less_back}
 use Rattle.bptree_shape.proofs.Spot.{leaf_ascends, parts_of_read}
 use Rattle.bptree_descents.proofs.Beside.{found_at}
 use Rattle.bptree_ranges.specs.Bounds.{between_bounds, is_before_start, is_upto_end, may_hold}

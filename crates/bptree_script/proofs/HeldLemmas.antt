@@ -1,15 +1,15 @@
 -- Steps of commands on the cursors that are held.
-use Rattle.std.proofs.Common.{◌≡◌, ◌∙◌, ◌-◌, ℕ, zero, suc, List, [], ◌∷◌, map, refl, ap, Option, Some, None, slice_get, slice_set}
+use Rattle.std.proofs.Common.{◌≡◌, ◌∙◌, ◌-◌, ◌<◌, ℕ, zero, suc, List, [], ◌∷◌, length, map, refl, sym, ap, subst, arith, Option, Some, None, slice_get, slice_set}
 use Rattle.std.specs.Prelude.{option_map}
 use Rattle.std.specs.Cmp.{IsTotalOrder}
 use Rattle.std.proofs.lemmas.Cmp.{tied_back}
 use Rattle.std.specs.declared.cmp.Ordering.{Ordering}
 use Rattle.std.specs.declared.cmp.Ordering.TheVariants.{Equal}
-use Rattle.bptree_keys.specs.Contents.{value, next, previous}
+use Rattle.bptree_keys.specs.Contents.{has, value, next, previous}
 use Rattle.bptree_tree.specs.Cursor.{cursor_key, StandsAt}
 use Rattle.bptree_tree.specs.declared.cursor.Cursor as cursor
 use Rattle.bptree_script.specs.Steps.{IsCopyOf, EndStep, JoinsOrStays, MovesTo, NeighbourStep, ForHeld, Step}
-use Rattle.bptree_script.specs.declared.commands.Command.TheVariants.{Cursor, Next, Prev}
+use Rattle.bptree_script.specs.declared.commands.Command.TheVariants.{Cursor, Next, Prev, Exists, Value as ValueOf}
 use Rattle.bptree_script.specs.declared.commands.Reply.{Reply}
 use Rattle.bptree_script.specs.declared.commands.Reply.TheVariants.{Value, Pair, Number, Done, Rank, Held, Walked, NoCursor, OutOfMemory, Full}
 

@@ -1,4 +1,4 @@
-use Rattle.std.proofs.Common.{ℕ, ◌+◌, ◌++◌, length, map, drop, reverse, [], ◌∷◌, sym, ap, ◌∙◌, arith}
+use Rattle.std.proofs.Common.{ℕ, ◌≡◌, ◌≤◌, ◌+◌, ◌++◌, length, map, take, drop, reverse, [], ◌∷◌, sym, ap, ◌∙◌, arith, slice_set}
 use Rattle.std.proofs.lemmas.List.{length-set, length-reverse, reverse-append}
 use Rattle.bptree_c.specs.Pairs.{as_pair}
 use Rattle.bptree_c.proofs.CopyLemmas.{copied_more, rest_by, all_copied}

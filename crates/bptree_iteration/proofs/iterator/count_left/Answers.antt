@@ -1,4 +1,4 @@
-use Rattle.std.proofs.Common.{◌∙◌, ap, subst, length}
+use Rattle.std.proofs.Common.{◌≡◌, ◌∙◌, sym, ap, subst, length, arith}
 use Rattle.bptree_iteration.proofs.SpanLemmas.{exact_length}
 use Rattle.bptree_iteration.specs.Span.{leaves_of, IsBetween}
 use Rattle.bptree_iteration.proofs.iterator.count_left.Goals as goal

@@ -1,4 +1,4 @@
-use Rattle.std.proofs.Common.{◌≡◌, ◌+◌, ◌-◌, ◌≤◌, Some, IsSome, sym, ap, refl, ◌∙◌, subst, arith}
+use Rattle.std.proofs.Common.{◌≡◌, ◌≢◌, ◌+◌, ◌-◌, ◌<◌, ◌≤◌, Some, IsSome, sym, ap, refl, ◌∙◌, subst, arith}
 use Rattle.bptree_keys.specs.declared.node_id.LeafNodeId.{LeafNodeId}
 use Rattle.bptree_iteration.specs.Span.{leaves_of}
 use Rattle.bptree_iteration.proofs.EndLemmas.{walked_none, next_of_walk, ends_here, ends_behind, last_of_walk, place_of_walk}

@@ -1,4 +1,4 @@
-use Rattle.std.proofs.Common.{◌≡◌, ◌∙◌, refl, ap, [], ◌∷◌, ◌++◌, true, false}
+use Rattle.std.proofs.Common.{◌≡◌, ◌∙◌, refl, ap, List, [], ◌∷◌, ◌++◌, true, false}
 use Rattle.bptree_keys.specs.Contents.{IsAscending}
 use Rattle.bptree_maps.specs.Retaining.{CallsAtPair, IsRetained}
 use Rattle.bptree_maps.proofs.RetainLemmas.{all_asked, ascending_without, none_asked, one_leaves, one_stays, put_behind, retains_none, retains_one, still_ascending}

@@ -1,4 +1,4 @@
-use Rattle.std.proofs.Common.{◌≡◌, ◌-◌, ◌∙◌, arith, ap, min, subst, sym}
+use Rattle.std.proofs.Common.{◌≡◌, ◌+◌, ◌-◌, ◌≤◌, ◌∙◌, arith, ap, length, min, subst, sym}
 use Rattle.bptree_keys.specs.Ranges.{part}
 use Rattle.bptree_ranges.specs.Bounds.{bound_copied, is_before_start, is_upto_end}
 use Rattle.bptree_ranges.specs.Ranges.{place_on, IsPart}

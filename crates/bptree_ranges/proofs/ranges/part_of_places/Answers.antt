@@ -1,4 +1,4 @@
-use Rattle.std.proofs.Common.{◌-◌, ap, ap₂, min, subst, sym}
+use Rattle.std.proofs.Common.{◌≡◌, ◌-◌, ap, ap₂, arith, min, subst, sym}
 use Rattle.bptree_iteration.specs.Span.{Tells}
 use Rattle.bptree_keys.specs.Ranges.{part}
 use Rattle.bptree_ranges.specs.Ranges.{place_on}

@@ -1,8 +1,9 @@
-use Rattle.std.proofs.Common.{◌≡◌, ◌∙◌, refl, ap, [], ◌∷◌, ◌++◌, true, false}
+use Rattle.std.proofs.Common.{◌≡◌, ◌∙◌, refl, ap, List, [], ◌∷◌, ◌++◌, true, false}
 use Rattle.std.specs.Fn.{CalledAt}
 use Rattle.std.specs.List.Retain.{IsFiltered}
 use Rattle.std.specs.List.Sorted.{IsStrictlySortedBy}
 use Rattle.std.specs.Map.{keys_of}
+use Rattle.bptree_maps.specs.Keys.{with_key}
 use Rattle.bptree_maps.proofs.RetainLemmas.{all_asked, filters_none, filters_nothing, filters_one, key_behind, keys_still_sorted, keys_without, none_asked, one_leaves, one_stays}
 use denote.Param.Always.{mut_next}
 use Rattle.bptree_maps.proofs.set.BPlusTreeSet.retain.Goals as goal
