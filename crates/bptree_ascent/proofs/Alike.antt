@@ -1,5 +1,5 @@
 -- Leaves that differ in values alone: the shape of a tree stays, and so do its keys.
-use Rattle.std.proofs.Common.{◌≡◌, ℕ, zero, suc, ◌+◌, List, [], ◌∷◌, length, map, refl, sym, ap, ◌∙◌, arith, Option, Some, None, cond, eqb}
+use Rattle.std.proofs.Common.{◌≡◌, ℕ, zero, suc, ◌+◌, List, [], ◌∷◌, length, map, refl, sym, ap, subst, ◌∙◌, arith, Option, Some, None, cond, eqb}
 use Rattle.std.specs.declared.cmp.Ordering.{Ordering}
 use Rattle.std.specs.List.{AllByRecursion}
 use Rattle.std.specs.Map.{keys_of}
@@ -111,3 +111,41 @@ module _ {K V A : Type 0} (cmp : K → K → Ordering) (is_summary : A → List 
     summed = summed_same h root w.summed;
     linked = rw (leaves_same h root) (linked_same None (leaves_at was h root) None w.linked);
   }
+
+-- the leaves of two stores are alike, and the inner nodes are the same
+pub record AllAlike {K V A : Type 0} (old new : Slots (Inner K A) (Leaf K V)) : Type 0 where
+  pub leaf : (n : ℕ) → AreAlike (old.leaf n) (new.leaf n)
+  pub inner : new.inner ≡ old.inner
+
+module _ {K V A : Type 0} where
+  pub alike_itself : (slots : Slots (Inner K A) (Leaf K V)) → AllAlike slots slots
+  alike_itself slots = record { leaf = λ n. record { keys = refl; prev = refl; next = refl; stands = refl; held = λ z. z }; inner = refl }
+
+  pub alike_over : (old mid new : Slots (Inner K A) (Leaf K V)) → AllAlike old mid → AllAlike mid new → AllAlike old new
+  alike_over old mid new one two = record {
+    leaf = λ n. record {
+      keys = (two.leaf n).keys ∙ (one.leaf n).keys;
+      prev = (two.leaf n).prev ∙ (one.leaf n).prev;
+      next = (two.leaf n).next ∙ (one.leaf n).next;
+      stands = (two.leaf n).stands ∙ (one.leaf n).stands;
+      held = λ z. (one.leaf n).held ((two.leaf n).held z);
+    };
+    inner = two.inner ∙ one.inner;
+  }
+
+module _ {K V A : Type 0} (cmp : K → K → Ordering) (is_summary : A → List K → Type 0) (old new : Slots (Inner K A) (Leaf K V)) (alike : AllAlike old new) (h : ℕ) (root : NodeId) where
+  -- the shape stays
+  pub shape_alike : IsWellShaped cmp is_summary old h root → IsWellShaped cmp is_summary new h root
+  shape_alike shape =
+      subst (λ (f : ℕ → Slot (Inner K A)). IsWellShaped cmp is_summary (record { inner = f; leaf = new.leaf }) h root) (sym alike.inner)
+      (shape_same cmp is_summary old.inner old.leaf new.leaf alike.leaf h root shape)
+
+  pub keys_alike : keys_of (pairs_at new h root) ≡ keys_of (pairs_at old h root)
+  keys_alike =
+      subst (λ (f : ℕ → Slot (Inner K A)). keys_of (pairs_at (record { inner = f; leaf = new.leaf }) h root) ≡ keys_of (pairs_at old h root)) (sym alike.inner)
+      (keys_same cmp is_summary old.inner old.leaf new.leaf alike.leaf h root)
+
+  pub leaves_alike : leaves_at new h root ≡ leaves_at old h root
+  leaves_alike =
+      subst (λ (f : ℕ → Slot (Inner K A)). leaves_at (record { inner = f; leaf = new.leaf }) h root ≡ leaves_at old h root) (sym alike.inner)
+      (leaves_same cmp is_summary old.inner old.leaf new.leaf alike.leaf h root)

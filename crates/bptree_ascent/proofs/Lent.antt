@@ -13,7 +13,7 @@ use Rattle.bptree_nodes.specs.Inner.{Inner}
 use Rattle.bptree_nodes.specs.Leaf.{Leaf, set_value_at}
 use Rattle.bptree_nodes.specs.LeafResults.{HasEqualAt}
 use Rattle.bptree_keys.specs.Places.{AllAnswer}
-use Rattle.bptree_nodes.specs.Slot.{Slot, Slots, Present, UpdatesLeaf}
+use Rattle.bptree_nodes.specs.Slot.{Slots, Present, UpdatesLeaf}
 use Rattle.bptree_keys.specs.declared.node_id.LeafNodeId.{LeafNodeId}
 use Rattle.bptree_keys.specs.declared.node_id.NodeId.{NodeId}
 use Rattle.bptree_keys.proofs.Around.{set_value_around}
@@ -25,7 +25,7 @@ use Rattle.bptree_keys.proofs.PieceLemmas.{AllByRecursion-left, AllByRecursion-r
 use Rattle.bptree_shape.specs.Leaves.{pairs_of, StandsIn, IsLeafFor}
 use Rattle.bptree_ascent.specs.Lending.{holder, written, store_written}
 use Rattle.bptree_shape.specs.Shape.{leaf_pairs, pairs_at, leaves_at, leaf_count, stands, IsWellShaped}
-use Rattle.bptree_ascent.proofs.Alike.{AreAlike, shape_same, keys_same, leaves_same}
+use Rattle.bptree_ascent.proofs.Alike.{AllAlike, shape_alike, keys_alike, leaves_alike}
 use Rattle.bptree_shape.proofs.Down.{pairs_of_leaves}
 use Rattle.bptree_shape.proofs.Hinted.{count_of, count_leaves, total-append}
 use Rattle.bptree_shape.proofs.Spot.{parts_of_read, leaf_ascends}
@@ -45,32 +45,29 @@ pairs_apart old new number others (l ∷ ids) none =
       | inr other ↦ (let e = other.0 in let z = rw e at none in rw (others l.0 other.1, pairs_apart old new number others ids (omega (arith, z))) refl)
     ]
 
--- a value is written at a slot of one leaf
+-- one leaf has new pairs of the same keys
 module _ {K V A : Type 0} (cmp : K → K → Ordering) (is_summary : A → List K → Type 0) (slots new : Slots (Inner K A) (Leaf K V)) (h : ℕ) (root : NodeId) (shape : IsWellShaped cmp is_summary slots h root)
-    (leaf : LeafNodeId) (node : Leaf K V) (e : slots.leaf leaf.0 ≡ Present node) (in' : StandsIn slots h root leaf) (i : ℕ) (w : V)
-    (updates : UpdatesLeaf slots new leaf.0 (Present (record node { pairs = set_value_at node.pairs i w }))) where
-  alike : (n : ℕ) → AreAlike (slots.leaf n) (new.leaf n)
-  alike n =
+    (leaf : LeafNodeId) (node : Leaf K V) (e : slots.leaf leaf.0 ≡ Present node) (in' : StandsIn slots h root leaf) (ps : List (K × V)) (keys : keys_of ps ≡ keys_of node.pairs)
+    (updates : UpdatesLeaf slots new leaf.0 (Present (record node { pairs = ps }))) where
+  pub set_alike : AllAlike slots new
+  set_alike = record {
+    leaf = λ n.
       elim (eqb_tells n leaf.0) [
-        | inl same ↦ (rw same.1 (rw (updates.leaf.changed, e) (record { keys = keys_stay node.pairs i w; prev = refl; next = refl; stands = refl; held = λ z. cc })))
+        | inl same ↦ (rw same.1 (rw (updates.leaf.changed, e) (record { keys = keys; prev = refl; next = refl; stands = refl; held = λ z. cc })))
         | inr other ↦ (rw (updates.leaf.others n other.1) (record { keys = refl; prev = refl; next = refl; stands = refl; held = λ z. z }))
-      ]
+      ];
+    inner = updates.inner;
+  }
 
   -- the shape stays
   pub set_shape : IsWellShaped cmp is_summary new h root
-  set_shape =
-      subst (λ (f : ℕ → Slot (Inner K A)). IsWellShaped cmp is_summary (record { inner = f; leaf = new.leaf }) h root) (sym updates.inner)
-      (shape_same cmp is_summary slots.inner slots.leaf new.leaf alike h root shape)
+  set_shape = shape_alike cmp is_summary slots new set_alike h root shape
 
   pub set_keys : keys_of (pairs_at new h root) ≡ keys_of (pairs_at slots h root)
-  set_keys =
-      subst (λ (f : ℕ → Slot (Inner K A)). keys_of (pairs_at (record { inner = f; leaf = new.leaf }) h root) ≡ keys_of (pairs_at slots h root)) (sym updates.inner)
-      (keys_same cmp is_summary slots.inner slots.leaf new.leaf alike h root)
+  set_keys = keys_alike cmp is_summary slots new set_alike h root
 
   pub set_leaves : leaves_at new h root ≡ leaves_at slots h root
-  set_leaves =
-      subst (λ (f : ℕ → Slot (Inner K A)). leaves_at (record { inner = f; leaf = new.leaf }) h root ≡ leaves_at slots h root) (sym updates.inner)
-      (leaves_same cmp is_summary slots.inner slots.leaf new.leaf alike h root)
+  set_leaves = leaves_alike cmp is_summary slots new set_alike h root
 
   once : (count_of in'.before leaf.0 ≡ 0) × (count_of in'.after leaf.0 ≡ 0)
   once =
@@ -81,7 +78,7 @@ module _ {K V A : Type 0} (cmp : K → K → Ordering) (is_summary : A → List 
       (omega (arith, one, count_leaves slots h root leaf.0, all, parts, here), omega (arith, one, count_leaves slots h root leaf.0, all, parts, here))
 
   -- its pairs, between those of the leaves before it and after it
-  pub set_parts : pairs_at new h root ≡ pairs_of slots in'.before ++ (set_value_at node.pairs i w ++ pairs_of slots in'.after)
+  pub set_parts : pairs_at new h root ≡ pairs_of slots in'.before ++ (ps ++ pairs_of slots in'.after)
   set_parts =
       sym (pairs_of_leaves new h root)
       ∙ (ap (pairs_of new) (set_leaves ∙ in'.leaves)
@@ -128,7 +125,7 @@ module _ {K V A : Type 0} {cmp : K → K → Ordering} (total : IsTotalOrder cmp
   -- the contents have that one value written
   pub lent_pairs : (w : V) → UpdatesLeaf slots new leaf.0 (Present (record node { pairs = set_value_at node.pairs i w })) → pairs_at new h root ≡ written cmp k (pairs_at slots h root) w
   lent_pairs w updates =
-      set_parts cmp is_summary slots new h root shape leaf node e for'.stands i w updates
+      set_parts cmp is_summary slots new h root shape leaf node e for'.stands (set_value_at node.pairs i w) (keys_stay node.pairs i w) updates
       ∙ rw (written_at w)
       (sym (ap (λ l. written cmp k l w) (parts_of_read slots h root leaf for'.stands node e)
       ∙ set_value_around cmp k (pairs_of slots for'.stands.before) node.pairs (pairs_of slots for'.stands.after) for'.smaller for'.greater w))

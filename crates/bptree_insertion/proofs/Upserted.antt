@@ -17,7 +17,7 @@ use Rattle.bptree_nodes.proofs.LeafContents.{value_at_place}
 use Rattle.bptree_shape.specs.Leaves.{IsLeafFor}
 use Rattle.bptree_insertion.specs.Puts.{IsReplaced, IsPlaced, IsPlacedUpTo, risen}
 use Rattle.bptree_shape.specs.Shape.{pairs_at, root_least, IsWellShaped}
-use Rattle.bptree_ascent.proofs.Lent.{set_shape, set_keys, lent_pairs}
+use Rattle.bptree_ascent.proofs.Lent.{keys_stay, set_shape, set_keys, lent_pairs}
 use Rattle.bptree_shape.proofs.LeafFor.{whole_ascends, node_ascends, value_there}
 
 module _ {K V A : Type 0} {cmp : K → K → Ordering} (total : IsTotalOrder cmp) (is_summary : A → List K → Type 0) (old : Slots (Inner K A) (Leaf K V)) (h : ℕ) (root : NodeId) (k : K) (leaf : LeafNodeId) (node : Leaf K V)
@@ -41,9 +41,9 @@ module _ {K V A : Type 0} {cmp : K → K → Ordering} (total : IsTotalOrder cmp
     pub replaced : IsReplaced cmp is_summary old new h root k v was
     replaced = record {
       there = there;
-      shape = set_shape cmp is_summary old new h root shape leaf node read for'.stands i v updates;
+      shape = set_shape cmp is_summary old new h root shape leaf node read for'.stands (set_value_at node.pairs i v) (keys_stay node.pairs i v) updates;
       pairs = rw has_there (lent_pairs total is_summary old new h root shape every_ascends k leaf node read for' i found v updates);
-      keys = set_keys cmp is_summary old new h root shape leaf node read for'.stands i v updates;
+      keys = set_keys cmp is_summary old new h root shape leaf node read for'.stands (set_value_at node.pairs i v) (keys_stay node.pairs i v) updates;
     }
 
 -- the tree stands below the root that was named

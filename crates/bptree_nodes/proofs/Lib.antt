@@ -4,3 +4,4 @@ pub mod LeafContents
 pub mod Pairs
 pub mod Separators
 pub mod Splits
+pub mod Updates

@@ -5,3 +5,4 @@ pub mod LeafLends
 pub mod LeafResults
 pub mod Slot
 pub mod Taken
+pub mod Updating

@@ -44,6 +44,31 @@ pub fn part_between<S: NodeStore>(
     part_of_places(store, root, height, front, back, len, Extent::Open)
 }
 
+/// The places where the pairs begin and end whose key is not below `lo` and is below `hi`, where
+/// they are given. It costs what `part_between` does.
+pub fn places_between<S: NodeStore>(
+    store: &S,
+    root: NodeId,
+    height: usize,
+    lo: Option<&S::K>,
+    hi: Option<&S::K>,
+) -> ((LeafNodeId, usize), (LeafNodeId, usize))
+    requires { IsWellShaped S.K.cmp S.Argument.is_summary (S.slots store.now) height root }
+    ensures front { IsSettled (S.slots store.now) height root (place_on (S.slots store.now) height root result.0) result.0 }
+    ensures back { IsSettled (S.slots store.now) height root (place_on (S.slots store.now) height root result.1) result.1 }
+    ensures rises { place_on (S.slots store.now) height root result.0 ≤ place_on (S.slots store.now) height root result.1 }
+    ensures pairs { between S.K.cmp (pairs_at (S.slots store.now) height root) (option_copied lo.entry) (option_copied hi.entry) ≡ part (pairs_at (S.slots store.now) height root) (place_on (S.slots store.now) height root result.0) (place_on (S.slots store.now) height root result.1 - place_on (S.slots store.now) height root result.0) }
+{
+    let first = front_of(store, root, height, lo);
+    let front = settled(store, root, height, first);
+    if !are_apart(lo, hi) {
+        return (front, front);
+    }
+    let behind = back_of(store, root, height, hi);
+    let back = settled(store, root, height, behind);
+    (front, back)
+}
+
 /// A part without a pair, at a place.
 pub(crate) fn no_part(at: (LeafNodeId, usize)) -> Part
     ensures { result ≡ empty_at at }

@@ -9,7 +9,7 @@ use Rattle.bptree_keys.specs.declared.node_id.LeafNodeId.{LeafNodeId}
 use Rattle.bptree_keys.specs.declared.node_id.NodeId.{NodeId}
 use Rattle.bptree_shape.specs.Leaves.{pairs_of, StandsIn}
 use Rattle.bptree_shape.specs.Shape.{leaf_pairs, pairs_at, IsWellShaped}
-use Rattle.bptree_ascent.proofs.Lent.{set_parts}
+use Rattle.bptree_ascent.proofs.Lent.{keys_stay, set_parts}
 use Rattle.bptree_shape.proofs.Spot.{parts_of_read}
 
 set_past : {K V : Type 0} (xs ys : List (K × V)) (i : ℕ) (v : V) → set_value_at (xs ++ ys) (length xs + i) v ≡ xs ++ set_value_at ys i v
@@ -47,7 +47,7 @@ module _ {K V A : Type 0} (cmp : K → K → Ordering) (is_summary : A → List 
   -- the contents have that one value written
   pub set_pairs : pairs_at new h root ≡ set_value_at (pairs_at slots h root) (length (pairs_of slots in'.before) + i) w
   set_pairs =
-      set_parts cmp is_summary slots new h root shape leaf node e in' i w updates
+      set_parts cmp is_summary slots new h root shape leaf node e in' (set_value_at node.pairs i w) (keys_stay node.pairs i w) updates
       ∙ sym (ap (λ l. set_value_at l (length (pairs_of slots in'.before) + i) w) (parts_of_read slots h root leaf in' node e)
       ∙ (set_past (pairs_of slots in'.before) (node.pairs ++ pairs_of slots in'.after) i w
       ∙ ap (λ rest. pairs_of slots in'.before ++ rest) (set_early node.pairs (pairs_of slots in'.after) i w within)))

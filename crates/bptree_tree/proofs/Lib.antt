@@ -9,3 +9,4 @@ pub mod PartSpans
 pub mod RangeRemovalLemmas
 pub mod Spans
 pub mod Started
+pub mod UpdateLemmas

@@ -4,5 +4,6 @@ pub mod Entries
 pub mod RangeRemoval
 pub mod Refusal
 pub mod Selected
+pub mod Updating
 pub mod Whole
 pub mod Writing

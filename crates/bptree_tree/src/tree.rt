@@ -20,6 +20,7 @@ mod queries;
 mod range_removal;
 mod ranges;
 mod removals;
+mod updating;
 
 use crate::InsertError;
 use bptree_insertion::insertion::{Put, is_full, upsert};

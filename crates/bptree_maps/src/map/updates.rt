@@ -1,8 +1,11 @@
 //! Values of a map that a closure changes in place.
 ghost use Rattle.std.specs.Prelude.{◌≡◌, ◌↔◌, false, true, length, IfErr, IfOk, Ok};
+ghost use Rattle.std.specs.Option.{option_copied};
 ghost use Rattle.bptree_keys.specs.Contents.{has, put};
 ghost use Rattle.bptree_maps.specs.Updates.{IsUpdatedAt};
+ghost use Rattle.bptree_nodes.specs.Updating.{ChangesInTurn};
 ghost use Rattle.bptree_tree.specs.Refusal.{pair_of};
+ghost use Rattle.bptree_tree.specs.Updating.{IsUpdatedBetween};
 
 use super::BPlusTreeMap;
 use bptree_arguments::argument::Argument;
@@ -40,5 +43,34 @@ impl<K: Key, V: Drop, A: Argument<K>> BPlusTreeMap<K, V, A> {
                 Err(refusal) => Err(refusal),
             },
         }
+    }
+
+    /// Changes each value by a closure, in the order of the keys.
+    ///
+    /// It costs a call a pair and a step along the links for each leaf. It takes no memory and is
+    /// never refused. The keys and the summaries stay.
+    pub fn update_each<F: FnMut(&K, &mut V)>(&mut self, f: F)
+        requires { F.IsAlwaysCallable f }
+        ensures { (after : F) × ChangesInTurn F.FnMut f self.old after self.new }
+    {
+        self.inner.update_each(f);
+    }
+
+    /// Changes the value of each pair by a closure whose key is not below `lo` and is below `hi`,
+    /// where they are given, in the order of the keys.
+    ///
+    /// Each end that is given is searched for once, from the root. Then it costs a call a pair and
+    /// a step along the links for each leaf. It takes no memory and is never refused. The keys and
+    /// the summaries stay.
+    pub fn update_range<'b, F: FnMut(&K, &mut V)>(
+        &mut self,
+        lo: Option<&'b K>,
+        hi: Option<&'b K>,
+        f: F,
+    )
+        requires { F.IsAlwaysCallable f }
+        ensures { IsUpdatedBetween F.FnMut f K.cmp (option_copied lo.entry) (option_copied hi.entry) self.old self.new }
+    {
+        self.inner.update_range(lo, hi, f);
     }
 }

@@ -7,7 +7,7 @@ use Rattle.bptree_nodes.specs.LeafResults.{HasEqualAt}
 use Rattle.bptree_nodes.specs.Slot.{Slot, Present}
 use Rattle.bptree_nodes.proofs.LeafContents.{value_at_place}
 use Rattle.bptree_shape.specs.Shape.{root_least, pairs_at}
-use Rattle.bptree_ascent.proofs.Lent.{set_shape, set_keys, set_length, lent_pairs, lent_store, none_if_absent}
+use Rattle.bptree_ascent.proofs.Lent.{keys_stay, set_shape, set_keys, set_length, lent_pairs, lent_store, none_if_absent}
 use Rattle.bptree_shape.proofs.Spot.{value_in_leaf, leaf_ascends}
 use Rattle.bptree_shape.proofs.Walk.{tree_ascends}
 use Rattle.bptree_tree.proofs.tree.BPlusTree.get_mut.Goals as goal
@@ -30,11 +30,13 @@ invariant_of-self-lent g c = λ w.
     let leaf = c.leaf_for-leaf.result in
     let node = c.get_mut_leaf.result.now in
     let read = c.get_mut_leaf.ensures.value in
-    let updates = g.met.S.NodeStore.with_leaf_updates tree.store leaf.0 (record node { pairs = set_value_at node.pairs c.in-Ok.slot w }) c.leaf_for-leaf.ensures.stands.present in
-    let new = g.S.NodeStore.slots (g.S.NodeStore.with_leaf tree.store leaf.0 (record node { pairs = set_value_at node.pairs c.in-Ok.slot w })) in
-    let keys = set_keys cmp sum slots new tree.height tree.root c.self.invariant.0 leaf node read c.leaf_for-leaf.ensures.stands c.in-Ok.slot w updates in (
-      set_shape cmp sum slots new tree.height tree.root c.self.invariant.0 leaf node read c.leaf_for-leaf.ensures.stands c.in-Ok.slot w updates,
-      c.self.invariant.1 ∙ sym (set_length cmp sum slots new tree.height tree.root c.self.invariant.0 leaf node read c.leaf_for-leaf.ensures.stands c.in-Ok.slot w updates),
+    let written = set_value_at node.pairs c.in-Ok.slot w in
+    let same = keys_stay node.pairs c.in-Ok.slot w in
+    let updates = g.met.S.NodeStore.with_leaf_updates tree.store leaf.0 (record node { pairs = written }) c.leaf_for-leaf.ensures.stands.present in
+    let new = g.S.NodeStore.slots (g.S.NodeStore.with_leaf tree.store leaf.0 (record node { pairs = written })) in
+    let keys = set_keys cmp sum slots new tree.height tree.root c.self.invariant.0 leaf node read c.leaf_for-leaf.ensures.stands written same updates in (
+      set_shape cmp sum slots new tree.height tree.root c.self.invariant.0 leaf node read c.leaf_for-leaf.ensures.stands written same updates,
+      c.self.invariant.1 ∙ sym (set_length cmp sum slots new tree.height tree.root c.self.invariant.0 leaf node read c.leaf_for-leaf.ensures.stands written same updates),
       rw keys c.self.invariant.2,
     )
 

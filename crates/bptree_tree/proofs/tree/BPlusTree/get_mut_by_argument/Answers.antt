@@ -2,7 +2,7 @@ use Rattle.std.proofs.Common.{◌∙◌, sym, ◌+◌, length, refl, Some}
 use Rattle.bptree_nodes.specs.Leaf.{set_value_at}
 use Rattle.bptree_descents.specs.ByArgument.{IsSelectedAt}
 use Rattle.bptree_shape.specs.Leaves.{pairs_of}
-use Rattle.bptree_ascent.proofs.Lent.{set_shape, set_keys, set_length}
+use Rattle.bptree_ascent.proofs.Lent.{keys_stay, set_shape, set_keys, set_length}
 use Rattle.bptree_tree.proofs.LentAt.{set_pairs, value_of_slot, slot_within}
 use Rattle.bptree_tree.proofs.tree.BPlusTree.get_mut_by_argument.Goals as goal
 
@@ -21,9 +21,9 @@ invariant_of-self-lent g c = λ w.
     let updates = g.met.S.NodeStore.with_leaf_updates tree.store leaf.0 written found.0.present in
     let new = store (g.S.NodeStore.with_leaf tree.store leaf.0 written) in
     let sum = g.S.Argument.Argument.is_summary in (
-      set_shape g.S.K.Ord.cmp sum slots new tree.height tree.root c.self.invariant.0 leaf node read found.0 slot w updates,
-      c.self.invariant.1 ∙ sym (set_length g.S.K.Ord.cmp sum slots new tree.height tree.root c.self.invariant.0 leaf node read found.0 slot w updates),
-      rw (set_keys g.S.K.Ord.cmp sum slots new tree.height tree.root c.self.invariant.0 leaf node read found.0 slot w updates) c.self.invariant.2,
+      set_shape g.S.K.Ord.cmp sum slots new tree.height tree.root c.self.invariant.0 leaf node read found.0 (set_value_at node.pairs slot w) (keys_stay node.pairs slot w) updates,
+      c.self.invariant.1 ∙ sym (set_length g.S.K.Ord.cmp sum slots new tree.height tree.root c.self.invariant.0 leaf node read found.0 (set_value_at node.pairs slot w) (keys_stay node.pairs slot w) updates),
+      rw (set_keys g.S.K.Ord.cmp sum slots new tree.height tree.root c.self.invariant.0 leaf node read found.0 (set_value_at node.pairs slot w) (keys_stay node.pairs slot w) updates) c.self.invariant.2,
     )
 
 -- the value that is lent stands at an allowed place, and the tree ends with what is written there

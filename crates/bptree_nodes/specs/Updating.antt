@@ -1,0 +1,20 @@
+-- What a closure leaves of values that it changes in place.
+use Rattle.std.specs.Prelude.{◌≡◌, List, [], ◌∷◌}
+use Rattle.std.specs.Borrow.{Bor, MutBor}
+use Rattle.std.specs.Fn.{Called, Mut}
+
+module _ {F K V : Type 0} (calls : Mut F (Bor K × (MutBor V × Unit {0})) (Unit {0} × (MutBor V × Unit {0}))) where
+  -- a call at the key and the value of a pair leaves the value, and the closure, so
+  pub record ChangesValue (f : F) (pair : K × V) (after : F) (left : K × V) : Type 0 where
+    pub key : Bor K
+    pub value : MutBor V
+    pub lent : MutBor V
+    pub shows : (key.now ≡ pair.0) × (value.now ≡ pair.1)
+    pub called : Called calls f (key, (value, tt)) (tt, (lent, tt)) after
+    pub leaves : left ≡ (pair.0, lent.now)
+
+  -- pairs were changed one after another
+  abbrev pub ChangesInTurn : F → List (K × V) → F → List (K × V) → Type 0
+  ChangesInTurn f [] after new = (after ≡ f) × (new ≡ [])
+  ChangesInTurn f (p ∷ old) after new =
+      (g : F) × (q : K × V) × (rest : List (K × V)) × ChangesValue f p g q × ChangesInTurn g old after rest × (new ≡ q ∷ rest)

@@ -1,0 +1,98 @@
+//! Values that a closure changes in place.
+ghost use Rattle.std.specs.Prelude.{◌≡◌, ◌≤◌, ◌++◌, List, drop, length, take};
+ghost use Rattle.std.specs.Option.{option_copied};
+ghost use Rattle.bptree_nodes.specs.Leaf.{Leaf};
+ghost use Rattle.bptree_nodes.specs.Slot.{IsPresent, Present, UpdatesLeaf};
+ghost use Rattle.bptree_nodes.specs.Updating.{ChangesInTurn};
+ghost use Rattle.bptree_ranges.specs.Ranges.{place_on, IsSettled};
+ghost use Rattle.bptree_shape.specs.Shape.{leaf_pairs, pairs_at, IsWellShaped};
+ghost use Rattle.bptree_tree.specs.Updating.{IsUpdatedBetween};
+
+use crate::tree::BPlusTree;
+use bptree_keys::node_id::{LeafNodeId, NodeId};
+use bptree_ranges::ranges::places_between;
+use bptree_stores::node_stores::NodeStore;
+
+// Changes the values of the slots of a leaf from one on and below another by a closure.
+fn update_leaf<S: NodeStore, F: FnMut(&S::K, &mut S::V)>(
+    store: &mut S,
+    id: LeafNodeId,
+    from: usize,
+    to: usize,
+    f: F,
+) -> F
+    requires callable { F.IsAlwaysCallable f }
+    requires present { IsPresent ((S.slots store.old).leaf id.0) }
+    requires within { (from ≤ to) × (to ≤ length (leaf_pairs ((S.slots store.old).leaf id.0))) }
+    ensures changed { (was : Leaf S.K S.V) → (S.slots store.old).leaf id.0 ≡ Present was
+        → (changed : List (S.K × S.V)) × ChangesInTurn F.FnMut f (drop from (take to was.pairs)) result changed
+        × UpdatesLeaf (S.slots store.old) (S.slots store.new) id.0 (Present (record was { pairs = take from was.pairs ++ changed ++ drop to was.pairs })) }
+    ensures callable { F.IsAlwaysCallable result }
+{
+    store.get_mut_leaf(id).update_between(from, to, f)
+}
+
+// Changes the values between two places by a closure, in the order of their keys, leaf by leaf
+// along the links.
+fn update_leaves<S: NodeStore, F: FnMut(&S::K, &mut S::V)>(
+    store: &mut S,
+    root: NodeId,
+    height: usize,
+    front: (LeafNodeId, usize),
+    back: (LeafNodeId, usize),
+    mut f: F,
+)
+    requires callable { F.IsAlwaysCallable f }
+    requires shape { IsWellShaped S.K.cmp S.Argument.is_summary (S.slots store.old) height root }
+    requires front { IsSettled (S.slots store.old) height root (place_on (S.slots store.old) height root front) front }
+    requires back { IsSettled (S.slots store.old) height root (place_on (S.slots store.old) height root back) back }
+    requires rises { place_on (S.slots store.old) height root front ≤ place_on (S.slots store.old) height root back }
+    ensures shape { IsWellShaped S.K.cmp S.Argument.is_summary (S.slots store.new) height root }
+    ensures changed { (after : F) × (changed : List (S.K × S.V))
+        × ChangesInTurn F.FnMut f (drop (place_on (S.slots store.old) height root front) (take (place_on (S.slots store.old) height root back) (pairs_at (S.slots store.old) height root))) after changed
+        × (pairs_at (S.slots store.new) height root ≡ take (place_on (S.slots store.old) height root front) (pairs_at (S.slots store.old) height root) ++ changed ++ drop (place_on (S.slots store.old) height root back) (pairs_at (S.slots store.old) height root)) }
+{
+    let mut at = front.0;
+    let mut from = front.1;
+    'leaves: while at.as_usize() != back.0.as_usize() {
+        let leaf = store.get_leaf(at);
+        let len = leaf.len();
+        let next = leaf.next().unwrap();
+        f = update_leaf(store, at, from, len, f);
+        at = next;
+        from = 0;
+    }
+    update_leaf(store, at, from, back.1, f);
+}
+
+impl<S: NodeStore> BPlusTree<S> {
+    /// Changes each value by a closure, in the order of the keys.
+    ///
+    /// It costs a call a pair and a step along the links for each leaf. It takes no memory and is
+    /// never refused. The keys and the summaries stay.
+    pub fn update_each<F: FnMut(&S::K, &mut S::V)>(&mut self, f: F)
+        requires { F.IsAlwaysCallable f }
+        ensures { (after : F) × ChangesInTurn F.FnMut f self.old.contents after self.new.contents }
+    {
+        self.update_range(None, None, f);
+    }
+
+    /// Changes the value of each pair by a closure whose key is not below `lo` and is below `hi`,
+    /// where they are given, in the order of the keys.
+    ///
+    /// Each end that is given is searched for once, from the root. Then it costs a call a pair and
+    /// a step along the links for each leaf. It takes no memory and is never refused. The keys and
+    /// the summaries stay.
+    pub fn update_range<'b, F: FnMut(&S::K, &mut S::V)>(
+        &mut self,
+        lo: Option<&'b S::K>,
+        hi: Option<&'b S::K>,
+        f: F,
+    )
+        requires { F.IsAlwaysCallable f }
+        ensures { IsUpdatedBetween F.FnMut f S.K.cmp (option_copied lo.entry) (option_copied hi.entry) self.old.contents self.new.contents }
+    {
+        let (front, back) = places_between(&self.store, self.root, self.height, lo, hi);
+        update_leaves(&mut self.store, self.root, self.height, front, back, f);
+    }
+}
