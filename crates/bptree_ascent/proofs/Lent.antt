@@ -52,10 +52,10 @@ module _ {K V A : Type 0} (cmp : K → K → Ordering) (is_summary : A → List 
   pub set_alike : AllAlike slots new
   set_alike = record {
     leaf = λ n.
-      elim (eqb_tells n leaf.0) [
-        | inl same ↦ (rw same.1 (rw (updates.leaf.changed, e) (record { keys = keys; prev = refl; next = refl; stands = refl; held = λ z. cc })))
-        | inr other ↦ (rw (updates.leaf.others n other.1) (record { keys = refl; prev = refl; next = refl; stands = refl; held = λ z. z }))
-      ];
+        elim (eqb_tells n leaf.0) [
+          | inl same ↦ (rw same.1 (rw (updates.leaf.changed, e) (record { keys = keys; prev = refl; next = refl; stands = refl; held = λ z. cc })))
+          | inr other ↦ (rw (updates.leaf.others n other.1) (record { keys = refl; prev = refl; next = refl; stands = refl; held = λ z. z }))
+        ];
     inner = updates.inner;
   }
 
