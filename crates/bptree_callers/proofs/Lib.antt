@@ -9,3 +9,4 @@ pub mod Shown
 pub mod Sizes
 pub mod SplitAtKey
 pub mod ThinLemmas
+pub mod UpdateLemmas

@@ -1,7 +1,9 @@
 //! Callers that change a value in place or put one, and those that read by bounds and places.
-ghost use Rattle.std.specs.Prelude.{◌≡◌, true, false, None, Ok, Some, OnOk, slice_get};
+ghost use Rattle.std.specs.Prelude.{◌≡◌, [], true, false, None, Ok, Some, OnOk, map as each, slice_get};
+ghost use Rattle.std.specs.Map.{keys_of};
 ghost use Rattle.std.specs.Option.{option_map};
 ghost use Rattle.bptree_keys.specs.Contents.{has, value as value_of};
+ghost use Rattle.bptree_keys.specs.Ranges.{between};
 
 use bptree_arguments::argument::Argument;
 use bptree_arguments::count::Count;
@@ -22,6 +24,46 @@ fn begins_at<K: Key, A: Argument<K>>(
     ensures goes_on { has K.cmp map.old k ≡ true → result ≡ Ok false }
 {
     map.upsert_with(k, 1, |count: &mut u64| *count = count.wrapping_add(1))
+}
+
+// All values become 0, at the keys that there were.
+fn clears_all_values<K: Key, A: Argument<K>>(map: &mut BPlusTreeMap<K, u64, A>)
+    ensures { map.new ≡ each (λ pair. (pair.0, 0)) map.old }
+{
+    map.update_each(|_: &K, value: &mut u64| *value = 0);
+}
+
+// Between two keys without a pair between them nothing is changed.
+fn changes_nothing_between<K: Key, V: Drop, A: Argument<K>, F: FnMut(&K, &mut V)>(
+    map: &mut BPlusTreeMap<K, V, A>,
+    lo: &K,
+    hi: &K,
+    f: F,
+)
+    requires { F.IsAlwaysCallable f }
+    ensures { between K.cmp map.old (Some lo.now) (Some hi.now) ≡ [] → map.new ≡ map.old }
+{
+    map.update_range(Some(lo), Some(hi), f);
+}
+
+// The keys of a tree stay, whatever a closure makes of the values.
+fn keeps_all_keys<S: NodeStore, F: FnMut(&S::K, &mut S::V)>(tree: &mut BPlusTree<S>, f: F)
+    requires { F.IsAlwaysCallable f }
+    ensures { keys_of tree.new.contents ≡ keys_of tree.old.contents }
+{
+    tree.update_each(f);
+}
+
+// The same where the values from a key on are changed.
+fn keeps_all_keys_from<S: NodeStore, F: FnMut(&S::K, &mut S::V)>(
+    tree: &mut BPlusTree<S>,
+    lo: &S::K,
+    f: F,
+)
+    requires { F.IsAlwaysCallable f }
+    ensures { keys_of tree.new.contents ≡ keys_of tree.old.contents }
+{
+    tree.update_range(Some(lo), None, f);
 }
 
 // Behind a key and before it there is no pair.
