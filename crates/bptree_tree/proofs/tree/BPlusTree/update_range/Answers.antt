@@ -1,6 +1,5 @@
 use Rattle.std.proofs.Common.{◌≡◌, ◌∙◌, ap, length, sym}
 use Rattle.std.specs.Option.{option_copied}
-use Rattle.std.specs.Map.{keys_of}
 use Rattle.std.proofs.lemmas.Map.Entries.{length-keys_of}
 use Rattle.bptree_ranges.specs.Ranges.{place_on}
 use Rattle.bptree_shape.specs.Shape.{pairs_at}
@@ -31,4 +30,6 @@ returns g c =
     let places = c.places_between.result in
     let lo = option_copied c.args.lo in
     let hi = option_copied c.args.hi in
-    updated_between g.F.FnMut c.args.f g.S.K.Ord.cmp lo hi old new (place_on slots tree.height tree.root places.0) (place_on slots tree.height tree.root places.1) c.places_between.ensures.rises c.places_between.ensures.pairs c.update_leaves.ensures.changed
+    let same : c.args.self.now.contents ≡ old = sym (ap (λ tree. tree.contents) c.self.view_is) in
+    rw same
+    (updated_between g.F.FnMut c.args.f g.S.K.Ord.cmp lo hi old new (place_on slots tree.height tree.root places.0) (place_on slots tree.height tree.root places.1) c.places_between.ensures.rises c.places_between.ensures.pairs c.update_leaves.ensures.changed)
