@@ -6,7 +6,7 @@
 #include <stdlib.h>
 #include <string.h>
 
-enum { PAIRS = 4400 };
+enum { PAIRS = 4400, STRINGS = 600 };
 
 void *__real_malloc(size_t);
 void *__real_realloc(void *, size_t);
@@ -87,6 +87,69 @@ static uint32_t pop_last(bptree *map) { return bptree_pop_last(map, &pair); }
 static uint32_t clear(bptree *map) { return bptree_clear(map) ? BPTREE_NONE : BPTREE_REFUSED; }
 static uint32_t load(bptree *map) { return bptree_load(map, given, key) ? BPTREE_NONE : BPTREE_REFUSED; }
 
+/* The same of a set of byte strings, each of four bytes. */
+typedef uint8_t string[4];
+
+static string name, beside, strings_before[STRINGS], strings_after[STRINGS];
+static size_t told;
+
+static size_t list(bptree_bytes *set, string *into) {
+    size_t many = bptree_bytes_len(set), n;
+    for (size_t i = 0; i < many; i++) must(bptree_bytes_at(set, i, into[i], sizeof *into, &n) && n == sizeof *into, "at");
+    return many;
+}
+
+static void refuse_each_of_strings(bptree_bytes *set, uint32_t (*call)(bptree_bytes *), const char *what) {
+    for (long request = 0;; request++) {
+        size_t many = list(set, strings_before);
+        long were = refusals;
+        until_refusal = request;
+        uint32_t answer = call(set);
+        until_refusal = -1;
+        must((answer == BPTREE_REFUSED) == (refusals != were), what);
+        if (refusals == were) return;
+        must(list(set, strings_after) == many && !memcmp(strings_before, strings_after, many * sizeof *strings_before), what);
+    }
+}
+
+static uint32_t insert_name(bptree_bytes *set) { return bptree_bytes_insert(set, name, sizeof name); }
+static uint32_t has_name(bptree_bytes *set) { return bptree_bytes_contains(set, name, sizeof name); }
+static uint32_t rank_of_name(bptree_bytes *set) { return bptree_bytes_rank(set, name, sizeof name, &told); }
+static uint32_t after_name(bptree_bytes *set) { return bptree_bytes_next(set, name, sizeof name, beside, sizeof beside, &told); }
+static uint32_t before_name(bptree_bytes *set) { return bptree_bytes_prev(set, name, sizeof name, beside, sizeof beside, &told); }
+static uint32_t remove_name(bptree_bytes *set) { return bptree_bytes_remove(set, name, sizeof name); }
+static uint32_t clear_names(bptree_bytes *set) { return bptree_bytes_clear(set) ? BPTREE_NONE : BPTREE_REFUSED; }
+
+static void name_it(size_t number) {
+    for (size_t i = 0; i < sizeof name; i++) name[i] = (uint8_t)((number * 7919) % STRINGS >> 4 * (sizeof name - 1 - i));
+}
+
+static void strings(void) {
+    bptree_bytes set = {0};
+    for (long request = 0; !set.at; request++) {
+        until_refusal = request;
+        bool made = bptree_bytes_new(&set);
+        until_refusal = -1;
+        must(made == (set.at != NULL) && (made || blocks == 0), "new of strings");
+    }
+    for (size_t i = 0; i < STRINGS; i++) name_it(i), refuse_each_of_strings(&set, insert_name, "insert");
+    must(bptree_bytes_len(&set) == STRINGS, "insert");
+    for (size_t i = 0; i < STRINGS; i += 50) {
+        name_it(i);
+        refuse_each_of_strings(&set, insert_name, "insert of a key that is there");
+        refuse_each_of_strings(&set, has_name, "contains");
+        refuse_each_of_strings(&set, rank_of_name, "rank");
+        refuse_each_of_strings(&set, after_name, "next");
+        refuse_each_of_strings(&set, before_name, "prev");
+    }
+    for (size_t i = 0; i < STRINGS - 20; i++) name_it(i), refuse_each_of_strings(&set, remove_name, "remove");
+    must(bptree_bytes_len(&set) == 20, "remove");
+    refuse_each_of_strings(&set, clear_names, "clear of strings");
+    must(bptree_bytes_len(&set) == 0, "clear of strings");
+    bptree_bytes_free(&set);
+    must(blocks == 0, "memory is left by strings");
+}
+
 int main(void) {
     bptree map = {0};
     for (long request = 0;; request++) {
@@ -117,6 +180,7 @@ int main(void) {
     must(refusals == were, "requests of an empty map");
     bptree_free(&map);
     must(blocks == 0, "memory is left");
+    strings();
     printf("%ld requests refused\nok\n", refusals);
     return 0;
 }

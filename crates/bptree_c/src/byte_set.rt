@@ -215,7 +215,7 @@ fn remove_in(set: &mut ByteSet, key: &Bytes) -> Result<bool, AllocError>
     Ok(set.pairs.remove(key)?.is_some())
 }
 
-/// The least key: as many of its bytes as `out` takes stand at the beginning of `out`, and its whole
+/// The least key: as many of its bytes as `out` takes stand at its beginning, and the key's whole
 /// length in `len`. It is false where the set is empty; then nothing is written.
 #[unsafe(no_mangle)]
 pub extern "C" fn bptree_bytes_first(
@@ -320,8 +320,8 @@ fn at_in(set: &ByteSet, place: usize) -> Option<&Bytes>
     Some(key)
 }
 
-/// The least greater key, in `out` and `len` as `bptree_bytes_first` tells it: 1 where there is one,
-/// and 0 where not; then nothing is written. It is 2 where the memory for a copy of the key is
+/// The least greater key, in `out` and `len` as `bptree_bytes_first` tells it: 1 where there is
+/// one, and 0 where not; then nothing is written. It is 2 where the memory for a copy of the key is
 /// refused; then nothing is written either.
 #[unsafe(no_mangle)]
 pub extern "C" fn bptree_bytes_next(

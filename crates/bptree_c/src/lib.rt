@@ -1,9 +1,9 @@
-//! The map of numbers to numbers with places, as functions for callers in C.
-//! `include/sweep_bptree.h` declares them.
+//! The map of numbers to numbers with places, and a set of byte strings with places, as functions
+//! for callers in C. `include/sweep_bptree.h` declares them.
 //!
 //! A caller keeps a `Handle`: a pointer to a map on the heap, or none. Each function takes the map
 //! out of the handle, calls it, and gives it back; its contract is the map's own, stated again over
-//! the list that the handle holds.
+//! the list that the handle holds. A `ByteHandle` is the same of a set.
 #![tactic(auto)]
 
 mod byte_handle;
