@@ -118,9 +118,6 @@ module _ {K V A : Type 0} {cmp : K → K → Ordering} (is_summary : A → List 
       whole : node.pairs ≡ take from node.pairs ++ (drop from (take to node.pairs) ++ drop to node.pairs)
       whole = sym (ap (λ l. take from node.pairs ++ l) middle ∙ take-append-drop from node.pairs)
 
-      ps : List (K × V)
-      ps = take from node.pairs ++ changed ++ drop to node.pairs
-
       same_keys : keys_of (take from node.pairs ++ changed ++ drop to node.pairs) ≡ keys_of node.pairs
       same_keys =
           rw (append_assoc (take from node.pairs) changed (drop to node.pairs), keys-append (take from node.pairs) (changed ++ drop to node.pairs), keys-append changed (drop to node.pairs), changed_keys calls t (drop from (take to node.pairs)) u changed changes)
@@ -134,6 +131,7 @@ module _ {K V A : Type 0} {cmp : K → K → Ordering} (is_summary : A → List 
 
       pub leaf_changed : (f : F) (i j p q : ℕ) → i ≤ j → j ≤ length (pairs_at old h root) → p ≡ start old h root at + from → q ≡ start old h root at + to → q ≤ j → ChangedUpTo calls f (pairs_at old h root) i j t p (pairs_at mid h root)
           → ChangedUpTo calls f (pairs_at old h root) i j u q (pairs_at new h root)
+      unfolding stands_now
       leaf_changed f i j p q below fits e e' short up =
           let head = pairs_of mid in'.before in
           let rest = pairs_of mid in'.after in
@@ -154,8 +152,7 @@ module _ {K V A : Type 0} {cmp : K → K → Ordering} (is_summary : A → List 
 pub same_leaf : (a b : LeafNodeId) → a.0 ≡ b.0 → a ≡ b
 same_leaf a b e = λ i. record { 0 = e i }
 
-module _ {F K V A : Type 0} {cmp : K → K → Ordering} (is_summary : A → List K → Type 0) (calls : Mut F (Bor K × (MutBor V × Unit {0})) (Unit {0} × (MutBor V × Unit {0}))) (old : Slots (Inner K A) (Leaf K V)) (h : ℕ) (root : NodeId)
-    (f : F) (front back : LeafNodeId × ℕ) where
+module _ {F K V A : Type 0} (calls : Mut F (Bor K × (MutBor V × Unit {0})) (Unit {0} × (MutBor V × Unit {0}))) (old : Slots (Inner K A) (Leaf K V)) (h : ℕ) (root : NodeId) (f : F) (front back : LeafNodeId × ℕ) where
   -- the values between the first place and this one are changed
   pub record Walked (t : F) (at : LeafNodeId) (from : ℕ) (mid : Slots (Inner K A) (Leaf K V)) : Type 0 where
     pub alike : AllAlike old mid
@@ -166,8 +163,10 @@ module _ {F K V A : Type 0} {cmp : K → K → Ordering} (is_summary : A → Lis
   pub walked_none : IsSettled old h root (place_on old h root front) front → place_on old h root front ≤ place_on old h root back → Walked f front.0 front.1 old
   walked_none there rises = record { alike = alike_itself old; on = there.on; below = rises; changed = none_changed calls f (pairs_at old h root) (place_on old h root front) (place_on old h root back) }
 
+module _ {F K V A : Type 0} {cmp : K → K → Ordering} (is_summary : A → List K → Type 0) (calls : Mut F (Bor K × (MutBor V × Unit {0})) (Unit {0} × (MutBor V × Unit {0}))) (old : Slots (Inner K A) (Leaf K V)) (h : ℕ) (root : NodeId)
+    (f : F) (front back : LeafNodeId × ℕ) where
   module _ (shape : IsWellShaped cmp is_summary old h root) (there : IsSettled old h root (place_on old h root back) back) (rises : place_on old h root front ≤ place_on old h root back)
-      (t : F) (at : LeafNodeId) (from : ℕ) (mid : Slots (Inner K A) (Leaf K V)) (walked : Walked t at from mid) where
+      (t : F) (at : LeafNodeId) (from : ℕ) (mid : Slots (Inner K A) (Leaf K V)) (walked : Walked calls old h root f front back t at from mid) where
     pub present_now : IsPresent (mid.leaf at.0)
     present_now = present_alike (old.leaf at.0) (mid.leaf at.0) (walked.alike.leaf at.0).stands walked.on.stands.present
 
@@ -184,7 +183,7 @@ module _ {F K V A : Type 0} {cmp : K → K → Ordering} (is_summary : A → Lis
         next_there = step is_summary old h root shape mid walked.alike at node here walked.on.stands from back within_leaf walked.below there apart
 
         pub walked_leaf : (next : LeafNodeId) → node.next ≡ Some next → (u : F) (changed : List (K × V)) → ChangesInTurn calls t (drop from (take (length node.pairs) node.pairs)) u changed → (new : Slots (Inner K A) (Leaf K V))
-            → UpdatesLeaf mid new at.0 (Present (record node { pairs = take from node.pairs ++ changed ++ drop (length node.pairs) node.pairs })) → Walked u next 0 new × NextLeaf is_summary old h root shape at next
+            → UpdatesLeaf mid new at.0 (Present (record node { pairs = take from node.pairs ++ changed ++ drop (length node.pairs) node.pairs })) → Walked calls old h root f front back u next 0 new × NextLeaf is_summary old h root shape at next
         walked_leaf next e u changed changes new updates =
             let then' = next_there in
             let same : then'.0 ≡ next = let some : Some then'.0 ≡ Some next = sym then'.1 ∙ e in cc in

@@ -7,7 +7,7 @@ use Rattle.bptree_tree.proofs.tree.updating.update_leaves.Goals as goal
 pub leaves-init : goal.leaves-init
 leaves-init g c = record {
   callable = c.requires.callable;
-  walked = walked_none g.S.Argument.Argument.is_summary g.F.FnMut (g.S.NodeStore.slots c.args.store.now) c.args.height c.args.root c.args.f c.args.front c.args.back c.requires.front c.requires.rises;
+  walked = walked_none g.F.FnMut (g.S.NodeStore.slots c.args.store.now) c.args.height c.args.root c.args.f c.args.front c.args.back c.requires.front c.requires.rises;
 }
 
 pub get_leaf-leaf-requires : goal.get_leaf-leaf-requires
@@ -28,13 +28,13 @@ update_leaf-f-requires-clause-within g c =
     let long : length (leaf_pairs ((g.S.NodeStore.slots c.leaves.store).leaf c.leaves.at.0)) ≡ length node.pairs = ap (λ s. length (leaf_pairs s)) c.get_leaf-leaf.ensures in
     let within = within_leaf g.S.Argument.Argument.is_summary g.F.FnMut (g.S.NodeStore.slots c.args.store.now) c.args.height c.args.root c.args.f c.args.front c.args.back c.requires.shape c.requires.back c.requires.rises
     c.leaves.f c.leaves.at c.leaves.from (g.S.NodeStore.slots c.leaves.store) c.leaves.invariant.walked node c.get_leaf-leaf.ensures in
-    (omega (arith, within, c.len.ensures.value), omega (arith, long, c.len.ensures.value))
+    (omega (arith, within, c.len-len.ensures.value), omega (arith, long, c.len-len.ensures.value))
 
 pub leaves-preserved : goal.leaves-preserved
 leaves-preserved g c =
     let node = c.get_leaf-leaf.result.now in
     let apart = λ (same : c.leaves.at ≡ c.args.back.0). c.leaves-test.true (c.as_usize.ensures ∙ (ap (λ (x : LeafNodeId). x.0) same ∙ sym c.as_usize-in-leaves.ensures)) in
-    let changed = rw c.len.ensures.value at (c.update_leaf-f.ensures.changed node c.get_leaf-leaf.ensures) in
+    let changed = rw c.len-len.ensures.value at (c.update_leaf-f.ensures.changed node c.get_leaf-leaf.ensures) in
     record {
       callable = c.update_leaf-f.ensures.callable;
       walked = (walked_leaf g.S.Argument.Argument.is_summary g.F.FnMut (g.S.NodeStore.slots c.args.store.now) c.args.height c.args.root c.args.f c.args.front c.args.back c.requires.shape c.requires.back c.requires.rises
@@ -46,7 +46,7 @@ pub leaves-smaller : goal.leaves-smaller
 leaves-smaller g c =
     let node = c.get_leaf-leaf.result.now in
     let apart = λ (same : c.leaves.at ≡ c.args.back.0). c.leaves-test.true (c.as_usize.ensures ∙ (ap (λ (x : LeafNodeId). x.0) same ∙ sym c.as_usize-in-leaves.ensures)) in
-    let changed = rw c.len.ensures.value at (c.update_leaf-f.ensures.changed node c.get_leaf-leaf.ensures) in
+    let changed = rw c.len-len.ensures.value at (c.update_leaf-f.ensures.changed node c.get_leaf-leaf.ensures) in
     let follows = (walked_leaf g.S.Argument.Argument.is_summary g.F.FnMut (g.S.NodeStore.slots c.args.store.now) c.args.height c.args.root c.args.f c.args.front c.args.back c.requires.shape c.requires.back c.requires.rises
     c.leaves.f c.leaves.at c.leaves.from (g.S.NodeStore.slots c.leaves.store) c.leaves.invariant.walked node c.get_leaf-leaf.ensures apart c.unwrap-next.result (sym c.next.ensures ∙ c.unwrap-next.ensures)
     c.update_leaf-f.result changed.0 changed.1 (g.S.NodeStore.slots c.update_leaf-f.new.store) changed.2).1 in

@@ -8,8 +8,8 @@ use Rattle.bptree_tree.proofs.tree.updating.update_leaves.Given as goal
 abbrev pub invariant-leaves : goal.invariant-leaves
 invariant-leaves g l = record {
   callable : goal.F-IsAlwaysCallable g l.f;
-  walked : Walked g.S.Argument.Argument.is_summary g.F.FnMut (g.S.NodeStore.slots l.fn.store) l.height l.root l.fn.f l.front l.back l.f l.at l.from (g.S.NodeStore.slots l.store);
+  walked : Walked g.F.FnMut (g.S.NodeStore.slots l.fn.store) l.fn.height l.fn.root l.fn.f l.fn.front l.fn.back l.f l.at l.from (g.S.NodeStore.slots l.store);
 }
 
 abbrev pub decreases-leaves : goal.decreases-leaves
-decreases-leaves g l = let ids = leaves_at (g.S.NodeStore.slots l.fn.store) l.height l.root in length ids - length (ahead l.at.0 ids)
+decreases-leaves g l = let ids = leaves_at (g.S.NodeStore.slots l.fn.store) l.fn.height l.fn.root in length ids - length (ahead l.at.0 ids)
