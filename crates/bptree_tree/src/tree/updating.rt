@@ -10,7 +10,8 @@ ghost use Rattle.bptree_tree.specs.Updating.{IsUpdatedBetween};
 
 use crate::tree::BPlusTree;
 use bptree_keys::node_id::{LeafNodeId, NodeId};
-use bptree_ranges::ranges::places_between;
+use bptree_ranges::ranges::{places_between, settled};
+use bptree_shape::descent::{first_leaf, last_leaf};
 use bptree_stores::node_stores::NodeStore;
 
 // Changes the values of the slots of a leaf from one on and below another by a closure.
@@ -74,7 +75,11 @@ impl<S: NodeStore> BPlusTree<S> {
         requires { F.IsAlwaysCallable f }
         ensures { (after : F) × ChangesInTurn F.FnMut f self.old.contents after self.new.contents }
     {
-        self.update_range(None, None, f);
+        let first = first_leaf(&self.store, self.root, self.height);
+        let front = settled(&self.store, self.root, self.height, (first, 0));
+        let last = last_leaf(&self.store, self.root, self.height);
+        let back = (last, self.store.get_leaf(last).len());
+        update_leaves(&mut self.store, self.root, self.height, front, back, f);
     }
 
     /// Changes the value of each pair by a closure whose key is not below `lo` and is below `hi`,

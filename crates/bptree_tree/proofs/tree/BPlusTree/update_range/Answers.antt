@@ -1,5 +1,6 @@
 use Rattle.std.proofs.Common.{◌≡◌, ◌∙◌, ap, length, sym}
 use Rattle.std.specs.Option.{option_copied}
+use Rattle.std.specs.Map.{keys_of}
 use Rattle.std.proofs.lemmas.Map.Entries.{length-keys_of}
 use Rattle.bptree_ranges.specs.Ranges.{place_on}
 use Rattle.bptree_shape.specs.Shape.{pairs_at}
