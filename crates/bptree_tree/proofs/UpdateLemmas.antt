@@ -1,5 +1,5 @@
 -- The values between two places of a tree are changed, leaf by leaf.
-use Rattle.std.proofs.Common.{◌≡◌, ◌≢◌, ◌∙◌, ℕ, ◌+◌, ◌-◌, ◌<◌, ◌≤◌, ◌⊎◌, inl, inr, List, [], ◌∷◌, ◌++◌, Option, Some, None, length, take, drop, refl, sym, ap, subst, arith, append_assoc, append-nil, length-append, length-drop, drop-drop, is_some, IsSome}
+use Rattle.std.proofs.Common.{◌≡◌, ◌∙◌, ℕ, ◌+◌, ◌-◌, ◌≤◌, inl, inr, List, [], ◌∷◌, ◌++◌, Option, Some, None, length, take, drop, refl, sym, ap, subst, arith, append_assoc, append-nil, length-append, length-drop, drop-drop}
 use Rattle.std.specs.Borrow.{Bor, MutBor}
 use Rattle.std.specs.Fn.{Mut}
 use Rattle.std.specs.Map.{keys_of}
@@ -15,15 +15,15 @@ use Rattle.bptree_nodes.specs.Leaf.{Leaf}
 use Rattle.bptree_nodes.specs.Slot.{Slot, Slots, Free, Held, Present, IsPresent, UpdatesLeaf}
 use Rattle.bptree_nodes.specs.Updating.{ChangesInTurn}
 use Rattle.bptree_nodes.proofs.Updates.{ChangedUpTo, all_changed, changed_joined, changed_keys, none_changed}
-use Rattle.bptree_ascent.proofs.Alike.{AllAlike, alike_itself, alike_over, keys_alike, leaves_alike, shape_alike}
+use Rattle.bptree_ascent.proofs.Alike.{AllAlike, alike_itself, alike_over, leaves_alike, shape_alike}
 use Rattle.bptree_ascent.proofs.Lent.{set_alike, set_parts}
-use Rattle.bptree_ranges.specs.Ranges.{ahead, place_on, start, IsPlaceOn, IsSettled}
-use Rattle.bptree_ranges.proofs.Ranged.{ComesBefore, NextLeaf, last_of, next_of, order, reached, size, start_is}
+use Rattle.bptree_ranges.specs.Ranges.{place_on, start, IsPlaceOn, IsSettled}
+use Rattle.bptree_ranges.proofs.Ranged.{NextLeaf, last_of, next_of, order, reached, size, start_is}
 use Rattle.bptree_shape.proofs.Agreeing.{present_if_stands, stands_if_present}
 use Rattle.bptree_shape.proofs.NodePieces.{keys-append}
 use Rattle.bptree_shape.proofs.Spot.{parts_of_read}
 use Rattle.bptree_shape.specs.Leaves.{pairs_of, StandsIn}
-use Rattle.bptree_shape.specs.Shape.{leaf_next, leaf_pairs, leaves_at, pairs_at, stands, IsWellShaped}
+use Rattle.bptree_shape.specs.Shape.{leaf_next, leaf_pairs, pairs_at, stands, IsWellShaped}
 use Rattle.bptree_tree.specs.Updating.{IsUpdatedBetween}
 
 module _ {F K V : Type 0} (calls : Mut F (Bor K × (MutBor V × Unit {0})) (Unit {0} × (MutBor V × Unit {0}))) where
