@@ -26,7 +26,9 @@ _len, _contains, _get, _at, _rank = (_call[name] for name in ("len", "contains",
 _put, _del, _remove_at = (_call[name] for name in ("put", "del", "remove_at"))
 _range, _range_back, _range_len = (_call[name] for name in ("range", "range_back", "range_len"))
 _GREATEST = (1 << 64) - 1
-_BLOCK = 64
+# a range of 64 keys fits a block with the key behind it
+_BLOCK = 80
+_NO_WORDS = bytes(16 * _BLOCK)
 _ABSENT = object()
 
 
@@ -211,21 +213,30 @@ class SortedMap(MutableMapping):
         """How many keys are not below the minimum and are below the maximum."""
         return _range_len(self._ref, _word(minimum), _word(maximum))
 
-    def _pairs(self, copy, start: int, end: int, step: int) -> Iterator[tuple[int, int]]:
-        """The pairs from a key on, in blocks, as long as their keys do not pass the end."""
-        block = array("Q", bytes(16 * _BLOCK))
+    def _blocks(self, copy, start: int, end: int, step: int) -> Iterator[tuple[array, list[int]]]:
+        """The pairs from a key on, as long as their keys do not pass the end: blocks of words, each with its keys."""
+        block = array("Q", _NO_WORDS)
         at = block.buffer_info()[0]
         while True:
             count = copy(self._ref, start, at, _BLOCK)
-            words = block[: 2 * count].tolist()
-            keys = words[::2]
-            if count and (end - keys[-1]) * step < 0:
+            keys = block[: 2 * count : 2].tolist()
+            last = keys[-1] if count else end
+            if (end - last) * step < 0:
                 # (the range ends in this block)
-                count = bisect(keys, end) if step > 0 else bisect([-key for key in keys], -end)
-            yield from zip(keys[:count], words[1::2])
-            if count < _BLOCK or keys[-1] == end:
+                del keys[bisect(keys, end) if step > 0 else bisect([-key for key in keys], -end) :]
+            yield block, keys
+            if count < _BLOCK or (end - last) * step <= 0:
                 return
-            start = keys[-1] + step
+            start = last + step
+
+    def _within(self, minimum: int | None, maximum: int | None, inclusive: tuple[bool, bool], reverse: bool) -> Iterator[tuple[array, list[int]]]:
+        """The blocks of the pairs between two keys, each of which belongs to the range where ``inclusive`` says so."""
+        low = 0 if minimum is None else operator.index(minimum) + (not inclusive[0])
+        high = _GREATEST if maximum is None else operator.index(maximum) - (not inclusive[1])
+        low, high = max(low, 0), min(high, _GREATEST)
+        if low > high:
+            return iter(())
+        return self._blocks(_range_back, high, low, -1) if reverse else self._blocks(_range, low, high, 1)
 
     def irange_items(
         self,
@@ -235,12 +246,8 @@ class SortedMap(MutableMapping):
         reverse: bool = False,
     ) -> Iterator[tuple[int, int]]:
         """The pairs between two keys, each of which belongs to the range where ``inclusive`` says so."""
-        low = 0 if minimum is None else operator.index(minimum) + (not inclusive[0])
-        high = _GREATEST if maximum is None else operator.index(maximum) - (not inclusive[1])
-        low, high = max(low, 0), min(high, _GREATEST)
-        if low > high:
-            return iter(())
-        return self._pairs(_range_back, high, low, -1) if reverse else self._pairs(_range, low, high, 1)
+        blocks = self._within(minimum, maximum, inclusive, reverse)
+        return chain.from_iterable(zip(keys, block[1::2]) for block, keys in blocks)
 
     def irange(
         self,
@@ -250,7 +257,7 @@ class SortedMap(MutableMapping):
         reverse: bool = False,
     ) -> Iterator[int]:
         """The keys between two keys, each of which belongs to the range where ``inclusive`` says so."""
-        return (key for key, _ in self.irange_items(minimum, maximum, inclusive, reverse))
+        return chain.from_iterable(keys for _, keys in self._within(minimum, maximum, inclusive, reverse))
 
     def islice(self, start: int | None = None, stop: int | None = None, reverse: bool = False) -> Iterator[int]:
         """The keys of a slice of places."""
