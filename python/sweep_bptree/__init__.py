@@ -229,7 +229,9 @@ class SortedMap(MutableMapping):
                 return
             start = last + step
 
-    def _within(self, minimum: int | None, maximum: int | None, inclusive: tuple[bool, bool], reverse: bool) -> Iterator[tuple[array, list[int]]]:
+    def _within(
+        self, minimum: int | None, maximum: int | None, inclusive: tuple[bool, bool], reverse: bool
+    ) -> Iterator[tuple[array, list[int]]]:
         """The blocks of the pairs between two keys, each of which belongs to the range where ``inclusive`` says so."""
         low = 0 if minimum is None else operator.index(minimum) + (not inclusive[0])
         high = _GREATEST if maximum is None else operator.index(maximum) - (not inclusive[1])
