@@ -270,6 +270,40 @@ fn is_thin<K: Sample>(map: &Map<K>, plain: &Plain) -> bool {
     well && pairs.next().is_none()
 }
 
+// The values between two places are one greater for a while, and all values greater by the number
+// of their key.
+fn is_updated<K: Sample>(
+    alloc: Global,
+    map: &mut Map<K>,
+    plain: &Plain,
+    from: usize,
+    to: usize,
+) -> Result<bool, AllocError> {
+    let (lo, hi) = (key_of(alloc, plain, from)?, key_of(alloc, plain, to)?);
+    map.update_range(lo.as_ref(), hi.as_ref(), |_key: &K, value: &mut u64| {
+        *value = value.wrapping_add(1);
+    });
+    map.update_each(|key: &K, value: &mut u64| {
+        *value = value.wrapping_add(key.number());
+    });
+    let mut well = true;
+    let mut pairs = map.iter();
+    for place in 0..plain.len() {
+        let (key, value) = plain.pair_at(place).unwrap_or((0, 0));
+        let is_between = (lo.is_none() || place >= from) && (hi.is_none() || place < to);
+        let greater = value.wrapping_add(key).wrapping_add(is_between as u64);
+        well = numbers(pairs.next()) == Some((key, greater)) && well;
+    }
+    well = pairs.next().is_none() && well;
+    map.update_each(|key: &K, value: &mut u64| {
+        *value = value.wrapping_sub(key.number());
+    });
+    map.update_range(lo.as_ref(), hi.as_ref(), |_key: &K, value: &mut u64| {
+        *value = value.wrapping_sub(1);
+    });
+    Ok(well)
+}
+
 /// Pairs leave a map as a closure says, or those between two keys do, and come again.
 pub fn is_thinned<K: Sample>(
     alloc: Global,
@@ -278,11 +312,14 @@ pub fn is_thinned<K: Sample>(
     by_range: bool,
 ) -> Result<bool, AllocError> {
     let (from, to) = (plain.len() / 3, plain.len().saturating_sub(2));
-    let mut well = true;
+    let mut well = is_updated(alloc, map, plain, from, to)?;
+    well = is_updated(alloc, map, plain, to, from)? && well;
+    well = is_updated(alloc, map, plain, plain.len(), from)? && well;
     if by_range && from < to {
         let (lo, hi) = (key_of(alloc, plain, from)?, key_of(alloc, plain, to)?);
         let gone = map.remove_range(lo.as_ref(), hi.as_ref())?;
-        well = gone == to.saturating_sub(from) && map.len() == plain.len().saturating_sub(gone);
+        well = gone == to.saturating_sub(from) && well;
+        well = map.len() == plain.len().saturating_sub(gone) && well;
         well = numbers(map.get_at(from)) == plain.pair_at(to) && well;
         well = map.remove_range(hi.as_ref(), lo.as_ref())? == 0 && well;
         let left = map.len().saturating_sub(from);
@@ -293,7 +330,7 @@ pub fn is_thinned<K: Sample>(
             *value = value.wrapping_add(1);
             key.number() % 3 != 0
         });
-        well = kept.is_ok() && is_thin(map, plain);
+        well = kept.is_ok() && is_thin(map, plain) && well;
     }
     Ok(map.extend(own_pairs(alloc, plain)?).is_ok() && well)
 }

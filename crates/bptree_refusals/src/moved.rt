@@ -97,9 +97,17 @@ impl<K: Sample, A: Argument<K> + Told> Moved<K, A> {
         Err(AllocError)
     }
 
-    // A closure keeps all pairs. Where that is refused, the pair in hand comes back, and those that were not asked.
+    // Closures change all values and change them back, without a request. Then one keeps all pairs.
+    // Where that is refused, the pair in hand comes back, and those that were not asked.
     fn keeps(&mut self) -> Result<bool, AllocError> {
         let len = self.here.len();
+        self.here.update_each(|_key: &K, value: &mut u64| {
+            *value = value.wrapping_add(1);
+        });
+        self.here
+            .update_range(None, None, |_key: &K, value: &mut u64| {
+                *value = value.wrapping_sub(1);
+            });
         match self.here.retain(|_key: &K, _value: &mut u64| true) {
             Ok(()) => Ok(self.here.len() == len),
             Err(RetainError::NotMade) => Err(AllocError),
