@@ -67,7 +67,8 @@ fn put_again<S: NodeStore<V = u64>>(
     }
 }
 
-/// The first pair leaves, then the last, then one between, and then none by an empty range. They are put again.
+/// The first pair leaves, then the last, then one between, and then none by an empty range. They
+/// are put again.
 pub fn leave_and_return<S: NodeStore<V = u64>>(
     alloc: Global,
     tree: &mut BPlusTree<S>,

@@ -303,7 +303,8 @@ impl<K: Sample> Holds for BPlusTreeMap<K, u64, Count> {
         }
     }
 
-    // It is collected from what the list holds, twice, in two orders; or many pairs leave and come back.
+    // It is collected from what the list holds, twice, in two orders; or many pairs leave and come
+    // back.
     fn renews(&mut self, alloc: Global, plain: &Plain, turn: u64) -> Result<bool, AllocError> {
         match turn % 7 {
             0 => {

@@ -1,5 +1,5 @@
-//! Calls of a whole map or set: its keys and values alone, a part between two bounds, many pairs that come or leave at once, and
-//! a comparison with another.
+//! Calls of a whole map or set: its keys and values alone, a part between two bounds, many pairs
+//! that come or leave at once, and a comparison with another.
 
 use crate::dice::Sample;
 use crate::drawing::numbers;
@@ -29,7 +29,8 @@ fn value_at(plain: &Plain, place: usize) -> Option<u64> {
     Some(value)
 }
 
-// Whether the keys and the values of a map are those of a list, once from the front and once from the back.
+// Whether the keys and the values of a map are those of a list, once from the front and once from
+// the back.
 fn has_halves<K: Sample>(map: &Map<K>, plain: &Plain) -> bool {
     let (mut keys, mut values) = (map.keys(), map.values());
     let mut well = keys.len() == plain.len() && values.len() == plain.len();
@@ -101,7 +102,8 @@ fn places(
     (start, end.max(start))
 }
 
-// Whether the pairs of a map between bounds at two places are those of a list; and those of its tree.
+// Whether the pairs of a map between bounds at two places are those of a list; and those of its
+// tree.
 fn is_bounded<K: Sample>(
     alloc: Global,
     map: &Map<K>,
@@ -200,7 +202,8 @@ fn own_pairs<K: Sample>(alloc: Global, plain: &Plain) -> Result<Vec<(K, u64)>, A
     Ok(pairs)
 }
 
-// How a map with the pairs of a list stands to one of which some values are greater, or which is equal.
+// How a map with the pairs of a list stands to one of which some values are greater, or which is
+// equal.
 fn is_compared<K: Sample>(one: &Map<K>, other: &Map<K>, is_less: bool) -> bool {
     let order = if is_less {
         Ordering::Less
@@ -213,7 +216,8 @@ fn is_compared<K: Sample>(one: &Map<K>, other: &Map<K>, is_less: bool) -> bool {
         && other.cmp(one) == order.reverse()
 }
 
-/// A map loses some of its values, and has them again from another one, or from pairs that come. What it was is given away.
+/// A map loses some of its values, and has them again from another one, or from pairs that come.
+/// What it was is given away.
 pub fn is_mended<K: Sample>(
     alloc: Global,
     map: &mut Map<K>,
@@ -257,7 +261,8 @@ pub fn leave_and_join<K: Sample>(
     Ok(left.is_empty() && well)
 }
 
-// Whether the pairs of a map are those of a list whose keys' numbers are no multiples of three, each value one greater.
+// Whether the pairs of a map are those of a list whose keys' numbers are no multiples of three,
+// each value one greater.
 fn is_thin<K: Sample>(map: &Map<K>, plain: &Plain) -> bool {
     let mut pairs = map.iter();
     let mut well = true;

@@ -120,7 +120,8 @@ impl<K: Sample, A: Argument<K> + Told> Moved<K, A> {
         }
     }
 
-    // The last pairs but those that came are removed, and put again. Where a removal is refused, the first of them have gone.
+    // The last pairs but those that came are removed, and put again. Where a removal is refused,
+    // the first of them have gone.
     fn empties(&mut self, alloc: Global) -> Result<bool, AllocError> {
         let first = first_to_leave(self.many);
         let (lo, hi) = (K::sample(alloc, first)?, K::sample(alloc, self.many)?);
@@ -154,7 +155,8 @@ impl<K: Sample, A: Argument<K> + Told> Moved<K, A> {
         }
     }
 
-    // A value is changed where the key of a number is, or else put there. It is to be answered whether it was put.
+    // A value is changed where the key of a number is, or else put there. It is to be answered
+    // whether it was put.
     fn updates(&mut self, alloc: Global, number: u64, is_new: bool) -> Result<bool, AllocError> {
         let key = K::sample(alloc, number)?;
         let more = |value: &mut u64| *value = value.wrapping_add(1);
@@ -292,7 +294,8 @@ impl<K: Sample> MovedKeys<K> {
         Err(AllocError)
     }
 
-    // A closure keeps all keys. Where that is refused, the key in hand comes back, and those that were not asked.
+    // A closure keeps all keys. Where that is refused, the key in hand comes back, and those that
+    // were not asked.
     fn keeps(&mut self) -> Result<bool, AllocError> {
         let len = self.here.len();
         match self.here.retain(|_key: &K| true) {
@@ -322,7 +325,8 @@ impl<K: Sample> MovedKeys<K> {
         }
     }
 
-    // The key of a number takes the place of its equal. Where that is refused, the one that was there comes back.
+    // The key of a number takes the place of its equal. Where that is refused, the one that was
+    // there comes back.
     fn replaces(&mut self, alloc: Global, number: u64) -> Result<bool, AllocError> {
         match self.here.replace(K::sample(alloc, number)?) {
             Ok(Some(gone)) => Ok(is_sample(&gone, number)),

@@ -28,7 +28,8 @@ fn rank_in<K: Key, V: Drop>(map: &BPlusTreeMap<K, V, Count>, k: &K) -> (usize, b
     }
 }
 
-/// A map with no pairs over as many maps as there are bounds, and one more: their keys are cut at the bounds.
+/// A map with no pairs over as many maps as there are bounds, and one more: their keys are cut at
+/// the bounds.
 pub fn empty_over<K: Key, V: Drop>(
     alloc: Global,
     bounds: Vec<K>,

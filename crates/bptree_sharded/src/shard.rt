@@ -6,7 +6,8 @@ ghost use Rattle.bptree_keys.specs.Contents.{value, put, del, next, previous, pa
 use bptree_keys::key::Key;
 use std::alloc::AllocError;
 
-/// Ascending pairs that answer about themselves alone: a map in memory, or one that stands elsewhere.
+/// Ascending pairs that answer about themselves alone: a map in memory, or one that stands
+/// elsewhere.
 pub trait Shard: Drop {
     /// The keys.
     type K: Key;

@@ -13,8 +13,8 @@ use bptree_shards::routing::{route, route_below};
 use std::alloc::{AllocError, Global};
 use std::marker::Model;
 
-/// Several shards that are one map: which of them is asked is told by their bounds and by how many pairs each has, and each
-/// call asks as few of them as it can.
+/// Several shards that are one map: which of them is asked is told by their bounds and by how many
+/// pairs each has, and each call asks as few of them as it can.
 #[derive(Drop)]
 pub struct Shards<S: Shard> {
     bounds: Vec<S::K>,
@@ -67,8 +67,9 @@ impl<S: Shard> Shards<S> {
         self.shards[route(&self.bounds, k)].get(k)
     }
 
-    /// Puts a value at a key, and gives what was there. The shard of the key is asked. Where it refuses, the pair comes
-    /// back and the whole is as it was; and so it is where there are as many pairs as a `usize` counts.
+    /// Puts a value at a key, and gives what was there. The shard of the key is asked. Where it
+    /// refuses, the pair comes back and the whole is as it was; and so it is where there are as
+    /// many pairs as a `usize` counts.
     pub fn put(&mut self, k: S::K, v: S::V) -> Result<Option<S::V>, (S::K, S::V)>
         ensures old { IfOk result (λ old. old ≡ value S.K.cmp self.old k) }
         ensures ok { IfOk result (λ old. self.new ≡ put S.K.cmp self.old k v) }
@@ -84,8 +85,8 @@ impl<S: Shard> Shards<S> {
         Ok(old)
     }
 
-    /// Takes out the pair at a key, and gives its value. The shard of the key is asked. Where it refuses, the whole is as it
-    /// was.
+    /// Takes out the pair at a key, and gives its value. The shard of the key is asked. Where it
+    /// refuses, the whole is as it was.
     pub fn del(&mut self, k: &S::K) -> Result<Option<S::V>, AllocError>
         ensures old { IfOk result (λ old. old ≡ value S.K.cmp self.old k.now) }
         ensures ok { IfOk result (λ old. self.new ≡ del S.K.cmp self.old k.now) }
@@ -136,8 +137,8 @@ impl<S: Shard> Shards<S> {
         }
     }
 
-    /// The pair with the least greater key. The shard of the key is asked, and where that has none, the first shard behind it
-    /// that has a pair.
+    /// The pair with the least greater key. The shard of the key is asked, and where that has none,
+    /// the first shard behind it that has a pair.
     pub fn next(&self, k: &S::K) -> Option<(&S::K, &S::V)>
         ensures { option_map (λ pair. (pair.0.now, pair.1.now)) result ≡ next S.K.cmp self.now k.now }
     {
@@ -152,8 +153,8 @@ impl<S: Shard> Shards<S> {
         }
     }
 
-    /// The pair with the greatest smaller key. The last shard that may have one is asked, and where that has none, the last
-    /// shard before it that has a pair.
+    /// The pair with the greatest smaller key. The last shard that may have one is asked, and where
+    /// that has none, the last shard before it that has a pair.
     pub fn prev(&self, k: &S::K) -> Option<(&S::K, &S::V)>
         ensures { option_map (λ pair. (pair.0.now, pair.1.now)) result ≡ previous S.K.cmp self.now k.now }
     {

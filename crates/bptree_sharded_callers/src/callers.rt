@@ -1,4 +1,5 @@
-//! Callers that are proved: what each ensures follows from the contracts of the functions that it calls.
+//! Callers that are proved: what each ensures follows from the contracts of the functions that it
+//! calls.
 ghost use Rattle.std.specs.Prelude.{◌≡◌, ◌<◌, ◌≤◌, ◌^◌, [], true, false, length, map, slice_get, IfOk, Some, None};
 ghost use Rattle.std.specs.Option.{option_copied, option_map};
 ghost use Rattle.bptree_keys.specs.Contents.{has, value, pairs_below};

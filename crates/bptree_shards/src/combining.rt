@@ -32,8 +32,8 @@ pub fn len_of_whole(lengths: &[usize]) -> usize
     before
 }
 
-/// The number of smaller keys in the whole, where the shard of a key has so many. Those of the shards
-/// before it come first.
+/// The number of smaller keys in the whole, where the shard of a key has so many. Those of the
+/// shards before it come first.
 pub fn rank_of_whole(lengths: &[usize], shard: usize, own: usize) -> usize
     requires in_range { shard ≤ length lengths.now }
     requires fits { sum (take shard lengths.now) + own < 2 ^ 64 }
@@ -107,8 +107,8 @@ pub fn last_full(lengths: &[usize]) -> Option<usize>
 }
 
 /// The first shard that has pairs of a page: of at most `n` pairs, from a place of the whole on. It
-/// gives as many of them as it has there. The rest of the page is one of `n` less so many, that many
-/// places on. `None` where the page has no pair.
+/// gives as many of them as it has there. The rest of the page is one of `n` less so many, that
+/// many places on. `None` where the page has no pair.
 pub fn next_part(lengths: &[usize], place: usize, n: usize) -> Option<Part>
     ensures { IsNextPart lengths.now place n result }
 {

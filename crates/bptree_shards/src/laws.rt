@@ -35,8 +35,8 @@ pub fn laws_of_routing<K: Key, V>()
 
 /// The keys that are smaller than a key are those of the shards before its own, and the smaller
 /// ones of its own. The next pair is that of its own shard, or else the first one behind it. The
-/// pair before a key is that of the last shard that may have a smaller key. Where it has none, it is
-/// the last one before that shard.
+/// pair before a key is that of the last shard that may have a smaller key. Where it has none, it
+/// is the last one before that shard.
 pub fn laws_of_neighbours<K: Key, V>()
     ensures rank { (bounds : List K) → (shards : List (List (K × V))) → (k : K) →
         AreShards K.cmp bounds shards →
@@ -62,10 +62,11 @@ pub fn laws_of_neighbours<K: Key, V>()
         option_or (previous K.cmp (lower_shard K.cmp bounds shards k) k) (last_in shards found) }
 {}
 
-/// At most n pairs from a key on are those of its own shard, and then a page of the whole from where
-/// the next shard begins. Back from a key they are those of its own shard, and then a page backward
-/// from where its shard begins. The pairs between two keys are those of consecutive shards. The
-/// first and the last of these are asked by the keys, and those between give each of their pairs.
+/// At most n pairs from a key on are those of its own shard, and then a page of the whole from
+/// where the next shard begins. Back from a key they are those of its own shard, and then a page
+/// backward from where its shard begins. The pairs between two keys are those of consecutive
+/// shards. The first and the last of these are asked by the keys, and those between give each of
+/// their pairs.
 pub fn laws_of_ranges<K: Key, V>()
     ensures forward { (bounds : List K) → (shards : List (List (K × V))) → (k : K) → (n : ℕ) →
         AreShards K.cmp bounds shards →
@@ -87,7 +88,8 @@ pub fn laws_of_ranges<K: Key, V>()
         between K.cmp (piece_at shards i) lo hi ≡ piece_at shards i }
 {}
 
-/// Shards with no pair are shards at any bounds, where there is one more of them than there are bounds.
+/// Shards with no pair are shards at any bounds, where there is one more of them than there are
+/// bounds.
 pub fn law_of_empty_shards<K: Key, V>()
     ensures { (bounds : List K) → (shards : List (List (K × V))) →
         length shards ≡ length bounds + 1 → flatten shards ≡ [] → AreShards K.cmp bounds shards }

@@ -1,4 +1,5 @@
-//! Callers that are proved: what each ensures follows from the contracts of the functions that it calls.
+//! Callers that are proved: what each ensures follows from the contracts of the functions that it
+//! calls.
 
 mod combining;
 mod keys;

@@ -1,4 +1,5 @@
-//! Callers of the functions and laws of shards, and tests of them at numbers that were reckoned by hand.
+//! Callers of the functions and laws of shards, and tests of them at numbers that were reckoned by
+//! hand.
 #![tactic(auto)]
 
 mod callers;

@@ -34,7 +34,8 @@ fn finds_ends(rt: HostRuntime) -> Result<(), Fail> {
     Ok(())
 }
 
-// Five pairs from place 2 on: the last of the first shard, both of the third, and two of the fourth.
+// Five pairs from place 2 on: the last of the first shard, both of the third, and two of the
+// fourth.
 fn page(alloc: Global) -> Result<bool, AllocError> {
     let found = parts(alloc, &[3, 0, 2, 4], 2, 5)?;
     let first = Part {

@@ -58,7 +58,8 @@ fn pop_all(rt: &HostRuntime, map: &mut Plain, other: &mut Plain) -> Result<(), A
     Ok(())
 }
 
-// The upper half of the pairs leaves and comes back, for each pair that moves; and then every second pair leaves, for each pair.
+// The upper half of the pairs leaves and comes back, for each pair that moves; and then every
+// second pair leaves, for each pair.
 fn move_half(rt: &HostRuntime, map: &mut Plain, middle: u64) -> Result<(), AllocError> {
     let many = map.len();
     let start = now(rt);

@@ -13,12 +13,13 @@ use bptree_keys::key::Key;
 use std::alloc::AllocError;
 
 impl<K: Key, V: Drop, A: Argument<K>> BPlusTreeMap<K, V, A> {
-    /// Keeps the pairs for which a closure answers true, in the order of their keys, with their values as it leaves them, and
-    /// drops the others.
+    /// Keeps the pairs for which a closure answers true, in the order of their keys, with their
+    /// values as it leaves them, and drops the others.
     ///
-    /// It costs an insertion in order of each pair that stays, with no way down but for a new leaf. Where memory for the map
-    /// that holds them is refused, nothing has changed. Where an insertion is, its pair is handed back with the pairs that were
-    /// not asked; those before it that are to stay are here.
+    /// It costs an insertion in order of each pair that stays, with no way down but for a new leaf.
+    /// Where memory for the map that holds them is refused, nothing has changed. Where an insertion
+    /// is, its pair is handed back with the pairs that were not asked; those before it that are to
+    /// stay are here.
     pub fn retain<F: FnMut(&K, &mut V) -> bool>(
         &mut self,
         f: F,
@@ -30,10 +31,11 @@ impl<K: Key, V: Drop, A: Argument<K>> BPlusTreeMap<K, V, A> {
         retain_in_tree(&mut self.inner, f)
     }
 
-    /// Removes the pairs whose key is not below `lo` and is below `hi`, where they are given, and answers how many there were.
+    /// Removes the pairs whose key is not below `lo` and is below `hi`, where they are given, and
+    /// answers how many there were.
     ///
-    /// It costs a removal a pair, and a search for its key and for each end that is given. Where one is refused, the first of
-    /// the pairs have left, and nothing else has changed.
+    /// It costs a removal a pair, and a search for its key and for each end that is given. Where
+    /// one is refused, the first of the pairs have left, and nothing else has changed.
     pub fn remove_range<'b>(
         &mut self,
         lo: Option<&'b K>,

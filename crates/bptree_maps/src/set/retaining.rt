@@ -29,9 +29,10 @@ fn key_back<K: Drop>(refusal: InsertError<K, ()>) -> K
 impl<K: Key> BPlusTreeSet<K> {
     /// Keeps the keys for which a closure answers true, in their order, and drops the others.
     ///
-    /// It costs an insertion in order of each key that stays, with no way down but for a new leaf. Where memory for the set that
-    /// holds them is refused, nothing has changed. Where an insertion is, its key is handed back with the keys that were not
-    /// asked; those before it that are to stay are here.
+    /// It costs an insertion in order of each key that stays, with no way down but for a new leaf.
+    /// Where memory for the set that holds them is refused, nothing has changed. Where an insertion
+    /// is, its key is handed back with the keys that were not asked; those before it that are to
+    /// stay are here.
     pub fn retain<F: FnMut(&K) -> bool>(
         &mut self,
         mut f: F,
@@ -56,10 +57,11 @@ impl<K: Key> BPlusTreeSet<K> {
         Ok(())
     }
 
-    /// Removes the keys that are not below `lo` and are below `hi`, where they are given, and answers how many there were.
+    /// Removes the keys that are not below `lo` and are below `hi`, where they are given, and
+    /// answers how many there were.
     ///
-    /// It costs a removal a key, and a search for it and for each end that is given. Where one is refused, the first of the keys
-    /// have left, and nothing else has changed.
+    /// It costs a removal a key, and a search for it and for each end that is given. Where one is
+    /// refused, the first of the keys have left, and nothing else has changed.
     pub fn remove_range<'b>(
         &mut self,
         lo: Option<&'b K>,

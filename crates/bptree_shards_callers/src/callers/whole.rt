@@ -6,7 +6,8 @@ ghost use Rattle.bptree_shards.specs.Lengths.{last_of, lengths_of, ArePartsOf};
 
 use bptree_shards::whole::{laws_of_parts, laws_of_places};
 
-// Of two shards: how many they have, what stands at a place of the first, and which are the ends where each has a pair.
+// Of two shards: how many they have, what stands at a place of the first, and which are the ends
+// where each has a pair.
 fn tells_of_two<T>()
     ensures len { (a b : List T) → length (flatten (a ∷ b ∷ [])) ≡ length a + length b }
     ensures start { (a b : List T) → start_of (a ∷ b ∷ []) 1 ≡ length a }

@@ -12,8 +12,8 @@ use bptree_stores::node_stores::NodeStore;
 use std::alloc::AllocError;
 
 impl<S: NodeStore> BPlusTree<S> {
-    // Removes the pair with the least key that is not below `lo` and is below `hi`, where they are given. It answers whether
-    // there was one.
+    // Removes the pair with the least key that is not below `lo` and is below `hi`, where they are
+    // given. It answers whether there was one.
     fn drop_first_between<'b>(
         &mut self,
         lo: Option<&'b S::K>,
@@ -61,10 +61,12 @@ impl<S: NodeStore> BPlusTree<S> {
         Ok(true)
     }
 
-    /// Removes the pairs whose key is not below `lo` and is below `hi`, where they are given, and answers how many there were.
+    /// Removes the pairs whose key is not below `lo` and is below `hi`, where they are given, and
+    /// answers how many there were.
     ///
-    /// It costs a removal a pair, and a search for its key and for each end that is given. Where one is refused, the first of
-    /// the pairs have left and nothing else has changed: the tree is as whole as before.
+    /// It costs a removal a pair, and a search for its key and for each end that is given. Where
+    /// one is refused, the first of the pairs have left and nothing else has changed: the tree is
+    /// as whole as before.
     pub fn remove_range<'b>(
         &mut self,
         lo: Option<&'b S::K>,
