@@ -104,10 +104,9 @@ impl<K: Sample, A: Argument<K> + Told> Moved<K, A> {
         self.here.update_each(|_key: &K, value: &mut u64| {
             *value = value.wrapping_add(1);
         });
-        self.here
-            .update_range(None, None, |_key: &K, value: &mut u64| {
-                *value = value.wrapping_sub(1);
-            });
+        self.here.update_each(|_key: &K, value: &mut u64| {
+            *value = value.wrapping_sub(1);
+        });
         match self.here.retain(|_key: &K, _value: &mut u64| true) {
             Ok(()) => Ok(self.here.len() == len),
             Err(RetainError::NotMade) => Err(AllocError),
@@ -127,6 +126,14 @@ impl<K: Sample, A: Argument<K> + Told> Moved<K, A> {
         let (lo, hi) = (K::sample(alloc, first)?, K::sample(alloc, self.many)?);
         let many = self.many.saturating_sub(first) as usize;
         let len = self.here.len();
+        self.here
+            .update_range(Some(&lo), Some(&hi), |_key: &K, value: &mut u64| {
+                *value = value.wrapping_add(1);
+            });
+        self.here
+            .update_range(Some(&lo), Some(&hi), |_key: &K, value: &mut u64| {
+                *value = value.wrapping_sub(1);
+            });
         let answer = self.here.remove_range(Some(&lo), Some(&hi));
         let gone = len.saturating_sub(self.here.len());
         let is_right = match answer {
