@@ -7,4 +7,5 @@ pub mod Groups
 pub mod Ranks
 pub mod Replaced
 pub mod Selection
+pub mod Sums
 pub mod Visits

@@ -6,6 +6,7 @@ ghost use Rattle.std.specs.List.Sorted.{IsStrictlySortedBy};
 ghost use Rattle.bptree_arguments.specs.Ranks.{AllAbove, AllBelow, IsSlotIn, IsSlotOf};
 ghost use Rattle.bptree_arguments.specs.Replaced.{SumsUpReplaced};
 ghost use Rattle.bptree_arguments.specs.Selection.{IsPlaceIn, LeadsTo};
+ghost use Rattle.bptree_arguments.specs.Sums.{SumsUpKeys, SumsUpPieces};
 ghost use Rattle.bptree_keys.specs.Pieces.{AllNonEmpty, ArePieces, flatten};
 
 use bptree_keys::key::Key;
@@ -29,13 +30,13 @@ pub trait Argument<K: Key>: Clone + Default + Drop {
 
     /// A summary of the keys of a leaf, which ascend. It fails only where memory is refused.
     fn from_leaf(keys: &[K]) -> Result<Self, AllocError>
-        ensures summary { IfOk result (λ a. 0 < length keys.now → IsStrictlySortedBy K.cmp keys.now → is_summary a keys.now) }
+        ensures summary { IfOk result (SumsUpKeys is_summary K.cmp keys.now) }
         ensures sure { needs_no_memory → IsOk result };
 
     /// A summary of all keys below an inner node, of its separators and of one summary for each
     /// child. A separator need not be a key. It fails only where memory is refused.
     fn from_inner(keys: &[K], arguments: &[Self]) -> Result<Self, AllocError>
-        ensures summary { IfOk result (λ a. (pieces : List (List K)) → ArePieces K.cmp pieces → AllZip is_summary arguments.now pieces → is_summary a (flatten pieces)) }
+        ensures summary { IfOk result (SumsUpPieces is_summary K.cmp arguments.now) }
         ensures sure { needs_no_memory → IsOk result };
 
     /// The summary of a node of which one child's summary changed: of the node's old one and of the

@@ -6,6 +6,7 @@ ghost use Rattle.std.proofs.Common.{rules};
 ghost use Rattle.bptree_arguments.specs.CountLaws.{SelectsPlace, count_below};
 ghost use Rattle.bptree_arguments.specs.Ranks.{AllAbove, AllBelow, IsSlotIn, IsSlotOf};
 ghost use Rattle.bptree_arguments.specs.Replaced.{SumsUpReplaced};
+ghost use Rattle.bptree_arguments.specs.Sums.{SumsUpKeys, SumsUpPieces};
 ghost use Rattle.bptree_keys.specs.Pieces.{AllNonEmpty, ArePieces, flatten};
 
 use crate::argument::{Argument, CloneArgument, RankArgument, SearchArgument};
@@ -74,7 +75,7 @@ impl<K: Key> Argument<K> for Count {
     ghost needs_no_memory = { ⊤ };
 
     fn from_leaf(keys: &[K]) -> Result<Count, AllocError>
-        ensures summary { IfOk result (λ a. 0 < length keys.now → IsStrictlySortedBy K.cmp keys.now → a.0 ≡ length keys.now) }
+        ensures summary { IfOk result (SumsUpKeys (λ a keys. a.0 ≡ length keys) K.cmp keys.now) }
         ensures exact { IfOk result (λ a. a.0 ≡ length keys.now) }
         ensures sure { IsOk result }
     {
@@ -84,7 +85,7 @@ impl<K: Key> Argument<K> for Count {
     /// The sum of the counts, in one step a child. It stops at the greatest `usize`, which no list
     /// of keys is longer than. The separators don't count.
     fn from_inner(_keys: &[K], arguments: &[Count]) -> Result<Count, AllocError>
-        ensures summary { IfOk result (λ a. (pieces : List (List K)) → ArePieces K.cmp pieces → AllZip (λ b keys. b.0 ≡ length keys) arguments.now pieces → a.0 ≡ length (flatten pieces)) }
+        ensures summary { IfOk result (SumsUpPieces (λ a keys. a.0 ≡ length keys) K.cmp arguments.now) }
         ensures capped { IfOk result (λ a. a.0 ≡ min (sum_by (λ b. b.0) arguments.now) (2 ^ 64 - 1)) }
         ensures sure { IsOk result }
     {
