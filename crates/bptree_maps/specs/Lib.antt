@@ -1,6 +1,9 @@
 pub mod Beside
 pub mod Comparing
+pub mod Gathering
 pub mod KeyBounds
+pub mod KeyChanges
+pub mod KeyLaws
 pub mod Keys
 pub mod Moving
 pub mod Pages

@@ -5,6 +5,7 @@ use Rattle.std.specs.Iterator.{Drains, YieldsThen}
 use Rattle.std.specs.Map.{keys_of}
 use Rattle.bptree_keys.specs.Contents.{put}
 use Rattle.bptree_tree.specs.Refusal.{pair_of}
+use Rattle.bptree_maps.specs.Keys.{with_key}
 use Rattle.bptree_maps.specs.declared.refusals.MoveError.{MoveError}
 use Rattle.bptree_maps.specs.declared.refusals.MoveError.TheVariants.{NotTaken, NotStored}
 
@@ -39,3 +40,22 @@ module _ {X : Type 0} (put_one : List X → X → List X) where
     -- what came of an iterator before a member was put
     abbrev pub IsExtendedUpTo : S → X → List X → List X → Type 0
     IsExtendedUpTo it x old new = (given : List X) × (rest : S) × YieldsThen steps it given (Some x) rest × (new ≡ put_all old given)
+
+    -- the same of an iterator that items become
+    abbrev pub Extends : {U : Type 0} → (U → S → Type 0) → U → List X → List X → Type 0
+    Extends becomes items old new = (it : S) × becomes items it × IsExtended it old new
+
+    abbrev pub ExtendsUpTo : {U : Type 0} → (U → S → Type 0) → U → List X → List X → X → Type 0
+    ExtendsUpTo becomes items old new x = (it : S) × becomes items it × IsExtendedUpTo it x old new
+
+  -- all members of another list were put and have left it
+  abbrev pub AllMove : List X → List X → List X → List X → Type 0
+  AllMove old other new rest = (new ≡ put_all old other) × (rest ≡ [])
+
+-- the first pairs of another map were put and have left it, then come those in hand, and the others stay in it
+abbrev pub MovesPairs : {K V : Type 0} → (K → K → Ordering) → List (K × V) → List (K × V) → List (K × V) → List (K × V) → MoveError K V → Type 0
+MovesPairs cmp old other new rest refusal = Moves (put_pair cmp) old other (in_hand refusal) new rest
+
+-- the same of two sets
+abbrev pub MovesKeys : {K V : Type 0} → (K → K → Ordering) → List K → List K → List K → List K → MoveError K V → Type 0
+MovesKeys cmp old other new rest refusal = Moves (with_key cmp) old other (key_in_hand refusal) new rest

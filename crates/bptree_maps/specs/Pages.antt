@@ -1,8 +1,11 @@
 -- Pages of a list: so many members each, counted from 0.
-use Rattle.std.specs.Prelude.{ℕ, zero, suc, ◌*◌, List, [], ◌++◌}
+use Rattle.std.specs.Prelude.{ℕ, zero, suc, ◌*◌, List, [], ◌++◌, ◌≡◌, ◌/◌, Result, Ok, Err, if◌then◌else◌}
 use Rattle.std.specs.declared.cmp.Ordering.{Ordering}
 use Rattle.bptree_arguments.specs.Groups.{of_group}
 use Rattle.bptree_keys.specs.Ranges.{part}
+use Rattle.std.specs.Map.{keys_of}
+use Rattle.bptree_arguments.specs.CountLaws.{count_below}
+use Rattle.bptree_keys.specs.Contents.{has}
 
 module _ {X : Type 0} where
   -- page p of s members, or of those that are there
@@ -18,3 +21,7 @@ module _ {K V G : Type 0} (cmp : G → G → Ordering) (group_of : K → G) wher
   -- page p of s pairs of one group
   abbrev pub group_page : G → List (K × V) → ℕ → ℕ → List (K × V)
   group_page g l p s = page (of_group cmp group_of g l) p s
+
+-- the page of a key, or the page where it would stand
+abbrev pub IsPageOf : {K V : Type 0} → (K → K → Ordering) → List (K × V) → K → ℕ → Result ℕ ℕ → Type 0
+IsPageOf cmp l k s answer = let at = count_below cmp k (keys_of l) / s in answer ≡ (if has cmp l k then Ok at else Err at)

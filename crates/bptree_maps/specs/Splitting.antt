@@ -1,11 +1,13 @@
 -- The end of a list that moves to a list of its own.
-use Rattle.std.specs.Prelude.{◌-◌, Bool, false, not, Option, Some, None, List, [], ◌++◌, length, slice_get}
+use Rattle.std.specs.Prelude.{◌-◌, Bool, false, not, Option, Some, None, List, [], ◌++◌, length, slice_get, ◌≡◌}
 use Rattle.std.specs.declared.cmp.Ordering.{Ordering}
 use Rattle.std.specs.Ordering.{is_lt}
 use Rattle.bptree_maps.specs.declared.refusals.MoveError.{MoveError}
 use Rattle.bptree_maps.specs.declared.refusals.SplitError.{SplitError}
 use Rattle.bptree_maps.specs.declared.refusals.SplitError.TheVariants.{NotMade, NotAll}
 use Rattle.bptree_maps.specs.Moving.{in_hand, key_in_hand}
+use Rattle.bptree_keys.specs.Ranges.{between}
+use Rattle.bptree_maps.specs.Keys.{keys_between}
 
 module _ {K V M : Type 0} (pairs : M → List (K × V)) where
   -- what had left when a split ended early: the pair in hand, and the pairs that were stored
@@ -26,3 +28,20 @@ is_not_below cmp k (Some pair) = not (is_lt (cmp pair.0 k))
 -- the last key is not below k
 abbrev pub reaches : {K V : Type 0} → (K → K → Ordering) → List (K × V) → K → Bool
 reaches cmp l k = is_not_below cmp k (slice_get l (length l - 1))
+
+module _ {K V : Type 0} (cmp : K → K → Ordering) (k : K) where
+  -- the pairs that are below k stay, and the others are there
+  abbrev pub SplitsOff : List (K × V) → List (K × V) → List (K × V) → Type 0
+  SplitsOff old new there = (new ≡ between cmp old None (Some k)) × (there ≡ between cmp old (Some k) None)
+
+  -- the same pairs are below k as before
+  abbrev pub KeepsBelow : List (K × V) → List (K × V) → Type 0
+  KeepsBelow old new = between cmp new None (Some k) ≡ between cmp old None (Some k)
+
+module _ {K : Type 0} (cmp : K → K → Ordering) (k : K) where
+  -- the same of a set
+  abbrev pub SplitsKeysOff : List K → List K → List K → Type 0
+  SplitsKeysOff old new there = (new ≡ keys_between cmp old None (Some k)) × (there ≡ keys_between cmp old (Some k) None)
+
+  abbrev pub KeepsKeysBelow : List K → List K → Type 0
+  KeepsKeysBelow old new = keys_between cmp new None (Some k) ≡ keys_between cmp old None (Some k)

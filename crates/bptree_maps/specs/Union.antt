@@ -1,5 +1,5 @@
 -- The union of two ascending lists of keys.
-use Rattle.std.specs.Prelude.{◌≡◌, List, Option}
+use Rattle.std.specs.Prelude.{◌≡◌, ℕ, ◌+◌, ◌≤◌, ◌^◌, List, Option, MatchOption, length, max}
 use Rattle.std.specs.declared.cmp.Ordering.{Ordering}
 use Rattle.std.specs.Borrow.{Bor}
 use Rattle.std.specs.Map.Iter.{TakesFirst, deref}
@@ -16,3 +16,8 @@ module _ {K : Type 0} (cmp : K → K → Ordering) where
   IsUnionStep old r new =
       let step = merge_step cmp old.0 old.1 in
       (option_map deref r ≡ option_or step.first step.second) × (new ≡ step.left) × TakesFirst deref (union old.0 old.1) r (union new.0 new.1)
+
+-- what is told of the length of the union of two lists: the longer one's at least, and both together at most, where that can be told
+abbrev pub IsBetweenLengths : {X : Type 0} → List X → List X → ℕ × Option ℕ → Type 0
+IsBetweenLengths first second told =
+    (told.0 ≡ max (length first) (length second)) × MatchOption told.1 (2 ^ 64 ≤ length first + length second) (λ sum. sum ≡ length first + length second)

@@ -1,31 +1,34 @@
 //! An ordered map.
-ghost use Rattle.std.specs.Prelude.{◌≡◌, ◌+◌, ◌-◌, ◌*◌, ◌^◌, ◌<◌, ◌≤◌, ℕ, List, [], None, Some, Ok, length, slice_get, false, IfOk, IfErr, OnErr, IsOk, IsTrue, ◌↔◌, MatchResult, MatchOption, is_ok, IfSome};
+ghost use Rattle.std.specs.Prelude.{◌≡◌, ◌*◌, ◌≤◌, List, [], None, Some, Ok, length, slice_get, false, IfOk, IfErr, OnErr, IsOk, IsTrue, ◌↔◌, is_ok, IfSome};
 ghost use Rattle.std.specs.Borrow.{Lends, LendsIf, LendsSoOk, sem};
 ghost use Rattle.std.specs.Map.{keys_of, values_of};
-ghost use Rattle.std.specs.Iterator.{Drains, IsFinite, at_most, item_count, UpTo};
+ghost use Rattle.std.specs.Iterator.{at_most, item_count, UpTo, IsFiniteIterable as AreFinite};
 ghost use Rattle.std.specs.Iterator.Runs.{WholeRun};
 ghost use Rattle.std.specs.Iterator.SizeHint.{IsWithinCount};
-ghost use Rattle.std.specs.List.{AllZip, remove};
+ghost use Rattle.std.specs.List.{remove};
 ghost use Rattle.std.specs.List.Sorted.{IsStrictlySortedBy};
 ghost use Rattle.std.specs.Map.Iter.{ShowsInOrder, GivesInOrder, GivesInReverse, TakesFirst, TakesLast, deref, deref_pair};
 ghost use Rattle.std.specs.Option.{option_map, option_copied, option_copied_mut};
-ghost use Rattle.std.specs.declared.cmp.Ordering.TheVariants.{Equal};
 ghost use Rattle.bptree_arguments.specs.Groups.{of_group};
 ghost use Rattle.bptree_arguments.specs.Visits.{answered, IsAllowedError};
 ghost use Rattle.bptree_ascent.specs.Lending.{written};
-ghost use Rattle.bptree_keys.specs.Contents.{IsAscending, has, value, put, del, gather, next};
+ghost use Rattle.bptree_keys.specs.Contents.{IsAscending, has, value, gather, next};
 ghost use Rattle.bptree_keys.specs.Ranges.{between, part};
 ghost use Rattle.bptree_maps.specs.Places.{place};
 ghost use Rattle.bptree_maps.specs.Popping.{IsPopped};
 ghost use Rattle.bptree_nodes.specs.Leaf.{set_value_at};
 ghost use Rattle.bptree_ranges.specs.Summaries.{IsPartSummary};
-ghost use Rattle.bptree_descents.specs.ByArgument.{IsPartSelected, IsSelected, IsTaken};
-ghost use Rattle.bptree_tree.specs.Cursor.{StandsAt};
-ghost use Rattle.bptree_tree.specs.Entries.{entry, at_least};
-ghost use Rattle.bptree_tree.specs.Refusal.{pair_of};
+ghost use Rattle.bptree_descents.specs.ByArgument.{IsPartSelected, IsTaken};
+ghost use Rattle.bptree_tree.specs.Cursor.{PointsAt, ShowsValueOf};
+ghost use Rattle.bptree_tree.specs.Entries.{entry, at_least, SumsUpBetween, last_of, pairs_between};
+ghost use Rattle.bptree_tree.specs.Refusal.{HandsBack};
 ghost use Rattle.bptree_maps.specs.contracts.map.BPlusTreeMap.{the_row};
 ghost use Rattle.bptree_maps.specs.Rows.{inner_row, count_row, count_argument, count_clone, count_default};
 ghost use Rattle.bptree_maps.specs.Writing.{WritesAt};
+ghost use Rattle.bptree_maps.specs.Gathering.{AreFewFor, IsMapOf};
+ghost use Rattle.bptree_tree.specs.Changes.{EitherWay, IsFull, PopsFirst, PopsLast, Puts, Removes, RemovesEntry, RemovesTold};
+ghost use Rattle.bptree_tree.specs.Selected.{LendsSelected, SelectsNone, ShowsSelected};
+ghost use Rattle.bptree_tree.specs.Whole.{ArePairsCloned};
 
 mod borrowed;
 mod bounds;
@@ -93,8 +96,8 @@ impl<K: Key, V: Drop, A: Argument<K>> BPlusTreeMap<K, V, A> {
         alloc: Global,
         pairs: I,
     ) -> Result<Self, AllocError>
-        requires { (it : I.IntoIter) → I.into_iter_gives pairs it → I.IntoIter.can_next it × IsFinite (I.IntoIter.remaining it) }
-        ensures given { IfOk result (λ map. (it : I.IntoIter) × (given : List (K × V)) × I.into_iter_gives pairs it × Drains I.IntoIter.next_gives it given × (map ≡ gather K.cmp given)) }
+        requires { AreFinite I.into_iter_gives I.IntoIter.can_next I.IntoIter.remaining pairs }
+        ensures given { IfOk result (IsMapOf I.into_iter_gives K.cmp I.IntoIter.next_gives pairs) }
         ensures runs { IfOk result (λ map. (it : I.IntoIter) × I.into_iter_gives pairs it × WholeRun I.IntoIter.next_gives it (λ run. map ≡ gather K.cmp run.items)) }
     {
         let given: Vec<(K, V)> = pairs.into_iter().collect(alloc)?;
@@ -134,7 +137,7 @@ impl<K: Key, V: Drop, A: Argument<K>> BPlusTreeMap<K, V, A> {
 
     /// The pair whose key equals `k`, with the key that is stored. It costs what `get` does.
     pub fn get_key_value(&self, k: &K) -> Option<(&K, &V)>
-        ensures { option_map (λ pair. (pair.0.now, pair.1.now)) result ≡ entry K.cmp self.now k.now }
+        ensures { option_map deref_pair result ≡ entry K.cmp self.now k.now }
     {
         self.inner.get_key_value(k)
     }
@@ -142,7 +145,7 @@ impl<K: Key, V: Drop, A: Argument<K>> BPlusTreeMap<K, V, A> {
     /// The same as `get`, and how many comparisons of keys it made.
     pub fn get_counted(&self, k: &K) -> (Option<&V>, usize)
         ensures value { option_copied result.0 ≡ value K.cmp self.now k.now }
-        ensures count { (h : ℕ) × (h ≤ 15) × (0 < h → 32 * 17 ^ (h - 1) ≤ length self.now) × (result.1 ≤ 7 * (h + 1) + 2) }
+        ensures count { AreFewFor (length self.now) result.1 }
     {
         // Read, so that it is known to be low.
         let _height = self.inner.height();
@@ -163,10 +166,10 @@ impl<K: Key, V: Drop, A: Argument<K>> BPlusTreeMap<K, V, A> {
     /// never refused. A pair with a new key can be refused: for want of memory, or in a map of
     /// `usize::MAX` pairs. Then nothing has changed.
     pub fn insert(&mut self, k: K, v: V) -> Result<Option<V>, InsertError<K, V>>
-        ensures ok { IfOk result (λ old. (old ≡ value K.cmp self.old k) × (self.new ≡ put K.cmp self.old k v)) }
-        ensures err { IfErr result (λ refusal. (pair_of refusal ≡ (k, v)) × (self.new ≡ self.old)) }
+        ensures ok { IfOk result (Puts K.cmp k v self.old self.new) }
+        ensures err { IfErr result (HandsBack (k, v) self.old self.new) }
         ensures present { IsTrue (has K.cmp self.old k) → IsOk result }
-        ensures full { (result ≡ Err (InsertError.Full k v)) ↔ ((length self.old ≡ usize.MAX) × (has K.cmp self.old k ≡ false)) }
+        ensures full { (result ≡ Err (InsertError.Full k v)) ↔ IsFull K.cmp usize.MAX self.old k }
     {
         self.inner.insert(k, v)
     }
@@ -175,7 +178,7 @@ impl<K: Key, V: Drop, A: Argument<K>> BPlusTreeMap<K, V, A> {
     /// changes and nothing can be refused. The removal of a pair can be refused for want of memory;
     /// then nothing has changed.
     pub fn remove(&mut self, k: &K) -> Result<Option<V>, AllocError>
-        ensures ok { IfOk result (λ old. (old ≡ value K.cmp self.old k.now) × (self.new ≡ del K.cmp self.old k.now)) }
+        ensures ok { IfOk result (Removes K.cmp k.now self.old self.new) }
         ensures absent { has K.cmp self.old k.now ≡ false → result ≡ Ok None }
         ensures err { OnErr result (self.new ≡ self.old) }
     {
@@ -184,28 +187,28 @@ impl<K: Key, V: Drop, A: Argument<K>> BPlusTreeMap<K, V, A> {
 
     /// The pair with the least key.
     pub fn first(&self) -> Option<(&K, &V)>
-        ensures { option_map (λ pair. (pair.0.now, pair.1.now)) result ≡ slice_get self.now 0 }
+        ensures { option_map deref_pair result ≡ slice_get self.now 0 }
     {
         self.inner.first()
     }
 
     /// The pair with the greatest key.
     pub fn last(&self) -> Option<(&K, &V)>
-        ensures { option_map (λ pair. (pair.0.now, pair.1.now)) result ≡ slice_get self.now (length self.now - 1) }
+        ensures { option_map deref_pair result ≡ last_of self.now }
     {
         self.inner.last()
     }
 
     /// The pair with the least key: the same as `first`.
     pub fn first_key_value(&self) -> Option<(&K, &V)>
-        ensures { option_map (λ pair. (pair.0.now, pair.1.now)) result ≡ slice_get self.now 0 }
+        ensures { option_map deref_pair result ≡ slice_get self.now 0 }
     {
         self.inner.first()
     }
 
     /// The pair with the greatest key: the same as `last`.
     pub fn last_key_value(&self) -> Option<(&K, &V)>
-        ensures { option_map (λ pair. (pair.0.now, pair.1.now)) result ≡ slice_get self.now (length self.now - 1) }
+        ensures { option_map deref_pair result ≡ last_of self.now }
     {
         self.inner.last()
     }
@@ -215,8 +218,8 @@ impl<K: Key, V: Drop, A: Argument<K>> BPlusTreeMap<K, V, A> {
     ///
     /// It costs what `get` does, and where `k` itself is not there one more search of its leaf.
     pub fn lower_bound(&self, k: &K) -> Result<Option<(Cursor<K>, &V)>, AllocError>
-        ensures cursor { IfOk result (λ answer. StandsAt K.cmp (at_least K.cmp self.now k.now) (option_map (λ found. found.0) answer)) }
-        ensures value { IfOk result (λ answer. option_map (λ found. found.1.now) answer ≡ option_map (λ pair. pair.1) (at_least K.cmp self.now k.now)) }
+        ensures cursor { IfOk result (PointsAt K.cmp (at_least K.cmp self.now k.now)) }
+        ensures value { IfOk result (ShowsValueOf (at_least K.cmp self.now k.now)) }
         ensures end { at_least K.cmp self.now k.now ≡ None → result ≡ Ok None }
         ensures sure { ((key : K) → K.is_infallible key) → IsOk result }
     {
@@ -228,8 +231,8 @@ impl<K: Key, V: Drop, A: Argument<K>> BPlusTreeMap<K, V, A> {
     ///
     /// It costs what `get` does, and one more search of the leaf.
     pub fn upper_bound(&self, k: &K) -> Result<Option<(Cursor<K>, &V)>, AllocError>
-        ensures cursor { IfOk result (λ answer. StandsAt K.cmp (next K.cmp self.now k.now) (option_map (λ found. found.0) answer)) }
-        ensures value { IfOk result (λ answer. option_map (λ found. found.1.now) answer ≡ option_map (λ pair. pair.1) (next K.cmp self.now k.now)) }
+        ensures cursor { IfOk result (PointsAt K.cmp (next K.cmp self.now k.now)) }
+        ensures value { IfOk result (ShowsValueOf (next K.cmp self.now k.now)) }
         ensures end { next K.cmp self.now k.now ≡ None → result ≡ Ok None }
         ensures sure { ((key : K) → K.is_infallible key) → IsOk result }
     {
@@ -240,7 +243,7 @@ impl<K: Key, V: Drop, A: Argument<K>> BPlusTreeMap<K, V, A> {
     /// no key does, nothing changes and nothing can be refused. Where the removal is refused for
     /// want of memory, nothing has changed.
     pub fn remove_entry(&mut self, k: &K) -> Result<Option<(K, V)>, AllocError>
-        ensures ok { IfOk result (λ gone. (gone ≡ entry K.cmp self.old k.now) × (self.new ≡ del K.cmp self.old k.now)) }
+        ensures ok { IfOk result (RemovesEntry K.cmp k.now self.old self.new) }
         ensures absent { has K.cmp self.old k.now ≡ false → result ≡ Ok None }
         ensures err { OnErr result (self.new ≡ self.old) }
     {
@@ -254,7 +257,7 @@ impl<K: Key, V: Drop, A: Argument<K>> BPlusTreeMap<K, V, A> {
     /// memory, nothing has changed.
     pub fn pop_first(&mut self) -> Result<Option<(K, V)>, AllocError>
         ensures ok { IfOk result (IsPopped K.cmp self.old self.new) }
-        ensures stored { IfOk result (λ gone. TakesFirst (λ pair. pair) self.old gone self.new) }
+        ensures stored { IfOk result (PopsFirst self.old self.new) }
         ensures empty { self.old ≡ [] → result ≡ Ok None }
         ensures err { OnErr result (self.new ≡ self.old) }
     {
@@ -267,7 +270,7 @@ impl<K: Key, V: Drop, A: Argument<K>> BPlusTreeMap<K, V, A> {
     /// It is one way down, on which no key is compared. Where the removal is refused for want of
     /// memory, nothing has changed.
     pub fn pop_last(&mut self) -> Result<Option<(K, V)>, AllocError>
-        ensures stored { IfOk result (λ gone. TakesLast (λ pair. pair) self.old gone self.new) }
+        ensures stored { IfOk result (PopsLast self.old self.new) }
         ensures empty { self.old ≡ [] → result ≡ Ok None }
         ensures err { OnErr result (self.new ≡ self.old) }
     {
@@ -297,7 +300,7 @@ impl<K: Key, V: Drop, A: Argument<K>> BPlusTreeMap<K, V, A> {
     ) -> Result<Option<(&K, &V)>, AllocError>
     where
         A: SearchArgument<K>,
-        ensures selected { IfOk result (λ answer. IsSelected A.selects query self.now (option_map (λ pair. (pair.0.now, pair.1.now)) answer)) }
+        ensures selected { IfOk result (ShowsSelected A.selects query self.now) }
         ensures sure { A.needs_no_memory → IsOk result }
     {
         self.inner.get_by_argument(query)
@@ -316,9 +319,9 @@ impl<K: Key, V: Drop, A: Argument<K>> BPlusTreeMap<K, V, A> {
     where
         A: SearchArgument<K>,
         ensures* writes_back { sem 𝓛 (LendsSoOk (the_row K.row V.row A.row K.Key.own K.Clone K.Ord.own K.Eq.own K.PartialEq K.PartialOrd.own A.Argument.own A.Clone A.Default) V.row self.entry result (λ n w. IfOk result (λ r. WritesAt A.selects query self.old r.now w n)) (λ n. n ≡ self.old)) }
-        ensures value { IfOk result (λ lent. (i : ℕ) × A.selects query (keys_of self.old) (Some i) × (slice_get (values_of self.old) i ≡ Some lent.now)) }
-        ensures absent { IfErr result (λ error. error ≡ SelectError.NotFound → A.selects query (keys_of self.old) None) }
-        ensures sure { A.needs_no_memory → IfErr result (λ error. error ≡ SelectError.NotFound) }
+        ensures value { IfOk result (LendsSelected A.selects query self.old) }
+        ensures absent { IfErr result (SelectsNone A.selects query self.old) }
+        ensures sure { A.needs_no_memory → IfErr result (λ e. e ≡ SelectError.NotFound) }
     {
         self.inner.get_mut_by_argument(query)
     }
@@ -332,7 +335,7 @@ impl<K: Key, V: Drop, A: Argument<K>> BPlusTreeMap<K, V, A> {
     where
         A: SearchArgument<K>,
         ensures ok { IfOk result (IsTaken A.selects query self.old self.new) }
-        ensures by_key { IfOk result (λ gone. MatchOption gone (self.new ≡ self.old) (λ pair. self.new ≡ del K.cmp self.old pair.0)) }
+        ensures by_key { IfOk result (RemovesTold K.cmp self.old self.new) }
         ensures err { OnErr result (self.new ≡ self.old) }
     {
         self.inner.remove_by_argument(query)
@@ -346,8 +349,8 @@ impl<K: Key, V: Drop, A: Argument<K>> BPlusTreeMap<K, V, A> {
     ) -> Result<Result<<A as RankArgument<K>>::Rank, <A as RankArgument<K>>::Rank>, AllocError>
     where
         A: RankArgument<K>,
-        ensures ranked { IfOk result (λ answer. MatchResult answer (A.ranks k.now (keys_of self.now)) (A.ranks k.now (keys_of self.now))) }
-        ensures present { IfOk result (λ answer. is_ok answer ≡ has K.cmp self.now k.now) }
+        ensures ranked { IfOk result (EitherWay (A.ranks k.now (keys_of self.now))) }
+        ensures present { IfOk result (λ a. is_ok a ≡ has K.cmp self.now k.now) }
         ensures sure { A.needs_no_memory → IsOk result }
     {
         self.inner.rank_by_argument(k)
@@ -431,7 +434,7 @@ impl<K: Key, V: Drop, A: Argument<K>> BPlusTreeMap<K, V, A> {
     /// Each end that is given is searched for once. How many pairs there are is told when it is
     /// asked, by a step for each leaf between.
     pub fn range<'b>(&self, lo: Option<&'b K>, hi: Option<&'b K>) -> Iter<'_, K, V, A>
-        ensures rest { result ≡ between K.cmp self.now (option_copied lo.entry) (option_copied hi.entry) }
+        ensures rest { result ≡ pairs_between K.cmp self.now lo.entry hi.entry }
         ensures ascending { IsAscending K.cmp result }
         ensures runs { ShowsInOrder (deref_pair {K = K} {X = V}) }
     {
@@ -447,7 +450,7 @@ impl<K: Key, V: Drop, A: Argument<K>> BPlusTreeMap<K, V, A> {
     /// summaries of the children between the ways are summed up. It fails only where the argument
     /// does, or where room for two summaries is refused.
     pub fn range_argument<'b>(&self, lo: Option<&'b K>, hi: Option<&'b K>) -> Result<A, AllocError>
-        ensures { IfOk result (λ summary. A.is_summary summary (keys_of (between K.cmp self.now (option_copied lo.entry) (option_copied hi.entry)))) }
+        ensures { IfOk result (SumsUpBetween A.is_summary K.cmp self.now lo.entry hi.entry) }
     {
         self.inner.range_argument(lo, hi)
     }
@@ -549,7 +552,7 @@ impl<K: Key, V: Drop> BPlusTreeMap<K, V, Count> {
     /// How many keys are not below `lo` and are below `hi`, where they are given. It takes a way
     /// down for each end that is given, however many pairs stand between, and is never refused.
     pub fn range_len<'b>(&self, lo: Option<&'b K>, hi: Option<&'b K>) -> usize
-        ensures { result ≡ length (between K.cmp self.now (option_copied lo.entry) (option_copied hi.entry)) }
+        ensures { result ≡ length (pairs_between K.cmp self.now lo.entry hi.entry) }
     {
         self.inner.range_len(lo, hi)
     }
@@ -569,7 +572,7 @@ impl<K: Key, V: Drop> BPlusTreeMap<K, V, Count> {
     /// The pair at a place in the order of the keys, from 0 on, or none past the end. It is one way
     /// down, takes no memory, and is never refused.
     pub fn get_at(&self, i: usize) -> Option<(&K, &V)>
-        ensures { option_map (λ pair. (pair.0.now, pair.1.now)) result ≡ slice_get self.now i }
+        ensures { option_map deref_pair result ≡ slice_get self.now i }
     {
         match self.inner.get_by_argument(i) {
             Ok(found) => found,
@@ -582,7 +585,7 @@ impl<K: Key, V: Drop> BPlusTreeMap<K, V, Count> {
     pub fn get_mut_at(&mut self, i: usize) -> Result<&mut V, SelectError>
         ensures* writes_back { sem 𝓛 (LendsSoOk (the_row K.row V.row count_row K.Key.own K.Clone K.Ord.own K.Eq.own K.PartialEq K.PartialOrd.own (count_argument K.row K.Key.own K.Clone K.Ord.own K.Eq.own K.PartialEq K.PartialOrd.own) count_clone count_default) V.row self.entry result (λ n w. n ≡ set_value_at self.old i w) (λ n. n ≡ self.old)) }
         ensures value { IfOk result (λ lent. slice_get (values_of self.old) i ≡ Some lent.now) }
-        ensures past { IfErr result (λ error. (error ≡ SelectError.NotFound) × (length self.old ≤ i)) }
+        ensures past { IfErr result (λ e. (e ≡ SelectError.NotFound) × (length self.old ≤ i)) }
     {
         self.inner.get_mut_by_argument(i)
     }
@@ -610,8 +613,7 @@ impl<K: Key, V: Clone + Drop, A: CloneArgument<K>> BPlusTreeMap<K, V, A> {
     /// Each key, value and summary is cloned once. It is refused where a request for memory is, or
     /// where one of these clones is; what was cloned till then is dropped.
     pub fn clone(&self) -> Result<Self, AllocError>
-        ensures { IfOk result (λ copy. AllZip
-            (λ p q. (K.cmp p.0 q.0 ≡ Equal) × V.is_clone p.1 q.1) self.now copy) }
+        ensures { IfOk result (ArePairsCloned K.cmp V.is_clone self.now) }
     {
         Ok(BPlusTreeMap {
             inner: self.inner.clone()?,

@@ -1,11 +1,9 @@
 //! Pages of a map: so many pairs each, in the order of their keys, and counted from 0.
-ghost use Rattle.std.specs.Prelude.{◌≡◌, ◌≤◌, ◌/◌, ℕ, List, [], length, if◌then◌else◌, IfOk, IsOk, Ok, Err};
+ghost use Rattle.std.specs.Prelude.{◌≡◌, ◌≤◌, ℕ, List, [], length, IfOk, IsOk, Ok, Err};
 ghost use Rattle.std.specs.Int.{div_ceil};
-ghost use Rattle.std.specs.Map.{keys_of};
 ghost use Rattle.std.specs.Map.Iter.{ShowsInOrder, deref_pair};
-ghost use Rattle.bptree_arguments.specs.CountLaws.{count_below};
 ghost use Rattle.bptree_keys.specs.Contents.{IsAscending, has};
-ghost use Rattle.bptree_maps.specs.Pages.{page as page_of_list, group_page as group_page_of_list, first_pages};
+ghost use Rattle.bptree_maps.specs.Pages.{page as page_of_list, group_page as group_page_of_list, first_pages, IsPageOf};
 
 use crate::map::{BPlusTreeMap, Iter};
 use bptree_arguments::argument::Argument;
@@ -73,7 +71,7 @@ pub fn page_of<K: Key, V: Drop>(
     s: usize,
 ) -> Result<Result<usize, usize>, AllocError>
     requires { 1 ≤ s }
-    ensures page { IfOk result (λ answer. let at = count_below K.cmp k.now (keys_of map.now) / s in answer ≡ (if has K.cmp map.now k.now then Ok at else Err at)) }
+    ensures page { IfOk result (IsPageOf K.cmp map.now k.now s) }
     ensures sure { IsOk result }
 {
     match map.rank_by_argument(k)? {

@@ -1,15 +1,18 @@
 //! An ordered set.
-ghost use Rattle.std.specs.Prelude.{◌≡◌, ◌+◌, ◌-◌, ◌*◌, ◌^◌, ◌<◌, ◌≤◌, ℕ, [], false, not, length, slice_get, IfOk, IfErr, OnErr, Ok, Err, None, IsOk, IsTrue, ◌↔◌, List, ⊤};
+ghost use Rattle.std.specs.Prelude.{◌≡◌, ◌*◌, [], false, not, length, slice_get, IfOk, IfErr, OnErr, Ok, Err, None, IsOk, IsTrue, ◌↔◌, List};
 ghost use Rattle.std.specs.Borrow.{Lends, sem};
-ghost use Rattle.std.specs.Iterator.{DrainsIf, IsFinite};
+ghost use Rattle.std.specs.Iterator.{IsFiniteIterable as AreFinite};
 ghost use Rattle.std.specs.List.Sorted.{IsStrictlySortedBy};
 ghost use Rattle.std.specs.Map.{keys_of};
 ghost use Rattle.std.specs.Map.Iter.{ShowsInOrder, GivesInOrder, GivesInReverse, TakesFirst, TakesLast, deref};
-ghost use Rattle.std.specs.Option.{option_copied};
-ghost use Rattle.bptree_tree.specs.Refusal.{pair_of};
-ghost use Rattle.bptree_maps.specs.Keys.{holds, with_key, without_key, gathered, key_found, keys_between, keys_within, keys_without, IsDisjoint, IsSubset};
+ghost use Rattle.std.specs.Option.{option_copied, option_copied as given};
+ghost use Rattle.bptree_tree.specs.Refusal.{HandsBack};
+ghost use Rattle.bptree_maps.specs.Keys.{holds, key_found, keys_between, keys_within, keys_without, IsDisjoint, IsSubset};
 ghost use Rattle.bptree_maps.specs.contracts.set.BPlusTreeSet.{the_row};
 ghost use Rattle.bptree_maps.specs.Rows.{inner_row_of_set};
+ghost use Rattle.bptree_maps.specs.Gathering.{AreFewFor, IsSetOf};
+ghost use Rattle.bptree_maps.specs.KeyChanges.{IsFullForKey, PutsKey, RemovesKey};
+ghost use Rattle.bptree_tree.specs.Entries.{last_of};
 
 mod borrowed;
 mod bounds;
@@ -76,8 +79,8 @@ impl<K: Key> BPlusTreeSet<K> {
     /// They are held in one vector, which is sorted and then loaded. A refusal for want of memory
     /// drops the keys.
     pub fn from_iter<I: IntoIterator<Item = K>>(alloc: Global, iter: I) -> Result<Self, AllocError>
-        requires { (it : I.IntoIter) → I.into_iter_gives iter it → I.IntoIter.can_next it × IsFinite (I.IntoIter.remaining it) }
-        ensures { IfOk result (λ set. (it : I.IntoIter) × (xs : List K) × I.into_iter_gives iter it × DrainsIf I.IntoIter.next_gives ⊤ it xs × (set ≡ gathered K.cmp xs)) }
+        requires { AreFinite I.into_iter_gives I.IntoIter.can_next I.IntoIter.remaining iter }
+        ensures { IfOk result (IsSetOf I.into_iter_gives K.cmp I.IntoIter.next_gives iter) }
     {
         let keys = iter.into_iter();
         let mut pairs = Vec::with_capacity(alloc, keys.size_hint().0)?;
@@ -110,10 +113,10 @@ impl<K: Key> BPlusTreeSet<K> {
     /// A new key can be refused: for want of memory, or in a set of `usize::MAX` keys. Then nothing
     /// has changed.
     pub fn insert(&mut self, k: K) -> Result<bool, InsertError<K, ()>>
-        ensures ok { IfOk result (λ is_new. (is_new ≡ not (holds K.cmp self.old k)) × (self.new ≡ with_key K.cmp self.old k)) }
-        ensures err { IfErr result (λ refusal. (pair_of refusal ≡ (k, tt)) × (self.new ≡ self.old)) }
+        ensures ok { IfOk result (PutsKey K.cmp k self.old self.new) }
+        ensures err { IfErr result (HandsBack (k, tt) self.old self.new) }
         ensures present { IsTrue (holds K.cmp self.old k) → IsOk result }
-        ensures full { (result ≡ Err (InsertError.Full k tt)) ↔ ((length self.old ≡ usize.MAX) × (holds K.cmp self.old k ≡ false)) }
+        ensures full { (result ≡ Err (InsertError.Full k tt)) ↔ IsFullForKey K.cmp usize.MAX self.old k }
     {
         Ok(self.tree.insert(k, ())?.is_none())
     }
@@ -122,7 +125,7 @@ impl<K: Key> BPlusTreeSet<K> {
     /// nothing changes and nothing can be refused. The removal of a key can be refused for want of
     /// memory; then nothing has changed.
     pub fn remove(&mut self, k: &K) -> Result<bool, AllocError>
-        ensures ok { IfOk result (λ was. (was ≡ holds K.cmp self.old k.now) × (self.new ≡ without_key K.cmp self.old k.now)) }
+        ensures ok { IfOk result (RemovesKey K.cmp k.now self.old self.new) }
         ensures absent { holds K.cmp self.old k.now ≡ false → result ≡ Ok false }
         ensures err { OnErr result (self.new ≡ self.old) }
     {
@@ -139,7 +142,7 @@ impl<K: Key> BPlusTreeSet<K> {
     /// The same as `contains`, and how many comparisons of keys it made.
     pub fn contains_counted(&self, k: &K) -> (bool, usize)
         ensures value { result.0 ≡ holds K.cmp self.now k.now }
-        ensures count { (h : ℕ) × (h ≤ 15) × (0 < h → 32 * 17 ^ (h - 1) ≤ length self.now) × (result.1 ≤ 7 * (h + 1) + 2) }
+        ensures count { AreFewFor (length self.now) result.1 }
     {
         // Read, so that it is known to be low.
         let _height = self.tree.height();
@@ -208,7 +211,7 @@ impl<K: Key> BPlusTreeSet<K> {
 
     /// The greatest key.
     pub fn last(&self) -> Option<&K>
-        ensures { option_copied result ≡ slice_get self.now (length self.now - 1) }
+        ensures { option_copied result ≡ last_of self.now }
     {
         let (key, _) = self.tree.last()?;
         Some(key)
@@ -229,7 +232,7 @@ impl<K: Key> BPlusTreeSet<K> {
     /// Each end that is given is searched for once. How many keys there are is told when it is
     /// asked, by a step for each leaf between.
     pub fn range<'b>(&self, lo: Option<&'b K>, hi: Option<&'b K>) -> Iter<'_, K>
-        ensures rest { result ≡ keys_between K.cmp self.now (option_copied lo.entry) (option_copied hi.entry) }
+        ensures rest { result ≡ keys_between K.cmp self.now (given lo.entry) (given hi.entry) }
         ensures ascending { IsStrictlySortedBy K.cmp result }
         ensures runs { ShowsInOrder (deref {X = K}) }
     {

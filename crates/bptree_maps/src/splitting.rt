@@ -1,8 +1,6 @@
 //! The end of a tree moves to a tree of its own.
 ghost use Rattle.std.specs.Prelude.{◌≡◌, ◌++◌, Some, None, IfOk, IfErr};
-ghost use Rattle.bptree_keys.specs.Contents.{IsAscending};
-ghost use Rattle.bptree_keys.specs.Ranges.{between};
-ghost use Rattle.bptree_maps.specs.Splitting.{gone, reaches};
+ghost use Rattle.bptree_maps.specs.Splitting.{gone, reaches, KeepsBelow, SplitsOff};
 
 use crate::refusals::{MoveError, SplitError};
 use bptree_arguments::argument::Argument;
@@ -29,9 +27,9 @@ pub(crate) fn split_tree<K: Key, V: Drop, A: Argument<K>>(
     BPlusTree<NodeStoreVec<K, V, A>>,
     SplitError<BPlusTree<NodeStoreVec<K, V, A>>, MoveError<K, V>>,
 >
-    ensures ok { IfOk result (λ there. (tree.new.contents ≡ between K.cmp tree.old.contents None (Some k.now)) × (there.contents ≡ between K.cmp tree.old.contents (Some k.now) None)) }
-    ensures err { IfErr result (λ refusal. tree.old.contents ≡ tree.new.contents ++ gone (λ there. there.contents) refusal) }
-    ensures kept { between K.cmp tree.new.contents None (Some k.now) ≡ between K.cmp tree.old.contents None (Some k.now) }
+    ensures ok { IfOk result (λ there. SplitsOff K.cmp k.now tree.old.contents tree.new.contents there.contents) }
+    ensures err { IfErr result (λ r. tree.old.contents ≡ tree.new.contents ++ gone (λ there. there.contents) r) }
+    ensures kept { KeepsBelow K.cmp k.now tree.old.contents tree.new.contents }
 {
     // Read, so that the keys are known to ascend.
     let _len = tree.len();

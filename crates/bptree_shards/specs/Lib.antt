@@ -1,3 +1,4 @@
+pub mod Laws
 pub mod Lengths
 pub mod Moves
 pub mod Shards

@@ -33,3 +33,14 @@ module _ {K V A : Type 0} (slots : Slots (Inner K A) (Leaf K V)) where
   pub record IsLeft (first last : LeafNodeId) (len : ℕ) : Type 0 where
     pub counted : len ≡ length (chain_pairs first len)
     pub chain : 0 < len → IsChain first last (chain_pairs first len)
+
+-- no member is left, and none was there
+abbrev pub AreEmpty : {X : Type 0} → List X → List X → Type 0
+AreEmpty old new = (old ≡ []) × (new ≡ [])
+
+-- members, one at least, left the front of a list, or its end
+abbrev pub LeaveFront : {X : Type 0} → List X → List X → List X → Type 0
+LeaveFront gone old new = (old ≡ gone ++ new) × (0 < length gone)
+
+abbrev pub LeaveEnd : {X : Type 0} → List X → List X → List X → Type 0
+LeaveEnd gone old new = (old ≡ new ++ gone) × (0 < length gone)

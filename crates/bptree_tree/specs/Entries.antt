@@ -1,9 +1,13 @@
 -- The pair of a key, and the first pair that is not below it.
-use Rattle.std.specs.Prelude.{Option, Some, None, List, slice_get}
+use Rattle.std.specs.Prelude.{Option, Some, None, List, slice_get, ◌-◌, length}
 use Rattle.std.specs.declared.cmp.Ordering.{Ordering}
-use Rattle.std.specs.Map.{lookup_entry}
+use Rattle.std.specs.Map.{keys_of, lookup_entry}
 use Rattle.std.specs.Ordering.{is_eq}
 use Rattle.bptree_keys.specs.Ranges.{between}
+use Rattle.std.specs.Borrow.{Bor}
+use Rattle.std.specs.declared.ops.Bound.{Bound}
+use Rattle.std.specs.Option.{option_copied}
+use Rattle.bptree_ranges.specs.Bounds.{between_bounds, bound_copied}
 
 module _ {K V : Type 0} (cmp : K → K → Ordering) where
   -- the pair whose key equals k, with the key as it stands in the list
@@ -13,3 +17,20 @@ module _ {K V : Type 0} (cmp : K → K → Ordering) where
   -- the pair with the least key that is not below k
   abbrev pub at_least : List (K × V) → K → Option (K × V)
   at_least l k = slice_get (between cmp l (Some k) None) 0
+
+module _ {K V : Type 0} (cmp : K → K → Ordering) (l : List (K × V)) where
+  -- the pairs between two ends that are lent, either of which may be left out
+  abbrev pub pairs_between : Option (Bor K) → Option (Bor K) → List (K × V)
+  pairs_between lo hi = between cmp l (option_copied lo) (option_copied hi)
+
+  -- the pairs between two bounds whose keys are lent
+  abbrev pub pairs_within : Bound (Bor K) → Bound (Bor K) → List (K × V)
+  pairs_within lo hi = between_bounds cmp l (bound_copied lo) (bound_copied hi)
+
+-- a value is a summary of the keys between two ends that are lent
+abbrev pub SumsUpBetween : {A K V : Type 0} → (A → List K → Type 0) → (K → K → Ordering) → List (K × V) → Option (Bor K) → Option (Bor K) → A → Type 0
+SumsUpBetween is_summary cmp l lo hi a = is_summary a (keys_of (pairs_between cmp l lo hi))
+
+-- the last member of a list
+abbrev pub last_of : {X : Type 0} → List X → Option X
+last_of l = slice_get l (length l - 1)

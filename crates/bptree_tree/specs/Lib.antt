@@ -1,4 +1,5 @@
 pub mod Chain
+pub mod Changes
 pub mod Cursor
 pub mod Entries
 pub mod RangeRemoval

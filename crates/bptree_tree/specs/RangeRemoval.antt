@@ -2,6 +2,8 @@
 use Rattle.std.specs.Prelude.{◌≡◌, Bool, true, false, not, ◌&&◌, Option, List, [], ◌∷◌, ◌++◌, filter}
 use Rattle.std.specs.declared.cmp.Ordering.{Ordering}
 use Rattle.bptree_keys.specs.Ranges.{falls_short, stays_below, between}
+use Rattle.std.specs.Borrow.{Bor}
+use Rattle.std.specs.Option.{option_copied}
 
 module _ {K V : Type 0} (cmp : K → K → Ordering) where
   -- the pairs whose key is below lo, where lo is given, or is not below hi, where hi is given
@@ -17,3 +19,15 @@ module _ {K V : Type 0} (cmp : K → K → Ordering) where
     -- the first ones of the pairs between two keys left, and all others stayed
     abbrev pub FirstsLeft : List (K × V) → List (K × V) → Type 0
     FirstsLeft old new = (gone : List (K × V)) × (between cmp old lo hi ≡ gone ++ between cmp new lo hi) × (outside new lo hi ≡ outside old lo hi)
+
+  module _ (lo hi : Option (Bor K)) where
+    -- the same of ends that are lent
+    abbrev pub FirstBetweenLeaves : List (K × V) → List (K × V) → Bool → Type 0
+    FirstBetweenLeaves old new found = FirstLeaves (option_copied lo) (option_copied hi) found old new
+
+    abbrev pub FirstsBetweenLeft : List (K × V) → List (K × V) → Type 0
+    FirstsBetweenLeft old new = FirstsLeft (option_copied lo) (option_copied hi) old new
+
+    -- what is left are the pairs that are not between the ends
+    abbrev pub KeepsOutside : List (K × V) → List (K × V) → Type 0
+    KeepsOutside old new = new ≡ outside old (option_copied lo) (option_copied hi)

@@ -1,10 +1,18 @@
 -- What a closure leaves of the values between two keys.
-use Rattle.std.specs.Prelude.{◌≡◌, List, ◌++◌, Option}
+use Rattle.std.specs.Prelude.{◌≡◌, List, ◌++◌, Option, ◌≤◌, ℕ, drop, take}
 use Rattle.std.specs.Borrow.{Bor, MutBor}
 use Rattle.std.specs.Fn.{Mut}
 use Rattle.std.specs.declared.cmp.Ordering.{Ordering}
 use Rattle.bptree_keys.specs.Ranges.{between}
 use Rattle.bptree_nodes.specs.Updating.{ChangesInTurn}
+use Rattle.std.specs.Option.{option_copied}
+use Rattle.bptree_keys.specs.declared.node_id.LeafNodeId.{LeafNodeId}
+use Rattle.bptree_keys.specs.declared.node_id.NodeId.{NodeId}
+use Rattle.bptree_nodes.specs.Inner.{Inner}
+use Rattle.bptree_nodes.specs.Leaf.{Leaf}
+use Rattle.bptree_nodes.specs.Slot.{Slots, Present, UpdatesLeaf}
+use Rattle.bptree_ranges.specs.Ranges.{place_on, IsSettled}
+use Rattle.bptree_shape.specs.Shape.{pairs_at}
 
 module _ {F K V : Type 0} (calls : Mut F (Bor K × (MutBor V × Unit {0})) (Unit {0} × (MutBor V × Unit {0}))) where
   -- the values of the pairs between two keys were changed one after another, and the others stay
@@ -16,3 +24,30 @@ module _ {F K V : Type 0} (calls : Mut F (Bor K × (MutBor V × Unit {0})) (Unit
     pub was : old ≡ before ++ (between cmp old lo hi ++ behind)
     pub is : new ≡ before ++ (changed ++ behind)
     pub changes : ChangesInTurn calls f (between cmp old lo hi) after changed
+
+  -- the same of ends that are lent
+  abbrev pub UpdatesBetween : F → (K → K → Ordering) → Option (Bor K) → Option (Bor K) → List (K × V) → List (K × V) → Type 0
+  UpdatesBetween f cmp lo hi old new = IsUpdatedBetween f cmp (option_copied lo) (option_copied hi) old new
+
+  -- the values of a leaf's slots from one on and below another were changed one after another
+  abbrev pub UpdatesSlots : {A : Type 0} → F → Slots (Inner K A) (Leaf K V) → Slots (Inner K A) (Leaf K V) → LeafNodeId → ℕ → ℕ → F → Type 0
+  UpdatesSlots f old new id from to after =
+      (was : Leaf K V) → old.leaf id.0 ≡ Present was
+      → (changed : List (K × V)) × ChangesInTurn calls f (drop from (take to was.pairs)) after changed
+      × UpdatesLeaf old new id.0 (Present (record was { pairs = take from was.pairs ++ changed ++ drop to was.pairs }))
+
+  -- the values between two places of a tree were changed one after another
+  abbrev pub UpdatesPlaces : {A : Type 0} → F → Slots (Inner K A) (Leaf K V) → Slots (Inner K A) (Leaf K V) → ℕ → NodeId → LeafNodeId × ℕ → LeafNodeId × ℕ → Type 0
+  UpdatesPlaces f old new height root front back =
+      (after : F) × (changed : List (K × V))
+      × ChangesInTurn calls f (drop (place_on old height root front) (take (place_on old height root back) (pairs_at old height root))) after changed
+      × (pairs_at new height root ≡ take (place_on old height root front) (pairs_at old height root) ++ changed ++ drop (place_on old height root back) (pairs_at old height root))
+
+module _ {K V A : Type 0} (slots : Slots (Inner K A) (Leaf K V)) (height : ℕ) (root : NodeId) where
+  -- a place of the tree stands at a pair, or at the end of all
+  abbrev pub IsSettledAt : LeafNodeId × ℕ → Type 0
+  IsSettledAt at = IsSettled slots height root (place_on slots height root at) at
+
+  -- no more pairs stand before one place than before another
+  abbrev pub IsNotBehind : LeafNodeId × ℕ → LeafNodeId × ℕ → Type 0
+  IsNotBehind front back = place_on slots height root front ≤ place_on slots height root back

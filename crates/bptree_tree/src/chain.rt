@@ -1,7 +1,7 @@
 //! The leaves of an owned tree, taken out one by one from both ends.
-ghost use Rattle.std.specs.Prelude.{◌≡◌, ◌≢◌, ℕ, ◌<◌, ◌++◌, [], length, MatchOption};
+ghost use Rattle.std.specs.Prelude.{◌≡◌, ◌≢◌, ℕ, MatchOption};
 ghost use Rattle.bptree_nodes.specs.Slot.{Present, IsPresent};
-ghost use Rattle.bptree_tree.specs.Chain.{IsLeft, chain_pairs};
+ghost use Rattle.bptree_tree.specs.Chain.{IsLeft, chain_pairs, AreEmpty, LeaveEnd, LeaveFront};
 
 use bptree_keys::node_id::LeafNodeId;
 use bptree_nodes::leaf_node::LeafNode;
@@ -56,7 +56,7 @@ impl<S: NodeStore> Chain<S> {
 
     /// The first leaf, which has a pair.
     pub(crate) fn take_first(&mut self) -> Option<Box<LeafNode<S::K, S::V>>>
-        ensures { MatchOption result ((self.old ≡ []) × (self.new ≡ [])) (λ leaf. (self.old ≡ leaf.value.pairs ++ self.new) × (0 < length leaf.value.pairs)) }
+        ensures { MatchOption result (AreEmpty self.old self.new) (λ leaf. LeaveFront leaf.value.pairs self.old self.new) }
     {
         if self.len == 0 {
             return None;
@@ -70,7 +70,7 @@ impl<S: NodeStore> Chain<S> {
 
     /// The last leaf, which has a pair.
     pub(crate) fn take_last(&mut self) -> Option<Box<LeafNode<S::K, S::V>>>
-        ensures { MatchOption result ((self.old ≡ []) × (self.new ≡ [])) (λ leaf. (self.old ≡ self.new ++ leaf.value.pairs) × (0 < length leaf.value.pairs)) }
+        ensures { MatchOption result (AreEmpty self.old self.new) (λ leaf. LeaveEnd leaf.value.pairs self.old self.new) }
     {
         if self.len == 0 {
             return None;

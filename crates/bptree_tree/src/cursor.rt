@@ -1,9 +1,10 @@
 //! A place among the pairs of a tree, by its key.
-ghost use Rattle.std.specs.Prelude.{◌≡◌, ◌-◌, [], length, slice_get, IfOk, IsOk, Ok, None};
+ghost use Rattle.std.specs.Prelude.{◌≡◌, [], slice_get, IfOk, IsOk, Ok, None};
 ghost use Rattle.std.specs.declared.cmp.Ordering.TheVariants.{Equal};
-ghost use Rattle.std.specs.Option.{option_copied, option_map};
-ghost use Rattle.bptree_keys.specs.Contents.{has, next, previous, value};
-ghost use Rattle.bptree_tree.specs.Cursor.{cursor_key, StandsAt};
+ghost use Rattle.std.specs.Option.{option_copied};
+ghost use Rattle.bptree_keys.specs.Contents.{has, next, value};
+ghost use Rattle.bptree_tree.specs.Cursor.{cursor_key, StandsAt, PointsAt, ShowsValueOf, pair_after, pair_before};
+ghost use Rattle.bptree_tree.specs.Entries.{last_of};
 
 use crate::tree::BPlusTree;
 use bptree_keys::key::Key;
@@ -50,8 +51,8 @@ impl<K: Key> Cursor<K> {
     pub fn first<'t, S: NodeStore<K = K>>(
         tree: &'t BPlusTree<S>,
     ) -> Result<Option<(Self, &'t S::V)>, AllocError>
-        ensures cursor { IfOk result (λ answer. StandsAt K.cmp (slice_get tree.now.contents 0) (option_map (λ found. found.0) answer)) }
-        ensures value { IfOk result (λ answer. option_map (λ found. found.1.now) answer ≡ option_map (λ pair. pair.1) (slice_get tree.now.contents 0)) }
+        ensures cursor { IfOk result (PointsAt K.cmp (slice_get tree.now.contents 0)) }
+        ensures value { IfOk result (ShowsValueOf (slice_get tree.now.contents 0)) }
         ensures empty { tree.now.contents ≡ [] → result ≡ Ok None }
         ensures sure { ((key : K) → K.is_infallible key) → IsOk result }
     {
@@ -63,8 +64,8 @@ impl<K: Key> Cursor<K> {
     pub fn last<'t, S: NodeStore<K = K>>(
         tree: &'t BPlusTree<S>,
     ) -> Result<Option<(Self, &'t S::V)>, AllocError>
-        ensures cursor { IfOk result (λ answer. StandsAt K.cmp (slice_get tree.now.contents (length tree.now.contents - 1)) (option_map (λ found. found.0) answer)) }
-        ensures value { IfOk result (λ answer. option_map (λ found. found.1.now) answer ≡ option_map (λ pair. pair.1) (slice_get tree.now.contents (length tree.now.contents - 1))) }
+        ensures cursor { IfOk result (PointsAt K.cmp (last_of tree.now.contents)) }
+        ensures value { IfOk result (ShowsValueOf (last_of tree.now.contents)) }
         ensures empty { tree.now.contents ≡ [] → result ≡ Ok None }
         ensures sure { ((key : K) → K.is_infallible key) → IsOk result }
     {
@@ -74,8 +75,8 @@ impl<K: Key> Cursor<K> {
     /// A cursor on the least greater key, where there is one. It takes what a clone of that key
     /// takes, and where there is none it takes nothing.
     pub fn next<S: NodeStore<K = K>>(&self, tree: &BPlusTree<S>) -> Result<Option<Self>, AllocError>
-        ensures cursor { IfOk result (StandsAt K.cmp (next K.cmp tree.now.contents (cursor_key self.now))) }
-        ensures end { next K.cmp tree.now.contents (cursor_key self.now) ≡ None → result ≡ Ok None }
+        ensures cursor { IfOk result (StandsAt K.cmp (pair_after K.cmp tree.now.contents self.now)) }
+        ensures end { pair_after K.cmp tree.now.contents self.now ≡ None → result ≡ Ok None }
         ensures sure { ((key : K) → K.is_infallible key) → IsOk result }
     {
         match self.next_with_value(tree)? {
@@ -87,8 +88,8 @@ impl<K: Key> Cursor<K> {
     /// A cursor on the greatest smaller key, where there is one. It takes what a clone of that key
     /// takes, and where there is none it takes nothing.
     pub fn prev<S: NodeStore<K = K>>(&self, tree: &BPlusTree<S>) -> Result<Option<Self>, AllocError>
-        ensures cursor { IfOk result (StandsAt K.cmp (previous K.cmp tree.now.contents (cursor_key self.now))) }
-        ensures end { previous K.cmp tree.now.contents (cursor_key self.now) ≡ None → result ≡ Ok None }
+        ensures cursor { IfOk result (StandsAt K.cmp (pair_before K.cmp tree.now.contents self.now)) }
+        ensures end { pair_before K.cmp tree.now.contents self.now ≡ None → result ≡ Ok None }
         ensures sure { ((key : K) → K.is_infallible key) → IsOk result }
     {
         match self.prev_with_value(tree)? {
@@ -102,9 +103,9 @@ impl<K: Key> Cursor<K> {
         &self,
         tree: &'t BPlusTree<S>,
     ) -> Result<Option<(Self, &'t S::V)>, AllocError>
-        ensures cursor { IfOk result (λ answer. StandsAt K.cmp (next K.cmp tree.now.contents (cursor_key self.now)) (option_map (λ found. found.0) answer)) }
-        ensures value { IfOk result (λ answer. option_map (λ found. found.1.now) answer ≡ option_map (λ pair. pair.1) (next K.cmp tree.now.contents (cursor_key self.now))) }
-        ensures end { next K.cmp tree.now.contents (cursor_key self.now) ≡ None → result ≡ Ok None }
+        ensures cursor { IfOk result (PointsAt K.cmp (pair_after K.cmp tree.now.contents self.now)) }
+        ensures value { IfOk result (ShowsValueOf (pair_after K.cmp tree.now.contents self.now)) }
+        ensures end { pair_after K.cmp tree.now.contents self.now ≡ None → result ≡ Ok None }
         ensures sure { ((key : K) → K.is_infallible key) → IsOk result }
     {
         tree.cursor_after(self.leaf, self.offset, &self.key)
@@ -115,9 +116,9 @@ impl<K: Key> Cursor<K> {
         &self,
         tree: &'t BPlusTree<S>,
     ) -> Result<Option<(Self, &'t S::V)>, AllocError>
-        ensures cursor { IfOk result (λ answer. StandsAt K.cmp (previous K.cmp tree.now.contents (cursor_key self.now)) (option_map (λ found. found.0) answer)) }
-        ensures value { IfOk result (λ answer. option_map (λ found. found.1.now) answer ≡ option_map (λ pair. pair.1) (previous K.cmp tree.now.contents (cursor_key self.now))) }
-        ensures end { previous K.cmp tree.now.contents (cursor_key self.now) ≡ None → result ≡ Ok None }
+        ensures cursor { IfOk result (PointsAt K.cmp (pair_before K.cmp tree.now.contents self.now)) }
+        ensures value { IfOk result (ShowsValueOf (pair_before K.cmp tree.now.contents self.now)) }
+        ensures end { pair_before K.cmp tree.now.contents self.now ≡ None → result ≡ Ok None }
         ensures sure { ((key : K) → K.is_infallible key) → IsOk result }
     {
         tree.cursor_before(self.leaf, self.offset, &self.key)

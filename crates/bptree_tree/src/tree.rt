@@ -1,13 +1,15 @@
 //! A tree over the nodes of a store.
-ghost use Rattle.std.specs.Prelude.{◌≡◌, ◌+◌, ◌*◌, ◌^◌, ◌<◌, ◌≤◌, ◌-◌, [], List, false, length, slice_get, IfOk, IfErr, OnErr, Ok, None, IsTrue, IsOk, ◌↔◌};
+ghost use Rattle.std.specs.Prelude.{◌≡◌, ◌+◌, ◌*◌, ◌^◌, ◌<◌, ◌≤◌, ◌-◌, [], false, length, slice_get, IfOk, IfErr, OnErr, Ok, None, IsTrue, IsOk, ◌↔◌};
 ghost use Rattle.std.specs.Map.{keys_of};
 ghost use Rattle.std.specs.Map.Iter.{ShowsInOrder, deref_pair};
 ghost use Rattle.std.specs.Option.{option_map, option_copied};
-ghost use Rattle.bptree_keys.specs.Contents.{IsAscending, has, value, put, del};
+ghost use Rattle.bptree_keys.specs.Contents.{IsAscending, has, value};
 ghost use Rattle.bptree_nodes.specs.Slot.{IsEmpty};
-ghost use Rattle.bptree_tree.specs.Refusal.{pair_of};
+ghost use Rattle.bptree_tree.specs.Refusal.{HandsBack};
 ghost use Rattle.bptree_shape.specs.Shape.{pairs_at, IsWellShaped};
-ghost use Rattle.bptree_tree.specs.Whole.{IsWhole, IsUntouched};
+ghost use Rattle.bptree_tree.specs.Whole.{IsWhole, IsUntouched, HasSameNodes, HasShape, pairs_of_nodes};
+ghost use Rattle.bptree_tree.specs.Changes.{IsFull, Puts, Removes};
+ghost use Rattle.bptree_tree.specs.Entries.{last_of};
 
 mod bounds;
 mod cloning;
@@ -72,7 +74,7 @@ impl<S: NodeStore> BPlusTree<S> {
     pub fn new(mut store: S) -> Result<Self, AllocError>
         requires { IsEmpty (S.slots store) }
         ensures empty { IfOk result (λ tree. tree.contents ≡ []) }
-        ensures whole { IfOk result (λ tree. IsWhole S.K.cmp S.Argument.is_summary (λ store. S.slots store) tree) }
+        ensures whole { IfOk result (IsWhole S.K.cmp S.Argument.is_summary S.slots) }
     {
         let leaf = store.new_empty_leaf()?;
         Ok(BPlusTree {
@@ -120,14 +122,14 @@ impl<S: NodeStore> BPlusTree<S> {
 
     /// The pair with the least key.
     pub fn first(&self) -> Option<(&S::K, &S::V)>
-        ensures { option_map (λ pair. (pair.0.now, pair.1.now)) result ≡ slice_get self.now.contents 0 }
+        ensures { option_map deref_pair result ≡ slice_get self.now.contents 0 }
     {
         reading::first(&self.store, self.root, self.height)
     }
 
     /// The pair with the greatest key.
     pub fn last(&self) -> Option<(&S::K, &S::V)>
-        ensures { option_map (λ pair. (pair.0.now, pair.1.now)) result ≡ slice_get self.now.contents (length self.now.contents - 1) }
+        ensures { option_map deref_pair result ≡ last_of self.now.contents }
     {
         reading::last(&self.store, self.root, self.height)
     }
@@ -161,12 +163,12 @@ impl<S: NodeStore> BPlusTree<S> {
     /// on the way to its leaf takes a new summary of its child. A pair with a new key can be
     /// refused: for want of memory, or in a tree of `usize::MAX` pairs. Then nothing has changed.
     pub fn insert(&mut self, k: S::K, v: S::V) -> Result<Option<S::V>, InsertError<S::K, S::V>>
-        ensures ok { IfOk result (λ old. (old ≡ value S.K.cmp self.old.contents k) × (self.new.contents ≡ put S.K.cmp self.old.contents k v)) }
-        ensures err { IfErr result (λ refusal. (pair_of refusal ≡ (k, v)) × (self.new.contents ≡ self.old.contents)) }
-        ensures unchanged { IfErr result (λ _. IsUntouched (λ store. S.slots store) self.new self.old) }
+        ensures ok { IfOk result (Puts S.K.cmp k v self.old.contents self.new.contents) }
+        ensures err { IfErr result (HandsBack (k, v) self.old.contents self.new.contents) }
+        ensures unchanged { IfErr result (λ _. IsUntouched S.slots self.new self.old) }
         ensures present { IsTrue (has S.K.cmp self.old.contents k) → IsOk result }
-        ensures whole { IsWhole S.K.cmp S.Argument.is_summary (λ store. S.slots store) self.new }
-        ensures full { (result ≡ Err (InsertError.Full k v)) ↔ ((length self.old.contents ≡ usize.MAX) × (has S.K.cmp self.old.contents k ≡ false)) }
+        ensures whole { IsWhole S.K.cmp S.Argument.is_summary S.slots self.new }
+        ensures full { (result ≡ Err (InsertError.Full k v)) ↔ IsFull S.K.cmp usize.MAX self.old.contents k }
     {
         if is_full(self.len) && self.get(&k).is_none() {
             return Err(InsertError::Full(k, v));
@@ -198,12 +200,12 @@ impl<S: NodeStore> BPlusTree<S> {
     /// separator is a clone of a key: both may take memory. Then a removal can be refused, and
     /// nothing has changed.
     pub fn remove(&mut self, k: &S::K) -> Result<Option<S::V>, AllocError>
-        ensures ok { IfOk result (λ old. (old ≡ value S.K.cmp self.old.contents k.now) × (self.new.contents ≡ del S.K.cmp self.old.contents k.now)) }
+        ensures ok { IfOk result (Removes S.K.cmp k.now self.old.contents self.new.contents) }
         ensures absent { has S.K.cmp self.old.contents k.now ≡ false → result ≡ Ok None }
-        ensures whole { IsWhole S.K.cmp S.Argument.is_summary (λ store. S.slots store) self.new }
-        ensures untouched { has S.K.cmp self.old.contents k.now ≡ false → (S.slots self.new.store ≡ S.slots self.old.store) × (self.new.root ≡ self.old.root) × (self.new.height ≡ self.old.height) × (self.new.root_argument ≡ self.old.root_argument) }
+        ensures whole { IsWhole S.K.cmp S.Argument.is_summary S.slots self.new }
+        ensures untouched { has S.K.cmp self.old.contents k.now ≡ false → HasSameNodes S.slots self.new self.old }
         ensures err { OnErr result (self.new.contents ≡ self.old.contents) }
-        ensures unchanged { OnErr result (IsUntouched (λ store. S.slots store) self.new self.old) }
+        ensures unchanged { OnErr result (IsUntouched S.slots self.new self.old) }
     {
         match remove(
             &mut self.store,
@@ -247,8 +249,8 @@ impl<S: NodeStore> BPlusTree<S> {
     /// The store that holds the nodes: they are those of this tree, and no others.
     pub fn node_store(&self) -> &S
         ensures value { result.now ≡ self.now.store }
-        ensures shape { IsWellShaped S.K.cmp S.Argument.is_summary (S.slots self.now.store) self.now.height self.now.root }
-        ensures contents { self.now.contents ≡ pairs_at (S.slots self.now.store) self.now.height self.now.root }
+        ensures shape { HasShape S.slots S.K.cmp S.Argument.is_summary self.now }
+        ensures contents { self.now.contents ≡ pairs_of_nodes S.slots self.now }
     {
         &self.store
     }

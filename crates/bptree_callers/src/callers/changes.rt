@@ -1,9 +1,10 @@
 //! Callers that put and remove pairs, and write values.
-ghost use Rattle.std.specs.Prelude.{◌≡◌, ◌≢◌, ◌<◌, ◌-◌, ◌+◌, ◌^◌, ◌++◌, ◌∷◌, [], length, true, false, if◌then◌else◌, IfOk, OnErr, IfSome, OnOk, IsTrue, Some, None, slice_get};
+ghost use Rattle.std.specs.Prelude.{◌≡◌, ◌<◌, ◌-◌, ◌^◌, length, true, false, IfOk, OnErr, IfSome, OnOk, IsTrue, Some, None};
 ghost use Rattle.std.specs.declared.cmp.Ordering.TheVariants.{Equal};
-ghost use Rattle.std.specs.Option.{option_map};
-ghost use Rattle.bptree_keys.specs.Contents.{has, value as value_of, put, del, pairs_below, pairs_above};
+ghost use Rattle.bptree_keys.specs.Contents.{has, value as value_of, put, del};
 ghost use Rattle.bptree_ascent.specs.Lending.{written};
+ghost use Rattle.bptree_tree.specs.Whole.{HasSameNodes, HasSameTop};
+ghost use Rattle.bptree_callers.specs.Words.{AddsBetween, HoldsTheSame, PopsFirstOfTwo, PopsLastOfTwo, told_value};
 
 use bptree_stores::node_stores::NodeStore;
 use bptree_tree::{BPlusTree, InsertError};
@@ -26,8 +27,8 @@ fn replaces<S: NodeStore>(tree: &mut BPlusTree<S>, k: S::K, v: S::V) -> S::V
 // greater keys.
 fn adds<S: NodeStore>(tree: &mut BPlusTree<S>, k: S::K, v: S::V) -> bool
     requires { has S.K.cmp tree.old.contents k ≡ false }
-    ensures added { IsTrue result → tree.new.contents ≡ pairs_below S.K.cmp tree.old.contents k ++ (k, v) ∷ pairs_above S.K.cmp tree.old.contents k }
-    ensures refused { result ≡ false → (tree.new.contents ≡ tree.old.contents) × (S.slots tree.new.store ≡ S.slots tree.old.store) }
+    ensures added { IsTrue result → AddsBetween S.K.cmp k v tree.old.contents tree.new.contents }
+    ensures refused { result ≡ false → HoldsTheSame S.slots tree.new tree.old }
 {
     match tree.insert(k, v) {
         Ok(None) => true,
@@ -56,7 +57,7 @@ fn has_room<S: NodeStore>(tree: &mut BPlusTree<S>, k: S::K, v: S::V) -> Option<(
     ensures pair { IfSome result (λ pair. pair ≡ (k, v)) }
     ensures contents { IfSome result (λ _. tree.new.contents ≡ tree.old.contents) }
     ensures slots { IfSome result (λ _. S.slots tree.new.store ≡ S.slots tree.old.store) }
-    ensures root { IfSome result (λ _. (tree.new.root ≡ tree.old.root) × (tree.new.height ≡ tree.old.height) × (tree.new.root_argument ≡ tree.old.root_argument)) }
+    ensures root { IfSome result (λ _. HasSameTop tree.new tree.old) }
 {
     match tree.insert(k, v) {
         Ok(_) => None,
@@ -82,7 +83,7 @@ fn removes<S: NodeStore>(tree: &mut BPlusTree<S>, k: &S::K) -> Option<S::V>
     requires { has S.K.cmp tree.old.contents k.now ≡ true }
     ensures value { IfSome result (λ value. value_of S.K.cmp tree.old.contents k.now ≡ Some value) }
     ensures contents { IfSome result (λ _. tree.new.contents ≡ del S.K.cmp tree.old.contents k.now) }
-    ensures refused { result ≡ None → (tree.new.contents ≡ tree.old.contents) × (S.slots tree.new.store ≡ S.slots tree.old.store) × (tree.new.root ≡ tree.old.root) × (tree.new.height ≡ tree.old.height) × (tree.new.root_argument ≡ tree.old.root_argument) }
+    ensures refused { result ≡ None → (tree.new.contents ≡ tree.old.contents) × HasSameNodes S.slots tree.new tree.old }
 {
     match tree.remove(k) {
         Ok(Some(value)) => Some(value),
@@ -96,7 +97,7 @@ fn clears<S: NodeStore>(tree: &mut BPlusTree<S>) -> Result<(bool, usize), AllocE
     ensures empty { IfOk result (λ says. says ≡ (true, 0)) }
     ensures contents { OnErr result (tree.new.contents ≡ tree.old.contents) }
     ensures slots { OnErr result (S.slots tree.new.store ≡ S.slots tree.old.store) }
-    ensures root { OnErr result ((tree.new.root ≡ tree.old.root) × (tree.new.height ≡ tree.old.height) × (tree.new.root_argument ≡ tree.old.root_argument)) }
+    ensures root { OnErr result (HasSameTop tree.new tree.old) }
 {
     tree.clear()?;
     Ok((tree.is_empty(), tree.len()))
@@ -107,7 +108,7 @@ pub(crate) fn writes<S: NodeStore>(tree: &mut BPlusTree<S>, k: &S::K, v: S::V) -
     ensures there { result ≡ has S.K.cmp tree.old.contents k.now }
     ensures written { IsTrue result → tree.new.contents ≡ written S.K.cmp k.now tree.old.contents v }
     ensures absent { result ≡ false → tree.new ≡ tree.old }
-    ensures shape { (tree.new.root ≡ tree.old.root) × (tree.new.height ≡ tree.old.height) × (tree.new.root_argument ≡ tree.old.root_argument) }
+    ensures shape { HasSameTop tree.new tree.old }
 {
     match tree.get_mut(k) {
         Some(there) => {
@@ -137,7 +138,7 @@ fn takes_the_pair_of_a_key<S: NodeStore>(
     k: &S::K,
 ) -> Result<Option<(S::K, S::V)>, AllocError>
     ensures key { IfOk result (λ gone. IfSome gone (λ pair. S.K.cmp pair.0 k.now ≡ Equal)) }
-    ensures value { IfOk result (λ gone. option_map (λ pair. pair.1) gone ≡ value_of S.K.cmp tree.old.contents k.now) }
+    ensures value { IfOk result (λ gone. told_value gone ≡ value_of S.K.cmp tree.old.contents k.now) }
     ensures others { OnOk result (tree.new.contents ≡ del S.K.cmp tree.old.contents k.now) }
     ensures refused { OnErr result (S.slots tree.new.store ≡ S.slots tree.old.store) }
 {
@@ -148,7 +149,7 @@ fn takes_the_pair_of_a_key<S: NodeStore>(
 fn pops_the_first_of_two<S: NodeStore>(
     tree: &mut BPlusTree<S>,
 ) -> Result<Option<(S::K, S::V)>, AllocError>
-    ensures popped { IfOk result (λ gone. (a b : S.K × S.V) → tree.old.contents ≡ a ∷ b ∷ [] → (gone ≡ Some a) × (tree.new.contents ≡ b ∷ [])) }
+    ensures popped { IfOk result (PopsFirstOfTwo tree.old.contents tree.new.contents) }
     ensures refused { OnErr result (S.slots tree.new.store ≡ S.slots tree.old.store) }
 {
     tree.pop_first()
@@ -157,7 +158,7 @@ fn pops_the_first_of_two<S: NodeStore>(
 fn pops_the_last_of_two<S: NodeStore>(
     tree: &mut BPlusTree<S>,
 ) -> Result<Option<(S::K, S::V)>, AllocError>
-    ensures popped { IfOk result (λ gone. (a b : S.K × S.V) → tree.old.contents ≡ a ∷ b ∷ [] → (gone ≡ Some b) × (tree.new.contents ≡ a ∷ [])) }
+    ensures popped { IfOk result (PopsLastOfTwo tree.old.contents tree.new.contents) }
     ensures refused { OnErr result (S.slots tree.new.store ≡ S.slots tree.old.store) }
 {
     tree.pop_last()

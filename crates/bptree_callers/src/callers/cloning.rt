@@ -1,7 +1,8 @@
 //! Callers of a clone.
-ghost use Rattle.std.specs.Prelude.{◌≡◌, ℕ, length, true, IfOk};
+ghost use Rattle.std.specs.Prelude.{◌≡◌, length, IfOk};
 ghost use Rattle.bptree_keys.specs.Contents.{has};
-ghost use Rattle.bptree_shape.specs.Shape.{IsWellShaped, leaf_pairs};
+ghost use Rattle.bptree_shape.specs.Shape.{IsWellShaped};
+ghost use Rattle.bptree_callers.specs.Words.{HasLeavesAsLong};
 
 use bptree_arguments::argument::CloneArgument;
 use bptree_keys::node_id::NodeId;
@@ -37,7 +38,7 @@ fn has_leaves_of_the_same_sizes<S: CloneStore>(
 where
     S::V: Clone,
     S::Argument: CloneArgument<S::K>,
-    ensures { IfOk result (λ copy. (number : ℕ) → length (leaf_pairs ((S.slots copy.store).leaf number)) ≡ length (leaf_pairs ((S.slots tree.now.store).leaf number))) }
+    ensures { IfOk result (HasLeavesAsLong S.slots tree.now) }
 {
     let copy = tree.clone()?;
     Ok(copy)

@@ -1,10 +1,12 @@
 //! Callers of cursors.
-ghost use Rattle.std.specs.Prelude.{◌≡◌, ◌<◌, ◌-◌, ◌∷◌, [], length, true, false, slice_get, IfOk, Ok, Some, None};
+ghost use Rattle.std.specs.Prelude.{◌≡◌, ◌∷◌, [], true, false, slice_get, IfOk, Ok, Some, None};
 ghost use Rattle.std.specs.Ordering.{nat_cmp};
 ghost use Rattle.std.specs.Option.{option_copied, option_map};
 ghost use Rattle.bptree_keys.specs.Contents.{has, next, previous, value as value_of};
 ghost use Rattle.bptree_keys.specs.Neighbours.{IsAfter, IsBefore};
 ghost use Rattle.bptree_tree.specs.Cursor.{cursor_key};
+ghost use Rattle.bptree_tree.specs.Entries.{last_of};
+ghost use Rattle.bptree_callers.specs.Words.{told_key};
 
 use bptree_keys::contents::laws_of_neighbours;
 use bptree_keys::key::Key;
@@ -70,7 +72,7 @@ fn key_of(cursor: Option<Cursor<u64>>) -> Option<u64>
 fn stands_on_the_first<S: NodeStore<K = u64, V = u64>>(
     tree: &BPlusTree<S>,
 ) -> Result<Option<(u64, u64)>, AllocError>
-    ensures { IfOk result (λ found. found ≡ slice_get tree.now.contents 0) }
+    ensures { IfOk result (λ it. it ≡ slice_get tree.now.contents 0) }
 {
     match Cursor::first(tree)? {
         Some((cursor, value)) => Ok(Some((*cursor.key(), *value))),
@@ -81,7 +83,7 @@ fn stands_on_the_first<S: NodeStore<K = u64, V = u64>>(
 fn stands_on_the_last<S: NodeStore<K = u64, V = u64>>(
     tree: &BPlusTree<S>,
 ) -> Result<Option<(u64, u64)>, AllocError>
-    ensures { IfOk result (λ found. found ≡ slice_get tree.now.contents (length tree.now.contents - 1)) }
+    ensures { IfOk result (λ it. it ≡ last_of tree.now.contents) }
 {
     match Cursor::last(tree)? {
         Some((cursor, value)) => Ok(Some((*cursor.key(), *value))),
@@ -92,7 +94,7 @@ fn stands_on_the_last<S: NodeStore<K = u64, V = u64>>(
 fn begins_on_the_first<S: NodeStore<K = u64>>(
     tree: &BPlusTree<S>,
 ) -> Result<Option<u64>, AllocError>
-    ensures { IfOk result (λ key. key ≡ option_map (λ pair. pair.0) (slice_get tree.now.contents 0)) }
+    ensures { IfOk result (λ key. key ≡ told_key (slice_get tree.now.contents 0)) }
 {
     Ok(key_of(tree.cursor_first()?))
 }
@@ -100,7 +102,7 @@ fn begins_on_the_first<S: NodeStore<K = u64>>(
 // The key after a cursor and the one before it, with their values and without. A clone of a number
 // is never refused, and so no step is.
 fn goes_on<S: NodeStore<K = u64>>(cursor: &Cursor<u64>, tree: &BPlusTree<S>) -> Option<u64>
-    ensures { result ≡ option_map (λ pair. pair.0) (next nat_cmp tree.now.contents (cursor_key cursor.now)) }
+    ensures { result ≡ told_key (next nat_cmp tree.now.contents (cursor_key cursor.now)) }
 {
     match cursor.next(tree) {
         Ok(found) => key_of(found),
@@ -109,7 +111,7 @@ fn goes_on<S: NodeStore<K = u64>>(cursor: &Cursor<u64>, tree: &BPlusTree<S>) -> 
 }
 
 fn goes_back<S: NodeStore<K = u64>>(cursor: &Cursor<u64>, tree: &BPlusTree<S>) -> Option<u64>
-    ensures { result ≡ option_map (λ pair. pair.0) (previous nat_cmp tree.now.contents (cursor_key cursor.now)) }
+    ensures { result ≡ told_key (previous nat_cmp tree.now.contents (cursor_key cursor.now)) }
 {
     match cursor.prev(tree) {
         Ok(found) => key_of(found),
@@ -142,7 +144,7 @@ fn goes_on_with_the_value<S: NodeStore<K = u64, V = u64>>(
     cursor: &Cursor<u64>,
     tree: &BPlusTree<S>,
 ) -> Result<Option<(u64, u64)>, AllocError>
-    ensures { IfOk result (λ found. found ≡ next nat_cmp tree.now.contents (cursor_key cursor.now)) }
+    ensures { IfOk result (λ it. it ≡ next nat_cmp tree.now.contents (cursor_key cursor.now)) }
 {
     match cursor.next_with_value(tree)? {
         Some((there, value)) => Ok(Some((*there.key(), *value))),
@@ -154,7 +156,7 @@ fn goes_back_with_the_value<S: NodeStore<K = u64, V = u64>>(
     cursor: &Cursor<u64>,
     tree: &BPlusTree<S>,
 ) -> Result<Option<(u64, u64)>, AllocError>
-    ensures { IfOk result (λ found. found ≡ previous nat_cmp tree.now.contents (cursor_key cursor.now)) }
+    ensures { IfOk result (λ it. it ≡ previous nat_cmp tree.now.contents (cursor_key cursor.now)) }
 {
     match cursor.prev_with_value(tree)? {
         Some((there, value)) => Ok(Some((*there.key(), *value))),
@@ -167,7 +169,7 @@ fn goes_along_three<S: NodeStore<K = u64, V = u64>>(
     tree: &BPlusTree<S>,
 ) -> Result<(Option<u64>, Option<(u64, u64)>), AllocError>
     requires { tree.now.contents ≡ (1, 10) ∷ (2, 20) ∷ (3, 30) ∷ [] }
-    ensures { IfOk result (λ found. found ≡ (Some 2, Some (2, 20))) }
+    ensures { IfOk result (λ it. it ≡ (Some 2, Some (2, 20))) }
 {
     match tree.get_cursor(&1)? {
         Some((first, _)) => Ok((goes_on(&first, tree), goes_on_with_the_value(&first, tree)?)),
@@ -191,7 +193,7 @@ fn keeps_its_neighbours<S: NodeStore<K = u64, V = u64>>(
     tree: &mut BPlusTree<S>,
 ) -> Result<(bool, Option<u64>, Option<u64>), AllocError>
     requires { tree.old.contents ≡ (1, 10) ∷ (2, 20) ∷ (3, 30) ∷ [] }
-    ensures { IfOk result (λ found. found ≡ (false, Some 1, Some 3)) }
+    ensures { IfOk result (λ it. it ≡ (false, Some 1, Some 3)) }
 {
     match tree.get_cursor(&2)? {
         Some((cursor, _)) => {

@@ -1,6 +1,7 @@
 //! Callers of an iterator.
-ghost use Rattle.std.specs.Prelude.{◌≡◌, ◌-◌, ◌++◌, ◌∷◌, [], List, length, true, slice_get, IfOk, Some, None};
+ghost use Rattle.std.specs.Prelude.{◌≡◌, ◌∷◌, [], length, true, slice_get, IfOk, Some};
 ghost use Rattle.std.specs.Option.{option_map};
+ghost use Rattle.std.specs.Map.Iter.{deref_pair};
 
 use bptree_stores::node_stores::NodeStore;
 use bptree_tree::BPlusTree;
@@ -19,7 +20,7 @@ fn starts_with_all<S: NodeStore>(tree: &BPlusTree<S>) -> (Iter<'_, S>, usize)
 
 // The first pair from the front, and the last one from the back.
 fn gives_the_first<S: NodeStore>(tree: &BPlusTree<S>) -> Option<(&S::K, &S::V)>
-    ensures { option_map (λ pair. (pair.0.now, pair.1.now)) result ≡ slice_get tree.now.contents 0 }
+    ensures { option_map deref_pair result ≡ slice_get tree.now.contents 0 }
 {
     tree.iter().next()
 }
@@ -34,7 +35,7 @@ fn gives_three_from_both_ends<'a, S: NodeStore>(
     (&'a S::K, &'a S::V),
 )
     requires { length pairs.old ≡ 3 }
-    ensures pairs { pairs.old ≡ (result.0.0.now, result.0.1.now) ∷ (result.1.0.now, result.1.1.now) ∷ (result.2.0.now, result.2.1.now) ∷ [] }
+    ensures pairs { pairs.old ≡ deref_pair result.0 ∷ deref_pair result.1 ∷ deref_pair result.2 ∷ [] }
     ensures over { pairs.new ≡ [] }
 {
     match (pairs.next(), pairs.next_back(), pairs.next()) {

@@ -1,5 +1,5 @@
 //! Callers of maps.
-ghost use Rattle.std.specs.Prelude.{◌≡◌, ◌<◌, ◌≤◌, ◌-◌, ◌+◌, ◌*◌, ◌^◌, ◌∷◌, ◌↔◌, [], ℕ, length, min, true, false, slice_get, remove, if◌then◌else◌, IfOk, IfErr, OnErr, OnOk, IfSome, IsTrue, Some, None};
+ghost use Rattle.std.specs.Prelude.{◌≡◌, ◌<◌, ◌≤◌, ◌-◌, ◌^◌, ◌∷◌, ◌↔◌, [], length, min, true, false, slice_get, remove, IfOk, IfErr, OnErr, OnOk, IfSome, IsTrue, Some, None};
 ghost use Rattle.std.specs.declared.cmp.Ordering.TheVariants.{Equal, Greater};
 ghost use Rattle.std.specs.Map.{keys_of, values_of};
 ghost use Rattle.std.specs.Option.{option_copied, option_map, IsSomeAnd};
@@ -11,7 +11,11 @@ ghost use Rattle.bptree_keys.specs.Contents.{IsAscending, has, value as value_of
 ghost use Rattle.bptree_keys.specs.Ranges.{between};
 ghost use Rattle.bptree_nodes.specs.Leaf.{set_value_at};
 ghost use Rattle.bptree_tree.specs.Cursor.{cursor_key};
-ghost use Rattle.bptree_tree.specs.Entries.{entry};
+ghost use Rattle.bptree_tree.specs.Entries.{entry, last_of};
+ghost use Rattle.bptree_maps.specs.Gathering.{AreFewFor};
+ghost use Rattle.bptree_tree.specs.Selected.{SelectsNone};
+ghost use Rattle.std.specs.Map.Iter.{deref_pair};
+ghost use Rattle.bptree_callers.specs.Words.{IsOneOf, PopsFirstOfTwo, PopsLastOfTwo, ShowsEndsOfTwo, TakesMiddleOfThree, WritesSome, told_value};
 
 use bptree_arguments::argument::{Argument, CloneArgument, RankArgument, SearchArgument};
 use bptree_arguments::count::Count;
@@ -48,7 +52,7 @@ fn counts_a_look_up<'a, K: Key, V: Drop, A: Argument<K>>(
     k: &K,
 ) -> (Option<&'a V>, usize)
     ensures value { option_copied result.0 ≡ value_of K.cmp map.now k.now }
-    ensures count { (h : ℕ) × (h ≤ 15) × (0 < h → 32 * 17 ^ (h - 1) ≤ length map.now) × (result.1 ≤ 7 * (h + 1) + 2) }
+    ensures count { AreFewFor (length map.now) result.1 }
     ensures most { result.1 ≤ 114 }
 {
     map.get_counted(k)
@@ -240,8 +244,8 @@ fn begins_with_the_first<K: Key, V: Drop, A: Argument<K>>(
     map: &BPlusTreeMap<K, V, A>,
 ) -> (Option<(&K, &V)>, Option<(&K, &V)>, usize)
     requires { 1 < length map.now }
-    ensures front { option_map (λ pair. (pair.0.now, pair.1.now)) result.0 ≡ slice_get map.now 0 }
-    ensures back { option_map (λ pair. (pair.0.now, pair.1.now)) result.1 ≡ slice_get map.now (length map.now - 1) }
+    ensures front { option_map deref_pair result.0 ≡ slice_get map.now 0 }
+    ensures back { option_map deref_pair result.1 ≡ last_of map.now }
     ensures left { result.2 ≡ length map.now - 2 }
 {
     let mut pairs = map.iter();
@@ -265,7 +269,7 @@ fn gives_the_last_below<'a, K: Key, V: Drop, A: Argument<K>>(
     hi: &K,
 ) -> (usize, Option<(&'a K, &'a V)>)
     ensures len { result.0 ≡ length (between K.cmp map.now None (Some hi.now)) }
-    ensures last { option_map (λ pair. (pair.0.now, pair.1.now)) result.1 ≡ slice_get (between K.cmp map.now None (Some hi.now)) (result.0 - 1) }
+    ensures last { option_map deref_pair result.1 ≡ slice_get (between K.cmp map.now None (Some hi.now)) (result.0 - 1) }
 {
     let mut pairs = map.range(None, Some(hi));
     let len = pairs.len();
@@ -284,7 +288,7 @@ fn finds_the_pair_at_a_place<K: Key, V: Drop>(
     map: &BPlusTreeMap<K, V, Count>,
     place: usize,
 ) -> Option<(&K, &V)>
-    ensures { option_map (λ pair. (pair.0.now, pair.1.now)) result ≡ slice_get map.now place }
+    ensures { option_map deref_pair result ≡ slice_get map.now place }
 {
     match map.get_by_argument(place) {
         Ok(found) => found,
@@ -363,9 +367,9 @@ fn writes_by_a_query<K: Key, V: Drop, A: SearchArgument<K>>(
     query: A::Query,
     v: V,
 ) -> Result<(), SelectError>
-    ensures written { OnOk result ((i : ℕ) × A.selects query (keys_of map.old) (Some i) × (map.new ≡ set_value_at map.old i v)) }
+    ensures written { OnOk result (WritesSome A.selects query v map.old map.new) }
     ensures refused { OnErr result (map.new ≡ map.old) }
-    ensures absent { IfErr result (λ error. error ≡ SelectError.NotFound → A.selects query (keys_of map.old) None) }
+    ensures absent { IfErr result (SelectsNone A.selects query map.old) }
 {
     match map.get_mut_by_argument(query) {
         Ok(there) => {
@@ -422,7 +426,7 @@ fn puts_into_its_tree<K: Key, V: Drop, A: Argument<K>>(
 fn gives_both_ends<K: Key, V: Drop, A: Argument<K>>(
     map: &BPlusTreeMap<K, V, A>,
 ) -> (Option<(&K, &V)>, Option<(&K, &V)>)
-    ensures { (a b : K × V) → map.now ≡ a ∷ b ∷ [] → (option_map (λ pair. (pair.0.now, pair.1.now)) result.0 ≡ Some a) × (option_map (λ pair. (pair.0.now, pair.1.now)) result.1 ≡ Some b) }
+    ensures { ShowsEndsOfTwo map.now result }
 {
     (map.first(), map.last())
 }
@@ -518,7 +522,7 @@ fn finds_the_pair_of_a_key<'a, K: Key, V: Drop, A: Argument<K>>(
 ) -> Option<(&'a K, &'a V)>
     ensures key { IfSome result (λ pair. K.cmp pair.0.now k.now ≡ Equal) }
     ensures value { option_map (λ pair. pair.1.now) result ≡ value_of K.cmp map.now k.now }
-    ensures stored { IfSome result (λ pair. (i : ℕ) × (slice_get map.now i ≡ Some (pair.0.now, pair.1.now))) }
+    ensures stored { IfSome result (λ pair. IsOneOf map.now (deref_pair pair)) }
 {
     map.get_key_value(k)
 }
@@ -527,7 +531,7 @@ fn finds_the_pair_of_a_key<'a, K: Key, V: Drop, A: Argument<K>>(
 fn names_both_ends<K: Key, V: Drop, A: Argument<K>>(
     map: &BPlusTreeMap<K, V, A>,
 ) -> (Option<(&K, &V)>, Option<(&K, &V)>)
-    ensures { (a b : K × V) → map.now ≡ a ∷ b ∷ [] → (option_map (λ pair. (pair.0.now, pair.1.now)) result.0 ≡ Some a) × (option_map (λ pair. (pair.0.now, pair.1.now)) result.1 ≡ Some b) }
+    ensures { ShowsEndsOfTwo map.now result }
 {
     (map.first_key_value(), map.last_key_value())
 }
@@ -633,7 +637,7 @@ fn finds_a_key_at_its_place<'a, K: Key, V: Drop>(
     map: &'a BPlusTreeMap<K, V, Count>,
     k: &K,
 ) -> Option<(&'a K, &'a V)>
-    ensures { option_map (λ pair. (pair.0.now, pair.1.now)) result ≡ entry K.cmp map.now k.now }
+    ensures { option_map deref_pair result ≡ entry K.cmp map.now k.now }
 {
     // Read, so that the keys are known to ascend.
     let _len = map.len();
@@ -666,7 +670,7 @@ fn writes_at_its_place<K: Key, V: Drop>(
 fn takes_the_second<K: Key, V: Drop>(
     map: &mut BPlusTreeMap<K, V, Count>,
 ) -> Result<Option<(K, V)>, AllocError>
-    ensures taken { IfOk result (λ gone. (a b c : K × V) → map.old ≡ a ∷ b ∷ c ∷ [] → (gone ≡ Some b) × (map.new ≡ a ∷ c ∷ [])) }
+    ensures taken { IfOk result (TakesMiddleOfThree map.old map.new) }
     ensures refused { OnErr result (map.new ≡ map.old) }
 {
     map.remove_at(1)
@@ -689,8 +693,8 @@ fn takes_the_pair_of_a_key<K: Key, V: Drop, A: Argument<K>>(
     k: &K,
 ) -> Result<Option<(K, V)>, AllocError>
     ensures key { IfOk result (λ gone. IfSome gone (λ pair. K.cmp pair.0 k.now ≡ Equal)) }
-    ensures value { IfOk result (λ gone. option_map (λ pair. pair.1) gone ≡ value_of K.cmp map.old k.now) }
-    ensures stored { IfOk result (λ gone. IfSome gone (λ pair. (i : ℕ) × (slice_get map.old i ≡ Some pair))) }
+    ensures value { IfOk result (λ gone. told_value gone ≡ value_of K.cmp map.old k.now) }
+    ensures stored { IfOk result (λ gone. IfSome gone (IsOneOf map.old)) }
     ensures others { OnOk result (map.new ≡ del K.cmp map.old k.now) }
     ensures refused { OnErr result (map.new ≡ map.old) }
 {
@@ -701,7 +705,7 @@ fn takes_the_pair_of_a_key<K: Key, V: Drop, A: Argument<K>>(
 fn pops_the_first_of_two<K: Key, V: Drop, A: Argument<K>>(
     map: &mut BPlusTreeMap<K, V, A>,
 ) -> Result<Option<(K, V)>, AllocError>
-    ensures popped { IfOk result (λ gone. (a b : K × V) → map.old ≡ a ∷ b ∷ [] → (gone ≡ Some a) × (map.new ≡ b ∷ [])) }
+    ensures popped { IfOk result (PopsFirstOfTwo map.old map.new) }
     ensures refused { OnErr result (map.new ≡ map.old) }
 {
     map.pop_first()
@@ -710,7 +714,7 @@ fn pops_the_first_of_two<K: Key, V: Drop, A: Argument<K>>(
 fn pops_the_last_of_two<K: Key, V: Drop, A: Argument<K>>(
     map: &mut BPlusTreeMap<K, V, A>,
 ) -> Result<Option<(K, V)>, AllocError>
-    ensures popped { IfOk result (λ gone. (a b : K × V) → map.old ≡ a ∷ b ∷ [] → (gone ≡ Some b) × (map.new ≡ a ∷ [])) }
+    ensures popped { IfOk result (PopsLastOfTwo map.old map.new) }
     ensures refused { OnErr result (map.new ≡ map.old) }
 {
     map.pop_last()

@@ -1,7 +1,8 @@
 //! Callers that move many pairs or keys at once, and one that hands a key out.
-ghost use Rattle.std.specs.Prelude.{◌≡◌, ◌∷◌, ◌++◌, ◌||◌, [], List, false, IfOk, OnErr, OnOk, Some, None};
-ghost use Rattle.bptree_keys.specs.Contents.{has, put, value as value_of};
-ghost use Rattle.bptree_maps.specs.Keys.{holds, key_found, with_key};
+ghost use Rattle.std.specs.Prelude.{◌≡◌, ◌∷◌, [], false, IfOk, OnErr, OnOk, None};
+ghost use Rattle.bptree_keys.specs.Contents.{has, put};
+ghost use Rattle.bptree_maps.specs.Keys.{holds, key_found};
+ghost use Rattle.bptree_callers.specs.Words.{HoldsEither, KeepsOthers, MovesOne, MovesOneKey, PutsLastOfEach};
 
 use bptree_arguments::argument::Argument;
 use bptree_keys::key::Key;
@@ -16,7 +17,7 @@ fn moves_one_pair<K: Key, V: Drop, A: Argument<K>>(
     map: &mut BPlusTreeMap<K, V, A>,
     other: &mut BPlusTreeMap<K, V, A>,
 ) -> Result<(), MoveError<K, V>>
-    ensures moved { OnOk result ((a : K × V) → other.old ≡ a ∷ [] → (map.new ≡ put K.cmp map.old a.0 a.1) × (other.new ≡ [])) }
+    ensures moved { OnOk result (MovesOne K.cmp map.old other.old map.new other.new) }
     ensures left { OnOk result (other.new ≡ []) }
 {
     map.append(other)
@@ -35,7 +36,7 @@ fn moves_one_key<K: Key>(
     set: &mut BPlusTreeSet<K>,
     other: &mut BPlusTreeSet<K>,
 ) -> Result<(), MoveError<K, ()>>
-    ensures { OnOk result ((a : K) → other.old ≡ a ∷ [] → (set.new ≡ with_key K.cmp set.old a) × (other.new ≡ [])) }
+    ensures { OnOk result (MovesOneKey K.cmp set.old other.old set.new other.new) }
 {
     set.append(other)
 }
@@ -75,8 +76,8 @@ fn puts_the_last_of_each_key<K: Key, V: Drop, A: Argument<K>>(
     map: &mut BPlusTreeMap<K, V, A>,
     pairs: Vec<(K, V)>,
 ) -> Result<(), InsertError<K, V>>
-    ensures last { OnOk result ((before after : List (K × V)) → (pair : K × V) → pairs.items ≡ before ++ pair ∷ after → has K.cmp after pair.0 ≡ false → value_of K.cmp map.new pair.0 ≡ Some pair.1) }
-    ensures others { OnOk result ((k : K) → has K.cmp pairs.items k ≡ false → value_of K.cmp map.new k ≡ value_of K.cmp map.old k) }
+    ensures last { OnOk result (PutsLastOfEach K.cmp pairs.items map.new) }
+    ensures others { OnOk result (KeepsOthers K.cmp pairs.items map.old map.new) }
 {
     let _len = map.len();
     map.extend(pairs)
@@ -87,7 +88,7 @@ fn holds_what_came<K: Key>(
     set: &mut BPlusTreeSet<K>,
     keys: Vec<K>,
 ) -> Result<(), InsertError<K, ()>>
-    ensures { OnOk result ((k : K) → holds K.cmp set.new k ≡ holds K.cmp set.old k || holds K.cmp keys.items k) }
+    ensures { OnOk result (HoldsEither K.cmp set.old keys.items set.new) }
 {
     let _len = set.len();
     set.extend(keys)

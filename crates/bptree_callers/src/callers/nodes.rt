@@ -1,14 +1,13 @@
 //! Callers of the nodes that are lent: whatever changed the list before, they hold it, and none is
 //! idle beside it.
-ghost use Rattle.std.specs.Prelude.{◌≡◌, ℕ, IfOk, IsTrue, OnOk, Some, false, length};
+ghost use Rattle.std.specs.Prelude.{◌≡◌, IfOk, IsTrue, OnOk, Some, false};
 ghost use Rattle.std.specs.Map.{keys_of};
 ghost use Rattle.bptree_ascent.specs.Lending.{written};
 ghost use Rattle.bptree_keys.specs.Contents.{put};
-ghost use Rattle.bptree_nodes.specs.Leaf.{set_value_at};
-ghost use Rattle.bptree_nodes.specs.Slot.{IsPresent};
-ghost use Rattle.bptree_shape.specs.Shape.{pairs_at, leaf_count, inner_count, leaf_pairs};
+ghost use Rattle.bptree_shape.specs.Shape.{pairs_at};
 ghost use Rattle.bptree_stores.specs.StoreSlabs.{slots};
-ghost use Rattle.bptree_tree.specs.Whole.{IsUntouched};
+ghost use Rattle.bptree_tree.specs.Whole.{IsUntouched, pairs_of_nodes};
+ghost use Rattle.bptree_callers.specs.Words.{EachInnerStandsOnce, EachLeafStandsOnce, WritesSome, count_in};
 
 use crate::callers::changes::writes;
 use crate::callers::queries::writes_by_a_query;
@@ -31,8 +30,7 @@ fn lends_the_list<S: NodeStore>(tree: &BPlusTree<S>) -> (&S, NodeId, usize)
 
 // After a value is written at a key they have it there.
 fn lends_what_was_written<S: NodeStore>(tree: &mut BPlusTree<S>, k: &S::K, v: S::V) -> bool
-    ensures { IsTrue result → pairs_at (S.slots tree.new.store) tree.new.height tree.new.root
-        ≡ written S.K.cmp k.now tree.old.contents v }
+    ensures { IsTrue result → pairs_of_nodes S.slots tree.new ≡ written S.K.cmp k.now tree.old.contents v }
 {
     let there = writes(tree, k, v);
     tree.node_store();
@@ -47,9 +45,7 @@ fn lends_what_was_selected<S: NodeStore>(
 ) -> Result<(), SelectError>
 where
     S::Argument: SearchArgument<S::K>,
-    ensures { OnOk result ((i : ℕ) × S.Argument.selects query (keys_of tree.old.contents) (Some i)
-        × (pairs_at (S.slots tree.new.store) tree.new.height tree.new.root
-        ≡ set_value_at tree.old.contents i v)) }
+    ensures { OnOk result (WritesSome S.Argument.selects query v tree.old.contents (pairs_of_nodes S.slots tree.new)) }
 {
     let answer = writes_by_a_query(tree, query, v);
     tree.node_store();
@@ -71,8 +67,8 @@ fn lends_the_pairs_of_a_map<K: Key, V: Drop, A: Argument<K>>(
 // Each node that stands in the store is reached from the root, and once: no tree keeps a list
 // beside idle nodes.
 fn has_no_idle_node<S: NodeStore>(tree: &BPlusTree<S>) -> (&S, NodeId, usize)
-    ensures leaves { (n : ℕ) → IsPresent ((S.slots result.0.now).leaf n) → leaf_count (S.slots result.0.now) result.2 result.1 n ≡ 1 }
-    ensures inners { (n : ℕ) → IsPresent ((S.slots result.0.now).inner n) → inner_count (S.slots result.0.now) result.2 result.1 n ≡ 1 }
+    ensures leaves { EachLeafStandsOnce (S.slots result.0.now) result.2 result.1 }
+    ensures inners { EachInnerStandsOnce (S.slots result.0.now) result.2 result.1 }
 {
     shows_its_nodes(tree)
 }
@@ -83,9 +79,9 @@ fn leaves_no_node_idle<S: NodeStore>(
     k: S::K,
     v: S::V,
 ) -> Result<Option<S::V>, InsertError<S::K, S::V>>
-    ensures leaves { (n : ℕ) → IsPresent ((S.slots tree.new.store).leaf n) → leaf_count (S.slots tree.new.store) tree.new.height tree.new.root n ≡ 1 }
-    ensures inners { (n : ℕ) → IsPresent ((S.slots tree.new.store).inner n) → inner_count (S.slots tree.new.store) tree.new.height tree.new.root n ≡ 1 }
-    ensures list { IfOk result (λ _. pairs_at (S.slots tree.new.store) tree.new.height tree.new.root ≡ put S.K.cmp tree.old.contents k v) }
+    ensures leaves { EachLeafStandsOnce (S.slots tree.new.store) tree.new.height tree.new.root }
+    ensures inners { EachInnerStandsOnce (S.slots tree.new.store) tree.new.height tree.new.root }
+    ensures list { IfOk result (λ _. pairs_of_nodes S.slots tree.new ≡ put S.K.cmp tree.old.contents k v) }
 {
     tree.insert(k, v)
 }
@@ -95,7 +91,7 @@ fn leaves_no_node_idle<S: NodeStore>(
 type Shown = (NodeId, usize, usize);
 
 fn shows<S: NodeStore>(tree: &BPlusTree<S>, leaf: LeafNodeId) -> Shown
-    ensures { result ≡ (tree.now.root, tree.now.height, length (leaf_pairs ((S.slots tree.now.store).leaf leaf.0))) }
+    ensures { result ≡ (tree.now.root, tree.now.height, count_in (S.slots tree.now.store) leaf.0) }
 {
     let held = match tree.node_store().try_get_leaf(leaf) {
         Some(node) => node.len(),
@@ -105,7 +101,7 @@ fn shows<S: NodeStore>(tree: &BPlusTree<S>, leaf: LeafNodeId) -> Shown
 }
 
 fn is_put<S: NodeStore>(tree: &mut BPlusTree<S>, k: S::K, v: S::V) -> bool
-    ensures { result ≡ false → IsUntouched (λ store. S.slots store) tree.new tree.old }
+    ensures { result ≡ false → IsUntouched S.slots tree.new tree.old }
 {
     tree.insert(k, v).is_ok()
 }
@@ -138,7 +134,7 @@ fn keeps_the_nodes_of_a_map_unless_put<K: Key, V: Drop, A: Argument<K>>(
 }
 
 fn is_taken<S: NodeStore>(tree: &mut BPlusTree<S>, k: &S::K) -> bool
-    ensures { result ≡ false → IsUntouched (λ store. S.slots store) tree.new tree.old }
+    ensures { result ≡ false → IsUntouched S.slots tree.new tree.old }
 {
     tree.remove(k).is_ok()
 }

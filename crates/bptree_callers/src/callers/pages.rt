@@ -6,6 +6,7 @@ ghost use Rattle.std.specs.Option.{option_map};
 ghost use Rattle.bptree_arguments.specs.CountLaws.{count_below};
 ghost use Rattle.bptree_arguments.specs.Groups.{of_group};
 ghost use Rattle.bptree_keys.specs.Contents.{has};
+ghost use Rattle.std.specs.Map.Iter.{deref_pair};
 
 use bptree_arguments::argument::Argument;
 use bptree_arguments::count::Count;
@@ -35,7 +36,7 @@ fn begins_with_the_first<K: Key, V: Drop>(
 ) -> Result<(usize, Option<(&K, &V)>), AllocError>
     requires { 1 ≤ s }
     ensures len { IfOk result (λ answer. answer.0 ≡ min s (length map.now)) }
-    ensures first { IfOk result (λ answer. option_map (λ pair. (pair.0.now, pair.1.now)) answer.1 ≡ slice_get map.now 0) }
+    ensures first { IfOk result (λ answer. option_map deref_pair answer.1 ≡ slice_get map.now 0) }
 {
     let mut pairs = page(map, 0, s)?;
     let len = pairs.len();

@@ -1,12 +1,14 @@
 //! Callers that read, write and remove by summaries: of any argument, and of counts.
-ghost use Rattle.std.specs.Prelude.{◌≡◌, ◌<◌, ◌≤◌, ℕ, length, true, false, slice_get, remove, IfOk, IfErr, OnErr, OnOk, MatchResult, Some, None};
+ghost use Rattle.std.specs.Prelude.{◌≡◌, ◌<◌, ◌≤◌, length, true, false, slice_get, remove, IfOk, IfErr, OnErr, OnOk, Some, None};
 ghost use Rattle.std.specs.Map.{keys_of};
 ghost use Rattle.std.specs.Ordering.{nat_cmp};
 ghost use Rattle.std.specs.Option.{option_map};
 ghost use Rattle.bptree_arguments.specs.CountLaws.{count_below};
 ghost use Rattle.bptree_keys.specs.Contents.{has, del};
-ghost use Rattle.bptree_nodes.specs.Leaf.{set_value_at};
-ghost use Rattle.bptree_tree.specs.Whole.{IsUntouched};
+ghost use Rattle.bptree_tree.specs.Whole.{IsUntouched, HasSameNodes};
+ghost use Rattle.bptree_tree.specs.Selected.{SelectsNone};
+ghost use Rattle.std.specs.Map.Iter.{deref_pair};
+ghost use Rattle.bptree_callers.specs.Words.{AllowsSome, HoldsTheSame, WritesSome};
 
 use bptree_arguments::argument::{RankArgument, SearchArgument};
 use bptree_arguments::count::Count;
@@ -21,8 +23,8 @@ fn finds_an_allowed_place<S: NodeStore>(
 ) -> Result<bool, AllocError>
 where
     S::Argument: SearchArgument<S::K>,
-    ensures found { IfOk result (λ found. found ≡ true → (i : ℕ) × (i < length tree.now.contents) × S.Argument.selects query (keys_of tree.now.contents) (Some i)) }
-    ensures absent { IfOk result (λ found. found ≡ false → S.Argument.selects query (keys_of tree.now.contents) None) }
+    ensures found { IfOk result (λ it. it ≡ true → AllowsSome S.Argument.selects query tree.now.contents) }
+    ensures absent { IfOk result (λ it. it ≡ false → S.Argument.selects query (keys_of tree.now.contents) None) }
 {
     Ok(tree.get_by_argument(query)?.is_some())
 }
@@ -32,7 +34,7 @@ fn finds_the_pair_at_a_place<S: NodeStore<K = u64, V = u64, Argument = Count>>(
     tree: &BPlusTree<S>,
     place: usize,
 ) -> Option<(&u64, &u64)>
-    ensures { option_map (λ pair. (pair.0.now, pair.1.now)) result ≡ slice_get tree.now.contents place }
+    ensures { option_map deref_pair result ≡ slice_get tree.now.contents place }
 {
     match tree.get_by_argument(place) {
         Ok(found) => found,
@@ -116,7 +118,7 @@ fn takes_a_pair<S: NodeStore>(
 where
     S::Argument: SearchArgument<S::K>,
     ensures taken { (k : S.K) → result ≡ Some k → tree.new.contents ≡ del S.K.cmp tree.old.contents k }
-    ensures stays { result ≡ None → (tree.new.contents ≡ tree.old.contents) × (S.slots tree.new.store ≡ S.slots tree.old.store) }
+    ensures stays { result ≡ None → HoldsTheSame S.slots tree.new tree.old }
 {
     match tree.remove_by_argument(query) {
         Ok(Some((k, _))) => Some(k),
@@ -133,7 +135,7 @@ fn takes_the_pair_at_a_place<S: NodeStore<K = u64, V = u64, Argument = Count>>(
     requires { place < length tree.old.contents }
     ensures pair { IfOk result (λ pair. slice_get tree.old.contents place ≡ Some pair) }
     ensures others { OnOk result (tree.new.contents ≡ remove tree.old.contents place) }
-    ensures refused { OnErr result ((tree.new.contents ≡ tree.old.contents) × (S.slots tree.new.store ≡ S.slots tree.old.store) × (tree.new.root ≡ tree.old.root) × (tree.new.height ≡ tree.old.height) × (tree.new.root_argument ≡ tree.old.root_argument)) }
+    ensures refused { OnErr result ((tree.new.contents ≡ tree.old.contents) × HasSameNodes S.slots tree.new tree.old) }
 {
     match tree.remove_by_argument(place)? {
         Some(pair) => Ok(pair),
@@ -166,10 +168,10 @@ pub(crate) fn writes_by_a_query<S: NodeStore>(
 ) -> Result<(), SelectError>
 where
     S::Argument: SearchArgument<S::K>,
-    ensures written { OnOk result ((i : ℕ) × S.Argument.selects query (keys_of tree.old.contents) (Some i) × (tree.new.contents ≡ set_value_at tree.old.contents i v)) }
+    ensures written { OnOk result (WritesSome S.Argument.selects query v tree.old.contents tree.new.contents) }
     ensures refused { OnErr result (tree.new ≡ tree.old) }
-    ensures unchanged { OnErr result (IsUntouched (λ store. S.slots store) tree.new tree.old) }
-    ensures absent { IfErr result (λ error. error ≡ SelectError.NotFound → S.Argument.selects query (keys_of tree.old.contents) None) }
+    ensures unchanged { OnErr result (IsUntouched S.slots tree.new tree.old) }
+    ensures absent { IfErr result (SelectsNone S.Argument.selects query tree.old.contents) }
 {
     match tree.get_mut_by_argument(query) {
         Ok(there) => {

@@ -7,6 +7,7 @@ ghost use Rattle.std.specs.Ordering.{nat_cmp};
 ghost use Rattle.bptree_arguments.specs.Groups.{group};
 ghost use Rattle.bptree_keys.specs.Contents.{pairs_below};
 ghost use Rattle.bptree_keys.specs.Ranges.{between, part};
+ghost use Rattle.std.specs.Map.Iter.{deref_pair};
 
 use bptree_arguments::argument::SearchArgument;
 use bptree_arguments::count::Count;
@@ -25,7 +26,7 @@ fn gives_the_first_between<'a, S: NodeStore>(
     hi: &S::K,
 ) -> (usize, Option<(&'a S::K, &'a S::V)>)
     ensures len { result.0 ≡ length (between S.K.cmp tree.now.contents (Some lo.now) (Some hi.now)) }
-    ensures first { option_map (λ pair. (pair.0.now, pair.1.now)) result.1 ≡ slice_get (between S.K.cmp tree.now.contents (Some lo.now) (Some hi.now)) 0 }
+    ensures first { option_map deref_pair result.1 ≡ slice_get (between S.K.cmp tree.now.contents (Some lo.now) (Some hi.now)) 0 }
 {
     let mut pairs = tree.range(Some(lo), Some(hi));
     let len = pairs.len();

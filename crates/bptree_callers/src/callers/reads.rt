@@ -6,6 +6,7 @@ ghost use Rattle.std.specs.Option.{option_copied, option_map};
 ghost use Rattle.bptree_keys.specs.Contents.{IsAscending, has, value as value_of};
 ghost use Rattle.bptree_nodes.specs.Slot.{IsEmpty};
 ghost use Rattle.bptree_shape.specs.Shape.{IsWellShaped};
+ghost use Rattle.bptree_tree.specs.Entries.{last_of};
 
 use bptree_arguments::count::Count;
 use bptree_keys::node_id::NodeId;
@@ -61,7 +62,7 @@ fn has_a_first<S: NodeStore>(tree: &BPlusTree<S>) -> (&S::K, &S::V)
 
 fn has_a_last<S: NodeStore>(tree: &BPlusTree<S>) -> (&S::K, &S::V)
     requires { 0 < length tree.now.contents }
-    ensures { slice_get tree.now.contents (length tree.now.contents - 1) ≡ Some (result.0.now, result.1.now) }
+    ensures { last_of tree.now.contents ≡ Some (result.0.now, result.1.now) }
 {
     match tree.last() {
         Some(last) => last,
@@ -172,7 +173,7 @@ fn finds_the_pair_of_a_key<'a, S: NodeStore>(
 fn names_both_ends<S: NodeStore>(tree: &BPlusTree<S>) -> ((&S::K, &S::V), (&S::K, &S::V))
     requires { 0 < length tree.now.contents }
     ensures first { slice_get tree.now.contents 0 ≡ Some (result.0.0.now, result.0.1.now) }
-    ensures last { slice_get tree.now.contents (length tree.now.contents - 1) ≡ Some (result.1.0.now, result.1.1.now) }
+    ensures last { last_of tree.now.contents ≡ Some (result.1.0.now, result.1.1.now) }
 {
     match (tree.first_key_value(), tree.last_key_value()) {
         (Some(first), Some(last)) => (first, last),

@@ -1,14 +1,14 @@
 //! Callers of sets, of their iterators and of unions.
-ghost use Rattle.std.specs.Prelude.{◌≡◌, ◌+◌, ◌∷◌, ◌≤◌, [], List, ◌||◌, ◌&&◌, length, map, max, not, true, false, slice_get, is_some, Contains, IfOk, IfSome, IsOk, IsTrue, OnErr, Err, Ok, Some, None};
+ghost use Rattle.std.specs.Prelude.{◌≡◌, ◌∷◌, ◌≤◌, [], ◌||◌, ◌&&◌, length, not, true, false, slice_get, is_some, Contains, IfOk, IfSome, IsTrue, OnErr, Err, Ok, Some, None};
 ghost use Rattle.std.specs.declared.cmp.Ordering.TheVariants.{Equal};
-ghost use Rattle.std.specs.List.{find};
 ghost use Rattle.std.specs.Map.Iter.{TakesFirst, deref};
-ghost use Rattle.std.specs.Option.{option_copied, option_or};
+ghost use Rattle.std.specs.Option.{option_copied};
 ghost use Rattle.std.specs.Ordering.{is_eq};
-ghost use Rattle.bptree_maps.specs.Keys.{holds, with_key, without_key, gathered, keys_between, keys_within, keys_without};
+ghost use Rattle.bptree_maps.specs.Keys.{holds, gathered, keys_between, keys_within, keys_without};
 ghost use Rattle.bptree_maps.specs.Symmetric.{symmetric};
 ghost use Rattle.bptree_maps.specs.TwoSets.{IsDifference, IsIntersection, IsSymmetricDifference};
 ghost use Rattle.bptree_maps.specs.Union.{union};
+ghost use Rattle.bptree_callers.specs.Words.{AreEndsOfTwo, HoldsEither, PopsFirstOfTwo, PopsLastOfTwo};
 
 use bptree_keys::key::Key;
 use bptree_maps::set::{
@@ -105,7 +105,7 @@ fn counts_none_when_cleared<K: Key>(set: &mut BPlusTreeSet<K>) -> Result<usize, 
 
 // The least and the greatest of two keys.
 fn gives_both_ends<K: Key>(set: &BPlusTreeSet<K>) -> (Option<&K>, Option<&K>)
-    ensures { (a b : K) → set.now ≡ a ∷ b ∷ [] → (option_copied result.0 ≡ Some a) × (option_copied result.1 ≡ Some b) }
+    ensures { AreEndsOfTwo set.now (option_copied result.0) (option_copied result.1) }
 {
     (set.first(), set.last())
 }
@@ -179,7 +179,7 @@ fn hands_over_two<K: Key>(set: BPlusTreeSet<K>) -> (K, K, usize)
 // The keys of both sets come in their order, and each key of either set is among them.
 fn joins<'a, K: Key>(first: &'a BPlusTreeSet<K>, second: &'a BPlusTreeSet<K>) -> Union<'a, K>
     ensures keys { union K.cmp result.0 result.1 ≡ union K.cmp first.now second.now }
-    ensures holds { (k : K) → holds K.cmp (union K.cmp result.0 result.1) k ≡ holds K.cmp first.now k || holds K.cmp second.now k }
+    ensures holds { HoldsEither K.cmp first.now second.now (union K.cmp result.0 result.1) }
 {
     laws_of_union::<K>();
     first.union(second)
@@ -374,14 +374,14 @@ fn counts_a_search<K: Key>(set: &BPlusTreeSet<K>, k: &K) -> (bool, usize)
 
 // The first of two keys leaves as it was put in, and so does the last.
 fn pops_the_first_key_of_two<K: Key>(set: &mut BPlusTreeSet<K>) -> Result<Option<K>, AllocError>
-    ensures popped { IfOk result (λ gone. (a b : K) → set.old ≡ a ∷ b ∷ [] → (gone ≡ Some a) × (set.new ≡ b ∷ [])) }
+    ensures popped { IfOk result (PopsFirstOfTwo set.old set.new) }
     ensures refused { OnErr result (set.new ≡ set.old) }
 {
     set.pop_first()
 }
 
 fn pops_the_last_key_of_two<K: Key>(set: &mut BPlusTreeSet<K>) -> Result<Option<K>, AllocError>
-    ensures popped { IfOk result (λ gone. (a b : K) → set.old ≡ a ∷ b ∷ [] → (gone ≡ Some b) × (set.new ≡ a ∷ [])) }
+    ensures popped { IfOk result (PopsLastOfTwo set.old set.new) }
     ensures refused { OnErr result (set.new ≡ set.old) }
 {
     set.pop_last()

@@ -2,7 +2,7 @@
 ghost use Rattle.std.specs.Prelude.{◌≡◌};
 ghost use Rattle.std.specs.Map.Iter.{ShowsInOrder, deref_pair};
 ghost use Rattle.bptree_keys.specs.Contents.{IsAscending};
-ghost use Rattle.bptree_ranges.specs.Bounds.{between_bounds, bound_copied};
+ghost use Rattle.bptree_tree.specs.Entries.{pairs_within};
 
 use super::{BPlusTreeMap, Iter};
 use bptree_arguments::argument::Argument;
@@ -16,7 +16,7 @@ impl<K: Key, V: Drop, A: Argument<K>> BPlusTreeMap<K, V, A> {
     ///
     /// It costs what `range` does: each bound that is not open is searched for once.
     pub fn range_bounds<'b>(&self, lo: Bound<&'b K>, hi: Bound<&'b K>) -> Iter<'_, K, V, A>
-        ensures rest { result ≡ between_bounds K.cmp self.now (bound_copied lo.entry) (bound_copied hi.entry) }
+        ensures rest { result ≡ pairs_within K.cmp self.now lo.entry hi.entry }
         ensures ascending { IsAscending K.cmp result }
         ensures runs { ShowsInOrder (deref_pair {K = K} {X = V}) }
     {

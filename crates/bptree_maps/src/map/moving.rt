@@ -1,10 +1,9 @@
 //! Many pairs at once: those of an iterator, and those of another map.
-ghost use Rattle.std.specs.Prelude.{◌≡◌, ◌++◌, [], Some, None, IfOk, IfErr, OnOk};
-ghost use Rattle.std.specs.Iterator.{IsFinite};
-ghost use Rattle.bptree_keys.specs.Ranges.{between};
+ghost use Rattle.std.specs.Prelude.{◌≡◌, ◌++◌, Some, None, IfOk, IfErr, OnOk};
+ghost use Rattle.std.specs.Iterator.{IsFiniteIterable as AreFinite};
 ghost use Rattle.bptree_tree.specs.Refusal.{pair_of};
-ghost use Rattle.bptree_maps.specs.Moving.{put_all, put_pair, in_hand, IsExtended, IsExtendedUpTo, Moves};
-ghost use Rattle.bptree_maps.specs.Splitting.{gone};
+ghost use Rattle.bptree_maps.specs.Moving.{put_pair, Moves, AllMove, Extends, ExtendsUpTo, MovesPairs};
+ghost use Rattle.bptree_maps.specs.Splitting.{gone, KeepsBelow, SplitsOff};
 
 use crate::map::BPlusTreeMap;
 use crate::refusals::{MoveError, SplitError};
@@ -23,9 +22,9 @@ impl<K: Key, V: Drop, A: Argument<K>> BPlusTreeMap<K, V, A> {
         &mut self,
         pairs: I,
     ) -> Result<(), InsertError<K, V>>
-        requires { (it : I.IntoIter) → I.into_iter_gives pairs it → I.IntoIter.can_next it × IsFinite (I.IntoIter.remaining it) }
-        ensures ok { OnOk result ((it : I.IntoIter) × I.into_iter_gives pairs it × IsExtended (put_pair K.cmp) I.IntoIter.next_gives it self.old self.new) }
-        ensures err { IfErr result (λ refusal. (it : I.IntoIter) × I.into_iter_gives pairs it × IsExtendedUpTo (put_pair K.cmp) I.IntoIter.next_gives it (pair_of refusal) self.old self.new) }
+        requires { AreFinite I.into_iter_gives I.IntoIter.can_next I.IntoIter.remaining pairs }
+        ensures ok { OnOk result (Extends (put_pair K.cmp) I.IntoIter.next_gives I.into_iter_gives pairs self.old self.new) }
+        ensures err { IfErr result (λ r. ExtendsUpTo (put_pair K.cmp) I.IntoIter.next_gives I.into_iter_gives pairs self.old self.new (pair_of r)) }
     {
         for (k, v) in pairs {
             match self.insert(k, v) {
@@ -43,8 +42,8 @@ impl<K: Key, V: Drop, A: Argument<K>> BPlusTreeMap<K, V, A> {
     /// moved, and the others are still in the other map; a pair that was removed and not stored is
     /// handed back.
     pub fn append(&mut self, other: &mut Self) -> Result<(), MoveError<K, V>>
-        ensures ok { OnOk result ((self.new ≡ put_all (put_pair K.cmp) self.old other.old) × (other.new ≡ [])) }
-        ensures err { IfErr result (λ refusal. Moves (put_pair K.cmp) self.old other.old (in_hand refusal) self.new other.new) }
+        ensures ok { OnOk result (AllMove (put_pair K.cmp) self.old other.old self.new other.new) }
+        ensures err { IfErr result (MovesPairs K.cmp self.old other.old self.new other.new) }
     {
         'moves: loop {
             match other.pop_first() {
@@ -65,9 +64,9 @@ impl<K: Key, V: Drop, A: Argument<K>> BPlusTreeMap<K, V, A> {
     /// left and are handed back in their map. With them comes the pair that was removed and not
     /// stored, if there is one. The others stayed.
     pub fn split_off(&mut self, k: &K) -> Result<Self, SplitError<Self, MoveError<K, V>>>
-        ensures ok { IfOk result (λ there. (self.new ≡ between K.cmp self.old None (Some k.now)) × (there ≡ between K.cmp self.old (Some k.now) None)) }
-        ensures err { IfErr result (λ refusal. self.old ≡ self.new ++ gone (λ there. there) refusal) }
-        ensures kept { between K.cmp self.new None (Some k.now) ≡ between K.cmp self.old None (Some k.now) }
+        ensures ok { IfOk result (SplitsOff K.cmp k.now self.old self.new) }
+        ensures err { IfErr result (λ r. self.old ≡ self.new ++ gone (λ there. there) r) }
+        ensures kept { KeepsBelow K.cmp k.now self.old self.new }
     {
         match split_tree(&mut self.inner, k) {
             Ok(inner) => Ok(BPlusTreeMap { inner }),

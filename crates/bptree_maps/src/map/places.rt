@@ -1,8 +1,7 @@
 //! Cursors on the pairs of a map at places: as a query selects them, and as they are counted.
 ghost use Rattle.std.specs.Prelude.{◌≡◌, ◌≤◌, length, slice_get, IfOk, IsOk, Ok, None};
-ghost use Rattle.std.specs.Option.{option_map};
-ghost use Rattle.bptree_tree.specs.Cursor.{StandsAt};
-ghost use Rattle.bptree_tree.specs.Selected.{IsCursorSelected};
+ghost use Rattle.bptree_tree.specs.Cursor.{PointsAt, ShowsValueOf};
+ghost use Rattle.bptree_tree.specs.Selected.{PointsAtSelected};
 
 use super::BPlusTreeMap;
 use bptree_arguments::argument::{Argument, SearchArgument};
@@ -22,7 +21,7 @@ impl<K: Key, V: Drop, A: Argument<K>> BPlusTreeMap<K, V, A> {
     ) -> Result<Option<(Cursor<K>, &V)>, AllocError>
     where
         A: SearchArgument<K>,
-        ensures selected { IfOk result (λ answer. IsCursorSelected K.cmp A.selects query self.now (option_map (λ found. (found.0, found.1.now)) answer)) }
+        ensures selected { IfOk result (PointsAtSelected A.selects query self.now K.cmp) }
         ensures sure { A.needs_no_memory → ((key : K) → K.is_infallible key) → IsOk result }
     {
         self.inner.cursor_by_argument(query)
@@ -35,8 +34,8 @@ impl<K: Key, V: Drop> BPlusTreeMap<K, V, Count> {
     ///
     /// It is one way down by the counts.
     pub fn cursor_at(&self, i: usize) -> Result<Option<(Cursor<K>, &V)>, AllocError>
-        ensures cursor { IfOk result (λ answer. StandsAt K.cmp (slice_get self.now i) (option_map (λ found. found.0) answer)) }
-        ensures value { IfOk result (λ answer. option_map (λ found. found.1.now) answer ≡ option_map (λ pair. pair.1) (slice_get self.now i)) }
+        ensures cursor { IfOk result (PointsAt K.cmp (slice_get self.now i)) }
+        ensures value { IfOk result (ShowsValueOf (slice_get self.now i)) }
         ensures past { length self.now ≤ i → result ≡ Ok None }
         ensures sure { ((key : K) → K.is_infallible key) → IsOk result }
     {

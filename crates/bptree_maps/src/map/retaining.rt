@@ -1,9 +1,8 @@
 //! The pairs of a map that a closure keeps, and those outside a range.
 ghost use Rattle.std.specs.Prelude.{◌≡◌, length, IfErr, IfOk, OnErr, OnOk};
-ghost use Rattle.std.specs.Option.{option_copied};
-ghost use Rattle.bptree_keys.specs.Ranges.{between};
 ghost use Rattle.bptree_maps.specs.Retaining.{IsRetained, IsRetainRefused};
-ghost use Rattle.bptree_tree.specs.RangeRemoval.{outside, FirstsLeft};
+ghost use Rattle.bptree_tree.specs.RangeRemoval.{outside, FirstsBetweenLeft, KeepsOutside};
+ghost use Rattle.bptree_tree.specs.Entries.{pairs_between};
 
 use super::{BPlusTreeMap, IntoIter};
 use crate::refusals::RetainError;
@@ -41,9 +40,9 @@ impl<K: Key, V: Drop, A: Argument<K>> BPlusTreeMap<K, V, A> {
         lo: Option<&'b K>,
         hi: Option<&'b K>,
     ) -> Result<usize, AllocError>
-        ensures rest { IfOk result (λ _. self.new ≡ outside K.cmp self.old (option_copied lo.entry) (option_copied hi.entry)) }
-        ensures count { IfOk result (λ n. n ≡ length (between K.cmp self.old (option_copied lo.entry) (option_copied hi.entry))) }
-        ensures err { OnErr result (FirstsLeft K.cmp (option_copied lo.entry) (option_copied hi.entry) self.old self.new) }
+        ensures rest { IfOk result (λ _. KeepsOutside K.cmp lo.entry hi.entry self.old self.new) }
+        ensures count { IfOk result (λ n. n ≡ length (pairs_between K.cmp self.old lo.entry hi.entry)) }
+        ensures err { OnErr result (FirstsBetweenLeft K.cmp lo.entry hi.entry self.old self.new) }
     {
         self.inner.remove_range(lo, hi)
     }

@@ -1,11 +1,11 @@
 //! Values of a map that a closure changes in place.
-ghost use Rattle.std.specs.Prelude.{◌≡◌, ◌↔◌, false, true, length, IfErr, IfOk, Ok};
-ghost use Rattle.std.specs.Option.{option_copied};
+ghost use Rattle.std.specs.Prelude.{◌≡◌, ◌↔◌, false, true, IfErr, IfOk, Ok};
 ghost use Rattle.bptree_keys.specs.Contents.{has, put};
 ghost use Rattle.bptree_maps.specs.Updates.{IsUpdatedAt};
 ghost use Rattle.bptree_nodes.specs.Updating.{ChangesInTurn};
-ghost use Rattle.bptree_tree.specs.Refusal.{pair_of};
-ghost use Rattle.bptree_tree.specs.Updating.{IsUpdatedBetween};
+ghost use Rattle.bptree_tree.specs.Refusal.{HandsBack};
+ghost use Rattle.bptree_tree.specs.Updating.{UpdatesBetween};
+ghost use Rattle.bptree_tree.specs.Changes.{IsFull};
 
 use super::BPlusTreeMap;
 use bptree_arguments::argument::Argument;
@@ -30,8 +30,8 @@ impl<K: Key, V: Drop, A: Argument<K>> BPlusTreeMap<K, V, A> {
         ensures present { has K.cmp self.old k ≡ true → result ≡ Ok false }
         ensures changed { has K.cmp self.old k ≡ true → IsUpdatedAt F.FnOnce f K.cmp self.old k self.new }
         ensures absent { has K.cmp self.old k ≡ false → IfOk result (λ added. (added ≡ true) × (self.new ≡ put K.cmp self.old k v)) }
-        ensures err { IfErr result (λ refusal. (pair_of refusal ≡ (k, v)) × (self.new ≡ self.old)) }
-        ensures full { (result ≡ Err (InsertError.Full k v)) ↔ ((length self.old ≡ usize.MAX) × (has K.cmp self.old k ≡ false)) }
+        ensures err { IfErr result (HandsBack (k, v) self.old self.new) }
+        ensures full { (result ≡ Err (InsertError.Full k v)) ↔ IsFull K.cmp usize.MAX self.old k }
     {
         match self.inner.get_mut(&k) {
             Some(value) => {
@@ -69,7 +69,7 @@ impl<K: Key, V: Drop, A: Argument<K>> BPlusTreeMap<K, V, A> {
         f: F,
     )
         requires { F.IsAlwaysCallable f }
-        ensures { IsUpdatedBetween F.FnMut f K.cmp (option_copied lo.entry) (option_copied hi.entry) self.old self.new }
+        ensures { UpdatesBetween F.FnMut f K.cmp lo.entry hi.entry self.old self.new }
     {
         self.inner.update_range(lo, hi, f);
     }

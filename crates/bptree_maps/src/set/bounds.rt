@@ -3,7 +3,7 @@ ghost use Rattle.std.specs.Prelude.{◌≡◌};
 ghost use Rattle.std.specs.List.Sorted.{IsStrictlySortedBy};
 ghost use Rattle.std.specs.Map.Iter.{ShowsInOrder, deref};
 ghost use Rattle.bptree_maps.specs.KeyBounds.{keys_between_bounds};
-ghost use Rattle.bptree_ranges.specs.Bounds.{bound_copied};
+ghost use Rattle.bptree_ranges.specs.Bounds.{bound_copied as given};
 
 use super::{BPlusTreeSet, Iter};
 use bptree_keys::key::Key;
@@ -16,7 +16,7 @@ impl<K: Key> BPlusTreeSet<K> {
     ///
     /// It costs what `range` does: each bound that is not open is searched for once.
     pub fn range_bounds<'b>(&self, lo: Bound<&'b K>, hi: Bound<&'b K>) -> Iter<'_, K>
-        ensures rest { result ≡ keys_between_bounds K.cmp self.now (bound_copied lo.entry) (bound_copied hi.entry) }
+        ensures rest { result ≡ keys_between_bounds K.cmp self.now (given lo.entry) (given hi.entry) }
         ensures ascending { IsStrictlySortedBy K.cmp result }
         ensures runs { ShowsInOrder (deref {X = K}) }
     {

@@ -1,10 +1,10 @@
 //! Laws of the list of keys that a set is.
-ghost use Rattle.std.specs.Prelude.{◌≡◌, ◌+◌, List, length, not, ◌||◌, ◌&&◌, if◌then◌else◌};
+ghost use Rattle.std.specs.Prelude.{◌≡◌, List};
 ghost use Rattle.std.specs.List.Sorted.{IsStrictlySortedBy};
-ghost use Rattle.std.specs.Ordering.{is_eq};
-ghost use Rattle.bptree_maps.specs.Keys.{holds, with_key, without_key, gathered, keys_within, keys_without};
+ghost use Rattle.bptree_maps.specs.Keys.{holds, gathered, keys_within, keys_without};
 ghost use Rattle.bptree_maps.specs.Symmetric.{symmetric};
 ghost use Rattle.bptree_maps.specs.TwoSets.{KeepsFirstOrder, KeepsOrder, MakesDifference, MakesIntersection, MakesSymmetricDifference};
+ghost use Rattle.bptree_maps.specs.KeyLaws.{WithKeyAscends, WithKeyHolds, WithKeyIsOneMore, WithoutKeyAscends, WithoutKeyHolds, WithoutKeyIsOneFewer};
 
 use bptree_keys::key::Key;
 
@@ -13,12 +13,12 @@ use bptree_keys::key::Key;
 /// of any list is ascending: of an ascending one that list, so that `from_iter` of what `into_iter`
 /// gives is the same. It does nothing.
 pub fn laws_of_keys<K: Key>()
-    ensures with_order { (keys : List K) → (k : K) → IsStrictlySortedBy K.cmp keys → IsStrictlySortedBy K.cmp (with_key K.cmp keys k) }
-    ensures with_holds { (keys : List K) → (k j : K) → IsStrictlySortedBy K.cmp keys → holds K.cmp (with_key K.cmp keys k) j ≡ is_eq (K.cmp k j) || holds K.cmp keys j }
-    ensures with_len { (keys : List K) → (k : K) → IsStrictlySortedBy K.cmp keys → length (with_key K.cmp keys k) ≡ (if holds K.cmp keys k then length keys else length keys + 1) }
-    ensures without_order { (keys : List K) → (k : K) → IsStrictlySortedBy K.cmp keys → IsStrictlySortedBy K.cmp (without_key K.cmp keys k) }
-    ensures without_holds { (keys : List K) → (k j : K) → IsStrictlySortedBy K.cmp keys → holds K.cmp (without_key K.cmp keys k) j ≡ not (is_eq (K.cmp k j)) && holds K.cmp keys j }
-    ensures without_len { (keys : List K) → (k : K) → IsStrictlySortedBy K.cmp keys → length (without_key K.cmp keys k) + (if holds K.cmp keys k then 1 else 0) ≡ length keys }
+    ensures with_order { WithKeyAscends K.cmp }
+    ensures with_holds { WithKeyHolds K.cmp }
+    ensures with_len { WithKeyIsOneMore K.cmp }
+    ensures without_order { WithoutKeyAscends K.cmp }
+    ensures without_holds { WithoutKeyHolds K.cmp }
+    ensures without_len { WithoutKeyIsOneFewer K.cmp }
     ensures gathered { (keys : List K) → IsStrictlySortedBy K.cmp (gathered K.cmp keys) }
     ensures same { (keys : List K) → IsStrictlySortedBy K.cmp keys → gathered K.cmp keys ≡ keys }
 {}

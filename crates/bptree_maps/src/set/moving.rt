@@ -1,12 +1,13 @@
 //! One key that is handed out or takes another's place, and many keys at once.
-ghost use Rattle.std.specs.Prelude.{◌≡◌, ◌++◌, [], false, IfOk, IfErr, OnErr, OnOk, Ok, Some, None};
-ghost use Rattle.std.specs.Iterator.{IsFinite};
+ghost use Rattle.std.specs.Prelude.{◌≡◌, ◌++◌, false, IfOk, IfErr, OnErr, OnOk, Ok, Some, None};
+ghost use Rattle.std.specs.Iterator.{IsFiniteIterable as AreFinite};
 ghost use Rattle.std.specs.Option.{option_map};
 ghost use Rattle.bptree_tree.specs.Refusal.{pair_of};
-ghost use Rattle.bptree_maps.specs.Keys.{holds, key_found, keys_between, with_key, without_key};
-ghost use Rattle.bptree_maps.specs.Moving.{put_all, key_in_hand, IsExtended, IsExtendedUpTo, Moves};
+ghost use Rattle.bptree_maps.specs.Keys.{holds, with_key};
+ghost use Rattle.bptree_maps.specs.Moving.{Moves, AllMove, Extends, ExtendsUpTo, MovesKeys};
 ghost use Rattle.bptree_maps.specs.Replacing.{IsNotReplaced};
-ghost use Rattle.bptree_maps.specs.Splitting.{keys_gone};
+ghost use Rattle.bptree_maps.specs.Splitting.{keys_gone, KeepsKeysBelow, SplitsKeysOff};
+ghost use Rattle.bptree_maps.specs.KeyChanges.{ReplacesKey, TakesKey};
 
 use crate::refusals::{MoveError, ReplaceError, SplitError};
 use crate::set::BPlusTreeSet;
@@ -31,7 +32,7 @@ impl<K: Key> BPlusTreeSet<K> {
     ///
     /// It costs what `remove` does, which drops that key. Where it is refused, nothing has changed.
     pub fn take(&mut self, k: &K) -> Result<Option<K>, AllocError>
-        ensures ok { IfOk result (λ gone. (gone ≡ key_found K.cmp self.old k.now) × (self.new ≡ without_key K.cmp self.old k.now)) }
+        ensures ok { IfOk result (TakesKey K.cmp k.now self.old self.new) }
         ensures absent { holds K.cmp self.old k.now ≡ false → result ≡ Ok None }
         ensures err { OnErr result (self.new ≡ self.old) }
     {
@@ -46,7 +47,7 @@ impl<K: Key> BPlusTreeSet<K> {
     /// Where the removal is refused, nothing has changed, and `k` is handed back. Where the
     /// insertion is, the key that equals `k` has left, and both are handed back.
     pub fn replace(&mut self, k: K) -> Result<Option<K>, ReplaceError<K>>
-        ensures ok { IfOk result (λ gone. (gone ≡ key_found K.cmp self.old k) × (self.new ≡ with_key K.cmp (without_key K.cmp self.old k) k)) }
+        ensures ok { IfOk result (ReplacesKey K.cmp k self.old self.new) }
         ensures err { IfErr result (IsNotReplaced K.cmp k self.old self.new) }
     {
         match self.take(&k) {
@@ -64,9 +65,9 @@ impl<K: Key> BPlusTreeSet<K> {
     /// It costs an insertion a key. Where one is refused, the keys before it are in and that key is
     /// handed back; the rest of the iterator is dropped.
     pub fn extend<I: IntoIterator<Item = K>>(&mut self, keys: I) -> Result<(), InsertError<K, ()>>
-        requires { (it : I.IntoIter) → I.into_iter_gives keys it → I.IntoIter.can_next it × IsFinite (I.IntoIter.remaining it) }
-        ensures ok { OnOk result ((it : I.IntoIter) × I.into_iter_gives keys it × IsExtended (with_key K.cmp) I.IntoIter.next_gives it self.old self.new) }
-        ensures err { IfErr result (λ refusal. (it : I.IntoIter) × I.into_iter_gives keys it × IsExtendedUpTo (with_key K.cmp) I.IntoIter.next_gives it (pair_of refusal).0 self.old self.new) }
+        requires { AreFinite I.into_iter_gives I.IntoIter.can_next I.IntoIter.remaining keys }
+        ensures ok { OnOk result (Extends (with_key K.cmp) I.IntoIter.next_gives I.into_iter_gives keys self.old self.new) }
+        ensures err { IfErr result (λ r. ExtendsUpTo (with_key K.cmp) I.IntoIter.next_gives I.into_iter_gives keys self.old self.new (pair_of r).0) }
     {
         for k in keys {
             match self.insert(k) {
@@ -84,8 +85,8 @@ impl<K: Key> BPlusTreeSet<K> {
     /// and the others are still in the other set; a key that was removed and not stored is handed
     /// back.
     pub fn append(&mut self, other: &mut Self) -> Result<(), MoveError<K, ()>>
-        ensures ok { OnOk result ((self.new ≡ put_all (with_key K.cmp) self.old other.old) × (other.new ≡ [])) }
-        ensures err { IfErr result (λ refusal. Moves (with_key K.cmp) self.old other.old (key_in_hand refusal) self.new other.new) }
+        ensures ok { OnOk result (AllMove (with_key K.cmp) self.old other.old self.new other.new) }
+        ensures err { IfErr result (MovesKeys K.cmp self.old other.old self.new other.new) }
     {
         'moves: loop {
             match other.pop_first() {
@@ -106,9 +107,9 @@ impl<K: Key> BPlusTreeSet<K> {
     /// left and are handed back in their set. With them comes the key that was removed and not
     /// stored, if there is one. The others stayed.
     pub fn split_off(&mut self, k: &K) -> Result<Self, SplitError<Self, MoveError<K, ()>>>
-        ensures ok { IfOk result (λ there. (self.new ≡ keys_between K.cmp self.old None (Some k.now)) × (there ≡ keys_between K.cmp self.old (Some k.now) None)) }
+        ensures ok { IfOk result (SplitsKeysOff K.cmp k.now self.old self.new) }
         ensures err { IfErr result (λ refusal. self.old ≡ self.new ++ keys_gone refusal) }
-        ensures kept { keys_between K.cmp self.new None (Some k.now) ≡ keys_between K.cmp self.old None (Some k.now) }
+        ensures kept { KeepsKeysBelow K.cmp k.now self.old self.new }
     {
         match split_tree(&mut self.tree, k) {
             Ok(tree) => Ok(BPlusTreeSet { tree }),

@@ -2,7 +2,7 @@
 ghost use Rattle.std.specs.Prelude.{◌≡◌, length, IfErr, IfOk, OnErr, OnOk};
 ghost use Rattle.std.specs.Fn.{CalledAt};
 ghost use Rattle.std.specs.List.Retain.{IsFiltered};
-ghost use Rattle.std.specs.Option.{option_copied};
+ghost use Rattle.std.specs.Option.{option_copied as given};
 ghost use Rattle.bptree_maps.specs.Keys.{keys_between};
 ghost use Rattle.bptree_maps.specs.RetainedKeys.{keys_outside, FirstKeysLeft, IsKeyRetainRefused};
 ghost use Rattle.bptree_tree.specs.Refusal.{pair_of};
@@ -67,9 +67,9 @@ impl<K: Key> BPlusTreeSet<K> {
         lo: Option<&'b K>,
         hi: Option<&'b K>,
     ) -> Result<usize, AllocError>
-        ensures rest { IfOk result (λ _. self.new ≡ keys_outside K.cmp self.old (option_copied lo.entry) (option_copied hi.entry)) }
-        ensures count { IfOk result (λ n. n ≡ length (keys_between K.cmp self.old (option_copied lo.entry) (option_copied hi.entry))) }
-        ensures err { OnErr result (FirstKeysLeft K.cmp (option_copied lo.entry) (option_copied hi.entry) self.old self.new) }
+        ensures rest { IfOk result (λ _. self.new ≡ keys_outside K.cmp self.old (given lo.entry) (given hi.entry)) }
+        ensures count { IfOk result (λ n. n ≡ length (keys_between K.cmp self.old (given lo.entry) (given hi.entry))) }
+        ensures err { OnErr result (FirstKeysLeft K.cmp (given lo.entry) (given hi.entry) self.old self.new) }
     {
         self.tree.remove_range(lo, hi)
     }

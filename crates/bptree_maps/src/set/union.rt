@@ -1,13 +1,11 @@
 //! The keys of two sets, one by one.
-ghost use Rattle.std.specs.Prelude.{◌≡◌, ◌+◌, ◌<◌, ◌≤◌, ◌^◌, List, ◌||◌, length, max, IfSome, MatchOption, ⊤};
+ghost use Rattle.std.specs.Prelude.{◌≡◌, ◌<◌, ◌^◌, List, length, IfSome, ⊤};
 ghost use Rattle.std.specs.Iterator.{at_most, item_count, UpTo};
 ghost use Rattle.std.specs.Iterator.SizeHint.{IsWithinCount};
-ghost use Rattle.std.specs.List.{find};
-ghost use Rattle.std.specs.List.Sorted.{IsStrictlySortedBy};
-ghost use Rattle.std.specs.Option.{option_or};
-ghost use Rattle.std.specs.Ordering.{is_eq};
 ghost use Rattle.bptree_maps.specs.Keys.{holds};
-ghost use Rattle.bptree_maps.specs.Union.{IsUnionStep, union};
+ghost use Rattle.bptree_maps.specs.Union.{IsUnionStep, union, IsBetweenLengths};
+ghost use Rattle.bptree_maps.specs.KeyLaws.{UnionHoldsBoth, UnionPrefersFirst};
+ghost use Rattle.bptree_maps.specs.TwoSets.{KeepsOrder};
 
 use crate::set::Iter;
 use bptree_keys::key::Key;
@@ -60,7 +58,7 @@ impl<'a, K: Key> Iterator for Union<'a, K> {
     fn size_hint(&self) -> (usize, Option<usize>)
         ensures lower { IsWithinCount result.0 (at_most (length (union K.cmp self.now.0 self.now.1))) }
         ensures upper { IfSome result.1 (UpTo (at_most (length (union K.cmp self.now.0 self.now.1)))) }
-        ensures exact { (result.0 ≡ max (length self.now.0) (length self.now.1)) × MatchOption result.1 (2 ^ 64 ≤ length self.now.0 + length self.now.1) (λ sum. sum ≡ length self.now.0 + length self.now.1) }
+        ensures exact { IsBetweenLengths self.now.0 self.now.1 result }
     {
         let (first, second) = self.merge.lens();
         (first.max(second), first.checked_add(second))
@@ -85,7 +83,7 @@ impl<'a, K: Key> Clone for Union<'a, K> {
 /// where it equals one of a list. The key that is found in it is the first list's where that has
 /// one, and else the second's. It does nothing.
 pub fn laws_of_union<K: Key>()
-    ensures order { (first second : List K) → IsStrictlySortedBy K.cmp first → IsStrictlySortedBy K.cmp second → IsStrictlySortedBy K.cmp (union K.cmp first second) }
-    ensures holds { (first second : List K) → (k : K) → holds K.cmp (union K.cmp first second) k ≡ holds K.cmp first k || holds K.cmp second k }
-    ensures found { (first second : List K) → (k : K) → IsStrictlySortedBy K.cmp first → find (λ key. is_eq (K.cmp key k)) (union K.cmp first second) ≡ option_or (find (λ key. is_eq (K.cmp key k)) first) (find (λ key. is_eq (K.cmp key k)) second) }
+    ensures order { KeepsOrder K.cmp (union K.cmp) }
+    ensures holds { UnionHoldsBoth K.cmp }
+    ensures found { UnionPrefersFirst K.cmp }
 {}

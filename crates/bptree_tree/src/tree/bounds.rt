@@ -2,7 +2,7 @@
 ghost use Rattle.std.specs.Prelude.{◌≡◌};
 ghost use Rattle.std.specs.Map.Iter.{ShowsInOrder, deref_pair};
 ghost use Rattle.bptree_keys.specs.Contents.{IsAscending};
-ghost use Rattle.bptree_ranges.specs.Bounds.{between_bounds, bound_copied};
+ghost use Rattle.bptree_tree.specs.Entries.{pairs_within};
 
 use crate::tree::BPlusTree;
 use bptree_iteration::iterator::Iter;
@@ -17,7 +17,7 @@ impl<S: NodeStore> BPlusTree<S> {
     ///
     /// It costs what `range` does: each bound that is not open is searched for once, from the root.
     pub fn range_bounds<'b>(&self, lo: Bound<&'b S::K>, hi: Bound<&'b S::K>) -> Iter<'_, S>
-        ensures rest { result ≡ between_bounds S.K.cmp self.now.contents (bound_copied lo.entry) (bound_copied hi.entry) }
+        ensures rest { result ≡ pairs_within S.K.cmp self.now.contents lo.entry hi.entry }
         ensures ascending { IsAscending S.K.cmp result }
         ensures runs { ShowsInOrder (deref_pair {K = S.K} {X = S.V}) }
     {

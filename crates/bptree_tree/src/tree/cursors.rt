@@ -1,10 +1,9 @@
 //! Where the pairs of a tree stand, for cursors.
-ghost use Rattle.std.specs.Prelude.{◌≡◌, ◌-◌, [], length, slice_get, IfOk, IsOk, IsSomeAnd, Ok, None};
-ghost use Rattle.std.specs.declared.cmp.Ordering.TheVariants.{Equal};
-ghost use Rattle.std.specs.Option.{option_copied, option_map};
+ghost use Rattle.std.specs.Prelude.{◌≡◌, [], slice_get, IfOk, IsOk, IsSomeAnd, Ok, None};
+ghost use Rattle.std.specs.Option.{option_copied};
 ghost use Rattle.bptree_keys.specs.Contents.{next, previous, value};
-ghost use Rattle.bptree_tree.specs.Cursor.{cursor_key, StandsAt};
-ghost use Rattle.bptree_tree.specs.Entries.{at_least};
+ghost use Rattle.bptree_tree.specs.Cursor.{StandsAt, PointsAt, PointsAtKey, ShowsValueOf, found_pair};
+ghost use Rattle.bptree_tree.specs.Entries.{at_least, last_of};
 
 use crate::cursor::Cursor;
 use crate::tree::BPlusTree;
@@ -31,7 +30,7 @@ impl<S: NodeStore> BPlusTree<S> {
     /// A cursor on `k`, which need not be there, and its value where it is. It takes what a clone
     /// of `k` takes.
     pub fn get_cursor(&self, k: &S::K) -> Result<Option<(Cursor<S::K>, Option<&S::V>)>, AllocError>
-        ensures cursor { IfOk result (λ answer. IsSomeAnd answer (λ found. (S.K.cmp (cursor_key found.0) k.now ≡ Equal) × (option_copied found.1 ≡ value S.K.cmp self.now.contents k.now))) }
+        ensures cursor { IfOk result (λ answer. IsSomeAnd answer (PointsAtKey S.K.cmp self.now.contents k.now)) }
         ensures sure { S.K.is_infallible k.now → IsOk result }
     {
         let leaf = reading::leaf_for(&self.store, self.root, self.height, k);
@@ -44,8 +43,8 @@ impl<S: NodeStore> BPlusTree<S> {
     ///
     /// It costs what `get` does, and where `k` itself is not there one more search of its leaf.
     pub fn lower_bound(&self, k: &S::K) -> Result<Option<(Cursor<S::K>, &S::V)>, AllocError>
-        ensures cursor { IfOk result (λ answer. StandsAt S.K.cmp (at_least S.K.cmp self.now.contents k.now) (option_map (λ found. found.0) answer)) }
-        ensures value { IfOk result (λ answer. option_map (λ found. found.1.now) answer ≡ option_map (λ pair. pair.1) (at_least S.K.cmp self.now.contents k.now)) }
+        ensures cursor { IfOk result (PointsAt S.K.cmp (at_least S.K.cmp self.now.contents k.now)) }
+        ensures value { IfOk result (ShowsValueOf (at_least S.K.cmp self.now.contents k.now)) }
         ensures end { at_least S.K.cmp self.now.contents k.now ≡ None → result ≡ Ok None }
         ensures sure { ((key : S.K) → S.K.is_infallible key) → IsOk result }
     {
@@ -61,8 +60,8 @@ impl<S: NodeStore> BPlusTree<S> {
     ///
     /// It costs what `get` does, and one more search of the leaf.
     pub fn upper_bound(&self, k: &S::K) -> Result<Option<(Cursor<S::K>, &S::V)>, AllocError>
-        ensures cursor { IfOk result (λ answer. StandsAt S.K.cmp (next S.K.cmp self.now.contents k.now) (option_map (λ found. found.0) answer)) }
-        ensures value { IfOk result (λ answer. option_map (λ found. found.1.now) answer ≡ option_map (λ pair. pair.1) (next S.K.cmp self.now.contents k.now)) }
+        ensures cursor { IfOk result (PointsAt S.K.cmp (next S.K.cmp self.now.contents k.now)) }
+        ensures value { IfOk result (ShowsValueOf (next S.K.cmp self.now.contents k.now)) }
         ensures end { next S.K.cmp self.now.contents k.now ≡ None → result ≡ Ok None }
         ensures sure { ((key : S.K) → S.K.is_infallible key) → IsOk result }
     {
@@ -73,8 +72,8 @@ impl<S: NodeStore> BPlusTree<S> {
     // Cursors at the ends and beside a key, with the values there.
 
     pub(crate) fn cursor_at_first(&self) -> Result<Option<(Cursor<S::K>, &S::V)>, AllocError>
-        ensures cursor { IfOk result (λ answer. StandsAt S.K.cmp (slice_get self.now.contents 0) (option_map (λ found. found.0) answer)) }
-        ensures value { IfOk result (λ answer. option_map (λ found. found.1.now) answer ≡ option_map (λ pair. pair.1) (slice_get self.now.contents 0)) }
+        ensures cursor { IfOk result (PointsAt S.K.cmp (slice_get self.now.contents 0)) }
+        ensures value { IfOk result (ShowsValueOf (slice_get self.now.contents 0)) }
         ensures end { slice_get self.now.contents 0 ≡ None → result ≡ Ok None }
         ensures sure { ((key : S.K) → S.K.is_infallible key) → IsOk result }
     {
@@ -86,9 +85,9 @@ impl<S: NodeStore> BPlusTree<S> {
     }
 
     pub(crate) fn cursor_at_last(&self) -> Result<Option<(Cursor<S::K>, &S::V)>, AllocError>
-        ensures cursor { IfOk result (λ answer. StandsAt S.K.cmp (slice_get self.now.contents (length self.now.contents - 1)) (option_map (λ found. found.0) answer)) }
-        ensures value { IfOk result (λ answer. option_map (λ found. found.1.now) answer ≡ option_map (λ pair. pair.1) (slice_get self.now.contents (length self.now.contents - 1))) }
-        ensures end { slice_get self.now.contents (length self.now.contents - 1) ≡ None → result ≡ Ok None }
+        ensures cursor { IfOk result (PointsAt S.K.cmp (last_of self.now.contents)) }
+        ensures value { IfOk result (ShowsValueOf (last_of self.now.contents)) }
+        ensures end { last_of self.now.contents ≡ None → result ≡ Ok None }
         ensures sure { ((key : S.K) → S.K.is_infallible key) → IsOk result }
     {
         let Some((place, (key, value))) = self.last_place() else {
@@ -104,8 +103,8 @@ impl<S: NodeStore> BPlusTree<S> {
         offset: usize,
         key: &S::K,
     ) -> Result<Option<(Cursor<S::K>, &S::V)>, AllocError>
-        ensures cursor { IfOk result (λ answer. StandsAt S.K.cmp (next S.K.cmp self.now.contents key.now) (option_map (λ found. found.0) answer)) }
-        ensures value { IfOk result (λ answer. option_map (λ found. found.1.now) answer ≡ option_map (λ pair. pair.1) (next S.K.cmp self.now.contents key.now)) }
+        ensures cursor { IfOk result (PointsAt S.K.cmp (next S.K.cmp self.now.contents key.now)) }
+        ensures value { IfOk result (ShowsValueOf (next S.K.cmp self.now.contents key.now)) }
         ensures end { next S.K.cmp self.now.contents key.now ≡ None → result ≡ Ok None }
         ensures sure { ((key : S.K) → S.K.is_infallible key) → IsOk result }
     {
@@ -122,8 +121,8 @@ impl<S: NodeStore> BPlusTree<S> {
         offset: usize,
         key: &S::K,
     ) -> Result<Option<(Cursor<S::K>, &S::V)>, AllocError>
-        ensures cursor { IfOk result (λ answer. StandsAt S.K.cmp (previous S.K.cmp self.now.contents key.now) (option_map (λ found. found.0) answer)) }
-        ensures value { IfOk result (λ answer. option_map (λ found. found.1.now) answer ≡ option_map (λ pair. pair.1) (previous S.K.cmp self.now.contents key.now)) }
+        ensures cursor { IfOk result (PointsAt S.K.cmp (previous S.K.cmp self.now.contents key.now)) }
+        ensures value { IfOk result (ShowsValueOf (previous S.K.cmp self.now.contents key.now)) }
         ensures end { previous S.K.cmp self.now.contents key.now ≡ None → result ≡ Ok None }
         ensures sure { ((key : S.K) → S.K.is_infallible key) → IsOk result }
     {
@@ -137,13 +136,13 @@ impl<S: NodeStore> BPlusTree<S> {
     // The pairs there, with the leaves and places where they stand.
 
     fn first_place(&self) -> Option<((LeafNodeId, usize), (&S::K, &S::V))>
-        ensures { option_map (λ found. (found.1.0.now, found.1.1.now)) result ≡ slice_get self.now.contents 0 }
+        ensures { found_pair result ≡ slice_get self.now.contents 0 }
     {
         neighbours::first_pair(&self.store, self.root, self.height)
     }
 
     fn last_place(&self) -> Option<((LeafNodeId, usize), (&S::K, &S::V))>
-        ensures { option_map (λ found. (found.1.0.now, found.1.1.now)) result ≡ slice_get self.now.contents (length self.now.contents - 1) }
+        ensures { found_pair result ≡ last_of self.now.contents }
     {
         neighbours::last_pair(&self.store, self.root, self.height)
     }
@@ -154,14 +153,14 @@ impl<S: NodeStore> BPlusTree<S> {
         offset: usize,
         key: &S::K,
     ) -> Option<((LeafNodeId, usize), (&S::K, &S::V))>
-        ensures { option_map (λ found. (found.1.0.now, found.1.1.now)) result ≡ next S.K.cmp self.now.contents key.now }
+        ensures { found_pair result ≡ next S.K.cmp self.now.contents key.now }
     {
         neighbours::pair_after(&self.store, self.root, self.height, leaf, offset, key)
     }
 
     // The pair with the least key that is not below a key.
     fn place_from(&self, k: &S::K) -> Option<((LeafNodeId, usize), (&S::K, &S::V))>
-        ensures { option_map (λ found. (found.1.0.now, found.1.1.now)) result ≡ at_least S.K.cmp self.now.contents k.now }
+        ensures { found_pair result ≡ at_least S.K.cmp self.now.contents k.now }
     {
         let id = reading::leaf_for(&self.store, self.root, self.height, k);
         let leaf = self.store.get_leaf(id);
@@ -177,7 +176,7 @@ impl<S: NodeStore> BPlusTree<S> {
         offset: usize,
         key: &S::K,
     ) -> Option<((LeafNodeId, usize), (&S::K, &S::V))>
-        ensures { option_map (λ found. (found.1.0.now, found.1.1.now)) result ≡ previous S.K.cmp self.now.contents key.now }
+        ensures { found_pair result ≡ previous S.K.cmp self.now.contents key.now }
     {
         neighbours::pair_before(&self.store, self.root, self.height, leaf, offset, key)
     }

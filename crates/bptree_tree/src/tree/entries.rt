@@ -1,8 +1,9 @@
 //! Reads of one pair: by its key, and at both ends.
-ghost use Rattle.std.specs.Prelude.{◌≡◌, ◌-◌, length, slice_get};
+ghost use Rattle.std.specs.Prelude.{◌≡◌, slice_get};
 ghost use Rattle.std.specs.Option.{option_map};
 ghost use Rattle.bptree_keys.specs.Contents.{has};
-ghost use Rattle.bptree_tree.specs.Entries.{entry};
+ghost use Rattle.bptree_tree.specs.Entries.{entry, last_of};
+ghost use Rattle.std.specs.Map.Iter.{deref_pair};
 
 use crate::tree::BPlusTree;
 use bptree_shape::reading;
@@ -18,7 +19,7 @@ impl<S: NodeStore> BPlusTree<S> {
 
     /// The pair whose key equals `k`, with the key that is stored. It costs what `get` does.
     pub fn get_key_value(&self, k: &S::K) -> Option<(&S::K, &S::V)>
-        ensures { option_map (λ pair. (pair.0.now, pair.1.now)) result ≡ entry S.K.cmp self.now.contents k.now }
+        ensures { option_map deref_pair result ≡ entry S.K.cmp self.now.contents k.now }
     {
         let id = reading::leaf_for(&self.store, self.root, self.height, k);
         let leaf = self.store.get_leaf(id);
@@ -30,14 +31,14 @@ impl<S: NodeStore> BPlusTree<S> {
 
     /// The pair with the least key: the same as `first`.
     pub fn first_key_value(&self) -> Option<(&S::K, &S::V)>
-        ensures { option_map (λ pair. (pair.0.now, pair.1.now)) result ≡ slice_get self.now.contents 0 }
+        ensures { option_map deref_pair result ≡ slice_get self.now.contents 0 }
     {
         self.first()
     }
 
     /// The pair with the greatest key: the same as `last`.
     pub fn last_key_value(&self) -> Option<(&S::K, &S::V)>
-        ensures { option_map (λ pair. (pair.0.now, pair.1.now)) result ≡ slice_get self.now.contents (length self.now.contents - 1) }
+        ensures { option_map deref_pair result ≡ last_of self.now.contents }
     {
         self.last()
     }

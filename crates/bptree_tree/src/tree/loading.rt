@@ -23,7 +23,7 @@ impl<S: NodeStore> BPlusTree<S> {
     pub fn bulk_load(mut pairs: Vec<(S::K, S::V)>) -> Result<Self, AllocError>
         requires { IsInLoadOrder S.K.cmp pairs.items }
         ensures contents { IfOk result (λ tree. tree.contents ≡ load S.K.cmp pairs.items) }
-        ensures whole { IfOk result (λ tree. IsWhole S.K.cmp S.Argument.is_summary (λ store. S.slots store) tree) }
+        ensures whole { IfOk result (IsWhole S.K.cmp S.Argument.is_summary S.slots) }
     {
         keep_last_of_each_run(&mut pairs);
         let mut store = S::empty(*pairs.allocator());

@@ -2,7 +2,8 @@
 ghost use Rattle.std.specs.Prelude.{IfOk, IsOk};
 ghost use Rattle.std.specs.Option.{option_map};
 ghost use Rattle.bptree_descents.specs.ByArgument.{IsSelected};
-ghost use Rattle.bptree_tree.specs.Selected.{IsCursorSelected};
+ghost use Rattle.bptree_tree.specs.Selected.{PointsAtSelected};
+ghost use Rattle.std.specs.Map.Iter.{deref_pair};
 
 use crate::cursor::Cursor;
 use crate::tree::BPlusTree;
@@ -23,7 +24,7 @@ impl<S: NodeStore> BPlusTree<S> {
     ) -> Result<Option<(Cursor<S::K>, &S::V)>, AllocError>
     where
         S::Argument: SearchArgument<S::K>,
-        ensures selected { IfOk result (λ answer. IsCursorSelected S.K.cmp S.Argument.selects query self.now.contents (option_map (λ found. (found.0, found.1.now)) answer)) }
+        ensures selected { IfOk result (PointsAtSelected S.Argument.selects query self.now.contents S.K.cmp) }
         ensures sure { S.Argument.needs_no_memory → ((key : S.K) → S.K.is_infallible key) → IsOk result }
     {
         let Some((place, (key, value))) = self.place_by_argument(query)? else {
@@ -41,7 +42,7 @@ impl<S: NodeStore> BPlusTree<S> {
     ) -> Result<Option<((LeafNodeId, usize), (&S::K, &S::V))>, AllocError>
     where
         S::Argument: SearchArgument<S::K>,
-        ensures selected { IfOk result (λ answer. IsSelected S.Argument.selects query self.now.contents (option_map (λ found. (found.1.0.now, found.1.1.now)) answer)) }
+        ensures selected { IfOk result (λ answer. IsSelected S.Argument.selects query self.now.contents (option_map (λ found. deref_pair found.1) answer)) }
         ensures sure { S.Argument.needs_no_memory → IsOk result }
     {
         // Read, so that it is known to fit.

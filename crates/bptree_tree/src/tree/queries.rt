@@ -1,12 +1,13 @@
 //! Reads of a tree by the summaries of its keys.
-ghost use Rattle.std.specs.Prelude.{◌≡◌, IfOk, IfErr, IsOk, MatchResult, is_ok, length};
+ghost use Rattle.std.specs.Prelude.{◌≡◌, IfOk, IfErr, IsOk, is_ok, length};
 ghost use Rattle.std.specs.Map.{keys_of};
-ghost use Rattle.std.specs.Option.{option_copied, option_map};
 ghost use Rattle.bptree_arguments.specs.Visits.{answered, IsAllowedError};
 ghost use Rattle.bptree_keys.specs.Contents.{has};
 ghost use Rattle.bptree_keys.specs.Ranges.{between};
 ghost use Rattle.bptree_ranges.specs.Summaries.{IsPartSummary};
-ghost use Rattle.bptree_descents.specs.ByArgument.{IsSelected};
+ghost use Rattle.bptree_tree.specs.Changes.{EitherWay};
+ghost use Rattle.bptree_tree.specs.Entries.{pairs_between, SumsUpBetween};
+ghost use Rattle.bptree_tree.specs.Selected.{LendsSelected, SelectsNone, ShowsSelected};
 
 use crate::SelectError;
 use crate::tree::BPlusTree;
@@ -33,7 +34,7 @@ impl<S: NodeStore> BPlusTree<S> {
     ) -> Result<Option<(&S::K, &S::V)>, AllocError>
     where
         S::Argument: SearchArgument<S::K>,
-        ensures selected { IfOk result (λ answer. IsSelected S.Argument.selects query self.now.contents (option_map (λ pair. (pair.0.now, pair.1.now)) answer)) }
+        ensures selected { IfOk result (ShowsSelected S.Argument.selects query self.now.contents) }
         ensures sure { S.Argument.needs_no_memory → IsOk result }
     {
         // Read, so that it is known to fit.
@@ -61,8 +62,8 @@ impl<S: NodeStore> BPlusTree<S> {
     >
     where
         S::Argument: RankArgument<S::K>,
-        ensures ranked { IfOk result (λ answer. MatchResult answer (S.Argument.ranks k.now (keys_of self.now.contents)) (S.Argument.ranks k.now (keys_of self.now.contents))) }
-        ensures present { IfOk result (λ answer. is_ok answer ≡ has S.K.cmp self.now.contents k.now) }
+        ensures ranked { IfOk result (EitherWay (S.Argument.ranks k.now (keys_of self.now.contents))) }
+        ensures present { IfOk result (λ a. is_ok a ≡ has S.K.cmp self.now.contents k.now) }
         ensures sure { S.Argument.needs_no_memory → IsOk result }
     {
         // Read, so that it is known to fit.
@@ -82,7 +83,7 @@ impl<S: NodeStore> BPlusTree<S> {
         lo: Option<&'b S::K>,
         hi: Option<&'b S::K>,
     ) -> Result<S::Argument, AllocError>
-        ensures { IfOk result (λ summary. S.Argument.is_summary summary (keys_of (between S.K.cmp self.now.contents (option_copied lo.entry) (option_copied hi.entry)))) }
+        ensures { IfOk result (SumsUpBetween S.Argument.is_summary S.K.cmp self.now.contents lo.entry hi.entry) }
     {
         // Read, so that it is known to fit.
         let _len = self.len;
@@ -125,7 +126,7 @@ impl<S: NodeStore> BPlusTree<S> {
         &self,
         visitor: W,
     ) -> Result<Option<W::Result>, DescendError>
-        ensures answer { IfOk result (λ answer. W.answers visitor self.now.contents (answered answer)) }
+        ensures answer { IfOk result (λ a. W.answers visitor self.now.contents (answered a)) }
         ensures error { IfErr result (IsAllowedError W.answers visitor self.now.contents) }
     {
         // Read, so that it is known to fit.
@@ -154,9 +155,9 @@ impl<S: NodeStore> BPlusTree<S> {
     where
         S::Argument: SearchArgument<S::K>,
         ensures* writes_back { sem 𝓛 (LendsSoOk (the_row S.row S.K.row S.V.row S.Argument.row S.NodeStore S.K.Clone S.K.Ord.own S.K.PartialEq S.K.PartialOrd.own S.Argument.Argument.own S.Argument.Clone S.Argument.Default) S.V.row self.entry result (λ n w. IfOk result (λ r. WritesSelected S.Argument.selects S.slots S.with_leaf query self.old r.now w n)) (λ n. n ≡ self.old)) }
-        ensures value { IfOk result (λ lent. (i : ℕ) × S.Argument.selects query (keys_of self.old.contents) (Some i) × (slice_get (values_of self.old.contents) i ≡ Some lent.now)) }
-        ensures absent { IfErr result (λ error. error ≡ SelectError.NotFound → S.Argument.selects query (keys_of self.old.contents) None) }
-        ensures sure { S.Argument.needs_no_memory → IfErr result (λ error. error ≡ SelectError.NotFound) }
+        ensures value { IfOk result (LendsSelected S.Argument.selects query self.old.contents) }
+        ensures absent { IfErr result (SelectsNone S.Argument.selects query self.old.contents) }
+        ensures sure { S.Argument.needs_no_memory → IfErr result (λ e. e ≡ SelectError.NotFound) }
     {
         // Read, so that it is known to fit.
         let _len = self.len;
@@ -175,7 +176,7 @@ impl<K: Key, V: Drop> BPlusTree<NodeStoreVec<K, V, Count>> {
     /// One way down for each end that is given: on each level the counts of the children before the
     /// way are added up. So it takes the same however many pairs stand between.
     pub fn range_len<'b>(&self, lo: Option<&'b K>, hi: Option<&'b K>) -> usize
-        ensures { result ≡ length (between K.cmp self.now.contents (option_copied lo.entry) (option_copied hi.entry)) }
+        ensures { result ≡ length (pairs_between K.cmp self.now.contents lo.entry hi.entry) }
     {
         len_between(&self.store, self.root, self.height, self.len, lo, hi)
     }

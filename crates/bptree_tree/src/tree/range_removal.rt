@@ -1,9 +1,9 @@
 //! Removal of the pairs between two keys.
 ghost use Rattle.std.specs.Prelude.{◌≡◌, length, IfOk, OnErr};
-ghost use Rattle.std.specs.Option.{option_copied};
 ghost use Rattle.bptree_keys.specs.Ranges.{between};
-ghost use Rattle.bptree_tree.specs.RangeRemoval.{outside, FirstLeaves, FirstsLeft};
+ghost use Rattle.bptree_tree.specs.RangeRemoval.{FirstBetweenLeaves, FirstsBetweenLeft, KeepsOutside};
 ghost use Rattle.bptree_tree.specs.Whole.{IsWhole, IsUntouched};
+ghost use Rattle.bptree_tree.specs.Entries.{pairs_between};
 
 use crate::tree::BPlusTree;
 use bptree_keys::entry_ref::VisitStack;
@@ -19,9 +19,9 @@ impl<S: NodeStore> BPlusTree<S> {
         lo: Option<&'b S::K>,
         hi: Option<&'b S::K>,
     ) -> Result<bool, AllocError>
-        ensures whole { IsWhole S.K.cmp S.Argument.is_summary (λ store. S.slots store) self.new }
-        ensures ok { IfOk result (λ found. FirstLeaves S.K.cmp (option_copied lo.entry) (option_copied hi.entry) found self.old.contents self.new.contents) }
-        ensures unchanged { OnErr result (IsUntouched (λ store. S.slots store) self.new self.old) }
+        ensures whole { IsWhole S.K.cmp S.Argument.is_summary S.slots self.new }
+        ensures ok { IfOk result (FirstBetweenLeaves S.K.cmp lo.entry hi.entry self.old.contents self.new.contents) }
+        ensures unchanged { OnErr result (IsUntouched S.slots self.new self.old) }
         ensures err { OnErr result (self.new.contents ≡ self.old.contents) }
     {
         // Read, so that it is known to fit.
@@ -72,10 +72,10 @@ impl<S: NodeStore> BPlusTree<S> {
         lo: Option<&'b S::K>,
         hi: Option<&'b S::K>,
     ) -> Result<usize, AllocError>
-        ensures whole { IsWhole S.K.cmp S.Argument.is_summary (λ store. S.slots store) self.new }
-        ensures rest { IfOk result (λ _. self.new.contents ≡ outside S.K.cmp self.old.contents (option_copied lo.entry) (option_copied hi.entry)) }
-        ensures count { IfOk result (λ n. n ≡ length (between S.K.cmp self.old.contents (option_copied lo.entry) (option_copied hi.entry))) }
-        ensures err { OnErr result (FirstsLeft S.K.cmp (option_copied lo.entry) (option_copied hi.entry) self.old.contents self.new.contents) }
+        ensures whole { IsWhole S.K.cmp S.Argument.is_summary S.slots self.new }
+        ensures rest { IfOk result (λ _. KeepsOutside S.K.cmp lo.entry hi.entry self.old.contents self.new.contents) }
+        ensures count { IfOk result (λ n. n ≡ length (pairs_between S.K.cmp self.old.contents lo.entry hi.entry)) }
+        ensures err { OnErr result (FirstsBetweenLeft S.K.cmp lo.entry hi.entry self.old.contents self.new.contents) }
     {
         // Read, so that it is known to fit.
         let _len = self.len;

@@ -1,11 +1,11 @@
 //! Parts of the contents of a tree.
 ghost use Rattle.std.specs.Prelude.{◌≡◌, IfOk, IsOk};
 ghost use Rattle.std.specs.Map.Iter.{ShowsInOrder, deref_pair};
-ghost use Rattle.std.specs.Option.{option_copied};
 ghost use Rattle.bptree_arguments.specs.Groups.{of_group};
 ghost use Rattle.bptree_keys.specs.Contents.{IsAscending};
-ghost use Rattle.bptree_keys.specs.Ranges.{between, part};
+ghost use Rattle.bptree_keys.specs.Ranges.{part};
 ghost use Rattle.bptree_descents.specs.ByArgument.{IsPartSelected};
+ghost use Rattle.bptree_tree.specs.Entries.{pairs_between};
 
 use crate::tree::BPlusTree;
 use bptree_arguments::argument::SearchArgument;
@@ -24,7 +24,7 @@ impl<S: NodeStore> BPlusTree<S> {
     /// Each end that is given is searched for once, from the root. How many pairs there are is told
     /// when it is asked, by a step for each leaf from the one end to the other.
     pub fn range<'b>(&self, lo: Option<&'b S::K>, hi: Option<&'b S::K>) -> Iter<'_, S>
-        ensures rest { result ≡ between S.K.cmp self.now.contents (option_copied lo.entry) (option_copied hi.entry) }
+        ensures rest { result ≡ pairs_between S.K.cmp self.now.contents lo.entry hi.entry }
         ensures ascending { IsAscending S.K.cmp result }
         ensures runs { ShowsInOrder (deref_pair {K = S.K} {X = S.V}) }
     {

@@ -1,10 +1,9 @@
 //! Removals of pairs: with their keys, at both ends, by the summaries of keys, and of all.
-ghost use Rattle.std.specs.Prelude.{◌≡◌, [], false, None, Ok, IfOk, OnErr, MatchOption};
-ghost use Rattle.std.specs.Map.Iter.{TakesFirst, TakesLast};
-ghost use Rattle.bptree_keys.specs.Contents.{has, del};
+ghost use Rattle.std.specs.Prelude.{◌≡◌, [], false, None, Ok, IfOk, OnErr};
+ghost use Rattle.bptree_keys.specs.Contents.{has};
 ghost use Rattle.bptree_descents.specs.ByArgument.{IsTaken};
-ghost use Rattle.bptree_tree.specs.Entries.{entry};
-ghost use Rattle.bptree_tree.specs.Whole.{IsWhole, IsUntouched};
+ghost use Rattle.bptree_tree.specs.Whole.{IsWhole, IsUntouched, HasSameNodes};
+ghost use Rattle.bptree_tree.specs.Changes.{PopsFirst, PopsLast, RemovesEntry, RemovesTold};
 
 use crate::tree::BPlusTree;
 use bptree_arguments::argument::SearchArgument;
@@ -26,12 +25,12 @@ impl<S: NodeStore> BPlusTree<S> {
     ) -> Result<Option<(S::K, S::V)>, AllocError>
     where
         S::Argument: SearchArgument<S::K>,
-        ensures whole { IsWhole S.K.cmp S.Argument.is_summary (λ store. S.slots store) self.new }
+        ensures whole { IsWhole S.K.cmp S.Argument.is_summary S.slots self.new }
         ensures ok { IfOk result (IsTaken S.Argument.selects query self.old.contents self.new.contents) }
-        ensures by_key { IfOk result (λ gone. MatchOption gone (self.new.contents ≡ self.old.contents) (λ pair. self.new.contents ≡ del S.K.cmp self.old.contents pair.0)) }
-        ensures untouched { result ≡ Ok None → (S.slots self.new.store ≡ S.slots self.old.store) × (self.new.root ≡ self.old.root) × (self.new.height ≡ self.old.height) × (self.new.root_argument ≡ self.old.root_argument) }
+        ensures by_key { IfOk result (RemovesTold S.K.cmp self.old.contents self.new.contents) }
+        ensures untouched { result ≡ Ok None → HasSameNodes S.slots self.new self.old }
         ensures err { OnErr result (self.new.contents ≡ self.old.contents) }
-        ensures unchanged { OnErr result (IsUntouched (λ store. S.slots store) self.new self.old) }
+        ensures unchanged { OnErr result (IsUntouched S.slots self.new self.old) }
     {
         // Read, so that it is known to fit.
         let _len = self.len;
@@ -65,12 +64,12 @@ impl<S: NodeStore> BPlusTree<S> {
     ///
     /// It costs what `remove` does, which drops that key. Where it is refused, nothing has changed.
     pub fn remove_entry(&mut self, k: &S::K) -> Result<Option<(S::K, S::V)>, AllocError>
-        ensures ok { IfOk result (λ gone. (gone ≡ entry S.K.cmp self.old.contents k.now) × (self.new.contents ≡ del S.K.cmp self.old.contents k.now)) }
+        ensures ok { IfOk result (RemovesEntry S.K.cmp k.now self.old.contents self.new.contents) }
         ensures absent { has S.K.cmp self.old.contents k.now ≡ false → result ≡ Ok None }
-        ensures whole { IsWhole S.K.cmp S.Argument.is_summary (λ store. S.slots store) self.new }
-        ensures untouched { has S.K.cmp self.old.contents k.now ≡ false → IsUntouched (λ store. S.slots store) self.new self.old }
+        ensures whole { IsWhole S.K.cmp S.Argument.is_summary S.slots self.new }
+        ensures untouched { has S.K.cmp self.old.contents k.now ≡ false → IsUntouched S.slots self.new self.old }
         ensures err { OnErr result (self.new.contents ≡ self.old.contents) }
-        ensures unchanged { OnErr result (IsUntouched (λ store. S.slots store) self.new self.old) }
+        ensures unchanged { OnErr result (IsUntouched S.slots self.new self.old) }
     {
         // Read, so that it is known to fit.
         let _len = self.len;
@@ -105,12 +104,12 @@ impl<S: NodeStore> BPlusTree<S> {
     /// It is one way down, on which no key is compared. What a removal takes is what `remove`
     /// takes, and where it is refused nothing has changed.
     pub fn pop_first(&mut self) -> Result<Option<(S::K, S::V)>, AllocError>
-        ensures ok { IfOk result (λ gone. TakesFirst (λ pair. pair) self.old.contents gone self.new.contents) }
+        ensures ok { IfOk result (PopsFirst self.old.contents self.new.contents) }
         ensures empty { self.old.contents ≡ [] → result ≡ Ok None }
-        ensures whole { IsWhole S.K.cmp S.Argument.is_summary (λ store. S.slots store) self.new }
-        ensures untouched { self.old.contents ≡ [] → IsUntouched (λ store. S.slots store) self.new self.old }
+        ensures whole { IsWhole S.K.cmp S.Argument.is_summary S.slots self.new }
+        ensures untouched { self.old.contents ≡ [] → IsUntouched S.slots self.new self.old }
         ensures err { OnErr result (self.new.contents ≡ self.old.contents) }
-        ensures unchanged { OnErr result (IsUntouched (λ store. S.slots store) self.new self.old) }
+        ensures unchanged { OnErr result (IsUntouched S.slots self.new self.old) }
     {
         // Read, so that it is known to fit.
         let _len = self.len;
@@ -144,12 +143,12 @@ impl<S: NodeStore> BPlusTree<S> {
     /// It is one way down, on which no key is compared. What a removal takes is what `remove`
     /// takes, and where it is refused nothing has changed.
     pub fn pop_last(&mut self) -> Result<Option<(S::K, S::V)>, AllocError>
-        ensures ok { IfOk result (λ gone. TakesLast (λ pair. pair) self.old.contents gone self.new.contents) }
+        ensures ok { IfOk result (PopsLast self.old.contents self.new.contents) }
         ensures empty { self.old.contents ≡ [] → result ≡ Ok None }
-        ensures whole { IsWhole S.K.cmp S.Argument.is_summary (λ store. S.slots store) self.new }
-        ensures untouched { self.old.contents ≡ [] → IsUntouched (λ store. S.slots store) self.new self.old }
+        ensures whole { IsWhole S.K.cmp S.Argument.is_summary S.slots self.new }
+        ensures untouched { self.old.contents ≡ [] → IsUntouched S.slots self.new self.old }
         ensures err { OnErr result (self.new.contents ≡ self.old.contents) }
-        ensures unchanged { OnErr result (IsUntouched (λ store. S.slots store) self.new self.old) }
+        ensures unchanged { OnErr result (IsUntouched S.slots self.new self.old) }
     {
         // Read, so that it is known to fit.
         let _len = self.len;
@@ -180,10 +179,10 @@ impl<S: NodeStore> BPlusTree<S> {
     /// Removes all pairs. It takes memory for one leaf, before the nodes are let go: a refusal
     /// changes nothing.
     pub fn clear(&mut self) -> Result<(), AllocError>
-        ensures whole { IsWhole S.K.cmp S.Argument.is_summary (λ store. S.slots store) self.new }
+        ensures whole { IsWhole S.K.cmp S.Argument.is_summary S.slots self.new }
         ensures ok { IfOk result (λ _. self.new.contents ≡ []) }
         ensures err { OnErr result (self.new.contents ≡ self.old.contents) }
-        ensures unchanged { OnErr result (IsUntouched (λ store. S.slots store) self.new self.old) }
+        ensures unchanged { OnErr result (IsUntouched S.slots self.new self.old) }
     {
         let fresh = BPlusTree::new(S::empty(self.store.allocator()))?;
         *self = fresh;

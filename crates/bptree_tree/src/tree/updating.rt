@@ -1,12 +1,9 @@
 //! Values that a closure changes in place.
-ghost use Rattle.std.specs.Prelude.{◌≡◌, ◌≤◌, ◌++◌, List, drop, length, take};
-ghost use Rattle.std.specs.Option.{option_copied};
-ghost use Rattle.bptree_nodes.specs.Leaf.{Leaf};
-ghost use Rattle.bptree_nodes.specs.Slot.{IsPresent, Present, UpdatesLeaf};
+ghost use Rattle.std.specs.Prelude.{◌≤◌, length};
+ghost use Rattle.bptree_nodes.specs.Slot.{IsPresent};
 ghost use Rattle.bptree_nodes.specs.Updating.{ChangesInTurn};
-ghost use Rattle.bptree_ranges.specs.Ranges.{place_on, IsSettled};
-ghost use Rattle.bptree_shape.specs.Shape.{leaf_pairs, pairs_at, IsWellShaped};
-ghost use Rattle.bptree_tree.specs.Updating.{IsUpdatedBetween};
+ghost use Rattle.bptree_shape.specs.Shape.{leaf_pairs, IsWellShaped};
+ghost use Rattle.bptree_tree.specs.Updating.{IsNotBehind, IsSettledAt, UpdatesBetween, UpdatesPlaces, UpdatesSlots};
 
 use crate::tree::BPlusTree;
 use bptree_keys::node_id::{LeafNodeId, NodeId};
@@ -25,9 +22,7 @@ fn update_leaf<S: NodeStore, F: FnMut(&S::K, &mut S::V)>(
     requires callable { F.IsAlwaysCallable f }
     requires present { IsPresent ((S.slots store.old).leaf id.0) }
     requires within { (from ≤ to) × (to ≤ length (leaf_pairs ((S.slots store.old).leaf id.0))) }
-    ensures changed { (was : Leaf S.K S.V) → (S.slots store.old).leaf id.0 ≡ Present was
-        → (changed : List (S.K × S.V)) × ChangesInTurn F.FnMut f (drop from (take to was.pairs)) result changed
-        × UpdatesLeaf (S.slots store.old) (S.slots store.new) id.0 (Present (record was { pairs = take from was.pairs ++ changed ++ drop to was.pairs })) }
+    ensures changed { UpdatesSlots F.FnMut f (S.slots store.old) (S.slots store.new) id from to result }
     ensures callable { F.IsAlwaysCallable result }
 {
     store.get_mut_leaf(id).update_between(from, to, f)
@@ -45,13 +40,11 @@ fn update_leaves<S: NodeStore, F: FnMut(&S::K, &mut S::V)>(
 )
     requires callable { F.IsAlwaysCallable f }
     requires shape { IsWellShaped S.K.cmp S.Argument.is_summary (S.slots store.old) height root }
-    requires front { IsSettled (S.slots store.old) height root (place_on (S.slots store.old) height root front) front }
-    requires back { IsSettled (S.slots store.old) height root (place_on (S.slots store.old) height root back) back }
-    requires rises { place_on (S.slots store.old) height root front ≤ place_on (S.slots store.old) height root back }
+    requires front { IsSettledAt (S.slots store.old) height root front }
+    requires back { IsSettledAt (S.slots store.old) height root back }
+    requires rises { IsNotBehind (S.slots store.old) height root front back }
     ensures shape { IsWellShaped S.K.cmp S.Argument.is_summary (S.slots store.new) height root }
-    ensures changed { (after : F) × (changed : List (S.K × S.V))
-        × ChangesInTurn F.FnMut f (drop (place_on (S.slots store.old) height root front) (take (place_on (S.slots store.old) height root back) (pairs_at (S.slots store.old) height root))) after changed
-        × (pairs_at (S.slots store.new) height root ≡ take (place_on (S.slots store.old) height root front) (pairs_at (S.slots store.old) height root) ++ changed ++ drop (place_on (S.slots store.old) height root back) (pairs_at (S.slots store.old) height root)) }
+    ensures changed { UpdatesPlaces F.FnMut f (S.slots store.old) (S.slots store.new) height root front back }
 {
     let mut at = front.0;
     let mut from = front.1;
@@ -95,7 +88,7 @@ impl<S: NodeStore> BPlusTree<S> {
         f: F,
     )
         requires { F.IsAlwaysCallable f }
-        ensures { IsUpdatedBetween F.FnMut f S.K.cmp (option_copied lo.entry) (option_copied hi.entry) self.old.contents self.new.contents }
+        ensures { UpdatesBetween F.FnMut f S.K.cmp lo.entry hi.entry self.old.contents self.new.contents }
     {
         let (front, back) = places_between(&self.store, self.root, self.height, lo, hi);
         update_leaves(&mut self.store, self.root, self.height, front, back, f);

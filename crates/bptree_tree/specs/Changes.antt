@@ -1,0 +1,40 @@
+-- What a call that changes a list of pairs answers, beside the list that it leaves.
+use Rattle.std.specs.Prelude.{◌≡◌, ℕ, false, List, Option, MatchOption, length, Result, MatchResult}
+use Rattle.std.specs.declared.cmp.Ordering.{Ordering}
+use Rattle.bptree_keys.specs.Contents.{has, value, put, del}
+use Rattle.bptree_tree.specs.Entries.{entry}
+use Rattle.std.specs.Map.Iter.{TakesFirst, TakesLast}
+
+module _ {K V : Type 0} (cmp : K → K → Ordering) where
+  -- a value is put at a key, and what stood there is told
+  abbrev pub Puts : K → V → List (K × V) → List (K × V) → Option V → Type 0
+  Puts k v old new told = (told ≡ value cmp old k) × (new ≡ put cmp old k v)
+
+  -- the pair at a key leaves, and its value is told
+  abbrev pub Removes : K → List (K × V) → List (K × V) → Option V → Type 0
+  Removes k old new told = (told ≡ value cmp old k) × (new ≡ del cmp old k)
+
+  -- the pair at a key leaves, and is told as it stood there
+  abbrev pub RemovesEntry : K → List (K × V) → List (K × V) → Option (K × V) → Type 0
+  RemovesEntry k old new told = (told ≡ entry cmp old k) × (new ≡ del cmp old k)
+
+  -- the pair that is told leaves, by its key; or nothing changes
+  abbrev pub RemovesTold : List (K × V) → List (K × V) → Option (K × V) → Type 0
+  RemovesTold old new told = MatchOption told (new ≡ old) (λ pair. new ≡ del cmp old pair.0)
+
+  -- as many pairs stand as can, and none at the key
+  abbrev pub IsFull : ℕ → List (K × V) → K → Type 0
+  IsFull most l k = (length l ≡ most) × (has cmp l k ≡ false)
+
+module _ {X : Type 0} where
+  -- the first member leaves and is told, or there is none
+  abbrev pub PopsFirst : List X → List X → Option X → Type 0
+  PopsFirst old new told = TakesFirst (λ x. x) old told new
+
+  -- the last one
+  abbrev pub PopsLast : List X → List X → Option X → Type 0
+  PopsLast old new told = TakesLast (λ x. x) old told new
+
+-- both variants of an answer carry what is right
+abbrev pub EitherWay : {R : Type 0} → (R → Type 0) → Result R R → Type 0
+EitherWay right answer = MatchResult answer right right
