@@ -1,15 +1,20 @@
 -- What commands on a tree reply and change, by the list of its pairs and the keys of the cursors that are held.
-use Rattle.std.specs.Prelude.{◌≡◌, ◌^◌, ◌-◌, ◌≤◌, ℕ, true, false, Bool, List, [], ◌∷◌, ◌++◌, length, Option, Some, None, MatchResult, is_ok, slice_get, slice_set}
+use Rattle.std.specs.Prelude.{◌≡◌, ◌^◌, ◌-◌, ◌≤◌, ℕ, true, false, Bool, List, [], ◌∷◌, ◌++◌, length, Option, Some, None, MatchResult, is_ok, map, slice_get, slice_set}
+use Rattle.std.specs.Borrow.{Bor}
 use Rattle.std.specs.declared.cmp.Ordering.{Ordering}
 use Rattle.std.specs.declared.cmp.Ordering.TheVariants.{Equal}
 use Rattle.std.specs.List.{AllZip}
 use Rattle.std.specs.Map.{keys_of}
+use Rattle.std.specs.Option.{option_map}
 use Rattle.bptree_arguments.specs.Selection.{IsPlaceIn}
 use Rattle.bptree_keys.specs.Contents.{has, value, put, del, next, previous}
 use Rattle.bptree_keys.specs.Ranges.{between}
 use Rattle.bptree_nodes.specs.Leaf.{set_value_at}
 use Rattle.bptree_descents.specs.ByArgument.{IsPartSelected, IsSelected, IsTaken}
 use Rattle.bptree_ascent.specs.Lending.{written}
+use Rattle.bptree_ascent.specs.NodeTree.{NodeTree}
+use Rattle.bptree_tree.specs.Cursor.{cursor_key}
+use Rattle.bptree_tree.specs.declared.cursor.Cursor.{Cursor as CursorOf}
 use Rattle.bptree_tree.specs.declared.InsertError as insert_error
 use Rattle.bptree_tree.specs.declared.InsertError.TheVariants as refusal
 use Rattle.bptree_script.specs.declared.commands.Command.{Command}
@@ -138,3 +143,32 @@ module _ {K V Q R : Type 0} (cmp : K → K → Ordering) (selects : Q → List K
       (mid : List (K × V)) × (held_mid : List K) × Step old held command reply mid held_mid × Run mid held_mid commands replies new held_after
   Run old held [] (reply ∷ replies) new held_after = ⊥
   Run old held (command ∷ commands) [] new held_after = ⊥
+
+-- ---- what calls on a tree reply
+
+module _ {S K V Q R A : Type 0} (cmp : K → K → Ordering) (selects : Q → List K → Option ℕ → Type 0) (ranks : K → List K → R → Type 0) where
+  -- a call that reads a tree replies as the command does
+  abbrev pub Reads : NodeTree S K V A → Command K V Q → Reply K V R → Type 0
+  Reads tree command reply = TreeStep cmp selects ranks tree.contents command reply tree.contents
+
+  -- and so does one that changes it
+  abbrev pub Changes : NodeTree S K V A → NodeTree S K V A → Command K V Q → Reply K V R → Type 0
+  Changes old new command reply = TreeStep cmp selects ranks old.contents command reply new.contents
+
+-- the keys of the held cursors
+abbrev pub held_keys : {K : Type 0} → List (CursorOf K) → List K
+held_keys cursors = map cursor_key cursors
+
+module _ {K V : Type 0} where
+  -- the pair that a cursor beside a value tells
+  abbrev pub told_pair : Option (CursorOf K × Bor V) → Option (K × V)
+  told_pair found = option_map (λ at. (cursor_key at.0, at.1.now)) found
+
+  module _ {R : Type 0} (cmp : K → K → Ordering) (found : Option (CursorOf K × Bor V)) where
+    -- of whatever pair this is a copy, a held cursor goes to it as to a neighbour
+    abbrev pub GoesTo : List K → ℕ → Reply K V R → List K → Type 0
+    GoesTo held n reply held_after = (pair : Option (K × V)) → IsCopyOf cmp pair (told_pair found) → NeighbourStep cmp pair held n reply held_after
+
+    -- or it joins the held ones there, as at an end
+    abbrev pub JoinsAt : List K → Reply K V R → List K → Type 0
+    JoinsAt held reply held_after = (pair : Option (K × V)) → IsCopyOf cmp pair (told_pair found) → EndStep cmp pair held reply held_after

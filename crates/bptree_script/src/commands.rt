@@ -1,8 +1,8 @@
 //! Commands on a tree, and their replies.
-ghost use Rattle.std.specs.Prelude.{◌≡◌, ◌≤◌, ◌↔◌, [], List, IfOk, IsNone, IsSome, map, vec_capacity, vec_len};
+ghost use Rattle.std.specs.Prelude.{◌≡◌, ◌≤◌, ◌↔◌, [], List, IfOk, IsNone, IsSome, vec_capacity, vec_len};
 ghost use Rattle.std.specs.Option.{option_map};
-ghost use Rattle.bptree_tree.specs.Cursor.{cursor_key};
-ghost use Rattle.bptree_script.specs.Steps.{IsCopyOf, RepliesCopy, TreeStep, Step, Run, reply_to_refusal};
+ghost use Rattle.bptree_script.specs.Steps.{IsCopyOf, RepliesCopy, Step, Run, reply_to_refusal, Changes, Reads, held_keys};
+ghost use Rattle.std.specs.Map.Iter.{deref_pair};
 
 use crate::held;
 use crate::walk::{End, walk, walk_range, walk_range_at};
@@ -117,7 +117,7 @@ fn refused<K: Drop, V: Drop, R>(error: InsertError<K, V>) -> Reply<K, V, R>
 
 /// A pair with a clone of its key, where there is one.
 pub(crate) fn copy_of<K: Key, V: Copy>(pair: Option<(&K, &V)>) -> Result<Option<(K, V)>, AllocError>
-    ensures { IfOk result (λ copy. IsCopyOf K.cmp (option_map (λ pair. (pair.0.now, pair.1.now)) pair.entry) copy) }
+    ensures { IfOk result (λ copy. IsCopyOf K.cmp (option_map deref_pair pair.entry) copy) }
 {
     match pair {
         None => Ok(None),
@@ -126,7 +126,7 @@ pub(crate) fn copy_of<K: Key, V: Copy>(pair: Option<(&K, &V)>) -> Result<Option<
 }
 
 fn copied<K: Key, V: Copy, R>(pair: Option<(&K, &V)>) -> Reply<K, V, R>
-    ensures { RepliesCopy K.cmp (option_map (λ pair. (pair.0.now, pair.1.now)) pair.entry) result }
+    ensures { RepliesCopy K.cmp (option_map deref_pair pair.entry) result }
 {
     match copy_of(pair) {
         Ok(copy) => Reply::Pair(copy),
@@ -137,7 +137,7 @@ fn copied<K: Key, V: Copy, R>(pair: Option<(&K, &V)>) -> Reply<K, V, R>
 fn insert<S: NodeStore>(tree: &mut BPlusTree<S>, key: S::K, value: S::V) -> ReplyOf<S>
 where
     S::Argument: SearchArgument<S::K> + RankArgument<S::K>,
-    ensures { TreeStep S.K.cmp S.Argument.selects S.Argument.ranks tree.old.contents (Command.Insert key value) result tree.new.contents }
+    ensures { Changes S.K.cmp S.Argument.selects S.Argument.ranks tree.old tree.new (Command.Insert key value) result }
 {
     match tree.insert(key, value) {
         Ok(before) => Reply::Value(before),
@@ -148,7 +148,7 @@ where
 fn remove<S: NodeStore>(tree: &mut BPlusTree<S>, key: S::K) -> ReplyOf<S>
 where
     S::Argument: SearchArgument<S::K> + RankArgument<S::K>,
-    ensures { TreeStep S.K.cmp S.Argument.selects S.Argument.ranks tree.old.contents (Command.Remove key) result tree.new.contents }
+    ensures { Changes S.K.cmp S.Argument.selects S.Argument.ranks tree.old tree.new (Command.Remove key) result }
 {
     match tree.remove(&key) {
         Ok(gone) => Reply::Value(gone),
@@ -162,7 +162,7 @@ fn remove_at<S: NodeStore>(
 ) -> ReplyOf<S>
 where
     S::Argument: SearchArgument<S::K> + RankArgument<S::K>,
-    ensures { TreeStep S.K.cmp S.Argument.selects S.Argument.ranks tree.old.contents (Command.RemoveAt query) result tree.new.contents }
+    ensures { Changes S.K.cmp S.Argument.selects S.Argument.ranks tree.old tree.new (Command.RemoveAt query) result }
 {
     match tree.remove_by_argument(query) {
         Ok(pair) => Reply::Pair(pair),
@@ -173,7 +173,7 @@ where
 fn clear<S: NodeStore>(tree: &mut BPlusTree<S>) -> ReplyOf<S>
 where
     S::Argument: SearchArgument<S::K> + RankArgument<S::K>,
-    ensures { TreeStep S.K.cmp S.Argument.selects S.Argument.ranks tree.old.contents Command.Clear result tree.new.contents }
+    ensures { Changes S.K.cmp S.Argument.selects S.Argument.ranks tree.old tree.new Command.Clear result }
 {
     match tree.clear() {
         Ok(()) => Reply::Done(true),
@@ -185,7 +185,7 @@ fn get<S: NodeStore>(tree: &BPlusTree<S>, key: S::K) -> ReplyOf<S>
 where
     S::V: Copy,
     S::Argument: SearchArgument<S::K> + RankArgument<S::K>,
-    ensures { TreeStep S.K.cmp S.Argument.selects S.Argument.ranks tree.now.contents (Command.Get key) result tree.now.contents }
+    ensures { Reads S.K.cmp S.Argument.selects S.Argument.ranks tree.now (Command.Get key) result }
 {
     Reply::Value(tree.get(&key).copied())
 }
@@ -194,7 +194,7 @@ fn set<S: NodeStore>(tree: &mut BPlusTree<S>, key: S::K, value: S::V) -> ReplyOf
 where
     S::V: Copy,
     S::Argument: SearchArgument<S::K> + RankArgument<S::K>,
-    ensures { TreeStep S.K.cmp S.Argument.selects S.Argument.ranks tree.old.contents (Command.Set key value) result tree.new.contents }
+    ensures { Changes S.K.cmp S.Argument.selects S.Argument.ranks tree.old tree.new (Command.Set key value) result }
 {
     let Some(held) = tree.get_mut(&key) else {
         return Reply::Done(false);
@@ -211,7 +211,7 @@ fn set_at<S: NodeStore>(
 where
     S::V: Copy,
     S::Argument: SearchArgument<S::K> + RankArgument<S::K>,
-    ensures { TreeStep S.K.cmp S.Argument.selects S.Argument.ranks tree.old.contents (Command.SetAt query value) result tree.new.contents }
+    ensures { Changes S.K.cmp S.Argument.selects S.Argument.ranks tree.old tree.new (Command.SetAt query value) result }
 {
     match tree.get_mut_by_argument(query) {
         Ok(found) => {
@@ -227,7 +227,7 @@ fn first<S: NodeStore>(tree: &BPlusTree<S>) -> ReplyOf<S>
 where
     S::V: Copy,
     S::Argument: SearchArgument<S::K> + RankArgument<S::K>,
-    ensures { TreeStep S.K.cmp S.Argument.selects S.Argument.ranks tree.now.contents Command.First result tree.now.contents }
+    ensures { Reads S.K.cmp S.Argument.selects S.Argument.ranks tree.now Command.First result }
 {
     copied(tree.first())
 }
@@ -236,7 +236,7 @@ fn last<S: NodeStore>(tree: &BPlusTree<S>) -> ReplyOf<S>
 where
     S::V: Copy,
     S::Argument: SearchArgument<S::K> + RankArgument<S::K>,
-    ensures { TreeStep S.K.cmp S.Argument.selects S.Argument.ranks tree.now.contents Command.Last result tree.now.contents }
+    ensures { Reads S.K.cmp S.Argument.selects S.Argument.ranks tree.now Command.Last result }
 {
     copied(tree.last())
 }
@@ -248,7 +248,7 @@ fn at<S: NodeStore>(
 where
     S::V: Copy,
     S::Argument: SearchArgument<S::K> + RankArgument<S::K>,
-    ensures { TreeStep S.K.cmp S.Argument.selects S.Argument.ranks tree.now.contents (Command.At query) result tree.now.contents }
+    ensures { Reads S.K.cmp S.Argument.selects S.Argument.ranks tree.now (Command.At query) result }
 {
     match tree.get_by_argument(query) {
         Ok(pair) => copied(pair),
@@ -259,7 +259,7 @@ where
 fn rank<S: NodeStore>(tree: &BPlusTree<S>, key: S::K) -> ReplyOf<S>
 where
     S::Argument: SearchArgument<S::K> + RankArgument<S::K>,
-    ensures { TreeStep S.K.cmp S.Argument.selects S.Argument.ranks tree.now.contents (Command.Rank key) result tree.now.contents }
+    ensures { Reads S.K.cmp S.Argument.selects S.Argument.ranks tree.now (Command.Rank key) result }
 {
     match tree.rank_by_argument(&key) {
         Ok(rank) => Reply::Rank(rank),
@@ -277,7 +277,7 @@ fn carry_out<S: NodeStore>(
 where
     S::V: Copy,
     S::Argument: SearchArgument<S::K> + RankArgument<S::K>,
-    ensures { Step S.K.cmp S.Argument.selects S.Argument.ranks tree.old.contents (map cursor_key cursors.old.items) command result tree.new.contents (map cursor_key cursors.new.items) }
+    ensures { Step S.K.cmp S.Argument.selects S.Argument.ranks tree.old.contents (held_keys cursors.old.items) command result tree.new.contents (held_keys cursors.new.items) }
 {
     match command {
         Command::Insert(key, value) => insert(tree, key, value),
@@ -319,7 +319,7 @@ where
     requires none { replies.old.items ≡ [] }
     requires empty { vec_len replies.old ≡ 0 }
     requires room { vec_len commands ≤ vec_capacity replies.old }
-    ensures run { Run S.K.cmp S.Argument.selects S.Argument.ranks tree.old.contents (map cursor_key cursors.old.items) commands.items replies.new.items tree.new.contents (map cursor_key cursors.new.items) }
+    ensures run { Run S.K.cmp S.Argument.selects S.Argument.ranks tree.old.contents (held_keys cursors.old.items) commands.items replies.new.items tree.new.contents (held_keys cursors.new.items) }
     ensures all { vec_len replies.new ≡ vec_len commands }
 {
     for command in commands {

@@ -1,8 +1,7 @@
 //! Commands on the cursors that are held.
-ghost use Rattle.std.specs.Prelude.{◌≡◌, ◌<◌, Option, map, option_map, slice_get, vec_len};
-ghost use Rattle.bptree_keys.specs.Contents.{next as next_of, previous as previous_of};
+ghost use Rattle.std.specs.Prelude.{◌<◌, Option, vec_len};
 ghost use Rattle.bptree_tree.specs.Cursor.{cursor_key};
-ghost use Rattle.bptree_script.specs.Steps.{EndStep, IsCopyOf, JoinsOrStays, NeighbourStep, Step};
+ghost use Rattle.bptree_script.specs.Steps.{JoinsOrStays, Step, GoesTo, JoinsAt, held_keys};
 
 use crate::commands::{Command, Reply, ReplyOf};
 use bptree_arguments::argument::{RankArgument, SearchArgument};
@@ -17,7 +16,7 @@ fn join<K: Key, V: Drop, R>(
     cursor: Cursor<K>,
     value: Option<V>,
 ) -> Reply<K, V, R>
-    ensures { JoinsOrStays (cursor_key cursor) value (map cursor_key cursors.old.items) result (map cursor_key cursors.new.items) }
+    ensures { JoinsOrStays (cursor_key cursor) value (held_keys cursors.old.items) result (held_keys cursors.new.items) }
 {
     let number = cursors.len();
     match cursors.push(cursor) {
@@ -35,7 +34,7 @@ pub(crate) fn hold<S: NodeStore>(
 where
     S::V: Copy,
     S::Argument: SearchArgument<S::K> + RankArgument<S::K>,
-    ensures { Step S.K.cmp S.Argument.selects S.Argument.ranks tree.now.contents (map cursor_key cursors.old.items) (Command.Cursor key) result tree.now.contents (map cursor_key cursors.new.items) }
+    ensures { Step S.K.cmp S.Argument.selects S.Argument.ranks tree.now.contents (held_keys cursors.old.items) (Command.Cursor key) result tree.now.contents (held_keys cursors.new.items) }
 {
     match tree.get_cursor(&key) {
         Ok(Some((cursor, value))) => join(cursors, cursor, value.copied()),
@@ -48,7 +47,7 @@ fn hold_found<K: Key, V: Copy, R>(
     cursors: &mut Vec<Cursor<K>>,
     found: Option<(Cursor<K>, &V)>,
 ) -> Reply<K, V, R>
-    ensures { (pair : Option (K × V)) → IsCopyOf K.cmp pair (option_map (λ found. (cursor_key found.0, found.1.now)) found.entry) → EndStep K.cmp pair (map cursor_key cursors.old.items) result (map cursor_key cursors.new.items) }
+    ensures { JoinsAt K.cmp found.entry (held_keys cursors.old.items) result (held_keys cursors.new.items) }
 {
     match found {
         None => Reply::Pair(None),
@@ -64,7 +63,7 @@ pub(crate) fn hold_first<S: NodeStore>(
 where
     S::V: Copy,
     S::Argument: SearchArgument<S::K> + RankArgument<S::K>,
-    ensures { Step S.K.cmp S.Argument.selects S.Argument.ranks tree.now.contents (map cursor_key cursors.old.items) Command.CursorFirst result tree.now.contents (map cursor_key cursors.new.items) }
+    ensures { Step S.K.cmp S.Argument.selects S.Argument.ranks tree.now.contents (held_keys cursors.old.items) Command.CursorFirst result tree.now.contents (held_keys cursors.new.items) }
 {
     match Cursor::first(tree) {
         Ok(found) => hold_found(cursors, found),
@@ -80,7 +79,7 @@ pub(crate) fn hold_last<S: NodeStore>(
 where
     S::V: Copy,
     S::Argument: SearchArgument<S::K> + RankArgument<S::K>,
-    ensures { Step S.K.cmp S.Argument.selects S.Argument.ranks tree.now.contents (map cursor_key cursors.old.items) Command.CursorLast result tree.now.contents (map cursor_key cursors.new.items) }
+    ensures { Step S.K.cmp S.Argument.selects S.Argument.ranks tree.now.contents (held_keys cursors.old.items) Command.CursorLast result tree.now.contents (held_keys cursors.new.items) }
 {
     match Cursor::last(tree) {
         Ok(found) => hold_found(cursors, found),
@@ -96,7 +95,7 @@ fn move_to<K: Key, V: Copy, R>(
     moved: Option<(Cursor<K>, &V)>,
 ) -> Reply<K, V, R>
     requires { number < vec_len cursors.old }
-    ensures { (neighbour : Option (K × V)) → IsCopyOf K.cmp neighbour (option_map (λ found. (cursor_key found.0, found.1.now)) moved.entry) → NeighbourStep K.cmp neighbour (map cursor_key cursors.old.items) number result (map cursor_key cursors.new.items) }
+    ensures { GoesTo K.cmp moved.entry (held_keys cursors.old.items) number result (held_keys cursors.new.items) }
 {
     let Some((cursor, value)) = moved else {
         return Reply::Pair(None);
@@ -119,7 +118,7 @@ pub(crate) fn next<S: NodeStore>(
 where
     S::V: Copy,
     S::Argument: SearchArgument<S::K> + RankArgument<S::K>,
-    ensures { Step S.K.cmp S.Argument.selects S.Argument.ranks tree.now.contents (map cursor_key cursors.old.items) (Command.Next number) result tree.now.contents (map cursor_key cursors.new.items) }
+    ensures { Step S.K.cmp S.Argument.selects S.Argument.ranks tree.now.contents (held_keys cursors.old.items) (Command.Next number) result tree.now.contents (held_keys cursors.new.items) }
 {
     let Some(cursor) = cursors.get(number) else {
         return Reply::NoCursor;
@@ -139,7 +138,7 @@ pub(crate) fn prev<S: NodeStore>(
 where
     S::V: Copy,
     S::Argument: SearchArgument<S::K> + RankArgument<S::K>,
-    ensures { Step S.K.cmp S.Argument.selects S.Argument.ranks tree.now.contents (map cursor_key cursors.old.items) (Command.Prev number) result tree.now.contents (map cursor_key cursors.new.items) }
+    ensures { Step S.K.cmp S.Argument.selects S.Argument.ranks tree.now.contents (held_keys cursors.old.items) (Command.Prev number) result tree.now.contents (held_keys cursors.new.items) }
 {
     let Some(cursor) = cursors.get(number) else {
         return Reply::NoCursor;
@@ -159,7 +158,7 @@ pub(crate) fn exists<S: NodeStore>(
 where
     S::V: Copy,
     S::Argument: SearchArgument<S::K> + RankArgument<S::K>,
-    ensures { Step S.K.cmp S.Argument.selects S.Argument.ranks tree.now.contents (map cursor_key cursors.now) (Command.Exists number) result tree.now.contents (map cursor_key cursors.now) }
+    ensures { Step S.K.cmp S.Argument.selects S.Argument.ranks tree.now.contents (held_keys cursors.now) (Command.Exists number) result tree.now.contents (held_keys cursors.now) }
 {
     match cursors.get(number) {
         Some(cursor) => Reply::Done(cursor.exists(tree)),
@@ -176,7 +175,7 @@ pub(crate) fn value<S: NodeStore>(
 where
     S::V: Copy,
     S::Argument: SearchArgument<S::K> + RankArgument<S::K>,
-    ensures { Step S.K.cmp S.Argument.selects S.Argument.ranks tree.now.contents (map cursor_key cursors.now) (Command.Value number) result tree.now.contents (map cursor_key cursors.now) }
+    ensures { Step S.K.cmp S.Argument.selects S.Argument.ranks tree.now.contents (held_keys cursors.now) (Command.Value number) result tree.now.contents (held_keys cursors.now) }
 {
     match cursors.get(number) {
         Some(cursor) => Reply::Value(cursor.value(tree).copied()),

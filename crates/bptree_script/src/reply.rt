@@ -1,5 +1,5 @@
 //! The answers to lines.
-ghost use Rattle.std.specs.Prelude.{◌≡◌, ◌≤◌, [], ◌∷◌, ◌++◌, codes, decimal, length, OnOk, option_map, slice_get};
+ghost use Rattle.std.specs.Prelude.{◌≡◌, ◌≤◌, [], ◌++◌, codes, decimal, length, OnOk, option_map, slice_get};
 ghost use Rattle.std.specs.Map.{keys_of};
 ghost use Rattle.std.specs.Ordering.{nat_cmp};
 ghost use Rattle.bptree_arguments.specs.CountLaws.{count_below};
@@ -9,6 +9,8 @@ ghost use Rattle.bptree_tree.specs.Cursor.{cursor_key};
 ghost use Rattle.bptree_script.specs.Answers.{pair_text, found_text, item_text, pairs_text, page_text, rank_text, old_text, gone_text, value_text, put_text, pairs_with_put, reply_to, pairs_with, answer, pairs_after};
 ghost use Rattle.bptree_script.specs.Ends.{seen_from};
 ghost use Rattle.bptree_script.specs.Sent.{SendsOrFails, Replies};
+ghost use Rattle.bptree_script.specs.Steps.{told_pair};
+ghost use Rattle.std.specs.Map.Iter.{deref_pair};
 
 use crate::error::ServeError;
 use crate::output::Output;
@@ -90,7 +92,7 @@ fn send_pair<W: Write>(out: &mut Output<W>, key: u64, value: u64) -> Result<(), 
 }
 
 fn send_found<W: Write>(out: &mut Output<W>, pair: Option<(&u64, &u64)>) -> Result<(), ServeError>
-    ensures { SendsOrFails out.old out.new (found_text (option_map (λ pair. (pair.0.now, pair.1.now)) pair.entry)) result }
+    ensures { SendsOrFails out.old out.new (found_text (option_map deref_pair pair.entry)) result }
 {
     match pair {
         None => out.send(b"none"),
@@ -173,7 +175,7 @@ fn send_beside<W: Write>(
     out: &mut Output<W>,
     found: Option<(Cursor<u64>, &u64)>,
 ) -> Result<(), ServeError>
-    ensures { SendsOrFails out.old out.new (found_text (option_map (λ found. (cursor_key found.0, found.1.now)) found.entry)) result }
+    ensures { SendsOrFails out.old out.new (found_text (told_pair found.entry)) result }
 {
     match found {
         None => out.send(b"none"),

@@ -3,7 +3,7 @@ ghost use Rattle.std.specs.Prelude.{IfOk};
 ghost use Rattle.std.specs.List.{AllZip};
 ghost use Rattle.std.specs.Map.Iter.{deref_pair};
 ghost use Rattle.bptree_script.specs.Ends.{TakesFrom, walked};
-ghost use Rattle.bptree_script.specs.Steps.{IsCopyOf, TreeStep};
+ghost use Rattle.bptree_script.specs.Steps.{IsCopyOf, Reads};
 
 use crate::commands::{Command, Reply, ReplyOf, copy_of};
 use bptree_arguments::argument::{RankArgument, SearchArgument};
@@ -60,7 +60,7 @@ pub(crate) fn walk<S: NodeStore>(alloc: Global, tree: &BPlusTree<S>, word: Vec<E
 where
     S::V: Copy,
     S::Argument: SearchArgument<S::K> + RankArgument<S::K>,
-    ensures { TreeStep S.K.cmp S.Argument.selects S.Argument.ranks tree.now.contents (Command.Walk word) result tree.now.contents }
+    ensures { Reads S.K.cmp S.Argument.selects S.Argument.ranks tree.now (Command.Walk word) result }
 {
     match taken(alloc, tree.iter(), word.as_slice()) {
         Ok(answers) => Reply::Walked(answers),
@@ -79,7 +79,7 @@ pub(crate) fn walk_range<S: NodeStore>(
 where
     S::V: Copy,
     S::Argument: SearchArgument<S::K> + RankArgument<S::K>,
-    ensures { TreeStep S.K.cmp S.Argument.selects S.Argument.ranks tree.now.contents (Command.Range lo hi word) result tree.now.contents }
+    ensures { Reads S.K.cmp S.Argument.selects S.Argument.ranks tree.now (Command.Range lo hi word) result }
 {
     let pairs = tree.range(lo.as_ref(), hi.as_ref());
     match taken(alloc, pairs, word.as_slice()) {
@@ -99,7 +99,7 @@ pub(crate) fn walk_range_at<S: NodeStore>(
 where
     S::V: Copy,
     S::Argument: SearchArgument<S::K> + RankArgument<S::K>,
-    ensures { TreeStep S.K.cmp S.Argument.selects S.Argument.ranks tree.now.contents (Command.RangeAt query n word) result tree.now.contents }
+    ensures { Reads S.K.cmp S.Argument.selects S.Argument.ranks tree.now (Command.RangeAt query n word) result }
 {
     let Ok(pairs) = tree.range_by_argument(query, n) else {
         return Reply::OutOfMemory;
