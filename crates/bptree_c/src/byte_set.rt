@@ -5,6 +5,8 @@ ghost use Rattle.std.specs.Option.{option_copied, option_map};
 ghost use Rattle.bptree_arguments.specs.CountLaws.{count_below};
 ghost use Rattle.bptree_c.specs.ByteKeys.{by_bytes, key_after, key_before, IsTold};
 ghost use Rattle.bptree_maps.specs.Keys.{holds, with_key, without_key};
+ghost use Rattle.bptree_maps.specs.KeyChanges.{PutsKey, RemovesKey};
+ghost use Rattle.bptree_tree.specs.Entries.{last_of};
 
 use crate::byte_handle::{ByteHandle, ByteSet};
 use crate::bytes::Bytes;
@@ -169,8 +171,7 @@ pub extern "C" fn bptree_bytes_insert(alloc: Global, set: &mut ByteHandle, key: 
 }
 
 fn insert_in(set: &mut ByteSet, key: Bytes) -> Result<bool, AllocError>
-    ensures ok { IfOk result (λ is_new.
-        (is_new ≡ not (holds by_bytes set.old key)) × (set.new ≡ with_key by_bytes set.old key)) }
+    ensures ok { IfOk result (PutsKey by_bytes key set.old set.new) }
     ensures err { OnErr result (set.new ≡ set.old) }
 {
     match set.pairs.insert(key, ()) {
@@ -207,8 +208,7 @@ pub extern "C" fn bptree_bytes_remove(alloc: Global, set: &mut ByteHandle, key: 
 }
 
 fn remove_in(set: &mut ByteSet, key: &Bytes) -> Result<bool, AllocError>
-    ensures ok { IfOk result (λ was.
-        (was ≡ holds by_bytes set.old key.now) × (set.new ≡ without_key by_bytes set.old key.now)) }
+    ensures ok { IfOk result (RemovesKey by_bytes key.now set.old set.new) }
     ensures absent { holds by_bytes set.old key.now ≡ false → set.new ≡ set.old }
     ensures err { OnErr result (set.new ≡ set.old) }
 {
@@ -277,7 +277,7 @@ pub extern "C" fn bptree_bytes_last(
     ghost keys: { List (List ℕ) }
     requires open { set.old.held ≡ Some keys }
     ensures kept { set.new.held ≡ Some keys }
-    ensures told { IsTold (slice_get keys (length keys - 1)) result (out.old, len.old) (out.new, len.new) }
+    ensures told { IsTold (last_of keys) result (out.old, len.old) (out.new, len.new) }
 {
     let whole = set.take(alloc);
     let answer = told(last_in(&whole), out, len);

@@ -1,5 +1,5 @@
 //! Calls that read a map. None of them is ever refused.
-ghost use Rattle.std.specs.Prelude.{◌≡◌, ◌-◌, ◌≤◌, ℕ, List, [], Option, Some, None, IsTrue, true, false, MatchOption, length, slice_get};
+ghost use Rattle.std.specs.Prelude.{◌≡◌, ◌-◌, ℕ, List, Option, Some, None, IsTrue, true, false, MatchOption, length, slice_get};
 ghost use Rattle.std.specs.Map.{keys_of};
 ghost use Rattle.std.specs.Option.{option_map};
 ghost use Rattle.std.specs.Ordering.{nat_cmp};
@@ -7,6 +7,7 @@ ghost use Rattle.bptree_arguments.specs.CountLaws.{count_below};
 ghost use Rattle.bptree_c.specs.Pairs.{as_tuple};
 ghost use Rattle.bptree_keys.specs.Contents.{has, value, next, previous};
 ghost use Rattle.bptree_keys.specs.Ranges.{between};
+ghost use Rattle.std.specs.Map.Iter.{deref_pair};
 
 use crate::handle::{Handle, Map};
 use crate::pair::Pair;
@@ -85,7 +86,7 @@ fn first_in(map: &Map) -> Option<(u64, u64)>
 
 // The pair that two references point to.
 fn owned(pair: Option<(&u64, &u64)>) -> Option<(u64, u64)>
-    ensures { result ≡ option_map (λ it. (it.0.now, it.1.now)) pair.entry }
+    ensures { result ≡ option_map deref_pair pair.entry }
 {
     match pair {
         Some((key, value)) => Some((*key, *value)),

@@ -5,6 +5,7 @@ ghost use Rattle.std.specs.Map.Iter.{TakesFirst, TakesLast};
 ghost use Rattle.std.specs.Ordering.{nat_cmp};
 ghost use Rattle.bptree_c.specs.Popped.{IsTold, LeftAt, LeftFirst, LeftLast};
 ghost use Rattle.bptree_keys.specs.Contents.{has, value, put, del};
+ghost use Rattle.bptree_tree.specs.Changes.{Puts, Removes};
 
 use crate::handle::{Handle, Map};
 use crate::pair::Pair;
@@ -45,8 +46,7 @@ pub extern "C" fn bptree_put(
 }
 
 fn put_in(map: &mut Map, key: u64, new: u64) -> Result<Option<u64>, AllocError>
-    ensures ok { IfOk result (λ old.
-        (old ≡ value nat_cmp map.old key) × (map.new ≡ put nat_cmp map.old key new)) }
+    ensures ok { IfOk result (Puts nat_cmp key new map.old map.new) }
     ensures present { IsTrue (has nat_cmp map.old key) → IsOk result }
     ensures err { OnErr result (map.new ≡ map.old) }
 {
@@ -85,8 +85,7 @@ pub extern "C" fn bptree_del(alloc: Global, map: &mut Handle, key: u64, old: &mu
 }
 
 fn del_in(map: &mut Map, key: u64) -> Result<Option<u64>, AllocError>
-    ensures ok { IfOk result (λ old.
-        (old ≡ value nat_cmp map.old key) × (map.new ≡ del nat_cmp map.old key)) }
+    ensures ok { IfOk result (Removes nat_cmp key map.old map.new) }
     ensures absent { has nat_cmp map.old key ≡ false → result ≡ Ok None }
     ensures err { OnErr result (map.new ≡ map.old) }
 {
