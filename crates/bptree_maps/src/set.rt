@@ -6,7 +6,7 @@ ghost use Rattle.std.specs.List.Sorted.{IsStrictlySortedBy};
 ghost use Rattle.std.specs.Map.{keys_of};
 ghost use Rattle.std.specs.Map.Iter.{ShowsInOrder, GivesInOrder, GivesInReverse, TakesFirst, TakesLast, deref};
 ghost use Rattle.std.specs.Option.{option_copied, option_copied as given};
-ghost use Rattle.bptree_tree.specs.Refusal.{HandsBack};
+ghost use Rattle.bptree_tree.specs.Refusal.{pair_of};
 ghost use Rattle.bptree_maps.specs.Keys.{holds, key_found, keys_between, keys_within, keys_without, IsDisjoint, IsSubset};
 ghost use Rattle.bptree_maps.specs.contracts.set.BPlusTreeSet.{the_row};
 ghost use Rattle.bptree_maps.specs.Rows.{inner_row_of_set};
@@ -114,7 +114,7 @@ impl<K: Key> BPlusTreeSet<K> {
     /// has changed.
     pub fn insert(&mut self, k: K) -> Result<bool, InsertError<K, ()>>
         ensures ok { IfOk result (PutsKey K.cmp k self.old self.new) }
-        ensures err { IfErr result (HandsBack (k, tt) self.old self.new) }
+        ensures err { IfErr result (λ r. (pair_of r ≡ (k, tt)) × (self.new ≡ self.old)) }
         ensures present { IsTrue (holds K.cmp self.old k) → IsOk result }
         ensures full { (result ≡ Err (InsertError.Full k tt)) ↔ IsFullForKey K.cmp usize.MAX self.old k }
     {
