@@ -1,11 +1,15 @@
 -- Where a group begins and ends, and what a rank says of a key among the keys of its group.
-use Rattle.std.specs.Prelude.{◌≡◌, ℕ, List, map, take, drop, Bool, true, false, not, cond, Option, Some, None}
+use Rattle.std.specs.Prelude.{◌≡◌, ℕ, ◌-◌, ◌<◌, ◌^◌, min, List, ◌++◌, length, map, take, drop, Bool, true, false, not, cond, Option, Some, None, Result, MatchResult}
 use Rattle.std.specs.declared.cmp.Ordering.{Ordering}
 use Rattle.std.specs.declared.cmp.Ordering.TheVariants.{Equal}
 use Rattle.std.specs.Ordering.{is_eq, is_gt, is_lt}
 use Rattle.std.specs.List.{AllByRecursion}
+use Rattle.std.specs.List.Sorted.{IsStrictlySortedBy}
+use Rattle.bptree_arguments.specs.declared.group.GroupCount.{GroupCount}
 use Rattle.bptree_arguments.specs.CountLaws.{count_below}
-use Rattle.bptree_arguments.specs.Groups.{group, group_size}
+use Rattle.bptree_arguments.specs.GroupSums.{carried_over}
+use Rattle.bptree_arguments.specs.Groups.{SumsUpGroups, group, group_size}
+use Rattle.bptree_arguments.specs.Ranks.{AllAbove, AllBelow, Carries, IsSlotOf}
 
 -- whether what compares so to a group is before the group's end, or else before its beginning
 abbrev pub is_before : Bool → Ordering → Bool
@@ -28,6 +32,22 @@ module _ {G : Type 0} (cmp : G → G → Ordering) (g : G) where
   IsInGroup n None = ⊥
   IsInGroup n (Some r) = (cmp r.0 g ≡ Equal) × (r.1 ≡ n)
 
+  -- the number is what was carried, and no more
+  abbrev pub CarriesOnly : Option (G × ℕ) → G × ℕ → Type 0
+  CarriesOnly rank counted = counted.1 ≡ carried rank
+
+  -- no key is there, and the number in the rank is what was carried
+  abbrev pub StaysCarried : Option (G × ℕ) → Result (Option (G × ℕ)) (Option (G × ℕ)) → Type 0
+  StaysCarried rank answer = MatchResult answer (λ _. ⊥) (IsInGroup (carried rank))
+
+  -- the rank is g, with what was carried of it and carried on over the summaries, or the greatest `usize` where that is less
+  abbrev pub IsCarriedOn : Option (G × ℕ) → List (GroupCount G) → Option (G × ℕ) → Type 0
+  IsCarriedOn rank summaries next = IsInGroup (min (carried_over cmp g (carried rank) summaries) (2 ^ 64 - 1)) next
+
+-- among keys that ascend, this is where a group begins or ends
+abbrev pub IsGroupBorder : {K G : Type 0} → (K → K → Ordering) → (G → G → Ordering) → (K → G) → G → Bool → List K → ℕ → Type 0
+IsGroupBorder cmp compare group_of g end keys n = IsStrictlySortedBy cmp keys → IsBorderOf compare g end (map group_of keys) n
+
 module _ {K G : Type 0} (compare : G → G → Ordering) (group_of : K → G) (k : K) where
   -- a rank carries how many of the keys are in the group of k
   abbrev pub StandsInGroup : List K → Option (G × ℕ) → Type 0
@@ -36,3 +56,21 @@ module _ {K G : Type 0} (compare : G → G → Ordering) (group_of : K → G) (k
   -- a rank is the group of k, and how many keys in it are smaller than k
   abbrev pub IsRankInGroup : (K → K → Ordering) → List K → Option (G × ℕ) → Type 0
   IsRankInGroup cmp keys rank = IsInGroup compare (group_of k) (count_below cmp k (group compare group_of (group_of k) keys)) rank
+
+  -- with any keys before the smaller ones, for which the rank stands, the number is that of all keys in the group of k
+  abbrev pub CountsInGroup : (K → K → Ordering) → Option (G × ℕ) → List K → G × ℕ → Type 0
+  CountsInGroup cmp rank smaller counted =
+      (before : List K) → IsStrictlySortedBy cmp (before ++ smaller) → AllBelow cmp k smaller → length (before ++ smaller) < 2 ^ 64 → StandsInGroup before rank
+      → counted.1 ≡ group_size compare (group_of k) (map group_of (before ++ smaller))
+
+  -- what `Carries` says of such ranks
+  abbrev pub CarriesInGroup : (K → K → Ordering) → List (GroupCount G) → Option (G × ℕ) → Option (G × ℕ) → Type 0
+  CarriesInGroup cmp arguments rank next =
+      Carries (SumsUpGroups compare group_of) cmp arguments (λ rank k keys. group_size compare (group_of k) (map group_of keys) ≡ carried compare (group_of k) rank) rank k next
+
+  -- what `RanksAtSlot` says of them
+  abbrev pub RanksInGroup : (K → K → Ordering) → Option (G × ℕ) → List K → Result ℕ ℕ → Result (Option (G × ℕ)) (Option (G × ℕ)) → Type 0
+  RanksInGroup cmp rank keys slot answer =
+      IsSlotOf cmp k keys slot → (before after : List K) → IsStrictlySortedBy cmp (before ++ (keys ++ after)) → AllBelow cmp k before → AllAbove cmp k after
+      → length (before ++ (keys ++ after)) < 2 ^ 64 → StandsInGroup before rank
+      → MatchResult answer (IsRankInGroup cmp (before ++ (keys ++ after))) (IsRankInGroup cmp (before ++ (keys ++ after)))

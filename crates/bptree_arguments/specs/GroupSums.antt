@@ -1,5 +1,5 @@
 -- What summaries of groups tell by themselves, alone and together, whatever keys they stand for. Sums stop at the greatest `usize`.
-use Rattle.std.specs.Prelude.{ℕ, ◌+◌, ◌-◌, ◌^◌, ◌==◌, min, List, Bool, true, false, cond, Option, Some, None}
+use Rattle.std.specs.Prelude.{◌≡◌, ℕ, ◌+◌, ◌-◌, ◌^◌, ◌==◌, min, List, Bool, true, false, cond, Option, Some, None}
 use Rattle.std.specs.declared.cmp.Ordering.{Ordering}
 use Rattle.std.specs.Ordering.{is_eq}
 use Rattle.std.specs.List.{fold}
@@ -62,6 +62,10 @@ module _ {G : Type 0} (cmp : G → G → Ordering) where
       (record { least = (a.least.0, shared a.least.1 a.count b.least.1); greatest = (b.greatest.0, shared b.greatest.1 b.count a.greatest.1); count = capped_sum a.count b.count - 1 })
       (record { least = a.least; greatest = b.greatest; count = capped_sum a.count b.count })
 
+  -- the ends of both tell that of the ends of the two
+  abbrev pub AreToldInTurn : Ends G → Ends G → Ends G → Type 0
+  AreToldInTurn first second both = told_by_ends both ≡ told_in_turn (told_by_ends first) (told_by_ends second)
+
   -- the same where one of them may tell nothing
   abbrev pub told_beside : Option (Told G) → Option (Told G) → Option (Told G)
   told_beside whole None = whole
@@ -71,6 +75,10 @@ module _ {G : Type 0} (cmp : G → G → Ordering) where
   -- what summaries tell together, one after another
   abbrev pub told_together : List (GroupCount G) → Option (Told G)
   told_together summaries = fold (λ whole summary. told_beside whole (told_by summary)) None summaries
+
+  -- the summary of all of them together
+  abbrev pub summary_of_all : List (GroupCount G) → GroupCount G
+  summary_of_all summaries = summary_of (told_together summaries)
 
   module _ (g : G) where
     -- A number of keys of g, carried on over a greatest group with its size: more where that is g, else none.

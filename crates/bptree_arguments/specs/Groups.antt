@@ -1,4 +1,4 @@
-use Rattle.std.specs.Prelude.{◌≡◌, ℕ, ◌+◌, ◌<◌, ◌≤◌, List, [], ◌∷◌, length, take, get_or, false, cond, Option, Some, None, ⊤}
+use Rattle.std.specs.Prelude.{◌≡◌, ◌↔◌, ℕ, ◌+◌, ◌<◌, ◌≤◌, ◌^◌, List, [], ◌∷◌, ◌++◌, length, map, take, get_or, Bool, false, cond, Option, Some, None, IsTrue, MatchOption, ⊤}
 use Rattle.std.proofs.Common.{refl}
 use Rattle.std.specs.declared.cmp.Ordering.{Ordering}
 use Rattle.std.specs.declared.cmp.Ordering.TheVariants.{Less, Equal, Greater}
@@ -51,6 +51,28 @@ module _ {G : Type 0} (cmp : G → G → Ordering) where
   IsGreatestGroup groups None = groups ≡ []
   IsGreatestGroup groups (Some greatest) = AllByRecursion (λ x. is_gt (cmp x greatest.0) ≡ false) groups × (greatest.1 ≡ group_size greatest.0 groups) × (0 < greatest.1)
 
+  -- of the groups that the summary stands for: which is the greatest, whether there is none, how many are different, and which
+  -- are the extremes
+  abbrev pub TellsGreatest : GroupCount G → Option (G × ℕ) → Type 0
+  TellsGreatest summary greatest = (groups : List G) → IsGroupSummary summary groups → IsGreatestGroup groups greatest
+
+  abbrev pub TellsIfNone : GroupCount G → Bool → Type 0
+  TellsIfNone summary none = (groups : List G) → IsGroupSummary summary groups → IsTrue none ↔ (groups ≡ [])
+
+  abbrev pub TellsDifferent : GroupCount G → ℕ → Type 0
+  TellsDifferent summary n = (groups : List G) → IsGroupSummary summary groups → n ≡ different groups
+
+  abbrev pub TellsEnds : GroupCount G → Option (Ends G) → Type 0
+  TellsEnds summary told = (groups : List G) → IsGroupSummary summary groups → MatchOption told (groups ≡ []) (λ ends. AreExtremes groups (ends.least.now, ends.least_size) (ends.greatest.now, ends.greatest_size) ends.group_count)
+
+  -- a summary of some groups becomes one of these and of one more, which equals `next` and is not below them
+  abbrev pub TakesNext : GroupCount G → G → GroupCount G → Type 0
+  TakesNext old next new = (groups : List G) (x : G) → cmp next x ≡ Equal → IsGroupSummary old groups → IsNonDescending (groups ++ x ∷ []) → length (groups ++ x ∷ []) < 2 ^ 64 → IsGroupSummary new (groups ++ x ∷ [])
+
+  -- summaries that are alike are summaries of the same groups
+  abbrev pub AlikeSumUpSame : Type 0
+  AlikeSumUpSame = (a b : GroupCount G) → (groups : List G) → AreAlike a b → IsGroupSummary a groups → IsGroupSummary b groups
+
   -- a query is a group and a place in it: the place of that key, or none where the group has no such key
   abbrev pub SelectsInGroup : G → ℕ → List G → Option ℕ → Type 0
   SelectsInGroup g n groups None = group_size g groups ≤ n
@@ -66,7 +88,20 @@ first_not_above Greater s h = h
 abbrev pub AreEnds : {G : Type 0} → (G → G → Ordering) → List G → Ends G → Type 0
 AreEnds cmp groups ends = AreExtremes cmp groups (ends.least.now, ends.least_size) (ends.greatest.now, ends.greatest_size) ends.group_count
 
+module _ {G : Type 0} (cmp : G → G → Ordering) where
+  -- the extremes of two lists, one after the other, are those of both together
+  abbrev pub EndsOfBoth : Ends G → Ends G → Ends G → Type 0
+  EndsOfBoth first second both = (xs ys : List G) → AreEnds cmp xs first → AreEnds cmp ys second → IsNonDescending cmp (xs ++ ys) → length (xs ++ ys) < 2 ^ 64 → AreEnds cmp (xs ++ ys) both
+
+  -- a summary of the groups that these are the extremes of
+  abbrev pub SumsUpEnds : Ends G → GroupCount G → Type 0
+  SumsUpEnds ends summary = (groups : List G) → AreEnds cmp groups ends → IsGroupSummary cmp summary groups
+
 module _ {K G : Type 0} (cmp : G → G → Ordering) (group_of : K → G) where
+  -- a summary of the groups of the keys
+  abbrev pub SumsUpGroups : GroupCount G → List K → Type 0
+  SumsUpGroups summary keys = IsGroupSummary cmp summary (map group_of keys)
+
   -- the keys whose group equals g
   abbrev pub group : G → List K → List K
   group g keys = filter (λ k. is_eq (cmp (group_of k) g)) keys
@@ -74,3 +109,11 @@ module _ {K G : Type 0} (cmp : G → G → Ordering) (group_of : K → G) where
   -- the pairs whose key's group equals g
   abbrev pub of_group : {V : Type 0} → G → List (K × V) → List (K × V)
   of_group g pairs = filter (λ pair. is_eq (cmp (group_of pair.0) g)) pairs
+
+  -- the size of a group is the number of its keys
+  abbrev pub SizeCountsKeys : Type 0
+  SizeCountsKeys = (g : G) → (keys : List K) → group_size cmp g (map group_of keys) ≡ length (group g keys)
+
+  -- the keys of a group of two lists, one after the other, are those of the first and then those of the second
+  abbrev pub GroupOfBoth : Type 0
+  GroupOfBoth = (g : G) → (front back : List K) → group g (front ++ back) ≡ group g front ++ group g back

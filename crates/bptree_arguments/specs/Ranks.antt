@@ -1,8 +1,10 @@
--- Where a key stands, or would stand, among others.
-use Rattle.std.specs.Prelude.{◌≡◌, ℕ, ◌<◌, ◌≤◌, List, [], ◌∷◌, ◌++◌, length, Result, Ok, Err}
+-- Where a key stands, or would stand, among others, and how a rank is carried to it.
+use Rattle.std.specs.Prelude.{◌≡◌, ℕ, ◌<◌, ◌≤◌, ◌^◌, List, [], ◌∷◌, ◌++◌, length, Result, Ok, Err, MatchResult}
 use Rattle.std.specs.declared.cmp.Ordering.{Ordering}
 use Rattle.std.specs.declared.cmp.Ordering.TheVariants.{Less, Equal, Greater}
-use Rattle.std.specs.List.{AllByRecursion}
+use Rattle.std.specs.List.{AllByRecursion, AllZip}
+use Rattle.std.specs.List.Sorted.{IsStrictlySortedBy}
+use Rattle.bptree_keys.specs.Pieces.{AllNonEmpty, flatten}
 
 -- every key of the list is smaller than k
 abbrev pub AllBelow : {K : Type 0} → (K → K → Ordering) → K → List K → Type 0
@@ -28,3 +30,17 @@ IsSlotIn xs (Err i) = i ≤ length xs
 abbrev pub IsSlotOf : {K : Type 0} → (K → K → Ordering) → K → List K → Result ℕ ℕ → Type 0
 IsSlotOf {K} cmp k keys (Ok i) = (front back : List K) × (x : K) × (length front ≡ i) × SplitsAt cmp k keys front (x ∷ []) back
 IsSlotOf {K} cmp k keys (Err i) = (front back : List K) × (length front ≡ i) × SplitsAt cmp k keys front [] back
+
+-- A rank stands for some keys. With the keys of pieces behind them, which have these summaries, and with all of them smaller
+-- than k, the next rank stands for all.
+abbrev pub Carries : {R A K : Type 0} → (A → List K → Type 0) → (K → K → Ordering) → List A → (R → K → List K → Type 0) → R → K → R → Type 0
+Carries {K = K} is_summary cmp arguments stands_for rank k next =
+    (before : List K) (pieces : List (List K)) → AllNonEmpty pieces → AllZip is_summary arguments pieces → IsStrictlySortedBy cmp (before ++ flatten pieces)
+    → AllBelow cmp k (before ++ flatten pieces) → length (before ++ flatten pieces) < 2 ^ 64 → stands_for rank k before → stands_for next k (before ++ flatten pieces)
+
+-- The slot is that of k among the keys. With any smaller keys before these, for which the rank stands, and any greater keys
+-- behind, the answer ranks k.
+abbrev pub RanksAtSlot : {R K : Type 0} → (K → K → Ordering) → (R → K → List K → Type 0) → (K → List K → R → Type 0) → K → R → List K → Result ℕ ℕ → Result R R → Type 0
+RanksAtSlot {K = K} cmp stands_for ranks k rank keys slot answer =
+    IsSlotOf cmp k keys slot → (before after : List K) → IsStrictlySortedBy cmp (before ++ (keys ++ after)) → AllBelow cmp k before → AllAbove cmp k after
+    → length (before ++ (keys ++ after)) < 2 ^ 64 → stands_for rank k before → MatchResult answer (ranks k (before ++ (keys ++ after))) (ranks k (before ++ (keys ++ after)))

@@ -1,13 +1,12 @@
 //! Summaries of keys.
-ghost use Rattle.std.specs.Prelude.{◌≡◌, ◌<◌, ◌≤◌, ◌^◌, ℕ, List, [], ◌++◌, length, true, is_ok, Option, IfOk, IfSome, IsOk, IsTrue, MatchResult, ⊤};
+ghost use Rattle.std.specs.Prelude.{◌≡◌, ◌<◌, ◌≤◌, ℕ, List, [], length, true, is_ok, Option, IfOk, IfSome, IsOk, IsTrue, ⊤};
 ghost use Rattle.std.specs.declared.cmp.Ordering.TheVariants.{Equal};
 ghost use Rattle.std.specs.List.{AllZip};
-ghost use Rattle.std.specs.List.Sorted.{IsStrictlySortedBy};
-ghost use Rattle.bptree_arguments.specs.Ranks.{AllAbove, AllBelow, IsSlotIn, IsSlotOf};
+ghost use Rattle.bptree_arguments.specs.Ranks.{IsSlotIn, Carries, RanksAtSlot};
 ghost use Rattle.bptree_arguments.specs.Replaced.{SumsUpReplaced};
-ghost use Rattle.bptree_arguments.specs.Selection.{IsPlaceIn, LeadsTo};
-ghost use Rattle.bptree_arguments.specs.Sums.{SumsUpKeys, SumsUpPieces};
-ghost use Rattle.bptree_keys.specs.Pieces.{AllNonEmpty, ArePieces, flatten};
+ghost use Rattle.bptree_arguments.specs.Selection.{IsPlaceIn, LeadsOver};
+ghost use Rattle.bptree_keys.specs.Locate.{IfAscending};
+ghost use Rattle.bptree_arguments.specs.Sums.{SumsUpKeys, SumsUpPieces, TellsLength};
 
 use bptree_keys::key::Key;
 use std::alloc::AllocError;
@@ -50,7 +49,7 @@ pub trait Argument<K: Key>: Clone + Default + Drop {
 
     /// How many keys the summary stands for, where it tells that. By default it doesn't.
     fn key_count(&self) -> Option<usize>
-        ensures told { (keys : List K) → is_summary self.now keys → IfSome result (λ n. n ≡ length keys) }
+        ensures told { TellsLength (is_summary self.now) result }
     {
         None
     }
@@ -70,8 +69,8 @@ pub trait SearchArgument<K: Key>: Argument<K> {
     /// refused.
     fn locate_in_leaf(query: Self::Query, keys: &[K]) -> Result<Option<usize>, AllocError>
         requires { length keys.now ≤ 64 }
-        ensures in_range { IfOk result (λ place. IsStrictlySortedBy K.cmp keys.now → IsPlaceIn keys.now place) }
-        ensures selected { IfOk result (λ place. IsStrictlySortedBy K.cmp keys.now → selects query keys.now place) }
+        ensures in_range { IfOk result (IfAscending K.cmp keys.now (IsPlaceIn keys.now)) }
+        ensures selected { IfOk result (IfAscending K.cmp keys.now (selects query keys.now)) }
         ensures sure { Self.needs_no_memory → IsOk result };
 
     /// The child of an inner node to go on in, with the query that is asked there; or none, where
@@ -82,7 +81,7 @@ pub trait SearchArgument<K: Key>: Argument<K> {
         keys: &[K],
         arguments: &[Self],
     ) -> Result<Option<(usize, Self::Query)>, AllocError>
-        ensures leads { IfOk result (λ answer. (pieces : List (List K)) → ArePieces K.cmp pieces → AllZip Self.is_summary arguments.now pieces → LeadsTo selects query pieces answer) }
+        ensures leads { IfOk result (LeadsOver Self.is_summary K.cmp arguments.now selects query) }
         ensures sure { Self.needs_no_memory → IsOk result };
 }
 
@@ -104,7 +103,7 @@ pub trait RankArgument<K: Key>: Argument<K> {
     /// The rank carried on over the children of an inner node before the one for the key; there may
     /// be none. It is given one summary for each of them, and fails only where memory is refused.
     fn fold_inner(k: &K, rank: Self::Rank, arguments: &[Self]) -> Result<Self::Rank, AllocError>
-        ensures carries { IfOk result (λ next. (before : List K) (pieces : List (List K)) → AllNonEmpty pieces → AllZip Self.is_summary arguments.now pieces → IsStrictlySortedBy K.cmp (before ++ flatten pieces) → AllBelow K.cmp k.now (before ++ flatten pieces) → length (before ++ flatten pieces) < 2 ^ 64 → stands_for rank k.now before → stands_for next k.now (before ++ flatten pieces)) }
+        ensures carries { IfOk result (Carries Self.is_summary K.cmp arguments.now stands_for rank k.now) }
         ensures sure { Self.needs_no_memory → IsOk result };
 
     /// The rank of a key by a slot of its leaf, `Ok` exactly where the slot is. A rank for the key
@@ -118,7 +117,7 @@ pub trait RankArgument<K: Key>: Argument<K> {
         requires few { length keys.now ≤ 64 }
         requires slot { IsSlotIn keys.now slot }
         ensures variant { IfOk result (λ answer. is_ok answer ≡ is_ok slot) }
-        ensures ranked { IfOk result (λ answer. IsSlotOf K.cmp k.now keys.now slot → (before after : List K) → IsStrictlySortedBy K.cmp (before ++ (keys.now ++ after)) → AllBelow K.cmp k.now before → AllAbove K.cmp k.now after → length (before ++ (keys.now ++ after)) < 2 ^ 64 → stands_for rank k.now before → MatchResult answer (ranks k.now (before ++ (keys.now ++ after))) (ranks k.now (before ++ (keys.now ++ after)))) }
+        ensures ranked { IfOk result (RanksAtSlot K.cmp stands_for ranks k.now rank keys.now slot) }
         ensures sure { Self.needs_no_memory → IsOk result };
 }
 

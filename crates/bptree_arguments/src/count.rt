@@ -1,13 +1,13 @@
 //! Counts of keys: a tree that keeps them finds a key by its place, and ranks a key among all.
-ghost use Rattle.std.specs.Prelude.{◌≡◌, ◌<◌, ◌≤◌, ◌+◌, ◌-◌, ◌^◌, ◌++◌, List, length, min, is_ok, Some, IfOk, IfErr, IfSome, IsOk, MatchResult, ⊤};
-ghost use Rattle.std.specs.List.{sum_by, AllZip};
-ghost use Rattle.std.specs.List.Sorted.{IsStrictlySortedBy};
+ghost use Rattle.std.specs.Prelude.{◌≡◌, ◌<◌, ◌≤◌, ◌+◌, ◌-◌, ◌^◌, length, min, is_ok, Some, IfOk, IfErr, IfSome, IsOk, ⊤};
+ghost use Rattle.std.specs.List.{sum_by};
 ghost use Rattle.std.proofs.Common.{rules};
-ghost use Rattle.bptree_arguments.specs.CountLaws.{SelectsPlace, count_below};
-ghost use Rattle.bptree_arguments.specs.Ranks.{AllAbove, AllBelow, IsSlotIn, IsSlotOf};
+ghost use Rattle.bptree_arguments.specs.CountLaws.{SelectsPlace, count_below, CountsAtSlot, CountsKeys, Counted, sum_counts};
+ghost use Rattle.bptree_arguments.specs.Ranks.{IsSlotIn, Carries};
 ghost use Rattle.bptree_arguments.specs.Replaced.{SumsUpReplaced};
-ghost use Rattle.bptree_arguments.specs.Sums.{SumsUpKeys, SumsUpPieces};
-ghost use Rattle.bptree_keys.specs.Pieces.{AllNonEmpty, ArePieces, flatten};
+ghost use Rattle.bptree_arguments.specs.Sums.{SumsUpKeys, SumsUpPieces, TellsLength};
+ghost use Rattle.bptree_keys.specs.Pieces.{ArePieces};
+ghost use Rattle.bptree_arguments.specs.GroupSums.{capped_sum};
 
 use crate::argument::{Argument, CloneArgument, RankArgument, SearchArgument};
 use bptree_keys::key::Key;
@@ -75,7 +75,7 @@ impl<K: Key> Argument<K> for Count {
     ghost needs_no_memory = { ⊤ };
 
     fn from_leaf(keys: &[K]) -> Result<Count, AllocError>
-        ensures summary { IfOk result (SumsUpKeys (λ a keys. a.0 ≡ length keys) K.cmp keys.now) }
+        ensures summary { IfOk result (SumsUpKeys CountsKeys K.cmp keys.now) }
         ensures exact { IfOk result (λ a. a.0 ≡ length keys.now) }
         ensures sure { IsOk result }
     {
@@ -85,8 +85,8 @@ impl<K: Key> Argument<K> for Count {
     /// The sum of the counts, in one step a child. It stops at the greatest `usize`, which no list
     /// of keys is longer than. The separators don't count.
     fn from_inner(_keys: &[K], arguments: &[Count]) -> Result<Count, AllocError>
-        ensures summary { IfOk result (SumsUpPieces (λ a keys. a.0 ≡ length keys) K.cmp arguments.now) }
-        ensures capped { IfOk result (λ a. a.0 ≡ min (sum_by (λ b. b.0) arguments.now) (2 ^ 64 - 1)) }
+        ensures summary { IfOk result (SumsUpPieces CountsKeys K.cmp arguments.now) }
+        ensures capped { IfOk result (λ a. a.0 ≡ min (sum_counts arguments.now) (2 ^ 64 - 1)) }
         ensures sure { IsOk result }
     {
         Ok(Count(total_of(0, arguments)))
@@ -95,7 +95,7 @@ impl<K: Key> Argument<K> for Count {
     /// The node's count less the child's old one and with its new one, in constant time; none where
     /// that is no count.
     fn from_replaced(node: &Count, old: &Count, new: &Count) -> Option<Count>
-        ensures replaced { IfSome result (SumsUpReplaced (λ a keys. a.0 ≡ length keys) K.cmp node.now old.now new.now) }
+        ensures replaced { IfSome result (SumsUpReplaced CountsKeys K.cmp node.now old.now new.now) }
         ensures exact { IfSome result (λ a. a.0 + old.now.0 ≡ node.now.0 + new.now.0) }
     {
         match node.0.checked_sub(old.0)?.checked_add(new.0) {
@@ -106,7 +106,7 @@ impl<K: Key> Argument<K> for Count {
 
     /// The count, in constant time.
     fn key_count(&self) -> Option<usize>
-        ensures told { (keys : List K) → self.now.0 ≡ length keys → IfSome result (λ n. n ≡ length keys) }
+        ensures told { TellsLength {K = K} (CountsKeys self.now) result }
         ensures all { result ≡ Some self.now.0 }
     {
         Some(self.0)
@@ -167,8 +167,8 @@ impl<K: Key> RankArgument<K> for Count {
 
     /// One step a child.
     fn fold_inner(_k: &K, rank: usize, arguments: &[Count]) -> Result<usize, AllocError>
-        ensures carries { IfOk result (λ next. (before : List K) (pieces : List (List K)) → AllNonEmpty pieces → AllZip (λ b keys. b.0 ≡ length keys) arguments.now pieces → IsStrictlySortedBy K.cmp (before ++ flatten pieces) → AllBelow K.cmp _k.now (before ++ flatten pieces) → length (before ++ flatten pieces) < 2 ^ 64 → rank ≡ length before → next ≡ length (before ++ flatten pieces)) }
-        ensures capped { IfOk result (λ next. next ≡ min (rank + sum_by (λ b. b.0) arguments.now) (2 ^ 64 - 1)) }
+        ensures carries { IfOk result (Carries CountsKeys K.cmp arguments.now Counted rank _k.now) }
+        ensures capped { IfOk result (λ next. next ≡ capped_sum rank (sum_counts arguments.now)) }
         ensures sure { IsOk result }
     {
         Ok(total_of(rank, arguments))
@@ -183,12 +183,12 @@ impl<K: Key> RankArgument<K> for Count {
         requires few { length _keys.now ≤ 64 }
         requires slot { IsSlotIn _keys.now slot }
         ensures variant { IfOk result (λ answer. is_ok answer ≡ is_ok slot) }
-        ensures ranked { IfOk result (λ answer. IsSlotOf K.cmp _k.now _keys.now slot → (before after : List K) → IsStrictlySortedBy K.cmp (before ++ (_keys.now ++ after)) → AllBelow K.cmp _k.now before → AllAbove K.cmp _k.now after → length (before ++ (_keys.now ++ after)) < 2 ^ 64 → rank ≡ length before → MatchResult answer (λ r. r ≡ count_below K.cmp _k.now (before ++ (_keys.now ++ after))) (λ r. r ≡ count_below K.cmp _k.now (before ++ (_keys.now ++ after)))) }
+        ensures ranked { IfOk result (CountsAtSlot K.cmp _k.now rank _keys.now slot) }
         ensures sure { IsOk result }
 
         // The same of a key that is present, and of one that is not.
-        ensures present { IfOk slot (λ i. IfOk result (λ answer. answer ≡ Ok (min (rank + i) (2 ^ 64 - 1)))) }
-        ensures absent { IfErr slot (λ i. IfOk result (λ answer. answer ≡ Err (min (rank + i) (2 ^ 64 - 1)))) }
+        ensures present { IfOk slot (λ i. IfOk result (λ a. a ≡ Ok (capped_sum rank i))) }
+        ensures absent { IfErr slot (λ i. IfOk result (λ a. a ≡ Err (capped_sum rank i))) }
     {
         Ok(match slot {
             Ok(i) => Ok(rank.saturating_add(i)),

@@ -1,13 +1,11 @@
 //! Groups of keys, and how many keys each has.
-ghost use Rattle.std.specs.Prelude.{◌≡◌, ◌≢◌, ◌↔◌, ℕ, ◌+◌, ◌-◌, ◌<◌, ◌^◌, min, List, [], ◌∷◌, ◌++◌, length, map, IfOk, IsTrue, MatchOption, true, false};
+ghost use Rattle.std.specs.Prelude.{◌≡◌, ◌≢◌, ℕ, ◌+◌, ◌-◌, ◌<◌, ◌^◌, min, [], map, IfOk, true, false};
 ghost use Rattle.std.specs.Ordering.{is_gt};
-ghost use Rattle.bptree_arguments.specs.GroupSums.{greatest_of, has_no_group, number_of_groups, shared, summary_of, told_by, told_by_ends, told_in_turn, told_together};
-ghost use Rattle.bptree_arguments.specs.Groups.{AreEnds, IsGroupSummary, IsNonDescending, AreAlike, IsGreatestGroup, different, group, group_size};
-ghost use Rattle.std.specs.List.{AllZip};
-ghost use Rattle.std.specs.List.Sorted.{IsStrictlySortedBy};
+ghost use Rattle.bptree_arguments.specs.GroupSums.{greatest_of, has_no_group, number_of_groups, shared, summary_of, told_by, told_by_ends, AreToldInTurn, summary_of_all};
+ghost use Rattle.bptree_arguments.specs.Groups.{IsGroupSummary, AreAlike, different, group, AlikeSumUpSame, EndsOfBoth, GroupOfBoth, SizeCountsKeys, SumsUpEnds, SumsUpGroups, TakesNext, TellsDifferent, TellsEnds, TellsGreatest, TellsIfNone};
 ghost use Rattle.std.specs.Option.{option_map};
 ghost use Rattle.bptree_arguments.specs.declared.group.GroupCount.TheVariants.{Zero};
-ghost use Rattle.bptree_keys.specs.Pieces.{ArePieces, flatten};
+ghost use Rattle.bptree_arguments.specs.Sums.{SumsUpKeys, SumsUpPieces};
 
 mod rank;
 mod search;
@@ -46,9 +44,9 @@ impl<T1: Key, T2: Key> FromRef<(T1, T2)> for Tuple2<T1> {
 /// its keys. The keys of a group of two lists, one after the other, are those of the first and then
 /// those of the second. A clone of a summary is a summary of the same groups.
 pub fn laws_of_groups<K: Key, G: FromRef<K> + Key>()
-    ensures size { (g : G) → (keys : List K) → group_size G.cmp g (map G.group_of keys) ≡ length (group G.cmp G.group_of g keys) }
-    ensures append { (g : G) → (front back : List K) → group G.cmp G.group_of g (front ++ back) ≡ group G.cmp G.group_of g front ++ group G.cmp G.group_of g back }
-    ensures clones { (a b : GroupCount G) → (groups : List G) → AreAlike G.cmp a b → IsGroupSummary G.cmp a groups → IsGroupSummary G.cmp b groups }
+    ensures size { SizeCountsKeys G.cmp G.group_of }
+    ensures append { GroupOfBoth G.cmp G.group_of }
+    ensures clones { AlikeSumUpSame G.cmp }
 {}
 
 /// The groups of a list of keys: none, one with its size, or the least and the greatest with their
@@ -101,7 +99,7 @@ impl<G: Key> Clone for GroupCount<G> {
 impl<G: Key> GroupCount<G> {
     /// The greatest group, with its size, in constant time.
     pub fn max_group(&self) -> Option<(&G, usize)>
-        ensures greatest { (groups : List G) → IsGroupSummary G.cmp self.now groups → IsGreatestGroup G.cmp groups (option_map (λ r. (r.0.now, r.1)) result) }
+        ensures greatest { TellsGreatest G.cmp self.now (option_map (λ r. (r.0.now, r.1)) result) }
         ensures exact { option_map (λ r. (r.0.now, r.1)) result ≡ greatest_of self.now }
     {
         match self {
@@ -113,7 +111,7 @@ impl<G: Key> GroupCount<G> {
 
     /// Whether there is no group, in constant time.
     pub fn is_zero(&self) -> bool
-        ensures none { (groups : List G) → IsGroupSummary G.cmp self.now groups → IsTrue result ↔ (groups ≡ []) }
+        ensures none { TellsIfNone G.cmp self.now result }
         ensures exact { result ≡ has_no_group self.now }
     {
         match self {
@@ -124,7 +122,7 @@ impl<G: Key> GroupCount<G> {
 
     /// The number of different groups, in constant time.
     pub fn group_count(&self) -> usize
-        ensures different { (groups : List G) → IsGroupSummary G.cmp self.now groups → result ≡ different G.cmp groups }
+        ensures different { TellsDifferent G.cmp self.now result }
         ensures exact { result ≡ number_of_groups self.now }
     {
         match self {
@@ -136,7 +134,7 @@ impl<G: Key> GroupCount<G> {
 
     /// The summary after one more group, which is not below the others.
     fn with_next(self, next: G) -> GroupCount<G>
-        ensures { (groups : List G) (x : G) → G.cmp next x ≡ Ordering.Equal → IsGroupSummary G.cmp self groups → IsNonDescending G.cmp (groups ++ x ∷ []) → length (groups ++ x ∷ []) < 2 ^ 64 → IsGroupSummary G.cmp result (groups ++ x ∷ []) }
+        ensures { TakesNext G.cmp self next result }
     {
         match self {
             GroupCount::Zero => GroupCount::One(next, 1),
@@ -172,7 +170,7 @@ impl<G: Key> GroupCount<G> {
 
     /// The least and the greatest group, where there is one.
     pub(crate) fn ends(&self) -> Option<Ends<'_, G>>
-        ensures ends { (groups : List G) → IsGroupSummary G.cmp self.now groups → MatchOption result (groups ≡ []) (λ ends. AreEnds G.cmp groups ends) }
+        ensures ends { TellsEnds G.cmp self.now result }
         ensures told { option_map (λ ends. told_by_ends ends) result ≡ told_by self.now }
     {
         match self {
@@ -225,8 +223,8 @@ fn with_share(size: usize, group_count: usize, share: usize) -> usize
 impl<'a, G: Key> Ends<'a, G> {
     /// The ends of two lists, one after the other.
     fn followed_by(self, next: Ends<'a, G>) -> Ends<'a, G>
-        ensures ends { (xs ys : List G) → AreEnds G.cmp xs self.entry → AreEnds G.cmp ys next.entry → IsNonDescending G.cmp (xs ++ ys) → length (xs ++ ys) < 2 ^ 64 → AreEnds G.cmp (xs ++ ys) result }
-        ensures told { told_by_ends result ≡ told_in_turn G.cmp (told_by_ends self.entry) (told_by_ends next.entry) }
+        ensures ends { EndsOfBoth G.cmp self.entry next.entry result }
+        ensures told { AreToldInTurn G.cmp self.entry next.entry result }
     {
         let total = self.group_count.saturating_add(next.group_count);
         match self.greatest.cmp(next.least) {
@@ -249,8 +247,8 @@ impl<'a, G: Key> Ends<'a, G> {
 
     /// A summary of its own, with clones of the groups.
     fn to_summary(self) -> Result<GroupCount<G>, AllocError>
-        ensures summary { IfOk result (λ summary. (groups : List G) → AreEnds G.cmp groups self.entry → IsGroupSummary G.cmp summary groups) }
-        ensures told { IfOk result (λ summary. AreAlike G.cmp (summary_of (Some (told_by_ends self.entry))) summary) }
+        ensures summary { IfOk result (SumsUpEnds G.cmp self.entry) }
+        ensures told { IfOk result (AreAlike G.cmp (summary_of (Some (told_by_ends self.entry)))) }
     {
         let least = self.least.clone()?;
         if self.group_count == 1 {
@@ -272,7 +270,7 @@ impl<K: Key, G: FromRef<K> + Key> Argument<K> for GroupCount<G> {
     /// Where the first and the last key have equal groups, these two groups alone are made of keys.
     /// Else one is made of each key, and none is cloned.
     fn from_leaf(keys: &[K]) -> Result<Self, AllocError>
-        ensures summary { IfOk result (λ a. 0 < length keys.now → IsStrictlySortedBy K.cmp keys.now → IsGroupSummary G.cmp a (map G.group_of keys.now)) }
+        ensures summary { IfOk result (SumsUpKeys (SumsUpGroups G.cmp G.group_of) K.cmp keys.now) }
         ensures empty { keys.now ≡ [] → result ≡ Ok Zero }
     {
         if keys.is_empty() {
@@ -293,9 +291,9 @@ impl<K: Key, G: FromRef<K> + Key> Argument<K> for GroupCount<G> {
     /// One comparison a child, and at most two clones of groups. Each sum of sizes and of groups
     /// stops at the greatest `usize`, which no list of keys is longer than.
     fn from_inner(_keys: &[K], arguments: &[Self]) -> Result<Self, AllocError>
-        ensures summary { IfOk result (λ a. (pieces : List (List K)) → ArePieces K.cmp pieces → AllZip (λ b keys. IsGroupSummary G.cmp b (map G.group_of keys)) arguments.now pieces → IsGroupSummary G.cmp a (map G.group_of (flatten pieces))) }
+        ensures summary { IfOk result (SumsUpPieces (SumsUpGroups G.cmp G.group_of) K.cmp arguments.now) }
         ensures empty { arguments.now ≡ [] → result ≡ Ok Zero }
-        ensures told { IfOk result (λ a. AreAlike G.cmp (summary_of (told_together G.cmp arguments.now)) a) }
+        ensures told { IfOk result (AreAlike G.cmp (summary_of_all G.cmp arguments.now)) }
     {
         let mut whole: Option<Ends<'_, G>> = None;
         for argument in arguments {

@@ -1,7 +1,6 @@
 //! Where a group begins and where it ends among keys.
-ghost use Rattle.std.specs.Prelude.{◌≡◌, ◌≤◌, length, map, IfOk};
-ghost use Rattle.std.specs.List.Sorted.{IsStrictlySortedBy};
-ghost use Rattle.bptree_arguments.specs.GroupAnswers.{IsBorderOf, is_before};
+ghost use Rattle.std.specs.Prelude.{◌≡◌, ◌≤◌, length, IfOk};
+ghost use Rattle.bptree_arguments.specs.GroupAnswers.{is_before, IsGroupBorder};
 
 use crate::group::FromRef;
 use bptree_keys::key::Key;
@@ -27,7 +26,7 @@ pub fn keys_before<K: Key, G: FromRef<K> + Key>(
     end: bool,
 ) -> Result<usize, AllocError>
     ensures in_range { IfOk result (λ n. n ≤ length keys.now) }
-    ensures border { IfOk result (λ n. IsStrictlySortedBy K.cmp keys.now → IsBorderOf G.cmp group.now end (map G.group_of keys.now) n) }
+    ensures border { IfOk result (IsGroupBorder K.cmp G.cmp G.group_of group.now end keys.now) }
 {
     let mut low = 0;
     let mut high = keys.len();

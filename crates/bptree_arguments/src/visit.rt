@@ -1,10 +1,6 @@
 //! Visitors, which go down one path of a tree and take an answer from its summaries.
-ghost use Rattle.std.specs.Prelude.{◌≡◌, ◌+◌, ◌≤◌, List, length, IfOk};
-ghost use Rattle.std.specs.List.{AllZip};
-ghost use Rattle.std.specs.List.Sorted.{IsStrictlySortedBy};
-ghost use Rattle.std.specs.Map.{keys_of, values_of};
-ghost use Rattle.bptree_arguments.specs.Visits.{VisitAnswer, answered, IsStep, key_pieces};
-ghost use Rattle.bptree_keys.specs.Pieces.{ArePieces};
+ghost use Rattle.std.specs.Prelude.{◌≡◌, ◌≤◌, List, length, IfOk};
+ghost use Rattle.bptree_arguments.specs.Visits.{VisitAnswer, AnswersLeaf, StepsOver};
 
 use crate::argument::Argument;
 use bptree_keys::key::Key;
@@ -45,12 +41,12 @@ pub trait DescendVisit<K: Key, V, A: Argument<K>>: Drop {
         keys: &[K],
         arguments: &[A],
     ) -> Result<DescendVisitResult<Self::Result>, AllocError>
-        ensures step { IfOk result (λ step. (pieces : List (List (K × V))) → ArePieces K.cmp (key_pieces pieces) → AllZip A.is_summary arguments.now (key_pieces pieces) → length pieces ≡ length keys.now + 1 → IsStep answers self.old self.new pieces step) };
+        ensures step { IfOk result (StepsOver K.cmp answers A.is_summary keys.now arguments.now self.old self.new) };
 
     /// Sees the pairs of a leaf, whose keys ascend, and answers. It fails only where memory is
     /// refused.
     fn visit_leaf(&mut self, keys: &[K], values: &[V]) -> Result<Option<Self::Result>, AllocError>
         requires few { length keys.now ≤ 64 }
         requires paired { length keys.now ≡ length values.now }
-        ensures answer { IfOk result (λ answer. (pairs : List (K × V)) → keys_of pairs ≡ keys.now → values_of pairs ≡ values.now → IsStrictlySortedBy K.cmp keys.now → answers self.old pairs (answered answer)) };
+        ensures answer { IfOk result (AnswersLeaf K.cmp answers self.old keys.now values.now) };
 }

@@ -1,5 +1,5 @@
 -- What a change of nodes does to the slots of a store.
-use Rattle.std.specs.Prelude.{◌≡◌, ℕ, suc, ◌+◌, ◌≤◌, ◌<◌, List, [], ◌∷◌, ◌++◌, length, slice_set, Option, Some, None}
+use Rattle.std.specs.Prelude.{◌≡◌, ℕ, suc, ◌+◌, ◌≤◌, ◌<◌, List, [], ◌∷◌, ◌++◌, length, slice_get, slice_set, Option, Some, None}
 use Rattle.std.specs.declared.cmp.Ordering.{Ordering}
 use Rattle.std.specs.declared.cmp.Ordering.TheVariants.{Equal}
 use Rattle.std.specs.List.{insert}
@@ -10,6 +10,7 @@ use Rattle.bptree_keys.specs.declared.node_id.InnerNodeId.{InnerNodeId}
 use Rattle.bptree_keys.specs.declared.node_id.LeafNodeId.{LeafNodeId}
 use Rattle.bptree_keys.specs.declared.node_id.NodeId.{NodeId}
 use Rattle.bptree_ascent.specs.Sums.{with_summary}
+use Rattle.bptree_ascent.specs.declared.node_changes.Division.{Division}
 
 -- pairs whose first key is a separator
 abbrev pub StartsAt : {K V : Type 0} → (K → K → Ordering) → K → List (K × V) → Type 0
@@ -21,6 +22,10 @@ module _ {K V A : Type 0} (old new : Slots (Inner K A) (Leaf K V)) where
   pub record Keeps (id : InnerNodeId) (place : ℕ) (a : A) (was : Inner K A) : Type 0 where
     pub sets : Updates old.inner new.inner id.0 (Present (with_summary was place a))
     pub leaf : new.leaf ≡ old.leaf
+
+  -- that node is the one that stood there, which had another summary of the child before
+  abbrev pub TakesSummary : InnerNodeId → ℕ → A → A → Type 0
+  TakesSummary id place a before = (was : Inner K A) → old.inner id.0 ≡ Present was → Keeps id place a was × (slice_get was.arguments place ≡ Some before)
 
   -- a child was split: its new summary, a separator and the child behind it go into a node that has room
   pub record Links (id : InnerNodeId) (place : ℕ) (l : A) (separator : K) (child : NodeId) (r : A) (was : Inner K A) : Type 0 where
@@ -56,6 +61,10 @@ module _ {K V A : Type 0} (old new : Slots (Inner K A) (Leaf K V)) where
     pub absent : IsPresent (old.inner id.0) → ⊥
     pub sets : Updates old.inner new.inner id.0 (Present (record { keys = separator ∷ []; children = left ∷ right ∷ []; arguments = l ∷ r ∷ [] }))
     pub leaf : new.leaf ≡ old.leaf
+
+  -- the root and the node that was split off it, with their summaries, as a division has them
+  abbrev pub GrowsRoot : NodeId → Division K A → InnerNodeId × A → Type 0
+  GrowsRoot root division done = Roots done.0 root division.left division.separator division.node division.right
 
   -- the pairs of a full leaf, with one more, are shared between it and a new leaf behind it
   pub record SplitsLeaf (leaf fresh : LeafNodeId) (was : Leaf K V) (now left right : List (K × V)) : Type 0 where

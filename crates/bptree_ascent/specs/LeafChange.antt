@@ -11,6 +11,7 @@ use Rattle.bptree_keys.specs.declared.node_id.LeafNodeId.{LeafNodeId}
 use Rattle.bptree_keys.specs.declared.node_id.NodeId.TheVariants as kind
 use Rattle.bptree_ascent.specs.Change.{StartsAt}
 use Rattle.bptree_ascent.specs.declared.node_changes.Division.{Division}
+use Rattle.bptree_shape.specs.Shape.{leaf_pairs}
 
 module _ {K V : Type 0} where
   -- a place in the leaf, or at its end
@@ -30,6 +31,10 @@ module _ {K V : Type 0} where
 -- the value is a summary of the keys, where there are some and they ascend
 abbrev pub SumsUpLeaf : {K V A : Type 0} → (K → K → Ordering) → (A → List K → Type 0) → List (K × V) → A → Type 0
 SumsUpLeaf cmp is_summary pairs a = 0 < length pairs → IsAscending cmp pairs → is_summary a (keys_of pairs)
+
+-- the same of the leaf under a number
+abbrev pub SumsUpLeafAt : {K V A : Type 0} → (K → K → Ordering) → (A → List K → Type 0) → Slots (Inner K A) (Leaf K V) → LeafNodeId → A → Type 0
+SumsUpLeafAt cmp is_summary slots id a = SumsUpLeaf cmp is_summary (leaf_pairs (slots.leaf id.0)) a
 
 module _ {K V A : Type 0} (cmp : K → K → Ordering) (old new : Slots (Inner K A) (Leaf K V)) (id : LeafNodeId) (slot : ℕ) (pair : K × V) (was : Leaf K V) where
   -- a full leaf with a pair at a slot was split between it and a new leaf behind it

@@ -4,3 +4,4 @@ pub mod LeafChange
 pub mod Lending
 pub mod NodeTree
 pub mod Sums
+pub mod Undoing

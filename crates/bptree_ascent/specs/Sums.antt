@@ -1,5 +1,5 @@
 -- Summaries of the keys below a node, and the changes of a node that takes new ones.
-use Rattle.std.specs.Prelude.{◌≡◌, ℕ, ◌+◌, ◌<◌, ◌≤◌, ◌++◌, ◌∷◌, ◌⊎◌, [], List, Some, length, slice_get, slice_set}
+use Rattle.std.specs.Prelude.{◌≡◌, ℕ, ◌+◌, ◌<◌, ◌≤◌, ◌++◌, ◌∷◌, ◌⊎◌, [], List, Some, Result, IfOk, length, slice_get, slice_set}
 use Rattle.std.specs.declared.cmp.Ordering.{Ordering}
 use Rattle.std.specs.List.{AllZip}
 use Rattle.bptree_nodes.specs.Inner.{Inner, HasKeys, with_entry}
@@ -11,6 +11,8 @@ use Rattle.bptree_keys.specs.declared.node_id.InnerNodeId.{InnerNodeId}
 use Rattle.bptree_keys.specs.declared.node_id.NodeId.{NodeId}
 use Rattle.bptree_shape.specs.Shape.{inner_arguments}
 use Rattle.bptree_ascent.specs.declared.node_changes.Division.{Division}
+use Rattle.bptree_ascent.specs.declared.node_changes.Resummed.{Resummed}
+use Rattle.bptree_ascent.specs.declared.node_changes.SplitNode.{SplitNode}
 
 module _ {K A : Type 0} where
   -- the value is a summary of all keys below the node, where the node's are summaries of its children's
@@ -24,6 +26,10 @@ module _ {K A : Type 0} where
   -- with another summary of a child that was split, and the child to its right behind a separator
   abbrev pub with_split : Inner K A → ℕ → A → K → NodeId → A → Inner K A
   with_split node place left separator right a = with_entry (with_summary node place left) place separator right a
+
+  -- the same of a division: what the child became, and the new one
+  abbrev pub with_division : Inner K A → ℕ → Division K A → Inner K A
+  with_division node place division = with_split node place division.left division.separator division.node division.right
 
   -- at most 64 keys, with one child and one summary more, and the place of a child
   pub record HasPlace (node : Inner K A) (place : ℕ) : Type 0 where
@@ -103,3 +109,30 @@ module _ {K V A : Type 0} (slots : Slots (Inner K A) (Leaf K V)) where
   -- a node's summary after one child's was replaced: asked for anew, or told by what was replaced
   abbrev pub SumsUpChanged : (K → K → Ordering) → (A → List K → Type 0) → List (InnerNodeId × ℕ × NodeId) → InnerNodeId → ℕ → A → A → Type 0
   SumsUpChanged cmp is_summary path id place old a = SumsUpAt cmp is_summary (slots.inner id.0) a ⊎ ReplacesSum cmp is_summary path id place old a
+
+module _ {K V A : Type 0} (old new : Slots (Inner K A) (Leaf K V)) (id : InnerNodeId) (place : ℕ) (division : Division K A) where
+  -- where a call was not refused, the node that stood under the number took a division, or was split by it
+  abbrev pub LinksChild : {E : Type 0} → Result (Resummed A) E → Type 0
+  LinksChild done = (was : Inner K A) → old.inner id.0 ≡ Present was → IfOk done (λ sums. IsLinked old new id place division was sums.old)
+
+  abbrev pub SplitsNode : {E : Type 0} → Result (SplitNode K A InnerNodeId) E → Type 0
+  SplitsNode done = (was : Inner K A) → old.inner id.0 ≡ Present was → IfOk done (λ parts. IsSplit old new id place division was parts.up parts.node parts.old)
+
+module _ {K V A : Type 0} (cmp : K → K → Ordering) (is_summary : A → List K → Type 0) (slots : Slots (Inner K A) (Leaf K V)) where
+  -- the summary that is answered sums up the node under a number: the first of two answers, that of a node with another child's
+  -- summary, and those of both halves of a node that was split
+  abbrev pub SumsUpFirst : {X : Type 0} → InnerNodeId → A × X → Type 0
+  SumsUpFirst id done = SumsUpAt cmp is_summary (slots.inner id.0) done.0
+
+  abbrev pub SumsUpAbove : InnerNodeId → Resummed A → Type 0
+  SumsUpAbove id sums = SumsUpAt cmp is_summary (slots.inner id.0) sums.above
+
+  abbrev pub SumsUpLeft : InnerNodeId → SplitNode K A InnerNodeId → Type 0
+  SumsUpLeft id parts = SumsUpAt cmp is_summary (slots.inner id.0) parts.left
+
+  abbrev pub SumsUpRight : SplitNode K A InnerNodeId → Type 0
+  SumsUpRight parts = SumsUpAt cmp is_summary (slots.inner parts.node.0) parts.right
+
+  -- and that of a new root
+  abbrev pub SumsUpRoot : InnerNodeId × A → Type 0
+  SumsUpRoot root = SumsUpAt cmp is_summary (slots.inner root.0.0) root.1

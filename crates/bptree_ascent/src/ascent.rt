@@ -1,16 +1,16 @@
 //! A changed child's summary, or the node that it was split into, carried up a path to the root.
 //! What can't be had on the way is refused, and then every node of the path is again what it was.
-ghost use Rattle.std.specs.Prelude.{◌≡◌, ◌+◌, ◌<◌, ◌≤◌, List, ◌∷◌, [], length, slice_get, Some, IfOk, IfErr, IfSome, OnErr};
-ghost use Rattle.bptree_nodes.specs.Inner.{Inner, HasKeys};
-ghost use Rattle.bptree_nodes.specs.Leaf.{Leaf};
-ghost use Rattle.bptree_nodes.specs.Slot.{Slots, Free, Present, IsPresent};
+ghost use Rattle.std.specs.Prelude.{◌≡◌, ◌+◌, ◌<◌, ◌≤◌, List, ◌∷◌, [], length, IfOk, IfErr, IfSome, OnErr};
+ghost use Rattle.bptree_nodes.specs.Inner.{HasKeys};
+ghost use Rattle.bptree_nodes.specs.Slot.{Free, IsPresent};
 ghost use Rattle.bptree_keys.specs.declared.node_id.NodeId.{NodeId};
 ghost use Rattle.bptree_keys.specs.declared.node_id.NodeId.TheVariants as kind;
-ghost use Rattle.bptree_ascent.specs.Change.{Keeps, Links, Splits, Roots};
+ghost use Rattle.bptree_ascent.specs.Change.{Links, Splits, GrowsRoot, TakesSummary};
 ghost use Rattle.bptree_ascent.specs.Climb.{Climbs, ClimbsTwo, Risen, Reaches};
-ghost use Rattle.bptree_ascent.specs.Sums.{SumsUp, HasPlace, SumsUpAt, PlaceAt, HasKeysAt, IsLinked, IsSplit};
+ghost use Rattle.bptree_ascent.specs.Sums.{SumsUp, PlaceAt, HasKeysAt, LinksChild, SplitsNode, SumsUpAbove, SumsUpLeft, SumsUpRight, SumsUpRoot};
 ghost use Rattle.bptree_ascent.specs.Sums.{HasPlaceAbove, IsKeptAbove, SumsUpChanged};
 ghost use Rattle.bptree_shape.specs.Shape.{inner_keys, inner_arguments};
+ghost use Rattle.bptree_ascent.specs.Undoing.{UndoesLink, UndoesSplitInner, UndoesSummary};
 
 use crate::node_changes::{
     Division, Resummed, SplitNode, give_entry, take_and_split, take_entry, undo_take_and_split,
@@ -31,7 +31,7 @@ fn set_at<S: NodeStore>(
 ) -> S::Argument
     requires present { IsPresent ((S.slots store.old).inner id.0) }
     requires place { place < length (inner_arguments ((S.slots store.old).inner id.0)) }
-    ensures keeps { (was : Inner S.K S.Argument) → (S.slots store.old).inner id.0 ≡ Present was → Keeps (S.slots store.old) (S.slots store.new) id place summary was × (slice_get was.arguments place ≡ Some result) }
+    ensures keeps { TakesSummary (S.slots store.old) (S.slots store.new) id place summary result }
 {
     store.get_mut_inner(id).set_argument(place, summary)
 }
@@ -84,7 +84,7 @@ fn restore_at<S: NodeStore>(
 ) -> S::Argument
     requires present { IsPresent ((S.slots store.old).inner id.0) }
     requires place { place < length (inner_arguments ((S.slots store.old).inner id.0)) }
-    ensures undoes { (was : Slots (Inner S.K S.Argument) (Leaf S.K S.V)) (node : Inner S.K S.Argument) (summary : S.Argument) → was.inner id.0 ≡ Present node → slice_get node.arguments place ≡ Some old → Keeps was (S.slots store.old) id place summary node → (S.slots store.new ≡ was) × (result ≡ summary) }
+    ensures undoes { UndoesSummary (S.slots store.old) (S.slots store.new) id place old result }
 {
     let mut node = store.take_inner(id);
     let summary = node.set_argument(place, old);
@@ -131,8 +131,8 @@ fn link_at<S: NodeStore>(
 ) -> Result<Resummed<S::Argument>, Division<S::K, S::Argument>>
     requires place { PlaceAt ((S.slots store.old).inner id.0) place }
     requires room { length (inner_keys ((S.slots store.old).inner id.0)) < 64 }
-    ensures links { (was : Inner S.K S.Argument) → (S.slots store.old).inner id.0 ≡ Present was → IfOk result (λ sums. IsLinked (S.slots store.old) (S.slots store.new) id place division was sums.old) }
-    ensures sums { IfOk result (λ sums. SumsUpAt S.K.cmp S.Argument.is_summary ((S.slots store.new).inner id.0) sums.above) }
+    ensures links { LinksChild (S.slots store.old) (S.slots store.new) id place division result }
+    ensures sums { IfOk result (SumsUpAbove S.K.cmp S.Argument.is_summary (S.slots store.new) id) }
     ensures refused { OnErr result (S.slots store.new ≡ S.slots store.old) }
     ensures handed_back { IfErr result (λ back. back ≡ division) }
 {
@@ -150,7 +150,7 @@ fn unlink_at<S: NodeStore>(
     old: S::Argument,
 ) -> Division<S::K, S::Argument>
     requires place { PlaceAt ((S.slots store.old).inner id.0) (place + 1) }
-    ensures undoes { (was : Slots (Inner S.K S.Argument) (Leaf S.K S.V)) (node : Inner S.K S.Argument) (division : Division S.K S.Argument) → was.inner id.0 ≡ Present node → HasPlace node place → IsLinked was (S.slots store.old) id place division node old → (S.slots store.new ≡ was) × (result ≡ division) }
+    ensures undoes { UndoesLink (S.slots store.old) (S.slots store.new) id place old result }
 {
     let mut node = store.take_inner(id);
     let division = give_entry(&mut node, place, old);
@@ -168,9 +168,9 @@ fn split_inner_at<S: NodeStore>(
 ) -> Result<SplitNode<S::K, S::Argument, InnerNodeId>, Division<S::K, S::Argument>>
     requires place { PlaceAt ((S.slots store.old).inner id.0) place }
     requires full { length (inner_keys ((S.slots store.old).inner id.0)) ≡ 64 }
-    ensures splits { (was : Inner S.K S.Argument) → (S.slots store.old).inner id.0 ≡ Present was → IfOk result (λ done. IsSplit (S.slots store.old) (S.slots store.new) id place division was done.up done.node done.old) }
-    ensures left { IfOk result (λ done. SumsUpAt S.K.cmp S.Argument.is_summary ((S.slots store.new).inner id.0) done.left) }
-    ensures right { IfOk result (λ done. SumsUpAt S.K.cmp S.Argument.is_summary ((S.slots store.new).inner done.node.0) done.right) }
+    ensures splits { SplitsNode (S.slots store.old) (S.slots store.new) id place division result }
+    ensures left { IfOk result (SumsUpLeft S.K.cmp S.Argument.is_summary (S.slots store.new) id) }
+    ensures right { IfOk result (SumsUpRight S.K.cmp S.Argument.is_summary (S.slots store.new)) }
     ensures refused { OnErr result (S.slots store.new ≡ S.slots store.old) }
     ensures handed_back { IfErr result (λ back. back ≡ division) }
 {
@@ -221,7 +221,7 @@ fn undo_split_inner_at<S: NodeStore>(
     requires right { HasKeysAt 32 ((S.slots store.old).inner fresh.0) }
     requires apart { id.0 ≡ fresh.0 → ⊥ }
     requires place { place ≤ 64 }
-    ensures undoes { (was : Slots (Inner S.K S.Argument) (Leaf S.K S.V)) (node : Inner S.K S.Argument) (division : Division S.K S.Argument) → was.inner id.0 ≡ Present node → HasPlace node place → length node.keys ≡ 64 → IsSplit was (S.slots store.old) id place division node up fresh old → (S.slots store.new ≡ was) × (result ≡ division) }
+    ensures undoes { UndoesSplitInner (S.slots store.old) (S.slots store.new) id place up fresh old result }
 {
     let mut node = store.take_inner(id);
     let half = store.take_inner(fresh);
@@ -237,9 +237,9 @@ fn grow_root<S: NodeStore>(
     root: NodeId,
     division: Division<S::K, S::Argument>,
 ) -> Result<(InnerNodeId, S::Argument), Division<S::K, S::Argument>>
-    ensures roots { IfOk result (λ done. Roots (S.slots store.old) (S.slots store.new) done.0 root division.left division.separator division.node division.right) }
+    ensures roots { IfOk result (GrowsRoot (S.slots store.old) (S.slots store.new) root division) }
     ensures free { IfOk result (λ done. (S.slots store.old).inner done.0.0 ≡ Free) }
-    ensures sums { IfOk result (λ done. SumsUpAt S.K.cmp S.Argument.is_summary ((S.slots store.new).inner done.0.0) done.1) }
+    ensures sums { IfOk result (SumsUpRoot S.K.cmp S.Argument.is_summary (S.slots store.new)) }
     ensures refused { OnErr result (S.slots store.new ≡ S.slots store.old) }
     ensures handed_back { IfErr result (λ back. back ≡ division) }
 {

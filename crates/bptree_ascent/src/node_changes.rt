@@ -1,8 +1,9 @@
 //! An inner node that takes new summaries of its children, and is asked for its own. Each change
 //! can be undone.
 ghost use Rattle.std.specs.Prelude.{◌≡◌, ◌<◌, ◌≤◌, ◌+◌, List, [], length, slice_get, Some, IfOk, IfErr, OnErr};
-ghost use Rattle.bptree_nodes.specs.Inner.{Inner, HasKeys};
-ghost use Rattle.bptree_ascent.specs.Sums.{SumsUp, with_summary, with_split, HasPlace, IsCut};
+ghost use Rattle.bptree_nodes.specs.Inner.{HasKeys};
+ghost use Rattle.bptree_ascent.specs.Sums.{SumsUp, with_summary, HasPlace, IsCut, with_division};
+ghost use Rattle.bptree_ascent.specs.Undoing.{UndoesCut, UndoesDivision};
 
 use bptree_arguments::argument::Argument;
 use bptree_keys::key::Key;
@@ -68,7 +69,7 @@ pub fn take_entry<K: Key, A: Argument<K>>(
 ) -> Result<Resummed<A>, Division<K, A>>
     requires place { HasPlace node.old place }
     requires room { length node.old.keys < 64 }
-    ensures after { IfOk result (λ sums. node.new ≡ with_split node.old place division.left division.separator division.node division.right) }
+    ensures after { IfOk result (λ sums. node.new ≡ with_division node.old place division) }
     ensures old { IfOk result (λ sums. slice_get node.old.arguments place ≡ Some sums.old) }
     ensures sums { IfOk result (λ sums. SumsUp K.cmp A.is_summary node.new sums.above) }
     ensures refused { OnErr result (node.new ≡ node.old) }
@@ -97,7 +98,7 @@ pub fn give_entry<K: Key, A: Argument<K>>(
     requires place { place < length node.old.keys }
     requires children { length node.old.children ≡ length node.old.keys + 1 }
     requires arguments { length node.old.arguments ≡ length node.old.children }
-    ensures undoes { (was : Inner K A) (division : Division K A) → HasPlace was place → slice_get was.arguments place ≡ Some old → node.old ≡ with_split was place division.left division.separator division.node division.right → (node.new ≡ was) × (result ≡ division) }
+    ensures undoes { UndoesDivision place old node.old node.new result }
 {
     let (separator, child, right) = node.remove_at(place);
     let left = node.set_argument(place, old);
@@ -120,7 +121,7 @@ pub fn take_and_split<K: Key, A: Argument<K>>(
     requires place { HasPlace node.old place }
     requires full { length node.old.keys ≡ 64 }
     requires shell { room.value.children ≡ [] }
-    ensures after { IfOk result (λ parts. IsCut (with_split node.old place division.left division.separator division.node division.right) node.new parts.up parts.node.value) }
+    ensures after { IfOk result (λ parts. IsCut (with_division node.old place division) node.new parts.up parts.node.value) }
     ensures old { IfOk result (λ parts. slice_get node.old.arguments place ≡ Some parts.old) }
     ensures left { IfOk result (λ parts. SumsUp K.cmp A.is_summary node.new parts.left) }
     ensures right { IfOk result (λ parts. SumsUp K.cmp A.is_summary parts.node.value parts.right) }
@@ -161,7 +162,7 @@ pub fn undo_take_and_split<K: Key, A: Argument<K>>(
     requires left { HasKeys 32 node.old }
     requires right { HasKeys 32 half.value }
     requires place { place ≤ 64 }
-    ensures undoes { (was : Inner K A) (division : Division K A) → HasPlace was place → length was.keys ≡ 64 → slice_get was.arguments place ≡ Some old → IsCut (with_split was place division.left division.separator division.node division.right) node.old up half.value → (node.new ≡ was) × (result ≡ division) }
+    ensures undoes { UndoesCut place old node.old up half.value node.new result }
 {
     let (separator, child, right) = node.undo_split(place, up, half);
     let left = node.set_argument(place, old);

@@ -1,4 +1,5 @@
 pub mod Contents
+pub mod ContentsLaws
 pub mod Keys
 pub mod Locate
 pub mod Neighbours

@@ -1,9 +1,8 @@
 //! Comparisons of keys, counted.
-ghost use Rattle.std.specs.Prelude.{◌≡◌, ◌+◌, ◌≤◌, min, length, count_by, IfOk};
-ghost use Rattle.std.specs.Ordering.{is_le};
+ghost use Rattle.std.specs.Prelude.{◌≡◌, ◌+◌, ◌≤◌, min, length, IfOk};
 ghost use Rattle.std.specs.List.{HoldsAt};
 ghost use Rattle.std.specs.List.Sorted.{IsBinarySearchResult, IsSearchInRange, IsStrictlySortedBy};
-ghost use Rattle.bptree_keys.specs.Locate.{locate};
+ghost use Rattle.bptree_keys.specs.Locate.{locate, CountsUpTo};
 
 use std::cmp::Ordering;
 use std::marker::Model;
@@ -137,7 +136,7 @@ pub fn locate_counted<K: Ord>(keys: &[K], key: &K, compares: &mut Compares) -> R
 pub fn count_upto_counted<K: Ord>(keys: &[K], key: &K, compares: &mut Compares) -> usize
     requires { length keys.now ≤ 64 }
     ensures in_range { result ≤ length keys.now }
-    ensures ascending { IsStrictlySortedBy K.cmp keys.now → result ≡ count_by (λ y. is_le (K.cmp y key.now)) keys.now }
+    ensures ascending { CountsUpTo K.cmp key.now keys.now result }
     ensures counts_on { compares.old ≤ compares.new }
     ensures count { compares.new ≤ compares.old + 7 }
 {

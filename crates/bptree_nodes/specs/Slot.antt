@@ -1,5 +1,8 @@
 -- What stands under the numbers of a store.
-use Rattle.std.specs.Prelude.{◌≡◌, ◌≢◌, ℕ}
+use Rattle.std.specs.Prelude.{◌≡◌, ◌≢◌, ℕ, Option, MatchOption}
+use Rattle.std.specs.Borrow.{Bor}
+use Rattle.bptree_keys.specs.declared.node_id.InnerNodeId.{InnerNodeId}
+use Rattle.bptree_keys.specs.declared.node_id.LeafNodeId.{LeafNodeId}
 
 -- under a number stands nothing, a reservation, or a node
 pub data Slot (N : Type 0) : Type 0 where
@@ -18,6 +21,10 @@ module _ {N : Type 0} where
   pub record Updates (old new : ℕ → Slot N) (number : ℕ) (slot : Slot N) : Type 0 where
     pub changed : new number ≡ slot
     pub others : (other : ℕ) → other ≢ number → new other ≡ old other
+
+-- the node that stands there is lent, or none where none does
+abbrev pub LendsPresent : {N : Type 0} → Slot N → Option (Bor N) → Type 0
+LendsPresent slot lent = MatchOption lent (¬ (IsPresent slot)) (λ node. slot ≡ Present node.now)
 
 -- what stands under the numbers of inner nodes and under those of leaves
 pub record Slots (I L : Type 0) : Type 0 where
@@ -39,3 +46,16 @@ module _ {I L : Type 0} where
   pub record IsEmpty (slots : Slots I L) : Type 0 where
     pub inner : (number : ℕ) → slots.inner number ≡ Free
     pub leaf : (number : ℕ) → slots.leaf number ≡ Free
+
+  -- a number of an inner node, or of a leaf, has this node, or is held, and no other number changed
+  abbrev pub AddsInner : Slots I L → Slots I L → I → InnerNodeId → Type 0
+  AddsInner old new node id = UpdatesInner old new id.0 (Present node)
+
+  abbrev pub AddsLeaf : Slots I L → Slots I L → L → LeafNodeId → Type 0
+  AddsLeaf old new leaf id = UpdatesLeaf old new id.0 (Present leaf)
+
+  abbrev pub HoldsInner : Slots I L → Slots I L → InnerNodeId → Type 0
+  HoldsInner old new id = UpdatesInner old new id.0 Held
+
+  abbrev pub HoldsLeaf : Slots I L → Slots I L → LeafNodeId → Type 0
+  HoldsLeaf old new id = UpdatesLeaf old new id.0 Held

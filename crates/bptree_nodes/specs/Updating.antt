@@ -1,7 +1,8 @@
 -- What a closure leaves of values that it changes in place.
-use Rattle.std.specs.Prelude.{◌≡◌, List, [], ◌∷◌}
+use Rattle.std.specs.Prelude.{◌≡◌, ℕ, List, [], ◌∷◌, ◌++◌, take, drop}
 use Rattle.std.specs.Borrow.{Bor, MutBor}
 use Rattle.std.specs.Fn.{Called, Mut}
+use Rattle.bptree_nodes.specs.Leaf.{Leaf}
 
 module _ {F K V : Type 0} (calls : Mut F (Bor K × (MutBor V × Unit {0})) (Unit {0} × (MutBor V × Unit {0}))) where
   -- a call at the key and the value of a pair leaves the value, and the closure, so
@@ -18,3 +19,12 @@ module _ {F K V : Type 0} (calls : Mut F (Bor K × (MutBor V × Unit {0})) (Unit
   ChangesInTurn f [] after new = (after ≡ f) × (new ≡ [])
   ChangesInTurn f (p ∷ old) after new =
       (g : F) × (q : K × V) × (rest : List (K × V)) × ChangesValue f p g q × ChangesInTurn g old after rest × (new ≡ q ∷ rest)
+
+  -- the pairs from one place up to another were changed so, and all others stayed
+  abbrev pub ChangesBetween : ℕ → ℕ → F → List (K × V) → F → List (K × V) → Type 0
+  ChangesBetween from to f old after new = (changed : List (K × V)) × ChangesInTurn f (drop from (take to old)) after changed × (new ≡ take from old ++ changed ++ drop to old)
+
+  -- the same of the pairs of a leaf, whose links stayed
+  abbrev pub LeafChangesBetween : ℕ → ℕ → F → Leaf K V → F → Leaf K V → Type 0
+  LeafChangesBetween from to f old after new =
+      (changed : List (K × V)) × ChangesInTurn f (drop from (take to old.pairs)) after changed × (new ≡ record old { pairs = take from old.pairs ++ changed ++ drop to old.pairs })

@@ -5,6 +5,7 @@ use Rattle.bptree_nodes.specs.Inner.{Inner}
 use Rattle.bptree_nodes.specs.Leaf.{Leaf}
 use Rattle.bptree_nodes.specs.Slot.{Slots, Present}
 use Rattle.bptree_keys.specs.declared.node_id.InnerNodeId.{InnerNodeId}
+use Rattle.bptree_keys.specs.declared.node_id.LeafNodeId.{LeafNodeId}
 use Rattle.bptree_keys.specs.declared.node_id.NodeId.{NodeId}
 use Rattle.bptree_keys.specs.declared.node_id.NodeId.TheVariants as kind
 use Rattle.bptree_shape.specs.Order.{Leads}
@@ -17,3 +18,7 @@ module _ {K V A : Type 0} (cmp : K → K → Ordering) (slots : Slots (Inner K A
   Way zero root (entry ∷ path) h id = ⊥
   Way (suc m) root ((number, i, child) ∷ path) h id =
       (root ≡ kind.Inner number) × (node : Inner K A) × (slots.inner number.0 ≡ Present node) × Leads cmp k node.keys i × (slice_get node.children i ≡ Some child) × Way m child path h id
+
+  -- wherever the search has come to a node from, it goes on to a leaf, by a longer path
+  abbrev pub GoesOnTo : List (InnerNodeId × ℕ × NodeId) → ℕ → NodeId → List (InnerNodeId × ℕ × NodeId) → LeafNodeId → Type 0
+  GoesOnTo path height id longer leaf = (top : ℕ) (root : NodeId) → Way top root path height id → Way top root longer 0 (kind.Leaf leaf)

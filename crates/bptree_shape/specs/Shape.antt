@@ -1,9 +1,9 @@
 -- A tree that stands in a store: functions of what stands under its numbers, by recursion on its height.
-use Rattle.std.specs.Prelude.{◌≡◌, ℕ, zero, suc, ◌+◌, ◌≤◌, ◌==◌, cond, List, [], ◌∷◌, length, map, Option, Some, None}
+use Rattle.std.specs.Prelude.{◌≡◌, ℕ, zero, suc, ◌+◌, ◌≤◌, ◌==◌, cond, false, List, [], ◌∷◌, length, map, Option, Some, None}
 use Rattle.std.specs.declared.cmp.Ordering.{Ordering}
 use Rattle.std.specs.List.{AllByRecursion, AllZip}
 use Rattle.std.specs.Map.{keys_of}
-use Rattle.bptree_keys.specs.Contents.{IsAscending}
+use Rattle.bptree_keys.specs.Contents.{IsAscending, has, value}
 use Rattle.bptree_nodes.specs.Inner.{Inner}
 use Rattle.bptree_nodes.specs.Leaf.{Leaf}
 use Rattle.bptree_nodes.specs.Slot.{Slot, Slots, Free, Held, Present, IsPresent}
@@ -120,3 +120,11 @@ pub record IsWellShaped {K V A : Type 0} (cmp : K → K → Ordering) (is_summar
   pub no_inner_held : (n : ℕ) → slots.inner n ≡ Held → ⊥
   pub summed : IsSummed slots is_summary height root
   pub linked : AreLinked slots None (leaves_at slots height root) None
+
+-- no key of the tree of a height under a number equals k
+abbrev pub LacksKey : {K V A : Type 0} → (K → K → Ordering) → Slots (Inner K A) (Leaf K V) → ℕ → NodeId → K → Type 0
+LacksKey cmp slots height root k = has cmp (pairs_at slots height root) k ≡ false
+
+-- the value of a key in that tree
+abbrev pub value_in : {K V A : Type 0} → (K → K → Ordering) → Slots (Inner K A) (Leaf K V) → ℕ → NodeId → K → Option V
+value_in cmp slots height root k = value cmp (pairs_at slots height root) k

@@ -1,10 +1,9 @@
 //! Ways down a tree that stands in a store.
-ghost use Rattle.std.specs.Prelude.{◌≡◌, ◌+◌, ◌*◌, ◌≤◌, ℕ, List, ◌∷◌, ◌++◌, [], length};
+ghost use Rattle.std.specs.Prelude.{◌≡◌, ◌+◌, ◌*◌, ◌≤◌, List, ◌∷◌, ◌++◌, [], length};
 ghost use Rattle.bptree_keys.specs.declared.node_id.LeafNodeId.{LeafNodeId};
 ghost use Rattle.bptree_shape.specs.Leaves.{Stands, IsLeafFor, IsFirstLeaf, IsLastLeaf};
-ghost use Rattle.bptree_keys.specs.declared.node_id.NodeId.{NodeId};
 ghost use Rattle.bptree_keys.specs.declared.node_id.NodeId.TheVariants as kind;
-ghost use Rattle.bptree_shape.specs.Path.{Way};
+ghost use Rattle.bptree_shape.specs.Path.{GoesOnTo};
 ghost use Rattle.bptree_shape.specs.Shape.{leaves_at};
 
 use bptree_keys::compares::Compares;
@@ -55,7 +54,7 @@ pub fn find_path<S: NodeStore>(
     requires stands { Stands S.K.cmp (S.slots store.now) height id }
     requires room { length path.old + height ≤ 15 }
     ensures leaf { IsLeafFor S.K.cmp (S.slots store.now) height id key.now result }
-    ensures way { (top : ℕ) (root : NodeId) → Way S.K.cmp (S.slots store.now) key.now top root path.old height id → Way S.K.cmp (S.slots store.now) key.now top root path.new 0 (kind.Leaf result) }
+    ensures way { GoesOnTo S.K.cmp (S.slots store.now) key.now path.old height id path.new result }
 {
     match id {
         NodeId::Leaf(leaf) => leaf,

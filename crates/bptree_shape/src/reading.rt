@@ -1,9 +1,10 @@
 //! Reads of a tree that stands in a store.
-ghost use Rattle.std.specs.Prelude.{◌≡◌, ◌+◌, ◌*◌, ◌≤◌, ◌-◌, Some, length, slice_get};
+ghost use Rattle.std.specs.Prelude.{◌≡◌, ◌+◌, ◌*◌, ◌≤◌, Some, slice_get};
 ghost use Rattle.std.specs.Option.{option_copied, option_map};
-ghost use Rattle.bptree_keys.specs.Contents.{value};
+ghost use Rattle.bptree_keys.specs.Contents.{last_member};
 ghost use Rattle.bptree_shape.specs.Leaves.{Stands, IsLeafFor};
-ghost use Rattle.bptree_shape.specs.Shape.{pairs_at, IsWellShaped};
+ghost use Rattle.bptree_shape.specs.Shape.{pairs_at, IsWellShaped, value_in};
+ghost use Rattle.std.specs.Map.Iter.{deref_pair as shown};
 
 use crate::descent::{find_leaf_counted, first_leaf, last_leaf};
 use bptree_keys::compares::Compares;
@@ -53,7 +54,7 @@ pub fn get<'a, S: NodeStore>(
     key: &S::K,
 ) -> Option<&'a S::V>
     requires { IsWellShaped S.K.cmp S.Argument.is_summary (S.slots store.now) height root }
-    ensures { option_copied result ≡ value S.K.cmp (pairs_at (S.slots store.now) height root) key.now }
+    ensures { option_copied result ≡ value_in S.K.cmp (S.slots store.now) height root key.now }
 {
     get_counted(store, root, height, key, &mut Compares::new())
 }
@@ -68,7 +69,7 @@ pub fn get_counted<'a, S: NodeStore>(
     compares: &mut Compares,
 ) -> Option<&'a S::V>
     requires { IsWellShaped S.K.cmp S.Argument.is_summary (S.slots store.now) height root }
-    ensures value { option_copied result ≡ value S.K.cmp (pairs_at (S.slots store.now) height root) key.now }
+    ensures value { option_copied result ≡ value_in S.K.cmp (S.slots store.now) height root key.now }
     ensures counts_on { compares.old ≤ compares.new }
     ensures count { compares.new ≤ compares.old + (7 * (height + 1) + S.HINT_COMPARES) }
 {
@@ -82,7 +83,7 @@ pub fn get_counted<'a, S: NodeStore>(
 /// The pair with the least key.
 pub fn first<S: NodeStore>(store: &S, root: NodeId, height: usize) -> Option<(&S::K, &S::V)>
     requires { IsWellShaped S.K.cmp S.Argument.is_summary (S.slots store.now) height root }
-    ensures { option_map (λ pair. (pair.0.now, pair.1.now)) result ≡ slice_get (pairs_at (S.slots store.now) height root) 0 }
+    ensures { option_map shown result ≡ slice_get (pairs_at (S.slots store.now) height root) 0 }
 {
     let leaf = first_leaf(store, root, height);
     store.get_leaf(leaf).try_data_at(0)
@@ -91,7 +92,7 @@ pub fn first<S: NodeStore>(store: &S, root: NodeId, height: usize) -> Option<(&S
 /// The pair with the greatest key.
 pub fn last<S: NodeStore>(store: &S, root: NodeId, height: usize) -> Option<(&S::K, &S::V)>
     requires { IsWellShaped S.K.cmp S.Argument.is_summary (S.slots store.now) height root }
-    ensures { option_map (λ pair. (pair.0.now, pair.1.now)) result ≡ slice_get (pairs_at (S.slots store.now) height root) (length (pairs_at (S.slots store.now) height root) - 1) }
+    ensures { option_map shown result ≡ last_member (pairs_at (S.slots store.now) height root) }
 {
     let leaf = store.get_leaf(last_leaf(store, root, height));
     leaf.try_data_at(leaf.len().saturating_sub(1))

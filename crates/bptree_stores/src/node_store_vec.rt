@@ -69,7 +69,7 @@ impl<K: Key, V: Drop, A: Argument<K>> NodeStoreVec<K, V, A> {
 impl<K: Key, V: Drop, A: Argument<K>> NodeStore for NodeStoreVec<K, V, A> {
     ghost use Rattle.std.proofs.Common.{arith};
     ghost use Rattle.std.specs.Prelude.{◌≡◌, ℕ, IfOk, IfErr, OnErr};
-    ghost use Rattle.bptree_nodes.specs.Slot.{Free, Held, Present, UpdatesInner, UpdatesLeaf};
+    ghost use Rattle.bptree_nodes.specs.Slot.{Free, Held, Present, UpdatesInner, UpdatesLeaf, AddsInner};
     ghost use Rattle.bptree_stores.specs.StoreSlabs.{slots, store_with_leaf, store_with_leaf_updates, store_with_inner, store_with_inner_updates};
 
     type K = K;
@@ -108,7 +108,7 @@ impl<K: Key, V: Drop, A: Argument<K>> NodeStore for NodeStoreVec<K, V, A> {
 
     fn add_inner(&mut self, node: Box<InnerNode<K, A>>) -> Result<InnerNodeId, Box<InnerNode<K, A>>>
         ensures was_free { IfOk result (λ id. (slots self.old).inner id.0 ≡ Free) }
-        ensures updates { IfOk result (λ id. UpdatesInner (slots self.old) (slots self.new) id.0 (Present node.value)) }
+        ensures updates { IfOk result (AddsInner (slots self.old) (slots self.new) node.value) }
         ensures refused { OnErr result (slots self.new ≡ slots self.old) }
         ensures handed_back { IfErr result (λ back. back ≡ node) }
     {

@@ -1,9 +1,9 @@
 //! What a tree asks of a store.
-ghost use Rattle.std.specs.Prelude.{◌≡◌, ◌+◌, ◌≤◌, ℕ, IfOk, IfErr, OnErr, IfSome, IsTrue, ◌↔◌, MatchOption, []};
+ghost use Rattle.std.specs.Prelude.{◌≡◌, ◌+◌, ◌≤◌, ℕ, IfOk, IfErr, OnErr, IfSome, IsTrue, ◌↔◌};
 ghost use Rattle.std.specs.Borrow.{Lends, sem};
 ghost use Rattle.bptree_nodes.specs.Inner.{Inner};
-ghost use Rattle.bptree_nodes.specs.Leaf.{Leaf};
-ghost use Rattle.bptree_nodes.specs.Slot.{Slot, Slots, Free, Held, Present, IsPresent, IsEmpty, UpdatesInner, UpdatesLeaf};
+ghost use Rattle.bptree_nodes.specs.Leaf.{Leaf, empty_leaf};
+ghost use Rattle.bptree_nodes.specs.Slot.{Slot, Slots, Free, Held, Present, IsPresent, IsEmpty, UpdatesInner, UpdatesLeaf, AddsInner, AddsLeaf, HoldsInner, HoldsLeaf, LendsPresent};
 ghost use Rattle.bptree_nodes.specs.contracts.inner_node.InnerNode.{the_row as inner_row};
 ghost use Rattle.bptree_nodes.specs.contracts.leaf_node.LeafNode.{the_row as leaf_row};
 ghost use Rattle.bptree_stores.specs.Hint.{HoldsKey};
@@ -76,26 +76,26 @@ pub trait NodeStore: Drop {
         node: Box<InnerNode<Self::K, Self::Argument>>,
     ) -> Result<InnerNodeId, Box<InnerNode<Self::K, Self::Argument>>>
         ensures was_free { IfOk result (λ id. (slots self.old).inner id.0 ≡ Free) }
-        ensures updates { IfOk result (λ id. UpdatesInner (slots self.old) (slots self.new) id.0 (Present node.value)) }
+        ensures updates { IfOk result (AddsInner (slots self.old) (slots self.new) node.value) }
         ensures refused { OnErr result (slots self.new ≡ slots self.old) }
         ensures handed_back { IfErr result (λ back. back ≡ node) };
 
     /// Holds a free number for an inner node, so that `put_back_inner` can't be refused.
     fn reserve_inner(&mut self) -> Result<InnerNodeId, AllocError>
         ensures was_free { IfOk result (λ id. (slots self.old).inner id.0 ≡ Free) }
-        ensures updates { IfOk result (λ id. UpdatesInner (slots self.old) (slots self.new) id.0 Held) }
+        ensures updates { IfOk result (HoldsInner (slots self.old) (slots self.new)) }
         ensures refused { OnErr result (slots self.new ≡ slots self.old) };
 
     /// Holds a free number for a leaf, so that `assign_leaf` can't be refused.
     fn reserve_leaf(&mut self) -> Result<LeafNodeId, AllocError>
         ensures was_free { IfOk result (λ id. (slots self.old).leaf id.0 ≡ Free) }
-        ensures updates { IfOk result (λ id. UpdatesLeaf (slots self.old) (slots self.new) id.0 Held) }
+        ensures updates { IfOk result (HoldsLeaf (slots self.old) (slots self.new)) }
         ensures refused { OnErr result (slots self.new ≡ slots self.old) };
 
     /// Puts a leaf with no pairs and no links under a free number.
     fn new_empty_leaf(&mut self) -> Result<LeafNodeId, AllocError>
         ensures was_free { IfOk result (λ id. (slots self.old).leaf id.0 ≡ Free) }
-        ensures updates { IfOk result (λ id. UpdatesLeaf (slots self.old) (slots self.new) id.0 (Present (record { pairs = []; prev = None; next = None }))) }
+        ensures updates { IfOk result (AddsLeaf (slots self.old) (slots self.new) empty_leaf) }
         ensures refused { OnErr result (slots self.new ≡ slots self.old) }
     {
         let leaf = LeafNode::new(self.allocator())?;
@@ -128,11 +128,11 @@ pub trait NodeStore: Drop {
 
     /// The inner node under a number, where one is present.
     fn try_get_inner(&self, id: InnerNodeId) -> Option<&InnerNode<Self::K, Self::Argument>>
-        ensures { MatchOption result (¬ (IsPresent ((slots self.now).inner id.0))) (λ node. (slots self.now).inner id.0 ≡ Present node.now) };
+        ensures { LendsPresent ((slots self.now).inner id.0) result };
 
     /// The leaf under a number, where one is present.
     fn try_get_leaf(&self, id: LeafNodeId) -> Option<&LeafNode<Self::K, Self::V>>
-        ensures { MatchOption result (¬ (IsPresent ((slots self.now).leaf id.0))) (λ leaf. (slots self.now).leaf id.0 ≡ Present leaf.now) };
+        ensures { LendsPresent ((slots self.now).leaf id.0) result };
 
     /// Takes an inner node out. Its number is held, until the node is put back or the number
     /// released.

@@ -1,12 +1,7 @@
 //! The rank of a key in its group.
-ghost use Rattle.std.specs.Prelude.{◌≡◌, ◌≢◌, ◌-◌, ◌<◌, ◌≤◌, ◌^◌, min, List, [], ◌++◌, length, map, Ok, None, is_ok, IfOk, MatchResult};
-ghost use Rattle.std.specs.List.{AllZip};
-ghost use Rattle.std.specs.List.Sorted.{IsStrictlySortedBy};
-ghost use Rattle.bptree_arguments.specs.GroupAnswers.{IsInGroup, IsRankInGroup, StandsInGroup, carried};
-ghost use Rattle.bptree_arguments.specs.GroupSums.{carried_over};
-ghost use Rattle.bptree_arguments.specs.Groups.{IsGroupSummary, group_size};
-ghost use Rattle.bptree_arguments.specs.Ranks.{AllAbove, AllBelow, IsSlotIn, IsSlotOf};
-ghost use Rattle.bptree_keys.specs.Pieces.{AllNonEmpty, flatten};
+ghost use Rattle.std.specs.Prelude.{◌≡◌, ◌≢◌, ◌-◌, ◌<◌, ◌≤◌, [], length, Ok, None, is_ok, IfOk};
+ghost use Rattle.bptree_arguments.specs.GroupAnswers.{IsRankInGroup, StandsInGroup, carried, CarriesInGroup, CountsInGroup, IsCarriedOn, RanksInGroup, StaysCarried, CarriesOnly};
+ghost use Rattle.bptree_arguments.specs.Ranks.{IsSlotIn};
 
 use crate::argument::RankArgument;
 use crate::group::{FromRef, GroupCount};
@@ -33,8 +28,8 @@ fn ranked_after<K: Key, G: FromRef<K> + Key>(
     smaller: &[K],
 ) -> Result<(G, usize), AllocError>
     ensures group { IfOk result (λ r. G.cmp r.0 (G.group_of k.now) ≡ Ordering.Equal) }
-    ensures counted { IfOk result (λ r. (before : List K) → IsStrictlySortedBy K.cmp (before ++ smaller.now) → AllBelow K.cmp k.now smaller.now → length (before ++ smaller.now) < 2 ^ 64 → StandsInGroup G.cmp G.group_of k.now before rank → r.1 ≡ group_size G.cmp (G.group_of k.now) (map G.group_of (before ++ smaller.now))) }
-    ensures empty { smaller.now ≡ [] → IfOk result (λ r. r.1 ≡ carried G.cmp (G.group_of k.now) rank) }
+    ensures counted { IfOk result (CountsInGroup G.cmp G.group_of k.now K.cmp rank smaller.now) }
+    ensures empty { smaller.now ≡ [] → IfOk result (CarriesOnly G.cmp (G.group_of k.now) rank) }
 {
     let group = G::from_ref(k)?;
     let start = keys_before(smaller, &group, false)?;
@@ -70,9 +65,9 @@ impl<K: Key, G: FromRef<K> + Key> RankArgument<K> for GroupCount<G> {
         rank: Option<(G, usize)>,
         arguments: &[Self],
     ) -> Result<Option<(G, usize)>, AllocError>
-        ensures carries { IfOk result (λ next. (before : List K) (pieces : List (List K)) → AllNonEmpty pieces → AllZip (λ a keys. IsGroupSummary G.cmp a (map G.group_of keys)) arguments.now pieces → IsStrictlySortedBy K.cmp (before ++ flatten pieces) → AllBelow K.cmp k.now (before ++ flatten pieces) → length (before ++ flatten pieces) < 2 ^ 64 → StandsInGroup G.cmp G.group_of k.now before rank → StandsInGroup G.cmp G.group_of k.now (before ++ flatten pieces) next) }
+        ensures carries { IfOk result (CarriesInGroup G.cmp G.group_of k.now K.cmp arguments.now rank) }
         ensures unchanged { arguments.now ≡ [] → result ≡ Ok rank }
-        ensures capped { arguments.now ≢ [] → IfOk result (IsInGroup G.cmp (G.group_of k.now) (min (carried_over G.cmp (G.group_of k.now) (carried G.cmp (G.group_of k.now) rank) arguments.now) (2 ^ 64 - 1))) }
+        ensures capped { arguments.now ≢ [] → IfOk result (IsCarriedOn G.cmp (G.group_of k.now) rank arguments.now) }
     {
         if arguments.is_empty() {
             return Ok(rank);
@@ -102,8 +97,8 @@ impl<K: Key, G: FromRef<K> + Key> RankArgument<K> for GroupCount<G> {
         requires few { length keys.now ≤ 64 }
         requires slot { IsSlotIn keys.now slot }
         ensures variant { IfOk result (λ answer. is_ok answer ≡ is_ok slot) }
-        ensures ranked { IfOk result (λ answer. IsSlotOf K.cmp k.now keys.now slot → (before after : List K) → IsStrictlySortedBy K.cmp (before ++ (keys.now ++ after)) → AllBelow K.cmp k.now before → AllAbove K.cmp k.now after → length (before ++ (keys.now ++ after)) < 2 ^ 64 → StandsInGroup G.cmp G.group_of k.now before rank → MatchResult answer (IsRankInGroup G.cmp G.group_of k.now K.cmp (before ++ (keys.now ++ after))) (IsRankInGroup G.cmp G.group_of k.now K.cmp (before ++ (keys.now ++ after)))) }
-        ensures empty { keys.now ≡ [] → IfOk result (λ answer. MatchResult answer (λ _. ⊥) (IsInGroup G.cmp (G.group_of k.now) (carried G.cmp (G.group_of k.now) rank))) }
+        ensures ranked { IfOk result (RanksInGroup G.cmp G.group_of k.now K.cmp rank keys.now slot) }
+        ensures empty { keys.now ≡ [] → IfOk result (StaysCarried G.cmp (G.group_of k.now) rank) }
     {
         match slot {
             Ok(i) => Ok(Ok(Some(ranked_after(k, rank, &keys[..i])?))),

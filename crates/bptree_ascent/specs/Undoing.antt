@@ -1,0 +1,34 @@
+-- Changes of nodes that are taken back: what they left is again what it was, and what went into it is answered.
+use Rattle.std.specs.Prelude.{◌≡◌, ℕ, Some, length, slice_get}
+use Rattle.bptree_ascent.specs.Change.{Keeps}
+use Rattle.bptree_ascent.specs.Sums.{HasPlace, IsCut, IsLinked, IsSplit, with_division}
+use Rattle.bptree_ascent.specs.declared.node_changes.Division.{Division}
+use Rattle.bptree_keys.specs.declared.node_id.InnerNodeId.{InnerNodeId}
+use Rattle.bptree_nodes.specs.Inner.{Inner}
+use Rattle.bptree_nodes.specs.Leaf.{Leaf}
+use Rattle.bptree_nodes.specs.Slot.{Slots, Present}
+
+module _ {K A : Type 0} (place : ℕ) (before : A) where
+  -- of one node that took a division, where `before` was the summary at the place
+  abbrev pub UndoesDivision : Inner K A → Inner K A → Division K A → Type 0
+  UndoesDivision old new taken =
+      (was : Inner K A) (division : Division K A) → HasPlace was place → slice_get was.arguments place ≡ Some before → old ≡ with_division was place division → (new ≡ was) × (taken ≡ division)
+
+  -- and was cut in two
+  abbrev pub UndoesCut : Inner K A → K → Inner K A → Inner K A → Division K A → Type 0
+  UndoesCut left up right new taken =
+      (was : Inner K A) (division : Division K A) → HasPlace was place → length was.keys ≡ 64 → slice_get was.arguments place ≡ Some before → IsCut (with_division was place division) left up right → (new ≡ was) × (taken ≡ division)
+
+module _ {K V A : Type 0} (old new : Slots (Inner K A) (Leaf K V)) (id : InnerNodeId) (place : ℕ) where
+  -- of a node under a number that took a new summary of a child, a division, or a division by which it was split
+  abbrev pub UndoesSummary : A → A → Type 0
+  UndoesSummary before taken =
+      (was : Slots (Inner K A) (Leaf K V)) (node : Inner K A) (summary : A) → was.inner id.0 ≡ Present node → slice_get node.arguments place ≡ Some before → Keeps was old id place summary node → (new ≡ was) × (taken ≡ summary)
+
+  abbrev pub UndoesLink : A → Division K A → Type 0
+  UndoesLink before taken =
+      (was : Slots (Inner K A) (Leaf K V)) (node : Inner K A) (division : Division K A) → was.inner id.0 ≡ Present node → HasPlace node place → IsLinked was old id place division node before → (new ≡ was) × (taken ≡ division)
+
+  abbrev pub UndoesSplitInner : K → InnerNodeId → A → Division K A → Type 0
+  UndoesSplitInner up fresh before taken =
+      (was : Slots (Inner K A) (Leaf K V)) (node : Inner K A) (division : Division K A) → was.inner id.0 ≡ Present node → HasPlace node place → length node.keys ≡ 64 → IsSplit was old id place division node up fresh before → (new ≡ was) × (taken ≡ division)
