@@ -6,6 +6,7 @@ use crate::plain::{Answered, Asked};
 use crate::whole::number;
 use std::alloc::{AllocError, Global};
 use sweep_bptree::script::{Command, Reply};
+use sweep_bptree::tree::SelectError;
 use sweep_bptree::tree::count::Count;
 use sweep_bptree::{BPlusTreeMap, BPlusTreeSet};
 
@@ -96,6 +97,17 @@ fn is_counted_at<K: Sample>(
     Ok(before == place.min(map.len()) && from == map.len().saturating_sub(place))
 }
 
+// Writes a value where there is one.
+fn writes(found: Result<&mut u64, SelectError>, value: u64) -> bool {
+    match found {
+        Ok(written) => {
+            *written = value;
+            true
+        }
+        Err(_) => false,
+    }
+}
+
 // No map has it.
 const WRONG: Option<(u64, u64)> = Some((u64::MAX, u64::MAX));
 
@@ -126,14 +138,12 @@ impl<K: Sample> Places for BPlusTreeMap<K, u64, Count> {
         })
     }
 
+    // At each second place by its own call.
     fn write_at(&mut self, place: usize, value: u64) -> bool {
-        match self.get_mut_by_argument(place) {
-            Ok(written) => {
-                *written = value;
-                true
-            }
-            Err(_) => false,
+        if place % 2 == 0 {
+            return writes(self.get_mut_at(place), value);
         }
+        writes(self.get_mut_by_argument(place), value)
     }
 
     // And the counts of both sides of the place.

@@ -14,6 +14,7 @@ mod moved;
 mod parts;
 mod places;
 mod plans;
+mod pointed;
 mod quiet;
 mod sample;
 mod serving;
@@ -30,6 +31,7 @@ use crate::moved::{Moved, MovedKeys};
 use crate::parts::{InnerGiven, InnerParts, LeafParts, Made, Numbered, Reserved, Roomy};
 use crate::places::Placed;
 use crate::plans::{Plan, plan_of};
+use crate::pointed::Pointed;
 use crate::quiet::{Readings, SetReadings};
 use crate::sample::{Group, Sample};
 use crate::summed::{Counted, Summed};
@@ -93,6 +95,7 @@ fn on_numbers(trial: &mut Trial, letter: u8, plan: &Plan) {
         b'g' | b'n' | b't' if plan.size > 0 => on_counted(trial, letter, plan),
         b'a'..=b'p' => on_trees::<u64, Count>(trial, letter, plan),
         b'w' => trial.carry_out::<Made<InnerGiven>>(plan),
+        b'y' if plan.size > 0 => trial.carry_out::<Pointed<u64>>(plan),
         b'y' => trial.carry_out::<Counted<u64>>(plan),
         _ => on_keys::<u64>(trial, letter, plan),
     }
@@ -102,6 +105,7 @@ fn on_numbers(trial: &mut Trial, letter: u8, plan: &Plan) {
 fn on_groups(trial: &mut Trial, letter: u8, plan: &Plan) {
     match letter {
         b'a'..=b'p' => on_trees::<Pair, GroupCount<Tuple2<String>>>(trial, letter, plan),
+        b'y' if plan.size > 0 => trial.carry_out::<Pointed<Pair>>(plan),
         b'x' | b'y' => on_asked::<Pair, Tuple2<String>>(trial, letter, plan),
         _ => on_keys::<Pair>(trial, letter, plan),
     }

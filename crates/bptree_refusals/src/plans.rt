@@ -155,6 +155,7 @@ impl Plan {
             b'o' if self.size > 1 => own(turn, 7),
             b'o' => own(turn, 24),
             b'u' => own(turn, 6),
+            b'y' => own(turn, 12),
             _ => None,
         }
     }
@@ -264,7 +265,7 @@ type Row = (
     (u64, Option<u64>, usize, usize),
 );
 
-const LARGER: [Row; 20] = [
+const LARGER: [Row; 23] = [
     (
         (b'b', 1),
         ("numbers, full root, high", "groups, full root, high"),
@@ -373,6 +374,27 @@ const LARGER: [Row; 20] = [
             "pairs, many moved between sets",
         ),
         (4161, Some(0), 4164, 4164),
+    ),
+    (
+        (b'y', 1),
+        (
+            "numbers, few pointed at, without memory",
+            "pairs, few pointed at",
+        ),
+        (40, Some(0), 34, 34),
+    ),
+    (
+        (b'y', 2),
+        ("numbers, pointed at, without memory", "pairs, pointed at"),
+        (400, Some(0), 346, 346),
+    ),
+    (
+        (b'y', 3),
+        (
+            "numbers, many pointed at, without memory",
+            "pairs, many pointed at",
+        ),
+        (4161, Some(0), 4107, 4107),
     ),
     (
         (b'g', 1),

@@ -1,0 +1,71 @@
+//! Maps with counts that are asked for cursors on places, and lose their first pairs by a place.
+
+use crate::digest::digest_of;
+use crate::plans::Call;
+use crate::sample::{Sample, pairs_of};
+use crate::shapes::{Shape, shape_of};
+use crate::trees::{is_sample, is_tidy_tree};
+use crate::trial::Subject;
+use std::alloc::{AllocError, Global};
+use sweep_bptree::BPlusTreeMap;
+use sweep_bptree::tree::count::Count;
+
+/// A map whose first leaf has no more pairs than it must, where there are others; and how many of
+/// the first pairs have gone for that.
+#[derive(Drop)]
+pub struct Pointed<K: Sample> {
+    map: BPlusTreeMap<K, u64, Count>,
+    gone: u64,
+}
+
+// Whether a cursor on the sixth pair stands on that of a number.
+fn points_at<K: Sample>(
+    map: &BPlusTreeMap<K, u64, Count>,
+    number: u64,
+) -> Result<bool, AllocError> {
+    let Some((cursor, value)) = map.cursor_at(5)? else {
+        return Ok(false);
+    };
+    Ok(*value == number && is_sample(cursor.key(), number))
+}
+
+impl<K: Sample> Subject for Pointed<K> {
+    fn made(alloc: Global, many: u64) -> Result<Pointed<K>, AllocError> {
+        let mut map = BPlusTreeMap::from_iter(alloc, pairs_of(alloc, many, true)?)?;
+        let mut gone = 0u64;
+        // No leaf has more than 64 pairs, and of several each has at least 16.
+        if many > 64 {
+            for _ in 0..48 {
+                map.remove_at(0)?;
+                gone = gone.wrapping_add(1);
+            }
+        }
+        Ok(Pointed { map, gone })
+    }
+
+    fn answers(&mut self, _alloc: Global, call: Call) -> Result<bool, AllocError> {
+        let Call::Own(turn) = call else {
+            return Ok(false);
+        };
+        let first = self.gone.wrapping_add(turn / 2);
+        if turn % 2 == 0 {
+            return points_at(&self.map, first.wrapping_add(5));
+        }
+        Ok(match self.map.remove_at(0)? {
+            Some((key, value)) => value == first && is_sample(&key, first),
+            None => false,
+        })
+    }
+
+    fn told(&self) -> (u64, usize) {
+        (digest_of(self.map.tree()), self.map.len())
+    }
+
+    fn is_tidy(&self) -> bool {
+        is_tidy_tree(self.map.tree())
+    }
+
+    fn shape(&self) -> Option<Shape> {
+        Some(shape_of(self.map.tree()))
+    }
+}
