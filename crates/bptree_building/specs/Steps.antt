@@ -1,8 +1,10 @@
 -- What each node of a layer is built of.
-use Rattle.std.specs.Prelude.{◌≡◌, ℕ, ◌∷◌, ◌++◌, List, Option, None, length}
+use Rattle.std.specs.Prelude.{◌≡◌, ℕ, ◌+◌, ◌<◌, ◌≤◌, ◌^◌, ◌∷◌, ◌++◌, List, Option, None, Some, length}
 use Rattle.std.specs.declared.cmp.Ordering.{Ordering}
 use Rattle.std.specs.List.{AllZip}
 use Rattle.std.specs.Map.{keys_of}
+use Rattle.std.specs.Vec.Iter.{into_iter_items, into_iter_len}
+use Rattle.std.specs.declared.vec.IntoIter.{IntoIter}
 use Rattle.bptree_keys.specs.Contents.{IsAscending}
 use Rattle.bptree_keys.specs.Pieces.{ArePieces, flatten}
 use Rattle.bptree_keys.specs.declared.node_id.InnerNodeId.{InnerNodeId}
@@ -10,9 +12,9 @@ use Rattle.bptree_keys.specs.declared.node_id.LeafNodeId.{LeafNodeId}
 use Rattle.bptree_keys.specs.declared.node_id.NodeId.TheVariants as kind
 use Rattle.bptree_nodes.specs.Inner.{Inner}
 use Rattle.bptree_nodes.specs.Leaf.{Leaf}
-use Rattle.bptree_nodes.specs.Slot.{Slots, Free, Present, UpdatesInner}
+use Rattle.bptree_nodes.specs.Slot.{Slots, Free, Held, Present, UpdatesInner}
 use Rattle.bptree_ascent.specs.Change.{StartsAt}
-use Rattle.bptree_building.specs.Layer.{roots, firsts, summaries}
+use Rattle.bptree_building.specs.Layer.{roots, firsts, summaries, IsLayer, IsSpreading}
 use Rattle.bptree_building.specs.declared.subtree.Subtree.{Subtree}
 
 -- a leaf of the first pairs, with the key that it starts at and a summary of its keys
@@ -44,3 +46,38 @@ pub record IsRaised {K V A : Type 0} (cmp : K → K → Ordering) (is_summary : 
   pub was_free : old.inner id.0 ≡ Free
   pub updates : UpdatesInner old new id.0 (Present node)
   pub told : (pieces : List (List K)) → ArePieces cmp pieces → AllZip is_summary node.arguments pieces → is_summary tree.summary (flatten pieces)
+
+-- The same of an iterator over trees, or over pairs, which has the others left: a node above the first trees.
+abbrev pub TakesTrees : {K A Z : Type 0} → IntoIter (Subtree K A) Z → ℕ → Inner K A → K → IntoIter (Subtree K A) Z → Type 0
+TakesTrees old count node first new = IsAbove (into_iter_items old) count node first (into_iter_items new)
+
+module _ {K V A : Type 0} (cmp : K → K → Ordering) (is_summary : A → List K → Type 0) where
+  -- a leaf of the first pairs; the iterator knows how many are left
+  abbrev pub TakesPairs : {Z : Type 0} → IntoIter (K × V) Z → ℕ → Option LeafNodeId → Leaf K V → K → A → IntoIter (K × V) Z → Type 0
+  TakesPairs old count prev leaf first summary new =
+      (into_iter_len new ≡ length (into_iter_items new)) × IsFilled cmp is_summary (into_iter_items old) count prev leaf first summary (into_iter_items new)
+
+  module _ (old new : Slots (Inner K A) (Leaf K V)) where
+    -- a node above the first trees stands in the store
+    abbrev pub RaisesNode : {Z : Type 0} → IntoIter (Subtree K A) Z → IntoIter (Subtree K A) Z → ℕ → Subtree K A → Type 0
+    RaisesNode trees trees' count tree =
+        (into_iter_len trees' ≡ length (into_iter_items trees')) × IsRaised cmp is_summary old new (into_iter_items trees) count tree (into_iter_items trees')
+
+    -- the trees of a layer stand below those of the layer above, which are fewer
+    abbrev pub RaisesLayer : ℕ → List (Subtree K A) → List (Subtree K A) → Type 0
+    RaisesLayer height layer above =
+        (0 < length above) × (length above < length layer)
+        × ((pairs : List (K × V)) → IsAscending cmp pairs → length pairs < 2 ^ 64 → IsLayer cmp is_summary old height layer pairs → IsLayer cmp is_summary new (height + 1) above pairs)
+
+    -- a leaf of the first pairs stands under the number that was held for it, behind those that are done, and a number is held
+    -- for the next one
+    abbrev pub SpreadsOn : {Z : Type 0} → List (Subtree K A) → List (Subtree K A) → IntoIter (K × V) Z → IntoIter (K × V) Z → ℕ → LeafNodeId → Option LeafNodeId → LeafNodeId → Type 0
+    SpreadsOn done done' items items' count id prev next =
+        (length (into_iter_items items') + count ≡ length (into_iter_items items)) × (into_iter_len items' ≡ length (into_iter_items items')) × (new.leaf next.0 ≡ Held)
+        × ((pairs : List (K × V)) → IsAscending cmp pairs → IsSpreading cmp is_summary old 16 done id prev (into_iter_items items) pairs → IsSpreading cmp is_summary new 16 done' next (Some id) (into_iter_items items') pairs)
+
+    -- a leaf of all pairs that are left stands there, and the leaves are a layer
+    abbrev pub EndsSpreading : {Z : Type 0} → List (Subtree K A) → List (Subtree K A) → IntoIter (K × V) Z → ℕ → LeafNodeId → Option LeafNodeId → Type 0
+    EndsSpreading done done' items count id prev =
+        (pairs : List (K × V)) → (0 < length done → 16 ≤ count) → IsAscending cmp pairs → IsSpreading cmp is_summary old 16 done id prev (into_iter_items items) pairs
+        → (0 < length done') × IsLayer cmp is_summary new 0 done' pairs

@@ -2,7 +2,7 @@
 ghost use Rattle.std.specs.Prelude.{◌≡◌, ◌<◌, length, IfOk};
 ghost use Rattle.bptree_keys.specs.Contents.{IsAscending};
 ghost use Rattle.bptree_nodes.specs.Slot.{IsEmpty};
-ghost use Rattle.bptree_building.specs.Layer.{IsBuilt};
+ghost use Rattle.bptree_building.specs.Layer.{Builds};
 
 use crate::inner_layer::raise_layer;
 use crate::leaf_layer::build_leaves;
@@ -33,7 +33,7 @@ pub fn build<S: NodeStore>(
     requires empty { IsEmpty (S.slots store.old) }
     requires ascending { IsAscending S.K.cmp pairs.items }
     requires some { 0 < length pairs.items }
-    ensures { IfOk result (λ built. IsBuilt S.K.cmp S.Argument.is_summary (S.slots store.new) built.root built.height built.summary pairs.items) }
+    ensures { IfOk result (Builds S.K.cmp S.Argument.is_summary (S.slots store.new) pairs.items) }
 {
     let mut layer = build_leaves(store, pairs)?;
     let mut height = 0;

@@ -1,9 +1,7 @@
 //! The inner nodes of a tree that is built, a layer above another.
-ghost use Rattle.std.specs.Prelude.{◌≡◌, ◌+◌, ◌<◌, ◌≤◌, List, [], length, IfOk, ◌^◌};
+ghost use Rattle.std.specs.Prelude.{◌≡◌, ◌<◌, ◌≤◌, [], length, IfOk};
 ghost use Rattle.std.specs.Vec.Iter.{into_iter_items, into_iter_len};
-ghost use Rattle.bptree_keys.specs.Contents.{IsAscending};
-ghost use Rattle.bptree_building.specs.Layer.{IsLayer};
-ghost use Rattle.bptree_building.specs.Steps.{IsAbove, IsRaised};
+ghost use Rattle.bptree_building.specs.Steps.{RaisesLayer, RaisesNode, TakesTrees};
 
 use crate::subtree::{Subtree, append};
 use bptree_arguments::argument::Argument;
@@ -26,7 +24,7 @@ fn take_trees<K: Key, A: Argument<K>>(
     requires count { (0 < count) × (count ≤ 65) }
     requires some { count ≤ length (into_iter_items trees.old) }
     requires counted { into_iter_len trees.old ≡ length (into_iter_items trees.old) }
-    ensures above { IsAbove (into_iter_items trees.old) count node.new result (into_iter_items trees.new) }
+    ensures above { TakesTrees trees.old count node.new result trees.new }
     ensures counted { into_iter_len trees.new ≡ length (into_iter_items trees.new) }
 {
     let Subtree {
@@ -55,7 +53,7 @@ fn raise<S: NodeStore>(
     requires count { (0 < count) × (count ≤ 65) }
     requires some { count ≤ length (into_iter_items trees.old) }
     requires counted { into_iter_len trees.old ≡ length (into_iter_items trees.old) }
-    ensures { IfOk result (λ tree. (into_iter_len trees.new ≡ length (into_iter_items trees.new)) × IsRaised S.K.cmp S.Argument.is_summary (S.slots store.old) (S.slots store.new) (into_iter_items trees.old) count tree (into_iter_items trees.new)) }
+    ensures { IfOk result (RaisesNode S.K.cmp S.Argument.is_summary (S.slots store.old) (S.slots store.new) trees.old trees.new count) }
 {
     let mut node = InnerNode::empty(store.allocator())?;
     let first = take_trees(node.as_mut(), trees, count);
@@ -76,7 +74,7 @@ pub fn raise_layer<S: NodeStore>(
     height: usize,
 ) -> Result<Vec<Subtree<S::K, S::Argument>>, AllocError>
     requires { 1 < length layer.items }
-    ensures { IfOk result (λ above. (0 < length above.items) × (length above.items < length layer.items) × ((pairs : List (S.K × S.V)) → IsAscending S.K.cmp pairs → length pairs < 2 ^ 64 → IsLayer S.K.cmp S.Argument.is_summary (S.slots store.old) height layer.items pairs → IsLayer S.K.cmp S.Argument.is_summary (S.slots store.new) (height + 1) above.items pairs)) }
+    ensures { IfOk result (λ above. RaisesLayer S.K.cmp S.Argument.is_summary (S.slots store.old) (S.slots store.new) height layer.items above.items) }
 {
     let mut above = Vec::new(store.allocator());
     let mut left = layer.len();

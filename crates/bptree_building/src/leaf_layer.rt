@@ -1,12 +1,12 @@
 //! The leaves of a tree that is built, each with a number of its own and the numbers of the leaves
 //! beside it.
-ghost use Rattle.std.specs.Prelude.{◌≡◌, ◌+◌, ◌<◌, ◌≤◌, ◌++◌, List, [], length, IfOk, Some};
+ghost use Rattle.std.specs.Prelude.{◌≡◌, ◌+◌, ◌<◌, ◌≤◌, ◌++◌, [], length, IfOk};
 ghost use Rattle.std.specs.Vec.Iter.{into_iter_items, into_iter_len};
 ghost use Rattle.bptree_keys.specs.Contents.{IsAscending};
 ghost use Rattle.bptree_nodes.specs.Slot.{Held, IsEmpty};
 ghost use Rattle.bptree_ascent.specs.Change.{StartsAt};
-ghost use Rattle.bptree_building.specs.Layer.{IsLayer, IsSpreading};
-ghost use Rattle.bptree_building.specs.Steps.{IsFilled};
+ghost use Rattle.bptree_building.specs.Layer.{IsLayer};
+ghost use Rattle.bptree_building.specs.Steps.{EndsSpreading, SpreadsOn, TakesPairs};
 
 use crate::subtree::{Subtree, append};
 use bptree_arguments::argument::Argument;
@@ -65,7 +65,7 @@ fn fill<K: Key, V: Drop, A: Argument<K>>(
     requires count { (0 < count) × (count ≤ 64) }
     requires some { count ≤ length (into_iter_items items.old) }
     requires counted { into_iter_len items.old ≡ length (into_iter_items items.old) }
-    ensures { IfOk result (λ filled. (into_iter_len items.new ≡ length (into_iter_items items.new)) × IsFilled K.cmp A.is_summary (into_iter_items items.old) count prev filled.leaf.value filled.first filled.summary (into_iter_items items.new)) }
+    ensures { IfOk result (λ filled. TakesPairs K.cmp A.is_summary items.old count prev filled.leaf.value filled.first filled.summary items.new) }
 {
     let mut leaf = LeafNode::new(alloc)?;
     take_pairs(leaf.as_mut(), items, count);
@@ -93,7 +93,7 @@ fn add_leaf<S: NodeStore>(
     requires some { count ≤ length (into_iter_items items.old) }
     requires counted { into_iter_len items.old ≡ length (into_iter_items items.old) }
     requires held { (S.slots store.old).leaf id.0 ≡ Held }
-    ensures { IfOk result (λ next. (length (into_iter_items items.new) + count ≡ length (into_iter_items items.old)) × (into_iter_len items.new ≡ length (into_iter_items items.new)) × ((S.slots store.new).leaf next.0 ≡ Held) × ((pairs : List (S.K × S.V)) → IsAscending S.K.cmp pairs → IsSpreading S.K.cmp S.Argument.is_summary (S.slots store.old) 16 layer.old.items id prev (into_iter_items items.old) pairs → IsSpreading S.K.cmp S.Argument.is_summary (S.slots store.new) 16 layer.new.items next (Some id) (into_iter_items items.new) pairs)) }
+    ensures { IfOk result (SpreadsOn S.K.cmp S.Argument.is_summary (S.slots store.old) (S.slots store.new) layer.old.items layer.new.items items.old items.new count id prev) }
 {
     let Filled {
         mut leaf,
@@ -125,7 +125,7 @@ fn add_last_leaf<S: NodeStore>(
     requires all { length (into_iter_items items.old) ≡ count }
     requires counted { into_iter_len items.old ≡ length (into_iter_items items.old) }
     requires held { (S.slots store.old).leaf id.0 ≡ Held }
-    ensures { IfOk result (λ _. (pairs : List (S.K × S.V)) → (0 < length layer.old.items → 16 ≤ count) → IsAscending S.K.cmp pairs → IsSpreading S.K.cmp S.Argument.is_summary (S.slots store.old) 16 layer.old.items id prev (into_iter_items items.old) pairs → (0 < length layer.new.items) × IsLayer S.K.cmp S.Argument.is_summary (S.slots store.new) 0 layer.new.items pairs) }
+    ensures { IfOk result (λ _. EndsSpreading S.K.cmp S.Argument.is_summary (S.slots store.old) (S.slots store.new) layer.old.items layer.new.items items.old count id prev) }
 {
     let Filled {
         leaf,

@@ -1,11 +1,12 @@
 -- What reads by summaries ask of a tree, and what they answer.
-use Rattle.std.specs.Prelude.{◌≡◌, ℕ, ◌+◌, ◌<◌, ◌^◌, List, ◌++◌, length, Option, Some, None, Result, MatchResult, slice_get, remove}
+use Rattle.std.specs.Prelude.{◌≡◌, ℕ, ◌+◌, ◌<◌, ◌^◌, List, ◌++◌, length, Option, Some, None, Result, MatchResult, is_ok, slice_get, remove}
 use Rattle.std.specs.declared.cmp.Ordering.{Ordering}
 use Rattle.std.specs.List.Sorted.{IsStrictlySortedBy}
 use Rattle.std.specs.Map.{keys_of}
 use Rattle.std.specs.Option.{option_and_then}
 use Rattle.bptree_arguments.specs.Ranks.{AllAbove, AllBelow}
 use Rattle.bptree_arguments.specs.Selection.{IsPlaceIn}
+use Rattle.bptree_keys.specs.Contents.{has}
 use Rattle.bptree_keys.specs.Ranges.{part_at}
 use Rattle.bptree_nodes.specs.Inner.{Inner}
 use Rattle.bptree_nodes.specs.Leaf.{Leaf}
@@ -67,3 +68,11 @@ abbrev pub RanksAmong : {R K : Type 0} → (K → K → Ordering) → (R → K �
 RanksAmong {K = K} cmp stands_for ranks k rank keys answer =
     (before after : List K) → IsStrictlySortedBy cmp (before ++ (keys ++ after)) → AllBelow cmp k before → AllAbove cmp k after → length (before ++ (keys ++ after)) < 2 ^ 64 → stands_for rank k before
     → MatchResult answer (ranks k (before ++ (keys ++ after))) (ranks k (before ++ (keys ++ after)))
+
+-- a rank of k among the keys of a tree
+abbrev pub RanksKey : {R K V A : Type 0} → (K → List K → R → Type 0) → K → Slots (Inner K A) (Leaf K V) → ℕ → NodeId → Result R R → Type 0
+RanksKey ranks k slots height root answer = MatchResult answer (ranks k (keys_of (pairs_at slots height root))) (ranks k (keys_of (pairs_at slots height root)))
+
+-- an answer is `Ok` where some key of a tree equals k
+abbrev pub TellsIfThere : {R K V A : Type 0} → (K → K → Ordering) → Slots (Inner K A) (Leaf K V) → ℕ → NodeId → K → Result R R → Type 0
+TellsIfThere cmp slots height root k answer = is_ok answer ≡ has cmp (pairs_at slots height root) k

@@ -1,2 +1,3 @@
 pub mod ByArgument
 pub mod Neighbours
+pub mod Visiting

@@ -1,6 +1,9 @@
 -- Where a key is found in a tree, and what stands beside its leaf.
-use Rattle.std.specs.Prelude.{◌≡◌, ℕ, ◌≤◌, List, [], length, Option, Some, None, Result}
+use Rattle.std.specs.Prelude.{◌≡◌, ℕ, ◌≤◌, ◌++◌, List, [], drop, length, slice_get, take, Option, Some, None, Result}
+use Rattle.std.specs.Borrow.{Bor}
 use Rattle.std.specs.declared.cmp.Ordering.{Ordering}
+use Rattle.std.specs.Option.{option_map}
+use Rattle.bptree_keys.specs.Contents.{last_member, next, previous}
 use Rattle.bptree_keys.specs.Places.{IsPlaceOf}
 use Rattle.bptree_keys.specs.declared.node_id.LeafNodeId.{LeafNodeId}
 use Rattle.bptree_keys.specs.declared.node_id.NodeId.{NodeId}
@@ -8,7 +11,7 @@ use Rattle.bptree_nodes.specs.Inner.{Inner}
 use Rattle.bptree_nodes.specs.Leaf.{Leaf}
 use Rattle.bptree_nodes.specs.Slot.{Slots, Present}
 use Rattle.bptree_shape.specs.Leaves.{IsLeafFor}
-use Rattle.bptree_shape.specs.Shape.{leaf_pairs}
+use Rattle.bptree_shape.specs.Shape.{leaf_pairs, pairs_at}
 
 -- the pairs of the leaf that a link names; none where it names none
 abbrev pub leaf_pairs_of : {K V A : Type 0} → Slots (Inner K A) (Leaf K V) → Option LeafNodeId → List (K × V)
@@ -21,3 +24,23 @@ pub record IsPlaceAt {K V A : Type 0} (cmp : K → K → Ordering) (slots : Slot
   pub here : slots.leaf id.0 ≡ Present leaf
   pub place_is : IsPlaceOf cmp leaf.pairs k place
   pub fits : length leaf.pairs ≤ 64
+
+-- the pair that was read, by the keys and values that references show
+abbrev pub pair_read : {K V X : Type 0} → X × (Bor K × Bor V) → K × V
+pair_read found = (found.1.0.now, found.1.1.now)
+
+module _ {K V A : Type 0} (slots : Slots (Inner K A) (Leaf K V)) (leaf : Leaf K V) where
+  -- the first pair from a place of a leaf on, which may be that of the next leaf, and the last pair up to a place
+  abbrev pub first_from : ℕ → Option (K × V)
+  first_from from = slice_get (drop from leaf.pairs ++ leaf_pairs_of slots leaf.next) 0
+
+  abbrev pub last_upto : ℕ → Option (K × V)
+  last_upto to = last_member (leaf_pairs_of slots leaf.prev ++ take to leaf.pairs)
+
+module _ {K V A : Type 0} (cmp : K → K → Ordering) (slots : Slots (Inner K A) (Leaf K V)) (height : ℕ) (root : NodeId) (k : K) where
+  -- the pair that was read is the one after k in the tree, or the one before
+  abbrev pub ReadsNext : {X : Type 0} → Option (X × (Bor K × Bor V)) → Type 0
+  ReadsNext found = option_map pair_read found ≡ next cmp (pairs_at slots height root) k
+
+  abbrev pub ReadsPrevious : {X : Type 0} → Option (X × (Bor K × Bor V)) → Type 0
+  ReadsPrevious found = option_map pair_read found ≡ previous cmp (pairs_at slots height root) k

@@ -1,8 +1,8 @@
 //! Reads of a tree that stands in a store, by the summaries of its keys.
-ghost use Rattle.std.specs.Prelude.{◌≡◌, ◌+◌, ◌≤◌, length, IfOk, IsOk, MatchResult, is_ok};
+ghost use Rattle.std.specs.Prelude.{◌≡◌, ◌+◌, ◌≤◌, length, IfOk, IsOk, is_ok};
 ghost use Rattle.std.specs.Map.{keys_of};
 ghost use Rattle.bptree_keys.specs.Contents.{has};
-ghost use Rattle.bptree_descents.specs.ByArgument.{IsSubtree, IsSelectedAt, GoesOn, RanksAmong};
+ghost use Rattle.bptree_descents.specs.ByArgument.{IsSubtree, IsSelectedAt, GoesOn, RanksAmong, RanksKey, TellsIfThere};
 ghost use Rattle.bptree_shape.specs.Shape.{pairs_at};
 
 use bptree_arguments::argument::{RankArgument, SearchArgument};
@@ -114,8 +114,8 @@ pub fn rank_by_argument<S: NodeStore>(
 where
     S::Argument: RankArgument<S::K>,
     requires { IsSubtree S.K.cmp S.Argument.is_summary (S.slots store.now) height root }
-    ensures ranked { IfOk result (λ answer. MatchResult answer (S.Argument.ranks k.now (keys_of (pairs_at (S.slots store.now) height root))) (S.Argument.ranks k.now (keys_of (pairs_at (S.slots store.now) height root)))) }
-    ensures present { IfOk result (λ answer. is_ok answer ≡ has S.K.cmp (pairs_at (S.slots store.now) height root) k.now) }
+    ensures ranked { IfOk result (RanksKey S.Argument.ranks k.now (S.slots store.now) height root) }
+    ensures present { IfOk result (TellsIfThere S.K.cmp (S.slots store.now) height root k.now) }
     ensures sure { S.Argument.needs_no_memory → IsOk result }
 {
     let rank = <S::Argument as RankArgument<S::K>>::initial_value();

@@ -1,10 +1,10 @@
 //! Places of keys in a tree that stands in a store, and the pairs beside them.
-ghost use Rattle.std.specs.Prelude.{◌≡◌, ◌-◌, ◌≤◌, ◌++◌, length, take, drop, slice_get};
+ghost use Rattle.std.specs.Prelude.{◌≡◌, ◌≤◌, length, slice_get};
 ghost use Rattle.std.specs.Option.{option_copied, option_map};
-ghost use Rattle.bptree_keys.specs.Contents.{IsAscending, next, previous, value};
-ghost use Rattle.bptree_keys.specs.Places.{IsPlaceOf};
-ghost use Rattle.bptree_descents.specs.Neighbours.{IsPlaceAt, leaf_pairs_of};
-ghost use Rattle.bptree_shape.specs.Shape.{pairs_at, IsWellShaped};
+ghost use Rattle.bptree_keys.specs.Contents.{last_member};
+ghost use Rattle.bptree_descents.specs.Neighbours.{IsPlaceAt, leaf_pairs_of, ReadsNext, ReadsPrevious, first_from, last_upto, pair_read};
+ghost use Rattle.bptree_shape.specs.Shape.{pairs_at, IsWellShaped, value_in};
+ghost use Rattle.bptree_nodes.specs.LeafResults.{IsPlaceInLeaf};
 
 use bptree_keys::node_id::{LeafNodeId, NodeId};
 use bptree_nodes::leaf_node::LeafNode;
@@ -46,7 +46,7 @@ fn place_in<K: Ord + Drop, V: Drop>(
     offset: usize,
     key: &K,
 ) -> Result<usize, usize>
-    ensures place { IsAscending K.cmp leaf.now.pairs → IsPlaceOf K.cmp leaf.now.pairs key.now result }
+    ensures place { IsPlaceInLeaf K.cmp leaf.now key.now result }
     ensures fits { length leaf.now.pairs ≤ 64 }
 {
     if let Some((there, _)) = leaf.try_data_at(offset) {
@@ -64,7 +64,7 @@ fn read_at<K: Drop, V: Drop>(
     leaf: &LeafNode<K, V>,
     offset: usize,
 ) -> Option<((LeafNodeId, usize), (&K, &V))>
-    ensures { option_map (λ found. (found.1.0.now, found.1.1.now)) result ≡ slice_get leaf.now.pairs offset }
+    ensures { option_map pair_read result ≡ slice_get leaf.now.pairs offset }
 {
     match leaf.try_data_at(offset) {
         Some(pair) => Some(((id, offset), pair)),
@@ -79,7 +79,7 @@ fn pair_from<'a, S: NodeStore>(
     leaf: &'a LeafNode<S::K, S::V>,
     from: usize,
 ) -> Option<((LeafNodeId, usize), (&'a S::K, &'a S::V))>
-    ensures { option_map (λ found. (found.1.0.now, found.1.1.now)) result ≡ slice_get (drop from leaf.now.pairs ++ leaf_pairs_of (S.slots store.now) leaf.now.next) 0 }
+    ensures { option_map pair_read result ≡ first_from (S.slots store.now) leaf.now from }
 {
     match leaf.try_data_at(from) {
         Some(pair) => Some(((id, from), pair)),
@@ -92,7 +92,7 @@ fn first_of<S: NodeStore>(
     store: &S,
     id: Option<LeafNodeId>,
 ) -> Option<((LeafNodeId, usize), (&S::K, &S::V))>
-    ensures { option_map (λ found. (found.1.0.now, found.1.1.now)) result ≡ slice_get (leaf_pairs_of (S.slots store.now) id) 0 }
+    ensures { option_map pair_read result ≡ slice_get (leaf_pairs_of (S.slots store.now) id) 0 }
 {
     let id = id?;
     read_at(id, store.try_get_leaf(id)?, 0)
@@ -106,7 +106,7 @@ fn pair_upto<'a, S: NodeStore>(
     to: usize,
 ) -> Option<((LeafNodeId, usize), (&'a S::K, &'a S::V))>
     requires { to ≤ length leaf.now.pairs }
-    ensures { option_map (λ found. (found.1.0.now, found.1.1.now)) result ≡ slice_get (leaf_pairs_of (S.slots store.now) leaf.now.prev ++ take to leaf.now.pairs) (length (leaf_pairs_of (S.slots store.now) leaf.now.prev ++ take to leaf.now.pairs) - 1) }
+    ensures { option_map pair_read result ≡ last_upto (S.slots store.now) leaf.now to }
 {
     match to {
         0 => last_of(store, leaf.prev()),
@@ -119,7 +119,7 @@ fn last_of<S: NodeStore>(
     store: &S,
     id: Option<LeafNodeId>,
 ) -> Option<((LeafNodeId, usize), (&S::K, &S::V))>
-    ensures { option_map (λ found. (found.1.0.now, found.1.1.now)) result ≡ slice_get (leaf_pairs_of (S.slots store.now) id) (length (leaf_pairs_of (S.slots store.now) id) - 1) }
+    ensures { option_map pair_read result ≡ last_member (leaf_pairs_of (S.slots store.now) id) }
 {
     let id = id?;
     let leaf = store.try_get_leaf(id)?;
@@ -138,7 +138,7 @@ pub fn pair_after<'a, S: NodeStore>(
     key: &S::K,
 ) -> Option<((LeafNodeId, usize), (&'a S::K, &'a S::V))>
     requires { IsWellShaped S.K.cmp S.Argument.is_summary (S.slots store.now) height root }
-    ensures { option_map (λ found. (found.1.0.now, found.1.1.now)) result ≡ next S.K.cmp (pairs_at (S.slots store.now) height root) key.now }
+    ensures { ReadsNext S.K.cmp (S.slots store.now) height root key.now result }
 {
     let (id, leaf, place) = place_of(store, root, height, hint, offset, key);
     let from = match place {
@@ -160,7 +160,7 @@ pub fn pair_before<'a, S: NodeStore>(
     key: &S::K,
 ) -> Option<((LeafNodeId, usize), (&'a S::K, &'a S::V))>
     requires { IsWellShaped S.K.cmp S.Argument.is_summary (S.slots store.now) height root }
-    ensures { option_map (λ found. (found.1.0.now, found.1.1.now)) result ≡ previous S.K.cmp (pairs_at (S.slots store.now) height root) key.now }
+    ensures { ReadsPrevious S.K.cmp (S.slots store.now) height root key.now result }
 {
     let (id, leaf, place) = place_of(store, root, height, hint, offset, key);
     let to = match place {
@@ -182,7 +182,7 @@ pub fn value_at<'a, S: NodeStore>(
     key: &S::K,
 ) -> Option<&'a S::V>
     requires { IsWellShaped S.K.cmp S.Argument.is_summary (S.slots store.now) height root }
-    ensures { option_copied result ≡ value S.K.cmp (pairs_at (S.slots store.now) height root) key.now }
+    ensures { option_copied result ≡ value_in S.K.cmp (S.slots store.now) height root key.now }
 {
     let (_, leaf, place) = place_of(store, root, height, hint, offset, key);
     match place {
@@ -198,7 +198,7 @@ pub fn first_pair<S: NodeStore>(
     height: usize,
 ) -> Option<((LeafNodeId, usize), (&S::K, &S::V))>
     requires { IsWellShaped S.K.cmp S.Argument.is_summary (S.slots store.now) height root }
-    ensures { option_map (λ found. (found.1.0.now, found.1.1.now)) result ≡ slice_get (pairs_at (S.slots store.now) height root) 0 }
+    ensures { option_map pair_read result ≡ slice_get (pairs_at (S.slots store.now) height root) 0 }
 {
     let id = first_leaf(store, root, height);
     read_at(id, store.get_leaf(id), 0)
@@ -211,7 +211,7 @@ pub fn last_pair<S: NodeStore>(
     height: usize,
 ) -> Option<((LeafNodeId, usize), (&S::K, &S::V))>
     requires { IsWellShaped S.K.cmp S.Argument.is_summary (S.slots store.now) height root }
-    ensures { option_map (λ found. (found.1.0.now, found.1.1.now)) result ≡ slice_get (pairs_at (S.slots store.now) height root) (length (pairs_at (S.slots store.now) height root) - 1) }
+    ensures { option_map pair_read result ≡ last_member (pairs_at (S.slots store.now) height root) }
 {
     let id = last_leaf(store, root, height);
     let leaf = store.get_leaf(id);

@@ -1,8 +1,7 @@
 //! Visits of a tree that stands in a store.
-ghost use Rattle.std.specs.Prelude.{MatchResult};
-ghost use Rattle.bptree_arguments.specs.Visits.{answered, IsAllowedError};
 ghost use Rattle.bptree_descents.specs.ByArgument.{IsSubtree};
 ghost use Rattle.bptree_shape.specs.Shape.{pairs_at};
+ghost use Rattle.bptree_descents.specs.Visiting.{IsAllowedAnswer};
 
 use bptree_arguments::visit::{DescendError, DescendVisit, DescendVisitResult};
 use bptree_keys::node_id::NodeId;
@@ -19,7 +18,7 @@ pub fn descend_visit<S: NodeStore, W: DescendVisit<S::K, S::V, S::Argument>>(
     mut visitor: W,
 ) -> Result<Option<W::Result>, DescendError>
     requires { IsSubtree S.K.cmp S.Argument.is_summary (S.slots store.now) height id }
-    ensures { MatchResult result (λ answer. W.answers visitor (pairs_at (S.slots store.now) height id) (answered answer)) (IsAllowedError W.answers visitor (pairs_at (S.slots store.now) height id)) }
+    ensures { IsAllowedAnswer W.answers visitor (pairs_at (S.slots store.now) height id) result }
 {
     match id {
         NodeId::Leaf(leaf) => {

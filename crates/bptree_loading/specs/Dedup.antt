@@ -4,7 +4,7 @@ use Rattle.std.specs.Fn.{Mut, CalledAtTwo}
 use denote.Ref.{Bor}
 use Rattle.std.specs.List.{FoldsTo}
 use Rattle.std.specs.Iterator.{Yields, AlwaysYields, Count, at_most, count_map}
-use Rattle.std.specs.Iterator.Order.{OrderTurn}
+use Rattle.std.specs.Iterator.Order.{ActsAsAtTwo, OrderTurn}
 use Rattle.bptree_loading.specs.declared.dedup.Ahead.{Ahead}
 use Rattle.bptree_loading.specs.declared.dedup.Ahead.TheVariants.{Unasked, Held, Ended}
 use Rattle.bptree_loading.specs.declared.dedup.DeDupKeepLast.{DeDupKeepLast}
@@ -83,3 +83,7 @@ module _ {S F A : Type 0} (steps : S → Option A → S → Type 0) (g : Mut F (
 
   abbrev pub dedup_steps : DeDupKeepLast S F A → Option A → DeDupKeepLast S F A → Type 0
   dedup_steps = GivesLastOfRun
+
+  -- where the source gives all of a list, and the calls of the closure are those of a test, the last of each run is given
+  abbrev pub GivesLastOfEachRun : S → F → DeDupKeepLast S F A → Type 0
+  GivesLastOfEachRun s same result = (test : A → A → Bool) (xs : List A) → ActsAsAtTwo g same test → GivesAll steps s xs → GivesAll dedup_steps result (last_of_each_run test xs)

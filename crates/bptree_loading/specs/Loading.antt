@@ -1,9 +1,11 @@
 -- Pairs that come in the order of their keys.
-use Rattle.std.specs.Prelude.{◌≢◌, Option, Some, None, List, [], ◌∷◌, ⊤, if◌then◌else◌}
+use Rattle.std.specs.Prelude.{◌≡◌, ◌≢◌, ℕ, ◌+◌, Bool, Option, Some, None, List, [], ◌∷◌, ◌++◌, drop, take, ⊤, if◌then◌else◌}
 use Rattle.std.specs.declared.cmp.Ordering.{Ordering}
 use Rattle.std.specs.declared.cmp.Ordering.TheVariants.{Greater}
 use Rattle.std.specs.Ordering.{is_eq}
 use Rattle.std.specs.Option.{option_or}
+use Rattle.bptree_keys.specs.Contents.{load, value}
+use Rattle.bptree_loading.specs.Dedup.{last_of_each_run}
 
 module _ {K V : Type 0} (cmp : K → K → Ordering) where
   -- the key k is not above the first of the pairs
@@ -16,7 +18,21 @@ module _ {K V : Type 0} (cmp : K → K → Ordering) where
   IsInLoadOrder [] = ⊤
   IsInLoadOrder (pair ∷ rest) = IsNotAboveFirst pair.0 rest × IsInLoadOrder rest
 
+  -- the pair at a place is the last of its run, or else the pairs from there on are loaded as those behind it are
+  abbrev pub TellsIfLast : List (K × V) → ℕ → Bool → Type 0
+  TellsIfLast pairs at last = load cmp (drop at pairs) ≡ (if last then take 1 (drop at pairs) else []) ++ load cmp (drop (at + 1) pairs)
+
   -- the value of the last pair whose key equals k
   abbrev pub last_value : List (K × V) → K → Option V
   last_value [] k = None
   last_value (pair ∷ rest) k = option_or (last_value rest k) (if is_eq (cmp pair.0 k) then Some pair.1 else None)
+
+-- laws of what is loaded
+module _ (K V : Type 0) (cmp : K → K → Ordering) where
+  -- of pairs in load order, a key has the value of the last pair with an equal key
+  abbrev pub LoadGivesLast : Type 0
+  LoadGivesLast = (l : List (K × V)) → (k : K) → IsInLoadOrder cmp l → value cmp (load cmp l) k ≡ last_value cmp l k
+
+  -- of each run of pairs with equal keys the last one is loaded
+  abbrev pub LoadKeepsLast : Type 0
+  LoadKeepsLast = (l : List (K × V)) → load cmp l ≡ last_of_each_run (λ pair after. is_eq (cmp pair.0 after.0)) l

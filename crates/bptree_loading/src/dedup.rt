@@ -1,9 +1,8 @@
 //! An iterator that leaves out each item that is the same as the one after it.
-ghost use Rattle.std.specs.Prelude.{◌≡◌, Bool, List};
+ghost use Rattle.std.specs.Prelude.{◌≡◌};
 ghost use Rattle.std.specs.Iterator.{IsFinite};
-ghost use Rattle.std.specs.Iterator.Order.{ActsAsAtTwo};
 ghost use Rattle.bptree_loading.specs.declared.dedup.Ahead.TheVariants.{Unasked};
-ghost use Rattle.bptree_loading.specs.Dedup.{GivesAll, dedup_source, dedup_ahead, dedup_same, dedup_steps, dedup_left, IfNotEnded, last_of_each_run};
+ghost use Rattle.bptree_loading.specs.Dedup.{dedup_source, dedup_ahead, dedup_same, dedup_steps, dedup_left, IfNotEnded, GivesLastOfEachRun};
 
 use std::iter::FusedIterator;
 use std::mem;
@@ -78,7 +77,7 @@ pub trait DedupByExt: Iterator {
         ensures source { dedup_source result ≡ self }
         ensures ahead { dedup_ahead result ≡ Unasked }
         ensures same { dedup_same result ≡ same }
-        ensures items { (test : Self.Item → Self.Item → Bool) (xs : List Self.Item) → ActsAsAtTwo F.FnMut same test → GivesAll Self.next_gives self xs → GivesAll (dedup_steps Self.next_gives F.FnMut) result (last_of_each_run test xs) }
+        ensures items { GivesLastOfEachRun Self.next_gives F.FnMut self same result }
     {
         DeDupKeepLast {
             source: self,

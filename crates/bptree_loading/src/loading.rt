@@ -1,9 +1,7 @@
 //! Pairs whose keys do not descend, and of each run of pairs with equal keys the last.
-ghost use Rattle.std.specs.Prelude.{◌≡◌, ◌+◌, ◌<◌, ◌≤◌, ◌++◌, [], List, ◌↔◌, IsTrue, if◌then◌else◌, length, take, drop, OnOk, OnErr};
-ghost use Rattle.bptree_keys.specs.Contents.{IsAscending, load, gather, value};
-ghost use Rattle.std.specs.Ordering.{is_eq};
-ghost use Rattle.bptree_loading.specs.Dedup.{last_of_each_run};
-ghost use Rattle.bptree_loading.specs.Loading.{IsInLoadOrder, last_value};
+ghost use Rattle.std.specs.Prelude.{◌≡◌, ◌+◌, ◌<◌, ◌≤◌, ◌++◌, List, ◌↔◌, IsTrue, length, take, drop, OnOk, OnErr};
+ghost use Rattle.bptree_keys.specs.Contents.{IsAscending, load, gather};
+ghost use Rattle.bptree_loading.specs.Loading.{IsInLoadOrder, LoadGivesLast, LoadKeepsLast, TellsIfLast};
 
 use bptree_keys::key::Key;
 use std::alloc::AllocError;
@@ -31,7 +29,7 @@ pub fn in_load_order<K: Key, V>(pairs: &[(K, V)]) -> bool
 // Whether no pair with an equal key comes right after the pair at `at`.
 fn is_last_of_run<K: Key, V>(pairs: &[(K, V)], at: usize) -> bool
     requires { at < length pairs.now }
-    ensures { load K.cmp (drop at pairs.now) ≡ (if result then take 1 (drop at pairs.now) else []) ++ load K.cmp (drop (at + 1) pairs.now) }
+    ensures { TellsIfLast K.cmp pairs.now at result }
 {
     if at + 1 == pairs.len() {
         return true;
@@ -96,8 +94,8 @@ pub fn sort_for_load<K: Key, V: Drop>(pairs: &mut Vec<(K, V)>) -> Result<(), All
 pub fn laws_of_load<K: Key, V>()
     ensures order { (l : List (K × V)) → IsInLoadOrder K.cmp l → IsAscending K.cmp (load K.cmp l) }
     ensures gather { (l : List (K × V)) → IsInLoadOrder K.cmp l → load K.cmp l ≡ gather K.cmp l }
-    ensures value { (l : List (K × V)) → (k : K) → IsInLoadOrder K.cmp l → value K.cmp (load K.cmp l) k ≡ last_value K.cmp l k }
+    ensures value { LoadGivesLast K V K.cmp }
     ensures ascending { (l : List (K × V)) → IsAscending K.cmp l → IsInLoadOrder K.cmp l }
     ensures same { (l : List (K × V)) → IsAscending K.cmp l → load K.cmp l ≡ l }
-    ensures runs { (l : List (K × V)) → load K.cmp l ≡ last_of_each_run (λ pair after. is_eq (K.cmp pair.0 after.0)) l }
+    ensures runs { LoadKeepsLast K V K.cmp }
 {}

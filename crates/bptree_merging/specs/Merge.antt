@@ -1,12 +1,14 @@
 -- The merge of two lists, step by step and as a whole.
-use Rattle.std.specs.Prelude.{ℕ, ◌+◌, ◌≤◌, List, [], ◌∷◌, Option, Some, None, map, ◌≡◌, IfSome}
+use Rattle.std.specs.Prelude.{ℕ, ◌+◌, ◌<◌, ◌≤◌, List, [], ◌∷◌, ◌||◌, ◌⊎◌, Option, Some, None, drop, length, map, slice_get, ◌≡◌, IfSome}
+use Rattle.std.specs.Cmp.{IsTotalOrder}
 use Rattle.std.specs.declared.cmp.Ordering.{Ordering}
 use Rattle.std.specs.declared.cmp.Ordering.TheVariants.{Less, Equal, Greater}
-use Rattle.std.specs.Ordering.{match_ordering}
+use Rattle.std.specs.Ordering.{is_eq, match_ordering}
 use Rattle.std.specs.Borrow.{Bor}
 use Rattle.std.specs.Fn.{FnReturnsAtPair, Shared}
-use Rattle.std.specs.List.{filter_map}
-use Rattle.std.specs.Option.{option_or}
+use Rattle.std.specs.List.{AllByRecursion, filter_map, list_any}
+use Rattle.std.specs.List.Sorted.{IsStrictlySortedBy}
+use Rattle.std.specs.Option.{option_map, option_or}
 
 -- what one step gave of each of two lists, and what it left of them
 pub record Step (A : Type 0) : Type 0 where
@@ -64,3 +66,46 @@ pub record IsCountOfBoth (first second both : ℕ) : Type 0 where
   pub no_fewer : first ≤ both
   pub no_fewer_too : second ≤ both
   pub no_more : both ≤ first + second
+
+module _ {F T E : Type 0} (calls : Shared F (Bor T × (Bor T × Unit {0})) Ordering) (f : F) (shows : T → E) where
+  -- a step gave what the order says that the closure answers by, and left what the step leaves
+  abbrev pub StepsByOrder : List E × List E → Option T × Option T → List E × List E → Type 0
+  StepsByOrder old given new = (order : E → E → Ordering) → Orders calls f shows order
+      → let step = merge_step order old.0 old.1 in
+      (option_map shows given.0 ≡ step.first) × (option_map shows given.1 ≡ step.second) × (new ≡ step.left)
+
+-- where one list is empty, a step gave the head of the other, whatever the closure answers
+abbrev pub StepsAlone : {T E : Type 0} → (T → E) → List E × List E → Option T × Option T → List E × List E → Type 0
+StepsAlone shows old given new = (old.0 ≡ []) ⊎ (old.1 ≡ [])
+    → (option_map shows given.0 ≡ slice_get old.0 0) × (option_map shows given.1 ≡ slice_get old.1 0) × (new ≡ (drop 1 old.0, drop 1 old.1))
+
+-- laws of what all steps give
+module _ (K : Type 0) where
+  -- it is what one step gives, and then what all steps give of what that leaves
+  abbrev pub MergedIsStepwise : Type 0
+  MergedIsStepwise = (order : K → K → Ordering) → (us vs : List K) → 0 < length us + length vs
+      → let step = merge_step order us vs in
+      merged order us vs ≡ (step.first, step.second) ∷ merged order step.left.0 step.left.1
+
+  -- each list is given whole
+  abbrev pub MergedGivesFirsts : Type 0
+  MergedGivesFirsts = (order : K → K → Ordering) → (us vs : List K) → firsts (merged order us vs) ≡ us
+
+  abbrev pub MergedGivesSeconds : Type 0
+  MergedGivesSeconds = (order : K → K → Ordering) → (us vs : List K) → seconds (merged order us vs) ≡ vs
+
+  -- two that are given together are equal
+  abbrev pub MergedPairsEqual : Type 0
+  MergedPairsEqual = (order : K → K → Ordering) → (us vs : List K) → AllByRecursion (IsPairOfEqual order) (merged order us vs)
+
+  -- of ascending lists the keys that are given ascend
+  abbrev pub MergedAscends : Type 0
+  MergedAscends = (order : K → K → Ordering) → (us vs : List K) → IsTotalOrder order → IsStrictlySortedBy order us → IsStrictlySortedBy order vs → IsStrictlySortedBy order (keys_given (merged order us vs))
+
+  -- a key is among them where it is in either list
+  abbrev pub MergedHasBoth : Type 0
+  MergedHasBoth = (order : K → K → Ordering) → (us vs : List K) → (k : K) → IsTotalOrder order → list_any (λ x. is_eq (order x k)) (keys_given (merged order us vs)) ≡ (list_any (λ x. is_eq (order x k)) us || list_any (λ x. is_eq (order x k)) vs)
+
+  -- they are as many as the keys of both
+  abbrev pub MergedCountsBoth : Type 0
+  MergedCountsBoth = (order : K → K → Ordering) → (us vs : List K) → IsCountOfBoth (length us) (length vs) (length (keys_given (merged order us vs)))

@@ -1,15 +1,10 @@
 //! Two ascending sources, merged step by step, and the law of the merge.
-ghost use Rattle.std.specs.Prelude.{◌≡◌, ◌+◌, ◌-◌, ◌^◌, ◌<◌, List, [], ◌∷◌, ◌||◌, ◌⊎◌, Option, drop, length, min, slice_get};
+ghost use Rattle.std.specs.Prelude.{◌≡◌, ◌-◌, ◌^◌, List, [], Option, length, min};
 ghost use Rattle.std.specs.declared.cmp.Ordering.{Ordering};
-ghost use Rattle.std.specs.Cmp.{IsTotalOrder};
 ghost use Rattle.std.specs.Iterator.{YieldsFirstBy, item_count};
-ghost use Rattle.std.specs.List.{AllByRecursion, list_any};
-ghost use Rattle.std.specs.List.Sorted.{IsStrictlySortedBy};
-ghost use Rattle.std.specs.Map.Iter.{TakesFirst, deref};
-ghost use Rattle.std.specs.Option.{option_map};
-ghost use Rattle.std.specs.Ordering.{is_eq};
-ghost use Rattle.bptree_merging.specs.Merge.{Orders, merge_step, merged, firsts, seconds, keys_given, IsPairOfEqual, IsCountOfBoth};
-ghost use Rattle.bptree_merging.specs.Sides.{first_side, second_side};
+ghost use Rattle.std.specs.Map.Iter.{deref};
+ghost use Rattle.bptree_merging.specs.Merge.{merged, MergedAscends, MergedCountsBoth, MergedGivesFirsts, MergedGivesSeconds, MergedHasBoth, MergedIsStepwise, MergedPairsEqual, StepsAlone, StepsByOrder};
+ghost use Rattle.bptree_merging.specs.Sides.{first_side, second_side, TakesFirstSide, TakesSecondSide};
 
 use std::alloc::AllocError;
 use std::cmp::Ordering;
@@ -103,11 +98,8 @@ where
         cmp: Cmp,
     ) -> (Option<I::Item>, Option<I::Item>)
         requires { Cmp.IsAlwaysCallable cmp }
-        ensures order { (order : I.Element → I.Element → Ordering) → Orders Cmp.Fn cmp I.shows order
-            → let step = merge_step order self.old.0 self.old.1 in
-            (option_map I.shows result.0 ≡ step.first) × (option_map I.shows result.1 ≡ step.second) × (self.new ≡ step.left) }
-        ensures alone { (self.old.0 ≡ []) ⊎ (self.old.1 ≡ [])
-            → (option_map I.shows result.0 ≡ slice_get self.old.0 0) × (option_map I.shows result.1 ≡ slice_get self.old.1 0) × (self.new ≡ (drop 1 self.old.0, drop 1 self.old.1)) }
+        ensures order { StepsByOrder Cmp.Fn cmp I.shows self.old result self.new }
+        ensures alone { StepsAlone I.shows self.old result self.new }
     {
         let peeked = self.peeked.take();
         let (a_next, b_next) = heads(&mut self.a, &mut self.b, peeked);
@@ -196,8 +188,8 @@ fn heads<I: Listed>(
 ) -> (Option<I::Item>, Option<I::Item>)
 where
     I::Item: Drop,
-    ensures first { TakesFirst I.shows (first_side I.shows peeked (I.left a.old)) result.0 (I.left a.new) }
-    ensures second { TakesFirst I.shows (second_side I.shows peeked (I.left b.old)) result.1 (I.left b.new) }
+    ensures first { TakesFirstSide I.shows peeked (I.left a.old) result.0 (I.left a.new) }
+    ensures second { TakesSecondSide I.shows peeked (I.left b.old) result.1 (I.left b.new) }
 {
     match peeked {
         Some(Peeked::A(next)) => (Some(next), b.next()),
@@ -210,14 +202,12 @@ where
 /// where they are equal. Together they give the keys of both lists in their order, where an equal
 /// key of the second list is left out. It does nothing.
 pub fn laws_of_merge<K>()
-    ensures steps { (order : K → K → Ordering) → (us vs : List K) → 0 < length us + length vs
-        → let step = merge_step order us vs in
-        merged order us vs ≡ (step.first, step.second) ∷ merged order step.left.0 step.left.1 }
+    ensures steps { MergedIsStepwise K }
     ensures end { (order : K → K → Ordering) → merged order [] [] ≡ [] }
-    ensures firsts { (order : K → K → Ordering) → (us vs : List K) → firsts (merged order us vs) ≡ us }
-    ensures seconds { (order : K → K → Ordering) → (us vs : List K) → seconds (merged order us vs) ≡ vs }
-    ensures equal { (order : K → K → Ordering) → (us vs : List K) → AllByRecursion (IsPairOfEqual order) (merged order us vs) }
-    ensures order { (order : K → K → Ordering) → (us vs : List K) → IsTotalOrder order → IsStrictlySortedBy order us → IsStrictlySortedBy order vs → IsStrictlySortedBy order (keys_given (merged order us vs)) }
-    ensures present { (order : K → K → Ordering) → (us vs : List K) → (k : K) → IsTotalOrder order → list_any (λ x. is_eq (order x k)) (keys_given (merged order us vs)) ≡ (list_any (λ x. is_eq (order x k)) us || list_any (λ x. is_eq (order x k)) vs) }
-    ensures len { (order : K → K → Ordering) → (us vs : List K) → IsCountOfBoth (length us) (length vs) (length (keys_given (merged order us vs))) }
+    ensures firsts { MergedGivesFirsts K }
+    ensures seconds { MergedGivesSeconds K }
+    ensures equal { MergedPairsEqual K }
+    ensures order { MergedAscends K }
+    ensures present { MergedHasBoth K }
+    ensures len { MergedCountsBoth K }
 {}

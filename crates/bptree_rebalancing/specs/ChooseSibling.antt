@@ -1,12 +1,15 @@
 -- Which sibling a child that underflows rotates or merges with.
-use Rattle.std.specs.Prelude.{◌≡◌, ℕ, zero, suc, ◌<◌, ◌≤◌, ◌⊎◌, Bool, true, false, List, [], ◌∷◌, length, Option, Some, None}
+use Rattle.std.specs.Prelude.{◌≡◌, ℕ, zero, suc, ◌+◌, ◌<◌, ◌≤◌, ◌⊎◌, Bool, true, false, List, [], ◌∷◌, length, slice_get, Option, Some, None}
 use Rattle.std.specs.List.{AllByRecursion}
 use Rattle.bptree_nodes.specs.Inner.{Inner}
 use Rattle.bptree_nodes.specs.Leaf.{Leaf}
 use Rattle.bptree_nodes.specs.Slot.{Slots, IsPresent}
+use Rattle.bptree_keys.specs.declared.node_id.InnerNodeId.{InnerNodeId}
+use Rattle.bptree_keys.specs.declared.node_id.LeafNodeId.{LeafNodeId}
 use Rattle.bptree_keys.specs.declared.node_id.NodeId.{NodeId}
 use Rattle.bptree_keys.specs.declared.node_id.NodeId.TheVariants as kind
-use Rattle.bptree_shape.specs.Shape.{leaf_pairs, inner_keys}
+use Rattle.bptree_rebalancing.specs.Transfer.{CanGive}
+use Rattle.bptree_shape.specs.Shape.{leaf_pairs, inner_keys, inner_children}
 use Rattle.bptree_rebalancing.specs.declared.rotate_merge.Sibling.{Sibling}
 use Rattle.bptree_rebalancing.specs.declared.rotate_merge.Sibling.TheVariants.{Left, Right}
 
@@ -48,3 +51,34 @@ module _ {K V A : Type 0} (slots : Slots (Inner K A) (Leaf K V)) where
 
   abbrev pub AllLeaves : List NodeId → Type 0
   AllLeaves cs = AllByRecursion IsLeafAt cs
+
+  -- of a node: only inner nodes stand below it, or only leaves, and it has one child more than keys
+  abbrev pub InnersBelow : InnerNodeId → Type 0
+  InnersBelow id = AllInner (inner_children (slots.inner id.0))
+
+  abbrev pub LeavesBelow : InnerNodeId → Type 0
+  LeavesBelow id = AllLeaves (inner_children (slots.inner id.0))
+
+  abbrev pub HasOneChildMore : InnerNodeId → Type 0
+  HasOneChildMore id = length (inner_children (slots.inner id.0)) ≡ length (inner_keys (slots.inner id.0)) + 1
+
+  -- its child at a place, and how many keys or pairs that has; 0 past the end
+  abbrev pub HasChild : InnerNodeId → ℕ → NodeId → Type 0
+  HasChild id place child = slice_get (inner_children (slots.inner id.0)) place ≡ Some child
+
+  abbrev pub size_below : InnerNodeId → ℕ → ℕ
+  size_below id = child_size (inner_children (slots.inner id.0))
+
+  -- of two leaves, or of two inner nodes: the giver has one to give, and the other has room
+  abbrev pub CanGivePair : Sibling → LeafNodeId → LeafNodeId → Type 0
+  CanGivePair giver left right = CanGive giver (length (leaf_pairs (slots.leaf left.0))) (length (leaf_pairs (slots.leaf right.0)))
+
+  abbrev pub CanGiveChild : Sibling → InnerNodeId → InnerNodeId → Type 0
+  CanGiveChild giver left right = CanGive giver (length (inner_keys (slots.inner left.0))) (length (inner_keys (slots.inner right.0)))
+
+  -- the pairs of both fit in one; the keys of both do, with the separator
+  abbrev pub FitInOneLeaf : LeafNodeId → LeafNodeId → Type 0
+  FitInOneLeaf left right = length (leaf_pairs (slots.leaf left.0)) + length (leaf_pairs (slots.leaf right.0)) ≤ 64
+
+  abbrev pub FitInOneNode : InnerNodeId → InnerNodeId → Type 0
+  FitInOneNode left right = length (inner_keys (slots.inner left.0)) + length (inner_keys (slots.inner right.0)) < 64

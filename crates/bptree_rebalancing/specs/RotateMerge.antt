@@ -1,5 +1,5 @@
 -- What a parent and two of its children are once these rotated or merged.
-use Rattle.std.specs.Prelude.{◌≡◌, ℕ, ◌+◌, ◌<◌, ◌≤◌, List, length}
+use Rattle.std.specs.Prelude.{◌≡◌, ℕ, ◌+◌, ◌<◌, ◌≤◌, List, length, slice_get, Option, Some}
 use Rattle.std.specs.declared.cmp.Ordering.{Ordering}
 use Rattle.bptree_nodes.specs.Inner.{Inner}
 use Rattle.bptree_nodes.specs.Leaf.{Leaf}
@@ -7,10 +7,13 @@ use Rattle.bptree_nodes.specs.Slot.{Slots, Held, Present}
 use Rattle.bptree_keys.specs.declared.node_id.InnerNodeId.{InnerNodeId}
 use Rattle.bptree_keys.specs.declared.node_id.LeafNodeId.{LeafNodeId}
 use Rattle.bptree_keys.specs.declared.node_id.NodeId.{NodeId}
+use Rattle.bptree_keys.specs.declared.node_id.NodeId.TheVariants as kind
 use Rattle.bptree_ascent.specs.Change.{StartsAt}
 use Rattle.bptree_ascent.specs.LeafChange.{SumsUpLeaf}
 use Rattle.bptree_rebalancing.specs.Transfer.{CanGive, MovesPair, MergesLeaf, MovesChild, MergesInner, HasEntry, Rotates, Merges}
 use Rattle.bptree_ascent.specs.Sums.{SumsUp}
+use Rattle.bptree_ascent.specs.declared.node_changes.Resummed.{Resummed}
+use Rattle.bptree_shape.specs.Shape.{leaf_pairs, leaf_next, inner_keys, inner_children}
 use Rattle.bptree_rebalancing.specs.declared.rotate_merge.Joint.{Joint}
 use Rattle.bptree_rebalancing.specs.declared.rotate_merge.Sibling.{Sibling}
 use Rattle.bptree_rebalancing.specs.declared.rotate_merge.Sides.{Sides}
@@ -23,6 +26,14 @@ module _ {K V A : Type 0} (cmp : K → K → Ordering) (is_summary : A → List 
     pub entry : HasEntry node bare slot joint.separator child joint.right
     pub moves : MovesPair giver left right left' right'
     pub rotates : Rotates cmp bare slot child (SumsUpLeaf cmp is_summary left'.pairs) (λ s. StartsAt cmp s right'.pairs) (SumsUpLeaf cmp is_summary right'.pairs) node' joint.left
+
+  -- a node takes the summaries of two leaves below it, with a separator between them; or the new summary of one leaf
+  abbrev pub TakesLeaves : Inner K A → ℕ → NodeId → Leaf K V → Leaf K V → Inner K A → Resummed A → Type 0
+  TakesLeaves old slot child left right new sums =
+      Rotates cmp old slot child (SumsUpLeaf cmp is_summary left.pairs) (λ s. StartsAt cmp s right.pairs) (SumsUpLeaf cmp is_summary right.pairs) new sums.old
+
+  abbrev pub TakesLeaf : Inner K A → ℕ → Leaf K V → Inner K A → Resummed A → Type 0
+  TakesLeaf old slot leaf new sums = Merges old slot (SumsUpLeaf cmp is_summary leaf.pairs) new sums.old
 
   -- two leaves merged, and the parent lost an entry
   pub record MergesLeaves (slot : ℕ) (node : Inner K A) (left right : Leaf K V) (node' : Inner K A) (left' right' : Leaf K V) (joint : Joint K A) : Type 0 where
@@ -44,6 +55,14 @@ module _ {K A : Type 0} (cmp : K → K → Ordering) (is_summary : A → List K 
     pub moves : MovesChild giver left separator right left' up right'
     pub rotates : Rotates cmp bare slot child (SumsUp cmp is_summary left') (λ s. s ≡ up) (SumsUp cmp is_summary right') node' sides.left
 
+  -- a node takes the summaries of two inner nodes below it, with a separator between them; or the new summary of one
+  abbrev pub TakesInners : Inner K A → ℕ → NodeId → Inner K A → K → Inner K A → Inner K A → Resummed A → Type 0
+  TakesInners old slot child left separator right new sums =
+      Rotates cmp old slot child (SumsUp cmp is_summary left) (λ s. s ≡ separator) (SumsUp cmp is_summary right) new sums.old
+
+  abbrev pub TakesInner : Inner K A → ℕ → Inner K A → Inner K A → Resummed A → Type 0
+  TakesInner old slot child new sums = Merges old slot (SumsUp cmp is_summary child) new sums.old
+
   -- two inner nodes merged
   pub record MergesInners (slot : ℕ) (node left right node' left' right' : Inner K A) (sides : Sides A) : Type 0 where
     pub bare : Inner K A
@@ -53,6 +72,25 @@ module _ {K A : Type 0} (cmp : K → K → Ordering) (is_summary : A → List K 
     pub entry : HasEntry node bare slot separator child sides.right
     pub nodes : MergesInner left separator right left' right'
     pub merges : Merges bare slot (SumsUp cmp is_summary left') node' sides.left
+
+-- A parent and two children that rotated or merged are again what they were. The left child had `kept` pairs or keys before a
+-- merge, and the right one was `child`, behind a leaf whose link was `next`.
+module _ {K V A : Type 0} (cmp : K → K → Ordering) (is_summary : A → List K → Type 0) (slot : ℕ) (joint : Joint K A) (node : Inner K A) (left right : Leaf K V) (node' : Inner K A) (left' right' : Leaf K V) where
+  abbrev pub UndoesRotateLeaves : Sibling → Type 0
+  UndoesRotateLeaves giver =
+      (was : Inner K A) (one other : Leaf K V) → RotatesLeaves cmp is_summary giver slot was one other node left right joint → (node' ≡ was) × (left' ≡ one) × (right' ≡ other)
+
+  abbrev pub UndoesMergeLeaves : NodeId → ℕ → Option LeafNodeId → Type 0
+  UndoesMergeLeaves child kept next =
+      (was : Inner K A) (one other : Leaf K V) → MergesLeaves cmp is_summary slot was one other node left right joint → slice_get was.children (slot + 1) ≡ Some child → kept ≡ length one.pairs → next ≡ one.next → (node' ≡ was) × (left' ≡ one) × (right' ≡ other)
+
+module _ {K A : Type 0} (cmp : K → K → Ordering) (is_summary : A → List K → Type 0) (slot : ℕ) (sides : Sides A) (node left right node' left' right' : Inner K A) where
+  abbrev pub UndoesRotateInners : Sibling → Type 0
+  UndoesRotateInners giver = (was one other : Inner K A) → RotatesInners cmp is_summary giver slot was one other node left right sides → (node' ≡ was) × (left' ≡ one) × (right' ≡ other)
+
+  abbrev pub UndoesMergeInners : NodeId → ℕ → Type 0
+  UndoesMergeInners child kept =
+      (was one other : Inner K A) → MergesInners cmp is_summary slot was one other node left right sides → slice_get was.children (slot + 1) ≡ Some child → kept ≡ length one.keys → (node' ≡ was) × (left' ≡ one) × (right' ≡ other)
 
 module _ {K V A : Type 0} (cmp : K → K → Ordering) (is_summary : A → List K → Type 0) (slot : ℕ) (old new : Slots (Inner K A) (Leaf K V)) (id : InnerNodeId) where
   -- what stands under the numbers of a node and of two leaves below it changed so
@@ -135,3 +173,40 @@ module _ {K V A : Type 0} (cmp : K → K → Ordering) (is_summary : A → List 
     pub most : length node.keys ≤ 64
     pub fits : length one.keys + length other.keys < 64
     pub transfers : MergesInners cmp is_summary slot node one other node' one' emptied sides
+
+-- The children left and right rotated or merged, and nothing else changed. The left one had `kept` pairs or keys before a
+-- merge.
+module _ {K V A : Type 0} (cmp : K → K → Ordering) (is_summary : A → List K → Type 0) (slot : ℕ) (now : Slots (Inner K A) (Leaf K V)) (id : InnerNodeId) where
+  abbrev pub HaveRotatedLeaves : Sibling → LeafNodeId → LeafNodeId → Joint K A → Type 0
+  HaveRotatedLeaves giver left right joint = (was : Slots (Inner K A) (Leaf K V)) × RotatesLeavesAt cmp is_summary slot was now id giver left right joint
+
+  abbrev pub HaveMergedLeaves : LeafNodeId → LeafNodeId → Joint K A → Leaf K V → ℕ → Type 0
+  HaveMergedLeaves left right joint emptied kept =
+      (was : Slots (Inner K A) (Leaf K V)) × MergesLeavesAt cmp is_summary slot was now id left right joint emptied × (kept ≡ length (leaf_pairs (was.leaf left.0)))
+
+  abbrev pub HaveRotatedInners : Sibling → InnerNodeId → InnerNodeId → Sides A → Type 0
+  HaveRotatedInners giver left right sides = (was : Slots (Inner K A) (Leaf K V)) × RotatesInnersAt cmp is_summary slot was now id giver left right sides
+
+  abbrev pub HaveMergedInners : InnerNodeId → InnerNodeId → Sides A → Inner K A → ℕ → Type 0
+  HaveMergedInners left right sides emptied kept =
+      (was : Slots (Inner K A) (Leaf K V)) × MergesInnersAt cmp is_summary slot was now id left right sides emptied × (kept ≡ length (inner_keys (was.inner left.0)))
+
+-- and everything is again what it was before that
+module _ {K V A : Type 0} (cmp : K → K → Ordering) (is_summary : A → List K → Type 0) (slot : ℕ) (now new : Slots (Inner K A) (Leaf K V)) (id : InnerNodeId) where
+  abbrev pub UndoesRotateLeavesAt : Sibling → LeafNodeId → LeafNodeId → Joint K A → Type 0
+  UndoesRotateLeavesAt giver left right joint =
+      (was : Slots (Inner K A) (Leaf K V)) → RotatesLeavesAt cmp is_summary slot was now id giver left right joint → new ≡ was
+
+  abbrev pub UndoesMergeLeavesAt : LeafNodeId → LeafNodeId → Joint K A → Leaf K V → ℕ → Type 0
+  UndoesMergeLeavesAt left right joint emptied kept =
+      (was : Slots (Inner K A) (Leaf K V)) → MergesLeavesAt cmp is_summary slot was now id left right joint emptied → kept ≡ length (leaf_pairs (was.leaf left.0))
+      → slice_get (inner_children (was.inner id.0)) (slot + 1) ≡ Some (kind.Leaf right) → leaf_next (was.leaf left.0) ≡ Some right → new ≡ was
+
+  abbrev pub UndoesRotateInnersAt : Sibling → InnerNodeId → InnerNodeId → Sides A → Type 0
+  UndoesRotateInnersAt giver left right sides =
+      (was : Slots (Inner K A) (Leaf K V)) → RotatesInnersAt cmp is_summary slot was now id giver left right sides → new ≡ was
+
+  abbrev pub UndoesMergeInnersAt : InnerNodeId → InnerNodeId → Sides A → Inner K A → ℕ → Type 0
+  UndoesMergeInnersAt left right sides emptied kept =
+      (was : Slots (Inner K A) (Leaf K V)) → MergesInnersAt cmp is_summary slot was now id left right sides emptied → kept ≡ length (inner_keys (was.inner left.0))
+      → slice_get (inner_children (was.inner id.0)) (slot + 1) ≡ Some (kind.Inner right) → new ≡ was

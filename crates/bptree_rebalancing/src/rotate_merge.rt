@@ -1,14 +1,10 @@
 //! Two siblings and their parent, all three in hand: one child or pair rotates, or the siblings
 //! merge. What can't be had on the way is refused, and then all three nodes are again what they
 //! were.
-ghost use Rattle.std.specs.Prelude.{◌≡◌, ◌<◌, ◌≤◌, ◌+◌, [], length, Some, IfOk, OnErr, IfErr, slice_get};
-ghost use Rattle.bptree_nodes.specs.Inner.{Inner};
-ghost use Rattle.bptree_nodes.specs.Leaf.{Leaf};
-ghost use Rattle.bptree_ascent.specs.Change.{StartsAt};
-ghost use Rattle.bptree_rebalancing.specs.Transfer.{other_of, CanGive, MovesPair, MovesChild, Rotates, Merges};
-ghost use Rattle.bptree_rebalancing.specs.RotateMerge.{RotatesLeaves, MergesLeaves, RotatesInners, MergesInners};
+ghost use Rattle.std.specs.Prelude.{◌≡◌, ◌<◌, ◌≤◌, ◌+◌, [], length, IfOk, OnErr, IfErr};
+ghost use Rattle.bptree_rebalancing.specs.Transfer.{other_of, CanGive, MovesPair, MovesChild};
+ghost use Rattle.bptree_rebalancing.specs.RotateMerge.{RotatesLeaves, MergesLeaves, RotatesInners, MergesInners, TakesInner, TakesInners, TakesLeaf, TakesLeaves, UndoesMergeInners, UndoesMergeLeaves, UndoesRotateInners, UndoesRotateLeaves};
 ghost use Rattle.bptree_ascent.specs.Sums.{HasPlace, SumsUp};
-ghost use Rattle.bptree_ascent.specs.LeafChange.{SumsUpLeaf};
 
 use bptree_arguments::argument::Argument;
 use bptree_ascent::node_changes::{Division, Resummed, resum, take_entry};
@@ -97,7 +93,7 @@ fn ask_leaves<K: Key, V: Drop, A: Argument<K>>(
     requires place { HasPlace node.old slot }
     requires room { length node.old.keys < 64 }
     requires some { 0 < length right.now.pairs }
-    ensures rotates { IfOk result (λ sums. Rotates K.cmp node.old slot child (SumsUpLeaf K.cmp A.is_summary left.now.pairs) (λ s. StartsAt K.cmp s right.now.pairs) (SumsUpLeaf K.cmp A.is_summary right.now.pairs) node.new sums.old) }
+    ensures rotates { IfOk result (TakesLeaves K.cmp A.is_summary node.old slot child left.now right.now node.new) }
     ensures sums { IfOk result (λ sums. SumsUp K.cmp A.is_summary node.new sums.above) }
     ensures refused { OnErr result (node.new ≡ node.old) }
 {
@@ -127,7 +123,7 @@ fn ask_inners<K: Key, A: Argument<K>>(
 ) -> Result<Resummed<A>, K>
     requires place { HasPlace node.old slot }
     requires room { length node.old.keys < 64 }
-    ensures rotates { IfOk result (λ sums. Rotates K.cmp node.old slot child (SumsUp K.cmp A.is_summary left.now) (λ s. s ≡ separator) (SumsUp K.cmp A.is_summary right.now) node.new sums.old) }
+    ensures rotates { IfOk result (TakesInners K.cmp A.is_summary node.old slot child left.now separator right.now node.new) }
     ensures sums { IfOk result (λ sums. SumsUp K.cmp A.is_summary node.new sums.above) }
     ensures refused { OnErr result (node.new ≡ node.old) }
     ensures handed_back { IfErr result (λ back. back ≡ separator) }
@@ -158,7 +154,7 @@ fn ask_leaf<K: Key, V: Drop, A: Argument<K>>(
     leaf: &LeafNode<K, V>,
 ) -> Result<Resummed<A>, AllocError>
     requires place { slot < length node.old.arguments }
-    ensures merges { IfOk result (λ sums. Merges node.old slot (SumsUpLeaf K.cmp A.is_summary leaf.now.pairs) node.new sums.old) }
+    ensures merges { IfOk result (TakesLeaf K.cmp A.is_summary node.old slot leaf.now node.new) }
     ensures sums { IfOk result (λ sums. SumsUp K.cmp A.is_summary node.new sums.above) }
     ensures refused { OnErr result (node.new ≡ node.old) }
 {
@@ -176,7 +172,7 @@ fn ask_inner<K: Key, A: Argument<K>>(
     child: &InnerNode<K, A>,
 ) -> Result<Resummed<A>, AllocError>
     requires place { slot < length node.old.arguments }
-    ensures merges { IfOk result (λ sums. Merges node.old slot (SumsUp K.cmp A.is_summary child.now) node.new sums.old) }
+    ensures merges { IfOk result (TakesInner K.cmp A.is_summary node.old slot child.now node.new) }
     ensures sums { IfOk result (λ sums. SumsUp K.cmp A.is_summary node.new sums.above) }
     ensures refused { OnErr result (node.new ≡ node.old) }
 {
@@ -237,7 +233,7 @@ pub fn undo_rotate_leaves<K: Key, V: Drop, A: Argument<K>>(
     requires place { HasPlace node.old (slot + 1) }
     requires most { length node.old.keys ≤ 64 }
     requires rotates { CanGive (other_of giver) (length left.old.pairs) (length right.old.pairs) }
-    ensures undoes { (was : Inner K A) (one other : Leaf K V) → RotatesLeaves K.cmp A.is_summary giver slot was one other node.old left.old right.old joint → (node.new ≡ was) × (left.new ≡ one) × (right.new ≡ other) }
+    ensures undoes { UndoesRotateLeaves K.cmp A.is_summary slot joint node.old left.old right.old node.new left.new right.new giver }
 {
     let (_, child, _) = node.remove_at(slot);
     node.set_argument(slot, joint.left);
@@ -299,7 +295,7 @@ pub fn undo_merge_leaves<K: Key, V: Drop, A: Argument<K>>(
     requires room { length node.old.keys < 64 }
     requires kept { kept ≤ length left.old.pairs }
     requires empty { right.old.pairs ≡ [] }
-    ensures undoes { (was : Inner K A) (one other : Leaf K V) → MergesLeaves K.cmp A.is_summary slot was one other node.old left.old right.old joint → slice_get was.children (slot + 1) ≡ Some child → kept ≡ length one.pairs → next ≡ one.next → (node.new ≡ was) × (left.new ≡ one) × (right.new ≡ other) }
+    ensures undoes { UndoesMergeLeaves K.cmp A.is_summary slot joint node.old left.old right.old node.new left.new right.new child kept next }
 {
     node.set_argument(slot, joint.left);
     node.insert_at(slot, joint.separator, child, joint.right);
@@ -359,7 +355,7 @@ pub fn undo_rotate_inners<K: Key, A: Argument<K>>(
     requires rotates { CanGive (other_of giver) (length left.old.keys) (length right.old.keys) }
     requires left { 0 < length left.old.children }
     requires right { 0 < length right.old.children }
-    ensures undoes { (was one other : Inner K A) → RotatesInners K.cmp A.is_summary giver slot was one other node.old left.old right.old sides → (node.new ≡ was) × (left.new ≡ one) × (right.new ≡ other) }
+    ensures undoes { UndoesRotateInners K.cmp A.is_summary slot sides node.old left.old right.old node.new left.new right.new giver }
 {
     let (up, child, _) = node.remove_at(slot);
     let separator = move_child(giver.other(), left, up, right);
@@ -422,7 +418,7 @@ pub fn undo_merge_inners<K: Key, A: Argument<K>>(
     requires kept { kept < length left.old.keys }
     requires most { kept ≤ 64 }
     requires shell { right.old.children ≡ [] }
-    ensures undoes { (was one other : Inner K A) → MergesInners K.cmp A.is_summary slot was one other node.old left.old right.old sides → slice_get was.children (slot + 1) ≡ Some child → kept ≡ length one.keys → (node.new ≡ was) × (left.new ≡ one) × (right.new ≡ other) }
+    ensures undoes { UndoesMergeInners K.cmp A.is_summary slot sides node.old left.old right.old node.new left.new right.new child kept }
 {
     let separator = left.hand_over(kept + 1, right);
     node.set_argument(slot, sides.left);

@@ -1,14 +1,12 @@
 //! Two siblings in a store, under their parent: they rotate or merge. Each change can be undone,
 //! and a refused one leaves every slot as it was.
-ghost use Rattle.std.specs.Prelude.{◌≡◌, ◌<◌, ◌≤◌, ◌+◌, length, IfOk, OnErr, Some, slice_get};
-ghost use Rattle.bptree_nodes.specs.Inner.{Inner};
-ghost use Rattle.bptree_nodes.specs.Leaf.{Leaf};
-ghost use Rattle.bptree_nodes.specs.Slot.{Slots, IsPresent};
-ghost use Rattle.bptree_shape.specs.Shape.{leaf_pairs, leaf_next, inner_keys, inner_children};
+ghost use Rattle.std.specs.Prelude.{◌≡◌, ◌<◌, ◌≤◌, ◌+◌, length, IfOk, OnErr};
+ghost use Rattle.bptree_nodes.specs.Slot.{IsPresent};
+ghost use Rattle.bptree_shape.specs.Shape.{leaf_pairs, inner_keys, inner_children};
 ghost use Rattle.bptree_keys.specs.declared.node_id.NodeId.TheVariants as kind;
-ghost use Rattle.bptree_rebalancing.specs.Transfer.{CanGive};
-ghost use Rattle.bptree_rebalancing.specs.RotateMerge.{RotatesLeavesAt, MergesLeavesAt, RotatesInnersAt, MergesInnersAt};
-ghost use Rattle.bptree_ascent.specs.Sums.{PlaceAt, SumsUpAt};
+ghost use Rattle.bptree_rebalancing.specs.RotateMerge.{RotatesLeavesAt, MergesLeavesAt, RotatesInnersAt, MergesInnersAt, HaveMergedInners, HaveMergedLeaves, HaveRotatedInners, HaveRotatedLeaves, UndoesMergeInnersAt, UndoesMergeLeavesAt, UndoesRotateInnersAt, UndoesRotateLeavesAt};
+ghost use Rattle.bptree_ascent.specs.Sums.{PlaceAt, SumsUpAt, SumsUpFirst};
+ghost use Rattle.bptree_rebalancing.specs.ChooseSibling.{CanGiveChild, CanGivePair, FitInOneLeaf, FitInOneNode};
 
 use crate::rotate_merge::{
     Joint, Sibling, Sides, merge_inners, merge_leaves, rotate_inners, rotate_leaves,
@@ -34,11 +32,11 @@ pub fn rotate_leaves_at<S: NodeStore>(
     requires most { length (inner_keys ((S.slots store.old).inner id.0)) ≤ 64 }
     requires left { IsPresent ((S.slots store.old).leaf left.0) }
     requires right { IsPresent ((S.slots store.old).leaf right.0) }
-    requires rotates { CanGive giver (length (leaf_pairs ((S.slots store.old).leaf left.0))) (length (leaf_pairs ((S.slots store.old).leaf right.0))) }
+    requires rotates { CanGivePair (S.slots store.old) giver left right }
     requires some { 1 < length (leaf_pairs ((S.slots store.old).leaf right.0)) }
     requires apart { left.0 ≡ right.0 → ⊥ }
     ensures rotates { IfOk result (λ done. RotatesLeavesAt S.K.cmp S.Argument.is_summary slot (S.slots store.old) (S.slots store.new) id giver left right done.1) }
-    ensures sums { IfOk result (λ done. SumsUpAt S.K.cmp S.Argument.is_summary ((S.slots store.new).inner id.0) done.0) }
+    ensures sums { IfOk result (SumsUpFirst S.K.cmp S.Argument.is_summary (S.slots store.new) id) }
     ensures refused { OnErr result (S.slots store.new ≡ S.slots store.old) }
 {
     let mut node = store.take_inner(id);
@@ -61,8 +59,8 @@ pub fn undo_rotate_leaves_at<S: NodeStore>(
     left: LeafNodeId,
     right: LeafNodeId,
 )
-    requires { (was : Slots (Inner S.K S.Argument) (Leaf S.K S.V)) × RotatesLeavesAt S.K.cmp S.Argument.is_summary slot was (S.slots store.old) id giver left right joint }
-    ensures { (was : Slots (Inner S.K S.Argument) (Leaf S.K S.V)) → RotatesLeavesAt S.K.cmp S.Argument.is_summary slot was (S.slots store.old) id giver left right joint → S.slots store.new ≡ was }
+    requires { HaveRotatedLeaves S.K.cmp S.Argument.is_summary slot (S.slots store.old) id giver left right joint }
+    ensures { UndoesRotateLeavesAt S.K.cmp S.Argument.is_summary slot (S.slots store.old) (S.slots store.new) id giver left right joint }
 {
     let mut node = store.take_inner(id);
     let mut one = store.take_leaf(left);
@@ -93,7 +91,7 @@ pub fn merge_leaves_at<S: NodeStore>(
     requires most { length (inner_keys ((S.slots store.old).inner id.0)) ≤ 64 }
     requires left { IsPresent ((S.slots store.old).leaf left.0) }
     requires right { IsPresent ((S.slots store.old).leaf right.0) }
-    requires fits { length (leaf_pairs ((S.slots store.old).leaf left.0)) + length (leaf_pairs ((S.slots store.old).leaf right.0)) ≤ 64 }
+    requires fits { FitInOneLeaf (S.slots store.old) left right }
     requires apart { left.0 ≡ right.0 → ⊥ }
     ensures merges { IfOk result (λ done. MergesLeavesAt S.K.cmp S.Argument.is_summary slot (S.slots store.old) (S.slots store.new) id left right done.1 done.2.value) }
     ensures sums { IfOk result (λ done. SumsUpAt S.K.cmp S.Argument.is_summary ((S.slots store.new).inner id.0) done.0) }
@@ -125,8 +123,8 @@ pub fn undo_merge_leaves_at<S: NodeStore>(
     right: LeafNodeId,
     mut emptied: Box<LeafNode<S::K, S::V>>,
 )
-    requires { (was : Slots (Inner S.K S.Argument) (Leaf S.K S.V)) × MergesLeavesAt S.K.cmp S.Argument.is_summary slot was (S.slots store.old) id left right joint emptied.value × (kept ≡ length (leaf_pairs (was.leaf left.0))) }
-    ensures { (was : Slots (Inner S.K S.Argument) (Leaf S.K S.V)) → MergesLeavesAt S.K.cmp S.Argument.is_summary slot was (S.slots store.old) id left right joint emptied.value → kept ≡ length (leaf_pairs (was.leaf left.0)) → slice_get (inner_children (was.inner id.0)) (slot + 1) ≡ Some (kind.Leaf right) → leaf_next (was.leaf left.0) ≡ Some right → S.slots store.new ≡ was }
+    requires { HaveMergedLeaves S.K.cmp S.Argument.is_summary slot (S.slots store.old) id left right joint emptied.value kept }
+    ensures { UndoesMergeLeavesAt S.K.cmp S.Argument.is_summary slot (S.slots store.old) (S.slots store.new) id left right joint emptied.value kept }
 {
     let mut node = store.take_inner(id);
     let mut one = store.take_leaf(left);
@@ -158,10 +156,10 @@ pub fn rotate_inners_at<S: NodeStore>(
     requires most { length (inner_keys ((S.slots store.old).inner id.0)) ≤ 64 }
     requires left { 0 < length (inner_children ((S.slots store.old).inner left.0)) }
     requires right { 0 < length (inner_children ((S.slots store.old).inner right.0)) }
-    requires rotates { CanGive giver (length (inner_keys ((S.slots store.old).inner left.0))) (length (inner_keys ((S.slots store.old).inner right.0))) }
+    requires rotates { CanGiveChild (S.slots store.old) giver left right }
     requires apart { (left.0 ≡ right.0 → ⊥) × (left.0 ≡ id.0 → ⊥) × (right.0 ≡ id.0 → ⊥) }
     ensures rotates { IfOk result (λ done. RotatesInnersAt S.K.cmp S.Argument.is_summary slot (S.slots store.old) (S.slots store.new) id giver left right done.1) }
-    ensures sums { IfOk result (λ done. SumsUpAt S.K.cmp S.Argument.is_summary ((S.slots store.new).inner id.0) done.0) }
+    ensures sums { IfOk result (SumsUpFirst S.K.cmp S.Argument.is_summary (S.slots store.new) id) }
     ensures refused { OnErr result (S.slots store.new ≡ S.slots store.old) }
 {
     let mut node = store.take_inner(id);
@@ -184,8 +182,8 @@ pub fn undo_rotate_inners_at<S: NodeStore>(
     left: InnerNodeId,
     right: InnerNodeId,
 )
-    requires { (was : Slots (Inner S.K S.Argument) (Leaf S.K S.V)) × RotatesInnersAt S.K.cmp S.Argument.is_summary slot was (S.slots store.old) id giver left right sides }
-    ensures { (was : Slots (Inner S.K S.Argument) (Leaf S.K S.V)) → RotatesInnersAt S.K.cmp S.Argument.is_summary slot was (S.slots store.old) id giver left right sides → S.slots store.new ≡ was }
+    requires { HaveRotatedInners S.K.cmp S.Argument.is_summary slot (S.slots store.old) id giver left right sides }
+    ensures { UndoesRotateInnersAt S.K.cmp S.Argument.is_summary slot (S.slots store.old) (S.slots store.new) id giver left right sides }
 {
     let mut node = store.take_inner(id);
     let mut one = store.take_inner(left);
@@ -216,7 +214,7 @@ pub fn merge_inners_at<S: NodeStore>(
     requires most { length (inner_keys ((S.slots store.old).inner id.0)) ≤ 64 }
     requires left { 0 < length (inner_children ((S.slots store.old).inner left.0)) }
     requires right { 0 < length (inner_children ((S.slots store.old).inner right.0)) }
-    requires fits { length (inner_keys ((S.slots store.old).inner left.0)) + length (inner_keys ((S.slots store.old).inner right.0)) < 64 }
+    requires fits { FitInOneNode (S.slots store.old) left right }
     requires apart { (left.0 ≡ right.0 → ⊥) × (left.0 ≡ id.0 → ⊥) × (right.0 ≡ id.0 → ⊥) }
     ensures merges { IfOk result (λ done. MergesInnersAt S.K.cmp S.Argument.is_summary slot (S.slots store.old) (S.slots store.new) id left right done.1 done.2.value) }
     ensures sums { IfOk result (λ done. SumsUpAt S.K.cmp S.Argument.is_summary ((S.slots store.new).inner id.0) done.0) }
@@ -248,8 +246,8 @@ pub fn undo_merge_inners_at<S: NodeStore>(
     right: InnerNodeId,
     mut emptied: Box<InnerNode<S::K, S::Argument>>,
 )
-    requires { (was : Slots (Inner S.K S.Argument) (Leaf S.K S.V)) × MergesInnersAt S.K.cmp S.Argument.is_summary slot was (S.slots store.old) id left right sides emptied.value × (kept ≡ length (inner_keys (was.inner left.0))) }
-    ensures { (was : Slots (Inner S.K S.Argument) (Leaf S.K S.V)) → MergesInnersAt S.K.cmp S.Argument.is_summary slot was (S.slots store.old) id left right sides emptied.value → kept ≡ length (inner_keys (was.inner left.0)) → slice_get (inner_children (was.inner id.0)) (slot + 1) ≡ Some (kind.Inner right) → S.slots store.new ≡ was }
+    requires { HaveMergedInners S.K.cmp S.Argument.is_summary slot (S.slots store.old) id left right sides emptied.value kept }
+    ensures { UndoesMergeInnersAt S.K.cmp S.Argument.is_summary slot (S.slots store.old) (S.slots store.new) id left right sides emptied.value kept }
 {
     let mut node = store.take_inner(id);
     let mut one = store.take_inner(left);

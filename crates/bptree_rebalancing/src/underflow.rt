@@ -1,11 +1,11 @@
 //! Underflow in a tree that stands in a store: which sibling a node rotates or merges with, and
 //! inner nodes that are rebalanced up the path.
-ghost use Rattle.std.specs.Prelude.{◌≡◌, ◌<◌, ◌≤◌, ◌+◌, IfOk, OnErr, IsTrue, Some, length, slice_get};
+ghost use Rattle.std.specs.Prelude.{◌≡◌, ◌<◌, ◌≤◌, ◌+◌, IfOk, OnErr, IsTrue, length};
 ghost use Rattle.bptree_keys.specs.declared.node_id.NodeId.TheVariants as kind;
 ghost use Rattle.bptree_nodes.specs.Slot.{IsPresent};
 ghost use Rattle.bptree_ascent.specs.Climb.{Climbs, Risen};
-ghost use Rattle.bptree_rebalancing.specs.ChooseSibling.{ChosenSibling, ChoosesSibling, child_size, AllInner, AllLeaves};
-ghost use Rattle.bptree_shape.specs.Shape.{inner_keys, inner_children};
+ghost use Rattle.bptree_rebalancing.specs.ChooseSibling.{ChosenSibling, ChoosesSibling, HasChild, HasOneChildMore, InnersBelow, LeavesBelow, size_below};
+ghost use Rattle.bptree_shape.specs.Shape.{inner_children};
 ghost use Rattle.bptree_rebalancing.specs.Trim.{ClimbsUnderflow, Sunk};
 
 use crate::rotate_merge::Sibling;
@@ -43,9 +43,9 @@ fn choose_sibling(place: usize, gives: bool, after: usize) -> (usize, Option<Sib
 // How many pairs the leaf at a place has, where one stands there.
 fn leaf_len<S: NodeStore>(store: &S, id: InnerNodeId, place: usize) -> usize
     requires present { IsPresent ((S.slots store.now).inner id.0) }
-    requires children { AllLeaves (S.slots store.now) (inner_children ((S.slots store.now).inner id.0)) }
-    requires long { length (inner_children ((S.slots store.now).inner id.0)) ≡ length (inner_keys ((S.slots store.now).inner id.0)) + 1 }
-    ensures { result ≡ child_size (S.slots store.now) (inner_children ((S.slots store.now).inner id.0)) place }
+    requires children { LeavesBelow (S.slots store.now) id }
+    requires long { HasOneChildMore (S.slots store.now) id }
+    ensures { result ≡ size_below (S.slots store.now) id place }
 {
     let node = store.get_inner(id);
     if place > node.len() {
@@ -60,9 +60,9 @@ fn leaf_len<S: NodeStore>(store: &S, id: InnerNodeId, place: usize) -> usize
 // How many keys the inner node at a place has, where one stands there.
 fn inner_len<S: NodeStore>(store: &S, id: InnerNodeId, place: usize) -> usize
     requires present { IsPresent ((S.slots store.now).inner id.0) }
-    requires children { AllInner (S.slots store.now) (inner_children ((S.slots store.now).inner id.0)) }
-    requires long { length (inner_children ((S.slots store.now).inner id.0)) ≡ length (inner_keys ((S.slots store.now).inner id.0)) + 1 }
-    ensures { result ≡ child_size (S.slots store.now) (inner_children ((S.slots store.now).inner id.0)) place }
+    requires children { InnersBelow (S.slots store.now) id }
+    requires long { HasOneChildMore (S.slots store.now) id }
+    ensures { result ≡ size_below (S.slots store.now) id place }
 {
     let node = store.get_inner(id);
     if place > node.len() {
@@ -82,11 +82,11 @@ pub fn leaf_sibling<S: NodeStore>(
     place: usize,
 ) -> (usize, Option<Sibling>)
     requires present { IsPresent ((S.slots store.now).inner id.0) }
-    requires children { AllLeaves (S.slots store.now) (inner_children ((S.slots store.now).inner id.0)) }
-    requires long { length (inner_children ((S.slots store.now).inner id.0)) ≡ length (inner_keys ((S.slots store.now).inner id.0)) + 1 }
+    requires children { LeavesBelow (S.slots store.now) id }
+    requires long { HasOneChildMore (S.slots store.now) id }
     requires place { place < length (inner_children ((S.slots store.now).inner id.0)) }
     requires fits { length (inner_children ((S.slots store.now).inner id.0)) ≤ 65 }
-    ensures { ChoosesSibling (child_size (S.slots store.now) (inner_children ((S.slots store.now).inner id.0))) place result.0 result.1 }
+    ensures { ChoosesSibling (size_below (S.slots store.now) id) place result.0 result.1 }
 {
     let after = leaf_len(store, id, place + 1);
     if place == 0 {
@@ -99,11 +99,11 @@ pub fn leaf_sibling<S: NodeStore>(
 // The same of an inner node.
 fn inner_sibling<S: NodeStore>(store: &S, id: InnerNodeId, place: usize) -> (usize, Option<Sibling>)
     requires present { IsPresent ((S.slots store.now).inner id.0) }
-    requires children { AllInner (S.slots store.now) (inner_children ((S.slots store.now).inner id.0)) }
-    requires long { length (inner_children ((S.slots store.now).inner id.0)) ≡ length (inner_keys ((S.slots store.now).inner id.0)) + 1 }
+    requires children { InnersBelow (S.slots store.now) id }
+    requires long { HasOneChildMore (S.slots store.now) id }
     requires place { place < length (inner_children ((S.slots store.now).inner id.0)) }
     requires fits { length (inner_children ((S.slots store.now).inner id.0)) ≤ 65 }
-    ensures { ChoosesSibling (child_size (S.slots store.now) (inner_children ((S.slots store.now).inner id.0))) place result.0 result.1 }
+    ensures { ChoosesSibling (size_below (S.slots store.now) id) place result.0 result.1 }
 {
     let after = inner_len(store, id, place + 1);
     if place == 0 {
@@ -186,9 +186,9 @@ pub fn ascend_underflow<S: NodeStore>(
 // The inner node at a place of a node.
 fn inner_at<S: NodeStore>(store: &S, id: InnerNodeId, place: usize) -> InnerNodeId
     requires present { IsPresent ((S.slots store.now).inner id.0) }
-    requires children { AllInner (S.slots store.now) (inner_children ((S.slots store.now).inner id.0)) }
+    requires children { InnersBelow (S.slots store.now) id }
     requires place { place < length (inner_children ((S.slots store.now).inner id.0)) }
-    ensures { slice_get (inner_children ((S.slots store.now).inner id.0)) place ≡ Some (kind.Inner result) }
+    ensures { HasChild (S.slots store.now) id place (kind.Inner result) }
 {
     match store.get_inner(id).child_id(place) {
         NodeId::Inner(child) => child,
@@ -199,11 +199,11 @@ fn inner_at<S: NodeStore>(store: &S, id: InnerNodeId, place: usize) -> InnerNode
 // The two inner nodes on both sides of a separator.
 fn inners_at<S: NodeStore>(store: &S, id: InnerNodeId, slot: usize) -> (InnerNodeId, InnerNodeId)
     requires present { IsPresent ((S.slots store.now).inner id.0) }
-    requires children { AllInner (S.slots store.now) (inner_children ((S.slots store.now).inner id.0)) }
+    requires children { InnersBelow (S.slots store.now) id }
     requires fits { length (inner_children ((S.slots store.now).inner id.0)) ≤ 65 }
     requires slot { slot + 1 < length (inner_children ((S.slots store.now).inner id.0)) }
-    ensures left { slice_get (inner_children ((S.slots store.now).inner id.0)) slot ≡ Some (kind.Inner result.0) }
-    ensures right { slice_get (inner_children ((S.slots store.now).inner id.0)) (slot + 1) ≡ Some (kind.Inner result.1) }
+    ensures left { HasChild (S.slots store.now) id slot (kind.Inner result.0) }
+    ensures right { HasChild (S.slots store.now) id (slot + 1) (kind.Inner result.1) }
 {
     (inner_at(store, id, slot), inner_at(store, id, slot + 1))
 }
@@ -211,9 +211,9 @@ fn inners_at<S: NodeStore>(store: &S, id: InnerNodeId, slot: usize) -> (InnerNod
 // The leaf at a place of a node.
 fn leaf_at<S: NodeStore>(store: &S, id: InnerNodeId, place: usize) -> LeafNodeId
     requires present { IsPresent ((S.slots store.now).inner id.0) }
-    requires children { AllLeaves (S.slots store.now) (inner_children ((S.slots store.now).inner id.0)) }
+    requires children { LeavesBelow (S.slots store.now) id }
     requires place { place < length (inner_children ((S.slots store.now).inner id.0)) }
-    ensures { slice_get (inner_children ((S.slots store.now).inner id.0)) place ≡ Some (kind.Leaf result) }
+    ensures { HasChild (S.slots store.now) id place (kind.Leaf result) }
 {
     match store.get_inner(id).child_id(place) {
         NodeId::Leaf(child) => child,
@@ -224,11 +224,11 @@ fn leaf_at<S: NodeStore>(store: &S, id: InnerNodeId, place: usize) -> LeafNodeId
 /// The two leaves on both sides of a separator.
 pub fn leaves_at<S: NodeStore>(store: &S, id: InnerNodeId, slot: usize) -> (LeafNodeId, LeafNodeId)
     requires present { IsPresent ((S.slots store.now).inner id.0) }
-    requires children { AllLeaves (S.slots store.now) (inner_children ((S.slots store.now).inner id.0)) }
+    requires children { LeavesBelow (S.slots store.now) id }
     requires fits { length (inner_children ((S.slots store.now).inner id.0)) ≤ 65 }
     requires slot { slot + 1 < length (inner_children ((S.slots store.now).inner id.0)) }
-    ensures left { slice_get (inner_children ((S.slots store.now).inner id.0)) slot ≡ Some (kind.Leaf result.0) }
-    ensures right { slice_get (inner_children ((S.slots store.now).inner id.0)) (slot + 1) ≡ Some (kind.Leaf result.1) }
+    ensures left { HasChild (S.slots store.now) id slot (kind.Leaf result.0) }
+    ensures right { HasChild (S.slots store.now) id (slot + 1) (kind.Leaf result.1) }
 {
     (leaf_at(store, id, slot), leaf_at(store, id, slot + 1))
 }
