@@ -1,5 +1,5 @@
 -- What callers say of lists, trees and what a call told.
-use Rattle.std.specs.Prelude.{◌≡◌, ◌<◌, ◌||◌, ℕ, false, List, [], ◌∷◌, ◌++◌, Option, Some, length, slice_get}
+use Rattle.std.specs.Prelude.{◌≡◌, ◌<◌, ◌||◌, ℕ, false, List, [], ◌∷◌, ◌++◌, Option, Some, None, length, slice_get}
 use Rattle.std.specs.Borrow.{Bor}
 use Rattle.std.specs.declared.cmp.Ordering.{Ordering}
 use Rattle.std.specs.Map.{keys_of}
@@ -7,12 +7,14 @@ use Rattle.std.specs.Map.Iter.{deref_pair}
 use Rattle.std.specs.Option.{option_map}
 use Rattle.bptree_ascent.specs.NodeTree.{NodeTree}
 use Rattle.bptree_keys.specs.Contents.{has, value, put, pairs_below, pairs_above}
+use Rattle.bptree_keys.specs.Ranges.{between}
 use Rattle.bptree_keys.specs.declared.node_id.NodeId.{NodeId}
 use Rattle.bptree_maps.specs.Keys.{holds, with_key}
 use Rattle.bptree_nodes.specs.Inner.{Inner}
 use Rattle.bptree_nodes.specs.Leaf.{Leaf, set_value_at}
 use Rattle.bptree_nodes.specs.Slot.{Slots, IsPresent}
 use Rattle.bptree_shape.specs.Shape.{leaf_count, inner_count, leaf_pairs}
+use Rattle.bptree_tree.specs.Whole.{HasSameNodes}
 
 -- ---- short lists
 
@@ -59,6 +61,13 @@ module _ {K V : Type 0} where
   AllowsSome selects query l = (i : ℕ) × (i < length l) × selects query (keys_of l) (Some i)
 
   module _ (cmp : K → K → Ordering) where
+    -- the pairs from one key on and below another, and the keys from one on
+    abbrev pub between_keys : List (K × V) → K → K → List (K × V)
+    between_keys l lo hi = between cmp l (Some lo) (Some hi)
+
+    abbrev pub keys_from : List (K × V) → K → List K
+    keys_from l k = keys_of (between cmp l (Some k) None)
+
     -- a pair stands between the smaller and the greater ones
     abbrev pub AddsBetween : K → V → List (K × V) → List (K × V) → Type 0
     AddsBetween k v old new = new ≡ pairs_below cmp old k ++ (k, v) ∷ pairs_above cmp old k
@@ -105,6 +114,10 @@ module _ {S K V A : Type 0} (slots : S → Slots (Inner K A) (Leaf K V)) where
   -- the contents, and what stands under each number of the store, are what they were
   abbrev pub HoldsTheSame : NodeTree S K V A → NodeTree S K V A → Type 0
   HoldsTheSame new old = (new.contents ≡ old.contents) × (slots new.store ≡ slots old.store)
+
+  -- and so is all that the tree is
+  abbrev pub StaysWhole : NodeTree S K V A → NodeTree S K V A → Type 0
+  StaysWhole new old = (new.contents ≡ old.contents) × HasSameNodes slots new old
 
   -- each leaf of a clone has as many pairs as the leaf under the same number
   abbrev pub HasLeavesAsLong : NodeTree S K V A → NodeTree S K V A → Type 0

@@ -3,8 +3,8 @@ ghost use Rattle.std.specs.Prelude.{◌≡◌, ◌<◌, ◌-◌, ◌^◌, length
 ghost use Rattle.std.specs.declared.cmp.Ordering.TheVariants.{Equal};
 ghost use Rattle.bptree_keys.specs.Contents.{has, value as value_of, put, del};
 ghost use Rattle.bptree_ascent.specs.Lending.{written};
-ghost use Rattle.bptree_tree.specs.Whole.{HasSameNodes, HasSameTop};
-ghost use Rattle.bptree_callers.specs.Words.{AddsBetween, HoldsTheSame, PopsFirstOfTwo, PopsLastOfTwo, told_value};
+ghost use Rattle.bptree_tree.specs.Whole.{HasSameTop};
+ghost use Rattle.bptree_callers.specs.Words.{AddsBetween, HoldsTheSame, PopsFirstOfTwo, PopsLastOfTwo, told_value, StaysWhole};
 
 use bptree_stores::node_stores::NodeStore;
 use bptree_tree::{BPlusTree, InsertError};
@@ -83,7 +83,7 @@ fn removes<S: NodeStore>(tree: &mut BPlusTree<S>, k: &S::K) -> Option<S::V>
     requires { has S.K.cmp tree.old.contents k.now ≡ true }
     ensures value { IfSome result (λ value. value_of S.K.cmp tree.old.contents k.now ≡ Some value) }
     ensures contents { IfSome result (λ _. tree.new.contents ≡ del S.K.cmp tree.old.contents k.now) }
-    ensures refused { result ≡ None → (tree.new.contents ≡ tree.old.contents) × HasSameNodes S.slots tree.new tree.old }
+    ensures refused { result ≡ None → StaysWhole S.slots tree.new tree.old }
 {
     match tree.remove(k) {
         Ok(Some(value)) => Some(value),

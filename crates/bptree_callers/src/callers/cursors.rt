@@ -4,7 +4,7 @@ ghost use Rattle.std.specs.Ordering.{nat_cmp};
 ghost use Rattle.std.specs.Option.{option_copied, option_map};
 ghost use Rattle.bptree_keys.specs.Contents.{has, next, previous, value as value_of};
 ghost use Rattle.bptree_keys.specs.Neighbours.{IsAfter, IsBefore};
-ghost use Rattle.bptree_tree.specs.Cursor.{cursor_key};
+ghost use Rattle.bptree_tree.specs.Cursor.{cursor_key, pair_after, pair_before};
 ghost use Rattle.bptree_tree.specs.Entries.{last_of};
 ghost use Rattle.bptree_callers.specs.Words.{told_key};
 
@@ -102,7 +102,7 @@ fn begins_on_the_first<S: NodeStore<K = u64>>(
 // The key after a cursor and the one before it, with their values and without. A clone of a number
 // is never refused, and so no step is.
 fn goes_on<S: NodeStore<K = u64>>(cursor: &Cursor<u64>, tree: &BPlusTree<S>) -> Option<u64>
-    ensures { result ≡ told_key (next nat_cmp tree.now.contents (cursor_key cursor.now)) }
+    ensures { result ≡ told_key (pair_after nat_cmp tree.now.contents cursor.now) }
 {
     match cursor.next(tree) {
         Ok(found) => key_of(found),
@@ -111,7 +111,7 @@ fn goes_on<S: NodeStore<K = u64>>(cursor: &Cursor<u64>, tree: &BPlusTree<S>) -> 
 }
 
 fn goes_back<S: NodeStore<K = u64>>(cursor: &Cursor<u64>, tree: &BPlusTree<S>) -> Option<u64>
-    ensures { result ≡ told_key (previous nat_cmp tree.now.contents (cursor_key cursor.now)) }
+    ensures { result ≡ told_key (pair_before nat_cmp tree.now.contents cursor.now) }
 {
     match cursor.prev(tree) {
         Ok(found) => key_of(found),
@@ -144,7 +144,7 @@ fn goes_on_with_the_value<S: NodeStore<K = u64, V = u64>>(
     cursor: &Cursor<u64>,
     tree: &BPlusTree<S>,
 ) -> Result<Option<(u64, u64)>, AllocError>
-    ensures { IfOk result (λ it. it ≡ next nat_cmp tree.now.contents (cursor_key cursor.now)) }
+    ensures { IfOk result (λ it. it ≡ pair_after nat_cmp tree.now.contents cursor.now) }
 {
     match cursor.next_with_value(tree)? {
         Some((there, value)) => Ok(Some((*there.key(), *value))),
@@ -156,7 +156,7 @@ fn goes_back_with_the_value<S: NodeStore<K = u64, V = u64>>(
     cursor: &Cursor<u64>,
     tree: &BPlusTree<S>,
 ) -> Result<Option<(u64, u64)>, AllocError>
-    ensures { IfOk result (λ it. it ≡ previous nat_cmp tree.now.contents (cursor_key cursor.now)) }
+    ensures { IfOk result (λ it. it ≡ pair_before nat_cmp tree.now.contents cursor.now) }
 {
     match cursor.prev_with_value(tree)? {
         Some((there, value)) => Ok(Some((*there.key(), *value))),
@@ -179,7 +179,7 @@ fn goes_along_three<S: NodeStore<K = u64, V = u64>>(
 
 // Before the first of three keys, and after the last, there is nothing, and nothing is refused.
 fn stops_at_the_ends<S: NodeStore<K = u64>>(cursor: &Cursor<u64>, tree: &BPlusTree<S>) -> bool
-    requires { next nat_cmp tree.now.contents (cursor_key cursor.now) ≡ None }
+    requires { pair_after nat_cmp tree.now.contents cursor.now ≡ None }
     ensures { result ≡ true }
 {
     match cursor.next(tree) {
@@ -217,7 +217,7 @@ fn reads_as_a_look_up<S: NodeStore<V = u64>>(cursor: &Cursor<S::K>, tree: &BPlus
 
 // A cursor for a key is there where the key is.
 fn is_there<S: NodeStore<K = u64>>(tree: &BPlusTree<S>, k: u64) -> Result<bool, AllocError>
-    ensures { IfOk result (λ there. there ≡ has nat_cmp tree.now.contents k) }
+    ensures { IfOk result (λ it. it ≡ has nat_cmp tree.now.contents k) }
 {
     match tree.get_cursor(&k)? {
         Some((cursor, _)) => Ok(cursor.exists(tree)),

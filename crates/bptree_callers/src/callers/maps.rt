@@ -7,7 +7,7 @@ ghost use Rattle.std.specs.Ordering.{is_lt};
 ghost use Rattle.bptree_arguments.specs.CountLaws.{count_below};
 ghost use Rattle.bptree_arguments.specs.Visits.{answered};
 ghost use Rattle.bptree_ascent.specs.Lending.{written};
-ghost use Rattle.bptree_keys.specs.Contents.{IsAscending, has, value as value_of, put, del, gather, pairs_below};
+ghost use Rattle.bptree_keys.specs.Contents.{IsAscending, has, value as value_of, put, del, gather, below};
 ghost use Rattle.bptree_keys.specs.Ranges.{between};
 ghost use Rattle.bptree_nodes.specs.Leaf.{set_value_at};
 ghost use Rattle.bptree_tree.specs.Cursor.{cursor_key};
@@ -15,7 +15,7 @@ ghost use Rattle.bptree_tree.specs.Entries.{entry, last_of};
 ghost use Rattle.bptree_maps.specs.Gathering.{AreFewFor};
 ghost use Rattle.bptree_tree.specs.Selected.{SelectsNone};
 ghost use Rattle.std.specs.Map.Iter.{deref_pair};
-ghost use Rattle.bptree_callers.specs.Words.{IsOneOf, PopsFirstOfTwo, PopsLastOfTwo, ShowsEndsOfTwo, TakesMiddleOfThree, WritesSome, told_value};
+ghost use Rattle.bptree_callers.specs.Words.{IsOneOf, PopsFirstOfTwo, PopsLastOfTwo, ShowsEndsOfTwo, TakesMiddleOfThree, WritesSome, told_value, between_keys, keys_from};
 
 use bptree_arguments::argument::{Argument, CloneArgument, RankArgument, SearchArgument};
 use bptree_arguments::count::Count;
@@ -462,8 +462,8 @@ fn sums_up_both_sides<K: Key, V: Drop, A: Argument<K>>(
     map: &BPlusTreeMap<K, V, A>,
     k: &K,
 ) -> Result<(A, A), AllocError>
-    ensures below { IfOk result (λ sums. A.is_summary sums.0 (keys_of (pairs_below K.cmp map.now k.now))) }
-    ensures from { IfOk result (λ sums. A.is_summary sums.1 (keys_of (between K.cmp map.now (Some k.now) None))) }
+    ensures below { IfOk result (λ sums. A.is_summary sums.0 (below K.cmp map.now k.now)) }
+    ensures from { IfOk result (λ sums. A.is_summary sums.1 (keys_from K.cmp map.now k.now)) }
 {
     let below = map.range_argument(None, Some(k))?;
     let from = map.range_argument(Some(k), None)?;
@@ -476,7 +476,7 @@ fn counts_the_pairs_between<K: Key, V: Drop>(
     lo: &K,
     hi: &K,
 ) -> Result<usize, AllocError>
-    ensures { IfOk result (λ n. n ≡ length (between K.cmp map.now (Some lo.now) (Some hi.now))) }
+    ensures { IfOk result (λ n. n ≡ length (between_keys K.cmp map.now lo.now hi.now)) }
 {
     Ok(map.range_argument(Some(lo), Some(hi))?.count())
 }
@@ -542,7 +542,7 @@ fn begins_at_its_key<K: Key, V: Drop, A: Argument<K>>(
     k: &K,
 ) -> Result<Option<Cursor<K>>, AllocError>
     requires { has K.cmp map.now k.now ≡ true }
-    ensures { IfOk result (λ found. IsSomeAnd found (λ there. K.cmp (cursor_key there) k.now ≡ Equal)) }
+    ensures { IfOk result (λ found. IsSomeAnd found (λ c. K.cmp (cursor_key c) k.now ≡ Equal)) }
 {
     // Read, so that the keys are known to ascend.
     let _len = map.len();
@@ -557,7 +557,7 @@ fn finds_no_smaller_key<K: Key, V: Drop, A: Argument<K>>(
     map: &BPlusTreeMap<K, V, A>,
     k: &K,
 ) -> Result<Option<Cursor<K>>, AllocError>
-    ensures { IfOk result (λ found. IfSome found (λ there. is_lt (K.cmp (cursor_key there) k.now) ≡ false)) }
+    ensures { IfOk result (λ found. IfSome found (λ c. is_lt (K.cmp (cursor_key c) k.now) ≡ false)) }
 {
     match map.lower_bound(k)? {
         Some((cursor, _)) => Ok(Some(cursor)),
@@ -570,7 +570,7 @@ fn finds_a_greater_key<K: Key, V: Drop, A: Argument<K>>(
     map: &BPlusTreeMap<K, V, A>,
     k: &K,
 ) -> Result<Option<Cursor<K>>, AllocError>
-    ensures { IfOk result (λ found. IfSome found (λ there. K.cmp (cursor_key there) k.now ≡ Greater)) }
+    ensures { IfOk result (λ found. IfSome found (λ c. K.cmp (cursor_key c) k.now ≡ Greater)) }
 {
     match map.upper_bound(k)? {
         Some((cursor, _)) => Ok(Some(cursor)),

@@ -5,10 +5,10 @@ ghost use Rattle.std.specs.Ordering.{nat_cmp};
 ghost use Rattle.std.specs.Option.{option_map};
 ghost use Rattle.bptree_arguments.specs.CountLaws.{count_below};
 ghost use Rattle.bptree_keys.specs.Contents.{has, del};
-ghost use Rattle.bptree_tree.specs.Whole.{IsUntouched, HasSameNodes};
+ghost use Rattle.bptree_tree.specs.Whole.{IsUntouched};
 ghost use Rattle.bptree_tree.specs.Selected.{SelectsNone};
 ghost use Rattle.std.specs.Map.Iter.{deref_pair};
-ghost use Rattle.bptree_callers.specs.Words.{AllowsSome, HoldsTheSame, WritesSome};
+ghost use Rattle.bptree_callers.specs.Words.{AllowsSome, HoldsTheSame, WritesSome, StaysWhole};
 
 use bptree_arguments::argument::{RankArgument, SearchArgument};
 use bptree_arguments::count::Count;
@@ -135,7 +135,7 @@ fn takes_the_pair_at_a_place<S: NodeStore<K = u64, V = u64, Argument = Count>>(
     requires { place < length tree.old.contents }
     ensures pair { IfOk result (λ pair. slice_get tree.old.contents place ≡ Some pair) }
     ensures others { OnOk result (tree.new.contents ≡ remove tree.old.contents place) }
-    ensures refused { OnErr result ((tree.new.contents ≡ tree.old.contents) × HasSameNodes S.slots tree.new tree.old) }
+    ensures refused { OnErr result (StaysWhole S.slots tree.new tree.old) }
 {
     match tree.remove_by_argument(place)? {
         Some(pair) => Ok(pair),

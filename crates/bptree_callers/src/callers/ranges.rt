@@ -5,9 +5,10 @@ ghost use Rattle.std.specs.Map.{keys_of};
 ghost use Rattle.std.specs.Option.{option_map};
 ghost use Rattle.std.specs.Ordering.{nat_cmp};
 ghost use Rattle.bptree_arguments.specs.Groups.{group};
-ghost use Rattle.bptree_keys.specs.Contents.{pairs_below};
+ghost use Rattle.bptree_keys.specs.Contents.{below};
 ghost use Rattle.bptree_keys.specs.Ranges.{between, part};
 ghost use Rattle.std.specs.Map.Iter.{deref_pair};
+ghost use Rattle.bptree_callers.specs.Words.{between_keys, keys_from};
 
 use bptree_arguments::argument::SearchArgument;
 use bptree_arguments::count::Count;
@@ -25,8 +26,8 @@ fn gives_the_first_between<'a, S: NodeStore>(
     lo: &S::K,
     hi: &S::K,
 ) -> (usize, Option<(&'a S::K, &'a S::V)>)
-    ensures len { result.0 ≡ length (between S.K.cmp tree.now.contents (Some lo.now) (Some hi.now)) }
-    ensures first { option_map deref_pair result.1 ≡ slice_get (between S.K.cmp tree.now.contents (Some lo.now) (Some hi.now)) 0 }
+    ensures len { result.0 ≡ length (between_keys S.K.cmp tree.now.contents lo.now hi.now) }
+    ensures first { option_map deref_pair result.1 ≡ slice_get (between_keys S.K.cmp tree.now.contents lo.now hi.now) 0 }
 {
     let mut pairs = tree.range(Some(lo), Some(hi));
     let len = pairs.len();
@@ -90,8 +91,8 @@ fn sums_up_both_sides<S: NodeStore>(
     tree: &BPlusTree<S>,
     k: &S::K,
 ) -> Result<(S::Argument, S::Argument), AllocError>
-    ensures below { IfOk result (λ sums. S.Argument.is_summary sums.0 (keys_of (pairs_below S.K.cmp tree.now.contents k.now))) }
-    ensures from { IfOk result (λ sums. S.Argument.is_summary sums.1 (keys_of (between S.K.cmp tree.now.contents (Some k.now) None))) }
+    ensures below { IfOk result (λ sums. S.Argument.is_summary sums.0 (below S.K.cmp tree.now.contents k.now)) }
+    ensures from { IfOk result (λ sums. S.Argument.is_summary sums.1 (keys_from S.K.cmp tree.now.contents k.now)) }
 {
     let below = tree.range_argument(None, Some(k))?;
     let from = tree.range_argument(Some(k), None)?;
@@ -104,7 +105,7 @@ fn counts_the_pairs_between<S: NodeStore<K = u64, V = u64, Argument = Count>>(
     lo: &u64,
     hi: &u64,
 ) -> Result<usize, AllocError>
-    ensures { IfOk result (λ n. n ≡ length (between nat_cmp tree.now.contents (Some lo.now) (Some hi.now))) }
+    ensures { IfOk result (λ n. n ≡ length (between_keys nat_cmp tree.now.contents lo.now hi.now)) }
 {
     Ok(tree.range_argument(Some(lo), Some(hi))?.count())
 }

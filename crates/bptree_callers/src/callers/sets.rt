@@ -20,7 +20,7 @@ use std::alloc::{AllocError, Global};
 
 // A new set holds nothing.
 fn holds_nothing<K: Key>(alloc: Global, k: &K) -> Result<bool, AllocError>
-    ensures { IfOk result (λ there. there ≡ false) }
+    ensures { IfOk result (λ it. it ≡ false) }
 {
     Ok(BPlusTreeSet::new(alloc)?.contains(k))
 }
@@ -53,7 +53,7 @@ fn holds_what_was_put_in<K: Key>(
     k: K,
     other: &K,
 ) -> Result<bool, InsertError<K, ()>>
-    ensures { IfOk result (λ there. there ≡ is_eq (K.cmp k other.now) || holds K.cmp set.old other.now) }
+    ensures { IfOk result (λ it. it ≡ is_eq (K.cmp k other.now) || holds K.cmp set.old other.now) }
 {
     laws_of_keys::<K>();
     let _len = set.len();
@@ -87,7 +87,7 @@ fn lacks_what_was_taken_out<K: Key>(
     k: &K,
     other: &K,
 ) -> Result<bool, AllocError>
-    ensures { IfOk result (λ there. there ≡ not (is_eq (K.cmp k.now other.now)) && holds K.cmp set.old other.now) }
+    ensures { IfOk result (λ it. it ≡ not (is_eq (K.cmp k.now other.now)) && holds K.cmp set.old other.now) }
 {
     laws_of_keys::<K>();
     let _len = set.len();

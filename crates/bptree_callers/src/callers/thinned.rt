@@ -1,9 +1,10 @@
 //! Callers that keep some pairs or keys, or take out those between two keys.
-ghost use Rattle.std.specs.Prelude.{◌≡◌, ◌==◌, [], filter, map as each, not, Some, None, OnOk};
+ghost use Rattle.std.specs.Prelude.{◌≡◌, ◌==◌, [], filter, map as each, not, Some, OnOk};
 ghost use Rattle.bptree_callers.specs.Numbers.{halved};
 ghost use Rattle.bptree_keys.specs.Contents.{has};
 ghost use Rattle.bptree_keys.specs.Ranges.{between};
 ghost use Rattle.bptree_maps.specs.Keys.{holds, keys_between};
+ghost use Rattle.bptree_callers.specs.Words.{between_keys};
 
 use bptree_arguments::argument::Argument;
 use bptree_keys::key::Key;
@@ -20,7 +21,7 @@ fn empties_a_part_of_a_tree<S: NodeStore>(
     lo: &S::K,
     hi: &S::K,
 ) -> Result<usize, AllocError>
-    ensures between { OnOk result (between S.K.cmp tree.new.contents (Some lo.now) (Some hi.now) ≡ []) }
+    ensures between { OnOk result (between_keys S.K.cmp tree.new.contents lo.now hi.now ≡ []) }
     ensures end { OnOk result (has S.K.cmp tree.new.contents hi.now ≡ has S.K.cmp tree.old.contents hi.now) }
 {
     tree.remove_range(Some(lo), Some(hi))
@@ -32,7 +33,7 @@ fn empties_a_part<K: Key, V: Drop, A: Argument<K>>(
     lo: &K,
     hi: &K,
 ) -> Result<usize, AllocError>
-    ensures between { OnOk result (between K.cmp map.new (Some lo.now) (Some hi.now) ≡ []) }
+    ensures between { OnOk result (between_keys K.cmp map.new lo.now hi.now ≡ []) }
     ensures end { OnOk result (has K.cmp map.new hi.now ≡ has K.cmp map.old hi.now) }
 {
     map.remove_range(Some(lo), Some(hi))

@@ -5,7 +5,8 @@ ghost use Rattle.std.specs.Option.{option_map};
 ghost use Rattle.bptree_keys.specs.Contents.{has, put, value as value_of};
 ghost use Rattle.bptree_keys.specs.Ranges.{between};
 ghost use Rattle.bptree_callers.specs.Numbers.{one_more};
-ghost use Rattle.bptree_tree.specs.Refusal.{pair_of};
+ghost use Rattle.bptree_tree.specs.Refusal.{HandsBack};
+ghost use Rattle.bptree_callers.specs.Words.{between_keys};
 
 use bptree_arguments::argument::Argument;
 use bptree_arguments::count::Count;
@@ -35,7 +36,7 @@ fn counts_at<K: Key, A: Argument<K>>(
     k: K,
 ) -> Result<(), InsertError<K, u64>>
     ensures counted { OnOk result (map.new ≡ put K.cmp map.old k (one_more (value_of K.cmp map.old k))) }
-    ensures refused { IfErr result (λ refusal. (pair_of refusal ≡ (k, 0)) × (map.new ≡ map.old)) }
+    ensures refused { IfErr result (HandsBack (k, 0) map.old map.new) }
 {
     let count = map.get_or_insert_with(k, || 0)?;
     *count = count.wrapping_add(1);
@@ -68,7 +69,7 @@ fn changes_nothing_between<K: Key, V: Drop, A: Argument<K>, F: FnMut(&K, &mut V)
     f: F,
 )
     requires { F.IsAlwaysCallable f }
-    ensures { between K.cmp map.old (Some lo.now) (Some hi.now) ≡ [] → map.new ≡ map.old }
+    ensures { between_keys K.cmp map.old lo.now hi.now ≡ [] → map.new ≡ map.old }
 {
     map.update_range(Some(lo), Some(hi), f);
 }
