@@ -1,11 +1,14 @@
 -- What putting a pair does to a whole tree.
-use Rattle.std.specs.Prelude.{◌≡◌, ℕ, suc, ◌+◌, ◌<◌, ◌^◌, false, List, length, Option, Some, None}
+use Rattle.std.specs.Prelude.{◌≡◌, ℕ, suc, ◌+◌, ◌<◌, ◌≤◌, ◌^◌, false, List, length, slice_get, Option, Some, None, Result, IfOk}
 use Rattle.std.specs.declared.cmp.Ordering.{Ordering}
-use Rattle.std.specs.Map.{keys_of}
+use Rattle.std.specs.Map.{keys_of, values_of}
 use Rattle.bptree_keys.specs.Contents.{below, has, value, put}
 use Rattle.bptree_nodes.specs.Inner.{Inner}
-use Rattle.bptree_nodes.specs.Leaf.{Leaf}
-use Rattle.bptree_nodes.specs.Slot.{Slots}
+use Rattle.bptree_nodes.specs.Leaf.{Leaf, pairs_moved, set_value_at}
+use Rattle.bptree_nodes.specs.Slot.{Slots, Present, UpdatesLeaf}
+use Rattle.bptree_ascent.specs.Change.{StartsAt}
+use Rattle.bptree_ascent.specs.LeafChange.{Adds, DividesLeaf, SumsUpLeaf}
+use Rattle.bptree_ascent.specs.declared.node_changes.Division.{Division}
 use Rattle.bptree_keys.specs.declared.node_id.InnerNodeId.{InnerNodeId}
 use Rattle.bptree_keys.specs.declared.node_id.LeafNodeId.{LeafNodeId}
 use Rattle.bptree_keys.specs.declared.node_id.NodeId.{NodeId}
@@ -51,3 +54,63 @@ module _ {K V A : Type 0} (cmp : K → K → Ordering) (is_summary : A → List 
   abbrev pub IsPut : Put V A → Type 0
   IsPut (Replaced was) = IsReplaced was
   IsPut (Added top top_height a) = (value cmp (pairs_at old height root) k ≡ None) × IsPlaced top_height top a
+
+-- a list has the key, or has room for one more
+abbrev pub HasRoomFor : {K V : Type 0} → (K → K → Ordering) → List (K × V) → K → Type 0
+HasRoomFor cmp l k = has cmp l k ≡ false → length l + 1 < 2 ^ 64
+
+-- every value is a summary of every list of keys
+abbrev pub SaysNothing : {K A : Type 0} → (A → List K → Type 0) → Type 0
+SaysNothing {K} {A} is_summary = (a : A) (keys : List K) → is_summary a keys
+
+-- the key is one that the right half starts at, where a full leaf of these pairs is cut with a new key at a slot
+abbrev pub SeparatesHalves : {K V : Type 0} → (K → K → Ordering) → List (K × V) → ℕ → K → K → Type 0
+SeparatesHalves {V = V} cmp pairs slot k separator = (value : V) → StartsAt cmp separator (pairs_moved slot (k, value) pairs)
+
+module _ {K V A : Type 0} (slots : Slots (Inner K A) (Leaf K V)) (id : LeafNodeId) (slot : ℕ) where
+  -- the value at a slot of a leaf
+  abbrev pub HasValueAt : V → Type 0
+  HasValueAt v = slice_get (values_of (leaf_pairs (slots.leaf id.0))) slot ≡ Some v
+
+module _ {K V A : Type 0} (old new : Slots (Inner K A) (Leaf K V)) (id : LeafNodeId) (slot : ℕ) where
+  -- where a call was not refused, the leaf under a number took a pair at a slot
+  abbrev pub AddsPair : {R E : Type 0} → K × V → Result R E → Type 0
+  AddsPair pair done = (was : Leaf K V) → old.leaf id.0 ≡ Present was → IfOk done (λ a. Adds old new id slot pair was)
+
+  -- the leaf that took it is again what it was, and the pair is answered
+  abbrev pub UndoesAdd : K × V → Type 0
+  UndoesAdd taken = (was : Slots (Inner K A) (Leaf K V)) (node : Leaf K V) (pair : K × V) → was.leaf id.0 ≡ Present node → slot ≤ length node.pairs → Adds was old id slot pair node → (new ≡ was) × (taken ≡ pair)
+
+  -- a leaf has another value at a slot
+  abbrev pub SetsValue : V → Type 0
+  SetsValue v = (was : Leaf K V) → old.leaf id.0 ≡ Present was → UpdatesLeaf old new id.0 (Present (record was { pairs = set_value_at was.pairs slot v }))
+
+module _ {K V A : Type 0} (cmp : K → K → Ordering) (old new : Slots (Inner K A) (Leaf K V)) (id : LeafNodeId) (slot : ℕ) where
+  -- where a call was not refused, the leaf under a number was split with a pair at a slot
+  abbrev pub Divides : {E : Type 0} → K × V → Result (Division K A × LeafNodeId) E → Type 0
+  Divides pair done = (was : Leaf K V) → old.leaf id.0 ≡ Present was → IfOk done (λ parts. DividesLeaf cmp old new id slot pair was parts.0 parts.1)
+
+  -- the two leaves are again the one that was split, and the pair is answered
+  abbrev pub Rejoins : LeafNodeId → K × V → Type 0
+  Rejoins fresh taken =
+      (was : Slots (Inner K A) (Leaf K V)) (node : Leaf K V) (pair : K × V) (division : Division K A) → was.leaf id.0 ≡ Present node → slot ≤ length node.pairs → DividesLeaf cmp was old id slot pair node division fresh → (new ≡ was) × (taken ≡ pair)
+
+module _ {K V A : Type 0} (cmp : K → K → Ordering) (is_summary : A → List K → Type 0) where
+  -- each half of a leaf that was split is summed up by its summary in the division
+  abbrev pub LeftSumsUp : Slots (Inner K A) (Leaf K V) → LeafNodeId → Division K A × LeafNodeId → Type 0
+  LeftSumsUp slots id parts = SumsUpLeaf cmp is_summary (leaf_pairs (slots.leaf id.0)) parts.0.left
+
+  abbrev pub RightSumsUp : Slots (Inner K A) (Leaf K V) → Division K A × LeafNodeId → Type 0
+  RightSumsUp slots parts = SumsUpLeaf cmp is_summary (leaf_pairs (slots.leaf parts.1.0)) parts.0.right
+
+  -- the key is due, in a tree with this root
+  abbrev pub IsDueBelow : Slots (Inner K A) (Leaf K V) → NodeId → List (InnerNodeId × ℕ × NodeId) → LeafNodeId → ℕ → K → Type 0
+  IsDueBelow slots root path leaf slot k = (due : IsDue cmp is_summary slots path leaf slot k) × (due.root ≡ root)
+
+  module _ (old new : Slots (Inner K A) (Leaf K V)) (path : List (InnerNodeId × ℕ × NodeId)) (leaf : LeafNodeId) (slot : ℕ) (k : K) (v : V) where
+    -- where a call was not refused, the pair of a key that was due was put, below the root that was there, or below a new one
+    abbrev pub PlacesDue : {E : Type 0} → Result A E → Type 0
+    PlacesDue done = (due : IsDue cmp is_summary old path leaf slot k) → IfOk done (λ a. IsPlaced cmp is_summary old new due.top due.root k v due.top due.root a)
+
+    abbrev pub PlacesDueUpTo : {E : Type 0} → NodeId → Result (Option InnerNodeId × A) E → Type 0
+    PlacesDueUpTo root done = (due : IsDue cmp is_summary old path leaf slot k) → due.root ≡ root → IfOk done (λ top. IsPlacedUpTo cmp is_summary old new due.top root k v top.0 top.1)

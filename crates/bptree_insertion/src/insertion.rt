@@ -1,16 +1,11 @@
 //! Insertion into a tree that stands in a store.
-ghost use Rattle.std.specs.Prelude.{◌≡◌, ◌+◌, ◌≤◌, ◌<◌, ◌^◌, ◌≢◌, IfOk, IfErr, OnErr, IfSome, List, false, true, length, slice_get, Some, drop, insert};
-ghost use Rattle.std.specs.Map.{values_of};
-ghost use Rattle.bptree_keys.specs.Contents.{has};
+ghost use Rattle.std.specs.Prelude.{◌≡◌, ◌≤◌, ◌<◌, ◌^◌, ◌≢◌, IfOk, IfErr, OnErr, IfSome, false, true, length};
 ghost use Rattle.bptree_keys.specs.declared.node_id.NodeId.TheVariants as kind;
-ghost use Rattle.bptree_nodes.specs.Leaf.{Leaf, split_place, set_value_at};
-ghost use Rattle.bptree_nodes.specs.Inner.{Inner};
-ghost use Rattle.bptree_nodes.specs.Slot.{Slots, Present, IsPresent, UpdatesLeaf};
-ghost use Rattle.bptree_ascent.specs.Change.{StartsAt};
-ghost use Rattle.bptree_ascent.specs.LeafChange.{Adds, DividesLeaf, SumsUpLeaf, HasSlotAt, AreHalves};
-ghost use Rattle.bptree_insertion.specs.Puts.{IsDue, IsPlaced, IsPlacedUpTo, IsPut, risen};
+ghost use Rattle.bptree_nodes.specs.Slot.{IsPresent};
+ghost use Rattle.bptree_ascent.specs.LeafChange.{SumsUpLeaf, HasSlotAt, AreHalves, SumsUpLeafAt};
+ghost use Rattle.bptree_insertion.specs.Puts.{IsDue, IsPut, risen, AddsPair, Divides, HasRoomFor, HasValueAt, IsDueBelow, LeftSumsUp, PlacesDue, PlacesDueUpTo, Rejoins, RightSumsUp, SaysNothing, SeparatesHalves, SetsValue, UndoesAdd};
 ghost use Rattle.bptree_stores.specs.Hint.{HoldsKey};
-ghost use Rattle.bptree_shape.specs.Shape.{leaf_pairs, pairs_at, IsWellShaped};
+ghost use Rattle.bptree_shape.specs.Shape.{leaf_pairs, pairs_at, IsWellShaped, LacksKey};
 
 use bptree_arguments::argument::Argument;
 use bptree_ascent::ascent::{ascend, ascend_split};
@@ -44,7 +39,7 @@ fn separator<S: NodeStore>(
     requires present { IsPresent ((S.slots store.now).leaf id.0) }
     requires full { length (leaf_pairs ((S.slots store.now).leaf id.0)) ≡ 64 }
     requires slot { slot ≤ 64 }
-    ensures { IfOk result (λ separator. (value : S.V) → StartsAt S.K.cmp separator (drop (split_place slot) (insert (leaf_pairs ((S.slots store.now).leaf id.0)) slot (key.now, value)))) }
+    ensures { IfOk result (SeparatesHalves S.K.cmp (leaf_pairs ((S.slots store.now).leaf id.0)) slot key.now) }
 {
     if slot == 32 {
         return key.clone();
@@ -62,8 +57,8 @@ fn add_at<S: NodeStore>(
 ) -> Result<S::Argument, (S::K, S::V)>
     requires slot { HasSlotAt ((S.slots store.old).leaf id.0) slot }
     requires room { length (leaf_pairs ((S.slots store.old).leaf id.0)) < 64 }
-    ensures adds { (was : Leaf S.K S.V) → (S.slots store.old).leaf id.0 ≡ Present was → IfOk result (λ a. Adds (S.slots store.old) (S.slots store.new) id slot (key, value) was) }
-    ensures sums { IfOk result (λ a. SumsUpLeaf S.K.cmp S.Argument.is_summary (leaf_pairs ((S.slots store.new).leaf id.0)) a) }
+    ensures adds { AddsPair (S.slots store.old) (S.slots store.new) id slot (key, value) result }
+    ensures sums { IfOk result (SumsUpLeafAt S.K.cmp S.Argument.is_summary (S.slots store.new) id) }
     ensures refused { OnErr result (S.slots store.new ≡ S.slots store.old) }
     ensures handed_back { IfErr result (λ pair. pair ≡ (key, value)) }
 {
@@ -79,7 +74,7 @@ fn add_at<S: NodeStore>(
 fn take_back<S: NodeStore>(store: &mut S, id: LeafNodeId, slot: usize) -> (S::K, S::V)
     requires present { IsPresent ((S.slots store.old).leaf id.0) }
     requires slot { slot < length (leaf_pairs ((S.slots store.old).leaf id.0)) }
-    ensures undoes { (was : Slots (Inner S.K S.Argument) (Leaf S.K S.V)) (node : Leaf S.K S.V) (pair : S.K × S.V) → was.leaf id.0 ≡ Present node → slot ≤ length node.pairs → Adds was (S.slots store.old) id slot pair node → (S.slots store.new ≡ was) × (result ≡ pair) }
+    ensures undoes { UndoesAdd (S.slots store.old) (S.slots store.new) id slot result }
 {
     let mut leaf = store.take_leaf(id);
     let pair = leaf.delete_at(slot);
@@ -99,7 +94,7 @@ fn put_in_room<S: NodeStore>(
 ) -> Result<S::Argument, (S::K, S::V)>
     requires due { IsDue S.K.cmp S.Argument.is_summary (S.slots store.old) path.old id slot key }
     requires room { length (leaf_pairs ((S.slots store.old).leaf id.0)) < 64 }
-    ensures placed { (due : IsDue S.K.cmp S.Argument.is_summary (S.slots store.old) path.old id slot key) → IfOk result (λ a. IsPlaced S.K.cmp S.Argument.is_summary (S.slots store.old) (S.slots store.new) due.top due.root key value due.top due.root a) }
+    ensures placed { PlacesDue S.K.cmp S.Argument.is_summary (S.slots store.old) (S.slots store.new) path.old id slot key value result }
     ensures refused { OnErr result (S.slots store.new ≡ S.slots store.old) }
     ensures handed_back { IfErr result (λ pair. pair ≡ (key, value)) }
 {
@@ -122,9 +117,9 @@ fn split_at<S: NodeStore>(
     requires present { IsPresent ((S.slots store.old).leaf id.0) }
     requires full { length (leaf_pairs ((S.slots store.old).leaf id.0)) ≡ 64 }
     requires slot { slot ≤ 64 }
-    ensures divides { (was : Leaf S.K S.V) → (S.slots store.old).leaf id.0 ≡ Present was → IfOk result (λ done. DividesLeaf S.K.cmp (S.slots store.old) (S.slots store.new) id slot (key, value) was done.0 done.1) }
-    ensures left { IfOk result (λ done. SumsUpLeaf S.K.cmp S.Argument.is_summary (leaf_pairs ((S.slots store.new).leaf id.0)) done.0.left) }
-    ensures right { IfOk result (λ done. SumsUpLeaf S.K.cmp S.Argument.is_summary (leaf_pairs ((S.slots store.new).leaf done.1.0)) done.0.right) }
+    ensures divides { Divides S.K.cmp (S.slots store.old) (S.slots store.new) id slot (key, value) result }
+    ensures left { IfOk result (LeftSumsUp S.K.cmp S.Argument.is_summary (S.slots store.new) id) }
+    ensures right { IfOk result (RightSumsUp S.K.cmp S.Argument.is_summary (S.slots store.new)) }
     ensures refused { OnErr result (S.slots store.new ≡ S.slots store.old) }
     ensures handed_back { IfErr result (λ pair. pair ≡ (key, value)) }
 {
@@ -162,8 +157,8 @@ fn divided<K: Key, V: Drop, A: Argument<K>>(
     fresh: LeafNodeId,
     right: &LeafNode<K, V>,
 ) -> Result<Division<K, A>, AllocError>
-    ensures left { IfOk result (λ division. SumsUpLeaf K.cmp A.is_summary left.now.pairs division.left) }
-    ensures right { IfOk result (λ division. SumsUpLeaf K.cmp A.is_summary right.now.pairs division.right) }
+    ensures left { IfOk result (λ done. SumsUpLeaf K.cmp A.is_summary left.now.pairs done.left) }
+    ensures right { IfOk result (λ done. SumsUpLeaf K.cmp A.is_summary right.now.pairs done.right) }
     ensures separator { IfOk result (λ division. division.separator ≡ separator) }
     ensures node { IfOk result (λ division. division.node ≡ kind.Leaf fresh) }
 {
@@ -187,7 +182,7 @@ fn undo_split_at<S: NodeStore>(
     requires halves { AreHalves ((S.slots store.old).leaf id.0) ((S.slots store.old).leaf fresh.0) }
     requires apart { id.0 ≡ fresh.0 → ⊥ }
     requires slot { slot ≤ 64 }
-    ensures undoes { (was : Slots (Inner S.K S.Argument) (Leaf S.K S.V)) (node : Leaf S.K S.V) (pair : S.K × S.V) (division : Division S.K S.Argument) → was.leaf id.0 ≡ Present node → slot ≤ length node.pairs → DividesLeaf S.K.cmp was (S.slots store.old) id slot pair node division fresh → (S.slots store.new ≡ was) × (result ≡ pair) }
+    ensures undoes { Rejoins S.K.cmp (S.slots store.old) (S.slots store.new) id slot fresh result }
 {
     let mut leaf = store.take_leaf(id);
     let half = store.take_leaf(fresh);
@@ -208,9 +203,9 @@ fn put_and_split<S: NodeStore>(
     key: S::K,
     value: S::V,
 ) -> Result<(Option<InnerNodeId>, S::Argument), (S::K, S::V)>
-    requires due { (due : IsDue S.K.cmp S.Argument.is_summary (S.slots store.old) path.old id slot key) × (due.root ≡ root) }
+    requires due { IsDueBelow S.K.cmp S.Argument.is_summary (S.slots store.old) root path.old id slot key }
     requires full { length (leaf_pairs ((S.slots store.old).leaf id.0)) ≡ 64 }
-    ensures placed { (due : IsDue S.K.cmp S.Argument.is_summary (S.slots store.old) path.old id slot key) → due.root ≡ root → IfOk result (λ top. IsPlacedUpTo S.K.cmp S.Argument.is_summary (S.slots store.old) (S.slots store.new) due.top root key value top.0 top.1) }
+    ensures placed { PlacesDueUpTo S.K.cmp S.Argument.is_summary (S.slots store.old) (S.slots store.new) path.old id slot key value root result }
     ensures refused { OnErr result (S.slots store.new ≡ S.slots store.old) }
     ensures handed_back { IfErr result (λ pair. pair ≡ (key, value)) }
 {
@@ -236,8 +231,8 @@ fn put_new<S: NodeStore>(
     key: S::K,
     value: S::V,
 ) -> Result<(Option<InnerNodeId>, S::Argument), (S::K, S::V)>
-    requires due { (due : IsDue S.K.cmp S.Argument.is_summary (S.slots store.old) path.old id slot key) × (due.root ≡ root) }
-    ensures placed { (due : IsDue S.K.cmp S.Argument.is_summary (S.slots store.old) path.old id slot key) → due.root ≡ root → IfOk result (λ top. IsPlacedUpTo S.K.cmp S.Argument.is_summary (S.slots store.old) (S.slots store.new) due.top root key value top.0 top.1) }
+    requires due { IsDueBelow S.K.cmp S.Argument.is_summary (S.slots store.old) root path.old id slot key }
+    ensures placed { PlacesDueUpTo S.K.cmp S.Argument.is_summary (S.slots store.old) (S.slots store.new) path.old id slot key value root result }
     ensures refused { OnErr result (S.slots store.new ≡ S.slots store.old) }
     ensures handed_back { IfErr result (λ pair. pair ≡ (key, value)) }
 {
@@ -252,8 +247,8 @@ fn put_new<S: NodeStore>(
 fn replace_at<S: NodeStore>(store: &mut S, id: LeafNodeId, slot: usize, v: S::V) -> S::V
     requires present { IsPresent ((S.slots store.old).leaf id.0) }
     requires slot { slot < length (leaf_pairs ((S.slots store.old).leaf id.0)) }
-    ensures sets { (was : Leaf S.K S.V) → (S.slots store.old).leaf id.0 ≡ Present was → UpdatesLeaf (S.slots store.old) (S.slots store.new) id.0 (Present (record was { pairs = set_value_at was.pairs slot v })) }
-    ensures old { slice_get (values_of (leaf_pairs ((S.slots store.old).leaf id.0))) slot ≡ Some result }
+    ensures sets { SetsValue (S.slots store.old) (S.slots store.new) id slot v }
+    ensures old { HasValueAt (S.slots store.old) id slot result }
 {
     store.get_mut_leaf(id).replace_value(slot, v)
 }
@@ -282,9 +277,9 @@ pub fn is_full(len: usize) -> bool
 // change: every value is a summary of every list.
 #[inline(always)]
 fn leaf_at_hand<S: NodeStore>(store: &S, k: &S::K) -> Option<LeafNodeId>
-    ensures holds { IfSome result (λ leaf. HoldsKey S.K.cmp ((S.slots store.now).leaf leaf.0) k.now) }
-    ensures room { IfSome result (λ leaf. length (leaf_pairs ((S.slots store.now).leaf leaf.0)) < 64) }
-    ensures any { IfSome result (λ leaf. (a : S.Argument) (keys : List S.K) → S.Argument.is_summary a keys) }
+    ensures holds { IfSome result (λ id. HoldsKey S.K.cmp ((S.slots store.now).leaf id.0) k.now) }
+    ensures room { IfSome result (λ id. length (leaf_pairs ((S.slots store.now).leaf id.0)) < 64) }
+    ensures any { IfSome result (λ _. SaysNothing S.Argument.is_summary) }
 {
     if !S::Argument::is_zst() {
         return None;
@@ -307,14 +302,14 @@ fn put_at_hand<S: NodeStore>(
     v: S::V,
 ) -> Result<Put<S::V, S::Argument>, (S::K, S::V)>
     requires shape { IsWellShaped S.K.cmp S.Argument.is_summary (S.slots store.old) height root }
-    requires room { has S.K.cmp (pairs_at (S.slots store.old) height root) k ≡ false → length (pairs_at (S.slots store.old) height root) + 1 < 2 ^ 64 }
+    requires room { HasRoomFor S.K.cmp (pairs_at (S.slots store.old) height root) k }
     requires holds { HoldsKey S.K.cmp ((S.slots store.old).leaf leaf.0) k }
     requires few { length (leaf_pairs ((S.slots store.old).leaf leaf.0)) < 64 }
-    requires any { (a : S.Argument) (keys : List S.K) → S.Argument.is_summary a keys }
+    requires any { SaysNothing S.Argument.is_summary }
     ensures put { IfOk result (IsPut S.K.cmp S.Argument.is_summary (S.slots store.old) (S.slots store.new) height root k v) }
     ensures refused { OnErr result (S.slots store.new ≡ S.slots store.old) }
     ensures handed_back { IfErr result (λ pair. pair ≡ (k, v)) }
-    ensures absent { OnErr result (has S.K.cmp (pairs_at (S.slots store.old) height root) k ≡ false) }
+    ensures absent { OnErr result (LacksKey S.K.cmp (S.slots store.old) height root k) }
 {
     let found = store.get_leaf(leaf).locate_slot(&k);
     match found {
@@ -343,11 +338,11 @@ pub fn upsert<S: NodeStore>(
 ) -> Result<Put<S::V, S::Argument>, (S::K, S::V)>
     requires shape { IsWellShaped S.K.cmp S.Argument.is_summary (S.slots store.old) height root }
     requires few { length (pairs_at (S.slots store.old) height root) < 2 ^ 64 }
-    requires room { has S.K.cmp (pairs_at (S.slots store.old) height root) k ≡ false → length (pairs_at (S.slots store.old) height root) + 1 < 2 ^ 64 }
+    requires room { HasRoomFor S.K.cmp (pairs_at (S.slots store.old) height root) k }
     ensures put { IfOk result (IsPut S.K.cmp S.Argument.is_summary (S.slots store.old) (S.slots store.new) height root k v) }
     ensures refused { OnErr result (S.slots store.new ≡ S.slots store.old) }
     ensures handed_back { IfErr result (λ pair. pair ≡ (k, v)) }
-    ensures absent { OnErr result (has S.K.cmp (pairs_at (S.slots store.old) height root) k ≡ false) }
+    ensures absent { OnErr result (LacksKey S.K.cmp (S.slots store.old) height root k) }
 {
     if let Some(leaf) = leaf_at_hand(store, &k) {
         return put_at_hand(store, root, height, leaf, k, v);

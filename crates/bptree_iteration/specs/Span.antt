@@ -3,6 +3,7 @@ use Rattle.std.specs.Prelude.{◌≡◌, ◌==◌, ℕ, zero, suc, ◌+◌, ◌-
 use Rattle.std.specs.Option.{option_map_or}
 use Rattle.bptree_iteration.specs.declared.part.Extent.{Extent}
 use Rattle.bptree_iteration.specs.declared.part.Extent.TheVariants.{Exact, Open, Cut}
+use Rattle.bptree_iteration.specs.declared.part.Part.{Part}
 use Rattle.bptree_keys.specs.declared.node_id.LeafNodeId.{LeafNodeId}
 use Rattle.bptree_nodes.specs.Inner.{Inner}
 use Rattle.bptree_nodes.specs.Leaf.{Leaf}
@@ -109,3 +110,19 @@ leaf_of (Present leaf) = Some leaf
 
 abbrev pub leaves_of : {K V A : Type 0} → Slots (Inner K A) (Leaf K V) → LeafNodeId → Option (Leaf K V)
 leaves_of slots id = leaf_of (slots.leaf id.0)
+
+module _ {K V A : Type 0} (slots : Slots (Inner K A) (Leaf K V)) where
+  -- between the places of a part stand pairs, of which its limit tells what its extent says; and the first of them
+  abbrev pub IsPartIn : Part → Type 0
+  IsPartIn part = IsBetween (leaves_of slots) part.front part.from part.back part.to part.limit part.extent
+
+  abbrev pub pairs_of_part : Part → List (K × V)
+  pairs_of_part part = first_between (leaves_of slots) part.front part.from part.back part.to part.limit
+
+  -- how many pairs stand between two places, up to a limit
+  abbrev pub count_between : LeafNodeId → ℕ → LeafNodeId → ℕ → ℕ → ℕ
+  count_between front from back to limit = length (first_between (leaves_of slots) front from back to limit)
+
+  -- up to another place and limit stand the same pairs
+  abbrev pub AreSame : LeafNodeId → ℕ → LeafNodeId → ℕ → ℕ → LeafNodeId → ℕ → ℕ → Type 0
+  AreSame front from back to limit back' to' limit' = first_between (leaves_of slots) front from back' to' limit' ≡ first_between (leaves_of slots) front from back to limit

@@ -3,7 +3,7 @@ ghost use Rattle.std.specs.Prelude.{◌≡◌, ◌<◌, ◌≤◌, ◌≢◌, Is
 ghost use Rattle.std.specs.Iterator.{at_most, item_count, UpTo};
 ghost use Rattle.std.specs.Iterator.SizeHint.{IsWithinCount};
 ghost use Rattle.std.specs.Map.Iter.{TakesFirst, TakesLast, deref_pair};
-ghost use Rattle.bptree_iteration.specs.Span.{leaves_of, first_between, IsBetween, IsEndIn, CanGoOn, IsFrontPlace, CanGoBack, IsBackPlace};
+ghost use Rattle.bptree_iteration.specs.Span.{leaves_of, first_between, IsBetween, IsEndIn, CanGoOn, IsFrontPlace, CanGoBack, IsBackPlace, AreSame, IsPartIn, count_between, pairs_of_part};
 ghost use Rattle.bptree_iteration.specs.declared.part.Extent.TheVariants as extents;
 
 pub use crate::part::{Extent, Part};
@@ -51,8 +51,8 @@ impl<'a, S: NodeStore> Model for Iter<'a, S> {
 impl<'a, S: NodeStore> Iter<'a, S> {
     /// The pairs of a part. It steps through no leaf.
     pub fn new(store: &'a S, part: Part) -> Self
-        requires { IsBetween (leaves_of (S.slots store.now)) part.front part.from part.back part.to part.limit part.extent }
-        ensures { result ≡ first_between (leaves_of (S.slots store.now)) part.front part.from part.back part.to part.limit }
+        requires { IsPartIn (S.slots store.now) part }
+        ensures { result ≡ pairs_of_part (S.slots store.now) part }
     {
         let leaf = leaf_at(store, part.front);
         Iter {
@@ -162,7 +162,7 @@ fn end_of_first<S: NodeStore>(
 ) -> (LeafNodeId, usize, usize)
     requires { IsBetween (leaves_of (S.slots store.now)) front from back to limit extents.Cut }
     ensures between { IsBetween (leaves_of (S.slots store.now)) front from result.0 result.1 result.2 extents.Exact }
-    ensures same { first_between (leaves_of (S.slots store.now)) front from result.0 result.1 result.2 ≡ first_between (leaves_of (S.slots store.now)) front from back to limit }
+    ensures same { AreSame (S.slots store.now) front from back to limit result.0 result.1 result.2 }
 {
     let mut at = front;
     let mut passed = from;
@@ -196,7 +196,7 @@ fn count_left<S: NodeStore>(
     extent: Extent,
 ) -> usize
     requires { IsBetween (leaves_of (S.slots store.now)) front from back to limit extent }
-    ensures { result ≡ length (first_between (leaves_of (S.slots store.now)) front from back to limit) }
+    ensures { result ≡ count_between (S.slots store.now) front from back to limit }
 {
     match extent {
         Extent::Exact => limit,
@@ -217,7 +217,7 @@ fn known_end<S: NodeStore>(
 ) -> (LeafNodeId, usize, usize, Extent)
     requires { IsBetween (leaves_of (S.slots store.now)) front from back to limit extent }
     ensures between { IsBetween (leaves_of (S.slots store.now)) front from result.0 result.1 result.2 result.3 }
-    ensures same { first_between (leaves_of (S.slots store.now)) front from result.0 result.1 result.2 ≡ first_between (leaves_of (S.slots store.now)) front from back to limit }
+    ensures same { AreSame (S.slots store.now) front from back to limit result.0 result.1 result.2 }
     ensures known { result.3 ≢ extents.Cut }
 {
     match extent {

@@ -1,22 +1,23 @@
 -- A pair that leaves a whole tree.
-use Rattle.std.specs.Prelude.{◌≡◌, ℕ, ◌<◌, ◌^◌, List, length, Some, slice_get, remove}
+use Rattle.std.specs.Prelude.{◌≡◌, ℕ, ◌-◌, ◌<◌, ◌^◌, false, List, [], length, Option, Some, None, Result, IfOk, MatchOption, slice_get, remove}
 use Rattle.std.specs.declared.cmp.Ordering.{Ordering}
 use Rattle.std.specs.declared.cmp.Ordering.TheVariants.{Equal}
 use Rattle.std.specs.Map.{keys_of}
-use Rattle.bptree_keys.specs.Contents.{value, del}
+use Rattle.bptree_keys.specs.Contents.{has, value, del}
 use Rattle.bptree_nodes.specs.Inner.{Inner}
 use Rattle.bptree_nodes.specs.Leaf.{Leaf}
 use Rattle.bptree_nodes.specs.LeafResults.{HasEqualAt}
-use Rattle.bptree_nodes.specs.Slot.{Slots}
+use Rattle.bptree_nodes.specs.Slot.{Slots, Present, UpdatesLeaf}
 use Rattle.bptree_keys.specs.declared.node_id.InnerNodeId.{InnerNodeId}
 use Rattle.bptree_keys.specs.declared.node_id.LeafNodeId.{LeafNodeId}
 use Rattle.bptree_keys.specs.declared.node_id.NodeId.{NodeId}
 use Rattle.bptree_keys.specs.declared.node_id.NodeId.TheVariants as kind
 use Rattle.bptree_shape.specs.Leaves.{IsLeafFor}
 use Rattle.bptree_shape.specs.Path.{Way}
-use Rattle.bptree_descents.specs.ByArgument.{GoesOn}
+use Rattle.bptree_descents.specs.ByArgument.{GoesOn, IsWithdrawn}
 use Rattle.bptree_shape.specs.Shape.{leaf_pairs, pairs_at, IsWellShaped}
 use Rattle.bptree_rebalancing.specs.Trim.{IsLoose}
+use Rattle.bptree_removal.specs.declared.removal.Removed.{Removed}
 
 -- a key stands at a slot of the leaf at the end of a path
 pub record IsThere {K V A : Type 0} (cmp : K → K → Ordering) (is_summary : A → List K → Type 0) (slots : Slots (Inner K A) (Leaf K V)) (path : List (InnerNodeId × ℕ × NodeId)) (leaf : LeafNodeId) (slot : ℕ) (k : K) : Type 0 where
@@ -75,3 +76,64 @@ IsEntryTaken cmp is_summary old new height root k pair top top_height a =
 -- a search for any key of a leaf, come to a node by a path, goes on from there to the leaf by a longer one
 abbrev pub LeadsOn : {K V A : Type 0} → (K → K → Ordering) → Slots (Inner K A) (Leaf K V) → ℕ → NodeId → List (InnerNodeId × ℕ × NodeId) → List (InnerNodeId × ℕ × NodeId) → LeafNodeId → Type 0
 LeadsOn cmp slots height id path longer leaf = (slot : ℕ) → GoesOn cmp slots height id path longer (Some (leaf, slot))
+
+module _ {K V A : Type 0} (old new : Slots (Inner K A) (Leaf K V)) where
+  -- a pair left its leaf, or stands in it again
+  abbrev pub TakesPair : LeafNodeId → ℕ → Type 0
+  TakesPair id slot = (was : Leaf K V) → old.leaf id.0 ≡ Present was → UpdatesLeaf old new id.0 (Present (record was { pairs = remove was.pairs slot }))
+
+  abbrev pub PutsPairBack : LeafNodeId → ℕ → K × V → Type 0
+  PutsPairBack id slot pair =
+      (was : Slots (Inner K A) (Leaf K V)) (node : Leaf K V) → was.leaf id.0 ≡ Present node → slice_get node.pairs slot ≡ Some pair → UpdatesLeaf was old id.0 (Present (record node { pairs = remove node.pairs slot })) → new ≡ was
+
+  -- below another root, at its height, are the pairs that were below a root
+  abbrev pub KeepsPairs : ℕ → NodeId → NodeId × ℕ → Type 0
+  KeepsPairs height root top = pairs_at new top.1 top.0 ≡ pairs_at old height root
+
+module _ {K V A : Type 0} (slots : Slots (Inner K A) (Leaf K V)) (id : LeafNodeId) where
+  -- a leaf has no pair, or more than it needs
+  abbrev pub NoPairIn : Type 0
+  NoPairIn = leaf_pairs (slots.leaf id.0) ≡ []
+
+  abbrev pub HasSpare : Type 0
+  HasSpare = 16 < length (leaf_pairs (slots.leaf id.0))
+
+module _ {K V A : Type 0} (cmp : K → K → Ordering) (is_summary : A → List K → Type 0) where
+  -- the leaf at the end of a path has a pair at a slot
+  abbrev pub HasPair : Slots (Inner K A) (Leaf K V) → List (InnerNodeId × ℕ × NodeId) → LeafNodeId → ℕ → Type 0
+  HasPair slots path leaf slot = (k : K) × IsThere cmp is_summary slots path leaf slot k
+
+  module _ (old new : Slots (Inner K A) (Leaf K V)) where
+    -- where a call was not refused, that pair left the tree
+    abbrev pub TakesOut : {E : Type 0} → List (InnerNodeId × ℕ × NodeId) → LeafNodeId → ℕ → Result ((K × V) × A) E → Type 0
+    TakesOut path leaf slot done =
+        (k : K) (there : IsThere cmp is_summary old path leaf slot k) → IfOk done (λ taken. Leaves cmp is_summary old new there.top there.root leaf slot k taken.0 taken.1)
+
+    module _ (height : ℕ) (root : NodeId) where
+      -- the same of the root and the height that a call names, and where the leaf is the only one that can hold the key
+      abbrev pub TakesFound : {E : Type 0} → List (InnerNodeId × ℕ × NodeId) → LeafNodeId → ℕ → Result (Removed (K × V) A) E → Type 0
+      TakesFound path leaf slot done =
+          (k : K) → IsFound cmp is_summary old height root path leaf slot k → IfOk done (λ r. IsTakenFrom cmp is_summary old new height root leaf slot k r.value r.root r.height r.summary)
+
+      abbrev pub TakesEntry : {E : Type 0} → List (InnerNodeId × ℕ × NodeId) → LeafNodeId → ℕ → Result (Removed (K × V) A) E → Type 0
+      TakesEntry path leaf slot done =
+          (k : K) → IsEntryAt cmp is_summary old height root path leaf slot k → IfOk done (λ r. IsEntryTaken cmp is_summary old new height root k r.value r.root r.height r.summary)
+
+      -- the pair with a key, or its value, left the tree, or no key equals it and nothing changed
+      abbrev pub RemovesEntry : K → Option (Removed (K × V) A) → Type 0
+      RemovesEntry k gone = MatchOption gone ((new ≡ old) × (has cmp (pairs_at old height root) k ≡ false)) (λ r. IsEntryTaken cmp is_summary old new height root k r.value r.root r.height r.summary)
+
+      abbrev pub RemovesKey : K → Option (Removed V A) → Type 0
+      RemovesKey k gone = MatchOption gone ((new ≡ old) × (has cmp (pairs_at old height root) k ≡ false)) (λ r. IsRemoved cmp is_summary old new height root k r.value r.root r.height r.summary)
+
+      -- the first pair left, or the last one, or there was none and nothing changed
+      abbrev pub RemovesFirst : Option (Removed (K × V) A) → Type 0
+      RemovesFirst gone = MatchOption gone ((new ≡ old) × (pairs_at old height root ≡ [])) (λ r. IsTakenAt cmp is_summary old new height root 0 r.value r.root r.height r.summary)
+
+      abbrev pub RemovesLast : Option (Removed (K × V) A) → Type 0
+      RemovesLast gone = MatchOption gone ((new ≡ old) × (pairs_at old height root ≡ [])) (λ r. IsTakenAt cmp is_summary old new height root (length (pairs_at old height root) - 1) r.value r.root r.height r.summary)
+
+      -- the pair at a place that is allowed for a query left, or none is allowed and nothing changed
+      abbrev pub RemovesSelected : {Q : Type 0} → (Q → List K → Option ℕ → Type 0) → Q → Option (Removed (K × V) A) → Type 0
+      RemovesSelected selects query gone =
+          MatchOption gone ((new ≡ old) × selects query (keys_of (pairs_at old height root)) None) (λ r. IsWithdrawn selects query cmp is_summary old new height root r.value r.root r.height r.summary)

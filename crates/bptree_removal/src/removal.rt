@@ -1,16 +1,12 @@
 //! Removal from a tree that stands in a store.
-ghost use Rattle.std.specs.Prelude.{◌≡◌, ◌-◌, ◌<◌, ◌≤◌, ◌^◌, false, IfOk, OnErr, IfSome, Some, length, slice_get, remove, MatchOption, [], Ok, None};
+ghost use Rattle.std.specs.Prelude.{◌≡◌, ◌<◌, ◌≤◌, ◌^◌, IfOk, OnErr, IfSome, Some, length, slice_get, [], Ok, None};
 ghost use Rattle.std.specs.Option.{is_some};
-ghost use Rattle.std.specs.Map.{keys_of};
 ghost use Rattle.bptree_keys.specs.Contents.{has};
-ghost use Rattle.bptree_nodes.specs.Inner.{Inner};
-ghost use Rattle.bptree_nodes.specs.Leaf.{Leaf};
-ghost use Rattle.bptree_nodes.specs.Slot.{Slots, Present, IsPresent, UpdatesLeaf};
-ghost use Rattle.bptree_descents.specs.ByArgument.{IsWithdrawn};
-ghost use Rattle.bptree_ascent.specs.LeafChange.{SumsUpLeaf};
-ghost use Rattle.bptree_shape.specs.Shape.{leaf_pairs, pairs_at, IsWellShaped};
+ghost use Rattle.bptree_nodes.specs.Slot.{IsPresent};
+ghost use Rattle.bptree_ascent.specs.LeafChange.{SumsUpLeafAt};
+ghost use Rattle.bptree_shape.specs.Shape.{leaf_pairs, pairs_at, IsWellShaped, LacksKey};
 ghost use Rattle.bptree_rebalancing.specs.Trim.{LeafUnderflow, IsLoose, Trims};
-ghost use Rattle.bptree_removal.specs.Removal.{IsThere, IsFound, Leaves, IsRemoved, IsTakenFrom, IsTakenAt, IsEntryAt, IsEntryTaken};
+ghost use Rattle.bptree_removal.specs.Removal.{IsFound, IsEntryAt, NoPairIn, HasPair, HasSpare, KeepsPairs, PutsPairBack, RemovesEntry, RemovesFirst, RemovesKey, RemovesLast, RemovesSelected, TakesEntry, TakesFound, TakesOut, TakesPair};
 
 use crate::ends::{first_path, last_path};
 use bptree_arguments::argument::{Argument, SearchArgument};
@@ -90,7 +86,7 @@ fn rebalance_leaf<S: NodeStore>(
 fn take_pair<S: NodeStore>(store: &mut S, id: LeafNodeId, slot: usize) -> (S::K, S::V)
     requires present { IsPresent ((S.slots store.old).leaf id.0) }
     requires slot { slot < length (leaf_pairs ((S.slots store.old).leaf id.0)) }
-    ensures takes { (was : Leaf S.K S.V) → (S.slots store.old).leaf id.0 ≡ Present was → UpdatesLeaf (S.slots store.old) (S.slots store.new) id.0 (Present (record was { pairs = remove was.pairs slot })) }
+    ensures takes { TakesPair (S.slots store.old) (S.slots store.new) id slot }
     ensures pair { slice_get (leaf_pairs ((S.slots store.old).leaf id.0)) slot ≡ Some result }
 {
     store.get_mut_leaf(id).delete_at(slot)
@@ -101,7 +97,7 @@ fn put_pair<S: NodeStore>(store: &mut S, id: LeafNodeId, slot: usize, pair: (S::
     requires present { IsPresent ((S.slots store.old).leaf id.0) }
     requires slot { slot ≤ length (leaf_pairs ((S.slots store.old).leaf id.0)) }
     requires room { length (leaf_pairs ((S.slots store.old).leaf id.0)) < 64 }
-    ensures { (was : Slots (Inner S.K S.Argument) (Leaf S.K S.V)) (node : Leaf S.K S.V) → was.leaf id.0 ≡ Present node → slice_get node.pairs slot ≡ Some pair → UpdatesLeaf was (S.slots store.old) id.0 (Present (record node { pairs = remove node.pairs slot })) → S.slots store.new ≡ was }
+    ensures { PutsPairBack (S.slots store.old) (S.slots store.new) id slot pair }
 {
     let (key, value) = pair;
     store.get_mut_leaf(id).insert_at(slot, key, value);
@@ -110,8 +106,8 @@ fn put_pair<S: NodeStore>(store: &mut S, id: LeafNodeId, slot: usize, pair: (S::
 // A summary of a leaf's keys; of no keys what `Default` makes.
 fn sum_of<S: NodeStore>(store: &S, id: LeafNodeId) -> Result<S::Argument, AllocError>
     requires { IsPresent ((S.slots store.now).leaf id.0) }
-    ensures some { IfOk result (SumsUpLeaf S.K.cmp S.Argument.is_summary (leaf_pairs ((S.slots store.now).leaf id.0))) }
-    ensures none { leaf_pairs ((S.slots store.now).leaf id.0) ≡ [] → IfOk result (λ a. S.Argument.is_summary a []) }
+    ensures some { IfOk result (SumsUpLeafAt S.K.cmp S.Argument.is_summary (S.slots store.now) id) }
+    ensures none { NoPairIn (S.slots store.now) id → IfOk result (λ a. S.Argument.is_summary a []) }
 {
     let leaf = store.get_leaf(id);
     if leaf.len() == 0 {
@@ -128,9 +124,9 @@ fn take_in_place<S: NodeStore>(
     leaf: LeafNodeId,
     slot: usize,
 ) -> Result<((S::K, S::V), S::Argument), AllocError>
-    requires there { (k : S.K) × IsThere S.K.cmp S.Argument.is_summary (S.slots store.old) path.old leaf slot k }
-    requires spare { 0 < length path.old → 16 < length (leaf_pairs ((S.slots store.old).leaf leaf.0)) }
-    ensures leaves { (k : S.K) (there : IsThere S.K.cmp S.Argument.is_summary (S.slots store.old) path.old leaf slot k) → IfOk result (λ done. Leaves S.K.cmp S.Argument.is_summary (S.slots store.old) (S.slots store.new) there.top there.root leaf slot k done.0 done.1) }
+    requires there { HasPair S.K.cmp S.Argument.is_summary (S.slots store.old) path.old leaf slot }
+    requires spare { 0 < length path.old → HasSpare (S.slots store.old) leaf }
+    ensures leaves { TakesOut S.K.cmp S.Argument.is_summary (S.slots store.old) (S.slots store.new) path.old leaf slot result }
     ensures refused { OnErr result (S.slots store.new ≡ S.slots store.old) }
 {
     let pair = take_pair(store, leaf, slot);
@@ -156,8 +152,8 @@ pub fn take_out<S: NodeStore>(
     slot: usize,
     statistic: &mut Statistic,
 ) -> Result<((S::K, S::V), S::Argument), AllocError>
-    requires { (k : S.K) × IsThere S.K.cmp S.Argument.is_summary (S.slots store.old) path.old leaf slot k }
-    ensures leaves { (k : S.K) (there : IsThere S.K.cmp S.Argument.is_summary (S.slots store.old) path.old leaf slot k) → IfOk result (λ done. Leaves S.K.cmp S.Argument.is_summary (S.slots store.old) (S.slots store.new) there.top there.root leaf slot k done.0 done.1) }
+    requires { HasPair S.K.cmp S.Argument.is_summary (S.slots store.old) path.old leaf slot }
+    ensures leaves { TakesOut S.K.cmp S.Argument.is_summary (S.slots store.old) (S.slots store.new) path.old leaf slot result }
     ensures refused { OnErr result (S.slots store.new ≡ S.slots store.old) }
 {
     if store.get_leaf(leaf).able_to_lend() {
@@ -180,7 +176,7 @@ pub fn take_out<S: NodeStore>(
 fn shrink_root<S: NodeStore>(store: &mut S, root: NodeId, height: usize) -> (NodeId, usize)
     requires { IsLoose S.K.cmp S.Argument.is_summary (S.slots store.old) height root }
     ensures shape { IsWellShaped S.K.cmp S.Argument.is_summary (S.slots store.new) result.1 result.0 }
-    ensures pairs { pairs_at (S.slots store.new) result.1 result.0 ≡ pairs_at (S.slots store.old) height root }
+    ensures pairs { KeepsPairs (S.slots store.old) (S.slots store.new) height root result }
 {
     let NodeId::Inner(id) = root else {
         return (root, height);
@@ -207,7 +203,7 @@ fn take_whole<S: NodeStore>(
     statistic: &mut Statistic,
 ) -> Result<Removed<(S::K, S::V), S::Argument>, AllocError>
     requires { (k : S.K) × IsFound S.K.cmp S.Argument.is_summary (S.slots store.old) height root path.old leaf slot k }
-    ensures taken { (k : S.K) → IsFound S.K.cmp S.Argument.is_summary (S.slots store.old) height root path.old leaf slot k → IfOk result (λ r. IsTakenFrom S.K.cmp S.Argument.is_summary (S.slots store.old) (S.slots store.new) height root leaf slot k r.value r.root r.height r.summary) }
+    ensures taken { TakesFound S.K.cmp S.Argument.is_summary (S.slots store.old) (S.slots store.new) height root path.old leaf slot result }
     ensures refused { OnErr result (S.slots store.new ≡ S.slots store.old) }
 {
     let (value, summary) = take_out(store, path, leaf, slot, statistic)?;
@@ -254,7 +250,7 @@ pub fn take_entry<S: NodeStore>(
     statistic: &mut Statistic,
 ) -> Result<Removed<(S::K, S::V), S::Argument>, AllocError>
     requires { (k : S.K) × IsEntryAt S.K.cmp S.Argument.is_summary (S.slots store.old) height root path.old leaf slot k }
-    ensures taken { (k : S.K) → IsEntryAt S.K.cmp S.Argument.is_summary (S.slots store.old) height root path.old leaf slot k → IfOk result (λ r. IsEntryTaken S.K.cmp S.Argument.is_summary (S.slots store.old) (S.slots store.new) height root k r.value r.root r.height r.summary) }
+    ensures taken { TakesEntry S.K.cmp S.Argument.is_summary (S.slots store.old) (S.slots store.new) height root path.old leaf slot result }
     ensures refused { OnErr result (S.slots store.new ≡ S.slots store.old) }
 {
     take_whole(store, path, root, height, leaf, slot, statistic)
@@ -273,8 +269,8 @@ pub fn remove_entry<S: NodeStore>(
 ) -> Result<Option<Removed<(S::K, S::V), S::Argument>>, AllocError>
     requires shape { IsWellShaped S.K.cmp S.Argument.is_summary (S.slots store.old) height root }
     requires few { length (pairs_at (S.slots store.old) height root) < 2 ^ 64 }
-    ensures removed { IfOk result (λ gone. MatchOption gone ((S.slots store.new ≡ S.slots store.old) × (has S.K.cmp (pairs_at (S.slots store.old) height root) k.now ≡ false)) (λ r. IsEntryTaken S.K.cmp S.Argument.is_summary (S.slots store.old) (S.slots store.new) height root k.now r.value r.root r.height r.summary)) }
-    ensures absent { has S.K.cmp (pairs_at (S.slots store.old) height root) k.now ≡ false → result ≡ Ok None }
+    ensures removed { IfOk result (RemovesEntry S.K.cmp S.Argument.is_summary (S.slots store.old) (S.slots store.new) height root k.now) }
+    ensures absent { LacksKey S.K.cmp (S.slots store.old) height root k.now → result ≡ Ok None }
     ensures refused { OnErr result (S.slots store.new ≡ S.slots store.old) }
 {
     match find_entry(store, path, root, height, k) {
@@ -297,8 +293,8 @@ pub fn remove<S: NodeStore>(
 ) -> Result<Option<Removed<S::V, S::Argument>>, AllocError>
     requires shape { IsWellShaped S.K.cmp S.Argument.is_summary (S.slots store.old) height root }
     requires few { length (pairs_at (S.slots store.old) height root) < 2 ^ 64 }
-    ensures removed { IfOk result (λ gone. MatchOption gone ((S.slots store.new ≡ S.slots store.old) × (has S.K.cmp (pairs_at (S.slots store.old) height root) k.now ≡ false)) (λ r. IsRemoved S.K.cmp S.Argument.is_summary (S.slots store.old) (S.slots store.new) height root k.now r.value r.root r.height r.summary)) }
-    ensures absent { has S.K.cmp (pairs_at (S.slots store.old) height root) k.now ≡ false → result ≡ Ok None }
+    ensures removed { IfOk result (RemovesKey S.K.cmp S.Argument.is_summary (S.slots store.old) (S.slots store.new) height root k.now) }
+    ensures absent { LacksKey S.K.cmp (S.slots store.old) height root k.now → result ≡ Ok None }
     ensures refused { OnErr result (S.slots store.new ≡ S.slots store.old) }
 {
     match remove_entry(store, path, root, height, k, statistic)? {
@@ -333,7 +329,7 @@ pub fn remove_first<S: NodeStore>(
 ) -> Result<Option<Removed<(S::K, S::V), S::Argument>>, AllocError>
     requires shape { IsWellShaped S.K.cmp S.Argument.is_summary (S.slots store.old) height root }
     requires few { length (pairs_at (S.slots store.old) height root) < 2 ^ 64 }
-    ensures removed { IfOk result (λ gone. MatchOption gone ((S.slots store.new ≡ S.slots store.old) × (pairs_at (S.slots store.old) height root ≡ [])) (λ r. IsTakenAt S.K.cmp S.Argument.is_summary (S.slots store.old) (S.slots store.new) height root 0 r.value r.root r.height r.summary)) }
+    ensures removed { IfOk result (RemovesFirst S.K.cmp S.Argument.is_summary (S.slots store.old) (S.slots store.new) height root) }
     ensures empty { pairs_at (S.slots store.old) height root ≡ [] → result ≡ Ok None }
     ensures refused { OnErr result (S.slots store.new ≡ S.slots store.old) }
 {
@@ -356,7 +352,7 @@ pub fn remove_last<S: NodeStore>(
 ) -> Result<Option<Removed<(S::K, S::V), S::Argument>>, AllocError>
     requires shape { IsWellShaped S.K.cmp S.Argument.is_summary (S.slots store.old) height root }
     requires few { length (pairs_at (S.slots store.old) height root) < 2 ^ 64 }
-    ensures removed { IfOk result (λ gone. MatchOption gone ((S.slots store.new ≡ S.slots store.old) × (pairs_at (S.slots store.old) height root ≡ [])) (λ r. IsTakenAt S.K.cmp S.Argument.is_summary (S.slots store.old) (S.slots store.new) height root (length (pairs_at (S.slots store.old) height root) - 1) r.value r.root r.height r.summary)) }
+    ensures removed { IfOk result (RemovesLast S.K.cmp S.Argument.is_summary (S.slots store.old) (S.slots store.new) height root) }
     ensures empty { pairs_at (S.slots store.old) height root ≡ [] → result ≡ Ok None }
     ensures refused { OnErr result (S.slots store.new ≡ S.slots store.old) }
 {
@@ -384,7 +380,7 @@ where
     S::Argument: SearchArgument<S::K>,
     requires shape { IsWellShaped S.K.cmp S.Argument.is_summary (S.slots store.old) height root }
     requires few { length (pairs_at (S.slots store.old) height root) < 2 ^ 64 }
-    ensures removed { IfOk result (λ gone. MatchOption gone ((S.slots store.new ≡ S.slots store.old) × S.Argument.selects query (keys_of (pairs_at (S.slots store.old) height root)) None) (λ r. IsWithdrawn S.Argument.selects query S.K.cmp S.Argument.is_summary (S.slots store.old) (S.slots store.new) height root r.value r.root r.height r.summary)) }
+    ensures removed { IfOk result (RemovesSelected S.K.cmp S.Argument.is_summary (S.slots store.old) (S.slots store.new) height root S.Argument.selects query) }
     ensures refused { OnErr result (S.slots store.new ≡ S.slots store.old) }
 {
     path.clear();
