@@ -3,6 +3,7 @@ use Rattle.std.specs.Prelude.{◌≡◌, ◌-◌, ℕ, Bool, true, false, List, 
 use Rattle.std.specs.declared.cmp.Ordering.{Ordering}
 use Rattle.std.specs.Cmp.Lexicographic.{slice_cmp}
 use Rattle.std.specs.Ordering.{nat_cmp, is_lt, is_gt}
+use Rattle.bptree_maps.specs.Keys.{holds, with_key, without_key}
 
 -- the first byte that differs decides, and else the lengths do
 abbrev pub by_bytes : List ℕ → List ℕ → Ordering
@@ -19,3 +20,10 @@ key_before keys k = let smaller = filter (λ key. is_lt (by_bytes key k)) keys i
 abbrev pub IsTold : Option (List ℕ) → Bool → List ℕ × ℕ → List ℕ × ℕ → Type 0
 IsTold None found old new = (found ≡ false) × (new ≡ old)
 IsTold (Some key) found old new = (found ≡ true) × (new ≡ (take (length old.0) key ++ drop (length key) old.0, length key))
+
+-- the key was held or not, and the set is left with it, or without it
+abbrev pub IsHeldWith : List (List ℕ) → List ℕ → Bool → Option (List (List ℕ)) → Type 0
+IsHeldWith keys key was held = (holds by_bytes keys key ≡ was) × (held ≡ Some (with_key by_bytes keys key))
+
+abbrev pub IsHeldWithout : List (List ℕ) → List ℕ → Bool → Option (List (List ℕ)) → Type 0
+IsHeldWithout keys key was held = (holds by_bytes keys key ≡ was) × (held ≡ Some (without_key by_bytes keys key))

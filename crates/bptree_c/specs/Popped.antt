@@ -1,9 +1,11 @@
 -- What leaves a map, and how it is told.
 use Rattle.std.specs.Prelude.{◌≡◌, ℕ, List, [], ◌∷◌, ◌++◌, Option, Some, Result, MatchOption, MatchResult, slice_get}
 use Rattle.std.specs.List.{remove}
+use Rattle.std.specs.Ordering.{nat_cmp}
 use Rattle.std.specs.declared.alloc.AllocError.{AllocError}
 use Rattle.bptree_c.specs.declared.pair.Pair.{Pair}
 use Rattle.bptree_c.specs.Pairs.{as_tuple}
+use Rattle.bptree_keys.specs.Contents.{value, put, del}
 
 -- the pair at a place has left the list, and is told
 abbrev pub LeftAt : List (ℕ × ℕ) → ℕ → Option (List (ℕ × ℕ)) → Pair → Type 0
@@ -22,3 +24,10 @@ abbrev pub IsTold : Result (Option (ℕ × ℕ)) AllocError → ℕ → Pair →
 IsTold answer code pair = MatchResult answer
     (λ found. MatchOption found (code ≡ 0) (λ it. (code ≡ 1) × (it ≡ as_tuple pair)))
     (λ _. code ≡ 2)
+
+-- what stood at the key is told, and the value is put there, or the pair has left
+abbrev pub IsPutAt : List (ℕ × ℕ) → ℕ → ℕ → Option ℕ → Option (List (ℕ × ℕ)) → Type 0
+IsPutAt old key new told held = (value nat_cmp old key ≡ told) × (held ≡ Some (put nat_cmp old key new))
+
+abbrev pub IsGoneAt : List (ℕ × ℕ) → ℕ → Option ℕ → Option (List (ℕ × ℕ)) → Type 0
+IsGoneAt old key told held = (value nat_cmp old key ≡ told) × (held ≡ Some (del nat_cmp old key))

@@ -3,8 +3,8 @@
 ghost use Rattle.std.specs.Prelude.{◌≡◌, ◌-◌, ◌≤◌, ℕ, List, [], Option, Some, None, IfOk, OnErr, IsTrue, ◌++◌, true, false, not, length, slice_get, take, drop};
 ghost use Rattle.std.specs.Option.{option_copied, option_map};
 ghost use Rattle.bptree_arguments.specs.CountLaws.{count_below};
-ghost use Rattle.bptree_c.specs.ByteKeys.{by_bytes, key_after, key_before, IsTold};
-ghost use Rattle.bptree_maps.specs.Keys.{holds, with_key, without_key};
+ghost use Rattle.bptree_c.specs.ByteKeys.{by_bytes, key_after, key_before, IsHeldWith, IsHeldWithout, IsTold};
+ghost use Rattle.bptree_maps.specs.Keys.{holds};
 ghost use Rattle.bptree_maps.specs.KeyChanges.{PutsKey, RemovesKey};
 ghost use Rattle.bptree_tree.specs.Entries.{last_of};
 
@@ -152,7 +152,7 @@ pub extern "C" fn bptree_bytes_insert(alloc: Global, set: &mut ByteHandle, key: 
     requires open { set.old.held ≡ Some keys }
     ensures codes { result ≤ 2 }
     ensures added { result ≡ 0 →
-        (holds by_bytes keys key.now ≡ false) × (set.new.held ≡ Some (with_key by_bytes keys key.now)) }
+        IsHeldWith keys key.now false set.new.held }
     ensures there { result ≡ 1 →
         (holds by_bytes keys key.now ≡ true) × (set.new.held ≡ Some keys) }
     ensures refused { result ≡ 2 → set.new.held ≡ Some keys }
@@ -191,7 +191,7 @@ pub extern "C" fn bptree_bytes_remove(alloc: Global, set: &mut ByteHandle, key: 
     ensures absent { result ≡ 0 →
         (holds by_bytes keys key.now ≡ false) × (set.new.held ≡ Some keys) }
     ensures removed { result ≡ 1 →
-        (holds by_bytes keys key.now ≡ true) × (set.new.held ≡ Some (without_key by_bytes keys key.now)) }
+        IsHeldWithout keys key.now true set.new.held }
     ensures refused { result ≡ 2 → set.new.held ≡ Some keys }
 {
     let Ok(copy) = Bytes::copy_of(alloc, key) else {

@@ -3,8 +3,8 @@ ghost use Rattle.std.specs.Prelude.{◌≡◌, ◌≤◌, ℕ, List, [], Option,
 ghost use Rattle.std.specs.List.{remove};
 ghost use Rattle.std.specs.Map.Iter.{TakesFirst, TakesLast};
 ghost use Rattle.std.specs.Ordering.{nat_cmp};
-ghost use Rattle.bptree_c.specs.Popped.{IsTold, LeftAt, LeftFirst, LeftLast};
-ghost use Rattle.bptree_keys.specs.Contents.{has, value, put, del};
+ghost use Rattle.bptree_c.specs.Popped.{IsGoneAt, IsPutAt, IsTold, LeftAt, LeftFirst, LeftLast};
+ghost use Rattle.bptree_keys.specs.Contents.{has, value};
 ghost use Rattle.bptree_tree.specs.Changes.{Puts, Removes};
 
 use crate::handle::{Handle, Map};
@@ -26,9 +26,9 @@ pub extern "C" fn bptree_put(
     requires open { map.old.held ≡ Some pairs }
     ensures codes { result ≤ 2 }
     ensures added { result ≡ 0 →
-        (value nat_cmp pairs key ≡ None) × (map.new.held ≡ Some (put nat_cmp pairs key new)) }
+        IsPutAt pairs key new None map.new.held }
     ensures replaced { result ≡ 1 →
-        (value nat_cmp pairs key ≡ Some old.new) × (map.new.held ≡ Some (put nat_cmp pairs key new)) }
+        IsPutAt pairs key new (Some old.new) map.new.held }
     ensures refused { result ≡ 2 → map.new.held ≡ Some pairs }
     ensures sure { IsTrue (has nat_cmp pairs key) → result ≤ 1 }
 {
@@ -65,9 +65,9 @@ pub extern "C" fn bptree_del(alloc: Global, map: &mut Handle, key: u64, old: &mu
     requires open { map.old.held ≡ Some pairs }
     ensures codes { result ≤ 2 }
     ensures absent { result ≡ 0 →
-        (value nat_cmp pairs key ≡ None) × (map.new.held ≡ Some (del nat_cmp pairs key)) }
+        IsGoneAt pairs key None map.new.held }
     ensures removed { result ≡ 1 →
-        (value nat_cmp pairs key ≡ Some old.new) × (map.new.held ≡ Some (del nat_cmp pairs key)) }
+        IsGoneAt pairs key (Some old.new) map.new.held }
     ensures refused { result ≡ 2 → map.new.held ≡ Some pairs }
     ensures sure { has nat_cmp pairs key ≡ false → result ≡ 0 }
 {

@@ -13,7 +13,7 @@ pub struct Forgetful<S: NodeStore> {
 impl<S: NodeStore> NodeStore for Forgetful<S> {
     ghost use Rattle.std.proofs.Common.{arith};
     ghost use Rattle.std.specs.Prelude.{◌≡◌, IfOk, IfErr, OnErr};
-    ghost use Rattle.bptree_nodes.specs.Slot.{Free, Held, Present, UpdatesInner, UpdatesLeaf};
+    ghost use Rattle.bptree_nodes.specs.Slot.{Free, Held, AddsInner, AddsLeaf};
 
     type K = S::K;
 
@@ -50,7 +50,7 @@ impl<S: NodeStore> NodeStore for Forgetful<S> {
         node: Box<InnerNode<S::K, S::Argument>>,
     ) -> Result<InnerNodeId, Box<InnerNode<S::K, S::Argument>>>
         ensures was_free { IfOk result (λ id. (S.slots self.old.inner).inner id.0 ≡ Free) }
-        ensures updates { IfOk result (λ id. UpdatesInner (S.slots self.old.inner) (S.slots self.new.inner) id.0 (Present node.value)) }
+        ensures updates { IfOk result (AddsInner (S.slots self.old.inner) (S.slots self.new.inner) node.value) }
         ensures refused { OnErr result (S.slots self.new.inner ≡ S.slots self.old.inner) }
         ensures handed_back { IfErr result (λ back. back ≡ node) }
     {
@@ -99,14 +99,14 @@ impl<S: NodeStore> NodeStore for Forgetful<S> {
 
     fn put_back_inner(&mut self, id: InnerNodeId, node: Box<InnerNode<S::K, S::Argument>>)
         requires { (S.slots self.old.inner).inner id.0 ≡ Held }
-        ensures { UpdatesInner (S.slots self.old.inner) (S.slots self.new.inner) id.0 (Present node.value) }
+        ensures { AddsInner (S.slots self.old.inner) (S.slots self.new.inner) node.value id }
     {
         self.inner.put_back_inner(id, node);
     }
 
     fn assign_leaf(&mut self, id: LeafNodeId, leaf: Box<LeafNode<S::K, S::V>>)
         requires { (S.slots self.old.inner).leaf id.0 ≡ Held }
-        ensures { UpdatesLeaf (S.slots self.old.inner) (S.slots self.new.inner) id.0 (Present leaf.value) }
+        ensures { AddsLeaf (S.slots self.old.inner) (S.slots self.new.inner) leaf.value id }
     {
         self.inner.assign_leaf(id, leaf);
     }
