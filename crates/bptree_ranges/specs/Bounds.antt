@@ -1,11 +1,20 @@
 -- The part of the contents between two bounds, each of which takes its key in, leaves it out, or is open.
-use Rattle.std.specs.Prelude.{Bool, true, false, not, ◌&&◌, List, filter}
+use Rattle.std.specs.Prelude.{◌≡◌, ℕ, Bool, true, false, not, ◌&&◌, List, filter, length}
 use Rattle.std.specs.Borrow.{Bor}
 use Rattle.std.specs.declared.cmp.Ordering.{Ordering}
 use Rattle.std.specs.declared.ops.Bound.{Bound}
 use Rattle.std.specs.declared.ops.Bound.TheVariants.{Included, Excluded, Unbounded}
 use Rattle.std.specs.Ordering.{is_lt, is_gt}
 use Rattle.std.specs.Range.Bound.{bound_map}
+use Rattle.bptree_arguments.specs.GroupAnswers.{is_before}
+use Rattle.bptree_iteration.specs.declared.part.Part.{Part}
+use Rattle.bptree_keys.specs.declared.node_id.LeafNodeId.{LeafNodeId}
+use Rattle.bptree_keys.specs.declared.node_id.NodeId.{NodeId}
+use Rattle.bptree_nodes.specs.Inner.{Inner}
+use Rattle.bptree_nodes.specs.Leaf.{Leaf}
+use Rattle.bptree_nodes.specs.Slot.{Slots}
+use Rattle.bptree_ranges.specs.Ranges.{place_on, IsPart}
+use Rattle.bptree_shape.specs.Shape.{pairs_at}
 
 -- the bound by the key that a reference shows
 abbrev pub bound_copied : {K : Type 0} → Bound (Bor K) → Bound K
@@ -37,3 +46,19 @@ module _ {K : Type 0} (cmp : K → K → Ordering) where
   may_hold (Excluded lo) Unbounded = true
   may_hold (Excluded lo) (Included hi) = is_lt (cmp lo hi)
   may_hold (Excluded lo) (Excluded hi) = is_lt (cmp lo hi)
+
+module _ {K V A : Type 0} (cmp : K → K → Ordering) (slots : Slots (Inner K A) (Leaf K V)) (height : ℕ) (root : NodeId) where
+  -- the part between two bounds, which references show
+  abbrev pub IsPartInBounds : Bound (Bor K) → Bound (Bor K) → Part → Type 0
+  IsPartInBounds lo hi p = IsPart slots height root p (between_bounds cmp (pairs_at slots height root) (bound_copied lo) (bound_copied hi))
+
+  -- before the place stand the pairs that come before a start, or that do not come behind an end
+  abbrev pub IsStartPlace : Bound (Bor K) → LeafNodeId × ℕ → Type 0
+  IsStartPlace lo at = place_on slots height root at ≡ length (filter (λ pair. is_before_start cmp (bound_copied lo) pair.0) (pairs_at slots height root))
+
+  abbrev pub IsEndPlace : Bound (Bor K) → LeafNodeId × ℕ → Type 0
+  IsEndPlace hi at = place_on slots height root at ≡ length (filter (λ pair. is_upto_end cmp (bound_copied hi) pair.0) (pairs_at slots height root))
+
+  -- or that are smaller than a key, and the one that equals it where the place is to be behind that
+  abbrev pub IsPlaceBeside : K → Bool → LeafNodeId × ℕ → Type 0
+  IsPlaceBeside k behind at = place_on slots height root at ≡ length (filter (λ pair. is_before behind (cmp pair.0 k)) (pairs_at slots height root))

@@ -1,7 +1,38 @@
--- What a count says of keys.
-use Rattle.std.specs.Prelude.{◌≡◌, List, length}
-use Rattle.bptree_arguments.specs.declared.count.Count.{Count}
+-- How many pairs of a tree stand between two ends, before the lower one, before the upper one, and before a key.
+use Rattle.std.specs.Prelude.{◌≡◌, ℕ, List, Option, filter, length}
+use Rattle.std.specs.Borrow.{Bor}
+use Rattle.std.specs.declared.cmp.Ordering.{Ordering}
+use Rattle.std.specs.Option.{option_copied}
+use Rattle.bptree_keys.specs.Contents.{IsAscending, pairs_below}
+use Rattle.bptree_keys.specs.Ranges.{between, falls_short, stays_below}
+use Rattle.bptree_keys.specs.declared.node_id.NodeId.{NodeId}
+use Rattle.bptree_nodes.specs.Inner.{Inner}
+use Rattle.bptree_nodes.specs.Leaf.{Leaf}
+use Rattle.bptree_nodes.specs.Slot.{Slots}
+use Rattle.bptree_shape.specs.Shape.{pairs_at}
 
--- the count is the number of the keys
-abbrev pub CountsKeys : {K : Type 0} → Count → List K → Type 0
-CountsKeys a keys = a.0 ≡ length keys
+module _ {K V A : Type 0} (cmp : K → K → Ordering) (slots : Slots (Inner K A) (Leaf K V)) (height : ℕ) (root : NodeId) where
+  -- as many of a tree's pairs are between two ends, each of which a reference shows, where it is given
+  abbrev pub CountsBetween : Option (Bor K) → Option (Bor K) → ℕ → Type 0
+  CountsBetween lo hi n = n ≡ length (between cmp (pairs_at slots height root) (option_copied lo) (option_copied hi))
+
+  -- or fall short of the lower end, or stay below the upper end, or are smaller than a key
+  abbrev pub CountsShort : Option (Bor K) → ℕ → Type 0
+  CountsShort lo n = n ≡ length (filter (λ pair. falls_short cmp (option_copied lo) pair.0) (pairs_at slots height root))
+
+  abbrev pub CountsBelow : Option (Bor K) → ℕ → Type 0
+  CountsBelow hi n = n ≡ length (filter (λ pair. stays_below cmp (option_copied hi) pair.0) (pairs_at slots height root))
+
+  abbrev pub CountsSmaller : K → ℕ → Type 0
+  CountsSmaller k n = n ≡ length (pairs_below cmp (pairs_at slots height root) k)
+
+module _ {K V : Type 0} (cmp : K → K → Ordering) (leaf : Leaf K V) where
+  -- the same of the pairs of one leaf, where they ascend
+  abbrev pub CountsShortIn : Option (Bor K) → ℕ → Type 0
+  CountsShortIn lo n = IsAscending cmp leaf.pairs → n ≡ length (filter (λ pair. falls_short cmp (option_copied lo) pair.0) leaf.pairs)
+
+  abbrev pub CountsBelowIn : Option (Bor K) → ℕ → Type 0
+  CountsBelowIn hi n = IsAscending cmp leaf.pairs → n ≡ length (filter (λ pair. stays_below cmp (option_copied hi) pair.0) leaf.pairs)
+
+  abbrev pub CountsSmallerIn : K → ℕ → Type 0
+  CountsSmallerIn k n = IsAscending cmp leaf.pairs → n ≡ length (pairs_below cmp leaf.pairs k)

@@ -1,5 +1,5 @@
 -- Where a walk over the places of a tree ends.
-use Rattle.std.specs.Prelude.{◌≡◌, ℕ, zero, suc, ◌+◌, ◌<◌, ◌≤◌, List, length, min, take, filter, false, Option, Some, None}
+use Rattle.std.specs.Prelude.{◌≡◌, ℕ, zero, suc, ◌+◌, ◌<◌, ◌≤◌, List, length, min, take, filter, Bool, false, Option, Some, None}
 use Rattle.std.specs.declared.cmp.Ordering.{Ordering}
 use Rattle.bptree_arguments.specs.GroupAnswers.{is_before}
 use Rattle.bptree_arguments.specs.Groups.{of_group}
@@ -9,10 +9,12 @@ use Rattle.bptree_keys.specs.declared.node_id.NodeId.TheVariants as kind
 use Rattle.bptree_nodes.specs.Inner.{Inner}
 use Rattle.bptree_nodes.specs.Leaf.{Leaf}
 use Rattle.bptree_nodes.specs.Slot.{Slots}
-use Rattle.bptree_ranges.specs.Ranges.{start, IsPlaceOn}
+use Rattle.bptree_keys.specs.Ranges.{part}
+use Rattle.bptree_iteration.specs.declared.part.Part.{Part}
+use Rattle.bptree_ranges.specs.Ranges.{start, IsPart, IsPlaceOn}
 use Rattle.bptree_ranges.specs.declared.places.Skipped.{Skipped}
 use Rattle.bptree_ranges.specs.declared.places.Skipped.TheVariants.{Found, Short}
-use Rattle.bptree_shape.specs.Leaves.{pairs_of, StandsIn}
+use Rattle.bptree_shape.specs.Leaves.{pairs_of, IsBorderLeaf, StandsIn}
 use Rattle.bptree_shape.specs.Order.{flat}
 use Rattle.bptree_shape.specs.Shape.{leaf_pairs, inner_children, pairs_at}
 
@@ -40,3 +42,26 @@ module _ {K V A : Type 0} (slots : Slots (Inner K A) (Leaf K V)) where
   IsPlaceInGroup cmp group_of g h root i (Some at) =
       IsPlaceOn slots h root at.0 at.1 × (start slots h root at.0 + at.1 ≡ before_group cmp group_of g (pairs_at slots h root) + i)
       × (i < length (of_group cmp group_of g (pairs_at slots h root)))
+
+  -- the same from a slot of a leaf or a child of an inner node on
+  abbrev pub IsSkippedFrom : ℕ → NodeId → ℕ → ℕ → Skipped → Type 0
+  IsSkippedFrom h id first i skipped = IsSkipped h id (before_entry h id first) i skipped
+
+module _ {K V A G : Type 0} (cmp : G → G → Ordering) (group_of : K → G) (g : G) (slots : Slots (Inner K A) (Leaf K V)) (h : ℕ) (root : NodeId) where
+  -- what stands behind so many pairs of a group
+  abbrev pub SkipsInto : ℕ → Skipped → Type 0
+  SkipsInto i skipped = IsSkipped slots h root (before_group cmp group_of g (pairs_at slots h root)) i skipped
+
+  -- the part of a group, and of n pairs of it from place i of the group on
+  abbrev pub IsGroupPart : Part → Type 0
+  IsGroupPart p = IsPart slots h root p (of_group cmp group_of g (pairs_at slots h root))
+
+  abbrev pub IsPartInGroup : ℕ → ℕ → Part → Type 0
+  IsPartInGroup i n p = IsPart slots h root p (part (of_group cmp group_of g (pairs_at slots h root)) i n)
+
+  -- the place where a group ends, or begins, and the leaf
+  abbrev pub Borders : Bool → LeafNodeId × ℕ → Type 0
+  Borders end at = IsPlaceOn slots h root at.0 at.1 × (start slots h root at.0 + at.1 ≡ length (filter (λ pair. is_before end (cmp (group_of pair.0) g)) (pairs_at slots h root)))
+
+  abbrev pub BordersLeaf : Bool → LeafNodeId → Type 0
+  BordersLeaf end leaf = IsBorderLeaf slots (λ k. is_before end (cmp (group_of k) g)) h root leaf

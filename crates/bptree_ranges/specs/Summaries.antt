@@ -1,9 +1,19 @@
 -- Summaries of some keys, or none where there are no keys.
 use Rattle.std.specs.Prelude.{◌≡◌, ℕ, ◌<◌, ◌^◌, List, [], ◌++◌, length, Option, Some, None, MatchOption, drop}
+use Rattle.std.specs.Borrow.{Bor}
 use Rattle.std.specs.declared.cmp.Ordering.{Ordering}
 use Rattle.std.specs.List.{AllZip, slice_range}
 use Rattle.std.specs.List.Sorted.{IsStrictlySortedBy}
+use Rattle.std.specs.Map.{keys_of}
+use Rattle.std.specs.Option.{option_copied}
+use Rattle.bptree_keys.specs.Contents.{IsAscending}
 use Rattle.bptree_keys.specs.Pieces.{flatten, ArePieces}
+use Rattle.bptree_keys.specs.Ranges.{between}
+use Rattle.bptree_keys.specs.declared.node_id.NodeId.{NodeId}
+use Rattle.bptree_nodes.specs.Inner.{Inner}
+use Rattle.bptree_nodes.specs.Leaf.{Leaf}
+use Rattle.bptree_nodes.specs.Slot.{Slots}
+use Rattle.bptree_shape.specs.Shape.{pairs_at}
 
 module _ {K A : Type 0} (is_summary : A → List K → Type 0) where
   -- a summary of the keys, of which there are some; or none, where there are none, since no piece is empty
@@ -31,3 +41,17 @@ run_of xs (Some i) (Some j) = slice_range xs i j
 abbrev pub IsPartSummary : {K A Q : Type 0} → (A → List K → Type 0) → (Q → List K → Option ℕ → Type 0) → Q → Q → List K → A → Type 0
 IsPartSummary is_summary selects from to keys a =
     (i : Option ℕ) × selects from keys i × MatchOption i (is_summary a []) (λ _. (j : Option ℕ) × selects to keys j × is_summary a (run_of keys i j))
+
+module _ {K V A : Type 0} (cmp : K → K → Ordering) (is_summary : A → List K → Type 0) where
+  module _ (slots : Slots (Inner K A) (Leaf K V)) (height : ℕ) (root : NodeId) (lo hi : Option (Bor K)) where
+    -- a summary of the keys of a tree between two ends, each of which a reference shows, where it is given; and the same where
+    -- there is none of no keys
+    abbrev pub SumsUpBetween : A → Type 0
+    SumsUpBetween a = is_summary a (keys_of (between cmp (pairs_at slots height root) (option_copied lo) (option_copied hi)))
+
+    abbrev pub SumsUpSomeBetween : Option A → Type 0
+    SumsUpSomeBetween found = SumsUpSome is_summary (keys_of (between cmp (pairs_at slots height root) (option_copied lo) (option_copied hi))) found
+
+  -- the same of the keys of a leaf, where they ascend
+  abbrev pub SumsUpSomeIn : Leaf K V → Option (Bor K) → Option (Bor K) → Option A → Type 0
+  SumsUpSomeIn leaf lo hi found = IsAscending cmp leaf.pairs → SumsUpSome is_summary (keys_of (between cmp leaf.pairs (option_copied lo) (option_copied hi))) found

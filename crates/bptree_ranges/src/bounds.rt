@@ -1,8 +1,7 @@
 //! Where a part of the contents begins and ends that is told by two bounds.
-ghost use Rattle.std.specs.Prelude.{◌≡◌, ◌≤◌, filter, length};
-ghost use Rattle.bptree_arguments.specs.GroupAnswers.{is_before};
-ghost use Rattle.bptree_ranges.specs.Bounds.{between_bounds, bound_copied, is_before_start, is_upto_end, may_hold};
-ghost use Rattle.bptree_ranges.specs.Ranges.{place_on, IsPart, IsPlaceOn};
+ghost use Rattle.std.specs.Prelude.{◌≡◌, ◌≤◌, length};
+ghost use Rattle.bptree_ranges.specs.Bounds.{bound_copied, may_hold, IsEndPlace, IsPartInBounds, IsPlaceBeside, IsStartPlace};
+ghost use Rattle.bptree_ranges.specs.Ranges.{IsPlaceOn};
 ghost use Rattle.bptree_shape.specs.Shape.{pairs_at, IsWellShaped};
 
 use crate::ranges::{end_of_all, no_part, part_of_places};
@@ -28,7 +27,7 @@ pub fn part_between_bounds<S: NodeStore>(
 ) -> Part
     requires shape { IsWellShaped S.K.cmp S.Argument.is_summary (S.slots store.now) height root }
     requires fits { length (pairs_at (S.slots store.now) height root) ≤ len }
-    ensures { IsPart (S.slots store.now) height root result (between_bounds S.K.cmp (pairs_at (S.slots store.now) height root) (bound_copied lo.entry) (bound_copied hi.entry)) }
+    ensures { IsPartInBounds S.K.cmp (S.slots store.now) height root lo.entry hi.entry result }
 {
     let front = start_of(store, root, height, lo);
     if !can_hold(lo, hi) {
@@ -60,7 +59,7 @@ fn start_of<S: NodeStore>(
 ) -> (LeafNodeId, usize)
     requires { IsWellShaped S.K.cmp S.Argument.is_summary (S.slots store.now) height root }
     ensures place { IsPlaceOn (S.slots store.now) height root result.0 result.1 }
-    ensures before { place_on (S.slots store.now) height root result ≡ length (filter (λ pair. is_before_start S.K.cmp (bound_copied lo.entry) pair.0) (pairs_at (S.slots store.now) height root)) }
+    ensures before { IsStartPlace S.K.cmp (S.slots store.now) height root lo.entry result }
 {
     match lo {
         Bound::Included(lo) => place_beside(store, root, height, lo, false),
@@ -78,7 +77,7 @@ fn end_of<S: NodeStore>(
 ) -> (LeafNodeId, usize)
     requires { IsWellShaped S.K.cmp S.Argument.is_summary (S.slots store.now) height root }
     ensures place { IsPlaceOn (S.slots store.now) height root result.0 result.1 }
-    ensures before { place_on (S.slots store.now) height root result ≡ length (filter (λ pair. is_upto_end S.K.cmp (bound_copied hi.entry) pair.0) (pairs_at (S.slots store.now) height root)) }
+    ensures before { IsEndPlace S.K.cmp (S.slots store.now) height root hi.entry result }
 {
     match hi {
         Bound::Included(hi) => place_beside(store, root, height, hi, true),
@@ -97,7 +96,7 @@ fn place_beside<S: NodeStore>(
 ) -> (LeafNodeId, usize)
     requires { IsWellShaped S.K.cmp S.Argument.is_summary (S.slots store.now) height root }
     ensures place { IsPlaceOn (S.slots store.now) height root result.0 result.1 }
-    ensures before { place_on (S.slots store.now) height root result ≡ length (filter (λ pair. is_before behind (S.K.cmp pair.0 key.now)) (pairs_at (S.slots store.now) height root)) }
+    ensures before { IsPlaceBeside S.K.cmp (S.slots store.now) height root key.now behind result }
 {
     let leaf = leaf_for(store, root, height, key);
     match store.get_leaf(leaf).locate_slot(key) {

@@ -1,11 +1,9 @@
 //! How many keys stand between two ends, in a tree of counts.
-ghost use Rattle.std.specs.Prelude.{◌≡◌, filter, length};
-ghost use Rattle.std.specs.Option.{option_copied};
-ghost use Rattle.bptree_keys.specs.Contents.{pairs_below};
-ghost use Rattle.bptree_keys.specs.Ranges.{between, falls_short, stays_below};
-ghost use Rattle.bptree_ranges.specs.Counting.{CountsKeys};
+ghost use Rattle.std.specs.Prelude.{◌≡◌, length};
+ghost use Rattle.bptree_arguments.specs.CountLaws.{CountsKeys};
 ghost use Rattle.bptree_shape.specs.Shape.{pairs_at};
 ghost use Rattle.bptree_descents.specs.ByArgument.{IsSubtree};
+ghost use Rattle.bptree_ranges.specs.Counting.{CountsBelow, CountsBetween, CountsShort, CountsSmaller};
 
 use crate::summaries::slot_of;
 use bptree_arguments::count::{Count, total_of};
@@ -27,7 +25,7 @@ pub fn len_between<S: NodeStore<Argument = Count>>(
 ) -> usize
     requires subtree { IsSubtree S.K.cmp CountsKeys (S.slots store.now) height root }
     requires all { len ≡ length (pairs_at (S.slots store.now) height root) }
-    ensures { result ≡ length (between S.K.cmp (pairs_at (S.slots store.now) height root) (option_copied lo.entry) (option_copied hi.entry)) }
+    ensures { CountsBetween S.K.cmp (S.slots store.now) height root lo.entry hi.entry result }
 {
     let from = count_before(store, root, height, lo);
     let to = count_upto(store, root, height, len, hi);
@@ -42,7 +40,7 @@ fn count_before<S: NodeStore<Argument = Count>>(
     lo: Option<&S::K>,
 ) -> usize
     requires { IsSubtree S.K.cmp CountsKeys (S.slots store.now) height root }
-    ensures { result ≡ length (filter (λ pair. falls_short S.K.cmp (option_copied lo.entry) pair.0) (pairs_at (S.slots store.now) height root)) }
+    ensures { CountsShort S.K.cmp (S.slots store.now) height root lo.entry result }
 {
     match lo {
         Some(lo) => count_smaller(store, root, height, lo),
@@ -60,7 +58,7 @@ fn count_upto<S: NodeStore<Argument = Count>>(
 ) -> usize
     requires subtree { IsSubtree S.K.cmp CountsKeys (S.slots store.now) height root }
     requires all { len ≡ length (pairs_at (S.slots store.now) height root) }
-    ensures { result ≡ length (filter (λ pair. stays_below S.K.cmp (option_copied hi.entry) pair.0) (pairs_at (S.slots store.now) height root)) }
+    ensures { CountsBelow S.K.cmp (S.slots store.now) height root hi.entry result }
 {
     match hi {
         Some(hi) => count_smaller(store, root, height, hi),
@@ -76,7 +74,7 @@ fn count_smaller<S: NodeStore<Argument = Count>>(
     key: &S::K,
 ) -> usize
     requires { IsSubtree S.K.cmp CountsKeys (S.slots store.now) height id }
-    ensures { result ≡ length (pairs_below S.K.cmp (pairs_at (S.slots store.now) height id) key.now) }
+    ensures { CountsSmaller S.K.cmp (S.slots store.now) height id key.now result }
 {
     match id {
         NodeId::Leaf(leaf) => slot_of(store.get_leaf(leaf), key),

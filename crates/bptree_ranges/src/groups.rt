@@ -1,11 +1,8 @@
 //! The pairs of one group of keys, in a tree that stands in a store.
-ghost use Rattle.std.specs.Prelude.{◌≡◌, ◌+◌, ◌<◌, ◌≤◌, ◌^◌, IfOk, filter, length};
-ghost use Rattle.bptree_arguments.specs.GroupAnswers.{is_before};
-ghost use Rattle.bptree_arguments.specs.Groups.{of_group};
-ghost use Rattle.bptree_keys.specs.Ranges.{part};
-ghost use Rattle.bptree_shape.specs.Leaves.{Stands, IsBorderLeaf};
-ghost use Rattle.bptree_ranges.specs.Ranges.{start, IsPart, IsPlaceOn};
+ghost use Rattle.std.specs.Prelude.{◌<◌, ◌≤◌, ◌^◌, IfOk, length};
+ghost use Rattle.bptree_shape.specs.Leaves.{Stands};
 ghost use Rattle.bptree_shape.specs.Shape.{pairs_at, IsWellShaped};
+ghost use Rattle.bptree_ranges.specs.Places.{Borders, BordersLeaf, IsGroupPart, IsPartInGroup};
 
 use crate::places::place_in_group;
 use crate::ranges::{no_part, part_of_places};
@@ -31,7 +28,7 @@ pub fn part_of_group<S: NodeStore, G: FromRef<S::K> + Key>(
 ) -> Result<Part, AllocError>
     requires shape { IsWellShaped S.K.cmp S.Argument.is_summary (S.slots store.now) height root }
     requires fits { length (pairs_at (S.slots store.now) height root) ≤ len }
-    ensures { IfOk result (λ found. IsPart (S.slots store.now) height root found (of_group G.cmp G.group_of group.now (pairs_at (S.slots store.now) height root))) }
+    ensures { IfOk result (IsGroupPart G.cmp G.group_of group.now (S.slots store.now) height root) }
 {
     let front = place_of_group(store, root, height, group, false)?;
     let back = place_of_group(store, root, height, group, true)?;
@@ -53,7 +50,7 @@ pub fn part_within_group<S: NodeStore, G: FromRef<S::K> + Key>(
 ) -> Result<Part, AllocError>
     requires shape { IsWellShaped S.K.cmp S.Argument.is_summary (S.slots store.now) height root }
     requires fits { length (pairs_at (S.slots store.now) height root) < 2 ^ 64 }
-    ensures { IfOk result (λ found. IsPart (S.slots store.now) height root found (part (of_group G.cmp G.group_of group.now (pairs_at (S.slots store.now) height root)) i n)) }
+    ensures { IfOk result (IsPartInGroup G.cmp G.group_of group.now (S.slots store.now) height root i n) }
 {
     match place_in_group(store, root, height, group, i)? {
         None => Ok(no_part((first_leaf(store, root, height), 0))),
@@ -73,7 +70,7 @@ fn place_of_group<S: NodeStore, G: FromRef<S::K> + Key>(
     end: bool,
 ) -> Result<(LeafNodeId, usize), AllocError>
     requires { IsWellShaped S.K.cmp S.Argument.is_summary (S.slots store.now) height root }
-    ensures { IfOk result (λ at. IsPlaceOn (S.slots store.now) height root at.0 at.1 × (start (S.slots store.now) height root at.0 + at.1 ≡ length (filter (λ pair. is_before end (G.cmp (G.group_of pair.0) group.now)) (pairs_at (S.slots store.now) height root)))) }
+    ensures { IfOk result (Borders G.cmp G.group_of group.now (S.slots store.now) height root end) }
 {
     let leaf = leaf_of_group(store, root, height, group, end)?;
     let offset = keys_before(store.get_leaf(leaf).keys(), group, end)?;
@@ -89,7 +86,7 @@ fn leaf_of_group<S: NodeStore, G: FromRef<S::K> + Key>(
     end: bool,
 ) -> Result<LeafNodeId, AllocError>
     requires { Stands S.K.cmp (S.slots store.now) height id }
-    ensures { IfOk result (IsBorderLeaf (S.slots store.now) (λ k. is_before end (G.cmp (G.group_of k) group.now)) height id) }
+    ensures { IfOk result (BordersLeaf G.cmp G.group_of group.now (S.slots store.now) height id end) }
 {
     match id {
         NodeId::Leaf(leaf) => Ok(leaf),

@@ -1,9 +1,10 @@
 //! Places in a tree that stands in a store, by the summaries that tell how many keys they stand
 //! for.
-ghost use Rattle.std.specs.Prelude.{◌≡◌, ◌<◌, ◌≤◌, ◌^◌, IfOk, IfSome, List, length};
-ghost use Rattle.bptree_ranges.specs.Places.{before_entry, before_group, IsPlaceInGroup, IsSkipped};
+ghost use Rattle.std.specs.Prelude.{◌<◌, ◌≤◌, ◌^◌, IfOk, IfSome, length};
+ghost use Rattle.bptree_ranges.specs.Places.{IsPlaceInGroup, IsSkippedFrom, SkipsInto};
 ghost use Rattle.bptree_shape.specs.Shape.{pairs_at, IsWellShaped};
 ghost use Rattle.bptree_descents.specs.ByArgument.{IsSubtree};
+ghost use Rattle.bptree_arguments.specs.Sums.{TellsLength};
 
 use bptree_arguments::argument::Argument;
 use bptree_arguments::group::FromRef;
@@ -61,7 +62,7 @@ fn skip_from_group<S: NodeStore, G: FromRef<S::K> + Key>(
     i: usize,
 ) -> Result<Skipped, AllocError>
     requires { IsSubtree S.K.cmp S.Argument.is_summary (S.slots store.now) height id }
-    ensures { IfOk result (IsSkipped (S.slots store.now) height id (before_group G.cmp G.group_of group.now (pairs_at (S.slots store.now) height id)) i) }
+    ensures { IfOk result (SkipsInto G.cmp G.group_of group.now (S.slots store.now) height id i) }
 {
     match id {
         NodeId::Leaf(leaf) => {
@@ -87,7 +88,7 @@ fn skip_from_group<S: NodeStore, G: FromRef<S::K> + Key>(
 // summary tells that it has no more keys is passed in one step.
 fn skip<S: NodeStore>(store: &S, id: NodeId, height: usize, first: usize, i: usize) -> Skipped
     requires { IsSubtree S.K.cmp S.Argument.is_summary (S.slots store.now) height id }
-    ensures { IsSkipped (S.slots store.now) height id (before_entry (S.slots store.now) height id first) i result }
+    ensures { IsSkippedFrom (S.slots store.now) height id first i result }
 {
     match id {
         NodeId::Leaf(leaf) => {
@@ -119,7 +120,7 @@ fn skip<S: NodeStore>(store: &S, id: NodeId, height: usize, first: usize, i: usi
 // How many keys a summary stands for, where it tells that, and where they are no more than so many.
 fn count_within<K: Key, A: Argument<K>>(argument: &A, most: usize) -> Option<usize>
     ensures within { IfSome result (λ n. n ≤ most) }
-    ensures told { (keys : List K) → A.is_summary argument.now keys → IfSome result (λ n. n ≡ length keys) }
+    ensures told { TellsLength (A.is_summary argument.now) result }
 {
     match argument.key_count() {
         Some(count) if count <= most => Some(count),

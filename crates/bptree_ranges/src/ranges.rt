@@ -1,12 +1,6 @@
 //! Parts of the contents of a tree that stands in a store, by the places where they begin and end.
-ghost use Rattle.std.specs.Prelude.{◌≡◌, ◌+◌, ◌-◌, ◌<◌, ◌≤◌, ◌^◌, ◌&&◌, ℕ, Option, IfOk, IsOk, filter, false, true, length, min, not};
-ghost use Rattle.std.specs.Map.{keys_of};
-ghost use Rattle.std.specs.Option.{option_copied};
-ghost use Rattle.bptree_arguments.specs.Selection.{IsPlaceIn};
-ghost use Rattle.bptree_keys.specs.Contents.{pairs_below};
-ghost use Rattle.bptree_keys.specs.Ranges.{between, falls_short, part, part_at, stays_below};
-ghost use Rattle.bptree_iteration.specs.Span.{Tells};
-ghost use Rattle.bptree_ranges.specs.Ranges.{start, place_on, empty_at, IsPart, IsPlaceOn, IsSettled};
+ghost use Rattle.std.specs.Prelude.{◌≡◌, ◌<◌, ◌≤◌, ◌^◌, IfOk, IsOk, false, true, length};
+ghost use Rattle.bptree_ranges.specs.Ranges.{empty_at, IsPlaceOn, AreInOrder, HoldsBetween, IsEndOfAll, IsKeyPlace, IsLowerPlace, IsPartBetween, IsPartFrom, IsPartUpTo, IsSelectedPart, IsUpperPlace, NoneBetween, Settles, ShortIsBelow, TellsBetween};
 ghost use Rattle.bptree_shape.specs.Shape.{pairs_at, IsWellShaped};
 
 use bptree_arguments::argument::SearchArgument;
@@ -34,7 +28,7 @@ pub fn part_between<S: NodeStore>(
 ) -> Part
     requires shape { IsWellShaped S.K.cmp S.Argument.is_summary (S.slots store.now) height root }
     requires fits { length (pairs_at (S.slots store.now) height root) ≤ len }
-    ensures { IsPart (S.slots store.now) height root result (between S.K.cmp (pairs_at (S.slots store.now) height root) (option_copied lo.entry) (option_copied hi.entry)) }
+    ensures { IsPartBetween S.K.cmp (S.slots store.now) height root lo.entry hi.entry result }
 {
     let front = front_of(store, root, height, lo);
     if !are_apart(lo, hi) {
@@ -54,10 +48,10 @@ pub fn places_between<S: NodeStore>(
     hi: Option<&S::K>,
 ) -> ((LeafNodeId, usize), (LeafNodeId, usize))
     requires { IsWellShaped S.K.cmp S.Argument.is_summary (S.slots store.now) height root }
-    ensures front { IsSettled (S.slots store.now) height root (place_on (S.slots store.now) height root result.0) result.0 }
-    ensures back { IsSettled (S.slots store.now) height root (place_on (S.slots store.now) height root result.1) result.1 }
-    ensures rises { place_on (S.slots store.now) height root result.0 ≤ place_on (S.slots store.now) height root result.1 }
-    ensures pairs { between S.K.cmp (pairs_at (S.slots store.now) height root) (option_copied lo.entry) (option_copied hi.entry) ≡ part (pairs_at (S.slots store.now) height root) (place_on (S.slots store.now) height root result.0) (place_on (S.slots store.now) height root result.1 - place_on (S.slots store.now) height root result.0) }
+    ensures front { Settles (S.slots store.now) height root result.0 result.0 }
+    ensures back { Settles (S.slots store.now) height root result.1 result.1 }
+    ensures rises { AreInOrder (S.slots store.now) height root result.0 result.1 }
+    ensures pairs { HoldsBetween S.K.cmp (S.slots store.now) height root lo.entry hi.entry result }
 {
     let first = front_of(store, root, height, lo);
     let front = settled(store, root, height, first);
@@ -97,9 +91,9 @@ pub(crate) fn part_of_places<S: NodeStore>(
     requires shape { IsWellShaped S.K.cmp S.Argument.is_summary (S.slots store.now) height root }
     requires front { IsPlaceOn (S.slots store.now) height root front.0 front.1 }
     requires back { IsPlaceOn (S.slots store.now) height root back.0 back.1 }
-    requires rises { place_on (S.slots store.now) height root front ≤ place_on (S.slots store.now) height root back }
-    requires tells { Tells extent limit (place_on (S.slots store.now) height root back - place_on (S.slots store.now) height root front) }
-    ensures { IsPart (S.slots store.now) height root result (part (pairs_at (S.slots store.now) height root) (place_on (S.slots store.now) height root front) (min limit (place_on (S.slots store.now) height root back - place_on (S.slots store.now) height root front))) }
+    requires rises { AreInOrder (S.slots store.now) height root front back }
+    requires tells { TellsBetween (S.slots store.now) height root front back limit extent }
+    ensures { IsPartUpTo (S.slots store.now) height root front back limit result }
 {
     let front = settled(store, root, height, front);
     let back = settled(store, root, height, back);
@@ -122,7 +116,7 @@ pub fn settled<S: NodeStore>(
 ) -> (LeafNodeId, usize)
     requires shape { IsWellShaped S.K.cmp S.Argument.is_summary (S.slots store.now) height root }
     requires place { IsPlaceOn (S.slots store.now) height root at.0 at.1 }
-    ensures { IsSettled (S.slots store.now) height root (place_on (S.slots store.now) height root at) result }
+    ensures { Settles (S.slots store.now) height root at result }
 {
     let leaf = store.get_leaf(at.0);
     if at.1 < leaf.len() {
@@ -136,8 +130,8 @@ pub fn settled<S: NodeStore>(
 
 // Whether some key can be between two ends.
 fn are_apart<K: Ord>(lo: Option<&K>, hi: Option<&K>) -> bool
-    ensures none { result ≡ false → (k : K) → (not (falls_short K.cmp (option_copied lo.entry) k) && stays_below K.cmp (option_copied hi.entry) k) ≡ false }
-    ensures some { result ≡ true → (k : K) → falls_short K.cmp (option_copied lo.entry) k ≡ true → stays_below K.cmp (option_copied hi.entry) k ≡ true }
+    ensures none { result ≡ false → NoneBetween K.cmp lo.entry hi.entry }
+    ensures some { result ≡ true → ShortIsBelow K.cmp lo.entry hi.entry }
 {
     match (lo, hi) {
         (Some(lo), Some(hi)) => match lo.cmp(hi) {
@@ -157,7 +151,7 @@ fn front_of<S: NodeStore>(
 ) -> (LeafNodeId, usize)
     requires { IsWellShaped S.K.cmp S.Argument.is_summary (S.slots store.now) height root }
     ensures place { IsPlaceOn (S.slots store.now) height root result.0 result.1 }
-    ensures before { start (S.slots store.now) height root result.0 + result.1 ≡ length (filter (λ pair. falls_short S.K.cmp (option_copied lo.entry) pair.0) (pairs_at (S.slots store.now) height root)) }
+    ensures before { IsLowerPlace S.K.cmp (S.slots store.now) height root lo.entry result }
 {
     match lo {
         Some(lo) => place_of_key(store, root, height, lo),
@@ -174,7 +168,7 @@ fn back_of<S: NodeStore>(
 ) -> (LeafNodeId, usize)
     requires { IsWellShaped S.K.cmp S.Argument.is_summary (S.slots store.now) height root }
     ensures place { IsPlaceOn (S.slots store.now) height root result.0 result.1 }
-    ensures before { start (S.slots store.now) height root result.0 + result.1 ≡ length (filter (λ pair. stays_below S.K.cmp (option_copied hi.entry) pair.0) (pairs_at (S.slots store.now) height root)) }
+    ensures before { IsUpperPlace S.K.cmp (S.slots store.now) height root hi.entry result }
 {
     match hi {
         Some(hi) => place_of_key(store, root, height, hi),
@@ -190,7 +184,7 @@ pub(crate) fn end_of_all<S: NodeStore>(
 ) -> (LeafNodeId, usize)
     requires { IsWellShaped S.K.cmp S.Argument.is_summary (S.slots store.now) height root }
     ensures place { IsPlaceOn (S.slots store.now) height root result.0 result.1 }
-    ensures end { place_on (S.slots store.now) height root result ≡ length (pairs_at (S.slots store.now) height root) }
+    ensures end { IsEndOfAll (S.slots store.now) height root result }
 {
     let leaf = last_leaf(store, root, height);
     (leaf, store.get_leaf(leaf).len())
@@ -205,7 +199,7 @@ fn place_of_key<S: NodeStore>(
 ) -> (LeafNodeId, usize)
     requires { IsWellShaped S.K.cmp S.Argument.is_summary (S.slots store.now) height root }
     ensures place { IsPlaceOn (S.slots store.now) height root result.0 result.1 }
-    ensures before { start (S.slots store.now) height root result.0 + result.1 ≡ length (pairs_below S.K.cmp (pairs_at (S.slots store.now) height root) key.now) }
+    ensures before { IsKeyPlace S.K.cmp (S.slots store.now) height root key.now result }
 {
     let leaf = leaf_for(store, root, height, key);
     match store.get_leaf(leaf).locate_slot(key) {
@@ -229,7 +223,7 @@ where
     S::Argument: SearchArgument<S::K>,
     requires shape { IsWellShaped S.K.cmp S.Argument.is_summary (S.slots store.now) height root }
     requires fits { length (pairs_at (S.slots store.now) height root) < 2 ^ 64 }
-    ensures part { IfOk result (λ found. (o : Option ℕ) × IsPlaceIn (pairs_at (S.slots store.now) height root) o × S.Argument.selects query (keys_of (pairs_at (S.slots store.now) height root)) o × IsPart (S.slots store.now) height root found (part_at (pairs_at (S.slots store.now) height root) o n)) }
+    ensures part { IfOk result (IsSelectedPart (S.slots store.now) height root S.Argument.selects query n) }
     ensures sure { S.Argument.needs_no_memory → IsOk result }
 {
     match find_by_argument(store, root, height, query)? {
@@ -248,7 +242,7 @@ pub(crate) fn part_from<S: NodeStore>(
 ) -> Part
     requires shape { IsWellShaped S.K.cmp S.Argument.is_summary (S.slots store.now) height root }
     requires place { IsPlaceOn (S.slots store.now) height root front.0 front.1 }
-    ensures { IsPart (S.slots store.now) height root result (part (pairs_at (S.slots store.now) height root) (place_on (S.slots store.now) height root front) n) }
+    ensures { IsPartFrom (S.slots store.now) height root front n result }
 {
     let back = end_of_all(store, root, height);
     part_of_places(store, root, height, front, back, n, Extent::Cut)

@@ -1,13 +1,12 @@
 //! Summaries of the keys between two ends, in a tree that stands in a store.
-ghost use Rattle.std.specs.Prelude.{◌≡◌, ◌≤◌, None, Some, IfOk, filter, length};
+ghost use Rattle.std.specs.Prelude.{◌≡◌, ◌≤◌, None, Some, IfOk, length};
 ghost use Rattle.std.specs.Map.{keys_of};
-ghost use Rattle.std.specs.Option.{option_copied};
 ghost use Rattle.std.specs.declared.cmp.Ordering.TheVariants.{Less};
-ghost use Rattle.bptree_keys.specs.Contents.{IsAscending, pairs_below};
-ghost use Rattle.bptree_keys.specs.Ranges.{between, falls_short, stays_below};
-ghost use Rattle.bptree_ranges.specs.Summaries.{SumsUpBoth, SumsUpRange, SumsUpSome};
+ghost use Rattle.bptree_keys.specs.Ranges.{between};
+ghost use Rattle.bptree_ranges.specs.Summaries.{SumsUpBoth, SumsUpRange, SumsUpSome, SumsUpBetween, SumsUpSomeBetween, SumsUpSomeIn};
 ghost use Rattle.bptree_shape.specs.Shape.{pairs_at};
 ghost use Rattle.bptree_descents.specs.ByArgument.{IsSubtree};
+ghost use Rattle.bptree_ranges.specs.Counting.{CountsBelowIn, CountsShortIn, CountsSmallerIn};
 
 use bptree_arguments::argument::Argument;
 use bptree_keys::key::Key;
@@ -31,7 +30,7 @@ pub fn summary_between<S: NodeStore>(
     hi: Option<&S::K>,
 ) -> Result<S::Argument, AllocError>
     requires { IsSubtree S.K.cmp S.Argument.is_summary (S.slots store.now) height root }
-    ensures { IfOk result (λ summary. S.Argument.is_summary summary (keys_of (between S.K.cmp (pairs_at (S.slots store.now) height root) (option_copied lo.entry) (option_copied hi.entry)))) }
+    ensures { IfOk result (SumsUpBetween S.K.cmp S.Argument.is_summary (S.slots store.now) height root lo.entry hi.entry) }
 {
     match some_between(store, root, height, lo, hi)? {
         Some(summary) => Ok(summary),
@@ -48,7 +47,7 @@ fn some_between<S: NodeStore>(
     hi: Option<&S::K>,
 ) -> Result<Option<S::Argument>, AllocError>
     requires { IsSubtree S.K.cmp S.Argument.is_summary (S.slots store.now) height root }
-    ensures { IfOk result (SumsUpSome S.Argument.is_summary (keys_of (between S.K.cmp (pairs_at (S.slots store.now) height root) (option_copied lo.entry) (option_copied hi.entry)))) }
+    ensures { IfOk result (SumsUpSomeBetween S.K.cmp S.Argument.is_summary (S.slots store.now) height root lo.entry hi.entry) }
 {
     match (lo, hi) {
         (None, None) => summary_of_all(store, root, height),
@@ -160,7 +159,7 @@ fn summary_in_leaf<'a, K: Key, V: Drop, A: Argument<K>>(
     lo: Option<&'a K>,
     hi: Option<&'a K>,
 ) -> Result<Option<A>, AllocError>
-    ensures { IfOk result (λ found. IsAscending K.cmp leaf.now.pairs → SumsUpSome A.is_summary (keys_of (between K.cmp leaf.now.pairs (option_copied lo.entry) (option_copied hi.entry))) found) }
+    ensures { IfOk result (SumsUpSomeIn K.cmp A.is_summary leaf.now lo.entry hi.entry) }
 {
     let from = start_in(leaf, lo);
     let to = end_in(leaf, hi);
@@ -173,7 +172,7 @@ fn summary_in_leaf<'a, K: Key, V: Drop, A: Argument<K>>(
 // How many keys of a leaf are below `lo`, where it is given.
 fn start_in<K: Key, V: Drop>(leaf: &LeafNode<K, V>, lo: Option<&K>) -> usize
     ensures within { result ≤ length leaf.now.pairs }
-    ensures short { IsAscending K.cmp leaf.now.pairs → result ≡ length (filter (λ pair. falls_short K.cmp (option_copied lo.entry) pair.0) leaf.now.pairs) }
+    ensures short { CountsShortIn K.cmp leaf.now lo.entry result }
 {
     match lo {
         Some(lo) => slot_of(leaf, lo),
@@ -184,7 +183,7 @@ fn start_in<K: Key, V: Drop>(leaf: &LeafNode<K, V>, lo: Option<&K>) -> usize
 // How many keys of a leaf are below `hi`: where it is not given, all.
 fn end_in<K: Key, V: Drop>(leaf: &LeafNode<K, V>, hi: Option<&K>) -> usize
     ensures within { result ≤ length leaf.now.pairs }
-    ensures below { IsAscending K.cmp leaf.now.pairs → result ≡ length (filter (λ pair. stays_below K.cmp (option_copied hi.entry) pair.0) leaf.now.pairs) }
+    ensures below { CountsBelowIn K.cmp leaf.now hi.entry result }
 {
     match hi {
         Some(hi) => slot_of(leaf, hi),
@@ -195,7 +194,7 @@ fn end_in<K: Key, V: Drop>(leaf: &LeafNode<K, V>, hi: Option<&K>) -> usize
 // How many keys of a leaf are smaller.
 pub(crate) fn slot_of<K: Key, V: Drop>(leaf: &LeafNode<K, V>, key: &K) -> usize
     ensures within { result ≤ length leaf.now.pairs }
-    ensures smaller { IsAscending K.cmp leaf.now.pairs → result ≡ length (pairs_below K.cmp leaf.now.pairs key.now) }
+    ensures smaller { CountsSmallerIn K.cmp leaf.now key.now result }
 {
     match leaf.locate_slot(key) {
         Ok(slot) => slot,

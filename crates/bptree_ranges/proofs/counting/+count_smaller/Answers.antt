@@ -1,7 +1,7 @@
 use Rattle.std.proofs.Common.{arith, ◌∙◌}
 use Rattle.bptree_arguments.specs.declared.count.Count.{Count}
 use Rattle.bptree_keys.specs.declared.node_id.NodeId.TheVariants.{Inner, Leaf}
-use Rattle.bptree_ranges.specs.Counting.{CountsKeys}
+use Rattle.bptree_arguments.specs.CountLaws.{CountsKeys}
 use Rattle.bptree_shape.proofs.Down.{inner_present, node_leads}
 use Rattle.bptree_descents.specs.ByArgument.{IsSubtree}
 use Rattle.bptree_descents.proofs.Summed.{child_subtree}

@@ -1,7 +1,7 @@
 use Rattle.std.proofs.Common.{◌∙◌}
 use Rattle.std.specs.Option.{option_copied}
 use Rattle.bptree_ranges.proofs.Counts.{between_len}
-use Rattle.bptree_ranges.specs.Counting.{CountsKeys}
+use Rattle.bptree_arguments.specs.CountLaws.{CountsKeys}
 use Rattle.bptree_ranges.proofs.counting.len_between.Goals as goal
 
 pub returns : goal.returns
