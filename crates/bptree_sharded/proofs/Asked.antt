@@ -80,10 +80,10 @@ module _ {T K V : Type 0} (cmp : K → K → Ordering) (order : IsTotalOrder cmp
 
     -- one shard changed
     module _ (y : T) where
-      changed : (new : List (K × V)) → pairs y ≡ new → map pairs (set items i y) ≡ set shards (shard_of cmp bounds k) new
+      pub changed : (new : List (K × V)) → pairs y ≡ new → map pairs (set items i y) ≡ set shards (shard_of cmp bounds k) new
       changed new is_new = map-set pairs items i y ∙ ap (λ j. set shards j (pairs y)) is ∙ ap (set shards (shard_of cmp bounds k)) is_new
 
-      counted : (n : ℕ) → n ≡ length (pairs y) → set lengths i n ≡ lengths_of (map pairs (set items i y))
+      pub counted : (n : ℕ) → n ≡ length (pairs y) → set lengths i n ≡ lengths_of (map pairs (set items i y))
       counted n is_n = ap (λ l. set l i n) whole.counted ∙ ap (set (lengths_of shards) i) is_n ∙ sym (lengths-set pairs items i y)
 
       pub put_asked : (v : V) → pairs y ≡ put cmp (pairs x) k v → flatten (map pairs (set items i y)) ≡ put cmp (flatten shards) k v

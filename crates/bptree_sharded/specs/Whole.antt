@@ -1,6 +1,7 @@
 -- What the parts of a whole over shards are to each other.
-use Rattle.std.specs.Prelude.{◌≡◌, ◌<◌, ◌^◌, ℕ, List}
+use Rattle.std.specs.Prelude.{◌≡◌, ◌<◌, ◌^◌, ℕ, zero, suc, Bool, false, List, [], ◌∷◌}
 use Rattle.std.specs.declared.cmp.Ordering.{Ordering}
+use Rattle.std.specs.Ordering.{is_gt}
 use Rattle.std.specs.List.{sum}
 use Rattle.bptree_shards.specs.Lengths.{lengths_of}
 use Rattle.bptree_shards.specs.Shards.{AreShards}
@@ -11,3 +12,15 @@ pub record IsWhole {K V : Type 0} (cmp : K → K → Ordering) (bounds : List K)
   pub are : AreShards cmp bounds shards
   pub counted : lengths ≡ lengths_of shards
   pub fits : sum lengths < 2 ^ 64
+
+module _ {K : Type 0} (cmp : K → K → Ordering) where
+  -- a bound is above the first of those behind it
+  abbrev pub is_above_first : K → List K → Bool
+  is_above_first bound [] = false
+  is_above_first bound (next ∷ later) = is_gt (cmp bound next)
+
+  -- the bound of a number is above the next one
+  abbrev pub descends_at : List K → ℕ → Bool
+  descends_at [] i = false
+  descends_at (bound ∷ bounds) zero = is_above_first bound bounds
+  descends_at (bound ∷ bounds) (suc i) = descends_at bounds i

@@ -1,17 +1,19 @@
 //! A map in memory that counts its keys is a shard.
-ghost use Rattle.std.specs.Prelude.{◌≡◌, ◌<◌, ◌^◌, [], length, IfOk};
+ghost use Rattle.std.specs.Prelude.{◌≡◌, ◌++◌, ◌<◌, ◌^◌, [], length, take, reverse, IfOk, OnOk};
 ghost use Rattle.std.specs.Map.{keys_of};
 ghost use Rattle.bptree_arguments.specs.CountLaws.{count_below};
 ghost use Rattle.bptree_keys.specs.Contents.{IsAscending, has};
+ghost use Rattle.bptree_sharded.specs.Shown.{shown};
 
 use crate::shard::Shard;
 use crate::whole::Shards;
 use bptree_arguments::count::Count;
 use bptree_keys::key::Key;
-use bptree_maps::map::BPlusTreeMap;
+use bptree_maps::map::{BPlusTreeMap, Iter, MoveError, SplitError};
 use bptree_shards::laws::law_of_empty_shards;
 use bptree_tree::InsertError;
 use std::alloc::{AllocError, Global};
+use std::ops::Bound;
 
 // The number of smaller keys, and whether the key is there.
 fn rank_in<K: Key, V: Drop>(map: &BPlusTreeMap<K, V, Count>, k: &K) -> (usize, bool)
@@ -26,6 +28,42 @@ fn rank_in<K: Key, V: Drop>(map: &BPlusTreeMap<K, V, Count>, k: &K) -> (usize, b
         Ok(Err(rank)) => (rank, false),
         Err(_) => unreachable!(),
     }
+}
+
+// Puts the first `n` pairs that are left behind those of a vector.
+fn put_first<'a, K: Key, V: Drop>(
+    pairs: Iter<'a, K, V, Count>,
+    n: usize,
+    found: &mut Vec<(&'a K, &'a V)>,
+) -> Result<(), AllocError>
+    ensures { OnOk result (shown found.new.items ≡ shown found.old.items ++ take n pairs.entry) }
+{
+    let mut pairs = pairs;
+    for _ in 0..n {
+        match pairs.next() {
+            None => return Ok(()),
+            Some(pair) => found.push(pair)?,
+        }
+    }
+    Ok(())
+}
+
+// Puts the last `n` of them, the last one first.
+fn put_last<'a, K: Key, V: Drop>(
+    pairs: Iter<'a, K, V, Count>,
+    n: usize,
+    found: &mut Vec<(&'a K, &'a V)>,
+) -> Result<(), AllocError>
+    ensures { OnOk result (shown found.new.items ≡ shown found.old.items ++ take n (reverse pairs.entry)) }
+{
+    let mut pairs = pairs;
+    for _ in 0..n {
+        match pairs.next_back() {
+            None => return Ok(()),
+            Some(pair) => found.push(pair)?,
+        }
+    }
+    Ok(())
 }
 
 /// A map with no pairs over as many maps as there are bounds, and one more: their keys are cut at
@@ -94,5 +132,46 @@ impl<K: Key, V: Drop> Shard for BPlusTreeMap<K, V, Count> {
             return None;
         }
         self.get_at(rank - 1)
+    }
+
+    fn page<'a>(
+        &'a self,
+        from: usize,
+        count: usize,
+        found: &mut Vec<(&'a K, &'a V)>,
+    ) -> Result<(), AllocError> {
+        let pairs = self.range_by_argument(from, count)?;
+        put_first(pairs, count, found)
+    }
+
+    fn range<'a, 'b>(
+        &'a self,
+        lo: Option<&'b K>,
+        hi: Option<&'b K>,
+        n: usize,
+        found: &mut Vec<(&'a K, &'a V)>,
+    ) -> Result<(), AllocError> {
+        put_first(BPlusTreeMap::range(self, lo, hi), n, found)
+    }
+
+    fn back<'a>(
+        &'a self,
+        k: &K,
+        n: usize,
+        found: &mut Vec<(&'a K, &'a V)>,
+    ) -> Result<(), AllocError> {
+        put_last(
+            self.range_bounds(Bound::Unbounded, Bound::Included(k)),
+            n,
+            found,
+        )
+    }
+
+    fn split_off(&mut self, k: &K) -> Result<Self, SplitError<Self, MoveError<K, V>>> {
+        BPlusTreeMap::split_off(self, k)
+    }
+
+    fn append(&mut self, other: &mut Self) -> Result<(), MoveError<K, V>> {
+        BPlusTreeMap::append(self, other)
     }
 }

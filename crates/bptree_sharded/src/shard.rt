@@ -1,9 +1,15 @@
 //! What is asked of a shard.
-ghost use Rattle.std.specs.Prelude.{◌≡◌, List, length, slice_get, IfOk, IfErr, OnErr};
+ghost use Rattle.std.specs.Prelude.{◌≡◌, ◌++◌, List, [], Some, None, length, take, slice_get, IfOk, IfErr, OnOk, OnErr};
 ghost use Rattle.std.specs.Option.{option_copied, option_map};
 ghost use Rattle.bptree_keys.specs.Contents.{value, put, del, next, previous, pairs_below};
+ghost use Rattle.bptree_keys.specs.Ranges.{between, part};
+ghost use Rattle.bptree_shards.specs.Shards.{back_from};
+ghost use Rattle.bptree_maps.specs.Moving.{put_all, put_pair, in_hand, Moves};
+ghost use Rattle.bptree_maps.specs.Splitting.{gone};
+ghost use Rattle.bptree_sharded.specs.Shown.{shown};
 
 use bptree_keys::key::Key;
+use bptree_maps::map::{MoveError, SplitError};
 use std::alloc::AllocError;
 
 /// Ascending pairs that answer about themselves alone: a map in memory, or one that stands
@@ -54,4 +60,55 @@ pub trait Shard: Drop {
     /// The pair with the greatest smaller key.
     fn prev(&self, k: &Self::K) -> Option<(&Self::K, &Self::V)>
         ensures { option_map (λ pair. (pair.0.now, pair.1.now)) result ≡ previous Self.K.cmp (pairs self.now) k.now };
+
+    /// At most so many pairs from a place on are put behind those of a vector.
+    fn page<'a>(
+        &'a self,
+        from: usize,
+        count: usize,
+        found: &mut Vec<(&'a Self::K, &'a Self::V)>,
+    ) -> Result<(), AllocError>
+        ensures { OnOk result (shown found.new.items ≡ shown found.old.items ++ part (pairs self.now) from count) };
+
+    /// At most `n` of the pairs whose keys are not below `lo` and are below `hi`, where they are
+    /// given, are put behind those of a vector, the least first.
+    fn range<'a, 'b>(
+        &'a self,
+        lo: Option<&'b Self::K>,
+        hi: Option<&'b Self::K>,
+        n: usize,
+        found: &mut Vec<(&'a Self::K, &'a Self::V)>,
+    ) -> Result<(), AllocError>
+        ensures { OnOk result (shown found.new.items ≡ shown found.old.items ++
+            take n (between Self.K.cmp (pairs self.now) (option_copied lo.entry) (option_copied hi.entry))) };
+
+    /// At most `n` of the pairs whose keys are not above `k` are put behind those of a vector, the
+    /// greatest first.
+    fn back<'a>(
+        &'a self,
+        k: &Self::K,
+        n: usize,
+        found: &mut Vec<(&'a Self::K, &'a Self::V)>,
+    ) -> Result<(), AllocError>
+        ensures { OnOk result (shown found.new.items ≡ shown found.old.items ++
+            take n (back_from Self.K.cmp (pairs self.now) k.now)) };
+
+    /// The pairs whose keys are not below `k` leave for a shard of their own. Where not all of them
+    /// could, those that left are handed back: the greatest, and the pair in hand, if there is one.
+    fn split_off(
+        &mut self,
+        k: &Self::K,
+    ) -> Result<Self, SplitError<Self, MoveError<Self::K, Self::V>>>
+        ensures ok { IfOk result (λ there.
+            (pairs self.new ≡ between Self.K.cmp (pairs self.old) None (Some k.now)) ×
+            (pairs there ≡ between Self.K.cmp (pairs self.old) (Some k.now) None)) }
+        ensures err { IfErr result (λ refusal. pairs self.old ≡ pairs self.new ++ gone (λ shard. pairs shard) refusal) };
+
+    /// All pairs of another shard come here, one after another. Where one could not, those before it
+    /// have come, and the others stay there; the pair in hand is handed back, if there is one.
+    fn append(&mut self, other: &mut Self) -> Result<(), MoveError<Self::K, Self::V>>
+        ensures ok { OnOk result (
+            (pairs self.new ≡ put_all (put_pair Self.K.cmp) (pairs self.old) (pairs other.old)) × (pairs other.new ≡ [])) }
+        ensures err { IfErr result (λ refusal. Moves (put_pair Self.K.cmp)
+            (pairs self.old) (pairs other.old) (in_hand refusal) (pairs self.new) (pairs other.new)) };
 }

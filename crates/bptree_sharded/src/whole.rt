@@ -1,17 +1,49 @@
 //! The whole over several shards, which answers as one map.
-ghost use Rattle.std.specs.Prelude.{◌≡◌, ◌+◌, ◌-◌, ◌^◌, ◌<◌, ◌≤◌, List, length, map, slice_get, IfOk, IfErr, OnErr};
+ghost use Rattle.std.specs.Prelude.{◌≡◌, ◌+◌, ◌-◌, ◌^◌, ◌<◌, ◌≤◌, List, length, vec_len, vec_capacity, map, take, insert, slice_get, if◌then◌else◌, IfOk, IfErr, OnOk, OnErr};
 ghost use Rattle.std.specs.Option.{option_copied, option_map};
 ghost use Rattle.bptree_keys.specs.Contents.{IsAscending, value, put, del, next, previous, pairs_below};
 ghost use Rattle.bptree_keys.specs.Pieces.{flatten};
-ghost use Rattle.bptree_shards.specs.Shards.{AreShards};
+ghost use Rattle.bptree_keys.specs.Ranges.{between, part};
+ghost use Rattle.bptree_shards.specs.Shards.{AreShards, back_from};
+ghost use Rattle.bptree_maps.specs.Moving.{put_all, put_pair};
+ghost use Rattle.bptree_maps.specs.Splitting.{gone};
+ghost use Rattle.bptree_sharded.specs.Shown.{shown};
+ghost use Rattle.bptree_sharded.specs.Whole.{descends_at};
 
 use crate::shard::Shard;
+use bptree_keys::key::Key;
+use bptree_maps::map::{MoveError, SplitError};
 use bptree_shards::combining::{
-    first_full, last_full, len_of_whole, locate, next_full, prev_full, rank_of_whole,
+    first_full, last_full, len_of_whole, locate, next_full, next_part, prev_full, rank_of_whole,
 };
-use bptree_shards::routing::{route, route_below};
+use bptree_shards::routing::{route, route_below, route_range};
 use std::alloc::{AllocError, Global};
 use std::marker::Model;
+
+// Puts an element at a place, where there is room.
+fn insert_reserved<T: Drop>(to: &mut Vec<T>, at: usize, element: T)
+    requires within { at ≤ vec_len to.old }
+    requires fits { vec_len to.old < vec_capacity to.old }
+    ensures { to.new.items ≡ insert to.old.items at element }
+{
+    to.insert(at, element).unwrap();
+}
+
+// The bound that goes where a shard and the next one become one. It is the one between them; but
+// where that is above the bound behind it, the next shard is empty, and the bound behind it goes.
+fn bound_to_go<K: Key>(bounds: &[K], shard: usize) -> usize
+    requires { shard < length bounds.now }
+    ensures bound { result ≡ (if descends_at K.cmp bounds.now shard then shard + 1 else shard) }
+    ensures in_range { result < length bounds.now }
+{
+    if shard + 1 == bounds.len() {
+        return shard;
+    }
+    if bounds[shard].cmp(&bounds[shard + 1]).is_gt() {
+        return shard + 1;
+    }
+    shard
+}
 
 /// Several shards that are one map: which of them is asked is told by their bounds and by how many
 /// pairs each has, and each call asks as few of them as it can.
@@ -166,6 +198,132 @@ impl<S: Shard> Shards<S> {
         match prev_full(&self.lengths, at) {
             None => None,
             Some(before) => self.shards[before].at(self.lengths[before] - 1),
+        }
+    }
+
+    /// At most `n` pairs from a place on. Each shard that has one of them is asked once.
+    pub fn page(
+        &self,
+        alloc: Global,
+        place: usize,
+        n: usize,
+    ) -> Result<Vec<(&S::K, &S::V)>, AllocError>
+        ensures { IfOk result (λ found. shown found.items ≡ part self.now place n) }
+    {
+        let mut found = Vec::new(alloc);
+        let mut from = place;
+        let mut left = n;
+        while let Some(part) = next_part(&self.lengths, from, left) {
+            self.shards[part.shard].page(part.from, part.count, &mut found)?;
+            from += part.count;
+            left -= part.count;
+        }
+        Ok(found)
+    }
+
+    /// At most `n` of the pairs whose keys are not below `lo` and are below `hi`, where they are
+    /// given, the least first. Of the shards that may have one, as many are asked as it takes, and
+    /// none that has no pair.
+    pub fn range<'b>(
+        &self,
+        alloc: Global,
+        lo: Option<&'b S::K>,
+        hi: Option<&'b S::K>,
+        n: usize,
+    ) -> Result<Vec<(&S::K, &S::V)>, AllocError>
+        ensures { IfOk result (λ found. shown found.items ≡
+            take n (between S.K.cmp self.now (option_copied lo.entry) (option_copied hi.entry))) }
+    {
+        let mut found = Vec::new(alloc);
+        let (first, last) = route_range(&self.bounds, lo, hi);
+        for shard in first..last + 1 {
+            if found.len() >= n {
+                return Ok(found);
+            }
+            if self.lengths[shard] == 0 {
+                continue;
+            }
+            self.shards[shard].range(lo, hi, n - found.len(), &mut found)?;
+        }
+        Ok(found)
+    }
+
+    /// At most `n` of the pairs whose keys are not above `k`, the greatest first. The shard of the
+    /// key is asked, and then each shard before it that has one of them.
+    pub fn back(&self, alloc: Global, k: &S::K, n: usize) -> Result<Vec<(&S::K, &S::V)>, AllocError>
+        ensures { IfOk result (λ found. shown found.items ≡ take n (back_from S.K.cmp self.now k.now)) }
+    {
+        let at = route(&self.bounds, k);
+        let mut found = Vec::new(alloc);
+        self.shards[at].back(k, n, &mut found)?;
+        let end = rank_of_whole(&self.lengths, at, 0);
+        let count = end.min(n - found.len());
+        let mut rest = self.page(alloc, end - count, count)?;
+        rest.reverse();
+        found.append(&mut rest)?;
+        Ok(found)
+    }
+
+    /// The shard of a key is cut in two at it, and the key is a bound from then on. The list stays.
+    ///
+    /// Room for one more shard comes first: where that is refused, nothing has changed. Where a pair
+    /// could not move, the greatest pairs of the shard have left the list and are handed back.
+    pub fn split(&mut self, k: S::K) -> Result<(), SplitError<S, MoveError<S::K, S::V>>>
+        ensures ok { OnOk result (self.new ≡ self.old) }
+        ensures err { IfErr result (λ refusal.
+            put_all (put_pair S.K.cmp) self.new (gone (λ shard. S.pairs shard) refusal) ≡ self.old) }
+    {
+        if self.bounds.reserve(1).is_err() {
+            return Err(SplitError::NotMade);
+        }
+        if self.shards.reserve(1).is_err() {
+            return Err(SplitError::NotMade);
+        }
+        if self.lengths.reserve(1).is_err() {
+            return Err(SplitError::NotMade);
+        }
+        let at = route(&self.bounds, &k);
+        match self.shards[at].split_off(&k) {
+            Ok(there) => {
+                self.lengths[at] = self.shards[at].len();
+                insert_reserved(&mut self.lengths, at + 1, there.len());
+                insert_reserved(&mut self.shards, at + 1, there);
+                insert_reserved(&mut self.bounds, at, k);
+                Ok(())
+            }
+            Err(refusal) => {
+                self.lengths[at] = self.shards[at].len();
+                Err(refusal)
+            }
+        }
+    }
+
+    /// A shard and the next one become one, by the number of the first of them, and the bound between
+    /// them goes. The list stays. Where there is no next one, nothing changes.
+    ///
+    /// The pairs of the second one move, one after another. Where one could not, those that had not
+    /// moved have left the list, and are handed back with the shard that they are in.
+    pub fn merge(&mut self, shard: usize) -> Result<(), SplitError<S, MoveError<S::K, S::V>>>
+        ensures ok { OnOk result (self.new ≡ self.old) }
+        ensures err { IfErr result (λ refusal.
+            put_all (put_pair S.K.cmp) self.new (gone (λ shard. S.pairs shard) refusal) ≡ self.old) }
+    {
+        if shard >= self.bounds.len() {
+            return Ok(());
+        }
+        let bound = bound_to_go(&self.bounds, shard);
+        self.bounds.remove(bound);
+        self.lengths.remove(shard + 1);
+        let mut next = self.shards.remove(shard + 1);
+        match self.shards[shard].append(&mut next) {
+            Ok(()) => {
+                self.lengths[shard] = self.shards[shard].len();
+                Ok(())
+            }
+            Err(refusal) => {
+                self.lengths[shard] = self.shards[shard].len();
+                Err(SplitError::NotAll(next, refusal))
+            }
         }
     }
 }

@@ -223,7 +223,7 @@ module _ {X : Type 0} (P : X → Type 0) where
   all_earlier (p ∷ ps) (suc to) (suc i) high all = let lt : i < to = omega arith in all_earlier ps to i lt (AllByRecursion-right P p (flatten (take to ps)) all)
 
 module _ {K V : Type 0} (cmp : K → K → Ordering) (total : IsTotalOrder cmp) (bounds : List K) (shards : List (List (K × V))) (are : AreShards cmp bounds shards) where
-  shards_count : (bs : List K) (ps : List (List (K × V))) → StandBetween cmp bs ps → length ps ≡ length bs + 1
+  pub shards_count : (bs : List K) (ps : List (List (K × V))) → StandBetween cmp bs ps → length ps ≡ length bs + 1
   shards_count bs [] stand = absurd stand
   shards_count [] (p ∷ ps) stand = ap (λ l. length (p ∷ l)) stand
   shards_count (b ∷ bs) (p ∷ ps) stand = omega (arith, shards_count bs ps stand.2)

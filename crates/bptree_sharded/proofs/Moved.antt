@@ -1,0 +1,422 @@
+-- What a split of a shard and a merge of two make of the whole.
+use Rattle.std.proofs.Common.{◌≡◌, ℕ, zero, suc, ◌+◌, ◌<◌, ◌≤◌, Bool, true, false, not, ◌&&◌, List, [], ◌∷◌, ◌++◌, Some, None, length, map, take, drop, set, insert, remove, get_or, refl, sym, ap, subst, cond, ◌∙◌, append_assoc, append-nil, length-append, arith}
+use Rattle.std.specs.declared.cmp.Ordering.{Ordering}
+use Rattle.std.specs.declared.cmp.Ordering.TheVariants.{Less, Equal, Greater}
+use Rattle.std.specs.Ordering.{is_lt, is_gt, ordering_reverse}
+use Rattle.std.specs.Cmp.{IsTotalOrder}
+use Rattle.std.specs.List.{AllByRecursion, sum}
+use Rattle.std.specs.Map.{keys_of}
+use Rattle.std.proofs.lemmas.List.{take-append-drop, length-take, length-map, map-set}
+use Rattle.std.proofs.lemmas.Cmp.{alike_right}
+use Rattle.std.proofs.lemmas.Map.Keys.{sorted_head, sorted_tail}
+use Rattle.bptree_keys.specs.Contents.{IsAscending}
+use Rattle.bptree_keys.specs.Pieces.{flatten, piece_at}
+use Rattle.bptree_keys.specs.Places.{AllAnswer, IsGap}
+use Rattle.bptree_keys.specs.Ranges.{between}
+use Rattle.bptree_keys.proofs.Ascending.{equal_parts, less_turned}
+use Rattle.bptree_keys.proofs.Parted.{put_gap, del_hit}
+use Rattle.bptree_keys.proofs.Updates.{del_ascending}
+use Rattle.bptree_keys.proofs.PieceLemmas.{flatten-cut, AllByRecursion-append, AllByRecursion-left, AllByRecursion-right, AllByRecursion-weaker}
+use Rattle.bptree_shape.proofs.Ordered.{ascending_after}
+use Rattle.bptree_shape.proofs.Spot.{ascending_before}
+use Rattle.bptree_maps.specs.Moving.{put_all, put_pair}
+use Rattle.bptree_shards.specs.Lengths.{lengths_of}
+use Rattle.bptree_shards.specs.Shards.{AreShards, StandBetween, NoneBelow, shard_of}
+use Rattle.bptree_shards.proofs.LengthLemmas.{total}
+use Rattle.bptree_shards.specs.Moves.{AreSameWhole}
+use Rattle.bptree_shards.proofs.MoveLemmas.{shard_splits}
+use Rattle.bptree_shards.proofs.RangeLemmas.{shards_count}
+use Rattle.bptree_shards.proofs.PartLemmas.{flatten_set}
+use Rattle.bptree_shards.proofs.ShardLemmas.{stand_set}
+use Rattle.bptree_sharded.specs.Whole.{IsWhole, descends_at}
+use Rattle.bptree_sharded.proofs.Asked.{asked, in_range, changed, counted}
+
+-- ---- pairs that are put back
+
+-- a key equals itself
+alike : (o : Ordering) → o ≡ ordering_reverse o → o ≡ Equal
+alike Less is = absurd cc
+alike Equal is = refl
+alike Greater is = absurd cc
+
+module _ {K V : Type 0} (cmp : K → K → Ordering) (order : IsTotalOrder cmp) where
+  abbrev put_one : List (K × V) → K × V → List (K × V)
+  put_one = put_pair cmp
+
+  -- pairs that have left an ascending list come back to where they stood
+  pub put_back : (gone before after : List (K × V)) → IsAscending cmp (before ++ (gone ++ after)) → (put_all put_one (before ++ after) gone ≡ before ++ (gone ++ after)) × IsAscending cmp (before ++ after)
+  put_back [] before after ascending = (refl, ascending)
+  put_back (p ∷ gone) before after ascending =
+      let equal : cmp p.0 p.0 ≡ Equal = alike (cmp p.0 p.0) (order.antisymm p.0 p.0) in
+      let hit = equal_parts cmp order before p (gone ++ after) p.0 ascending equal in
+      let gap : IsGap cmp (before ++ after) before after p.0 = record { parts = refl; smaller = hit.smaller; greater = AllByRecursion-right (λ pair. cmp pair.0 p.0 ≡ Greater) gone after hit.greater } in
+      let moved : before ++ p ∷ (gone ++ after) ≡ (before ++ p ∷ []) ++ (gone ++ after) = sym (append_assoc before (p ∷ []) (gone ++ after)) in
+      let one : before ++ p ∷ after ≡ (before ++ p ∷ []) ++ after = sym (append_assoc before (p ∷ []) after) in
+      let rest = put_back gone (before ++ p ∷ []) after (subst (IsAscending cmp) moved ascending) in
+      let here = subst (IsAscending cmp) (sym one) rest.1 in (
+        ap (λ l. put_all put_one l gone) (put_gap cmp (before ++ after) before after p.0 gap p.1 ∙ one) ∙ rest.0 ∙ sym moved,
+        subst (IsAscending cmp) (del_hit cmp (before ++ p ∷ after) before p after p.0 (equal_parts cmp order before p after p.0 here equal)) (del_ascending cmp (before ++ p ∷ after) p.0 here),
+      )
+
+  -- and pairs that all are behind a list come behind it
+  pub put_behind : (l more : List (K × V)) → IsAscending cmp (l ++ more) → put_all put_one l more ≡ l ++ more
+  put_behind l more ascending =
+      let none : l ++ more ≡ l ++ (more ++ []) = ap (λ m. l ++ m) (sym (append-nil more)) in
+      ap (λ m. put_all put_one m more) (sym (append-nil l)) ∙ (put_back more l [] (subst (IsAscending cmp) none ascending)).0 ∙ sym none
+
+  -- ---- a list that is cut at a key
+
+  module _ (k : K) where
+    low_step : (p : K × V) (rest : List (K × V)) (o : Ordering) → cmp p.0 k ≡ o → AllAnswer cmp k Less rest → AllAnswer cmp k Less (cond (is_lt o) (p ∷ rest) rest)
+    low_step p rest Less is all = (is, all)
+    low_step p rest Equal is all = all
+    low_step p rest Greater is all = all
+
+    low : (l : List (K × V)) → AllAnswer cmp k Less (between cmp l None (Some k))
+    low [] = tt
+    low (p ∷ l) = low_step p (between cmp l None (Some k)) (cmp p.0 k) refl (low l)
+
+    high_step : (p : K × V) (rest : List (K × V)) (b : Bool) → is_lt (cmp p.0 k) ≡ b → NoneBelow cmp k rest → NoneBelow cmp k (cond (not b && true) (p ∷ rest) rest)
+    high_step p rest true is all = all
+    high_step p rest false is all = (is, all)
+
+    high : (l : List (K × V)) → NoneBelow cmp k (between cmp l (Some k) None)
+    high [] = tt
+    high (p ∷ l) = high_step p (between cmp l (Some k) None) (is_lt (cmp p.0 k)) refl (high l)
+
+    -- where no key is below, none is on the lower side
+    none_low : (l : List (K × V)) → NoneBelow cmp k l → (between cmp l None (Some k) ≡ []) × (between cmp l (Some k) None ≡ l)
+    none_low [] none = (refl, refl)
+    none_low (p ∷ l) none = let rest = none_low l none.1 in (rw none.0 rest.0, rw none.0 (ap (λ m. p ∷ m) rest.1))
+
+    not_less : (p q : K × V) (o : Ordering) → cmp q.0 k ≡ o → is_lt (cmp p.0 k) ≡ false → cmp p.0 q.0 ≡ Less → is_lt o ≡ false
+    not_less p q Less is from above = sym (ap is_lt (order.trans p.0 q.0 k above is)) ∙ from
+    not_less p q Equal is from above = refl
+    not_less p q Greater is from above = refl
+
+    later : (p : K × V) (l : List (K × V)) → is_lt (cmp p.0 k) ≡ false → AllByRecursion (λ key. cmp p.0 key ≡ Less) (keys_of l) → NoneBelow cmp k l
+    later p [] from above = tt
+    later p (q ∷ l) from above = (not_less p q (cmp q.0 k) refl from above.0, later p l from above.1)
+
+    cut_step : (p : K × V) (l : List (K × V)) (b : Bool) → is_lt (cmp p.0 k) ≡ b → (is_lt (cmp p.0 k) ≡ false → NoneBelow cmp k l) → between cmp l None (Some k) ++ between cmp l (Some k) None ≡ l
+        → cond b (p ∷ between cmp l None (Some k)) (between cmp l None (Some k)) ++ cond (not b && true) (p ∷ between cmp l (Some k) None) (between cmp l (Some k) None) ≡ p ∷ l
+    cut_step p l true is from rest = ap (λ m. p ∷ m) rest
+    cut_step p l false is from rest = let none = none_low l (from is) in ap (λ m. m ++ p ∷ between cmp l (Some k) None) none.0 ∙ ap (λ m. p ∷ m) none.1
+
+    pub cut_at_key : (l : List (K × V)) → IsAscending cmp l → between cmp l None (Some k) ++ between cmp l (Some k) None ≡ l
+    cut_at_key [] ascending = refl
+    cut_at_key (p ∷ l) ascending =
+        cut_step p l (is_lt (cmp p.0 k)) refl (λ from. later p l from (sorted_head cmp p.0 (keys_of l) ascending)) (cut_at_key l (sorted_tail cmp p.0 (keys_of l) ascending))
+
+-- ---- lists that take one member more, or have one fewer
+
+module _ {X : Type 0} where
+  -- one in the place of another, and one behind it
+  pub insert-set : (l : List X) (i : ℕ) (x y : X) → i < length l → insert (set l i x) (suc i) y ≡ take i l ++ x ∷ y ∷ drop (suc i) l
+  insert-set [] i x y short = absurd (omega arith)
+  insert-set (z ∷ l) zero x y short = refl
+  insert-set (z ∷ l) (suc i) x y short = let less : i < length l = omega arith in ap (λ m. z ∷ m) (insert-set l i x y less)
+
+  pub parted : (l : List X) (i : ℕ) (d : X) → i < length l → take i l ++ get_or l i d ∷ drop (suc i) l ≡ l
+  parted [] i d short = absurd (omega arith)
+  parted (z ∷ l) zero d short = refl
+  parted (z ∷ l) (suc i) d short = let less : i < length l = omega arith in ap (λ m. z ∷ m) (parted l i d less)
+
+module _ {X Y : Type 0} (f : X → Y) where
+  pub map-insert-set : (l : List X) (i : ℕ) (x y : X) → map f (insert (set l i x) (suc i) y) ≡ insert (set (map f l) i (f x)) (suc i) (f y)
+  map-insert-set [] i x y = refl
+  map-insert-set (z ∷ l) zero x y = refl
+  map-insert-set (z ∷ l) (suc i) x y = ap (λ m. f z ∷ m) (map-insert-set l i x y)
+
+-- ---- a shard that is cut in two
+
+module _ {T K V : Type 0} (cmp : K → K → Ordering) (order : IsTotalOrder cmp) (pairs : T → List (K × V)) (bounds : List K) (items : List T) (lengths : List ℕ)
+    (whole : IsWhole cmp bounds (map pairs items) lengths) (k : K) (i : ℕ) (is : i ≡ shard_of cmp bounds k) (x : T) (here : x ≡ get_or items i x) where
+  abbrev shards : List (List (K × V))
+  shards = map pairs items
+
+  short : i < length items
+  short = in_range cmp order pairs bounds items lengths whole k i is
+
+  within : i < length shards
+  within = omega (arith, short, length-map items pairs)
+
+  own : pairs x ≡ piece_at shards i
+  own = asked pairs items i x short here
+
+  -- those before it, the list of the shard, and those behind it
+  abbrev ahead : List (K × V)
+  ahead = flatten (take i shards)
+
+  abbrev behind : List (K × V)
+  behind = flatten (drop (suc i) shards)
+
+  cut : flatten shards ≡ ahead ++ (pairs x ++ behind)
+  cut = flatten-cut shards i within ∙ ap (λ l. ahead ++ (l ++ behind)) (sym own)
+
+  own_ascending : IsAscending cmp (pairs x)
+  own_ascending = ascending_before cmp (pairs x) behind (ascending_after order ahead (pairs x ++ behind) (subst (IsAscending cmp) cut whole.are.ascending))
+
+  module _ (y z : T) (stays : pairs y ≡ between cmp (pairs x) None (Some k)) (leaves : pairs z ≡ between cmp (pairs x) (Some k) None) where
+    new_shards : map pairs (insert (set items i y) (i + 1) z) ≡ take i shards ++ pairs y ∷ pairs z ∷ drop (suc i) shards
+    new_shards =
+        let one : i + 1 ≡ suc i = omega arith in
+        ap (λ j. map pairs (insert (set items i y) j z)) one ∙ map-insert-set pairs items i y z ∙ insert-set shards i (pairs y) (pairs z) within
+
+    both : pairs y ++ pairs z ≡ piece_at shards i
+    both = ap (λ l. l ++ pairs z) stays ∙ ap (λ l. between cmp (pairs x) None (Some k) ++ l) leaves ∙ cut_at_key cmp order k (pairs x) own_ascending ∙ own
+
+    at_bound : i ≤ length bounds
+    at_bound = omega (arith, within, shards_count cmp order bounds shards whole.are bounds shards whole.are.between)
+
+    laws : AreSameWhole cmp V (take i bounds ++ k ∷ drop i bounds) (take i shards ++ pairs y ∷ pairs z ∷ drop (suc i) shards) (take i shards ++ (pairs y ++ pairs z) ∷ drop (suc i) shards)
+    laws =
+        let whole_bounds : take i bounds ++ drop i bounds ≡ bounds = take-append-drop i bounds in
+        let count : length (take i bounds) ≡ i = omega (arith, length-take i bounds, at_bound) in
+        let many : length (take i shards) ≡ length (take i bounds) = omega (arith, count, length-take i shards, within) in
+        let at : shard_of cmp (take i bounds ++ drop i bounds) k ≡ length (take i bounds) = ap (λ b. shard_of cmp b k) whole_bounds ∙ sym is ∙ sym count in
+        let smaller = subst (AllAnswer cmp k Less) (sym stays) (low cmp order k (pairs x)) in
+        let others = subst (NoneBelow cmp k) (sym leaves) (high cmp order k (pairs x)) in
+        let old : shards ≡ take i shards ++ (pairs y ++ pairs z) ∷ drop (suc i) shards = sym (ap (λ l. take i shards ++ l ∷ drop (suc i) shards) both ∙ parted shards i [] within) in
+        shard_splits cmp order (take i bounds) (drop i bounds) k (take i shards) (pairs y) (pairs z) (drop (suc i) shards) many at smaller others
+        (subst (λ b. AreShards cmp b (take i shards ++ (pairs y ++ pairs z) ∷ drop (suc i) shards)) (sym whole_bounds) (subst (AreShards cmp bounds) old whole.are))
+
+    pub split_list : flatten (map pairs (insert (set items i y) (i + 1) z)) ≡ flatten shards
+    split_list = ap flatten new_shards ∙ laws.1 ∙ ap (λ l. flatten (take i shards ++ l ∷ drop (suc i) shards)) both ∙ ap flatten (parted shards i [] within)
+
+    module _ (n m : ℕ) (long : n ≡ length (pairs y)) (long_too : m ≡ length (pairs z)) where
+      split_counts : insert (set lengths i n) (i + 1) m ≡ lengths_of (map pairs (insert (set items i y) (i + 1) z))
+      split_counts =
+          let one : i + 1 ≡ suc i = omega arith in
+          ap (λ j. insert (set lengths i n) j m) one ∙ ap (λ l. insert (set l i n) (suc i) m) whole.counted
+          ∙ ap (λ o. insert (set (lengths_of shards) i o) (suc i) m) long ∙ ap (insert (set (lengths_of shards) i (length (pairs y))) (suc i)) long_too
+          ∙ sym (ap (λ j. lengths_of (map pairs (insert (set items i y) j z))) one ∙ ap lengths_of (map-insert-set pairs items i y z) ∙ map-insert-set length shards i (pairs y) (pairs z))
+
+      pub split_whole : IsWhole cmp (insert bounds i k) (map pairs (insert (set items i y) (i + 1) z)) (insert (set lengths i n) (i + 1) m)
+      split_whole = record {
+        are = subst (AreShards cmp (take i bounds ++ k ∷ drop i bounds)) (sym new_shards) laws.0;
+        counted = split_counts;
+        fits = omega (arith, ap sum split_counts, total (map pairs (insert (set items i y) (i + 1) z)), ap length split_list, ap sum whole.counted, total shards, whole.fits);
+      }
+
+  -- ---- a split that ends early
+
+  module _ (y : T) (gone : List (K × V)) (all : pairs x ≡ pairs y ++ gone) where
+    left_whole : flatten (map pairs (set items i y)) ≡ (ahead ++ pairs y) ++ behind
+    left_whole = ap flatten (map-set pairs items i y) ∙ flatten_set shards i (pairs y) within ∙ sym (append_assoc ahead (pairs y) behind)
+
+    full : flatten shards ≡ (ahead ++ pairs y) ++ (gone ++ behind)
+    full = cut ∙ ap (λ l. ahead ++ (l ++ behind)) all ∙ ap (λ l. ahead ++ l) (append_assoc (pairs y) gone behind) ∙ sym (append_assoc ahead (pairs y) (gone ++ behind))
+
+    back : (put_all (put_pair cmp) ((ahead ++ pairs y) ++ behind) gone ≡ (ahead ++ pairs y) ++ (gone ++ behind)) × IsAscending cmp ((ahead ++ pairs y) ++ behind)
+    back = put_back cmp order gone (ahead ++ pairs y) behind (subst (IsAscending cmp) full whole.are.ascending)
+
+    pub early_list : put_all (put_pair cmp) (flatten (map pairs (set items i y))) gone ≡ flatten shards
+    early_list = ap (λ l. put_all (put_pair cmp) l gone) left_whole ∙ back.0 ∙ sym full
+
+    pub early_whole : (n : ℕ) → n ≡ length (pairs y) → IsWhole cmp bounds (map pairs (set items i y)) (set lengths i n)
+    early_whole n long =
+        let at : shard_of cmp bounds k ≡ i = sym is in
+        let kept = λ (P : K → Type 0) (own_holds : P k) (every : AllByRecursion (λ pair. P pair.0) (piece_at shards (shard_of cmp bounds k))).
+        AllByRecursion-left (λ pair. P pair.0) (pairs y) gone (subst (AllByRecursion (λ pair. P pair.0)) (ap (piece_at shards) at ∙ sym own ∙ all) every) in
+        let counts = counted cmp order pairs bounds items lengths whole k i is x here y n long in
+        record {
+          are = record {
+            between = subst (StandBetween cmp bounds) (sym (changed cmp order pairs bounds items lengths whole k i is x here y (pairs y) refl)) (stand_set cmp k (pairs y) bounds shards whole.are.between kept);
+            ascending = subst (IsAscending cmp) (sym left_whole) back.1;
+          };
+          counted = counts;
+          fits = omega (arith, ap sum counts, total (map pairs (set items i y)), ap length left_whole, ap length full, length-append (ahead ++ pairs y) behind, length-append (ahead ++ pairs y) (gone ++ behind), length-append gone behind, ap sum whole.counted, total shards, whole.fits);
+        }
+
+-- ---- two shards that become one
+
+module _ {X : Type 0} where
+  remove-none : (j : ℕ) → remove {X = X} [] j ≡ []
+  remove-none zero = refl
+  remove-none (suc j) = refl
+
+  -- what stands before the one that goes
+  pub get-removed : (l : List X) (i : ℕ) (d : X) → get_or (remove l (suc i)) i d ≡ get_or l i d
+  get-removed [] i d = refl
+  get-removed (z ∷ l) zero d = refl
+  get-removed (z ∷ l) (suc i) d = get-removed l i d
+
+  -- two neighbours of pieces
+  pub two-cut : (pieces : List (List X)) (i : ℕ) → suc i < length pieces
+      → flatten pieces ≡ flatten (take i pieces) ++ ((piece_at pieces i ++ piece_at pieces (suc i)) ++ flatten (drop (suc (suc i)) pieces))
+  two-cut [] i short = absurd (omega arith)
+  two-cut (p ∷ []) zero short = absurd (omega arith)
+  two-cut (p ∷ q ∷ pieces) zero short = sym (append_assoc p q (flatten pieces))
+  two-cut (p ∷ pieces) (suc i) short =
+      let less : suc i < length pieces = omega arith in
+      ap (λ l. p ++ l) (two-cut pieces i less) ∙ sym (append_assoc p (flatten (take i pieces)) ((piece_at pieces i ++ piece_at pieces (suc i)) ++ flatten (drop (suc (suc i)) pieces)))
+
+  -- and one in their place
+  pub one-cut : (pieces : List (List X)) (i : ℕ) (new : List X) → suc i < length pieces
+      → flatten (set (remove pieces (suc i)) i new) ≡ flatten (take i pieces) ++ (new ++ flatten (drop (suc (suc i)) pieces))
+  one-cut [] i new short = absurd (omega arith)
+  one-cut (p ∷ []) zero new short = absurd (omega arith)
+  one-cut (p ∷ q ∷ pieces) zero new short = refl
+  one-cut (p ∷ pieces) (suc i) new short =
+      let less : suc i < length pieces = omega arith in
+      ap (λ l. p ++ l) (one-cut pieces i new less) ∙ sym (append_assoc p (flatten (take i pieces)) (new ++ flatten (drop (suc (suc i)) pieces)))
+
+map-remove : {X Y : Type 0} (f : X → Y) (l : List X) (j : ℕ) → map f (remove l j) ≡ remove (map f l) j
+map-remove f [] j = ap (map f) (remove-none j) ∙ sym (remove-none j)
+map-remove f (z ∷ l) zero = refl
+map-remove f (z ∷ l) (suc j) = ap (λ m. f z ∷ m) (map-remove f l j)
+
+module _ {K V : Type 0} (cmp : K → K → Ordering) (order : IsTotalOrder cmp) (new : List (K × V)) where
+  -- what holds of each pair of two pieces holds of each of the new one
+  abbrev Holds : List (List (K × V)) → ℕ → Type 1
+  Holds pieces i = (P : K × V → Type 0) → AllByRecursion P (piece_at pieces i ++ piece_at pieces (suc i)) → AllByRecursion P new
+
+  holds_on : (P : K × V → Type 0) (pieces : List (List (K × V))) (i : ℕ) → suc i < length pieces → Holds pieces i
+      → AllByRecursion P (flatten pieces) → AllByRecursion P (flatten (set (remove pieces (suc i)) i new))
+  holds_on P [] i short holds all = absurd (omega arith)
+  holds_on P (p ∷ []) zero short holds all = absurd (omega arith)
+  holds_on P (p ∷ q ∷ pieces) zero short holds all =
+      let rest = AllByRecursion-right P p (q ++ flatten pieces) all in
+      AllByRecursion-append P new (flatten pieces) (holds P (AllByRecursion-append P p q (AllByRecursion-left P p (q ++ flatten pieces) all) (AllByRecursion-left P q (flatten pieces) rest)))
+      (AllByRecursion-right P q (flatten pieces) rest)
+  holds_on P (p ∷ pieces) (suc i) short holds all =
+      let less : suc i < length pieces = omega arith in
+      AllByRecursion-append P p (flatten (set (remove pieces (suc i)) i new)) (AllByRecursion-left P p (flatten pieces) all) (holds_on P pieces i less holds (AllByRecursion-right P p (flatten pieces) all))
+
+  -- a key below a bound is below one that is not less
+  below_next : (key bound h : K) (o : Ordering) → cmp bound h ≡ o → cmp key bound ≡ Less → is_gt o ≡ false → cmp key h ≡ Less
+  below_next key bound h Less is less up = order.trans key bound h less is
+  below_next key bound h Equal is less up = sym (alike_right order bound h key is) ∙ less
+  below_next key bound h Greater is less up = absurd cc
+
+  greater_is : (o : Ordering) → is_gt o ≡ true → o ≡ Greater
+  greater_is Less is = absurd cc
+  greater_is Equal is = absurd cc
+  greater_is Greater is = refl
+
+  here_step : (bound h : K) (bounds : List K) (p q : List (K × V)) (pieces : List (List (K × V))) (b : Bool) → is_gt (cmp bound h) ≡ b → Holds (p ∷ q ∷ pieces) zero
+      → StandBetween cmp (bound ∷ h ∷ bounds) (p ∷ q ∷ pieces) → StandBetween cmp (remove (bound ∷ h ∷ bounds) (cond b (suc zero) zero)) (new ∷ pieces)
+  here_step bound h bounds p q pieces false up holds stand =
+      let rest = stand.2 in
+      let turns = λ (pair : K × V) (less : cmp pair.0 bound ≡ Less). below_next pair.0 bound h (cmp bound h) refl less up in (
+        holds (λ pair. cmp pair.0 h ≡ Less) (AllByRecursion-append (λ pair. cmp pair.0 h ≡ Less) p q (AllByRecursion-weaker (λ pair. cmp pair.0 bound ≡ Less) (λ pair. cmp pair.0 h ≡ Less) turns p stand.0) rest.0),
+        rest.1,
+        rest.2,
+      )
+  here_step bound h bounds p q pieces true down holds stand =
+      let rest = stand.2 in
+      let less : cmp h bound ≡ Less = less_turned cmp order bound h (greater_is (cmp bound h) down) in
+      let turns = λ (pair : K × V) (below : cmp pair.0 h ≡ Less). order.trans pair.0 h bound below less in (
+        holds (λ pair. cmp pair.0 bound ≡ Less) (AllByRecursion-append (λ pair. cmp pair.0 bound ≡ Less) p q stand.0 (AllByRecursion-weaker (λ pair. cmp pair.0 h ≡ Less) (λ pair. cmp pair.0 bound ≡ Less) turns q rest.0)),
+        AllByRecursion-right (λ pair. is_lt (cmp pair.0 bound) ≡ false) q (flatten pieces) stand.1,
+        rest.2,
+      )
+
+  later_step : (bound : K) (bounds : List K) (i : ℕ) (b : Bool) → remove (bound ∷ bounds) (cond b (suc (suc i)) (suc i)) ≡ bound ∷ remove bounds (cond b (suc i) i)
+  later_step bound bounds i true = refl
+  later_step bound bounds i false = refl
+
+  pub merge_stands : (bounds : List K) (pieces : List (List (K × V))) (i : ℕ) → i < length bounds → suc i < length pieces → Holds pieces i
+      → StandBetween cmp bounds pieces → StandBetween cmp (remove bounds (cond (descends_at cmp bounds i) (suc i) i)) (set (remove pieces (suc i)) i new)
+  merge_stands [] pieces i inside short holds stand = absurd (omega arith)
+  merge_stands (bound ∷ bounds) [] i inside short holds stand = absurd (omega arith)
+  merge_stands (bound ∷ bounds) (p ∷ []) zero inside short holds stand = absurd (omega arith)
+  merge_stands (bound ∷ []) (p ∷ q ∷ pieces) zero inside short holds stand = stand.2
+  merge_stands (bound ∷ h ∷ bounds) (p ∷ q ∷ pieces) zero inside short holds stand = here_step bound h bounds p q pieces (is_gt (cmp bound h)) refl holds stand
+  merge_stands (bound ∷ bounds) (p ∷ pieces) (suc i) inside short holds stand =
+      let less : suc i < length pieces = omega arith in
+      let within : i < length bounds = omega arith in
+      subst (λ bs. StandBetween cmp bs (p ∷ set (remove pieces (suc i)) i new)) (sym (later_step bound bounds i (descends_at cmp bounds i)))
+      (stand.0, holds_on (λ pair. is_lt (cmp pair.0 bound) ≡ false) pieces i less holds stand.1, merge_stands bounds pieces i within less holds stand.2)
+
+module _ {T K V : Type 0} (cmp : K → K → Ordering) (order : IsTotalOrder cmp) (pairs : T → List (K × V)) (bounds : List K) (items : List T) (lengths : List ℕ)
+    (whole : IsWhole cmp bounds (map pairs items) lengths) (i : ℕ) (inside : i < length bounds) where
+  abbrev pieces : List (List (K × V))
+  pieces = map pairs items
+
+  one : i + 1 ≡ suc i
+  one = omega arith
+
+  two : suc i < length pieces
+  two = omega (arith, inside, shards_count cmp order bounds pieces whole.are bounds pieces whole.are.between)
+
+  pub next_there : i + 1 < length items
+  next_there = omega (arith, two, length-map items pairs)
+
+  module _ (x next : T) (here : x ≡ get_or (remove items (i + 1)) i x) (there : next ≡ get_or items (i + 1) next) where
+    first_is : pairs x ≡ piece_at pieces i
+    first_is =
+        let short : i < length items = omega (arith, next_there) in
+        asked pairs items i x short (here ∙ ap (λ j. get_or (remove items j) i x) one ∙ get-removed items i x)
+
+    second_is : pairs next ≡ piece_at pieces (suc i)
+    second_is = asked pairs items (i + 1) next next_there there ∙ ap (piece_at pieces) one
+
+    abbrev front : List (K × V)
+    front = flatten (take i pieces)
+
+    abbrev rear : List (K × V)
+    rear = flatten (drop (suc (suc i)) pieces)
+
+    module _ (y : T) (moved left : List (K × V)) (parts : pairs next ≡ moved ++ left) (put : pairs y ≡ put_all (put_pair cmp) (pairs x) moved) where
+      both_are : piece_at pieces i ++ piece_at pieces (suc i) ≡ (pairs x ++ moved) ++ left
+      both_are = ap (λ l. l ++ piece_at pieces (suc i)) (sym first_is) ∙ ap (λ l. pairs x ++ l) (sym second_is ∙ parts) ∙ sym (append_assoc (pairs x) moved left)
+
+      all_are : flatten pieces ≡ front ++ (((pairs x ++ moved) ++ left) ++ rear)
+      all_are = two-cut pieces i two ∙ ap (λ l. front ++ (l ++ rear)) both_are
+
+      new_is : pairs y ≡ pairs x ++ moved
+      new_is =
+          put ∙ put_behind cmp order (pairs x) moved (ascending_before cmp (pairs x ++ moved) left (ascending_before cmp ((pairs x ++ moved) ++ left) rear
+          (ascending_after order front (((pairs x ++ moved) ++ left) ++ rear) (subst (IsAscending cmp) all_are whole.are.ascending))))
+
+      full_is : flatten pieces ≡ (front ++ pairs y) ++ (left ++ rear)
+      full_is =
+          all_are ∙ ap (λ l. front ++ ((l ++ left) ++ rear)) (sym new_is) ∙ ap (λ l. front ++ l) (append_assoc (pairs y) left rear) ∙ sym (append_assoc front (pairs y) (left ++ rear))
+
+      merged : map pairs (set (remove items (i + 1)) i y) ≡ set (remove pieces (suc i)) i (pairs y)
+      merged = ap (λ j. map pairs (set (remove items j) i y)) one ∙ map-set pairs (remove items (suc i)) i y ∙ ap (λ l. set l i (pairs y)) (map-remove pairs items (suc i))
+
+      rest_is : flatten (map pairs (set (remove items (i + 1)) i y)) ≡ (front ++ pairs y) ++ rear
+      rest_is = ap flatten merged ∙ one-cut pieces i (pairs y) two ∙ sym (append_assoc front (pairs y) rear)
+
+      put_in : (put_all (put_pair cmp) ((front ++ pairs y) ++ rear) left ≡ (front ++ pairs y) ++ (left ++ rear)) × IsAscending cmp ((front ++ pairs y) ++ rear)
+      put_in = put_back cmp order left (front ++ pairs y) rear (subst (IsAscending cmp) full_is whole.are.ascending)
+
+      pub merge_list : put_all (put_pair cmp) (flatten (map pairs (set (remove items (i + 1)) i y))) left ≡ flatten pieces
+      merge_list = ap (λ l. put_all (put_pair cmp) l left) rest_is ∙ put_in.0 ∙ sym full_is
+
+      pub merge_whole : (bound n : ℕ) → bound ≡ cond (descends_at cmp bounds i) (i + 1) i → n ≡ length (pairs y)
+          → IsWhole cmp (remove bounds bound) (map pairs (set (remove items (i + 1)) i y)) (set (remove lengths (i + 1)) i n)
+      merge_whole bound n goes long =
+          let holds = λ (P : K × V → Type 0) (every : AllByRecursion P (piece_at pieces i ++ piece_at pieces (suc i))).
+          subst (AllByRecursion P) (sym new_is) (AllByRecursion-left P (pairs x ++ moved) left (subst (AllByRecursion P) both_are every)) in
+          let bounds_are : remove bounds bound ≡ remove bounds (cond (descends_at cmp bounds i) (suc i) i) = ap (remove bounds) (goes ∙ ap (λ j. cond (descends_at cmp bounds i) j i) one) in
+          let counts : set (remove lengths (i + 1)) i n ≡ lengths_of (map pairs (set (remove items (i + 1)) i y)) =
+          ap (λ j. set (remove lengths j) i n) one ∙ ap (λ l. set (remove l (suc i)) i n) whole.counted ∙ ap (set (remove (lengths_of pieces) (suc i)) i) long
+          ∙ sym (ap lengths_of merged ∙ map-set length (remove pieces (suc i)) i (pairs y) ∙ ap (λ l. set l i (length (pairs y))) (map-remove length pieces (suc i))) in
+          let stands = merge_stands cmp order (pairs y) bounds pieces i inside two holds whole.are.between in
+          record {
+            are = record {
+              between = subst (λ b. StandBetween cmp b (map pairs (set (remove items (i + 1)) i y))) (sym bounds_are) (subst (StandBetween cmp (remove bounds (cond (descends_at cmp bounds i) (suc i) i))) (sym merged) stands);
+              ascending = subst (IsAscending cmp) (sym rest_is) put_in.1;
+            };
+            counted = counts;
+            fits = omega (arith, ap sum counts, total (map pairs (set (remove items (i + 1)) i y)), ap length rest_is, ap length full_is, length-append (front ++ pairs y) rear, length-append (front ++ pairs y) (left ++ rear), length-append left rear, ap sum whole.counted, total pieces, whole.fits);
+          }
+
+-- ---- the bound that goes
+
+module _ {K : Type 0} (cmp : K → K → Ordering) where
+  pub last_stays : (bounds : List K) (i : ℕ) → i + 1 ≡ length bounds → descends_at cmp bounds i ≡ false
+  last_stays [] i last = refl
+  last_stays (b ∷ []) zero last = refl
+  last_stays (b ∷ n ∷ bounds) zero last = absurd (omega arith)
+  last_stays (b ∷ bounds) (suc i) last = let less : i + 1 ≡ length bounds = omega arith in last_stays bounds i less
+
+  pub descends_is : (bounds : List K) (i : ℕ) (b n : K) → suc i < length bounds → b ≡ get_or bounds i b → n ≡ get_or bounds (suc i) n → descends_at cmp bounds i ≡ is_gt (cmp b n)
+  descends_is [] i b n short here next = absurd (omega arith)
+  descends_is (c ∷ []) zero b n short here next = absurd (omega arith)
+  descends_is (c ∷ d ∷ bounds) zero b n short here next = ap (λ e. is_gt (cmp e d)) (sym here) ∙ ap (λ e. is_gt (cmp b e)) (sym next)
+  descends_is (c ∷ bounds) (suc i) b n short here next = let less : suc i < length bounds = omega arith in descends_is bounds i b n less here next
