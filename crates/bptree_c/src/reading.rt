@@ -96,7 +96,7 @@ fn owned(pair: Option<(&u64, &u64)>) -> Option<(u64, u64)>
 
 // Whether there is a pair, which is written where there is one.
 fn is_told(answer: Option<(u64, u64)>, pair: &mut Pair) -> bool
-    ensures { MatchOption answer (result ≡ false) (λ it. (result ≡ true) × (it ≡ as_tuple pair.new)) }
+    ensures { MatchOption answer (result ≡ false) (λ p. (result ≡ true) × (p ≡ as_tuple pair.new)) }
 {
     match answer {
         Some((key, value)) => {

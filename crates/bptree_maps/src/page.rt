@@ -83,6 +83,6 @@ pub fn page_of<K: Key, V: Drop>(
 /// The pages of a list, from the first to the last, are the list, one after another; and each later
 /// page is empty. It does nothing.
 pub fn laws_of_pages<K: Key, V: Drop>()
-    ensures all { (l : List (K × V)) → (s : ℕ) → 1 ≤ s → first_pages l s (div_ceil (length l) s) ≡ l }
-    ensures later { (l : List (K × V)) → (p s : ℕ) → 1 ≤ s → div_ceil (length l) s ≤ p → page_of_list l p s ≡ [] }
+    ensures all { (l : List (K × V)) (s : ℕ) → 1 ≤ s → first_pages l s (div_ceil (length l) s) ≡ l }
+    ensures later { (l : List (K × V)) (p s : ℕ) → 1 ≤ s → div_ceil (length l) s ≤ p → page_of_list l p s ≡ [] }
 {}

@@ -3,7 +3,7 @@ ghost use Rattle.std.specs.Prelude.{◌≡◌, ◌++◌, ◌<◌, ◌^◌, [], l
 ghost use Rattle.std.specs.Map.{keys_of};
 ghost use Rattle.bptree_arguments.specs.CountLaws.{count_below};
 ghost use Rattle.bptree_keys.specs.Contents.{IsAscending, has};
-ghost use Rattle.bptree_sharded.specs.Shown.{shown};
+ghost use Rattle.bptree_sharded.specs.Shown.{shown, Pushes};
 
 use crate::shard::Shard;
 use crate::whole::Shards;
@@ -54,7 +54,7 @@ fn put_last<'a, K: Key, V: Drop>(
     n: usize,
     found: &mut Vec<(&'a K, &'a V)>,
 ) -> Result<(), AllocError>
-    ensures { OnOk result (shown found.new.items ≡ shown found.old.items ++ take n (reverse pairs.entry)) }
+    ensures { OnOk result (Pushes (take n (reverse pairs.entry)) found.old.items found.new.items) }
 {
     let mut pairs = pairs;
     for _ in 0..n {

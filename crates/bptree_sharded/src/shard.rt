@@ -1,12 +1,14 @@
 //! What is asked of a shard.
-ghost use Rattle.std.specs.Prelude.{◌≡◌, ◌++◌, List, [], Some, None, length, take, slice_get, IfOk, IfErr, OnOk, OnErr};
+ghost use Rattle.std.specs.Prelude.{◌≡◌, ◌++◌, List, length, take, slice_get, IfOk, IfErr, OnOk, OnErr};
 ghost use Rattle.std.specs.Option.{option_copied, option_map};
 ghost use Rattle.bptree_keys.specs.Contents.{value, put, del, next, previous, pairs_below};
-ghost use Rattle.bptree_keys.specs.Ranges.{between, part};
+ghost use Rattle.bptree_keys.specs.Ranges.{part};
 ghost use Rattle.bptree_shards.specs.Shards.{back_from};
-ghost use Rattle.bptree_maps.specs.Moving.{put_all, put_pair, in_hand, Moves};
-ghost use Rattle.bptree_maps.specs.Splitting.{gone};
-ghost use Rattle.bptree_sharded.specs.Shown.{shown};
+ghost use Rattle.bptree_maps.specs.Moving.{put_pair, AllMove, MovesPairs};
+ghost use Rattle.bptree_maps.specs.Splitting.{gone, SplitsOff};
+ghost use Rattle.bptree_sharded.specs.Shown.{Pushes};
+ghost use Rattle.bptree_tree.specs.Entries.{pairs_between};
+ghost use Rattle.std.specs.Map.Iter.{deref_pair};
 
 use bptree_keys::key::Key;
 use bptree_maps::map::{MoveError, SplitError};
@@ -51,15 +53,15 @@ pub trait Shard: Drop {
 
     /// The pair at a place, counted from 0.
     fn at(&self, place: usize) -> Option<(&Self::K, &Self::V)>
-        ensures { option_map (λ pair. (pair.0.now, pair.1.now)) result ≡ slice_get (pairs self.now) place };
+        ensures { option_map deref_pair result ≡ slice_get (pairs self.now) place };
 
     /// The pair with the least greater key.
     fn next(&self, k: &Self::K) -> Option<(&Self::K, &Self::V)>
-        ensures { option_map (λ pair. (pair.0.now, pair.1.now)) result ≡ next Self.K.cmp (pairs self.now) k.now };
+        ensures { option_map deref_pair result ≡ next Self.K.cmp (pairs self.now) k.now };
 
     /// The pair with the greatest smaller key.
     fn prev(&self, k: &Self::K) -> Option<(&Self::K, &Self::V)>
-        ensures { option_map (λ pair. (pair.0.now, pair.1.now)) result ≡ previous Self.K.cmp (pairs self.now) k.now };
+        ensures { option_map deref_pair result ≡ previous Self.K.cmp (pairs self.now) k.now };
 
     /// At most so many pairs from a place on are put behind those of a vector.
     fn page<'a>(
@@ -68,7 +70,7 @@ pub trait Shard: Drop {
         count: usize,
         found: &mut Vec<(&'a Self::K, &'a Self::V)>,
     ) -> Result<(), AllocError>
-        ensures { OnOk result (shown found.new.items ≡ shown found.old.items ++ part (pairs self.now) from count) };
+        ensures { OnOk result (Pushes (part (pairs self.now) from count) found.old.items found.new.items) };
 
     /// At most `n` of the pairs whose keys are not below `lo` and are below `hi`, where they are
     /// given, are put behind those of a vector, the least first.
@@ -79,8 +81,7 @@ pub trait Shard: Drop {
         n: usize,
         found: &mut Vec<(&'a Self::K, &'a Self::V)>,
     ) -> Result<(), AllocError>
-        ensures { OnOk result (shown found.new.items ≡ shown found.old.items ++
-            take n (between Self.K.cmp (pairs self.now) (option_copied lo.entry) (option_copied hi.entry))) };
+        ensures { OnOk result (Pushes (take n (pairs_between Self.K.cmp (pairs self.now) lo.entry hi.entry)) found.old.items found.new.items) };
 
     /// At most `n` of the pairs whose keys are not above `k` are put behind those of a vector, the
     /// greatest first.
@@ -90,8 +91,7 @@ pub trait Shard: Drop {
         n: usize,
         found: &mut Vec<(&'a Self::K, &'a Self::V)>,
     ) -> Result<(), AllocError>
-        ensures { OnOk result (shown found.new.items ≡ shown found.old.items ++
-            take n (back_from Self.K.cmp (pairs self.now) k.now)) };
+        ensures { OnOk result (Pushes (take n (back_from Self.K.cmp (pairs self.now) k.now)) found.old.items found.new.items) };
 
     /// The pairs whose keys are not below `k` leave for a shard of their own. Where not all of them
     /// could, those that left are handed back: the greatest, and the pair in hand, if there is one.
@@ -99,16 +99,12 @@ pub trait Shard: Drop {
         &mut self,
         k: &Self::K,
     ) -> Result<Self, SplitError<Self, MoveError<Self::K, Self::V>>>
-        ensures ok { IfOk result (λ there.
-            (pairs self.new ≡ between Self.K.cmp (pairs self.old) None (Some k.now)) ×
-            (pairs there ≡ between Self.K.cmp (pairs self.old) (Some k.now) None)) }
-        ensures err { IfErr result (λ refusal. pairs self.old ≡ pairs self.new ++ gone (λ shard. pairs shard) refusal) };
+        ensures ok { IfOk result (λ there. SplitsOff Self.K.cmp k.now (pairs self.old) (pairs self.new) (pairs there)) }
+        ensures err { IfErr result (λ r. pairs self.old ≡ pairs self.new ++ gone pairs r) };
 
     /// All pairs of another shard come here, one after another. Where one could not, those before it
     /// have come, and the others stay there; the pair in hand is handed back, if there is one.
     fn append(&mut self, other: &mut Self) -> Result<(), MoveError<Self::K, Self::V>>
-        ensures ok { OnOk result (
-            (pairs self.new ≡ put_all (put_pair Self.K.cmp) (pairs self.old) (pairs other.old)) × (pairs other.new ≡ [])) }
-        ensures err { IfErr result (λ refusal. Moves (put_pair Self.K.cmp)
-            (pairs self.old) (pairs other.old) (in_hand refusal) (pairs self.new) (pairs other.new)) };
+        ensures ok { OnOk result (AllMove (put_pair Self.K.cmp) (pairs self.old) (pairs other.old) (pairs self.new) (pairs other.new)) }
+        ensures err { IfErr result (MovesPairs Self.K.cmp (pairs self.old) (pairs other.old) (pairs self.new) (pairs other.new)) };
 }

@@ -1,14 +1,14 @@
 //! The whole over several shards, which answers as one map.
-ghost use Rattle.std.specs.Prelude.{◌≡◌, ◌+◌, ◌-◌, ◌^◌, ◌<◌, ◌≤◌, List, length, vec_len, vec_capacity, map, take, insert, slice_get, if◌then◌else◌, IfOk, IfErr, OnOk, OnErr};
+ghost use Rattle.std.specs.Prelude.{◌≡◌, ◌+◌, ◌^◌, ◌<◌, ◌≤◌, List, length, vec_len, vec_capacity, map, take, insert, slice_get, IfOk, IfErr, OnOk, OnErr};
 ghost use Rattle.std.specs.Option.{option_copied, option_map};
 ghost use Rattle.bptree_keys.specs.Contents.{IsAscending, value, put, del, next, previous, pairs_below};
 ghost use Rattle.bptree_keys.specs.Pieces.{flatten};
 ghost use Rattle.bptree_keys.specs.Ranges.{between, part};
 ghost use Rattle.bptree_shards.specs.Shards.{AreShards, back_from};
-ghost use Rattle.bptree_maps.specs.Moving.{put_all, put_pair};
-ghost use Rattle.bptree_maps.specs.Splitting.{gone};
-ghost use Rattle.bptree_sharded.specs.Shown.{shown};
+ghost use Rattle.bptree_sharded.specs.Shown.{shown, GivesBack};
 ghost use Rattle.bptree_sharded.specs.Whole.{descends_at};
+ghost use Rattle.bptree_tree.specs.Entries.{last_of, pairs_between};
+ghost use Rattle.std.specs.Map.Iter.{deref_pair};
 
 use crate::shard::Shard;
 use bptree_keys::key::Key;
@@ -71,7 +71,7 @@ impl<S: Shard> Shards<S> {
     pub fn new(alloc: Global, bounds: Vec<S::K>, shards: Vec<S>) -> Result<Self, AllocError>
         requires are { AreShards S.K.cmp bounds.items (map (λ shard. S.pairs shard) shards.items) }
         requires fits { length (flatten (map (λ shard. S.pairs shard) shards.items)) < 2 ^ 64 }
-        ensures { IfOk result (λ whole. whole ≡ flatten (map (λ shard. S.pairs shard) shards.items)) }
+        ensures { IfOk result (λ it. it ≡ flatten (map (λ shard. S.pairs shard) shards.items)) }
     {
         let mut lengths = Vec::new(alloc);
         for shard in &shards {
@@ -141,7 +141,7 @@ impl<S: Shard> Shards<S> {
 
     /// The pair at a place, counted from 0. The shard that has it is asked.
     pub fn at(&self, place: usize) -> Option<(&S::K, &S::V)>
-        ensures { option_map (λ pair. (pair.0.now, pair.1.now)) result ≡ slice_get self.now place }
+        ensures { option_map deref_pair result ≡ slice_get self.now place }
     {
         match locate(&self.lengths, place) {
             None => None,
@@ -151,7 +151,7 @@ impl<S: Shard> Shards<S> {
 
     /// The pair with the least key. The first shard that has a pair is asked.
     pub fn first(&self) -> Option<(&S::K, &S::V)>
-        ensures { option_map (λ pair. (pair.0.now, pair.1.now)) result ≡ slice_get self.now 0 }
+        ensures { option_map deref_pair result ≡ slice_get self.now 0 }
     {
         match first_full(&self.lengths) {
             None => None,
@@ -161,7 +161,7 @@ impl<S: Shard> Shards<S> {
 
     /// The pair with the greatest key. The last shard that has a pair is asked.
     pub fn last(&self) -> Option<(&S::K, &S::V)>
-        ensures { option_map (λ pair. (pair.0.now, pair.1.now)) result ≡ slice_get self.now (length self.now - 1) }
+        ensures { option_map deref_pair result ≡ last_of self.now }
     {
         match last_full(&self.lengths) {
             None => None,
@@ -172,7 +172,7 @@ impl<S: Shard> Shards<S> {
     /// The pair with the least greater key. The shard of the key is asked, and where that has none,
     /// the first shard behind it that has a pair.
     pub fn next(&self, k: &S::K) -> Option<(&S::K, &S::V)>
-        ensures { option_map (λ pair. (pair.0.now, pair.1.now)) result ≡ next S.K.cmp self.now k.now }
+        ensures { option_map deref_pair result ≡ next S.K.cmp self.now k.now }
     {
         let at = route(&self.bounds, k);
         let own = self.shards[at].next(k);
@@ -188,7 +188,7 @@ impl<S: Shard> Shards<S> {
     /// The pair with the greatest smaller key. The last shard that may have one is asked, and where
     /// that has none, the last shard before it that has a pair.
     pub fn prev(&self, k: &S::K) -> Option<(&S::K, &S::V)>
-        ensures { option_map (λ pair. (pair.0.now, pair.1.now)) result ≡ previous S.K.cmp self.now k.now }
+        ensures { option_map deref_pair result ≡ previous S.K.cmp self.now k.now }
     {
         let at = route_below(&self.bounds, k);
         let own = self.shards[at].prev(k);
@@ -208,7 +208,7 @@ impl<S: Shard> Shards<S> {
         place: usize,
         n: usize,
     ) -> Result<Vec<(&S::K, &S::V)>, AllocError>
-        ensures { IfOk result (λ found. shown found.items ≡ part self.now place n) }
+        ensures { IfOk result (λ it. shown it.items ≡ part self.now place n) }
     {
         let mut found = Vec::new(alloc);
         let mut from = place;
@@ -231,8 +231,7 @@ impl<S: Shard> Shards<S> {
         hi: Option<&'b S::K>,
         n: usize,
     ) -> Result<Vec<(&S::K, &S::V)>, AllocError>
-        ensures { IfOk result (λ found. shown found.items ≡
-            take n (between S.K.cmp self.now (option_copied lo.entry) (option_copied hi.entry))) }
+        ensures { IfOk result (λ it. shown it.items ≡ take n (pairs_between S.K.cmp self.now lo.entry hi.entry)) }
     {
         let mut found = Vec::new(alloc);
         let (first, last) = route_range(&self.bounds, lo, hi);
@@ -251,7 +250,7 @@ impl<S: Shard> Shards<S> {
     /// At most `n` of the pairs whose keys are not above `k`, the greatest first. The shard of the
     /// key is asked, and then each shard before it that has one of them.
     pub fn back(&self, alloc: Global, k: &S::K, n: usize) -> Result<Vec<(&S::K, &S::V)>, AllocError>
-        ensures { IfOk result (λ found. shown found.items ≡ take n (back_from S.K.cmp self.now k.now)) }
+        ensures { IfOk result (λ it. shown it.items ≡ take n (back_from S.K.cmp self.now k.now)) }
     {
         let at = route(&self.bounds, k);
         let mut found = Vec::new(alloc);
@@ -270,8 +269,7 @@ impl<S: Shard> Shards<S> {
     /// could not move, the greatest pairs of the shard have left the list and are handed back.
     pub fn split(&mut self, k: S::K) -> Result<(), SplitError<S, MoveError<S::K, S::V>>>
         ensures ok { OnOk result (self.new ≡ self.old) }
-        ensures err { IfErr result (λ refusal.
-            put_all (put_pair S.K.cmp) self.new (gone (λ shard. S.pairs shard) refusal) ≡ self.old) }
+        ensures err { IfErr result (GivesBack S.K.cmp (λ shard. S.pairs shard) self.old self.new) }
     {
         if self.bounds.reserve(1).is_err() {
             return Err(SplitError::NotMade);
@@ -305,8 +303,7 @@ impl<S: Shard> Shards<S> {
     /// moved have left the list, and are handed back with the shard that they are in.
     pub fn merge(&mut self, shard: usize) -> Result<(), SplitError<S, MoveError<S::K, S::V>>>
         ensures ok { OnOk result (self.new ≡ self.old) }
-        ensures err { IfErr result (λ refusal.
-            put_all (put_pair S.K.cmp) self.new (gone (λ shard. S.pairs shard) refusal) ≡ self.old) }
+        ensures err { IfErr result (GivesBack S.K.cmp (λ shard. S.pairs shard) self.old self.new) }
     {
         if shard >= self.bounds.len() {
             return Ok(());

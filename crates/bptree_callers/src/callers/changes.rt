@@ -138,7 +138,7 @@ fn takes_the_pair_of_a_key<S: NodeStore>(
     k: &S::K,
 ) -> Result<Option<(S::K, S::V)>, AllocError>
     ensures key { IfOk result (λ gone. IfSome gone (λ pair. S.K.cmp pair.0 k.now ≡ Equal)) }
-    ensures value { IfOk result (λ gone. told_value gone ≡ value_of S.K.cmp tree.old.contents k.now) }
+    ensures value { IfOk result (λ g. told_value g ≡ value_of S.K.cmp tree.old.contents k.now) }
     ensures others { OnOk result (tree.new.contents ≡ del S.K.cmp tree.old.contents k.now) }
     ensures refused { OnErr result (S.slots tree.new.store ≡ S.slots tree.old.store) }
 {

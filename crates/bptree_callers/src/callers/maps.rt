@@ -557,7 +557,7 @@ fn finds_no_smaller_key<K: Key, V: Drop, A: Argument<K>>(
     map: &BPlusTreeMap<K, V, A>,
     k: &K,
 ) -> Result<Option<Cursor<K>>, AllocError>
-    ensures { IfOk result (λ found. IfSome found (λ c. is_lt (K.cmp (cursor_key c) k.now) ≡ false)) }
+    ensures { IfOk result (λ it. IfSome it (λ c. is_lt (K.cmp (cursor_key c) k.now) ≡ false)) }
 {
     match map.lower_bound(k)? {
         Some((cursor, _)) => Ok(Some(cursor)),

@@ -57,7 +57,7 @@ fn gives_none_only_where_none_is_allowed<S: NodeStore>(
 where
     S::Argument: SearchArgument<S::K>,
     requires { 0 < n }
-    ensures { IfOk result (λ len. len ≡ 0 → S.Argument.selects query (keys_of tree.now.contents) None) }
+    ensures { IfOk result (λ n. n ≡ 0 → S.Argument.selects query (keys_of tree.now.contents) None) }
 {
     Ok(tree.range_by_argument(query, n)?.len())
 }

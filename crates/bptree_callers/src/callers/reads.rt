@@ -164,7 +164,7 @@ fn finds_the_pair_of_a_key<'a, S: NodeStore>(
     k: &S::K,
 ) -> Option<(&'a S::K, &'a S::V)>
     ensures key { IfSome result (λ pair. S.K.cmp pair.0.now k.now ≡ Equal) }
-    ensures value { option_map (λ pair. pair.1.now) result ≡ value_of S.K.cmp tree.now.contents k.now }
+    ensures value { option_map (λ p. p.1.now) result ≡ value_of S.K.cmp tree.now.contents k.now }
 {
     tree.get_key_value(k)
 }
