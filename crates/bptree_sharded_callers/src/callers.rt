@@ -1,10 +1,11 @@
 //! Callers that are proved: what each ensures follows from the contracts of the functions that it
 //! calls.
-ghost use Rattle.std.specs.Prelude.{◌≡◌, ◌<◌, ◌≤◌, ◌^◌, [], true, false, length, map, slice_get, IfOk, Some, None};
+ghost use Rattle.std.specs.Prelude.{◌≡◌, ◌++◌, ◌<◌, ◌≤◌, ◌^◌, [], true, false, length, map, reverse, slice_get, IfOk, Some, None};
 ghost use Rattle.std.specs.Option.{option_copied, option_map};
-ghost use Rattle.bptree_keys.specs.Contents.{has, value, pairs_below};
+ghost use Rattle.bptree_keys.specs.Contents.{has, value, pairs_below, pairs_above};
 ghost use Rattle.bptree_keys.specs.Pieces.{flatten};
 ghost use Rattle.bptree_shards.specs.Shards.{AreShards};
+ghost use Rattle.bptree_sharded.specs.Shown.{shown};
 
 use bptree_keys::contents::{laws_of_del, laws_of_put};
 use bptree_sharded::shard::Shard;
@@ -41,4 +42,78 @@ fn is_empty_over_empty_shards<S: Shard>(
 {
     let whole = Shards::new(alloc, bounds, shards)?;
     Ok((whole.len(), whole.first().is_none()))
+}
+
+// A page from the first pair on, of as many as there are, is the whole.
+fn page_of_all<S: Shard>(
+    alloc: Global,
+    whole: &Shards<S>,
+) -> Result<Vec<(&S::K, &S::V)>, AllocError>
+    ensures { IfOk result (λ found. shown found.items ≡ whole.now) }
+{
+    whole.page(alloc, 0, whole.len())
+}
+
+// The first `n` pairs, and those from there on, are the whole.
+fn two_pages<S: Shard>(
+    alloc: Global,
+    whole: &Shards<S>,
+    n: usize,
+) -> Result<Vec<(&S::K, &S::V)>, AllocError>
+    ensures { IfOk result (λ found. shown found.items ≡ whole.now) }
+{
+    let mut found = whole.page(alloc, 0, n)?;
+    let mut rest = whole.page(alloc, n, whole.len())?;
+    found.append(&mut rest)?;
+    Ok(found)
+}
+
+// The range of no keys is the whole.
+fn range_of_all<'a, S: Shard>(
+    alloc: Global,
+    whole: &'a Shards<S>,
+) -> Result<Vec<(&'a S::K, &'a S::V)>, AllocError>
+    ensures { IfOk result (λ found. shown found.items ≡ whole.now) }
+{
+    let open: Option<&'a S::K> = None;
+    whole.range(alloc, open, open, whole.len())
+}
+
+// The pairs below a key, and those from it on, are the whole.
+fn two_ranges<'a, S: Shard>(
+    alloc: Global,
+    whole: &'a Shards<S>,
+    k: &S::K,
+) -> Result<Vec<(&'a S::K, &'a S::V)>, AllocError>
+    ensures { IfOk result (λ found. shown found.items ≡ whole.now) }
+{
+    let mut found = whole.range(alloc, None, Some(k), whole.len())?;
+    let mut rest = whole.range(alloc, Some(k), None, whole.len())?;
+    found.append(&mut rest)?;
+    Ok(found)
+}
+
+// The pairs back from a key, turned, and then those above it are the whole.
+fn back_of_all<'a, S: Shard>(
+    alloc: Global,
+    whole: &'a Shards<S>,
+    k: &S::K,
+) -> Result<Vec<(&'a S::K, &'a S::V)>, AllocError>
+    ensures { IfOk result (λ found. reverse (shown found.items) ++ pairs_above S.K.cmp whole.now k.now ≡ whole.now) }
+{
+    whole.back(alloc, k, whole.len())
+}
+
+// After a split each key is found as before.
+fn finds_after_a_split<S: Shard>(whole: &mut Shards<S>, k: S::K, j: &S::K) -> bool
+    ensures { result ≡ true → value S.K.cmp whole.new j.now ≡ value S.K.cmp whole.old j.now }
+{
+    whole.split(k).is_ok()
+}
+
+// And after a merge.
+fn finds_after_a_merge<S: Shard>(whole: &mut Shards<S>, shard: usize, j: &S::K) -> bool
+    ensures { result ≡ true → value S.K.cmp whole.new j.now ≡ value S.K.cmp whole.old j.now }
+{
+    whole.merge(shard).is_ok()
 }
