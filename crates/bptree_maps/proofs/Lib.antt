@@ -1,3 +1,4 @@
+pub mod AddingLemmas
 pub mod DifferenceLemmas
 pub mod EntryKeys
 pub mod KeyLemmas

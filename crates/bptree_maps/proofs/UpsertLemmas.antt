@@ -1,11 +1,11 @@
 -- A value that a closure changed where its key was there.
-use Rattle.std.proofs.Common.{◌≡◌, ◌∙◌, true, false, List, Option, Some, None, ap, refl, sym}
+use Rattle.std.proofs.Common.{◌≡◌, ◌∙◌, true, false, List, Some, None, ap, refl, sym}
 use Rattle.std.specs.Borrow.{MutBor}
 use Rattle.std.specs.declared.cmp.Ordering.{Ordering}
 use Rattle.std.specs.Fn.{FnOnceReturnsAtMut, Once}
 use Rattle.std.specs.Option.{is_some}
 use Rattle.bptree_ascent.specs.Lending.{written}
-use Rattle.bptree_keys.specs.Contents.{has, put, value}
+use Rattle.bptree_keys.specs.Contents.{has, value}
 use Rattle.bptree_keys.proofs.Equal.{has_where_value}
 use Rattle.bptree_maps.specs.Updates.{IsUpdatedAt}
 

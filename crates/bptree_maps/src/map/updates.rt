@@ -1,8 +1,12 @@
-//! Values of a map that a closure changes in place.
-ghost use Rattle.std.specs.Prelude.{◌≡◌, ◌↔◌, false, true, length, IfErr, IfOk, Ok};
+//! Values of a map that a closure changes in place, or makes.
+ghost use Rattle.std.specs.Prelude.{◌≡◌, ◌↔◌, false, true, length, Err, IfErr, IfOk, IsOk, Ok, OnErr, OnOk, Some};
+ghost use Rattle.std.specs.Borrow.{Lends, LendsIfOk, sem};
 ghost use Rattle.std.specs.Option.{option_copied};
-ghost use Rattle.bptree_keys.specs.Contents.{has, put};
-ghost use Rattle.bptree_maps.specs.Updates.{IsUpdatedAt};
+ghost use Rattle.std.specs.declared.cmp.Ordering.TheVariants.{Equal};
+ghost use Rattle.bptree_ascent.specs.Lending.{written};
+ghost use Rattle.bptree_keys.specs.Contents.{has, put, value};
+ghost use Rattle.bptree_maps.specs.contracts.map.BPlusTreeMap.{the_row};
+ghost use Rattle.bptree_maps.specs.Updates.{IsPutIfAbsent, IsRefusedAt, IsThereOrMade, IsUpdatedAt};
 ghost use Rattle.bptree_nodes.specs.Updating.{ChangesInTurn};
 ghost use Rattle.bptree_tree.specs.Refusal.{pair_of};
 ghost use Rattle.bptree_tree.specs.Updating.{IsUpdatedBetween};
@@ -43,6 +47,61 @@ impl<K: Key, V: Drop, A: Argument<K>> BPlusTreeMap<K, V, A> {
                 Err(refusal) => Err(refusal),
             },
         }
+    }
+
+    /// The value at `k`, for writing. Where no key equals `k`, a closure makes a value, and the pair
+    /// is put first.
+    ///
+    /// Where a key equals `k`, it stays, `k` is dropped, and the closure is not called. That takes
+    /// no memory and is never refused. It costs what `contains_key` and `get_mut` do.
+    ///
+    /// Else the pair is put as by `insert`, and its value is found by a clone of `k`, on one more
+    /// way down. The clone can be refused, and so can the insertion. Then the pair is handed back,
+    /// and nothing has changed.
+    pub fn get_or_insert_with<F: FnOnce() -> V>(
+        &mut self,
+        k: K,
+        f: F,
+    ) -> Result<&mut V, InsertError<K, V>>
+        requires { has K.cmp self.old k ≡ false → F.pre f }
+        ensures* writes_back { sem 𝓛 (LendsIfOk (the_row K.row V.row A.row K.Key.own K.Clone K.Ord.own K.Eq.own K.PartialEq K.PartialOrd.own A.Argument.own A.Clone A.Default) V.row self.entry result (put K.cmp self.old k) self.old) }
+        ensures value { IfOk result (λ lent. IsThereOrMade (F.post f) K.cmp self.old k lent.now) }
+        ensures present { has K.cmp self.old k ≡ true → IsOk result }
+        ensures err { IfErr result (IsRefusedAt (F.post f) k) }
+        ensures full { (v : V) → result ≡ Err (InsertError.Full k v) → length self.old ≡ usize.MAX }
+    {
+        let key = self.put_absent(k, f)?;
+        Ok(self.value_at_mut(&key))
+    }
+
+    // A key that equals `k`, once a pair with such a key is there: of a new one the closure makes
+    // the value.
+    fn put_absent<F: FnOnce() -> V>(&mut self, k: K, f: F) -> Result<K, InsertError<K, V>>
+        requires { has K.cmp self.old k ≡ false → F.pre f }
+        ensures equal { IfOk result (λ key. K.cmp k key ≡ Equal) }
+        ensures ok { OnOk result (IsPutIfAbsent (F.post f) K.cmp self.old k self.new) }
+        ensures present { has K.cmp self.old k ≡ true → IsOk result }
+        ensures err { IfErr result (IsRefusedAt (F.post f) k) }
+        ensures unchanged { OnErr result (self.new ≡ self.old) }
+        ensures full { (v : V) → result ≡ Err (InsertError.Full k v) → length self.old ≡ usize.MAX }
+    {
+        if self.inner.contains_key(&k) {
+            return Ok(k);
+        }
+        let Ok(key) = k.clone() else {
+            return Err(InsertError::OutOfMemory(k, f()));
+        };
+        self.inner.insert(k, f())?;
+        Ok(key)
+    }
+
+    // The value at a key that is there, for writing.
+    fn value_at_mut(&mut self, k: &K) -> &mut V
+        requires { has K.cmp self.old k.now ≡ true }
+        ensures* writes_back { sem 𝓛 (Lends (the_row K.row V.row A.row K.Key.own K.Clone K.Ord.own K.Eq.own K.PartialEq K.PartialOrd.own A.Argument.own A.Clone A.Default) V.row self.entry result (written K.cmp k.now self.old)) }
+        ensures value { value K.cmp self.old k.now ≡ Some result.now }
+    {
+        self.inner.get_mut(k).unwrap()
     }
 
     /// Changes each value by a closure, in the order of the keys.
