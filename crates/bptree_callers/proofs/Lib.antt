@@ -4,6 +4,7 @@ pub mod ExtendLemmas
 pub mod GatherLemmas
 pub mod PartLemmas
 pub mod Passing
+pub mod RetainedLemmas
 pub mod SetLemmas
 pub mod Shown
 pub mod Sizes

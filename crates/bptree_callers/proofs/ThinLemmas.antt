@@ -1,10 +1,8 @@
 -- What is left outside two keys.
-use Rattle.std.proofs.Common.{◌≡◌, Option, Bool, true, false, not, ◌&&◌, cond, filter, Some, None, List, [], ◌∷◌, ◌++◌, refl, ap}
+use Rattle.std.proofs.Common.{◌≡◌, Option, Bool, true, false, not, ◌&&◌, cond, filter, Some, None, List, [], ◌∷◌, refl}
 use Rattle.std.specs.declared.cmp.Ordering.{Ordering}
-use Rattle.std.specs.Cmp.{IsTotalOrder}
 use Rattle.std.specs.Map.Iter.{TakesFirst}
-use Rattle.std.proofs.lemmas.Cmp.{tied_itself}
-use Rattle.bptree_keys.specs.Contents.{has, pairs_below, put, value}
+use Rattle.bptree_keys.specs.Contents.{has}
 use Rattle.bptree_keys.specs.Ranges.{between, falls_short, stays_below}
 use Rattle.bptree_maps.specs.Keys.{holds, keys_between}
 use Rattle.bptree_maps.specs.RetainedKeys.{keys_outside}
@@ -68,12 +66,3 @@ none_taken shows s (Some x) t none taken = cc
 pub true_if_not_false : (b : Bool) → false ≡ not b → b ≡ true
 true_if_not_false true is = refl
 true_if_not_false false is = is
-
-module _ {K V : Type 0} {cmp : K → K → Ordering} (total : IsTotalOrder cmp) (k : K) (v : V) where
-  behind_smaller : (l m : List (K × V)) → value cmp (pairs_below cmp l k ++ (k, v) ∷ m) k ≡ Some v
-  behind_smaller [] m = rw (tied_itself total k) refl
-  behind_smaller (p ∷ l) m = by_cases (cmp p.0 k) (λ is. rw (is, is) (behind_smaller l m)) (λ is. rw is (behind_smaller l m)) (λ is. rw is (behind_smaller l m))
-
-  -- the value of a new key is the one that was put
-  pub value_of_new : (l : List (K × V)) → has cmp l k ≡ false → value cmp (put cmp l k v) k ≡ Some v
-  value_of_new l absent = rw absent (behind_smaller l _)

@@ -168,7 +168,20 @@ pub fn shows_parts<K: Sample>(
     Ok(well)
 }
 
-// Each third value is another one.
+// Whether the value that is lent at a key is the given one. It is one greater then.
+fn is_lent<K: Sample>(map: &mut Map<K>, key: K, made: u64, value: u64) -> bool {
+    match map.get_or_insert_with(key, || made) {
+        Ok(lent) => {
+            let is_its = *lent == value;
+            *lent = lent.wrapping_add(1);
+            is_its
+        }
+        Err(_) => false,
+    }
+}
+
+// Each value is one greater. By turns a closure changes it, it is lent, or it leaves and is made
+// again.
 fn is_spoiled<K: Sample>(
     alloc: Global,
     map: &mut Map<K>,
@@ -176,13 +189,21 @@ fn is_spoiled<K: Sample>(
 ) -> Result<bool, AllocError> {
     let mut well = true;
     for place in 0..plain.len() {
-        if place % 3 == 0
-            && let Some(key) = key_of(alloc, plain, place)?
-        {
-            let added = map.upsert_with(key, 0, |value: &mut u64| *value = value.wrapping_add(1));
-            well = matches!(added, Ok(false)) && well;
-            well = map.get_at(place).is_some() && well;
-        }
+        let (number, value) = plain.pair_at(place).unwrap_or((0, 0));
+        let key = K::sample(alloc, number)?;
+        let more = value.wrapping_add(1);
+        let is_right = match place % 3 {
+            0 => {
+                let added = map.upsert_with(key, 0, |there: &mut u64| *there = more);
+                matches!(added, Ok(false))
+            }
+            1 => is_lent(map, key, more, value),
+            _ => {
+                let gone = map.remove(&key)?;
+                is_lent(map, key, value, value) && gone == Some(value)
+            }
+        };
+        well = is_right && numbers(map.get_at(place)) == Some((number, more)) && well;
     }
     Ok(well)
 }
@@ -216,8 +237,8 @@ fn is_compared<K: Sample>(one: &Map<K>, other: &Map<K>, is_less: bool) -> bool {
         && other.cmp(one) == order.reverse()
 }
 
-/// A map loses some of its values, and has them again from another one, or from pairs that come.
-/// What it was is given away.
+/// A map loses its values, and has them again from another one, or from pairs that come. What it
+/// was is given away.
 pub fn is_mended<K: Sample>(
     alloc: Global,
     map: &mut Map<K>,

@@ -176,6 +176,24 @@ impl<K: Sample, A: Argument<K> + Told> Moved<K, A> {
             }
         }
     }
+
+    // The value at the key of a number is lent. Where the key is not there, it is put first, with
+    // the number as its value.
+    fn lends(&mut self, alloc: Global, number: u64, is_new: bool) -> Result<bool, AllocError> {
+        let key = K::sample(alloc, number)?;
+        match self.here.get_or_insert_with(key, || number) {
+            Ok(value) => {
+                let is_its = (*value == number) == is_new;
+                *value = value.wrapping_add(1);
+                Ok(is_its)
+            }
+            Err(refusal) => {
+                let (key, value) = handed_back(refusal);
+                let is_its = value == number && is_sample(&key, number);
+                if is_its { Err(AllocError) } else { Ok(false) }
+            }
+        }
+    }
 }
 
 impl<K: Sample, A: Argument<K> + Told> Subject for Moved<K, A> {
@@ -194,7 +212,9 @@ impl<K: Sample, A: Argument<K> + Told> Subject for Moved<K, A> {
             Call::Own(2) => self.grows(alloc),
             Call::Own(3) => self.updates(alloc, self.many.saturating_add(3), true),
             Call::Own(4) => self.updates(alloc, self.many.saturating_add(3), false),
-            Call::Own(5) => self.keeps(),
+            Call::Own(5) => self.lends(alloc, self.many.saturating_add(4), true),
+            Call::Own(6) => self.lends(alloc, self.many.saturating_add(4), false),
+            Call::Own(7) => self.keeps(),
             Call::Own(_) => self.empties(alloc),
             _ => Ok(false),
         }

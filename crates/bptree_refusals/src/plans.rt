@@ -152,7 +152,7 @@ impl Plan {
             b'k' => own(turn, lists_of(self.many)),
             b'm' => own(turn, 8),
             b'o' if self.size > 4 => own(turn, 6),
-            b'o' if self.size > 1 => own(turn, 7),
+            b'o' if self.size > 1 => own(turn, 9),
             b'o' => own(turn, 24),
             b'u' => own(turn, 6),
             _ => None,
@@ -317,12 +317,12 @@ const LARGER: [Row; 20] = [
             "numbers, few moved between maps",
             "groups, few moved between maps",
         ),
-        (40, Some(0), 44, 44),
+        (40, Some(0), 45, 45),
     ),
     (
         (b'o', 3),
         ("numbers, moved between maps", "groups, moved between maps"),
-        (150, Some(0), 154, 154),
+        (150, Some(0), 155, 155),
     ),
     (
         (b'o', 4),
@@ -330,7 +330,7 @@ const LARGER: [Row; 20] = [
             "numbers, many moved between maps",
             "groups, many moved between maps",
         ),
-        (4161, Some(0), 4165, 4165),
+        (4161, Some(0), 4166, 4166),
     ),
     (
         (b'o', 5),

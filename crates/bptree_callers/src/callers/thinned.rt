@@ -1,5 +1,6 @@
 //! Callers that keep some pairs or keys, or take out those between two keys.
-ghost use Rattle.std.specs.Prelude.{◌≡◌, [], Some, None, OnOk};
+ghost use Rattle.std.specs.Prelude.{◌≡◌, ◌==◌, [], filter, map as each, not, Some, None, OnOk};
+ghost use Rattle.bptree_callers.specs.Numbers.{halved};
 ghost use Rattle.bptree_keys.specs.Contents.{has};
 ghost use Rattle.bptree_keys.specs.Ranges.{between};
 ghost use Rattle.bptree_maps.specs.Keys.{holds, keys_between};
@@ -69,4 +70,23 @@ fn keeps_no_key<K: Key, F: FnMut(&K) -> bool>(
     ensures { OnOk result (set.old ≡ [] → set.new ≡ []) }
 {
     set.retain(f)
+}
+
+// All values are halved, and the pairs whose values become 0 leave.
+fn halves<K: Key, A: Argument<K>>(
+    map: &mut BPlusTreeMap<K, u64, A>,
+) -> Result<(), RetainError<(K, u64), IntoIter<K, u64, A>>>
+    ensures { OnOk result (map.new ≡ filter (λ pair. not (pair.1 == 0)) (each halved map.old)) }
+{
+    map.retain(|_: &K, value: &mut u64| {
+        *value /= 2;
+        *value != 0
+    })
+}
+
+// All keys but 0 stay.
+fn loses_zero(set: &mut BPlusTreeSet<u64>) -> Result<(), RetainError<u64, set::IntoIter<u64>>>
+    ensures { OnOk result (set.new ≡ filter (λ key. not (key == 0)) set.old) }
+{
+    set.retain(|key: &u64| *key != 0)
 }

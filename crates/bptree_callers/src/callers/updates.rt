@@ -1,9 +1,11 @@
 //! Callers that change a value in place or put one, and those that read by bounds and places.
-ghost use Rattle.std.specs.Prelude.{◌≡◌, [], true, false, None, Ok, Some, OnOk, map as each, slice_get};
+ghost use Rattle.std.specs.Prelude.{◌≡◌, [], true, false, None, Ok, Some, IfErr, OnOk, map as each, slice_get};
 ghost use Rattle.std.specs.Map.{keys_of};
 ghost use Rattle.std.specs.Option.{option_map};
-ghost use Rattle.bptree_keys.specs.Contents.{has, value as value_of};
+ghost use Rattle.bptree_keys.specs.Contents.{has, put, value as value_of};
 ghost use Rattle.bptree_keys.specs.Ranges.{between};
+ghost use Rattle.bptree_callers.specs.Numbers.{one_more};
+ghost use Rattle.bptree_tree.specs.Refusal.{pair_of};
 
 use bptree_arguments::argument::Argument;
 use bptree_arguments::count::Count;
@@ -24,6 +26,31 @@ fn begins_at<K: Key, A: Argument<K>>(
     ensures goes_on { has K.cmp map.old k ≡ true → result ≡ Ok false }
 {
     map.upsert_with(k, 1, |count: &mut u64| *count = count.wrapping_add(1))
+}
+
+// The count at a key goes up by one, from 0 where the key is new. Where that is refused, nothing
+// has changed.
+fn counts_at<K: Key, A: Argument<K>>(
+    map: &mut BPlusTreeMap<K, u64, A>,
+    k: K,
+) -> Result<(), InsertError<K, u64>>
+    ensures counted { OnOk result (map.new ≡ put K.cmp map.old k (one_more (value_of K.cmp map.old k))) }
+    ensures refused { IfErr result (λ refusal. (pair_of refusal ≡ (k, 0)) × (map.new ≡ map.old)) }
+{
+    let count = map.get_or_insert_with(k, || 0)?;
+    *count = count.wrapping_add(1);
+    Ok(())
+}
+
+// A count that is there goes up. Nothing is refused, and no value is made.
+fn counts_on<K: Key, A: Argument<K>>(map: &mut BPlusTreeMap<K, u64, A>, k: K)
+    requires { has K.cmp map.old k ≡ true }
+    ensures { map.new ≡ put K.cmp map.old k (one_more (value_of K.cmp map.old k)) }
+{
+    match map.get_or_insert_with(k, || unreachable!()) {
+        Ok(count) => *count = count.wrapping_add(1),
+        Err(_) => unreachable!(),
+    }
 }
 
 // All values become 0, at the keys that there were.

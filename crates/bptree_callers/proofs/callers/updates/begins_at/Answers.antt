@@ -1,7 +1,7 @@
 use Rattle.std.proofs.Common.{◌∙◌, ap}
 use Rattle.std.proofs.lemmas.Result.{IfOk-weaker}
 use Rattle.bptree_keys.specs.Contents.{value}
-use Rattle.bptree_callers.proofs.ThinLemmas.{value_of_new}
+use Rattle.bptree_maps.proofs.AddingLemmas.{value_of_new}
 use Rattle.bptree_callers.proofs.callers.updates.begins_at.Goals as goal
 
 pub returns-clause-begins : goal.returns-clause-begins
