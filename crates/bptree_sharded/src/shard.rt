@@ -104,8 +104,8 @@ pub trait Shard: Drop {
             (pairs there ≡ between Self.K.cmp (pairs self.old) (Some k.now) None)) }
         ensures err { IfErr result (λ refusal. pairs self.old ≡ pairs self.new ++ gone (λ shard. pairs shard) refusal) };
 
-    /// All pairs of another shard come here, one after another. Where one could not, those before it
-    /// have come, and the others stay there; the pair in hand is handed back, if there is one.
+    /// All pairs of another shard come here, one after another. Where one could not, those before
+    /// it have come, and the others stay there; the pair in hand is handed back, if there is one.
     fn append(&mut self, other: &mut Self) -> Result<(), MoveError<Self::K, Self::V>>
         ensures ok { OnOk result (
             (pairs self.new ≡ put_all (put_pair Self.K.cmp) (pairs self.old) (pairs other.old)) × (pairs other.new ≡ [])) }
