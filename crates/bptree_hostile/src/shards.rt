@@ -1,5 +1,6 @@
 //! A map over shards beside a plain list, by calls in no order. At first two shards have few pairs,
-//! one has hundreds, one has thousands, and others have none. To one of these no key ever comes.
+//! one has hundreds, one has thousands, and others have none. To one of these no key comes. Then
+//! shards are cut in two and put together while the calls go on.
 
 use crate::dice::{Dice, Sample};
 use crate::drawing::numbers;
@@ -101,6 +102,15 @@ impl Cuts {
     fn place(&mut self) -> usize {
         let end = self.plain.len().saturating_add(3);
         self.below(end as u64) as usize
+    }
+
+    // How many pairs are asked for: none, all, or a few.
+    fn many(&mut self) -> usize {
+        match self.below(8) {
+            0 => 0,
+            1 => usize::MAX,
+            _ => self.below(100) as usize,
+        }
     }
 
     // The bound of a number, or the greatest number where there is none.
@@ -307,6 +317,73 @@ fn steps<K: Sample>(whole: &Whole<K>, cuts: &mut Cuts) -> Result<bool, AllocErro
     })
 }
 
+// Whether pairs that were found are so many of the list, from a place on.
+fn are_from<K: Sample>(found: &[(&K, &u64)], plain: &Plain, place: usize, many: usize) -> bool {
+    let mut place = place;
+    let mut well = found.len() == many;
+    for pair in found {
+        well = numbers(Some(*pair)) == plain.pair_at(place) && well;
+        place = place.saturating_add(1);
+    }
+    well
+}
+
+// The same back from where they end.
+fn are_back<K: Sample>(found: &[(&K, &u64)], plain: &Plain, end: usize, many: usize) -> bool {
+    let mut place = end;
+    let mut well = found.len() == many;
+    for pair in found {
+        place = place.wrapping_sub(1);
+        well = numbers(Some(*pair)) == plain.pair_at(place) && well;
+    }
+    well
+}
+
+// A look at some pairs at once: a page, those back from a key, or those between two keys, either of
+// which may be left out.
+fn parts<K: Sample>(whole: &Whole<K>, cuts: &mut Cuts) -> Result<bool, AllocError> {
+    let (low, high) = (cuts.key(), cuts.key());
+    let (place, n, kind) = (cuts.place(), cuts.many(), cuts.below(6));
+    let (lo, hi) = (K::sample(cuts.alloc, low)?, K::sample(cuts.alloc, high)?);
+    let plain = &cuts.plain;
+    if kind == 0 {
+        let found = whole.page(cuts.alloc, place, n)?;
+        let many = plain.len().saturating_sub(place).min(n);
+        return Ok(are_from(&found, plain, place, many));
+    }
+    if kind == 1 {
+        let found = whole.back(cuts.alloc, &lo, n)?;
+        let end = plain.beside(low, End::Front);
+        return Ok(are_back(&found, plain, end, end.min(n)));
+    }
+    let (from, lo) = match kind {
+        2 | 3 => (plain.rank(low), Some(&lo)),
+        _ => (0, None),
+    };
+    let (to, hi) = match kind {
+        2 | 4 => (plain.rank(high), Some(&hi)),
+        _ => (plain.len(), None),
+    };
+    let found = whole.range(cuts.alloc, lo, hi, n)?;
+    Ok(are_from(&found, plain, from, to.saturating_sub(from).min(n)))
+}
+
+// A shard is cut in two at a key, or it and the next one become one. There may be no such shards.
+fn moves<K: Sample>(whole: &mut Whole<K>, cuts: &mut Cuts) -> Result<bool, AllocError> {
+    let refused = if cuts.below(2) == 0 {
+        let number = cuts.key();
+        let key = K::sample(cuts.alloc, number)?;
+        whole.split(key).is_err()
+    } else {
+        let shard = cuts.below(12) as usize;
+        whole.merge(shard).is_err()
+    };
+    if refused {
+        return Err(AllocError);
+    }
+    Ok(whole.len() == cuts.plain.len())
+}
+
 // Whether the pairs are those of the list: by their places, and from both ends step by step.
 fn shows<K: Sample>(whole: &Whole<K>, plain: &Plain) -> bool {
     let mut well = whole.len() == plain.len();
@@ -349,10 +426,12 @@ fn turns<K: Sample>(whole: &mut Whole<K>, cuts: &mut Cuts, turn: u64) -> Result<
     let puts_of_ten = if turn % 10 < 6 { 7 } else { 3 };
     let mut well = true;
     for _ in 0..RUN {
-        let kind = cuts.below(10);
+        let kind = cuts.below(100);
         well = match kind {
-            0..=4 => changes(whole, cuts, puts_of_ten)? && well,
-            5..=8 => looks(whole, cuts)? && well,
+            0 => moves(whole, cuts)? && well,
+            1..=49 => changes(whole, cuts, puts_of_ten)? && well,
+            50..=79 => looks(whole, cuts)? && well,
+            80..=89 => parts(whole, cuts)? && well,
             _ => steps(whole, cuts)? && well,
         };
     }

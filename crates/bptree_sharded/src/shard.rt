@@ -102,8 +102,8 @@ pub trait Shard: Drop {
         ensures ok { IfOk result (λ there. SplitsOff Self.K.cmp k.now (pairs self.old) (pairs self.new) (pairs there)) }
         ensures err { IfErr result (λ r. pairs self.old ≡ pairs self.new ++ gone pairs r) };
 
-    /// All pairs of another shard come here, one after another. Where one could not, those before it
-    /// have come, and the others stay there; the pair in hand is handed back, if there is one.
+    /// All pairs of another shard come here, one after another. Where one could not, those before
+    /// it have come, and the others stay there; the pair in hand is handed back, if there is one.
     fn append(&mut self, other: &mut Self) -> Result<(), MoveError<Self::K, Self::V>>
         ensures ok { OnOk result (AllMove (put_pair Self.K.cmp) (pairs self.old) (pairs other.old) (pairs self.new) (pairs other.new)) }
         ensures err { IfErr result (MovesPairs Self.K.cmp (pairs self.old) (pairs other.old) (pairs self.new) (pairs other.new)) };

@@ -265,8 +265,9 @@ impl<S: Shard> Shards<S> {
 
     /// The shard of a key is cut in two at it, and the key is a bound from then on. The list stays.
     ///
-    /// Room for one more shard comes first: where that is refused, nothing has changed. Where a pair
-    /// could not move, the greatest pairs of the shard have left the list and are handed back.
+    /// Room for one more shard comes first: where that is refused, nothing has changed. Where a
+    /// pair could not move, the greatest pairs of the shard have left the list, and are handed
+    /// back.
     pub fn split(&mut self, k: S::K) -> Result<(), SplitError<S, MoveError<S::K, S::V>>>
         ensures ok { OnOk result (self.new ≡ self.old) }
         ensures err { IfErr result (GivesBack S.K.cmp (λ shard. S.pairs shard) self.old self.new) }
@@ -296,8 +297,9 @@ impl<S: Shard> Shards<S> {
         }
     }
 
-    /// A shard and the next one become one, by the number of the first of them, and the bound between
-    /// them goes. The list stays. Where there is no next one, nothing changes.
+    /// A shard and the next one become one, by the number of the first of them. The bound between
+    /// them goes, or the one behind it where that is the lesser. The list stays. Where there is no
+    /// next one, nothing changes.
     ///
     /// The pairs of the second one move, one after another. Where one could not, those that had not
     /// moved have left the list, and are handed back with the shard that they are in.
