@@ -7,8 +7,8 @@ use crate::plain::Plain;
 use std::alloc::{AllocError, Global};
 use std::cmp::Ordering;
 use std::ops::Bound;
-use sweep_bptree::tree::Cursor;
 use sweep_bptree::tree::count::Count;
+use sweep_bptree::tree::{Cursor, InsertError};
 use sweep_bptree::{BPlusTreeMap, BPlusTreeSet};
 
 type Map<K> = BPlusTreeMap<K, u64, Count>;
@@ -169,15 +169,21 @@ pub fn shows_parts<K: Sample>(
 }
 
 // Whether the value that is lent at a key is the given one. It is one greater then.
+fn lends<K: Sample>(
+    map: &mut Map<K>,
+    key: K,
+    made: u64,
+    value: u64,
+) -> Result<bool, InsertError<K, u64>> {
+    let lent = map.get_or_insert_with(key, || made)?;
+    let is_its = *lent == value;
+    *lent = lent.wrapping_add(1);
+    Ok(is_its)
+}
+
 fn is_lent<K: Sample>(map: &mut Map<K>, key: K, made: u64, value: u64) -> bool {
-    match map.get_or_insert_with(key, || made) {
-        Ok(lent) => {
-            let is_its = *lent == value;
-            *lent = lent.wrapping_add(1);
-            is_its
-        }
-        Err(_) => false,
-    }
+    let lent = lends(map, key, made, value);
+    matches!(lent, Ok(true))
 }
 
 // Each value is one greater. By turns a closure changes it, it is lent, or it leaves and is made

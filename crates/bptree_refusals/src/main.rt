@@ -76,6 +76,7 @@ fn on_keys<K: Sample>(trial: &mut Trial, letter: u8, plan: &Plan) {
 fn on_asked<K: Sample, G: Group<K>>(trial: &mut Trial, letter: u8, plan: &Plan) {
     match letter {
         b'x' => trial.carry_out::<Grouped<K, G>>(plan),
+        b'y' if plan.size > 0 => trial.carry_out::<Pointed<K>>(plan),
         _ => trial.carry_out::<Summed<K, G>>(plan),
     }
 }
@@ -105,7 +106,6 @@ fn on_numbers(trial: &mut Trial, letter: u8, plan: &Plan) {
 fn on_groups(trial: &mut Trial, letter: u8, plan: &Plan) {
     match letter {
         b'a'..=b'p' => on_trees::<Pair, GroupCount<Tuple2<String>>>(trial, letter, plan),
-        b'y' if plan.size > 0 => trial.carry_out::<Pointed<Pair>>(plan),
         b'x' | b'y' => on_asked::<Pair, Tuple2<String>>(trial, letter, plan),
         _ => on_keys::<Pair>(trial, letter, plan),
     }
