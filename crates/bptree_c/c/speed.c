@@ -46,7 +46,8 @@ static uint64_t measure(size_t n) {
     bptree_pair *given = malloc(n * sizeof *given), pair, out[64];
     if (!keys || !given) exit(2);
     for (size_t i = 0; i < n; i++) keys[i] = roll();
-    for (int turn = 0; turn < TURNS; turn++) {
+    // A turn of few pairs is over before the processor is at its speed, so they get more of them.
+    for (int turn = 0; turn < (n < 100000 ? 20 * TURNS : TURNS); turn++) {
         bptree map = {0};
         size_t rank = 0;
         if (!bptree_new(&map)) exit(2);
