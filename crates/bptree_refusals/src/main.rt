@@ -19,6 +19,7 @@ mod quiet;
 mod sample;
 mod serving;
 mod shapes;
+mod sharded;
 mod summed;
 mod trees;
 mod trial;
@@ -34,6 +35,7 @@ use crate::plans::{Plan, plan_of};
 use crate::pointed::Pointed;
 use crate::quiet::{Readings, SetReadings};
 use crate::sample::{Group, Sample};
+use crate::sharded::Sharded;
 use crate::summed::{Counted, Summed};
 use crate::trial::Trial;
 use std::io::Read;
@@ -68,6 +70,7 @@ fn on_keys<K: Sample>(trial: &mut Trial, letter: u8, plan: &Plan) {
         b's' => trial.carry_out::<BPlusTree<NodeStoreVec<K, u64>>>(plan),
         b'u' if plan.size > 0 => trial.carry_out::<MovedKeys<K>>(plan),
         b't' | b'u' => trial.carry_out::<BPlusTreeSet<K>>(plan),
+        b'w' => trial.carry_out::<Sharded<K>>(plan),
         _ => trial.carry_out::<SetReadings<K>>(plan),
     }
 }
@@ -95,7 +98,7 @@ fn on_numbers(trial: &mut Trial, letter: u8, plan: &Plan) {
     match letter {
         b'g' | b'n' | b't' if plan.size > 0 => on_counted(trial, letter, plan),
         b'a'..=b'p' => on_trees::<u64, Count>(trial, letter, plan),
-        b'w' => trial.carry_out::<Made<InnerGiven>>(plan),
+        b'w' if plan.size == 0 => trial.carry_out::<Made<InnerGiven>>(plan),
         b'y' if plan.size > 0 => trial.carry_out::<Pointed<u64>>(plan),
         b'y' => trial.carry_out::<Counted<u64>>(plan),
         _ => on_keys::<u64>(trial, letter, plan),

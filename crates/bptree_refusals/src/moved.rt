@@ -25,8 +25,8 @@ fn first_to_leave(many: u64) -> u64 {
     many.saturating_sub((many / 2).min(20))
 }
 
-// The pair that a refused insertion hands back.
-fn handed_back<K: Drop, V: Drop>(refusal: InsertError<K, V>) -> (K, V) {
+/// The pair that a refused insertion hands back.
+pub fn handed_back<K: Drop, V: Drop>(refusal: InsertError<K, V>) -> (K, V) {
     match refusal {
         InsertError::OutOfMemory(key, value) => (key, value),
         InsertError::Full(key, value) => (key, value),
@@ -335,6 +335,25 @@ impl<K: Sample> MovedKeys<K> {
         }
     }
 
+    // The first keys leave at once. Where that is refused, those that have gone come back.
+    fn removes(&mut self, alloc: Global) -> Result<bool, AllocError> {
+        let (lo, hi) = (K::sample(alloc, 0)?, K::sample(alloc, 20)?);
+        let len = self.here.len();
+        let answer = self.here.remove_range(Some(&lo), Some(&hi));
+        let gone = len.saturating_sub(self.here.len());
+        if answer.is_ok() {
+            return Ok(answer == Ok(20) && gone == 20);
+        }
+        for number in 0..gone as u64 {
+            key_comes_back(&mut self.here, Some(K::sample(alloc, number)?))?;
+        }
+        if gone < 20 {
+            Err(AllocError)
+        } else {
+            Ok(false)
+        }
+    }
+
     // The key of a number leaves, and comes back.
     fn takes(&mut self, alloc: Global, number: u64) -> Result<bool, AllocError> {
         let key = K::sample(alloc, number)?;
@@ -389,7 +408,8 @@ impl<K: Sample> Subject for MovedKeys<K> {
             Call::Own(2) => self.grows(alloc),
             Call::Own(3) => self.takes(alloc, 7),
             Call::Own(4) => self.replaces(alloc, 5),
-            Call::Own(_) => self.keeps(),
+            Call::Own(5) => self.keeps(),
+            Call::Own(_) => self.removes(alloc),
             _ => Ok(false),
         }
     }

@@ -154,8 +154,9 @@ impl Plan {
             b'o' if self.size > 4 => own(turn, 6),
             b'o' if self.size > 1 => own(turn, 9),
             b'o' => own(turn, 24),
-            b'u' => own(turn, 6),
-            b'y' => own(turn, 12),
+            b'u' => own(turn, 7),
+            b'w' => own(turn, 8),
+            b'y' => own(turn, 14),
             _ => None,
         }
     }
@@ -265,7 +266,7 @@ type Row = (
     (u64, Option<u64>, usize, usize),
 );
 
-const LARGER: [Row; 23] = [
+const LARGER: [Row; 26] = [
     (
         (b'b', 1),
         ("numbers, full root, high", "groups, full root, high"),
@@ -360,12 +361,12 @@ const LARGER: [Row; 23] = [
             "numbers, few moved between sets",
             "pairs, few moved between sets",
         ),
-        (40, Some(0), 43, 43),
+        (40, Some(0), 23, 23),
     ),
     (
         (b'u', 2),
         ("numbers, moved between sets", "pairs, moved between sets"),
-        (150, Some(0), 153, 153),
+        (150, Some(0), 133, 133),
     ),
     (
         (b'u', 3),
@@ -373,7 +374,22 @@ const LARGER: [Row; 23] = [
             "numbers, many moved between sets",
             "pairs, many moved between sets",
         ),
-        (4161, Some(0), 4164, 4164),
+        (4161, Some(0), 4144, 4144),
+    ),
+    (
+        (b'w', 1),
+        ("numbers, few over shards", "pairs, few over shards"),
+        (256, Some(0), 257, 257),
+    ),
+    (
+        (b'w', 2),
+        ("numbers, over shards", "pairs, over shards"),
+        (384, Some(0), 385, 385),
+    ),
+    (
+        (b'w', 3),
+        ("numbers, many over shards", "pairs, many over shards"),
+        (8576, Some(0), 8577, 8577),
     ),
     (
         (b'y', 1),
@@ -381,12 +397,12 @@ const LARGER: [Row; 23] = [
             "numbers, few pointed at, without memory",
             "pairs, few pointed at",
         ),
-        (40, Some(0), 34, 34),
+        (40, Some(0), 32, 32),
     ),
     (
         (b'y', 2),
         ("numbers, pointed at, without memory", "pairs, pointed at"),
-        (400, Some(0), 346, 346),
+        (400, Some(0), 344, 344),
     ),
     (
         (b'y', 3),
@@ -394,7 +410,7 @@ const LARGER: [Row; 23] = [
             "numbers, many pointed at, without memory",
             "pairs, many pointed at",
         ),
-        (4161, Some(0), 4107, 4107),
+        (4161, Some(0), 4105, 4105),
     ),
     (
         (b'g', 1),

@@ -1,4 +1,5 @@
-//! Maps with counts that are asked for cursors on places, and lose their first pairs by a place.
+//! Maps with counts that are asked for cursors on places, and lose their first pairs by a place, one
+//! by its key, and the last one.
 
 use crate::digest::digest_of;
 use crate::plans::Call;
@@ -29,6 +30,14 @@ fn points_at<K: Sample>(
     Ok(*value == number && is_sample(cursor.key(), number))
 }
 
+// Whether a pair that has left is that of a number.
+fn is_of<K: Sample>(gone: Option<(K, u64)>, number: u64) -> bool {
+    match gone {
+        Some((key, value)) => value == number && is_sample(&key, number),
+        None => false,
+    }
+}
+
 impl<K: Sample> Subject for Pointed<K> {
     fn made(alloc: Global, many: u64) -> Result<Pointed<K>, AllocError> {
         let mut map = BPlusTreeMap::from_iter(alloc, pairs_of(alloc, many, true)?)?;
@@ -43,18 +52,23 @@ impl<K: Sample> Subject for Pointed<K> {
         Ok(Pointed { map, gone })
     }
 
-    fn answers(&mut self, _alloc: Global, call: Call) -> Result<bool, AllocError> {
+    fn answers(&mut self, alloc: Global, call: Call) -> Result<bool, AllocError> {
         let Call::Own(turn) = call else {
             return Ok(false);
         };
-        let first = self.gone.wrapping_add(turn / 2);
-        if turn % 2 == 0 {
-            return points_at(&self.map, first.wrapping_add(5));
+        let first = self.gone.wrapping_add((turn / 2).min(6));
+        match turn {
+            12 => {
+                let key = K::sample(alloc, first)?;
+                Ok(is_of(self.map.remove_entry(&key)?, first))
+            }
+            13 => {
+                let last = first.wrapping_add(self.map.len() as u64);
+                Ok(is_of(self.map.pop_last()?, last))
+            }
+            _ if turn % 2 == 0 => points_at(&self.map, first.wrapping_add(5)),
+            _ => Ok(is_of(self.map.remove_at(0)?, first)),
         }
-        Ok(match self.map.remove_at(0)? {
-            Some((key, value)) => value == first && is_sample(&key, first),
-            None => false,
-        })
     }
 
     fn told(&self) -> (u64, usize) {

@@ -1,5 +1,6 @@
 //! The whole over several shards, which answers as one map.
 ghost use Rattle.std.specs.Prelude.{◌≡◌, ◌+◌, ◌^◌, ◌<◌, ◌≤◌, List, length, vec_len, vec_capacity, map, take, insert, slice_get, if◌then◌else◌, IfOk, IfErr, OnOk, OnErr};
+ghost use Rattle.std.specs.List.{sum};
 ghost use Rattle.std.specs.Option.{option_copied, option_map};
 ghost use Rattle.bptree_keys.specs.Contents.{IsAscending, value, put, del, next, previous, pairs_below};
 ghost use Rattle.bptree_keys.specs.Pieces.{flatten};
@@ -90,6 +91,18 @@ impl<S: Shard> Shards<S> {
         ensures ascending { IsAscending S.K.cmp self.now }
     {
         len_of_whole(&self.lengths)
+    }
+
+    /// How many pairs each shard has, in their order. No shard is asked.
+    pub fn lengths(&self) -> &[usize]
+        ensures { sum result.now ≡ length self.now }
+    {
+        &self.lengths
+    }
+
+    /// The keys at which the shards are cut: one fewer than there are shards.
+    pub fn bounds(&self) -> &[S::K] {
+        &self.bounds
     }
 
     /// The value at a key. The shard of the key is asked.

@@ -120,3 +120,33 @@ fn answers_as_a_plain_list_does(rt: HostRuntime) -> Result<(), Fail> {
     assert!(rt; alike(rt.alloc())?);
     Ok(())
 }
+
+// Whether the bounds and the lengths are these.
+fn is_cut(
+    whole: &Shards<BPlusTreeMap<u64, u64, Count>>,
+    bounds: &[u64],
+    lengths: &[usize],
+) -> bool {
+    whole.bounds() == bounds && whole.lengths() == lengths
+}
+
+// A shard is cut in two, and then the first two become one.
+fn moves(alloc: Global) -> Result<bool, AllocError> {
+    let mut whole = shards(alloc)?;
+    for key in 0..64 {
+        if whole.put(key, key).is_err() {
+            return Ok(false);
+        }
+    }
+    let first = is_cut(&whole, &[16, 40, 40], &[16, 24, 0, 24]);
+    let split = whole.split(24).is_ok() && is_cut(&whole, &[16, 24, 40, 40], &[16, 8, 16, 0, 24]);
+    let merged = whole.merge(0).is_ok() && is_cut(&whole, &[24, 40, 40], &[24, 16, 0, 24]);
+    let kept = whole.merge(3).is_ok() && is_cut(&whole, &[24, 40, 40], &[24, 16, 0, 24]);
+    Ok(first && split && merged && kept)
+}
+
+#[test]
+fn bounds_come_and_go(rt: HostRuntime) -> Result<(), Fail> {
+    assert!(rt; moves(rt.alloc())?);
+    Ok(())
+}
