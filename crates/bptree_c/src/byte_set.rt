@@ -6,7 +6,7 @@ ghost use Rattle.bptree_arguments.specs.CountLaws.{count_below};
 ghost use Rattle.bptree_c.specs.ByteKeys.{by_bytes, key_after, key_before, IsHeldWith, IsHeldWithout, IsTold};
 ghost use Rattle.bptree_maps.specs.Keys.{holds};
 ghost use Rattle.bptree_maps.specs.KeyChanges.{PutsKey, RemovesKey};
-ghost use Rattle.bptree_tree.specs.Entries.{last_of};
+ghost use Rattle.bptree_keys.specs.Contents.{last_member};
 
 use crate::byte_handle::{ByteHandle, ByteSet};
 use crate::bytes::Bytes;
@@ -277,7 +277,7 @@ pub extern "C" fn bptree_bytes_last(
     ghost keys: { List (List ℕ) }
     requires open { set.old.held ≡ Some keys }
     ensures kept { set.new.held ≡ Some keys }
-    ensures told { IsTold (last_of keys) result (out.old, len.old) (out.new, len.new) }
+    ensures told { IsTold (last_member keys) result (out.old, len.old) (out.new, len.new) }
 {
     let whole = set.take(alloc);
     let answer = told(last_in(&whole), out, len);

@@ -61,7 +61,7 @@ pub extern "C" fn bptree_clear(alloc: Global, map: &mut Handle) -> bool
 pub extern "C" fn bptree_load(alloc: Global, map: &mut Handle, given: &[Pair]) -> bool
     ghost pairs: { List (ℕ × ℕ) }
     requires open { map.old.held ≡ Some pairs }
-    ensures loaded { IsTrue result → map.new.held ≡ Some (gather nat_cmp (each as_tuple given.now)) }
+    ensures all { IsTrue result → map.new.held ≡ Some (gather nat_cmp (each as_tuple given.now)) }
     ensures refused { result ≡ false → map.new.held ≡ Some pairs }
 {
     let mut whole = map.take(alloc);

@@ -2,6 +2,7 @@
 use Rattle.std.proofs.Common.{◌≡◌, Option, Bool, true, false, not, ◌&&◌, cond, filter, Some, None, List, [], ◌∷◌, refl}
 use Rattle.std.specs.declared.cmp.Ordering.{Ordering}
 use Rattle.std.specs.Map.Iter.{TakesFirst}
+use Rattle.std.specs.Option.{is_some}
 use Rattle.bptree_keys.specs.Contents.{has}
 use Rattle.bptree_keys.specs.Ranges.{between, falls_short, stays_below}
 use Rattle.bptree_maps.specs.Keys.{holds, keys_between}
@@ -10,7 +11,7 @@ use Rattle.bptree_tree.specs.RangeRemoval.{outside}
 use Rattle.bptree_ranges.specs.Bounds.{between_bounds}
 use Rattle.bptree_maps.specs.KeyBounds.{keys_between_bounds}
 use Rattle.bptree_shape.proofs.Ordered.{by_cases}
-use Rattle.std.specs.declared.ops.Bound.TheVariants.{Excluded}
+use Rattle.std.specs.declared.ops.Bound.TheVariants.{Excluded, Included}
 
 module _ {X : Type 0} (test : X → Bool) where
   one_of_both : (b : Bool) (x : X) (l : List X) → test x ≡ b → filter test (filter (λ x. not (test x)) l) ≡ [] → filter test (cond (not b) (x ∷ filter (λ x. not (test x)) l) (filter (λ x. not (test x)) l)) ≡ []
@@ -40,6 +41,21 @@ module _ {K V : Type 0} (cmp : K → K → Ordering) where
   pub none_beside : (l : List (K × V)) (k : K) → between_bounds cmp l (Excluded k) (Excluded k) ≡ []
   none_beside [] k = refl
   none_beside (p ∷ l) k = by_cases (cmp p.0 k) (λ is. rw is (none_beside l k)) (λ is. rw is (none_beside l k)) (λ is. rw is (none_beside l k))
+
+module _ {K V A : Type 0} (cmp : K → K → Ordering) (shows : A → K × V) (k : K) where
+  some_taken : (p : K × V) (s : List (K × V)) (r : Option A) (t : List (K × V)) → TakesFirst shows (p ∷ s) r t → is_some r ≡ true
+  some_taken p s None t taken = cc
+  some_taken p s (Some x) t taken = refl
+
+  -- what is taken first from a key up to itself is there where the key is
+  pub itself_taken : (l : List (K × V)) (r : Option A) (t : List (K × V)) → TakesFirst shows (between_bounds cmp l (Included k) (Included k)) r t → is_some r ≡ has cmp l k
+  itself_taken [] None t taken = refl
+  itself_taken [] (Some x) t taken = cc
+  itself_taken (p ∷ l) r t taken =
+      by_cases (cmp p.0 k)
+      (λ is. rw is (itself_taken l r t (rw is at taken)))
+      (λ is. rw is (some_taken p _ r t (rw is at taken)))
+      (λ is. rw is (itself_taken l r t (rw is at taken)))
 
 module _ {K : Type 0} (cmp : K → K → Ordering) where
   pub no_key_between : (l : List K) (lo hi : K) → keys_between cmp (keys_outside cmp l (Some lo) (Some hi)) (Some lo) (Some hi) ≡ []

@@ -11,14 +11,16 @@ use std::time::Instant;
 use sweep_bptree::tree::count::Count;
 use sweep_bptree::tree::group::{GroupCount, Tuple2};
 use sweep_bptree::tree::{
-    Argument, BPlusTree, CloneArgument, Iter, NodeStore, NodeStoreVec, RankArgument,
+    BPlusTree, CloneArgument, CloneStore, Iter, NodeStore, NodeStoreVec, RankArgument,
     SearchArgument, in_load_order,
 };
 
 type Pair = (u64, u64);
 
-// A tree of numbers, with summaries.
-pub(crate) type Tree<A> = BPlusTree<NodeStoreVec<u64, u64, A>>;
+// Stores of numbers, without summaries and with counts.
+type Plain = NodeStoreVec<u64, u64>;
+
+type Counted = NodeStoreVec<u64, u64, Count>;
 
 // Numbers in no order: each is made of the one before by shifts.
 fn next_number(state: u64) -> u64 {
@@ -117,15 +119,21 @@ fn get_all<S: NodeStore<K = u64, V = u64>>(
 }
 
 #[inline(always)]
-fn add_keys<A: Argument<u64>>(before: u64, pairs: Iter<'_, NodeStoreVec<u64, u64, A>>) -> u64 {
+fn add_keys<S: NodeStore<K = u64, V = u64>>(before: u64, pairs: Iter<'_, S>) -> u64 {
     let mut sum = before;
-    for (key, _) in pairs {
+    let mut left = pairs;
+    'keys: while let Some((key, _)) = left.next() {
         sum = sum.wrapping_add(*key);
     }
     sum
 }
 
-fn step_through<A: Argument<u64>>(rt: &HostRuntime, kind: &str, call: &str, tree: &Tree<A>) {
+fn step_through<S: NodeStore<K = u64, V = u64>>(
+    rt: &HostRuntime,
+    kind: &str,
+    call: &str,
+    tree: &BPlusTree<S>,
+) {
     let start = now(rt);
     let sum = add_keys(0, tree.iter());
     tell(rt, kind, call, start, tree.len(), sum);
@@ -213,13 +221,16 @@ fn load_all<S: NodeStore<K = u64, V = u64>>(
 }
 
 // One tree of ascending keys, filled by insertions, and another that is loaded at once and walked.
-fn loaded<A: CloneArgument<u64>>(
+fn loaded<S: CloneStore<K = u64, V = u64>>(
     rt: &HostRuntime,
     kind: &str,
     sorted: &[u64],
-) -> Result<(), AllocError> {
-    let _upward: Tree<A> = inserted(rt, kind, "upward", sorted)?;
-    let tree: Tree<A> = load_all(rt, kind, sorted)?;
+) -> Result<(), AllocError>
+where
+    S::Argument: CloneArgument<u64>,
+{
+    let _upward: BPlusTree<S> = inserted(rt, kind, "upward", sorted)?;
+    let tree: BPlusTree<S> = load_all(rt, kind, sorted)?;
     walk_through(rt, kind, &tree)?;
     step_through(rt, kind, "full", &tree);
     whole::clone_all(rt, kind, &tree)?;
@@ -268,7 +279,12 @@ where
 }
 
 // The first pair that is not below each key, whose lowest bit is left out.
-fn lower_all<A: Argument<u64>>(rt: &HostRuntime, kind: &str, tree: &Tree<A>, keys: &[u64]) {
+fn lower_all<S: NodeStore<K = u64, V = u64>>(
+    rt: &HostRuntime,
+    kind: &str,
+    tree: &BPlusTree<S>,
+    keys: &[u64],
+) {
     let start = now(rt);
     let mut sum = 0u64;
     for key in keys {
@@ -281,7 +297,12 @@ fn lower_all<A: Argument<u64>>(rt: &HostRuntime, kind: &str, tree: &Tree<A>, key
 }
 
 // Ten pairs from each place on, by the keys there and ten pairs further.
-fn range_all<A: Argument<u64>>(rt: &HostRuntime, tree: &Tree<A>, sorted: &[u64], places: &[u64]) {
+fn range_all<S: NodeStore<K = u64, V = u64>>(
+    rt: &HostRuntime,
+    tree: &BPlusTree<S>,
+    sorted: &[u64],
+    places: &[u64],
+) {
     let start = now(rt);
     let mut sum = 0u64;
     for place in places {
@@ -296,11 +317,14 @@ fn range_all<A: Argument<u64>>(rt: &HostRuntime, tree: &Tree<A>, sorted: &[u64],
 }
 
 // Twenty pairs from each place on.
-fn page_all<A: SearchArgument<u64, Query = usize>>(
+fn page_all<S: NodeStore<K = u64, V = u64>>(
     rt: &HostRuntime,
-    tree: &Tree<A>,
+    tree: &BPlusTree<S>,
     places: &[u64],
-) -> Result<(), AllocError> {
+) -> Result<(), AllocError>
+where
+    S::Argument: SearchArgument<u64, Query = usize>,
+{
     let start = now(rt);
     let mut sum = 0u64;
     for place in places {
@@ -322,12 +346,15 @@ impl Tells for Count {
 }
 
 // A summary of half of the keys, from each place of the first half on.
-fn sum_all<A: Argument<u64> + Tells>(
+fn sum_all<S: NodeStore<K = u64, V = u64>>(
     rt: &HostRuntime,
-    tree: &Tree<A>,
+    tree: &BPlusTree<S>,
     sorted: &[u64],
     places: &[u64],
-) -> Result<(), AllocError> {
+) -> Result<(), AllocError>
+where
+    S::Argument: Tells,
+{
     let start = now(rt);
     let half = sorted.len() / 2;
     let mut sum = 0u64;
@@ -351,11 +378,11 @@ struct Numbers<'a> {
 }
 
 // A tree that is filled and read.
-fn filled<A: Argument<u64>>(
+fn filled<S: NodeStore<K = u64, V = u64>>(
     rt: &HostRuntime,
     kind: &str,
     numbers: &Numbers<'_>,
-) -> Result<Tree<A>, AllocError> {
+) -> Result<BPlusTree<S>, AllocError> {
     let tree = inserted(rt, kind, "insert", numbers.keys)?;
     get_all(rt, kind, "get", &tree, numbers.others, u64::MAX);
     get_all(rt, kind, "absent", &tree, numbers.others, u64::MAX - 1);
@@ -365,17 +392,23 @@ fn filled<A: Argument<u64>>(
     Ok(tree)
 }
 
-fn plain<A: Argument<u64>>(rt: &HostRuntime, numbers: &Numbers<'_>) -> Result<(), AllocError> {
-    let mut tree: Tree<A> = filled(rt, "plain", numbers)?;
+fn plain<S: NodeStore<K = u64, V = u64>>(
+    rt: &HostRuntime,
+    numbers: &Numbers<'_>,
+) -> Result<(), AllocError> {
+    let mut tree: BPlusTree<S> = filled(rt, "plain", numbers)?;
     remove_all(rt, "plain", &mut tree, numbers.others)
 }
 
 // Places and ranks, and parts of a tree, each of ten or of twenty pairs.
-fn placed<A: SearchArgument<u64, Query = usize> + RankArgument<u64, Rank = usize> + Tells>(
+fn placed<S: NodeStore<K = u64, V = u64>>(
     rt: &HostRuntime,
-    tree: &Tree<A>,
+    tree: &BPlusTree<S>,
     numbers: &Numbers<'_>,
-) -> Result<(), AllocError> {
+) -> Result<(), AllocError>
+where
+    S::Argument: SearchArgument<u64, Query = usize> + RankArgument<u64, Rank = usize> + Tells,
+{
     place_all(rt, tree, numbers.others)?;
     rank_all(rt, tree, numbers.others)?;
     range_all(rt, tree, numbers.sorted, numbers.places);
@@ -383,11 +416,14 @@ fn placed<A: SearchArgument<u64, Query = usize> + RankArgument<u64, Rank = usize
     sum_all(rt, tree, numbers.sorted, numbers.places)
 }
 
-fn counted<A: SearchArgument<u64, Query = usize> + RankArgument<u64, Rank = usize> + Tells>(
+fn counted<S: NodeStore<K = u64, V = u64>>(
     rt: &HostRuntime,
     numbers: &Numbers<'_>,
-) -> Result<(), AllocError> {
-    let mut tree: Tree<A> = filled(rt, "count", numbers)?;
+) -> Result<(), AllocError>
+where
+    S::Argument: SearchArgument<u64, Query = usize> + RankArgument<u64, Rank = usize> + Tells,
+{
+    let mut tree: BPlusTree<S> = filled(rt, "count", numbers)?;
     placed(rt, &tree, numbers)?;
     remove_all(rt, "count", &mut tree, numbers.others)
 }
@@ -516,14 +552,14 @@ fn numbers_below(alloc: Global, many: usize) -> Result<Vec<u64>, AllocError> {
 // All calls on each of the trees.
 fn round(rt: &HostRuntime, numbers: &Numbers<'_>, again: &[u64]) -> Result<(), AllocError> {
     grouped::<NodeStoreVec<Pair, u64, GroupCount<Tuple2<u64>>>>(rt, numbers.places, again)?;
-    plain::<()>(rt, numbers)?;
-    counted::<Count>(rt, numbers)?;
+    plain::<Plain>(rt, numbers)?;
+    counted::<Counted>(rt, numbers)?;
     kit::take(rt, numbers.keys, numbers.others, numbers.sorted)?;
     strings::take(rt, numbers.keys, numbers.others)?;
     maps::take(rt, numbers.keys, numbers.others, numbers.sorted)?;
     whole::union_all(rt, numbers.sorted)?;
-    loaded::<()>(rt, "plain", numbers.sorted)?;
-    loaded::<Count>(rt, "count", numbers.sorted)
+    loaded::<Plain>(rt, "plain", numbers.sorted)?;
+    loaded::<Counted>(rt, "count", numbers.sorted)
 }
 
 fn rounds(rt: &HostRuntime, pairs: usize, rounds: usize) -> Result<(), AllocError> {
@@ -546,8 +582,12 @@ fn rounds(rt: &HostRuntime, pairs: usize, rounds: usize) -> Result<(), AllocErro
 }
 
 // A tree of so many pairs in no order, with summaries, and nothing else.
-fn fill<A: Argument<u64>>(rt: &HostRuntime, kind: &str, many: usize) -> Result<(), AllocError> {
-    let mut tree: Tree<A> = BPlusTree::new(NodeStoreVec::new(rt.alloc()))?;
+fn fill<S: NodeStore<K = u64, V = u64>>(
+    rt: &HostRuntime,
+    kind: &str,
+    many: usize,
+) -> Result<(), AllocError> {
+    let mut tree: BPlusTree<S> = BPlusTree::new(S::empty(rt.alloc()))?;
     let mut state = 0x9e37_79b9_7f4a_7c15;
     for _ in 0..many {
         state = next_number(state);
@@ -563,7 +603,7 @@ fn fill<A: Argument<u64>>(rt: &HostRuntime, kind: &str, many: usize) -> Result<(
 pub fn run(rt: &HostRuntime, line: &str) -> bool {
     let Some((pairs, times)) = line.split_once(' ') else {
         return match line.parse::<usize>() {
-            Ok(pairs) => fill::<()>(rt, "plain", pairs).is_ok(),
+            Ok(pairs) => fill::<Plain>(rt, "plain", pairs).is_ok(),
             Err(_) => false,
         };
     };

@@ -68,7 +68,7 @@ fn answer_at<P: Places>(
 pub fn carry_out<C: Calls>(alloc: Global, calls: &mut C, talk: &Talk) -> Result<bool, AllocError> {
     let mut well = talk.asked.len() == talk.wanted.len();
     for (asked, wanted) in talk.asked.iter().zip(&talk.wanted) {
-        well = is_same(&answer(alloc, calls, asked)?, wanted) && well;
+        well &= is_same(&answer(alloc, calls, asked)?, wanted);
     }
     Ok(well)
 }

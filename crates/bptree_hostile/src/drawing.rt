@@ -240,7 +240,7 @@ pub fn own_numbers<K: Sample>(pair: &Option<(K, u64)>) -> Option<(u64, u64)> {
 fn are_pairs<K: Sample>(pairs: &[Option<(K, u64)>], wanted: &[Option<(u64, u64)>]) -> bool {
     let mut well = pairs.len() == wanted.len();
     for (place, pair) in pairs.iter().enumerate() {
-        well = wanted.get(place).copied() == Some(own_numbers(pair)) && well;
+        well &= wanted.get(place).copied() == Some(own_numbers(pair));
     }
     well
 }

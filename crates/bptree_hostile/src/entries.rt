@@ -49,7 +49,7 @@ where
     let mut well = numbers(tree.first_key_value()) == plain.pair_at(0)
         && numbers(tree.last_key_value()) == plain.pair_at(last);
     for place in [0, 1, plain.len() / 3, plain.len() / 2, last] {
-        well = is_found(alloc, tree, plain, place)? && well;
+        well &= is_found(alloc, tree, plain, place)?;
     }
     Ok(well)
 }
@@ -67,6 +67,51 @@ fn put_again<S: NodeStore<V = u64>>(
     }
 }
 
+// Whether two pairs that have left are the ends of a list; of one pair there is no other.
+fn are_ends<K: Sample>(first: &Option<(K, u64)>, last: &Option<(K, u64)>, plain: &Plain) -> bool {
+    let end = if plain.len() > 1 {
+        plain.pair_at(plain.len().saturating_sub(1))
+    } else {
+        None
+    };
+    own_numbers(first) == plain.pair_at(0) && own_numbers(last) == end
+}
+
+// The pair of a place leaves by its key, where it is still there, and is put again.
+fn one_leaves_and_returns<S: NodeStore<V = u64>>(
+    alloc: Global,
+    tree: &mut BPlusTree<S>,
+    plain: &Plain,
+    place: usize,
+) -> Result<bool, AllocError>
+where
+    S::K: Sample,
+{
+    let Some(key) = plain.key_at(place) else {
+        return Ok(true);
+    };
+    let gone = tree.remove_entry(&S::K::sample(alloc, key)?)?;
+    let there = if 0 < place && place < plain.len().saturating_sub(1) {
+        plain.pair_at(place)
+    } else {
+        None
+    };
+    let well = own_numbers(&gone) == there;
+    Ok(put_again(tree, gone)? && well)
+}
+
+// No pair is between a key and itself, nor before the first one.
+fn loses_none<S: NodeStore<V = u64>>(
+    tree: &mut BPlusTree<S>,
+    first: &Option<(S::K, u64)>,
+) -> Result<bool, AllocError> {
+    let Some((key, _)) = first else {
+        return Ok(true);
+    };
+    let between = tree.remove_range(Some(key), Some(key))?;
+    Ok(tree.remove_range(None, Some(key))? == 0 && between == 0)
+}
+
 /// The first pair leaves, then the last, then one between, and then none by an empty range. They
 /// are put again.
 pub fn leave_and_return<S: NodeStore<V = u64>>(
@@ -77,26 +122,10 @@ pub fn leave_and_return<S: NodeStore<V = u64>>(
 where
     S::K: Sample,
 {
-    let len = plain.len();
     let first = tree.pop_first()?;
     let last = tree.pop_last()?;
-    let mut well = own_numbers(&first) == plain.pair_at(0);
-    let end = plain.pair_at(len.saturating_sub(1));
-    well = own_numbers(&last) == (if len > 1 { end } else { None }) && well;
-    let place = len / 2;
-    if let Some(key) = plain.key_at(place) {
-        let between = tree.remove_entry(&S::K::sample(alloc, key)?)?;
-        let there = if 0 < place && place < len.saturating_sub(1) {
-            plain.pair_at(place)
-        } else {
-            None
-        };
-        well = own_numbers(&between) == there && well;
-        well = put_again(tree, between)? && well;
-    }
-    if let Some((key, _)) = &first {
-        well = tree.remove_range(Some(key), Some(key))? == 0 && well;
-        well = tree.remove_range(None, Some(key))? == 0 && well;
-    }
+    let mut well = are_ends(&first, &last, plain);
+    well &= one_leaves_and_returns(alloc, tree, plain, plain.len() / 2)?;
+    well &= loses_none(tree, &first)?;
     Ok(put_again(tree, last)? && put_again(tree, first)? && well)
 }

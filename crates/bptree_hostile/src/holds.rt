@@ -125,17 +125,62 @@ where
     for turn in 0..plain.len() {
         if turn % 3 == 2 {
             back = back.saturating_sub(1);
-            well = plain.pair_at(back) == numbers(pairs.next_back()) && well;
+            well &= plain.pair_at(back) == numbers(pairs.next_back());
         } else {
-            well = plain.pair_at(front) == numbers(pairs.next()) && well;
+            well &= plain.pair_at(front) == numbers(pairs.next());
             front = front.saturating_add(1);
         }
     }
     well && pairs.next().is_none() && pairs.next_back().is_none()
 }
 
+// Whether the last of some pairs and the first two are those of a list between two places, as far
+// as there are so many; and the places between which the others stand.
+fn takes_three<'a, S: NodeStore<V = u64>>(
+    pairs: &mut Iter<'a, S>,
+    plain: &Plain,
+    from: usize,
+    to: usize,
+) -> (bool, usize, usize)
+where
+    S::K: Sample,
+{
+    let (mut front, mut back) = (from, to);
+    let mut well = true;
+    if front < back {
+        back = back.saturating_sub(1);
+        well &= plain.pair_at(back) == numbers(pairs.next_back());
+    }
+    for _ in 0..2 {
+        if front < back {
+            well &= plain.pair_at(front) == numbers(pairs.next());
+            front = front.saturating_add(1);
+        }
+    }
+    (well, front, back)
+}
+
+// Whether the pairs that are left are those of a list from one place up to another.
+fn is_rest<S: NodeStore<V = u64>>(
+    rest: Iter<'_, S>,
+    plain: &Plain,
+    front: usize,
+    back: usize,
+) -> bool
+where
+    S::K: Sample,
+{
+    let mut rest = rest;
+    let left = back.saturating_sub(front);
+    let mut well = rest.size_hint() == (left, Some(left));
+    for place in front..back {
+        well &= plain.pair_at(place) == numbers(rest.next());
+    }
+    well && rest.next().is_none() && rest.next_back().is_none()
+}
+
 // Whether pairs are those of a list from one place up to another: one is taken from the back, two
-// from the front, and the rest of a clone. How many are left is asked at each turn.
+// from the front, and the rest of a clone. How many are left is asked before and after.
 fn is_part<S: NodeStore<V = u64>>(
     pairs: Iter<'_, S>,
     plain: &Plain,
@@ -146,26 +191,11 @@ where
     S::K: Sample,
 {
     let mut pairs = pairs;
-    let mut front = from;
-    let mut back = to;
-    let mut well = pairs.len() == back.saturating_sub(front);
-    if front < back {
-        back = back.saturating_sub(1);
-        well = plain.pair_at(back) == numbers(pairs.next_back()) && well;
-    }
-    for _ in 0..2 {
-        if front < back {
-            well = plain.pair_at(front) == numbers(pairs.next()) && well;
-            front = front.saturating_add(1);
-        }
-    }
-    let left = back.saturating_sub(front);
-    let mut rest = pairs.clone()?;
-    well = pairs.len() == left && rest.size_hint() == (left, Some(left)) && well;
-    for place in front..back {
-        well = plain.pair_at(place) == numbers(rest.next()) && well;
-    }
-    Ok(well && rest.next().is_none() && rest.next_back().is_none() && pairs.len() == left)
+    let mut well = pairs.len() == to.saturating_sub(from);
+    let (are_right, front, back) = takes_three(&mut pairs, plain, from, to);
+    well &= are_right && pairs.len() == back.saturating_sub(front);
+    well &= is_rest(pairs.clone()?, plain, front, back);
+    Ok(pairs.len() == back.saturating_sub(front) && well)
 }
 
 // Whether the summaries of the keys from one place up to another, and up to the end, tell how many
@@ -216,14 +246,14 @@ where
             let lo = if from == 0 { None } else { plain.key_at(from) };
             let lo: Option<S::K> = some_key(alloc, &lo)?;
             let hi: Option<S::K> = some_key(alloc, &plain.key_at(to))?;
-            well = is_part(tree.range(lo.as_ref(), hi.as_ref()), plain, from, end)? && well;
+            well &= is_part(tree.range(lo.as_ref(), hi.as_ref()), plain, from, end)?;
             let few = end.saturating_sub(from);
-            well = is_part(tree.range_by_argument(from, few)?, plain, from, end)? && well;
+            well &= is_part(tree.range_by_argument(from, few)?, plain, from, end)?;
             let rest = tree.range_by_argument(from, usize::MAX)?;
-            well = is_part(rest, plain, from, len.max(from))? && well;
+            well &= is_part(rest, plain, from, len.max(from))?;
             let summary = tree.range_argument(lo.as_ref(), hi.as_ref())?;
-            well = summary.key_count() == Some(few) && well;
-            well = is_summed(tree, from, end)? && well;
+            well &= summary.key_count() == Some(few);
+            well &= is_summed(tree, from, end)?;
         }
     }
     Ok(well)
@@ -239,7 +269,7 @@ where
     let mut well = pairs.len() == left;
     for _ in 0..plain.len() {
         left = left.saturating_sub(1);
-        well = plain.pair_at(left) == own_numbers(&pairs.next_back()) && well;
+        well &= plain.pair_at(left) == own_numbers(&pairs.next_back());
     }
     pairs.next().is_none() && well
 }
@@ -325,12 +355,12 @@ impl<K: Sample> Holds for BPlusTreeMap<K, u64, Count> {
         let mut pairs = self.iter();
         let mut well = pairs.len() == plain.len();
         for place in 0..plain.len() {
-            well = plain.pair_at(place) == numbers(pairs.next()) && well;
+            well &= plain.pair_at(place) == numbers(pairs.next());
         }
         let last = plain.len().saturating_sub(1);
-        well = plain.pair_at(0) == numbers(self.first()) && well;
-        well = plain.pair_at(last) == numbers(self.last()) && well;
-        well = pairs.next().is_none() && has_all(self.tree(), plain) && well;
+        well &= plain.pair_at(0) == numbers(self.first());
+        well &= plain.pair_at(last) == numbers(self.last());
+        well &= pairs.next().is_none() && has_all(self.tree(), plain);
         Ok(shows_parts(alloc, self, plain)? && well)
     }
 }
@@ -360,6 +390,46 @@ fn is_beside<K: Sample>(set: &BPlusTreeSet<K>, other: &BPlusTreeSet<K>) -> bool 
     within && lacks && found && set.is_disjoint(other) == other.is_empty()
 }
 
+// Whether the keys of a set, and those of the set and another together, are those of a list.
+fn has_union<K: Sample>(set: &BPlusTreeSet<K>, other: &BPlusTreeSet<K>, plain: &Plain) -> bool {
+    let (mut keys, mut union) = (set.iter(), set.union(other));
+    let mut well = true;
+    for place in 0..plain.len() {
+        let key = plain.key_at(place);
+        well &= number(keys.next()) == key && number(union.next()) == key;
+    }
+    well && keys.next().is_none() && union.next().is_none()
+}
+
+// Whether each third key of a list, from the first on, is what a set has that another lacks.
+fn has_difference<K: Sample>(
+    set: &BPlusTreeSet<K>,
+    other: &BPlusTreeSet<K>,
+    plain: &Plain,
+) -> bool {
+    let (mut left, mut alone) = (set.difference(other), other.symmetric_difference(set));
+    let mut well = true;
+    for place in 0..plain.len() {
+        if place % 3 == 0 {
+            let key = plain.key_at(place);
+            well &= number(left.next()) == key && number(alone.next()) == key;
+        }
+    }
+    well && left.next().is_none() && alone.next().is_none()
+}
+
+// Whether the others are what both have.
+fn has_shared<K: Sample>(set: &BPlusTreeSet<K>, other: &BPlusTreeSet<K>, plain: &Plain) -> bool {
+    let mut shared = set.intersection(other);
+    let mut well = true;
+    for place in 0..plain.len() {
+        if place % 3 != 0 {
+            well &= number(shared.next()) == plain.key_at(place);
+        }
+    }
+    well && shared.next().is_none()
+}
+
 impl<K: Sample> Holds for BPlusTreeSet<K> {
     fn begin(alloc: Global) -> Result<Self, AllocError> {
         BPlusTreeSet::new(alloc)
@@ -384,28 +454,13 @@ impl<K: Sample> Holds for BPlusTreeSet<K> {
         }
     }
 
-    // Also beside a set of all of them but some: what both have together, what they share, and what
-    // one has alone.
+    // Also beside a set of all of them but some.
     fn shows(&self, alloc: Global, plain: &Plain) -> Result<bool, AllocError> {
         let other = BPlusTreeSet::from_iter(alloc, most_keys(alloc, plain)?)?;
-        let mut keys = self.iter();
-        let mut union = self.union(&other);
-        let mut left = self.difference(&other);
-        let mut alone = other.symmetric_difference(self);
-        let mut shared = self.intersection(&other);
-        let mut well = keys.len() == plain.len();
-        for place in 0..plain.len() {
-            let key = plain.key_at(place);
-            well = number(keys.next()) == key && number(union.next()) == key && well;
-            well = if place % 3 == 0 {
-                number(left.next()) == key && number(alone.next()) == key && well
-            } else {
-                number(shared.next()) == key && well
-            };
-        }
-        let is_over = keys.next().is_none() && union.next().is_none() && left.next().is_none();
-        let are_over = alone.next().is_none() && shared.next().is_none();
-        well = is_over && are_over && is_beside(self, &other) && well;
+        let mut well = self.iter().len() == plain.len() && is_beside(self, &other);
+        well &= has_union(self, &other, plain);
+        well &= has_difference(self, &other, plain);
+        well &= has_shared(self, &other, plain);
         Ok(shows_keys(alloc, self, plain)? && well)
     }
 }

@@ -24,7 +24,7 @@ fn turns<H: Holds>(
     drawing.put_of_ten(if turn % 10 < 6 { 7 } else { 3 });
     let talk = drawing.talk(H::kinds(turn), RUN)?;
     let mut well = holder.answers(alloc, talk)?;
-    well = holder.renews(alloc, &drawing.plain, turn)? && well;
+    well &= holder.renews(alloc, &drawing.plain, turn)?;
     Ok(holder.shows(alloc, &drawing.plain)? && well)
 }
 
@@ -33,7 +33,7 @@ fn round<H: Holds>(alloc: Global, seed: u64, end: u64) -> Result<bool, AllocErro
     let mut holder: H = H::begin(alloc)?;
     let mut well = true;
     for turn in 0..CALLS / RUN {
-        well = turns(alloc, &mut holder, &mut drawing, turn)? && well;
+        well &= turns(alloc, &mut holder, &mut drawing, turn)?;
     }
     Ok(well)
 }

@@ -150,10 +150,10 @@ fn finds_after<T: Known>(tree: &T, number: usize) -> bool {
     let mut well = true;
     for key in [0, 4_999, 9_999, 10_000] {
         tree.hint(number);
-        well = tree.find(key) == ten(key) && well;
+        well &= tree.find(key) == ten(key);
         tree.hint(number);
         tree.hint(number);
-        well = tree.find(key) == ten(key) && well;
+        well &= tree.find(key) == ten(key);
     }
     well
 }
@@ -165,7 +165,7 @@ fn hints<T: Known>(tree: &T) -> bool {
     for number in 0..1_000 {
         if tree.has_leaf(number) {
             leaves = leaves.saturating_add(1);
-            well = finds_after(tree, number) && well;
+            well &= finds_after(tree, number);
         }
     }
     well && leaves > 150 && finds_after(tree, 999) && finds_after(tree, usize::MAX)
@@ -176,7 +176,7 @@ fn visitors<T: Known>(tree: &T) -> bool {
     let last = tree.root_len();
     let mut well = tree.levels() == 2 && went_down(tree, last);
     for place in [last.saturating_add(1), 65, usize::MAX] {
-        well = tree.visit(Says::Child(place)) == Err(DescendError::InvalidChild) && well;
+        well &= tree.visit(Says::Child(place)) == Err(DescendError::InvalidChild);
     }
     well && tree.visit(Says::Nothing) == Ok(None) && tree.visit(Says::Number(7)) == Ok(Some(7))
 }
@@ -206,9 +206,9 @@ fn is_one_leaf<T: Known>(tree: &T) -> bool {
 fn come<T: Known>(tree: &mut T) -> Result<bool, AllocError> {
     let mut well = true;
     for turn in 0..100_000 {
-        well = tree.put(turn * 7_919 % 100_000, turn)?.is_none() && well;
+        well &= tree.put(turn * 7_919 % 100_000, turn)?.is_none();
         if turn % 1_000 == 999 {
-            well = tree.is_well()? && well;
+            well &= tree.is_well()?;
         }
     }
     Ok(well && tree.count() == 100_000 && (tree.levels() == 2 || tree.levels() == 3))
@@ -218,9 +218,9 @@ fn come<T: Known>(tree: &mut T) -> Result<bool, AllocError> {
 fn leave<T: Known>(tree: &mut T) -> Result<bool, AllocError> {
     let mut well = true;
     for turn in 0..100_000 {
-        well = tree.take(turn * 6_007 % 100_000)?.is_some() && well;
+        well &= tree.take(turn * 6_007 % 100_000)?.is_some();
         if turn % 1_000 == 999 {
-            well = tree.is_well()? && well;
+            well &= tree.is_well()?;
         }
     }
     Ok(well && tree.count() == 0 && is_one_leaf(tree))
@@ -264,7 +264,7 @@ fn no_hint<T: Known>(tree: &T) -> bool {
     let mut well = tree.levels() == 2;
     for key in 0..10_001 {
         let (value, compares) = tree.find_counted(key);
-        well = value == ten(key) && tree.find(key) == value && compares <= 21 && well;
+        well &= value == ten(key) && tree.find(key) == value && compares <= 21;
     }
     well
 }

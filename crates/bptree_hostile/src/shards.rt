@@ -7,6 +7,7 @@ use crate::drawing::numbers;
 use crate::plain::Plain;
 use crate::rounds::{CALLS, RUN};
 use bptree_sharded::map_shard::empty_over;
+use bptree_sharded::shard::Shard;
 use bptree_sharded::whole::Shards;
 use std::alloc::{AllocError, Global};
 use sweep_bptree::BPlusTreeMap;
@@ -188,13 +189,16 @@ fn cut<K: Sample>(alloc: Global, bounds: &[u64]) -> Result<Whole<K>, AllocError>
 }
 
 // A value is put at a key.
-fn puts<K: Sample>(
-    whole: &mut Whole<K>,
+fn puts<S: Shard<V = u64>>(
+    whole: &mut Shards<S>,
     cuts: &mut Cuts,
     number: u64,
     value: u64,
-) -> Result<bool, AllocError> {
-    let key = K::sample(cuts.alloc, number)?;
+) -> Result<bool, AllocError>
+where
+    S::K: Sample,
+{
+    let key = S::K::sample(cuts.alloc, number)?;
     let wanted = cuts.plain.put(number, value)?;
     match whole.put(key, value) {
         Ok(old) => Ok(old == wanted),
@@ -203,32 +207,41 @@ fn puts<K: Sample>(
 }
 
 // The pair of a key leaves.
-fn takes<K: Sample>(
-    whole: &mut Whole<K>,
+fn takes<S: Shard<V = u64>>(
+    whole: &mut Shards<S>,
     cuts: &mut Cuts,
     number: u64,
-) -> Result<bool, AllocError> {
-    let key = K::sample(cuts.alloc, number)?;
+) -> Result<bool, AllocError>
+where
+    S::K: Sample,
+{
+    let key = S::K::sample(cuts.alloc, number)?;
     Ok(whole.del(&key)? == cuts.plain.take(number))
 }
 
 // A key at each place for keys is put, in an order of strides.
-fn fills<K: Sample>(whole: &mut Whole<K>, cuts: &mut Cuts) -> Result<bool, AllocError> {
+fn fills<S: Shard<V = u64>>(whole: &mut Shards<S>, cuts: &mut Cuts) -> Result<bool, AllocError>
+where
+    S::K: Sample,
+{
     let mut well = true;
     for turn in 0..cuts.places {
         let place = turn.wrapping_mul(STRIDE) % cuts.places.max(1);
         let (number, value) = (cuts.key_at(place), cuts.dice.number());
-        well = puts(whole, cuts, number, value)? && well;
+        well &= puts(whole, cuts, number, value)?;
     }
     Ok(cuts.has_sizes() && well)
 }
 
 // A change of the pairs: of ten, so many put one.
-fn changes<K: Sample>(
-    whole: &mut Whole<K>,
+fn changes<S: Shard<V = u64>>(
+    whole: &mut Shards<S>,
     cuts: &mut Cuts,
     puts_of_ten: u64,
-) -> Result<bool, AllocError> {
+) -> Result<bool, AllocError>
+where
+    S::K: Sample,
+{
     let (number, value) = (cuts.key(), cuts.dice.number());
     if cuts.below(10) < puts_of_ten {
         puts(whole, cuts, number, value)
@@ -238,9 +251,12 @@ fn changes<K: Sample>(
 }
 
 // A look at the pairs: at an end, at a place, or at a key and beside it.
-fn looks<K: Sample>(whole: &Whole<K>, cuts: &mut Cuts) -> Result<bool, AllocError> {
+fn looks<S: Shard<V = u64>>(whole: &Shards<S>, cuts: &mut Cuts) -> Result<bool, AllocError>
+where
+    S::K: Sample,
+{
     let (number, place) = (cuts.key(), cuts.place());
-    let key = K::sample(cuts.alloc, number)?;
+    let key = S::K::sample(cuts.alloc, number)?;
     let kind = cuts.below(8);
     let plain = &cuts.plain;
     Ok(match kind {
@@ -256,29 +272,44 @@ fn looks<K: Sample>(whole: &Whole<K>, cuts: &mut Cuts) -> Result<bool, AllocErro
 }
 
 // The pair beside another one, where there is one.
-fn next_of<'a, K: Sample>(
-    whole: &'a Whole<K>,
-    pair: Option<(&'a K, &'a u64)>,
-) -> Option<(&'a K, &'a u64)> {
+fn next_of<'a, S: Shard<V = u64>>(
+    whole: &'a Shards<S>,
+    pair: Option<(&'a S::K, &'a u64)>,
+) -> Option<(&'a S::K, &'a u64)>
+where
+    S::K: Sample,
+{
     let (key, _) = pair?;
     whole.next(key)
 }
 
-fn prev_of<'a, K: Sample>(
-    whole: &'a Whole<K>,
-    pair: Option<(&'a K, &'a u64)>,
-) -> Option<(&'a K, &'a u64)> {
+fn prev_of<'a, S: Shard<V = u64>>(
+    whole: &'a Shards<S>,
+    pair: Option<(&'a S::K, &'a u64)>,
+) -> Option<(&'a S::K, &'a u64)>
+where
+    S::K: Sample,
+{
     let (key, _) = pair?;
     whole.prev(key)
 }
 
 // So many steps from a key on, of which the first one comes to a place.
-fn steps_on<K: Sample>(whole: &Whole<K>, plain: &Plain, key: &K, place: usize, many: u64) -> bool {
+fn steps_on<S: Shard<V = u64>>(
+    whole: &Shards<S>,
+    plain: &Plain,
+    key: &S::K,
+    place: usize,
+    many: u64,
+) -> bool
+where
+    S::K: Sample,
+{
     let mut found = whole.next(key);
     let mut place = place;
     let mut well = true;
     for _ in 0..many {
-        well = numbers(found) == plain.pair_at(place) && well;
+        well &= numbers(found) == plain.pair_at(place);
         found = next_of(whole, found);
         place = place.saturating_add(1);
     }
@@ -286,18 +317,21 @@ fn steps_on<K: Sample>(whole: &Whole<K>, plain: &Plain, key: &K, place: usize, m
 }
 
 // The same back from a key. There is no pair before the first place, nor at the greatest ones.
-fn steps_back<K: Sample>(
-    whole: &Whole<K>,
+fn steps_back<S: Shard<V = u64>>(
+    whole: &Shards<S>,
     plain: &Plain,
-    key: &K,
+    key: &S::K,
     place: usize,
     many: u64,
-) -> bool {
+) -> bool
+where
+    S::K: Sample,
+{
     let mut found = whole.prev(key);
     let mut place = place;
     let mut well = true;
     for _ in 0..many {
-        well = numbers(found) == plain.pair_at(place) && well;
+        well &= numbers(found) == plain.pair_at(place);
         found = prev_of(whole, found);
         place = place.wrapping_sub(1);
     }
@@ -305,9 +339,12 @@ fn steps_back<K: Sample>(
 }
 
 // Some steps from a key on, or back from it.
-fn steps<K: Sample>(whole: &Whole<K>, cuts: &mut Cuts) -> Result<bool, AllocError> {
+fn steps<S: Shard<V = u64>>(whole: &Shards<S>, cuts: &mut Cuts) -> Result<bool, AllocError>
+where
+    S::K: Sample,
+{
     let number = cuts.key();
-    let key = K::sample(cuts.alloc, number)?;
+    let key = S::K::sample(cuts.alloc, number)?;
     let (many, is_back) = (cuts.below(8), cuts.below(2) == 0);
     let plain = &cuts.plain;
     Ok(if is_back {
@@ -322,7 +359,7 @@ fn are_from<K: Sample>(found: &[(&K, &u64)], plain: &Plain, place: usize, many: 
     let mut place = place;
     let mut well = found.len() == many;
     for pair in found {
-        well = numbers(Some(*pair)) == plain.pair_at(place) && well;
+        well &= numbers(Some(*pair)) == plain.pair_at(place);
         place = place.saturating_add(1);
     }
     well
@@ -334,17 +371,23 @@ fn are_back<K: Sample>(found: &[(&K, &u64)], plain: &Plain, end: usize, many: us
     let mut well = found.len() == many;
     for pair in found {
         place = place.wrapping_sub(1);
-        well = numbers(Some(*pair)) == plain.pair_at(place) && well;
+        well &= numbers(Some(*pair)) == plain.pair_at(place);
     }
     well
 }
 
 // A look at some pairs at once: a page, those back from a key, or those between two keys, either of
 // which may be left out.
-fn parts<K: Sample>(whole: &Whole<K>, cuts: &mut Cuts) -> Result<bool, AllocError> {
+fn parts<S: Shard<V = u64>>(whole: &Shards<S>, cuts: &mut Cuts) -> Result<bool, AllocError>
+where
+    S::K: Sample,
+{
     let (low, high) = (cuts.key(), cuts.key());
     let (place, n, kind) = (cuts.place(), cuts.many(), cuts.below(6));
-    let (lo, hi) = (K::sample(cuts.alloc, low)?, K::sample(cuts.alloc, high)?);
+    let (lo, hi) = (
+        S::K::sample(cuts.alloc, low)?,
+        S::K::sample(cuts.alloc, high)?,
+    );
     let plain = &cuts.plain;
     if kind == 0 {
         let found = whole.page(cuts.alloc, place, n)?;
@@ -369,10 +412,13 @@ fn parts<K: Sample>(whole: &Whole<K>, cuts: &mut Cuts) -> Result<bool, AllocErro
 }
 
 // A shard is cut in two at a key, or it and the next one become one. There may be no such shards.
-fn moves<K: Sample>(whole: &mut Whole<K>, cuts: &mut Cuts) -> Result<bool, AllocError> {
+fn moves<S: Shard<V = u64>>(whole: &mut Shards<S>, cuts: &mut Cuts) -> Result<bool, AllocError>
+where
+    S::K: Sample,
+{
     let refused = if cuts.below(2) == 0 {
         let number = cuts.key();
-        let key = K::sample(cuts.alloc, number)?;
+        let key = S::K::sample(cuts.alloc, number)?;
         whole.split(key).is_err()
     } else {
         let shard = cuts.below(12) as usize;
@@ -385,15 +431,18 @@ fn moves<K: Sample>(whole: &mut Whole<K>, cuts: &mut Cuts) -> Result<bool, Alloc
 }
 
 // Whether the pairs are those of the list: by their places, and from both ends step by step.
-fn shows<K: Sample>(whole: &Whole<K>, plain: &Plain) -> bool {
+fn shows<S: Shard<V = u64>>(whole: &Shards<S>, plain: &Plain) -> bool
+where
+    S::K: Sample,
+{
     let mut well = whole.len() == plain.len();
     let (mut front, mut back) = (whole.first(), whole.last());
     let mut left = plain.len();
     for place in 0..plain.len() {
         left = left.saturating_sub(1);
-        well = numbers(whole.at(place)) == plain.pair_at(place) && well;
-        well = numbers(front) == plain.pair_at(place) && well;
-        well = numbers(back) == plain.pair_at(left) && well;
+        well &= numbers(whole.at(place)) == plain.pair_at(place);
+        well &= numbers(front) == plain.pair_at(place);
+        well &= numbers(back) == plain.pair_at(left);
         front = next_of(whole, front);
         back = prev_of(whole, back);
     }
@@ -401,28 +450,41 @@ fn shows<K: Sample>(whole: &Whole<K>, plain: &Plain) -> bool {
 }
 
 // The pairs between two bounds leave, and come back.
-fn leave_and_return<K: Sample>(whole: &mut Whole<K>, cuts: &mut Cuts) -> Result<bool, AllocError> {
+fn leave_and_return<S: Shard<V = u64>>(
+    whole: &mut Shards<S>,
+    cuts: &mut Cuts,
+) -> Result<bool, AllocError>
+where
+    S::K: Sample,
+{
     let (low, high) = cuts.bounds_of_one();
     let (from, to) = (cuts.plain.rank(low), cuts.plain.rank(high));
     let mut gone = Vec::new(cuts.alloc);
     let mut well = true;
     for _ in from..to {
         if let Some(pair) = cuts.plain.pair_at(from) {
-            well = takes(whole, cuts, pair.0)? && well;
+            well &= takes(whole, cuts, pair.0)?;
             gone.push(pair)?;
         }
     }
-    well = shows(whole, &cuts.plain) && well;
+    well &= shows(whole, &cuts.plain);
     for pair in &gone {
         let (number, value) = *pair;
-        well = puts(whole, cuts, number, value)? && well;
+        well &= puts(whole, cuts, number, value)?;
     }
     Ok(well)
 }
 
 // More pairs are put than leave in six turns of ten, and fewer in the others. The last of ten turns
 // ends with a walk over all.
-fn turns<K: Sample>(whole: &mut Whole<K>, cuts: &mut Cuts, turn: u64) -> Result<bool, AllocError> {
+fn turns<S: Shard<V = u64>>(
+    whole: &mut Shards<S>,
+    cuts: &mut Cuts,
+    turn: u64,
+) -> Result<bool, AllocError>
+where
+    S::K: Sample,
+{
     let puts_of_ten = if turn % 10 < 6 { 7 } else { 3 };
     let mut well = true;
     for _ in 0..RUN {
@@ -436,7 +498,7 @@ fn turns<K: Sample>(whole: &mut Whole<K>, cuts: &mut Cuts, turn: u64) -> Result<
         };
     }
     if turn % 10 == 9 {
-        well = leave_and_return(whole, cuts)? && shows(whole, &cuts.plain) && well;
+        well &= leave_and_return(whole, cuts)? && shows(whole, &cuts.plain);
     }
     Ok(well)
 }
@@ -447,9 +509,9 @@ pub fn no_order<K: Sample>(alloc: Global, letter: u8, seed: u64) -> Result<bool,
     let mut cuts = Cuts::new(alloc, seed, letter.is_ascii_uppercase())?;
     let mut whole: Whole<K> = cut(alloc, &cuts.bounds)?;
     let mut well = shows(&whole, &cuts.plain);
-    well = fills(&mut whole, &mut cuts)? && shows(&whole, &cuts.plain) && well;
+    well &= fills(&mut whole, &mut cuts)? && shows(&whole, &cuts.plain);
     for turn in 0..CALLS / RUN {
-        well = turns(&mut whole, &mut cuts, turn)? && well;
+        well &= turns(&mut whole, &mut cuts, turn)?;
     }
     Ok(shows(&whole, &cuts.plain) && well)
 }

@@ -7,8 +7,9 @@ use crate::plain::Plain;
 use std::alloc::{AllocError, Global};
 use std::cmp::Ordering;
 use std::ops::Bound;
+use sweep_bptree::map::Iter as Pairs;
 use sweep_bptree::tree::count::Count;
-use sweep_bptree::tree::{Cursor, InsertError};
+use sweep_bptree::tree::{BPlusTree, Cursor, InsertError, NodeStore};
 use sweep_bptree::{BPlusTreeMap, BPlusTreeSet};
 
 type Map<K> = BPlusTreeMap<K, u64, Count>;
@@ -38,12 +39,12 @@ fn has_halves<K: Sample>(map: &Map<K>, plain: &Plain) -> bool {
     for place in 0..plain.len() {
         if place % 2 == 0 {
             let front = place / 2;
-            well = number(keys.next()) == plain.key_at(front) && well;
-            well = values.next().copied() == value_at(plain, front) && well;
+            well &= number(keys.next()) == plain.key_at(front);
+            well &= values.next().copied() == value_at(plain, front);
         } else {
             back = back.saturating_sub(1);
-            well = number(keys.next_back()) == plain.key_at(back) && well;
-            well = values.next_back().copied() == value_at(plain, back) && well;
+            well &= number(keys.next_back()) == plain.key_at(back);
+            well &= values.next_back().copied() == value_at(plain, back);
         }
     }
     well && keys.next().is_none() && values.next_back().is_none()
@@ -56,8 +57,8 @@ fn gives_halves<K: Sample>(map: Map<K>, other: Map<K>, plain: &Plain) -> bool {
     let mut back = plain.len();
     for place in 0..plain.len() {
         back = back.saturating_sub(1);
-        well = own_number(&keys.next()) == plain.key_at(place) && well;
-        well = values.next_back() == value_at(plain, back) && well;
+        well &= own_number(&keys.next()) == plain.key_at(place);
+        well &= values.next_back() == value_at(plain, back);
     }
     well && keys.next().is_none() && values.next().is_none()
 }
@@ -102,6 +103,33 @@ fn places(
     (start, end.max(start))
 }
 
+// Whether pairs begin as those of a list between two places, and are as many.
+fn begins_at<K: Sample>(
+    pairs: Pairs<'_, K, u64, Count>,
+    plain: &Plain,
+    (start, end): (usize, usize),
+) -> bool {
+    let mut pairs = pairs;
+    let few = end.saturating_sub(start);
+    pairs.len() == few && (few == 0 || numbers(pairs.next()) == plain.pair_at(start))
+}
+
+// Whether the pairs of a tree between bounds end so, and are as many.
+fn ends_at<S: NodeStore<V = u64>>(
+    tree: &BPlusTree<S>,
+    plain: &Plain,
+    (lo, hi): (Bound<&S::K>, Bound<&S::K>),
+    (start, end): (usize, usize),
+) -> bool
+where
+    S::K: Sample,
+{
+    let mut pairs = tree.range_bounds(lo, hi);
+    let few = end.saturating_sub(start);
+    let last = end.saturating_sub(1);
+    pairs.len() == few && (few == 0 || numbers(pairs.next_back()) == plain.pair_at(last))
+}
+
 // Whether the pairs of a map between bounds at two places are those of a list; and those of its
 // tree.
 fn is_bounded<K: Sample>(
@@ -115,18 +143,11 @@ fn is_bounded<K: Sample>(
     let mut well = true;
     for turn in 0..4 {
         let (from_in, to_in) = (turn % 2 == 0, turn < 2);
-        let (start, end) = places(plain, (from, from_in), (to, to_in));
-        let mut pairs = map.range_bounds(bound_at(&lo, from_in), bound_at(&hi, to_in));
-        let mut beside = map
-            .tree()
-            .range_bounds(bound_at(&lo, from_in), bound_at(&hi, to_in));
-        let few = end.saturating_sub(start);
-        well = pairs.len() == few && beside.len() == few && well;
-        if few > 0 {
-            let last = end.saturating_sub(1);
-            well = numbers(pairs.next()) == plain.pair_at(start) && well;
-            well = numbers(beside.next_back()) == plain.pair_at(last) && well;
-        }
+        let few = places(plain, (from, from_in), (to, to_in));
+        let pairs = map.range_bounds(bound_at(&lo, from_in), bound_at(&hi, to_in));
+        well &= begins_at(pairs, plain, few);
+        let bounds = (bound_at(&lo, from_in), bound_at(&hi, to_in));
+        well &= ends_at(map.tree(), plain, bounds, few);
     }
     Ok(well)
 }
@@ -160,10 +181,10 @@ pub fn shows_parts<K: Sample>(
         (third, third),
         (late, third),
     ] {
-        well = is_bounded(alloc, map, plain, from, to)? && well;
+        well &= is_bounded(alloc, map, plain, from, to)?;
     }
     for place in [0, third, late, len, usize::MAX] {
-        well = is_pointed_at(map, plain, place)? && well;
+        well &= is_pointed_at(map, plain, place)?;
     }
     Ok(well)
 }
@@ -209,7 +230,7 @@ fn is_spoiled<K: Sample>(
                 is_lent(map, key, value, value) && gone == Some(value)
             }
         };
-        well = is_right && numbers(map.get_at(place)) == Some((number, more)) && well;
+        well &= is_right && numbers(map.get_at(place)) == Some((number, more));
     }
     Ok(well)
 }
@@ -253,18 +274,25 @@ pub fn is_mended<K: Sample>(
 ) -> Result<bool, AllocError> {
     let mut other = made(alloc, plain)?;
     let mut well = is_compared(&other, map, false);
-    // No value is the greatest number, so the first that is changed is greater.
-    let is_least = value_at(plain, 0) != Some(u64::MAX);
-    well = is_spoiled(alloc, map, plain)? && well;
-    if is_least {
-        well = is_compared(&other, map, plain.len() > 0) && well;
-    }
+    well &= is_spoiled(alloc, map, plain)?;
+    // Where the first value is the greatest number, what is one more is less.
+    well &= value_at(plain, 0) == Some(u64::MAX) || is_compared(&other, map, plain.len() > 0);
     if by_pairs {
-        well = map.extend(own_pairs(alloc, plain)?).is_ok() && well;
-        return Ok(gives_halves(other, made(alloc, plain)?, plain) && well);
+        return Ok(has_them_again(alloc, map, other, plain)? && well);
     }
-    well = map.append(&mut other).is_ok() && well;
+    well &= map.append(&mut other).is_ok();
     Ok(other.is_empty() && well)
+}
+
+// A map has its values again, and another with the same pairs is given away.
+fn has_them_again<K: Sample>(
+    alloc: Global,
+    map: &mut Map<K>,
+    other: Map<K>,
+    plain: &Plain,
+) -> Result<bool, AllocError> {
+    let well = map.extend(own_pairs(alloc, plain)?).is_ok();
+    Ok(gives_halves(other, made(alloc, plain)?, plain) && well)
 }
 
 /// The pairs from a place on leave for a map of their own, and come back.
@@ -282,9 +310,9 @@ pub fn leave_and_join<K: Sample>(
     };
     let few = plain.len().saturating_sub(place);
     let mut well = map.len() == place && left.len() == few;
-    well = numbers(left.first()) == plain.pair_at(place) && well;
-    well = numbers(left.last()) == plain.pair_at(plain.len().saturating_sub(1)) && well;
-    well = map.append(&mut left).is_ok() && well;
+    well &= numbers(left.first()) == plain.pair_at(place);
+    well &= numbers(left.last()) == plain.pair_at(plain.len().saturating_sub(1));
+    well &= map.append(&mut left).is_ok();
     Ok(left.is_empty() && well)
 }
 
@@ -296,8 +324,38 @@ fn is_thin<K: Sample>(map: &Map<K>, plain: &Plain) -> bool {
     for place in 0..plain.len() {
         let (key, value) = plain.pair_at(place).unwrap_or((0, 0));
         if key % 3 != 0 {
-            well = numbers(pairs.next()) == Some((key, value.wrapping_add(1))) && well;
+            well &= numbers(pairs.next()) == Some((key, value.wrapping_add(1)));
         }
+    }
+    well && pairs.next().is_none()
+}
+
+// Adds to the values between two keys.
+fn adds_between<K: Sample>(map: &mut Map<K>, lo: Option<&K>, hi: Option<&K>, more: u64) {
+    map.update_range(lo, hi, |_key: &K, value: &mut u64| {
+        *value = value.wrapping_add(more);
+    });
+}
+
+// Adds the number of its key to each value, so many times.
+fn adds_keys<K: Sample>(map: &mut Map<K>, times: u64) {
+    map.update_each(|key: &K, value: &mut u64| {
+        *value = value.wrapping_add(key.number().wrapping_mul(times));
+    });
+}
+
+// Whether each value is greater by the number of its key, and those between two places by one
+// more. A place past the end names no key, so that end is open.
+fn are_greater<K: Sample>(map: &Map<K>, plain: &Plain, from: usize, to: usize) -> bool {
+    let mut well = true;
+    let mut pairs = map.iter();
+    for place in 0..plain.len() {
+        let (key, value) = plain.pair_at(place).unwrap_or((0, 0));
+        let is_behind = from >= plain.len() || place >= from;
+        let is_before = to >= plain.len() || place < to;
+        let more = (is_behind && is_before) as u64;
+        let greater = value.wrapping_add(key).wrapping_add(more);
+        well &= numbers(pairs.next()) == Some((key, greater));
     }
     well && pairs.next().is_none()
 }
@@ -312,28 +370,59 @@ fn is_updated<K: Sample>(
     to: usize,
 ) -> Result<bool, AllocError> {
     let (lo, hi) = (key_of(alloc, plain, from)?, key_of(alloc, plain, to)?);
-    map.update_range(lo.as_ref(), hi.as_ref(), |_key: &K, value: &mut u64| {
-        *value = value.wrapping_add(1);
-    });
-    map.update_each(|key: &K, value: &mut u64| {
-        *value = value.wrapping_add(key.number());
-    });
-    let mut well = true;
-    let mut pairs = map.iter();
-    for place in 0..plain.len() {
-        let (key, value) = plain.pair_at(place).unwrap_or((0, 0));
-        let is_between = (lo.is_none() || place >= from) && (hi.is_none() || place < to);
-        let greater = value.wrapping_add(key).wrapping_add(is_between as u64);
-        well = numbers(pairs.next()) == Some((key, greater)) && well;
-    }
-    well = pairs.next().is_none() && well;
-    map.update_each(|key: &K, value: &mut u64| {
-        *value = value.wrapping_sub(key.number());
-    });
-    map.update_range(lo.as_ref(), hi.as_ref(), |_key: &K, value: &mut u64| {
-        *value = value.wrapping_sub(1);
-    });
+    adds_between(map, lo.as_ref(), hi.as_ref(), 1);
+    adds_keys(map, 1);
+    let well = are_greater(map, plain, from, to);
+    // The greatest number takes away what was added.
+    adds_keys(map, u64::MAX);
+    adds_between(map, lo.as_ref(), hi.as_ref(), u64::MAX);
     Ok(well)
+}
+
+// The pairs between two keys leave, of which there are so many.
+fn loses_between<K: Sample>(
+    map: &mut Map<K>,
+    plain: &Plain,
+    (lo, hi): (Option<&K>, Option<&K>),
+    (from, to): (usize, usize),
+) -> Result<bool, AllocError> {
+    let gone = map.remove_range(lo, hi)?;
+    let well = gone == to.saturating_sub(from) && map.len() == plain.len().saturating_sub(gone);
+    Ok(numbers(map.get_at(from)) == plain.pair_at(to) && well)
+}
+
+// The pairs from a key on leave, and then those before it.
+fn loses_both_sides<K: Sample>(
+    map: &mut Map<K>,
+    key: Option<&K>,
+    place: usize,
+) -> Result<bool, AllocError> {
+    let left = map.len().saturating_sub(place);
+    let well = map.remove_range(key, None)? == left && map.len() == place;
+    Ok(map.remove_range(None, key)? == place && map.is_empty() && well)
+}
+
+// The pairs between two places leave, then none, and then all others.
+fn is_emptied<K: Sample>(
+    alloc: Global,
+    map: &mut Map<K>,
+    plain: &Plain,
+    from: usize,
+    to: usize,
+) -> Result<bool, AllocError> {
+    let (lo, hi) = (key_of(alloc, plain, from)?, key_of(alloc, plain, to)?);
+    let well = loses_between(map, plain, (lo.as_ref(), hi.as_ref()), (from, to))?;
+    let none = map.remove_range(hi.as_ref(), lo.as_ref())?;
+    Ok(loses_both_sides(map, lo.as_ref(), from)? && none == 0 && well)
+}
+
+// A closure keeps the pairs whose keys' numbers are no multiples of three, each value one greater.
+fn keeps_most<K: Sample>(map: &mut Map<K>, plain: &Plain) -> bool {
+    let kept = map.retain(|key: &K, value: &mut u64| {
+        *value = value.wrapping_add(1);
+        key.number() % 3 != 0
+    });
+    kept.is_ok() && is_thin(map, plain)
 }
 
 /// Pairs leave a map as a closure says, or those between two keys do, and come again.
@@ -345,25 +434,13 @@ pub fn is_thinned<K: Sample>(
 ) -> Result<bool, AllocError> {
     let (from, to) = (plain.len() / 3, plain.len().saturating_sub(2));
     let mut well = is_updated(alloc, map, plain, from, to)?;
-    well = is_updated(alloc, map, plain, to, from)? && well;
-    well = is_updated(alloc, map, plain, plain.len(), from)? && well;
-    if by_range && from < to {
-        let (lo, hi) = (key_of(alloc, plain, from)?, key_of(alloc, plain, to)?);
-        let gone = map.remove_range(lo.as_ref(), hi.as_ref())?;
-        well = gone == to.saturating_sub(from) && well;
-        well = map.len() == plain.len().saturating_sub(gone) && well;
-        well = numbers(map.get_at(from)) == plain.pair_at(to) && well;
-        well = map.remove_range(hi.as_ref(), lo.as_ref())? == 0 && well;
-        let left = map.len().saturating_sub(from);
-        well = map.remove_range(lo.as_ref(), None)? == left && map.len() == from && well;
-        well = map.remove_range(None, lo.as_ref())? == from && map.is_empty() && well;
+    well &= is_updated(alloc, map, plain, to, from)?;
+    well &= is_updated(alloc, map, plain, plain.len(), from)?;
+    well &= if by_range && from < to {
+        is_emptied(alloc, map, plain, from, to)?
     } else {
-        let kept = map.retain(|key: &K, value: &mut u64| {
-            *value = value.wrapping_add(1);
-            key.number() % 3 != 0
-        });
-        well = kept.is_ok() && is_thin(map, plain) && well;
-    }
+        keeps_most(map, plain)
+    };
     Ok(map.extend(own_pairs(alloc, plain)?).is_ok() && well)
 }
 
@@ -382,9 +459,9 @@ fn are_keys_bounded<K: Sample>(
         let (start, end) = places(plain, (from, from_in), (to, to_in));
         let mut keys = set.range_bounds(bound_at(&lo, from_in), bound_at(&hi, to_in));
         let few = end.saturating_sub(start);
-        well = keys.len() == few && well;
+        well &= keys.len() == few;
         if few > 0 {
-            well = number(keys.next()) == plain.key_at(start) && well;
+            well &= number(keys.next()) == plain.key_at(start);
         }
     }
     Ok(well)
@@ -406,7 +483,7 @@ pub fn shows_keys<K: Sample>(
         (third, third),
         (late, third),
     ] {
-        well = are_keys_bounded(alloc, set, plain, from, to)? && well;
+        well &= are_keys_bounded(alloc, set, plain, from, to)?;
     }
     Ok(well)
 }
@@ -422,7 +499,62 @@ fn own_keys<K: Sample>(alloc: Global, plain: &Plain) -> Result<Vec<K>, AllocErro
     Ok(keys)
 }
 
-/// Its first key and its last leave a set, and others by their keys, and all come again.
+// Whether a set is ordered so beside what it was, and equal to it just where it is ordered so.
+fn is_ordered<K: Sample>(
+    set: &BPlusTreeSet<K>,
+    before: &BPlusTreeSet<K>,
+    wanted: Ordering,
+) -> bool {
+    (*set == *before) == wanted.is_eq() && before.cmp(set) == wanted
+}
+
+// An end of a set leaves, of so many keys.
+fn end_leaves<K: Sample>(
+    set: &mut BPlusTreeSet<K>,
+    is_last: bool,
+    wanted: Option<u64>,
+) -> Result<bool, AllocError> {
+    let gone = if is_last {
+        set.pop_last()?
+    } else {
+        set.pop_first()?
+    };
+    Ok(own_number(&gone) == wanted)
+}
+
+// A key is put in the place of the one that equals it, where there is one.
+fn replaces<K: Sample>(
+    set: &mut BPlusTreeSet<K>,
+    key: K,
+    wanted: Option<u64>,
+) -> Result<bool, AllocError> {
+    match set.replace(key) {
+        Ok(gone) => Ok(own_number(&gone) == wanted),
+        Err(_) => Err(AllocError),
+    }
+}
+
+// A key leaves and is not there a second time; it comes again, and takes its own place.
+fn leaves_by_itself<K: Sample>(
+    alloc: Global,
+    set: &mut BPlusTreeSet<K>,
+    plain: &Plain,
+    place: usize,
+) -> Result<bool, AllocError> {
+    let wanted = plain.key_at(place);
+    let Some(key) = key_of::<K>(alloc, plain, place)? else {
+        return Ok(true);
+    };
+    let mut well = own_number(&set.take(&key)?) == wanted;
+    well &= set.take(&key)?.is_none();
+    well &= replaces(set, key, None)?;
+    match key_of::<K>(alloc, plain, place)? {
+        Some(key) => Ok(replaces(set, key, wanted)? && well),
+        None => Ok(false),
+    }
+}
+
+/// Its first key and its last leave a set, and another by itself, and all come again.
 pub fn keys_leave_and_return<K: Sample>(
     alloc: Global,
     set: &mut BPlusTreeSet<K>,
@@ -430,29 +562,41 @@ pub fn keys_leave_and_return<K: Sample>(
 ) -> Result<bool, AllocError> {
     let len = plain.len();
     let before = BPlusTreeSet::from_iter(alloc, own_keys(alloc, plain)?)?;
-    let mut well = *set == before && before.cmp(&*set) == Ordering::Equal;
-    let first = set.pop_first()?;
-    well = own_number(&first) == plain.key_at(0) && well;
+    let mut well = is_ordered(set, &before, Ordering::Equal);
+    well &= end_leaves(set, false, plain.key_at(0))?;
     if len > 2 {
-        well = *set != before && before.cmp(&*set) == Ordering::Less && well;
-        well = own_number(&set.pop_last()?) == plain.key_at(len.saturating_sub(1)) && well;
-        if let Some(key) = key_of(alloc, plain, 1)? {
-            well = own_number(&set.take(&key)?) == plain.key_at(1) && well;
-            well = set.take(&key)?.is_none() && well;
-            let Ok(gone) = set.replace(key) else {
-                return Err(AllocError);
-            };
-            well = gone.is_none() && well;
-        }
-        if let Some(key) = key_of(alloc, plain, 1)? {
-            let Ok(gone) = set.replace(key) else {
-                return Err(AllocError);
-            };
-            well = own_number(&gone) == plain.key_at(1) && well;
+        well &= is_ordered(set, &before, Ordering::Less);
+        well &= end_leaves(set, true, plain.key_at(len.saturating_sub(1)))?;
+        well &= leaves_by_itself(alloc, set, plain, 1)?;
+    }
+    well &= set.extend(own_keys(alloc, plain)?).is_ok();
+    Ok(*set == before && well)
+}
+
+// The keys between two places leave, of which there are so many.
+fn keys_between_leave<K: Sample>(
+    alloc: Global,
+    set: &mut BPlusTreeSet<K>,
+    plain: &Plain,
+    from: usize,
+    to: usize,
+) -> Result<bool, AllocError> {
+    let (lo, hi) = (key_of(alloc, plain, from)?, key_of(alloc, plain, to)?);
+    let gone = set.remove_range(lo.as_ref(), hi.as_ref())?;
+    Ok(gone == to.saturating_sub(from) && set.len() == plain.len().saturating_sub(gone))
+}
+
+// A closure keeps the keys whose numbers are no multiples of three.
+fn most_keys_stay<K: Sample>(set: &mut BPlusTreeSet<K>, plain: &Plain) -> bool {
+    let mut well = set.retain(|key: &K| key.number() % 3 != 0).is_ok();
+    let mut keys = set.iter();
+    for place in 0..plain.len() {
+        let key = plain.key_at(place).unwrap_or(0);
+        if key % 3 != 0 {
+            well &= number(keys.next()) == Some(key);
         }
     }
-    well = set.extend(own_keys(alloc, plain)?).is_ok() && well;
-    Ok(*set == before && well)
+    well && keys.next().is_none()
 }
 
 /// Keys leave a set as a closure says, or those between two keys do, and come again.
@@ -463,22 +607,11 @@ pub fn keys_are_thinned<K: Sample>(
     by_range: bool,
 ) -> Result<bool, AllocError> {
     let (from, to) = (plain.len() / 3, plain.len().saturating_sub(2));
-    let mut well = true;
-    if by_range && from < to {
-        let (lo, hi) = (key_of(alloc, plain, from)?, key_of(alloc, plain, to)?);
-        let gone = set.remove_range(lo.as_ref(), hi.as_ref())?;
-        well = gone == to.saturating_sub(from) && set.len() == plain.len().saturating_sub(gone);
+    let well = if by_range && from < to {
+        keys_between_leave(alloc, set, plain, from, to)?
     } else {
-        well = set.retain(|key: &K| key.number() % 3 != 0).is_ok();
-        let mut keys = set.iter();
-        for place in 0..plain.len() {
-            let key = plain.key_at(place).unwrap_or(0);
-            if key % 3 != 0 {
-                well = number(keys.next()) == Some(key) && well;
-            }
-        }
-        well = keys.next().is_none() && well;
-    }
+        most_keys_stay(set, plain)
+    };
     Ok(set.extend(own_keys(alloc, plain)?).is_ok() && well)
 }
 
@@ -497,7 +630,7 @@ pub fn keys_leave_and_join<K: Sample>(
     };
     let few = plain.len().saturating_sub(place);
     let mut well = set.len() == place && left.len() == few;
-    well = number(left.first()) == plain.key_at(place) && well;
-    well = set.append(&mut left).is_ok() && well;
+    well &= number(left.first()) == plain.key_at(place);
+    well &= set.append(&mut left).is_ok();
     Ok(left.is_empty() && well)
 }

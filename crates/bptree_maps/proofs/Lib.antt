@@ -1,15 +1,9 @@
 pub mod AddingLemmas
-pub mod DifferenceLemmas
-pub mod EntryKeys
 pub mod KeyLemmas
-pub mod MemberLemmas
 pub mod MovingLemmas
 pub mod PageLemmas
 pub mod PlaceLemmas
 pub mod PopLemmas
 pub mod RetainLemmas
 pub mod SplitLemmas
-pub mod SymmetricLemmas
-pub mod UnionLemmas
-pub mod WalkLemmas
 pub mod UpsertLemmas

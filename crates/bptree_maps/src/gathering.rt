@@ -2,6 +2,7 @@
 ghost use Rattle.std.specs.Prelude.{◌≡◌, IfOk, List};
 ghost use Rattle.bptree_keys.specs.Contents.{IsAscending, gather};
 
+use crate::map::BPlusTreeMap;
 use bptree_arguments::argument::Argument;
 use bptree_keys::key::Key;
 use bptree_loading::loading::sort_for_load;
@@ -18,6 +19,15 @@ pub(crate) fn gather_tree<K: Key, V: Drop, A: Argument<K>>(
 {
     sort_for_load(&mut pairs)?;
     BPlusTree::bulk_load(pairs)
+}
+
+/// The same for a map. A refusal for want of memory drops the pairs.
+pub fn gather_map<K: Key, V: Drop, A: Argument<K>>(
+    pairs: Vec<(K, V)>,
+) -> Result<BPlusTreeMap<K, V, A>, AllocError>
+    ensures { IfOk result (λ map. map ≡ gather K.cmp pairs.items) }
+{
+    Ok(BPlusTreeMap::of_tree(gather_tree(pairs)?))
 }
 
 /// What is gathered of pairs whose keys ascend is these pairs: so `from_iter` of what `into_iter`

@@ -1,12 +1,11 @@
-//! The map and the set: an ordered map and an ordered set over a B+ tree of their own; and pages of
-//! a map by rank, through its contracts alone.
+//! An ordered map over a B+ tree of its own; pages of a map by rank, through its contracts alone; and
+//! what maps and sets share: how pairs are gathered, how a tree is split, and what a refusal leaves.
 #![tactic(auto)]
 
 mod comparing;
-mod gathering;
+pub mod gathering;
 pub mod map;
 pub mod page;
-mod refusals;
+pub mod refusals;
 mod retaining;
-pub mod set;
 mod splitting;

@@ -1,5 +1,5 @@
 //! An ordered map.
-ghost use Rattle.std.specs.Prelude.{◌≡◌, ◌*◌, ◌≤◌, List, [], None, Some, Ok, length, slice_get, false, IfOk, IfErr, OnErr, IsOk, IsTrue, ◌↔◌, is_ok, IfSome};
+ghost use Rattle.std.specs.Prelude.{◌≡◌, ◌*◌, ◌≤◌, List, [], None, Some, Ok, length, slice_get, false, IfOk, IfErr, OnErr, IsOk, IsTrue, ◌↔◌, is_ok, IfSome, ⊤};
 ghost use Rattle.std.specs.Borrow.{Lends, LendsIf, LendsSoOk, sem};
 ghost use Rattle.std.specs.Map.{keys_of, values_of};
 ghost use Rattle.std.specs.Iterator.{at_most, item_count, UpTo, IsFiniteIterable as AreFinite};
@@ -12,7 +12,7 @@ ghost use Rattle.std.specs.Option.{option_map, option_copied, option_copied_mut}
 ghost use Rattle.bptree_arguments.specs.Groups.{of_group};
 ghost use Rattle.bptree_arguments.specs.Visits.{answered, IsAllowedError};
 ghost use Rattle.bptree_ascent.specs.Lending.{written};
-ghost use Rattle.bptree_keys.specs.Contents.{IsAscending, has, value, gather, next};
+ghost use Rattle.bptree_keys.specs.Contents.{IsAscending, has, value, gather, next, last_member};
 ghost use Rattle.bptree_keys.specs.Ranges.{between, part};
 ghost use Rattle.bptree_maps.specs.Places.{place};
 ghost use Rattle.bptree_maps.specs.Popping.{IsPopped};
@@ -20,7 +20,7 @@ ghost use Rattle.bptree_nodes.specs.Leaf.{set_value_at};
 ghost use Rattle.bptree_ranges.specs.Summaries.{IsPartSummary};
 ghost use Rattle.bptree_descents.specs.ByArgument.{IsPartSelected, IsTaken};
 ghost use Rattle.bptree_tree.specs.Cursor.{PointsAt, ShowsValueOf};
-ghost use Rattle.bptree_tree.specs.Entries.{entry, at_least, SumsUpBetween, last_of, pairs_between};
+ghost use Rattle.bptree_tree.specs.Entries.{entry, at_least, SumsUpBetween, pairs_between};
 ghost use Rattle.bptree_tree.specs.Refusal.{HandsBack};
 ghost use Rattle.bptree_maps.specs.contracts.map.BPlusTreeMap.{the_row};
 ghost use Rattle.bptree_maps.specs.Rows.{inner_row, count_row, count_argument, count_clone, count_default};
@@ -104,6 +104,13 @@ impl<K: Key, V: Drop, A: Argument<K>> BPlusTreeMap<K, V, A> {
         Ok(BPlusTreeMap {
             inner: gather_tree(given)?,
         })
+    }
+
+    // The map of a tree.
+    pub(crate) fn of_tree(inner: BPlusTree<NodeStoreVec<K, V, A>>) -> Self
+        ensures { result ≡ inner.contents }
+    {
+        BPlusTreeMap { inner }
     }
 
     /// The number of pairs.
@@ -194,7 +201,7 @@ impl<K: Key, V: Drop, A: Argument<K>> BPlusTreeMap<K, V, A> {
 
     /// The pair with the greatest key.
     pub fn last(&self) -> Option<(&K, &V)>
-        ensures { option_map deref_pair result ≡ last_of self.now }
+        ensures { option_map deref_pair result ≡ last_member self.now }
     {
         self.inner.last()
     }
@@ -203,14 +210,14 @@ impl<K: Key, V: Drop, A: Argument<K>> BPlusTreeMap<K, V, A> {
     pub fn first_key_value(&self) -> Option<(&K, &V)>
         ensures { option_map deref_pair result ≡ slice_get self.now 0 }
     {
-        self.inner.first()
+        self.first()
     }
 
     /// The pair with the greatest key: the same as `last`.
     pub fn last_key_value(&self) -> Option<(&K, &V)>
-        ensures { option_map deref_pair result ≡ last_of self.now }
+        ensures { option_map deref_pair result ≡ last_member self.now }
     {
-        self.inner.last()
+        self.last()
     }
 
     /// A cursor on the least key that is not below `k`, and the value there. It takes what a clone
@@ -385,7 +392,7 @@ impl<K: Key, V: Drop, A: Argument<K>> BPlusTreeMap<K, V, A> {
         ensures ascending { IsStrictlySortedBy K.cmp result }
         ensures runs { ShowsInOrder (deref {X = K}) }
     {
-        Keys::new(self.inner.iter())
+        Keys::new(self.iter())
     }
 
     /// The values in the order of their keys. It takes no memory, and neither do its steps.
@@ -393,7 +400,7 @@ impl<K: Key, V: Drop, A: Argument<K>> BPlusTreeMap<K, V, A> {
         ensures rest { result ≡ values_of self.now }
         ensures runs { ShowsInOrder (deref {X = V}) }
     {
-        Values::new(self.inner.iter())
+        Values::new(self.iter())
     }
 
     /// The keys in their order, each handed over; each value is dropped at its step. It takes no
@@ -562,7 +569,7 @@ impl<K: Key, V: Drop> BPlusTreeMap<K, V, Count> {
     pub fn place_of(&self, k: &K) -> Option<usize>
         ensures { result ≡ place K.cmp self.now k.now }
     {
-        match self.inner.rank_by_argument(k) {
+        match self.rank_by_argument(k) {
             Ok(Ok(rank)) => Some(rank),
             Ok(Err(_)) => None,
             Err(_) => unreachable!(),
@@ -574,7 +581,7 @@ impl<K: Key, V: Drop> BPlusTreeMap<K, V, Count> {
     pub fn get_at(&self, i: usize) -> Option<(&K, &V)>
         ensures { option_map deref_pair result ≡ slice_get self.now i }
     {
-        match self.inner.get_by_argument(i) {
+        match self.get_by_argument(i) {
             Ok(found) => found,
             Err(_) => unreachable!(),
         }
@@ -603,7 +610,7 @@ impl<K: Key, V: Drop> BPlusTreeMap<K, V, Count> {
         if i >= self.len() {
             return Ok(None);
         }
-        self.inner.remove_by_argument(i)
+        self.remove_by_argument(i)
     }
 }
 
@@ -685,3 +692,15 @@ impl<'a, K: Key, V: Drop, A: Argument<K>> ExactSizeIterator for Iter<'a, K, V, A
 }
 
 impl<'a, K: Key, V: Drop, A: Argument<K>> FusedIterator for Iter<'a, K, V, A> {}
+
+impl<'a, K: Key, V: Drop, A: Argument<K>> Clone for Iter<'a, K, V, A> {
+    ghost is_clone = { λ it copy. copy ≡ it };
+
+    ghost is_infallible = { λ _. ⊤ };
+
+    fn clone(&self) -> Result<Self, AllocError> {
+        Ok(Iter {
+            inner: self.inner.clone()?,
+        })
+    }
+}

@@ -4,9 +4,6 @@ ghost use Rattle.bptree_tree.specs.Refusal.{pair_of};
 ghost use Rattle.bptree_maps.specs.Retaining.{IsRetained, IsRetainRefused};
 
 use crate::refusals::RetainError;
-use bptree_arguments::argument::Argument;
-use bptree_keys::key::Key;
-use bptree_stores::node_store_vec::NodeStoreVec;
 use bptree_stores::node_stores::NodeStore;
 use bptree_tree::tree::IntoIter;
 use bptree_tree::{BPlusTree, InsertError};
@@ -23,15 +20,15 @@ fn pair_back<K: Drop, V: Drop>(refusal: InsertError<K, V>) -> (K, V)
 }
 
 // Keeps the pairs for which a closure answers true, as it leaves their values.
-pub(crate) fn retain_in_tree<K: Key, V: Drop, A: Argument<K>, F: FnMut(&K, &mut V) -> bool>(
-    tree: &mut BPlusTree<NodeStoreVec<K, V, A>>,
+pub(crate) fn retain_in_tree<S: NodeStore, F: FnMut(&S::K, &mut S::V) -> bool>(
+    tree: &mut BPlusTree<S>,
     mut f: F,
-) -> Result<(), RetainError<(K, V), IntoIter<NodeStoreVec<K, V, A>>>>
+) -> Result<(), RetainError<(S::K, S::V), IntoIter<S>>>
     requires { F.IsAlwaysCallable f }
     ensures ok { OnOk result (IsRetained F.FnMut f tree.old.contents tree.new.contents) }
     ensures err { IfErr result (IsRetainRefused F.FnMut f tree.old.contents tree.new.contents) }
 {
-    let Ok(fresh) = BPlusTree::new(NodeStoreVec::empty(tree.node_store().allocator())) else {
+    let Ok(fresh) = BPlusTree::new(S::empty(tree.node_store().allocator())) else {
         return Err(RetainError::NotMade);
     };
     let mut pairs = mem::replace(tree, fresh).into_iter();

@@ -3,15 +3,12 @@ ghost use Rattle.std.specs.Prelude.{◌≡◌, ◌++◌, Some, None, IfOk, IfErr
 ghost use Rattle.bptree_maps.specs.Splitting.{gone, reaches, KeepsBelow, SplitsOff};
 
 use crate::refusals::{MoveError, SplitError};
-use bptree_arguments::argument::Argument;
-use bptree_keys::key::Key;
-use bptree_stores::node_store_vec::NodeStoreVec;
 use bptree_stores::node_stores::NodeStore;
 use bptree_tree::BPlusTree;
 
 // Whether the greatest key is not below a key. No other key is compared.
-fn reaches<K: Key, V: Drop, A: Argument<K>>(tree: &BPlusTree<NodeStoreVec<K, V, A>>, k: &K) -> bool
-    ensures { result ≡ reaches K.cmp tree.now.contents k.now }
+fn reaches<S: NodeStore>(tree: &BPlusTree<S>, k: &S::K) -> bool
+    ensures { result ≡ reaches S.K.cmp tree.now.contents k.now }
 {
     match tree.last() {
         Some((last, _)) => *last >= *k,
@@ -20,20 +17,17 @@ fn reaches<K: Key, V: Drop, A: Argument<K>>(tree: &BPlusTree<NodeStoreVec<K, V, 
 }
 
 // Moves the pairs whose key is not below `k` to a tree of their own, the greatest first.
-pub(crate) fn split_tree<K: Key, V: Drop, A: Argument<K>>(
-    tree: &mut BPlusTree<NodeStoreVec<K, V, A>>,
-    k: &K,
-) -> Result<
-    BPlusTree<NodeStoreVec<K, V, A>>,
-    SplitError<BPlusTree<NodeStoreVec<K, V, A>>, MoveError<K, V>>,
->
-    ensures ok { IfOk result (λ there. SplitsOff K.cmp k.now tree.old.contents tree.new.contents there.contents) }
+pub(crate) fn split_tree<S: NodeStore>(
+    tree: &mut BPlusTree<S>,
+    k: &S::K,
+) -> Result<BPlusTree<S>, SplitError<BPlusTree<S>, MoveError<S::K, S::V>>>
+    ensures ok { IfOk result (λ there. SplitsOff S.K.cmp k.now tree.old.contents tree.new.contents there.contents) }
     ensures err { IfErr result (λ r. tree.old.contents ≡ tree.new.contents ++ gone (λ there. there.contents) r) }
-    ensures kept { KeepsBelow K.cmp k.now tree.old.contents tree.new.contents }
+    ensures kept { KeepsBelow S.K.cmp k.now tree.old.contents tree.new.contents }
 {
     // Read, so that the keys are known to ascend.
     let _len = tree.len();
-    let Ok(mut there) = BPlusTree::new(NodeStoreVec::empty(tree.node_store().allocator())) else {
+    let Ok(mut there) = BPlusTree::new(S::empty(tree.node_store().allocator())) else {
         return Err(SplitError::NotMade);
     };
     'moves: while reaches(tree, k) {

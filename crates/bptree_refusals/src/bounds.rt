@@ -1,11 +1,10 @@
 //! Maps that are asked for cursors on lower and upper bounds.
 
 use crate::commands::Asked;
-use crate::digest::digest_of;
 use crate::plans::Call;
 use crate::sample::Sample;
-use crate::shapes::{Shape, shape_of};
-use crate::trees::{is_sample, is_tidy_tree};
+use crate::shapes::Shape;
+use crate::trees::is_sample;
 use crate::trial::Subject;
 use std::alloc::{AllocError, Global};
 use sweep_bptree::BPlusTreeMap;
@@ -74,14 +73,14 @@ impl<K: Sample, A: Asked<K>> Subject for Bounded<K, A> {
     }
 
     fn told(&self) -> (u64, usize) {
-        (digest_of(self.0.tree()), self.0.len())
+        self.0.told()
     }
 
     fn is_tidy(&self) -> bool {
-        is_tidy_tree(self.0.tree())
+        self.0.is_tidy()
     }
 
     fn shape(&self) -> Option<Shape> {
-        Some(shape_of(self.0.tree()))
+        self.0.shape()
     }
 }

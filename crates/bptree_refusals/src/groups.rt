@@ -12,6 +12,17 @@ use sweep_bptree::tree::group::{ExtractGroupSize, GroupCount};
 #[derive(Drop)]
 pub struct Grouped<K: Sample, G: Group<K>>(BPlusTreeMap<K, u64, GroupCount<G>>);
 
+// Whether a visit tells the size of a group.
+fn is_sized<K: Sample, G: Group<K>>(
+    map: &BPlusTreeMap<K, u64, GroupCount<G>>,
+    group: G,
+) -> Result<bool, AllocError> {
+    match map.descend_visit(ExtractGroupSize::new(group)) {
+        Ok(size) => Ok(size == Some(170)),
+        Err(_) => Err(AllocError),
+    }
+}
+
 impl<K: Sample, G: Group<K>> Subject for Grouped<K, G> {
     fn made(alloc: Global, many: u64) -> Result<Grouped<K, G>, AllocError> {
         let map = BPlusTreeMap::from_iter(alloc, pairs_of(alloc, many, true)?)?;
@@ -22,10 +33,7 @@ impl<K: Sample, G: Group<K>> Subject for Grouped<K, G> {
         let group = G::group(alloc, 200)?;
         let map = &self.0;
         match call {
-            Call::Own(0) => match map.descend_visit(ExtractGroupSize::new(group)) {
-                Ok(size) => Ok(size == Some(170)),
-                Err(_) => Err(AllocError),
-            },
+            Call::Own(0) => is_sized(map, group),
             Call::Own(1) => Ok(map.group_range(&group)?.len() == 170),
             Call::Own(2) => Ok(map.group_part(&group, 20, 30)?.len() == 30),
             _ => Ok(group_page(map, &group, 8, 20)?.len() == 10),

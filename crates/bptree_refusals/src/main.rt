@@ -42,9 +42,23 @@ use std::io::Read;
 use std::process::ExitCode;
 use sweep_bptree::tree::count::Count;
 use sweep_bptree::tree::group::{GroupCount, Tuple2};
-use sweep_bptree::{BPlusTree, BPlusTreeMap, BPlusTreeSet, NodeStoreVec};
+use sweep_bptree::{BPlusTree, BPlusTreeMap, BPlusTreeSet, CloneStore, NodeStoreVec};
 
 type Pair = (String, u64);
+
+// A scenario on trees over a store.
+fn on_store<S: CloneStore<V = u64>>(trial: &mut Trial, letter: u8, plan: &Plan)
+where
+    S::K: Sample,
+    S::Argument: Asked<S::K>,
+{
+    match letter {
+        b'k' => trial.carry_out::<Commanded<S>>(plan),
+        b'l' => trial.carry_out::<Readings<S>>(plan),
+        b'm' => trial.carry_out::<Numbered<S>>(plan),
+        _ => trial.carry_out::<BPlusTree<S>>(plan),
+    }
+}
 
 // A scenario on trees.
 fn on_trees<K: Sample, A: Asked<K>>(trial: &mut Trial, letter: u8, plan: &Plan) {
@@ -53,12 +67,9 @@ fn on_trees<K: Sample, A: Asked<K>>(trial: &mut Trial, letter: u8, plan: &Plan) 
         b'o' if plan.size > 4 => trial.carry_out::<Bounded<K, A>>(plan),
         b'o' if plan.size > 1 => trial.carry_out::<Moved<K, A>>(plan),
         b'o' if plan.size > 0 => trial.carry_out::<Placed<K, A>>(plan),
-        b'k' => trial.carry_out::<Commanded<NodeStoreVec<K, u64, A>>>(plan),
-        b'l' => trial.carry_out::<Readings<NodeStoreVec<K, u64, A>>>(plan),
-        b'm' => trial.carry_out::<Numbered<NodeStoreVec<K, u64, A>>>(plan),
         b'n' | b'o' => trial.carry_out::<BPlusTreeMap<K, u64, A>>(plan),
         b'p' => trial.carry_out::<Made<Roomy<K, A>>>(plan),
-        _ => trial.carry_out::<BPlusTree<NodeStoreVec<K, u64, A>>>(plan),
+        _ => on_store::<NodeStoreVec<K, u64, A>>(trial, letter, plan),
     }
 }
 
@@ -139,7 +150,7 @@ fn main(rt: HostRuntime) -> ExitCode {
         } else if *letter != b'\n' {
             let mut trial = Trial::new(&rt);
             carry_out(&mut trial, *letter, size);
-            all = trial.tell() && all;
+            all &= trial.tell();
             size = 0;
         }
     }

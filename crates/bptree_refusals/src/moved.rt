@@ -4,7 +4,7 @@ use crate::digest::{Digest, Told};
 use crate::plans::Call;
 use crate::sample::{Sample, keys_of, pairs_of};
 use crate::shapes::{Shape, shape_of};
-use crate::trees::{is_sample, is_tidy_tree};
+use crate::trees::is_sample;
 use crate::trial::Subject;
 use std::alloc::{AllocError, Global};
 use sweep_bptree::map::{MoveError, RetainError, SplitError};
@@ -48,6 +48,13 @@ fn comes_back<K: Sample, A: Argument<K>>(
     }
 }
 
+// Adds to each value.
+fn add_to_each<K: Sample, A: Argument<K>>(map: &mut BPlusTreeMap<K, u64, A>, more: u64) {
+    map.update_each(|_key: &K, value: &mut u64| {
+        *value = value.wrapping_add(more);
+    });
+}
+
 impl<K: Sample, A: Argument<K> + Told> Moved<K, A> {
     // The last pairs leave. Where that is refused, those that left come back.
     fn splits(&mut self, alloc: Global) -> Result<bool, AllocError> {
@@ -61,11 +68,19 @@ impl<K: Sample, A: Argument<K> + Told> Moved<K, A> {
             }
             Err(SplitError::NotMade) => Err(AllocError),
             Err(SplitError::NotAll(there, refusal)) => {
-                let mut there = there;
-                comes_back(&mut self.here, refusal)?;
-                let came = self.here.append(&mut there).is_ok();
-                if came { Err(AllocError) } else { Ok(false) }
+                self.there = there;
+                self.comes_again(refusal)
             }
+        }
+    }
+
+    // Those that left come back, after a refusal.
+    fn comes_again(&mut self, refusal: MoveError<K, u64>) -> Result<bool, AllocError> {
+        comes_back(&mut self.here, refusal)?;
+        if self.here.append(&mut self.there).is_ok() {
+            Err(AllocError)
+        } else {
+            Ok(false)
         }
     }
 
@@ -101,12 +116,8 @@ impl<K: Sample, A: Argument<K> + Told> Moved<K, A> {
     // Where that is refused, the pair in hand comes back, and those that were not asked.
     fn keeps(&mut self) -> Result<bool, AllocError> {
         let len = self.here.len();
-        self.here.update_each(|_key: &K, value: &mut u64| {
-            *value = value.wrapping_add(1);
-        });
-        self.here.update_each(|_key: &K, value: &mut u64| {
-            *value = value.wrapping_sub(1);
-        });
+        add_to_each(&mut self.here, 1);
+        add_to_each(&mut self.here, u64::MAX);
         match self.here.retain(|_key: &K, _value: &mut u64| true) {
             Ok(()) => Ok(self.here.len() == len),
             Err(RetainError::NotMade) => Err(AllocError),
@@ -238,11 +249,11 @@ impl<K: Sample, A: Argument<K> + Told> Subject for Moved<K, A> {
     }
 
     fn is_tidy(&self) -> bool {
-        is_tidy_tree(self.here.tree()) && is_tidy_tree(self.there.tree())
+        self.here.is_tidy() && self.there.is_tidy()
     }
 
     fn shape(&self) -> Option<Shape> {
-        Some(shape_of(self.here.tree()))
+        self.here.shape()
     }
 }
 
@@ -289,11 +300,19 @@ impl<K: Sample> MovedKeys<K> {
             }
             Err(SplitError::NotMade) => Err(AllocError),
             Err(SplitError::NotAll(there, refusal)) => {
-                let mut there = there;
-                key_comes_back(&mut self.here, key_in_hand(refusal))?;
-                let came = self.here.append(&mut there).is_ok();
-                if came { Err(AllocError) } else { Ok(false) }
+                self.there = there;
+                self.comes_again(refusal)
             }
+        }
+    }
+
+    // Those that left come back, after a refusal.
+    fn comes_again(&mut self, refusal: MoveError<K, ()>) -> Result<bool, AllocError> {
+        key_comes_back(&mut self.here, key_in_hand(refusal))?;
+        if self.here.append(&mut self.there).is_ok() {
+            Err(AllocError)
+        } else {
+            Ok(false)
         }
     }
 

@@ -1,11 +1,10 @@
 //! Maps with counts that are asked for cursors on places, and lose their first pairs by a place, one
 //! by its key, and the last one.
 
-use crate::digest::digest_of;
 use crate::plans::Call;
 use crate::sample::{Sample, pairs_of};
-use crate::shapes::{Shape, shape_of};
-use crate::trees::{is_sample, is_tidy_tree};
+use crate::shapes::Shape;
+use crate::trees::is_sample;
 use crate::trial::Subject;
 use std::alloc::{AllocError, Global};
 use sweep_bptree::BPlusTreeMap;
@@ -72,14 +71,14 @@ impl<K: Sample> Subject for Pointed<K> {
     }
 
     fn told(&self) -> (u64, usize) {
-        (digest_of(self.map.tree()), self.map.len())
+        self.map.told()
     }
 
     fn is_tidy(&self) -> bool {
-        is_tidy_tree(self.map.tree())
+        self.map.is_tidy()
     }
 
     fn shape(&self) -> Option<Shape> {
-        Some(shape_of(self.map.tree()))
+        self.map.shape()
     }
 }

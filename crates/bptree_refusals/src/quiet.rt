@@ -168,26 +168,64 @@ pub struct SetReadings<K: Sample> {
 // How many keys of two equal sets there are together, with those that one has alone and those that
 // both have, and how many the second hands over.
 fn counted<K: Sample>(one: &BPlusTreeSet<K>, other: BPlusTreeSet<K>) -> usize {
-    let mut count: usize = 0;
-    for _key in one.union(&other) {
-        count = count.saturating_add(1);
-    }
-    for _key in one.difference(&other) {
-        count = count.saturating_add(1);
-    }
-    for _key in one.symmetric_difference(&other) {
-        count = count.saturating_add(1);
-    }
-    for _key in one.intersection(&other) {
-        count = count.saturating_add(1);
-    }
-    if !one.is_subset(&other) || !one.is_superset(&other) || one.is_disjoint(&other) {
+    if !are_alike(one, &other) {
         return 0;
     }
+    let mut count = together(one, &other).saturating_add(apart(one, &other));
     for _key in other {
         count = count.saturating_add(1);
     }
     count
+}
+
+fn are_alike<K: Sample>(one: &BPlusTreeSet<K>, other: &BPlusTreeSet<K>) -> bool {
+    let is_within = one.is_subset(other) && one.is_superset(other);
+    is_within && !one.is_disjoint(other)
+}
+
+fn together<K: Sample>(one: &BPlusTreeSet<K>, other: &BPlusTreeSet<K>) -> usize {
+    let mut count: usize = 0;
+    for _key in one.union(other) {
+        count = count.saturating_add(1);
+    }
+    for _key in one.intersection(other) {
+        count = count.saturating_add(1);
+    }
+    count
+}
+
+fn apart<K: Sample>(one: &BPlusTreeSet<K>, other: &BPlusTreeSet<K>) -> usize {
+    let mut count: usize = 0;
+    for _key in one.difference(other) {
+        count = count.saturating_add(1);
+    }
+    for _key in one.symmetric_difference(other) {
+        count = count.saturating_add(1);
+    }
+    count
+}
+
+// Whether a key is there, and greater than all others, and a greater one is not.
+fn has_last<K: Sample>(set: &BPlusTreeSet<K>, here: &K, gone: &K) -> bool {
+    let is_there = set.contains(here) && set.get(here) == Some(here);
+    let is_gone = set.get(gone).is_none() && !set.contains(gone);
+    is_there && is_gone && set.first().is_some() && set.last() == Some(here)
+}
+
+// Whether a key that is there is dropped.
+fn is_held<K: Sample>(set: &mut BPlusTreeSet<K>, equal: Option<K>) -> bool {
+    match equal {
+        Some(equal) => set.insert(equal).ok() == Some(false),
+        None => false,
+    }
+}
+
+// Whether an equal set has as many keys alone, together and in all.
+fn is_counted<K: Sample>(set: &BPlusTreeSet<K>, other: Option<BPlusTreeSet<K>>) -> bool {
+    match other {
+        Some(other) => counted(set, other) == set.len().saturating_mul(3),
+        None => false,
+    }
 }
 
 impl<K: Sample> Subject for SetReadings<K> {
@@ -208,31 +246,17 @@ impl<K: Sample> Subject for SetReadings<K> {
     }
 
     fn answers(&mut self, _alloc: Global, call: Call) -> Result<bool, AllocError> {
-        let SetReadings {
-            one,
-            other,
-            here,
-            equal,
-            gone,
-        } = self;
         match call {
-            Call::Own(0) => Ok(
-                one.contains(here)
-                    && one.get(here) == Some(here)
-                    && one.get(gone).is_none()
-                    && !one.contains(gone)
-                    && one.first().is_some()
-                    && one.last() == Some(here),
-            ),
-            Call::Own(1) => match equal.take() {
-                Some(equal) => Ok(one.insert(equal).ok() == Some(false)),
-                None => Ok(false),
-            },
-            Call::Own(2) => Ok(!one.remove(gone)?),
-            _ => match other.take() {
-                Some(other) => Ok(counted(one, other) == one.len().saturating_mul(3)),
-                None => Ok(false),
-            },
+            Call::Own(0) => Ok(has_last(&self.one, &self.here, &self.gone)),
+            Call::Own(1) => {
+                let equal = self.equal.take();
+                Ok(is_held(&mut self.one, equal))
+            }
+            Call::Own(2) => Ok(!self.one.remove(&self.gone)?),
+            _ => {
+                let other = self.other.take();
+                Ok(is_counted(&self.one, other))
+            }
         }
     }
 

@@ -87,7 +87,7 @@ impl<K: Sample> Sharded<K> {
         }
         for _ in 0..shard.len() {
             if let Some((key, value)) = shard.pop_first()? {
-                is_well = self.puts(key, value)? && is_well;
+                is_well &= self.puts(key, value)?;
             }
         }
         Ok(is_well)

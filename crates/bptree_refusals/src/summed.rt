@@ -10,6 +10,14 @@ use sweep_bptree::tree::Argument;
 use sweep_bptree::tree::count::Count;
 use sweep_bptree::tree::group::GroupCount;
 
+// A map of so many pairs.
+fn of_pairs<K: Sample, A: Argument<K>>(
+    alloc: Global,
+    many: u64,
+) -> Result<BPlusTreeMap<K, u64, A>, AllocError> {
+    BPlusTreeMap::from_iter(alloc, pairs_of(alloc, many, true)?)
+}
+
 // Maps of height 0, 1 and 2.
 #[derive(Drop)]
 struct Heights<K: Sample, A: Argument<K>> {
@@ -20,9 +28,9 @@ struct Heights<K: Sample, A: Argument<K>> {
 
 impl<K: Sample, A: Argument<K>> Heights<K, A> {
     fn made(alloc: Global, many: u64) -> Result<Heights<K, A>, AllocError> {
-        let low = BPlusTreeMap::from_iter(alloc, pairs_of(alloc, 40, true)?)?;
-        let middle = BPlusTreeMap::from_iter(alloc, pairs_of(alloc, 400, true)?)?;
-        let high = BPlusTreeMap::from_iter(alloc, pairs_of(alloc, many, true)?)?;
+        let low = of_pairs(alloc, 40)?;
+        let middle = of_pairs(alloc, 400)?;
+        let high = of_pairs(alloc, many)?;
         Ok(Heights { low, middle, high })
     }
 

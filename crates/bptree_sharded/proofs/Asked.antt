@@ -7,10 +7,10 @@ use Rattle.std.specs.Cmp.{IsTotalOrder}
 use Rattle.std.proofs.lemmas.List.{length-map, map-set, set-get_or, get_or_default, get_or-set_same, take_more, take_all}
 use Rattle.std.proofs.lemmas.List.Sums.{length-filter, count_by-le-length}
 use Rattle.std.specs.Ordering.{is_lt}
-use Rattle.bptree_keys.specs.Contents.{has, value, put, del, next, previous, pairs_below}
+use Rattle.bptree_keys.specs.Contents.{has, value, put, del, next, previous, pairs_below, last_member}
 use Rattle.bptree_keys.specs.Pieces.{flatten, piece_at, start_of}
 use Rattle.bptree_keys.proofs.Updates.{length_put, length_del}
-use Rattle.bptree_shards.specs.Lengths.{last_of, lengths_of, IsLocated, IsFirstFull, IsLastFull, first_in, last_in}
+use Rattle.bptree_shards.specs.Lengths.{lengths_of, IsPlaceFound, IsFirstFull, IsLastFull, first_in, last_in}
 use Rattle.bptree_shards.specs.Shards.{AreShards, shard_of, shard_below}
 use Rattle.bptree_shards.proofs.LengthLemmas.{total, start_is, length_at, within, member_located, first_from, last_whole}
 use Rattle.bptree_shards.proofs.RangeLemmas.{routed_below, next_found, previous_routed, previous_lower}
@@ -124,7 +124,7 @@ module _ {T K V : Type 0} (cmp : K → K → Ordering) (order : IsTotalOrder cmp
 
   -- ---- places and ends
 
-  pub at_asked : (place shard n : ℕ) (x : T) → IsLocated lengths place (Some (shard, n)) → x ≡ get_or items shard x → slice_get (pairs x) n ≡ slice_get (flatten shards) place
+  pub at_asked : (place shard n : ℕ) (x : T) → IsPlaceFound lengths place (Some (shard, n)) → x ≡ get_or items shard x → slice_get (pairs x) n ≡ slice_get (flatten shards) place
   at_asked place shard n x is here =
       let found = rw whole.counted at is in
       let long : n < length (piece_at shards shard) = rw (length_at shards shard) at found.inside in
@@ -146,11 +146,11 @@ module _ {T K V : Type 0} (cmp : K → K → Ordering) (order : IsTotalOrder cmp
   pub first_some : (j : ℕ) (y : T) → IsFirstFull lengths 0 (length lengths) (Some j) → y ≡ get_or items j y → slice_get (pairs y) 0 ≡ slice_get (flatten shards) 0
   first_some j y is here = ap (λ l. slice_get l 0) (asked pairs items j y (full_there 0 (length lengths) j is) here) ∙ sym (first_from shards 0 (Some j) (rw whole.counted at (rw same_shards_count at is)))
 
-  pub last_none : IsLastFull lengths (length lengths) None → None ≡ last_of (flatten shards)
+  pub last_none : IsLastFull lengths (length lengths) None → None ≡ last_member (flatten shards)
   last_none is = sym (last_whole shards None (rw whole.counted at (rw same_shards_count at is)))
 
   -- the last pair of a shard whose length is known
-  last_pair : (j : ℕ) (y : T) → j < length items → y ≡ get_or items j y → slice_get (pairs y) (get_or lengths j 0 - 1) ≡ last_of (piece_at shards j)
+  last_pair : (j : ℕ) (y : T) → j < length items → y ≡ get_or items j y → slice_get (pairs y) (get_or lengths j 0 - 1) ≡ last_member (piece_at shards j)
   last_pair j y short here =
       let long : get_or lengths j 0 ≡ length (piece_at shards j) = ap (λ l. get_or l j 0) whole.counted ∙ length_at shards j in
       let same = asked pairs items j y short here in
@@ -160,7 +160,7 @@ module _ {T K V : Type 0} (cmp : K → K → Ordering) (order : IsTotalOrder cmp
   read_length : (j n : ℕ) → j < length items → n ≡ get_or lengths j n → n ≡ get_or lengths j 0
   read_length j n short is = let here : j < length lengths = omega (arith, short, same_count) in is ∙ get_or_default lengths j n 0 here
 
-  pub last_some : (j n : ℕ) (y : T) → IsLastFull lengths (length lengths) (Some j) → y ≡ get_or items j y → n ≡ get_or lengths j n → slice_get (pairs y) (n - 1) ≡ last_of (flatten shards)
+  pub last_some : (j n : ℕ) (y : T) → IsLastFull lengths (length lengths) (Some j) → y ≡ get_or items j y → n ≡ get_or lengths j n → slice_get (pairs y) (n - 1) ≡ last_member (flatten shards)
   last_some j n y is here long =
       ap (λ m. slice_get (pairs y) (m - 1)) (read_length j n (last_there (length lengths) j is) long)
       ∙ last_pair j y (last_there (length lengths) j is) here ∙ sym (last_whole shards (Some j) (rw whole.counted at (rw same_shards_count at is)))
@@ -204,8 +204,8 @@ module _ {T K V : Type 0} (cmp : K → K → Ordering) (order : IsTotalOrder cmp
         ∙ ap (λ o. option_or o (last_in shards found)) (sym from_previous)
 
     pub previous_own : true ≡ is_some r → option_map shows r ≡ previous cmp (flatten shards) k
-    previous_own some = or_some shows r (last_of (flatten (take (shard_below cmp bounds k) shards))) some
-        ∙ ap (λ o. option_or o (last_of (flatten (take (shard_below cmp bounds k) shards)))) from_previous ∙ sym (previous_lower cmp order bounds shards k whole.are)
+    previous_own some = or_some shows r (last_member (flatten (take (shard_below cmp bounds k) shards))) some
+        ∙ ap (λ o. option_or o (last_member (flatten (take (shard_below cmp bounds k) shards)))) from_previous ∙ sym (previous_lower cmp order bounds shards k whole.are)
 
     pub previous_none : false ≡ is_some r → IsLastFull lengths i None → None ≡ previous cmp (flatten shards) k
     previous_none none full = sym (previous_by None full ∙ ap (λ o. option_or o None) (not_some shows r none))
@@ -214,7 +214,7 @@ module _ {T K V : Type 0} (cmp : K → K → Ordering) (order : IsTotalOrder cmp
     previous_some none j n y full there_y long =
         ap (λ m. slice_get (pairs y) (m - 1)) (read_length j n (last_there i j full) long) ∙ last_pair j y (last_there i j full) there_y ∙ sym (previous_by (Some j) full ∙ ap (λ o. option_or o (last_in shards (Some j))) (not_some shows r none))
 
-  pub at_none : (place : ℕ) → IsLocated lengths place None → None ≡ slice_get (flatten shards) place
+  pub at_none : (place : ℕ) → IsPlaceFound lengths place None → None ≡ slice_get (flatten shards) place
   at_none place past = sym (member_located shards place None (rw whole.counted at past))
 
   -- a rank is at most the number of pairs

@@ -2,13 +2,13 @@
 ghost use Rattle.std.specs.Prelude.{◌≡◌, ◌+◌, ◌^◌, ◌<◌, ◌≤◌, List, length, vec_len, vec_capacity, map, take, insert, slice_get, if◌then◌else◌, IfOk, IfErr, OnOk, OnErr};
 ghost use Rattle.std.specs.List.{sum};
 ghost use Rattle.std.specs.Option.{option_copied, option_map};
-ghost use Rattle.bptree_keys.specs.Contents.{IsAscending, value, put, del, next, previous, pairs_below};
+ghost use Rattle.bptree_keys.specs.Contents.{IsAscending, value, put, del, next, previous, pairs_below, last_member};
 ghost use Rattle.bptree_keys.specs.Pieces.{flatten};
 ghost use Rattle.bptree_keys.specs.Ranges.{between, part};
 ghost use Rattle.bptree_shards.specs.Shards.{AreShards, back_from};
 ghost use Rattle.bptree_sharded.specs.Shown.{shown, GivesBack};
 ghost use Rattle.bptree_sharded.specs.Whole.{descends_at};
-ghost use Rattle.bptree_tree.specs.Entries.{last_of, pairs_between};
+ghost use Rattle.bptree_tree.specs.Entries.{pairs_between};
 ghost use Rattle.std.specs.Map.Iter.{deref_pair};
 
 use crate::shard::Shard;
@@ -174,7 +174,7 @@ impl<S: Shard> Shards<S> {
 
     /// The pair with the greatest key. The last shard that has a pair is asked.
     pub fn last(&self) -> Option<(&S::K, &S::V)>
-        ensures { option_map deref_pair result ≡ last_of self.now }
+        ensures { option_map deref_pair result ≡ last_member self.now }
     {
         match last_full(&self.lengths) {
             None => None,

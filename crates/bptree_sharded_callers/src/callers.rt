@@ -1,6 +1,7 @@
 //! Callers that are proved: what each ensures follows from the contracts of the functions that it
 //! calls.
 ghost use Rattle.std.specs.Prelude.{◌≡◌, ◌++◌, ◌<◌, ◌≤◌, ◌^◌, [], true, false, length, map, reverse, slice_get, IfOk, Some, None};
+ghost use Rattle.std.specs.Map.Iter.{deref_pair};
 ghost use Rattle.std.specs.Option.{option_copied, option_map};
 ghost use Rattle.bptree_keys.specs.Contents.{has, value, pairs_below, pairs_above};
 ghost use Rattle.bptree_keys.specs.Pieces.{flatten};
@@ -116,4 +117,22 @@ fn finds_after_a_merge<S: Shard>(whole: &mut Shards<S>, shard: usize, j: &S::K) 
     ensures { result ≡ true → value S.K.cmp whole.new j.now ≡ value S.K.cmp whole.old j.now }
 {
     whole.merge(shard).is_ok()
+}
+
+// What is answered goes by the pairs alone: shards that are cut elsewhere answer the same.
+fn answers_wherever_it_is_cut<'a, S: Shard>(
+    whole: &'a Shards<S>,
+    other: &'a Shards<S>,
+    k: &S::K,
+) -> (
+    (usize, Option<&'a S::V>, Option<(&'a S::K, &'a S::V)>),
+    (usize, Option<&'a S::V>, Option<(&'a S::K, &'a S::V)>),
+)
+    requires { whole.now ≡ other.now }
+    ensures rank { result.0.0 ≡ result.1.0 }
+    ensures value { option_copied result.0.1 ≡ option_copied result.1.1 }
+    ensures next { option_map deref_pair result.0.2 ≡ option_map deref_pair result.1.2 }
+{
+    let answers = (whole.rank(k), whole.get(k), whole.next(k));
+    (answers, (other.rank(k), other.get(k), other.next(k)))
 }

@@ -11,7 +11,8 @@ use Rattle.bptree_keys.specs.Pieces.{flatten, piece_at, start_of}
 use Rattle.bptree_keys.specs.Ranges.{part}
 use Rattle.bptree_keys.proofs.PieceLemmas.{flatten-cut}
 use Rattle.bptree_shards.specs.declared.combining.Part.{Part}
-use Rattle.bptree_shards.specs.Lengths.{last_of, lengths_of, IsPlaceIn, IsLocated, AreEmpty, IsFirstFull, IsLastFull, IsFirstPart, IsNextPart, ArePartsOf, member_in, first_in, last_in, part_in, back_in, IsRestOf}
+use Rattle.bptree_keys.specs.Contents.{last_member}
+use Rattle.bptree_shards.specs.Lengths.{lengths_of, IsPlaceIn, IsPlaceFound, AreEmpty, IsFirstFull, IsLastFull, IsFirstPart, IsNextPart, ArePartsOf, member_in, first_in, last_in, part_in, back_in, IsRestOf}
 
 -- ---- two lists, one after the other
 
@@ -34,8 +35,8 @@ module _ {X : Type 0} where
   take_two (suc n) [] ys = let e : suc n - 0 ≡ suc n = omega arith in rw e refl
   take_two (suc n) (x ∷ xs) ys = let e : suc n - length (x ∷ xs) ≡ n - length xs = omega arith in rw e (ap (λ l. x ∷ l) (take_two n xs ys))
 
-  pub last_of_two : (xs ys : List X) → last_of (xs ++ ys) ≡ option_or (last_of ys) (last_of xs)
-  last_of_two xs [] = ap last_of (append-nil xs)
+  pub last_of_two : (xs ys : List X) → last_member (xs ++ ys) ≡ option_or (last_member ys) (last_member xs)
+  last_of_two xs [] = ap last_member (append-nil xs)
   last_of_two xs (y ∷ ys) =
       let here : length (xs ++ y ∷ ys) - 1 ≡ length xs + length ys = omega (arith, length-append xs (y ∷ ys)) in
       let end : length (y ∷ ys) - 1 ≡ length ys = omega arith in
@@ -89,7 +90,7 @@ module _ {X : Type 0} (shards : List (List X)) where
     pub member_there : slice_get (flatten shards) place ≡ slice_get (piece_at shards shard) own
     member_there = rw (place_is, place_cut) (get_past (before shard) (piece_at shards shard ++ behind shard) own ∙ get_early (piece_at shards shard) (behind shard) own inside)
 
-  pub member_located : (place : ℕ) (found : Option (ℕ × ℕ)) → IsLocated (lengths_of shards) place found → slice_get (flatten shards) place ≡ member_in shards found
+  pub member_located : (place : ℕ) (found : Option (ℕ × ℕ)) → IsPlaceFound (lengths_of shards) place found → slice_get (flatten shards) place ≡ member_in shards found
   member_located place None past = slice_get_past (flatten shards) place (omega (arith, total shards, past))
   member_located place (Some at) is = member_there place at.0 at.1 is
 
@@ -208,19 +209,19 @@ module _ {X : Type 0} where
   some_before (p ∷ ps) (suc to) zero high some = omega (arith, length-append p (flatten (take to ps)), some)
   some_before (p ∷ ps) (suc to) (suc i) high some = let lt : i < to = omega arith in let more = some_before ps to i lt some in omega (arith, length-append p (flatten (take to ps)), more)
 
-  last_of_more : (xs ys : List X) → 0 < length ys → last_of (xs ++ ys) ≡ last_of ys
+  last_of_more : (xs ys : List X) → 0 < length ys → last_member (xs ++ ys) ≡ last_member ys
   last_of_more xs [] some = absurd (omega arith)
   last_of_more xs (y ∷ ys) some =
       let here : length (xs ++ y ∷ ys) - 1 ≡ length xs + length ys = omega (arith, length-append xs (y ∷ ys)) in
       let end : length (y ∷ ys) - 1 ≡ length ys = omega arith in
       rw (here, end) (get_past xs (y ∷ ys) (length ys))
 
-  last_there : (shards : List (List X)) (to i : ℕ) → i < to → 0 < length (piece_at shards i) → Empty shards (i + 1) to → last_of (flatten (take to shards)) ≡ last_of (piece_at shards i)
+  last_there : (shards : List (List X)) (to i : ℕ) → i < to → 0 < length (piece_at shards i) → Empty shards (i + 1) to → last_member (flatten (take to shards)) ≡ last_member (piece_at shards i)
   last_there [] to i high some empty = absurd (omega arith)
   last_there (p ∷ ps) zero i high some empty = absurd (omega arith)
   last_there (p ∷ ps) (suc to) zero high some empty =
       let rest : Empty ps 0 to = λ j low below. let a : 0 + 1 ≤ suc j = omega arith in let b : suc j < suc to = omega arith in empty (suc j) a b in
-      rw (none_before ps to rest) (ap last_of (append-nil p))
+      rw (none_before ps to rest) (ap last_member (append-nil p))
   last_there (p ∷ ps) (suc to) (suc i) high some empty =
       let lt : i < to = omega arith in
       let rest : Empty ps (i + 1) to = λ j low below. let a : suc i + 1 ≤ suc j = omega arith in let b : suc j < suc to = omega arith in empty (suc j) a b in
@@ -230,9 +231,9 @@ module _ {X : Type 0} where
   first_from shards from None empty = rw (none_from shards from empty) refl
   first_from shards from (Some i) is = first_there shards from i is.0 (rw (length_at shards i) at is.2) is.3
 
-  pub last_before : (shards : List (List X)) (to : ℕ) (found : Option ℕ) → IsLastFull (lengths_of shards) to found → last_of (flatten (take to shards)) ≡ last_in shards found
+  pub last_before : (shards : List (List X)) (to : ℕ) (found : Option ℕ) → IsLastFull (lengths_of shards) to found → last_member (flatten (take to shards)) ≡ last_in shards found
   last_before shards to None empty = rw (none_before shards to empty) refl
   last_before shards to (Some i) is = last_there shards to i is.0 (rw (length_at shards i) at is.1) is.2
 
-  pub last_whole : (shards : List (List X)) (found : Option ℕ) → IsLastFull (lengths_of shards) (length shards) found → last_of (flatten shards) ≡ last_in shards found
-  last_whole shards found is = let short : length shards ≤ length shards = omega arith in ap (λ l. last_of (flatten l)) (sym (take_all (length shards) shards short)) ∙ last_before shards (length shards) found is
+  pub last_whole : (shards : List (List X)) (found : Option ℕ) → IsLastFull (lengths_of shards) (length shards) found → last_member (flatten shards) ≡ last_in shards found
+  last_whole shards found is = let short : length shards ≤ length shards = omega arith in ap (λ l. last_member (flatten l)) (sym (take_all (length shards) shards short)) ∙ last_before shards (length shards) found is

@@ -11,7 +11,7 @@ use Rattle.std.proofs.lemmas.Cmp.{upto}
 use Rattle.std.proofs.lemmas.List.{append-nil, reverse-append, take-append-drop, take_at, drop_at, drop-drop, drop_all}
 use Rattle.std.proofs.lemmas.List.Elements.{filter-append}
 use Rattle.std.proofs.lemmas.List.Concat.{flat_map-append}
-use Rattle.bptree_keys.specs.Contents.{pairs_below, next, previous}
+use Rattle.bptree_keys.specs.Contents.{pairs_below, next, previous, last_member}
 use Rattle.bptree_keys.specs.Pieces.{flatten, piece_at, start_of}
 use Rattle.bptree_keys.specs.Places.{AllAnswer}
 use Rattle.bptree_keys.specs.Ranges.{between, falls_short, stays_below, part}
@@ -19,7 +19,7 @@ use Rattle.bptree_keys.proofs.Ascending.{less_turned}
 use Rattle.bptree_keys.proofs.Parted.{filter_all, filter_none}
 use Rattle.bptree_keys.proofs.PieceLemmas.{flatten-cut, flatten-append, AllByRecursion-append, AllByRecursion-left, AllByRecursion-right, AllByRecursion-weaker}
 use Rattle.bptree_shards.specs.Shards.{AreShards, StandBetween, NoneBelow, shard_of, shard_below, first_shard, last_shard, from_key, back_from}
-use Rattle.bptree_shards.specs.Lengths.{last_of, lengths_of, IsFirstFull, IsLastFull, first_in, last_in}
+use Rattle.bptree_shards.specs.Lengths.{lengths_of, IsFirstFull, IsLastFull, first_in, last_in}
 use Rattle.bptree_shards.proofs.LengthLemmas.{last_of_two, first_from, last_before, take_two}
 use Rattle.bptree_shards.proofs.ShardLemmas.{Routed, routed, next_routed}
 
@@ -120,8 +120,8 @@ module _ {K V : Type 0} (cmp : K → K → Ordering) (total : IsTotalOrder cmp) 
         ∙ ap (λ l. pairs_below cmp (piece_at shards low) k ++ l) (none_pass cmp total k (λ pair. is_lt (cmp pair.0 k)) (flatten (drop (suc low) shards)) there.others)
         ∙ append-nil (pairs_below cmp (piece_at shards low) k))
 
-    pub previous_lower : previous cmp (flatten shards) k ≡ option_or (previous cmp (piece_at shards low) k) (last_of (flatten (take low shards)))
-    previous_lower = ap last_of below_whole ∙ last_of_two (flatten (take low shards)) (pairs_below cmp (piece_at shards low) k)
+    pub previous_lower : previous cmp (flatten shards) k ≡ option_or (previous cmp (piece_at shards low) k) (last_member (flatten (take low shards)))
+    previous_lower = ap last_member below_whole ∙ last_of_two (flatten (take low shards)) (pairs_below cmp (piece_at shards low) k)
 
     pub previous_routed : (found : Option ℕ) → IsLastFull (lengths_of shards) low found → previous cmp (flatten shards) k ≡ option_or (previous cmp (piece_at shards low) k) (last_in shards found)
     previous_routed found is =

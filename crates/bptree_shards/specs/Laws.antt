@@ -3,11 +3,11 @@ use Rattle.std.specs.Prelude.{◌≡◌, ◌+◌, ◌-◌, ◌<◌, ◌≤◌, �
 use Rattle.std.specs.declared.cmp.Ordering.{Ordering}
 use Rattle.std.specs.List.{sum, flat_map}
 use Rattle.std.specs.Option.{option_or}
-use Rattle.bptree_keys.specs.Contents.{has, value, put, del, next, previous, pairs_below}
+use Rattle.bptree_keys.specs.Contents.{has, value, put, del, next, previous, pairs_below, last_member}
 use Rattle.bptree_keys.specs.Pieces.{flatten, piece_at, start_of}
 use Rattle.bptree_keys.specs.Ranges.{between, part}
 use Rattle.bptree_shards.specs.declared.combining.Part.{Part}
-use Rattle.bptree_shards.specs.Lengths.{last_of, lengths_of, IsLocated, IsFirstFull, IsLastFull, IsNextPart, ArePartsOf, member_in, first_in, last_in, part_in, back_in, IsRestOf}
+use Rattle.bptree_shards.specs.Lengths.{lengths_of, IsPlaceFound, IsFirstFull, IsLastFull, IsNextPart, ArePartsOf, member_in, first_in, last_in, part_in, back_in, IsRestOf}
 use Rattle.bptree_shards.specs.Shards.{AreShards, IsOneChanged, own_shard, lower_shard, shard_of, shard_below, first_shard, last_shard, shards_between, from_key, back_from}
 
 module _ {K : Type 0} (cmp : K → K → Ordering) (V : Type 0) where
@@ -60,7 +60,7 @@ module _ {K : Type 0} (cmp : K → K → Ordering) (V : Type 0) where
   -- the same of the pair before a key
   abbrev pub PreviousIsLowerOrBefore : Type 0
   PreviousIsLowerOrBefore = OfEachKey (λ bounds shards k.
-      previous cmp (flatten shards) k ≡ option_or (previous cmp (lower_shard cmp bounds shards k) k) (last_of (flatten (take (shard_below cmp bounds k) shards))))
+      previous cmp (flatten shards) k ≡ option_or (previous cmp (lower_shard cmp bounds shards k) k) (last_member (flatten (take (shard_below cmp bounds k) shards))))
 
   abbrev pub PreviousIsLowerOrLastFull : Type 0
   PreviousIsLowerOrLastFull = (bounds : List K) → (shards : List (List (K × V))) → (k : K) → (found : Option ℕ) → AreShards cmp bounds shards →
@@ -103,7 +103,7 @@ module _ (T : Type 0) where
   -- a place of the whole is one of the piece that has it
   abbrev pub PlaceIsLocated : Type 0
   PlaceIsLocated = (shards : List (List T)) → (place : ℕ) → (found : Option (ℕ × ℕ)) →
-      IsLocated (lengths_of shards) place found → slice_get (flatten shards) place ≡ member_in shards found
+      IsPlaceFound (lengths_of shards) place found → slice_get (flatten shards) place ≡ member_in shards found
 
   -- what stands before a piece
   abbrev pub StartIsSum : Type 0
@@ -116,7 +116,7 @@ module _ (T : Type 0) where
 
   abbrev pub LastIsInLastFull : Type 0
   LastIsInLastFull = (shards : List (List T)) → (found : Option ℕ) →
-      IsLastFull (lengths_of shards) (length shards) found → last_of (flatten shards) ≡ last_in shards found
+      IsLastFull (lengths_of shards) (length shards) found → last_member (flatten shards) ≡ last_in shards found
 
   -- a page is its part in the first piece that has a member of it, and then the rest of the page
   abbrev pub PageIsFirstPartThenRest : Type 0

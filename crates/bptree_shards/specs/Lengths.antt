@@ -1,13 +1,10 @@
 -- What the numbers of pairs of shards say: which shard has a place, which shards have a pair at all, and which shards a page asks.
 use Rattle.std.specs.Prelude.{◌≡◌, ◌≤◌, ◌<◌, ◌+◌, ◌-◌, ℕ, List, [], ◌∷◌, ◌++◌, Option, Some, None, length, map, take, min, reverse, slice_get, slice_index}
 use Rattle.std.specs.List.{sum}
+use Rattle.bptree_keys.specs.Contents.{last_member}
 use Rattle.bptree_keys.specs.Pieces.{flatten, piece_at}
 use Rattle.bptree_keys.specs.Ranges.{part}
 use Rattle.bptree_shards.specs.declared.combining.Part.{Part}
-
--- the last member of a list
-abbrev pub last_of : {X : Type 0} → List X → Option X
-last_of l = slice_get l (length l - 1)
 
 -- how many members each piece has
 abbrev pub lengths_of : {X : Type 0} → List (List X) → List ℕ
@@ -20,9 +17,9 @@ module _ (lengths : List ℕ) where
     pub sum_is : place ≡ sum (take shard lengths) + own
 
   -- the shard that has a place, and the place in it; none past the end
-  abbrev pub IsLocated : ℕ → Option (ℕ × ℕ) → Type 0
-  IsLocated place None = sum lengths ≤ place
-  IsLocated place (Some at) = IsPlaceIn place at.0 at.1
+  abbrev pub IsPlaceFound : ℕ → Option (ℕ × ℕ) → Type 0
+  IsPlaceFound place None = sum lengths ≤ place
+  IsPlaceFound place (Some at) = IsPlaceIn place at.0 at.1
 
   -- no shard from one on and before another has a pair
   abbrev pub AreEmpty : ℕ → ℕ → Type 0
@@ -66,7 +63,7 @@ module _ {X : Type 0} (shards : List (List X)) where
 
   abbrev pub last_in : Option ℕ → Option X
   last_in None = None
-  last_in (Some i) = last_of (piece_at shards i)
+  last_in (Some i) = last_member (piece_at shards i)
 
   abbrev pub part_in : Part → List X
   part_in p = part (piece_at shards p.shard) p.from p.count

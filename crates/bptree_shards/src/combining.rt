@@ -5,7 +5,7 @@
 //! A shard that it names has a pair of the answer, so no shard is asked in vain.
 ghost use Rattle.std.specs.Prelude.{◌≡◌, ◌+◌, ◌^◌, ◌<◌, ◌≤◌, length, take, IfOk};
 ghost use Rattle.std.specs.List.{sum};
-ghost use Rattle.bptree_shards.specs.Lengths.{IsLocated, IsFirstFull, IsLastFull, IsNextPart, ArePartsOf};
+ghost use Rattle.bptree_shards.specs.Lengths.{IsPlaceFound, IsFirstFull, IsLastFull, IsNextPart, ArePartsOf};
 
 use std::alloc::{AllocError, Global};
 
@@ -44,7 +44,7 @@ pub fn rank_of_whole(lengths: &[usize], shard: usize, own: usize) -> usize
 
 /// The shard that has a place of the whole, and the place in it. `None` past the end.
 pub fn locate(lengths: &[usize], place: usize) -> Option<(usize, usize)>
-    ensures { IsLocated lengths.now place result }
+    ensures { IsPlaceFound lengths.now place result }
 {
     let mut own = place;
     for (shard, length) in lengths.iter().enumerate() {

@@ -2,5 +2,7 @@
 //! hand.
 #![tactic(auto)]
 
+#[cfg(test)]
 mod callers;
+#[cfg(test)]
 mod shard_tests;

@@ -1,5 +1,5 @@
 -- The pair of a key, and the first pair that is not below it.
-use Rattle.std.specs.Prelude.{Option, Some, None, List, slice_get, ◌-◌, length}
+use Rattle.std.specs.Prelude.{Option, Some, None, List, slice_get}
 use Rattle.std.specs.declared.cmp.Ordering.{Ordering}
 use Rattle.std.specs.Map.{keys_of, lookup_entry}
 use Rattle.std.specs.Ordering.{is_eq}
@@ -30,7 +30,3 @@ module _ {K V : Type 0} (cmp : K → K → Ordering) (l : List (K × V)) where
 -- a value is a summary of the keys between two ends that are lent
 abbrev pub SumsUpBetween : {A K V : Type 0} → (A → List K → Type 0) → (K → K → Ordering) → List (K × V) → Option (Bor K) → Option (Bor K) → A → Type 0
 SumsUpBetween is_summary cmp l lo hi a = is_summary a (keys_of (pairs_between cmp l lo hi))
-
--- the last member of a list
-abbrev pub last_of : {X : Type 0} → List X → Option X
-last_of l = slice_get l (length l - 1)

@@ -2,9 +2,8 @@
 ghost use Rattle.std.specs.Prelude.{◌≡◌, [], slice_get, IfOk, IsOk, Ok, None};
 ghost use Rattle.std.specs.declared.cmp.Ordering.TheVariants.{Equal};
 ghost use Rattle.std.specs.Option.{option_copied};
-ghost use Rattle.bptree_keys.specs.Contents.{has, next, value};
+ghost use Rattle.bptree_keys.specs.Contents.{has, next, value, last_member};
 ghost use Rattle.bptree_tree.specs.Cursor.{cursor_key, StandsAt, PointsAt, ShowsValueOf, pair_after, pair_before};
-ghost use Rattle.bptree_tree.specs.Entries.{last_of};
 
 use crate::tree::BPlusTree;
 use bptree_keys::key::Key;
@@ -64,8 +63,8 @@ impl<K: Key> Cursor<K> {
     pub fn last<'t, S: NodeStore<K = K>>(
         tree: &'t BPlusTree<S>,
     ) -> Result<Option<(Self, &'t S::V)>, AllocError>
-        ensures cursor { IfOk result (PointsAt K.cmp (last_of tree.now.contents)) }
-        ensures value { IfOk result (ShowsValueOf (last_of tree.now.contents)) }
+        ensures cursor { IfOk result (PointsAt K.cmp (last_member tree.now.contents)) }
+        ensures value { IfOk result (ShowsValueOf (last_member tree.now.contents)) }
         ensures empty { tree.now.contents ≡ [] → result ≡ Ok None }
         ensures sure { ((key : K) → K.is_infallible key) → IsOk result }
     {

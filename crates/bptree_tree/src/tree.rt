@@ -3,13 +3,12 @@ ghost use Rattle.std.specs.Prelude.{◌≡◌, ◌+◌, ◌*◌, ◌^◌, ◌<�
 ghost use Rattle.std.specs.Map.{keys_of};
 ghost use Rattle.std.specs.Map.Iter.{ShowsInOrder, deref_pair};
 ghost use Rattle.std.specs.Option.{option_map, option_copied};
-ghost use Rattle.bptree_keys.specs.Contents.{IsAscending, has, value};
+ghost use Rattle.bptree_keys.specs.Contents.{IsAscending, has, value, last_member};
 ghost use Rattle.bptree_nodes.specs.Slot.{IsEmpty};
 ghost use Rattle.bptree_tree.specs.Refusal.{HandsBack};
 ghost use Rattle.bptree_shape.specs.Shape.{pairs_at, IsWellShaped};
 ghost use Rattle.bptree_tree.specs.Whole.{IsWhole, IsUntouched, HasSameNodes, HasShape, pairs_of_nodes};
 ghost use Rattle.bptree_tree.specs.Changes.{IsFull, Puts, Removes};
-ghost use Rattle.bptree_tree.specs.Entries.{last_of};
 
 mod bounds;
 mod cloning;
@@ -129,7 +128,7 @@ impl<S: NodeStore> BPlusTree<S> {
 
     /// The pair with the greatest key.
     pub fn last(&self) -> Option<(&S::K, &S::V)>
-        ensures { option_map deref_pair result ≡ last_of self.now.contents }
+        ensures { option_map deref_pair result ≡ last_member self.now.contents }
     {
         reading::last(&self.store, self.root, self.height)
     }

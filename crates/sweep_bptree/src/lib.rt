@@ -6,8 +6,9 @@ pub mod argument;
 pub mod script;
 pub mod tree;
 
-pub use bptree_maps::{map, page, set};
+pub use bptree_maps::{map, page};
 pub use bptree_merging::merge_iter;
+pub use bptree_sets::set;
 pub use map::BPlusTreeMap;
 pub use set::BPlusTreeSet;
 pub use tree::{BPlusTree, CloneStore, InsertError, Key, NodeStore, NodeStoreVec};

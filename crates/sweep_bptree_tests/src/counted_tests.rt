@@ -5,7 +5,7 @@ use crate::tested::{Loaded, Numbered, Walked};
 use bptree_arguments::argument::CloneArgument;
 use bptree_keys::key::Key;
 use bptree_maps::map::BPlusTreeMap;
-use bptree_maps::set::BPlusTreeSet;
+use bptree_sets::set::BPlusTreeSet;
 use bptree_stores::node_store_vec::NodeStoreVec;
 use bptree_stores::node_stores::CloneStore;
 use bptree_tree::BPlusTree;
@@ -123,7 +123,7 @@ where
     let counts = no_counts(alloc)?;
     let mut all = true;
     for row in &ROWS {
-        all = row_is_loaded::<T>(alloc, &counts, row)? && all;
+        all &= row_is_loaded::<T>(alloc, &counts, row)?;
     }
     Ok(all)
 }
@@ -142,9 +142,9 @@ where
     counts.compared.set(0);
     let (value, told) = tree.read_counted(key);
     let mut all = value == wanted && told as u64 == counts.compared.get();
-    all = counts.compared.get() <= most && all;
+    all &= counts.compared.get() <= most;
     counts.compared.set(0);
-    all = tree.read(key) == wanted && counts.compared.get() <= most && all;
+    all &= tree.read(key) == wanted && counts.compared.get() <= most;
     counts.compared.set(0);
     tree.read_in_place(key) == wanted && counts.compared.get() <= most && all
 }
@@ -162,11 +162,11 @@ where
     let mut all = true;
     for number in 0..len.saturating_add(1) {
         let upward = T::Key::made(counts, number)?;
-        all = is_looked_up(tree, counts, &upward, most) && all;
+        all &= is_looked_up(tree, counts, &upward, most);
     }
     for number in 0..len.saturating_add(1) {
         let downward = T::Key::made(counts, len.saturating_sub(number))?;
-        all = is_looked_up(tree, counts, &downward, most) && all;
+        all &= is_looked_up(tree, counts, &downward, most);
     }
     Ok(all)
 }
@@ -196,7 +196,7 @@ where
     for number in first..end {
         let key = T::Key::made(counts, number)?;
         let value = T::Value::made(counts, number.wrapping_mul(10))?;
-        all = tree.put(key, value) && all;
+        all &= tree.put(key, value);
     }
     Ok(all)
 }
@@ -209,7 +209,7 @@ where
     let mut all = true;
     for number in 0..end {
         let key = T::Key::made(counts, number)?;
-        all = tree.take(&key)? == Some(number.wrapping_mul(10)) && all;
+        all &= tree.take(&key)? == Some(number.wrapping_mul(10));
     }
     Ok(all)
 }
@@ -264,7 +264,7 @@ fn come_from_both_ends<P: Walked>(mut pairs: P, counts: &Counts, from_each_end: 
     for front in 0..from_each_end {
         all = all && pairs.left() as u64 == back.saturating_sub(front);
         back = back.saturating_sub(1);
-        all = is_pair(pairs.front(), front) && is_pair(pairs.back(), back) && all;
+        all &= is_pair(pairs.front(), front) && is_pair(pairs.back(), back);
     }
     all && counts.dropped.get() == from_each_end.wrapping_mul(2)
 }
@@ -308,8 +308,8 @@ fn map_keeps_one<K: Key + Made, V: Made>(
     for turn in 0..3 {
         let key = K::made(counts, 7)?;
         let value = V::made(counts, turn)?;
-        all = matches!(map.insert(key, value), Ok(_)) && map.len() == 1 && all;
-        all = counts.dropped.get() == turn && Rc::strong_count(counts) == 3 && all;
+        all &= matches!(map.insert(key, value), Ok(_)) && map.len() == 1;
+        all &= counts.dropped.get() == turn && Rc::strong_count(counts) == 3;
     }
     Ok(all)
 }
@@ -320,8 +320,8 @@ fn set_keeps_one<K: Key + Made>(alloc: Global, counts: &Rc<Counts>) -> Result<bo
     let mut all = true;
     for turn in 0..3 {
         let key = K::made(counts, 7)?;
-        all = set.insert(key).ok() == Some(turn == 0) && all;
-        all = Rc::strong_count(counts) == 2 && all;
+        all &= set.insert(key).ok() == Some(turn == 0);
+        all &= Rc::strong_count(counts) == 2;
     }
     Ok(all)
 }
@@ -346,7 +346,7 @@ where
     all = all && counts.dropped.get() == 40_000 && Rc::strong_count(&counts) == 1;
     for (len, from_each_end) in [(10, 0), (300, 1), (300, 150)] {
         counts.dropped.set(0);
-        all = owned_pairs_come::<T>(alloc, &counts, len, from_each_end)? && all;
+        all &= owned_pairs_come::<T>(alloc, &counts, len, from_each_end)?;
         all = all && counts.dropped.get() == len && Rc::strong_count(&counts) == 1;
     }
     Ok(is_cleared::<T>(alloc, &counts)? && all)

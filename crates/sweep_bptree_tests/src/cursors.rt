@@ -63,11 +63,11 @@ pub fn few_numbers_serve_many_pairs<T: Ranked>(tree: &mut T) -> Result<bool, All
     let mut most_leaves: usize = 0;
     let mut most_inners: usize = 0;
     for key in 1000..100_000 {
-        all = put(tree, key) && all;
+        all &= put(tree, key);
         let (leaves, inners) = nodes_below(tree, 100);
         most_leaves = most_leaves.max(leaves);
         most_inners = most_inners.max(inners);
-        all = take(tree, key - 1000) && all;
+        all &= take(tree, key - 1000);
     }
     let (leaves, inners) = nodes_below(tree, 20_000);
     Ok(

@@ -47,16 +47,20 @@ fn quotient(number: u64, by: u64) -> u64 {
 }
 
 // So many keys whose first part is their place by a number, and whose second is what is left.
+fn keys_by(alloc: Global, len: u64, size: u64) -> Result<Vec<Pair>, AllocError> {
+    let mut keys = Vec::new(alloc);
+    for place in 0..len {
+        keys.push((quotient(place, size), place.checked_rem(size).unwrap_or(0)))?;
+    }
+    Ok(keys)
+}
+
 fn collect_by<A: Grouping>(
     alloc: Global,
     len: u64,
     size: u64,
 ) -> Result<BPlusTreeMap<Pair, u64, A>, AllocError> {
-    let mut keys = Vec::new(alloc);
-    for place in 0..len {
-        keys.push((quotient(place, size), place.checked_rem(size).unwrap_or(0)))?;
-    }
-    collect(alloc, &keys)
+    collect(alloc, &keys_by(alloc, len, size)?)
 }
 
 // Whether so many groups are there.
@@ -207,7 +211,7 @@ fn is_one_large_group<A: Grouping>(alloc: Global) -> Result<bool, AllocError> {
     let map: BPlusTreeMap<Pair, u64, A> = collect_by(alloc, 4161, 4161)?;
     let mut all = measures(&map, 4161, 2);
     for place in [4160, 2112] {
-        all = has_rank(&map, (0, place), true, place as usize) && all;
+        all &= has_rank(&map, (0, place), true, place as usize);
     }
     Ok(all)
 }

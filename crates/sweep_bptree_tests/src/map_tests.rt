@@ -17,7 +17,7 @@ fn are_placed<A: SearchArgument<u64, Query = usize> + RankArgument<u64, Rank = u
 ) -> bool {
     let mut all = true;
     for (key, wanted) in [(0, Err(0)), (1, Ok(0)), (2, Ok(1)), (3, Ok(2)), (4, Err(3))] {
-        all = has_rank(map, key, wanted) && all;
+        all &= has_rank(map, key, wanted);
     }
     for (place, wanted) in [
         (0, Some((1, 2))),
@@ -25,7 +25,7 @@ fn are_placed<A: SearchArgument<u64, Query = usize> + RankArgument<u64, Rank = u
         (2, Some((3, 4))),
         (3, None),
     ] {
-        all = has_at(map, place, wanted) && all;
+        all &= has_at(map, place, wanted);
     }
     all
 }
@@ -34,9 +34,9 @@ fn are_placed<A: SearchArgument<u64, Query = usize> + RankArgument<u64, Rank = u
 // from the first place.
 fn are_written_and_taken<A: SearchArgument<u64, Query = usize>>(map: &mut Map<A>) -> bool {
     let mut all = write(map, 3, 20) == Some(SelectError::NotFound);
-    all = write(map, 0, 20).is_none() && all;
+    all &= write(map, 0, 20).is_none();
     for wanted in [Some((1, 20)), Some((2, 3)), Some((3, 4)), None] {
-        all = has_at(map, 0, wanted) && takes_at(map, 0, wanted) && all;
+        all &= has_at(map, 0, wanted) && takes_at(map, 0, wanted);
     }
     all
 }
@@ -47,9 +47,9 @@ fn three_pairs_are_placed<A: SearchArgument<u64, Query = usize> + RankArgument<u
     let mut map: Map<A> = Map::new(alloc)?;
     let mut all = true;
     for (key, value) in [(1, 2), (2, 3), (3, 4)] {
-        all = put(&mut map, key, value) && all;
+        all &= put(&mut map, key, value);
     }
-    all = are_placed(&map) && all;
+    all &= are_placed(&map);
     Ok(are_written_and_taken(&mut map) && all)
 }
 
@@ -99,17 +99,30 @@ fn keeps_the_last_of_each_key<A: Argument<u64>>(alloc: Global) -> Result<bool, A
     )
 }
 
-// A clone keeps the pairs of a map that is cleared, and hands them over from both ends. The map,
-// and one that is made by default, then take a pair each.
+// Whether a map hands its three pairs over, from both ends.
+fn hands_over_three<A: CloneArgument<u64>>(map: Map<A>) -> bool {
+    let mut pairs = map.into_iter();
+    let mut all = pairs.next() == Some((0, 0));
+    all &= pairs.next_back() == Some((2, 20));
+    all &= pairs.next() == Some((1, 10));
+    all && pairs.next().is_none()
+}
+
+// Whether a map has no pair, and then takes one.
+fn takes_one<A: CloneArgument<u64>>(map: Map<A>) -> bool {
+    let mut map = map;
+    let is_empty = measures(&map, 0, 0);
+    is_empty && put(&mut map, 5, 6) && has(&map, 5, Some(6)) && has(&map, 7, None)
+}
+
+// A clone keeps the pairs of a map that is cleared. That map, and one that is made by default, then
+// take a pair each.
 fn is_cloned_and_cleared<A: CloneArgument<u64>>(alloc: Global) -> Result<bool, AllocError> {
     let mut map: Map<A> = collect_times(alloc, 3, 10)?;
-    let mut pairs = map.clone()?.into_iter();
+    let other = map.clone()?;
     map.clear()?;
-    let mut all = measures(&map, 0, 0) && pairs.next() == Some((0, 0));
-    all = pairs.next_back() == Some((2, 20)) && pairs.next() == Some((1, 10)) && all;
-    all = pairs.next().is_none() && put(&mut map, 5, 6) && has(&map, 5, Some(6)) && all;
-    let mut fresh: Map<A> = Map::default(alloc)?;
-    Ok(put(&mut fresh, 7, 8) && has(&fresh, 7, Some(8)) && has(&fresh, 5, None) && all)
+    let fresh: Map<A> = Map::default(alloc)?;
+    Ok(hands_over_three(other) && takes_one(map) && takes_one(fresh))
 }
 
 // A query and a rank ask each of the two levels above the leaves once, and at last one leaf.
@@ -161,9 +174,9 @@ fn gives_parts_of_a_hundred<A: SearchArgument<u64, Query = usize>>(
     let map: Map<A> = collect_times(alloc, 100, 1)?;
     let mut all = map.range(None, None).len() == 100;
     for part in &PARTS {
-        all = has_part(&map, part) && all;
+        all &= has_part(&map, part);
     }
-    all = has_part_at(&map, 98, 5, &[(true, 98), (true, 99)]) && all;
+    all &= has_part_at(&map, 98, 5, &[(true, 98), (true, 99)]);
     Ok(all && has_part_at(&map, 100, 5, &[]) && has_part_at(&map, 0, 0, &[]))
 }
 

@@ -31,9 +31,9 @@ fn shows_ten(alloc: Global) -> Result<bool, AllocError> {
     let map = squares(alloc, 10)?;
     let none = squares(alloc, 0)?;
     let mut all = pages(&map, 4) == 3 && pages(&none, 4) == 0;
-    all = shows(&map, 0, &[(true, 0), (true, 1), (true, 2), (true, 3)]) && all;
-    all = shows(&map, 2, &[(true, 8), (true, 9)]) && shows(&map, 3, &[]) && all;
-    all = shows(&map, 4_611_686_018_427_387_904, &[]) && all;
+    all &= shows(&map, 0, &[(true, 0), (true, 1), (true, 2), (true, 3)]);
+    all &= shows(&map, 2, &[(true, 8), (true, 9)]) && shows(&map, 3, &[]);
+    all &= shows(&map, 4_611_686_018_427_387_904, &[]);
     Ok(all && stands_on(&map, 5, Ok(1)) && stands_on(&map, 10, Err(2)))
 }
 

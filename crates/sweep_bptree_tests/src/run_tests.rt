@@ -87,10 +87,10 @@ fn holds_what_was_put(alloc: Global) -> Result<bool, AllocError> {
         (2, 'b', 21, Some(20)),
         (1, 'b', 11, Some(10)),
     ] {
-        all = is_put(&mut tree, key_of(number, letter), value, before) && all;
+        all &= is_put(&mut tree, key_of(number, letter), value, before);
     }
     for (number, found) in [(1, Some(11)), (2, Some(21)), (3, None)] {
-        all = has(&tree, key_of(number, 'c'), found) && all;
+        all &= has(&tree, key_of(number, 'c'), found);
     }
     Ok(shows(&tree, &[(1, 'a', 11), (2, 'a', 21)]) && all)
 }

@@ -1,7 +1,7 @@
 //! The union of two sets.
 
 use bptree_keys::key::Key;
-use bptree_maps::set::BPlusTreeSet;
+use bptree_sets::set::BPlusTreeSet;
 use std::alloc::{AllocError, Global};
 use std::test::Fail;
 
@@ -23,7 +23,7 @@ fn gives<K: Key>(first: &BPlusTreeSet<K>, second: &BPlusTreeSet<K>, wanted: &[K]
     let mut keys = first.union(second);
     let mut all = keys.size_hint() == (2, Some(3));
     for key in wanted {
-        all = keys.next() == Some(key) && all;
+        all &= keys.next() == Some(key);
     }
     keys.next().is_none() && keys.next().is_none() && all
 }
@@ -32,7 +32,7 @@ fn gives<K: Key>(first: &BPlusTreeSet<K>, second: &BPlusTreeSet<K>, wanted: &[K]
 fn takes_each<K: Key + Copy>(mut set: BPlusTreeSet<K>, keys: &[K]) -> bool {
     let mut all = set.is_empty();
     for key in keys {
-        all = matches!(set.insert(*key), Ok(true)) && set.contains(key) && all;
+        all &= matches!(set.insert(*key), Ok(true)) && set.contains(key);
     }
     all && set.len() == keys.len()
 }

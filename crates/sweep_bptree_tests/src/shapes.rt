@@ -77,8 +77,8 @@ fn change<T: Ranked>(tree: &mut T, is_put: bool, first: u64, end: u64) -> bool {
 pub fn have_rows<T: Ranked>(tree: &mut T) -> Result<bool, AllocError> {
     let mut all = true;
     for (is_put, first, end, len, height, leaves) in &ROWS {
-        all = change(tree, *is_put, *first, *end) && tree.measures(*len, *height) && all;
-        all = has_leaves(tree, leaves)? && all;
+        all &= change(tree, *is_put, *first, *end) && tree.measures(*len, *height);
+        all &= has_leaves(tree, leaves)?;
     }
     Ok(all)
 }
@@ -104,7 +104,7 @@ fn counts<T: Ranked>(tree: &mut T, len: u64, is_upward: bool, wanted: [u64; 8]) 
     let mut all = refill(tree, 0, len) && tree.rebalanced() == [0; 8];
     for turn in 0..len {
         let key = if is_upward { turn } else { len - 1 - turn };
-        all = take(tree, key) && all;
+        all &= take(tree, key);
     }
     all && tree.rebalanced() == wanted
 }
@@ -120,7 +120,7 @@ pub fn rebalancing_is_counted<T: Ranked>(tree: &mut T) -> bool {
         (2200, true, [0, 18, 0, 1, 0, 1096, 0, 67]),
         (2200, false, [16, 0, 1, 0, 1072, 0, 67, 0]),
     ] {
-        all = counts(tree, len, is_upward, wanted) && all;
+        all &= counts(tree, len, is_upward, wanted);
     }
     all
 }

@@ -215,7 +215,7 @@ pub fn take<T: Ranked>(tree: &mut T, key: u64) -> bool {
 pub fn put_from<T: Ranked>(tree: &mut T, first: u64, end: u64) -> bool {
     let mut all = true;
     for key in first..end {
-        all = put(tree, key) && all;
+        all &= put(tree, key);
     }
     all
 }
@@ -224,7 +224,7 @@ pub fn put_from<T: Ranked>(tree: &mut T, first: u64, end: u64) -> bool {
 pub fn take_from<T: Ranked>(tree: &mut T, first: u64, end: u64) -> bool {
     let mut all = true;
     for key in first..end {
-        all = take(tree, key) && all;
+        all &= take(tree, key);
     }
     all
 }

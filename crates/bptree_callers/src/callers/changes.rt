@@ -82,7 +82,7 @@ fn removes_nothing<S: NodeStore>(tree: &mut BPlusTree<S>, k: &S::K)
 fn removes<S: NodeStore>(tree: &mut BPlusTree<S>, k: &S::K) -> Option<S::V>
     requires { has S.K.cmp tree.old.contents k.now ≡ true }
     ensures value { IfSome result (λ value. value_of S.K.cmp tree.old.contents k.now ≡ Some value) }
-    ensures contents { IfSome result (λ _. tree.new.contents ≡ del S.K.cmp tree.old.contents k.now) }
+    ensures rest { IfSome result (λ _. tree.new.contents ≡ del S.K.cmp tree.old.contents k.now) }
     ensures refused { result ≡ None → StaysWhole S.slots tree.new tree.old }
 {
     match tree.remove(k) {
@@ -106,7 +106,7 @@ fn clears<S: NodeStore>(tree: &mut BPlusTree<S>) -> Result<(bool, usize), AllocE
 // A value is written just where the key is, and nothing else is changed.
 pub(crate) fn writes<S: NodeStore>(tree: &mut BPlusTree<S>, k: &S::K, v: S::V) -> bool
     ensures there { result ≡ has S.K.cmp tree.old.contents k.now }
-    ensures written { IsTrue result → tree.new.contents ≡ written S.K.cmp k.now tree.old.contents v }
+    ensures put { IsTrue result → tree.new.contents ≡ written S.K.cmp k.now tree.old.contents v }
     ensures absent { result ≡ false → tree.new ≡ tree.old }
     ensures shape { HasSameTop tree.new tree.old }
 {

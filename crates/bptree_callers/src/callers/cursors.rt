@@ -2,10 +2,9 @@
 ghost use Rattle.std.specs.Prelude.{◌≡◌, ◌∷◌, [], true, false, slice_get, IfOk, Ok, Some, None};
 ghost use Rattle.std.specs.Ordering.{nat_cmp};
 ghost use Rattle.std.specs.Option.{option_copied, option_map};
-ghost use Rattle.bptree_keys.specs.Contents.{has, next, previous, value as value_of};
+ghost use Rattle.bptree_keys.specs.Contents.{has, next, previous, value as value_of, last_member};
 ghost use Rattle.bptree_keys.specs.Neighbours.{IsAfter, IsBefore};
 ghost use Rattle.bptree_tree.specs.Cursor.{cursor_key, pair_after, pair_before};
-ghost use Rattle.bptree_tree.specs.Entries.{last_of};
 ghost use Rattle.bptree_callers.specs.Words.{told_key};
 
 use bptree_keys::contents::laws_of_neighbours;
@@ -83,7 +82,7 @@ fn stands_on_the_first<S: NodeStore<K = u64, V = u64>>(
 fn stands_on_the_last<S: NodeStore<K = u64, V = u64>>(
     tree: &BPlusTree<S>,
 ) -> Result<Option<(u64, u64)>, AllocError>
-    ensures { IfOk result (λ it. it ≡ last_of tree.now.contents) }
+    ensures { IfOk result (λ it. it ≡ last_member tree.now.contents) }
 {
     match Cursor::last(tree)? {
         Some((cursor, value)) => Ok(Some((*cursor.key(), *value))),

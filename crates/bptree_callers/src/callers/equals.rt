@@ -5,7 +5,7 @@ ghost use Rattle.std.specs.declared.cmp.Ordering.TheVariants.{Equal};
 use bptree_arguments::argument::Argument;
 use bptree_keys::key::Key;
 use bptree_maps::map::BPlusTreeMap;
-use bptree_maps::set::BPlusTreeSet;
+use bptree_sets::set::BPlusTreeSet;
 use std::cmp::Ordering;
 
 // A map equals itself.

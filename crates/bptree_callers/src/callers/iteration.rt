@@ -35,7 +35,7 @@ fn gives_three_from_both_ends<'a, S: NodeStore>(
     (&'a S::K, &'a S::V),
 )
     requires { length pairs.old ≡ 3 }
-    ensures pairs { pairs.old ≡ deref_pair result.0 ∷ deref_pair result.1 ∷ deref_pair result.2 ∷ [] }
+    ensures all { pairs.old ≡ deref_pair result.0 ∷ deref_pair result.1 ∷ deref_pair result.2 ∷ [] }
     ensures over { pairs.new ≡ [] }
 {
     match (pairs.next(), pairs.next_back(), pairs.next()) {

@@ -7,11 +7,11 @@ ghost use Rattle.std.specs.Ordering.{is_lt};
 ghost use Rattle.bptree_arguments.specs.CountLaws.{count_below};
 ghost use Rattle.bptree_arguments.specs.Visits.{answered};
 ghost use Rattle.bptree_ascent.specs.Lending.{written};
-ghost use Rattle.bptree_keys.specs.Contents.{IsAscending, has, value as value_of, put, del, gather, below};
+ghost use Rattle.bptree_keys.specs.Contents.{IsAscending, has, value as value_of, put, del, gather, below, last_member};
 ghost use Rattle.bptree_keys.specs.Ranges.{between};
 ghost use Rattle.bptree_nodes.specs.Leaf.{set_value_at};
 ghost use Rattle.bptree_tree.specs.Cursor.{cursor_key};
-ghost use Rattle.bptree_tree.specs.Entries.{entry, last_of};
+ghost use Rattle.bptree_tree.specs.Entries.{entry};
 ghost use Rattle.bptree_maps.specs.Gathering.{AreFewFor};
 ghost use Rattle.bptree_tree.specs.Selected.{SelectsNone};
 ghost use Rattle.std.specs.Map.Iter.{deref_pair};
@@ -245,7 +245,7 @@ fn begins_with_the_first<K: Key, V: Drop, A: Argument<K>>(
 ) -> (Option<(&K, &V)>, Option<(&K, &V)>, usize)
     requires { 1 < length map.now }
     ensures front { option_map deref_pair result.0 ≡ slice_get map.now 0 }
-    ensures back { option_map deref_pair result.1 ≡ last_of map.now }
+    ensures back { option_map deref_pair result.1 ≡ last_member map.now }
     ensures left { result.2 ≡ length map.now - 2 }
 {
     let mut pairs = map.iter();

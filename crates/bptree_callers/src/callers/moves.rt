@@ -7,7 +7,7 @@ ghost use Rattle.bptree_callers.specs.Words.{HoldsEither, KeepsOthers, MovesOne,
 use bptree_arguments::argument::Argument;
 use bptree_keys::key::Key;
 use bptree_maps::map::{BPlusTreeMap, MoveError, SplitError};
-use bptree_maps::set::{BPlusTreeSet, ReplaceError};
+use bptree_sets::set::{BPlusTreeSet, ReplaceError};
 use bptree_tree::InsertError;
 use std::alloc::AllocError;
 

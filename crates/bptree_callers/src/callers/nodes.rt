@@ -16,7 +16,7 @@ use bptree_arguments::argument::{Argument, SearchArgument};
 use bptree_keys::key::Key;
 use bptree_keys::node_id::{LeafNodeId, NodeId};
 use bptree_maps::map::BPlusTreeMap;
-use bptree_maps::set::BPlusTreeSet;
+use bptree_sets::set::BPlusTreeSet;
 use bptree_stores::node_store_vec::NodeStoreVec;
 use bptree_stores::node_stores::NodeStore;
 use bptree_tree::{BPlusTree, InsertError, SelectError};

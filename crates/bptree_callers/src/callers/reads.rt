@@ -3,10 +3,9 @@ ghost use Rattle.std.specs.Prelude.{◌≡◌, ◌≢◌, ◌<◌, ◌≤◌, �
 ghost use Rattle.std.specs.declared.cmp.Ordering.TheVariants.{Equal};
 ghost use Rattle.std.specs.Map.{keys_of};
 ghost use Rattle.std.specs.Option.{option_copied, option_map};
-ghost use Rattle.bptree_keys.specs.Contents.{IsAscending, has, value as value_of};
+ghost use Rattle.bptree_keys.specs.Contents.{IsAscending, has, value as value_of, last_member};
 ghost use Rattle.bptree_nodes.specs.Slot.{IsEmpty};
 ghost use Rattle.bptree_shape.specs.Shape.{IsWellShaped};
-ghost use Rattle.bptree_tree.specs.Entries.{last_of};
 
 use bptree_arguments::count::Count;
 use bptree_keys::node_id::NodeId;
@@ -62,7 +61,7 @@ fn has_a_first<S: NodeStore>(tree: &BPlusTree<S>) -> (&S::K, &S::V)
 
 fn has_a_last<S: NodeStore>(tree: &BPlusTree<S>) -> (&S::K, &S::V)
     requires { 0 < length tree.now.contents }
-    ensures { last_of tree.now.contents ≡ Some (result.0.now, result.1.now) }
+    ensures { last_member tree.now.contents ≡ Some (result.0.now, result.1.now) }
 {
     match tree.last() {
         Some(last) => last,
@@ -173,7 +172,7 @@ fn finds_the_pair_of_a_key<'a, S: NodeStore>(
 fn names_both_ends<S: NodeStore>(tree: &BPlusTree<S>) -> ((&S::K, &S::V), (&S::K, &S::V))
     requires { 0 < length tree.now.contents }
     ensures first { slice_get tree.now.contents 0 ≡ Some (result.0.0.now, result.0.1.now) }
-    ensures last { last_of tree.now.contents ≡ Some (result.1.0.now, result.1.1.now) }
+    ensures last { last_member tree.now.contents ≡ Some (result.1.0.now, result.1.1.now) }
 {
     match (tree.first_key_value(), tree.last_key_value()) {
         (Some(first), Some(last)) => (first, last),

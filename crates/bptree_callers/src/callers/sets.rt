@@ -5,13 +5,13 @@ ghost use Rattle.std.specs.Map.Iter.{TakesFirst, deref};
 ghost use Rattle.std.specs.Option.{option_copied};
 ghost use Rattle.std.specs.Ordering.{is_eq};
 ghost use Rattle.bptree_maps.specs.Keys.{holds, gathered, keys_between, keys_within, keys_without};
-ghost use Rattle.bptree_maps.specs.Symmetric.{symmetric};
-ghost use Rattle.bptree_maps.specs.TwoSets.{IsDifference, IsIntersection, IsSymmetricDifference};
-ghost use Rattle.bptree_maps.specs.Union.{union};
+ghost use Rattle.bptree_sets.specs.Symmetric.{symmetric};
+ghost use Rattle.bptree_sets.specs.TwoSets.{IsDifference, IsIntersection, IsSymmetricDifference};
+ghost use Rattle.bptree_sets.specs.Union.{union};
 ghost use Rattle.bptree_callers.specs.Words.{AreEndsOfTwo, HoldsEither, PopsFirstOfTwo, PopsLastOfTwo};
 
 use bptree_keys::key::Key;
-use bptree_maps::set::{
+use bptree_sets::set::{
     BPlusTreeSet, Difference, Intersection, IntoIter, Iter, SymmetricDifference, Union,
     laws_of_keys, laws_of_two_sets, laws_of_union,
 };

@@ -5,7 +5,7 @@ ghost use Rattle.bptree_maps.specs.Keys.{holds};
 
 use bptree_keys::key::Key;
 use bptree_maps::map::BPlusTreeMap;
-use bptree_maps::set::BPlusTreeSet;
+use bptree_sets::set::BPlusTreeSet;
 
 // The value at a key that a set allows; at other keys none.
 fn get_allowed<K: Key>(allowed: &BPlusTreeSet<K>, map: &BPlusTreeMap<K, u64>, k: &K) -> Option<u64>

@@ -12,7 +12,7 @@ use bptree_arguments::argument::Argument;
 use bptree_arguments::count::Count;
 use bptree_keys::key::Key;
 use bptree_maps::map::BPlusTreeMap;
-use bptree_maps::set::BPlusTreeSet;
+use bptree_sets::set::BPlusTreeSet;
 use bptree_stores::node_stores::NodeStore;
 use bptree_tree::{BPlusTree, Cursor, InsertError};
 use std::alloc::AllocError;
@@ -100,6 +100,14 @@ fn has_none_beside_itself<S: NodeStore>(tree: &BPlusTree<S>, k: &S::K) -> bool
 {
     let mut pairs = tree.range_bounds(Bound::Excluded(k), Bound::Excluded(k));
     pairs.next().is_none()
+}
+
+// From a key up to itself, with both taken in, stands the pair of that key, where there is one.
+fn finds_itself<S: NodeStore>(tree: &BPlusTree<S>, k: &S::K) -> bool
+    ensures { result ≡ has S.K.cmp tree.now.contents k.now }
+{
+    let mut pairs = tree.range_bounds(Bound::Included(k), Bound::Included(k));
+    pairs.next().is_some()
 }
 
 // The same of a map.

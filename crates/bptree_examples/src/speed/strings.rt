@@ -3,9 +3,9 @@
 use crate::speed::{now, put, tell};
 use std::alloc::{AllocError, Global};
 use std::collections::BTreeMap;
-use sweep_bptree::tree::{BPlusTree, NodeStoreVec};
+use sweep_bptree::tree::{BPlusTree, NodeStore, NodeStoreVec};
 
-type Texts = BPlusTree<NodeStoreVec<String, u64>>;
+type Texts = NodeStoreVec<String, u64>;
 
 const DIGITS: [char; 16] = [
     '0', '1', '2', '3', '4', '5', '6', '7', '8', '9', 'a', 'b', 'c', 'd', 'e', 'f',
@@ -30,7 +30,11 @@ fn texts_of(alloc: Global, numbers: &[u64]) -> Result<Vec<String>, AllocError> {
     Ok(texts)
 }
 
-fn insert_texts(rt: &HostRuntime, tree: &mut Texts, texts: Vec<String>) -> Result<(), AllocError> {
+fn insert_texts<S: NodeStore<K = String, V = u64>>(
+    rt: &HostRuntime,
+    tree: &mut BPlusTree<S>,
+    texts: Vec<String>,
+) -> Result<(), AllocError> {
     let many = texts.len();
     let start = now(rt);
     for text in texts {
@@ -40,7 +44,11 @@ fn insert_texts(rt: &HostRuntime, tree: &mut Texts, texts: Vec<String>) -> Resul
     Ok(())
 }
 
-fn get_texts(rt: &HostRuntime, tree: &Texts, texts: &[String]) {
+fn get_texts<S: NodeStore<K = String, V = u64>>(
+    rt: &HostRuntime,
+    tree: &BPlusTree<S>,
+    texts: &[String],
+) {
     let start = now(rt);
     let mut sum = 0u64;
     for text in texts {
@@ -78,12 +86,21 @@ fn get_from_other(rt: &HostRuntime, map: &BTreeMap<String, u64>, texts: &[String
     tell(rt, "kit", "text-get", start, texts.len(), sum);
 }
 
+fn put_and_get<S: NodeStore<K = String, V = u64>>(
+    rt: &HostRuntime,
+    texts: Vec<String>,
+    wanted: &[String],
+) -> Result<(), AllocError> {
+    let mut tree: BPlusTree<S> = BPlusTree::new(S::empty(rt.alloc()))?;
+    insert_texts(rt, &mut tree, texts)?;
+    get_texts(rt, &tree, wanted);
+    Ok(())
+}
+
 /// Texts of the keys are put, and looked up in another order.
 pub fn take(rt: &HostRuntime, keys: &[u64], others: &[u64]) -> Result<(), AllocError> {
     let wanted = texts_of(rt.alloc(), others)?;
-    let mut tree: Texts = BPlusTree::new(NodeStoreVec::new(rt.alloc()))?;
-    insert_texts(rt, &mut tree, texts_of(rt.alloc(), keys)?)?;
-    get_texts(rt, &tree, &wanted);
+    put_and_get::<Texts>(rt, texts_of(rt.alloc(), keys)?, &wanted)?;
     let mut map = BTreeMap::new(rt.alloc());
     insert_into_other(rt, &mut map, texts_of(rt.alloc(), keys)?)?;
     get_from_other(rt, &map, &wanted);

@@ -1,16 +1,19 @@
 //! Calls that go over all of a tree or of two sets: a clone and a union.
 
-use crate::speed::{Tree, now, tell};
+use crate::speed::{now, tell};
 use std::alloc::{AllocError, Global};
 use sweep_bptree::BPlusTreeSet;
-use sweep_bptree::tree::CloneArgument;
+use sweep_bptree::tree::{BPlusTree, CloneArgument, CloneStore};
 
 /// The clone of a tree, for each pair.
-pub fn clone_all<A: CloneArgument<u64>>(
+pub fn clone_all<S: CloneStore<K = u64, V = u64>>(
     rt: &HostRuntime,
     kind: &str,
-    tree: &Tree<A>,
-) -> Result<(), AllocError> {
+    tree: &BPlusTree<S>,
+) -> Result<(), AllocError>
+where
+    S::Argument: CloneArgument<u64>,
+{
     let start = now(rt);
     let other = tree.clone()?;
     tell(rt, kind, "clone", start, tree.len(), other.len() as u64);

@@ -49,7 +49,7 @@ pub fn new_index(alloc: Global, values: &[(u64, u64)]) -> Result<Index, AllocErr
 /// stays.
 pub fn move_entry(index: &mut Index, old: Entry, new: Entry) -> Result<(), AllocError>
     ensures moved { OnOk result (old ≢ new → index.new ≡ del ⟦<Entry as Ord>⟧.cmp (put ⟦<Entry as Ord>⟧.cmp index.old new tt) old) }
-    ensures stayed { OnOk result (old ≡ new → index.new ≡ put ⟦<Entry as Ord>⟧.cmp index.old new tt) }
+    ensures kept { OnOk result (old ≡ new → index.new ≡ put ⟦<Entry as Ord>⟧.cmp index.old new tt) }
     ensures refused { OnErr result ((index.new ≡ index.old) ⊎ (index.new ≡ put ⟦<Entry as Ord>⟧.cmp index.old new tt)) }
 {
     // Read, so that it is known to ascend.

@@ -5,10 +5,11 @@ ghost use Rattle.std.specs.Iterator.SizeHint.{IsWithinCount};
 ghost use Rattle.std.specs.Map.{keys_of};
 ghost use Rattle.std.specs.Map.Iter.{TakesFirst, TakesLast, deref};
 
+use super::Iter;
 use bptree_arguments::argument::Argument;
 use bptree_keys::key::Key;
 use bptree_stores::node_store_vec::NodeStoreVec;
-use bptree_tree::{iterator, tree};
+use bptree_tree::tree;
 use std::alloc::AllocError;
 use std::iter::{ExactSizeIterator, FusedIterator};
 use std::marker::Model;
@@ -16,7 +17,7 @@ use std::marker::Model;
 /// The keys that are left, in their order. No step takes memory.
 #[derive(Drop)]
 pub struct Keys<'a, K: Key, V: Drop, A: Argument<K>> {
-    pairs: iterator::Iter<'a, NodeStoreVec<K, V, A>>,
+    pairs: Iter<'a, K, V, A>,
 }
 
 impl<'a, K: Key, V: Drop, A: Argument<K>> Model for Keys<'a, K, V, A> {
@@ -29,7 +30,8 @@ impl<'a, K: Key, V: Drop, A: Argument<K>> Model for Keys<'a, K, V, A> {
 }
 
 impl<'a, K: Key, V: Drop, A: Argument<K>> Keys<'a, K, V, A> {
-    pub(crate) fn new(pairs: iterator::Iter<'a, NodeStoreVec<K, V, A>>) -> Self
+    /// Those of the pairs that an iterator has left.
+    pub fn new(pairs: Iter<'a, K, V, A>) -> Self
         ensures { result ≡ keys_of pairs.entry }
     {
         Keys { pairs }
@@ -103,7 +105,8 @@ impl<K: Key, V: Drop, A: Argument<K>> Model for IntoKeys<K, V, A> {
 }
 
 impl<K: Key, V: Drop, A: Argument<K>> IntoKeys<K, V, A> {
-    pub(crate) fn new(pairs: tree::IntoIter<NodeStoreVec<K, V, A>>) -> Self
+    /// Those of the pairs that an iterator has left.
+    pub fn new(pairs: tree::IntoIter<NodeStoreVec<K, V, A>>) -> Self
         ensures { result ≡ keys_of pairs }
     {
         IntoKeys { pairs }

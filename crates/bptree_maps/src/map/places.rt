@@ -42,7 +42,7 @@ impl<K: Key, V: Drop> BPlusTreeMap<K, V, Count> {
         if i >= self.len() {
             return Ok(None);
         }
-        let found = self.inner.cursor_by_argument(i)?;
+        let found = self.cursor_by_argument(i)?;
         Ok(found)
     }
 }

@@ -37,12 +37,12 @@ impl<K: Key, V: Drop, A: Argument<K>> BPlusTreeMap<K, V, A> {
         ensures err { IfErr result (HandsBack (k, v) self.old self.new) }
         ensures full { (result ≡ Err (InsertError.Full k v)) ↔ IsFull K.cmp usize.MAX self.old k }
     {
-        match self.inner.get_mut(&k) {
+        match self.get_mut(&k) {
             Some(value) => {
                 f(value);
                 Ok(false)
             }
-            None => match self.inner.insert(k, v) {
+            None => match self.insert(k, v) {
                 Ok(_) => Ok(true),
                 Err(refusal) => Err(refusal),
             },
@@ -85,13 +85,13 @@ impl<K: Key, V: Drop, A: Argument<K>> BPlusTreeMap<K, V, A> {
         ensures unchanged { OnErr result (self.new ≡ self.old) }
         ensures full { (v : V) → result ≡ Err (InsertError.Full k v) → length self.old ≡ usize.MAX }
     {
-        if self.inner.contains_key(&k) {
+        if self.contains_key(&k) {
             return Ok(k);
         }
         let Ok(key) = k.clone() else {
             return Err(InsertError::OutOfMemory(k, f()));
         };
-        self.inner.insert(k, f())?;
+        self.insert(k, f())?;
         Ok(key)
     }
 
@@ -101,7 +101,7 @@ impl<K: Key, V: Drop, A: Argument<K>> BPlusTreeMap<K, V, A> {
         ensures* writes_back { sem 𝓛 (Lends (the_row K.row V.row A.row K.Key.own K.Clone K.Ord.own K.Eq.own K.PartialEq K.PartialOrd.own A.Argument.own A.Clone A.Default) V.row self.entry result (written K.cmp k.now self.old)) }
         ensures value { value K.cmp self.old k.now ≡ Some result.now }
     {
-        self.inner.get_mut(k).unwrap()
+        self.get_mut(k).unwrap()
     }
 
     /// Changes each value by a closure, in the order of the keys.

@@ -5,10 +5,11 @@ ghost use Rattle.std.specs.Iterator.SizeHint.{IsWithinCount};
 ghost use Rattle.std.specs.Map.{values_of};
 ghost use Rattle.std.specs.Map.Iter.{TakesFirst, TakesLast, deref};
 
+use super::Iter;
 use bptree_arguments::argument::Argument;
 use bptree_keys::key::Key;
 use bptree_stores::node_store_vec::NodeStoreVec;
-use bptree_tree::{iterator, tree};
+use bptree_tree::tree;
 use std::alloc::AllocError;
 use std::iter::{ExactSizeIterator, FusedIterator};
 use std::marker::Model;
@@ -16,7 +17,7 @@ use std::marker::Model;
 /// The values that are left, in the order of their keys. No step takes memory.
 #[derive(Drop)]
 pub struct Values<'a, K: Key, V: Drop, A: Argument<K>> {
-    pairs: iterator::Iter<'a, NodeStoreVec<K, V, A>>,
+    pairs: Iter<'a, K, V, A>,
 }
 
 impl<'a, K: Key, V: Drop, A: Argument<K>> Model for Values<'a, K, V, A> {
@@ -29,7 +30,8 @@ impl<'a, K: Key, V: Drop, A: Argument<K>> Model for Values<'a, K, V, A> {
 }
 
 impl<'a, K: Key, V: Drop, A: Argument<K>> Values<'a, K, V, A> {
-    pub(crate) fn new(pairs: iterator::Iter<'a, NodeStoreVec<K, V, A>>) -> Self
+    /// Those of the pairs that an iterator has left.
+    pub fn new(pairs: Iter<'a, K, V, A>) -> Self
         ensures { result ≡ values_of pairs.entry }
     {
         Values { pairs }

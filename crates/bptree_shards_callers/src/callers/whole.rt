@@ -2,7 +2,8 @@
 ghost use Rattle.std.specs.Prelude.{◌≡◌, ◌+◌, ◌<◌, ℕ, List, [], ◌∷◌, length, slice_get};
 ghost use Rattle.bptree_keys.specs.Pieces.{flatten, start_of};
 ghost use Rattle.bptree_keys.specs.Ranges.{part};
-ghost use Rattle.bptree_shards.specs.Lengths.{last_of, lengths_of, ArePartsOf};
+ghost use Rattle.bptree_keys.specs.Contents.{last_member};
+ghost use Rattle.bptree_shards.specs.Lengths.{lengths_of, ArePartsOf};
 
 use bptree_shards::whole::{laws_of_parts, laws_of_places};
 
@@ -13,7 +14,7 @@ fn tells_of_two<T>()
     ensures start { (a b : List T) → start_of (a ∷ b ∷ []) 1 ≡ length a }
     ensures at { (a b : List T) → (i : ℕ) → i < length a → slice_get (flatten (a ∷ b ∷ [])) i ≡ slice_get a i }
     ensures first { (a b : List T) → 0 < length a → slice_get (flatten (a ∷ b ∷ [])) 0 ≡ slice_get a 0 }
-    ensures last { (a b : List T) → 0 < length b → last_of (flatten (a ∷ b ∷ [])) ≡ last_of b }
+    ensures last { (a b : List T) → 0 < length b → last_member (flatten (a ∷ b ∷ [])) ≡ last_member b }
 {
     laws_of_places::<T>();
 }

@@ -1,9 +1,9 @@
 //! Where the pairs of a tree stand, for cursors.
 ghost use Rattle.std.specs.Prelude.{◌≡◌, [], slice_get, IfOk, IsOk, IsSomeAnd, Ok, None};
 ghost use Rattle.std.specs.Option.{option_copied};
-ghost use Rattle.bptree_keys.specs.Contents.{next, previous, value};
+ghost use Rattle.bptree_keys.specs.Contents.{next, previous, value, last_member};
 ghost use Rattle.bptree_tree.specs.Cursor.{StandsAt, PointsAt, PointsAtKey, ShowsValueOf, found_pair};
-ghost use Rattle.bptree_tree.specs.Entries.{at_least, last_of};
+ghost use Rattle.bptree_tree.specs.Entries.{at_least};
 
 use crate::cursor::Cursor;
 use crate::tree::BPlusTree;
@@ -85,9 +85,9 @@ impl<S: NodeStore> BPlusTree<S> {
     }
 
     pub(crate) fn cursor_at_last(&self) -> Result<Option<(Cursor<S::K>, &S::V)>, AllocError>
-        ensures cursor { IfOk result (PointsAt S.K.cmp (last_of self.now.contents)) }
-        ensures value { IfOk result (ShowsValueOf (last_of self.now.contents)) }
-        ensures end { last_of self.now.contents ≡ None → result ≡ Ok None }
+        ensures cursor { IfOk result (PointsAt S.K.cmp (last_member self.now.contents)) }
+        ensures value { IfOk result (ShowsValueOf (last_member self.now.contents)) }
+        ensures end { last_member self.now.contents ≡ None → result ≡ Ok None }
         ensures sure { ((key : S.K) → S.K.is_infallible key) → IsOk result }
     {
         let Some((place, (key, value))) = self.last_place() else {
@@ -142,7 +142,7 @@ impl<S: NodeStore> BPlusTree<S> {
     }
 
     fn last_place(&self) -> Option<((LeafNodeId, usize), (&S::K, &S::V))>
-        ensures { found_pair result ≡ last_of self.now.contents }
+        ensures { found_pair result ≡ last_member self.now.contents }
     {
         neighbours::last_pair(&self.store, self.root, self.height)
     }

@@ -1,8 +1,8 @@
 //! Reads of one pair: by its key, and at both ends.
 ghost use Rattle.std.specs.Prelude.{◌≡◌, slice_get};
 ghost use Rattle.std.specs.Option.{option_map};
-ghost use Rattle.bptree_keys.specs.Contents.{has};
-ghost use Rattle.bptree_tree.specs.Entries.{entry, last_of};
+ghost use Rattle.bptree_keys.specs.Contents.{has, last_member};
+ghost use Rattle.bptree_tree.specs.Entries.{entry};
 ghost use Rattle.std.specs.Map.Iter.{deref_pair};
 
 use crate::tree::BPlusTree;
@@ -38,7 +38,7 @@ impl<S: NodeStore> BPlusTree<S> {
 
     /// The pair with the greatest key: the same as `last`.
     pub fn last_key_value(&self) -> Option<(&S::K, &S::V)>
-        ensures { option_map deref_pair result ≡ last_of self.now.contents }
+        ensures { option_map deref_pair result ≡ last_member self.now.contents }
     {
         self.last()
     }

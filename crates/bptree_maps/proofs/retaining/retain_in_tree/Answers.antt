@@ -30,7 +30,7 @@ returns-in-Err-clause-err g c =
 pub pairs-preserved-in-Ok-insert : goal.pairs-preserved-in-Ok-insert
 pairs-preserved-in-Ok-insert g c =
     let at = c.pairs.invariant in
-    let total = g.met.K.Ord.total in
+    let total = g.met.S.K.Ord.total in
     let kept = c.pairs.tree.contents in
     let rest = c.next.new.self in
     let k = c.in-Some.k in
@@ -38,7 +38,7 @@ pairs-preserved-in-Ok-insert g c =
     let w = c.f.new.arg3 in
     let call : CallsAtPair g.F.FnMut c.pairs.f (k, v) c.f.result c.f.new.self (k, w) = record { key = _; value = _; lent = _; shows = (refl, refl); called = c.f.ensures; leaves = refl } in
     let goes = rw c.in-Some.ensures.steps at at.asked in
-    let ascending : IsAscending g.K.Ord.cmp (kept ++ (k, v) ∷ rest) = rw c.in-Some.ensures.steps at at.ascending in
+    let ascending : IsAscending g.S.K.Ord.cmp (kept ++ (k, v) ∷ rest) = rw c.in-Some.ensures.steps at at.ascending in
     let stored : c.insert.new.self.contents ≡ kept ++ (k, w) ∷ [] = c.in-Ok-insert.ensures.ok.1 ∙ put_behind total kept (k, v) rest ascending w in
     record {
       callable = mut_next g.F.FnMut _ _ _ _ _ c.f.ensures refl at.callable;
@@ -49,7 +49,7 @@ pairs-preserved-in-Ok-insert g c =
 pub pairs-preserved-in-Ok-insert-2 : goal.pairs-preserved-in-Ok-insert-2
 pairs-preserved-in-Ok-insert-2 g c =
     let at = c.pairs.invariant in
-    let total = g.met.K.Ord.total in
+    let total = g.met.S.K.Ord.total in
     let kept = c.pairs.tree.contents in
     let rest = c.next.new.self in
     let k = c.in-Some.k in
@@ -57,7 +57,7 @@ pairs-preserved-in-Ok-insert-2 g c =
     let w = c.f.new.arg3 in
     let call : CallsAtPair g.F.FnMut c.pairs.f (k, v) c.f.result c.f.new.self (k, w) = record { key = _; value = _; lent = _; shows = (refl, refl); called = c.f.ensures; leaves = refl } in
     let goes = rw c.in-Some.ensures.steps at at.asked in
-    let ascending : IsAscending g.K.Ord.cmp (kept ++ (k, v) ∷ rest) = rw c.in-Some.ensures.steps at at.ascending in
+    let ascending : IsAscending g.S.K.Ord.cmp (kept ++ (k, v) ∷ rest) = rw c.in-Some.ensures.steps at at.ascending in
     let stored : c.insert.new.self.contents ≡ kept ++ (k, w) ∷ [] = c.in-Ok-insert.ensures.ok.1 ∙ put_behind total kept (k, v) rest ascending w in
     record {
       callable = mut_next g.F.FnMut _ _ _ _ _ c.f.ensures refl at.callable;
@@ -68,7 +68,7 @@ pairs-preserved-in-Ok-insert-2 g c =
 pub pairs-preserved : goal.pairs-preserved
 pairs-preserved g c =
     let at = c.pairs.invariant in
-    let total = g.met.K.Ord.total in
+    let total = g.met.S.K.Ord.total in
     let kept = c.pairs.tree.contents in
     let rest = c.next.new.self in
     let k = c.in-Some.k in

@@ -8,7 +8,7 @@ use Rattle.bptree_maps.proofs.retaining.retain_in_tree.Given as goal
 abbrev pub invariant-pairs : goal.invariant-pairs
 invariant-pairs g l = record {
   callable : goal.F-IsAlwaysCallable g l.f;
-  ascending : IsAscending g.K.Ord.cmp (l.tree.contents ++ l.pairs);
+  ascending : IsAscending g.S.K.Ord.cmp (l.tree.contents ++ l.pairs);
   asked : AsksOn (IsRetained g.F.FnMut) l.fn.f l.fn.tree.contents l.f l.tree.contents l.pairs;
 }
 

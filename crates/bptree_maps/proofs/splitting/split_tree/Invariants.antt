@@ -4,7 +4,7 @@ use Rattle.bptree_maps.proofs.SplitLemmas.{AreFrom}
 use Rattle.bptree_maps.proofs.splitting.split_tree.Given as goal
 
 abbrev pub invariant-moves : goal.invariant-moves
-invariant-moves g l = (l.fn.tree.contents ≡ l.tree.contents ++ l.there.contents) × AreFrom g.met.K.Ord.total l.k l.there.contents
+invariant-moves g l = (l.fn.tree.contents ≡ l.tree.contents ++ l.there.contents) × AreFrom g.met.S.K.Ord.total l.k l.there.contents
 
 abbrev pub decreases-moves : goal.decreases-moves
 decreases-moves g l = length l.tree.contents

@@ -1,0 +1,14 @@
+use Rattle.std.proofs.Common.{◌∙◌}
+use Rattle.bptree_maps.specs.Keys.{with_key}
+use Rattle.bptree_maps.proofs.MovingLemmas.{put_on}
+use Rattle.bptree_sets.proofs.set.BPlusTreeSet.extend.Goals as goal
+
+pub loop-k-preserved : goal.loop-k-preserved
+loop-k-preserved g c = put_on (with_key g.K.Ord.cmp) c.args.self.now c.loop-k.yielded c.loop-k.self c.insert.new.self c.in-Some.k c.loop-k.invariant c.in-Ok.ensures.ok.1
+
+pub returns-in-Err-clause-err : goal.returns-in-Err-clause-err
+returns-in-Err-clause-err g c = (
+  c.into_iter-k-iterator.result,
+  c.into_iter-k-iterator.ensures.into_iter_gives,
+  (c.loop-k.yielded, c.next.new.self, (c.loop-k.k-iterator, c.loop-k.yielded_by, rw c.in-Err.ensures.err.0 c.in-Some.ensures.steps), c.in-Err.ensures.err.1 ∙ c.loop-k.invariant),
+)

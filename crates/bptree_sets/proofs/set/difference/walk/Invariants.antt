@@ -1,0 +1,10 @@
+use Rattle.std.proofs.Common.{◌≡◌, ◌+◌, length}
+use Rattle.bptree_sets.specs.Beside.{AreSides}
+use Rattle.bptree_maps.specs.Keys.{keys_without}
+use Rattle.bptree_sets.proofs.set.difference.walk.Given as goal
+
+abbrev pub invariant-loop-key : goal.invariant-loop-key
+invariant-loop-key g l = AreSides g.K.Ord.cmp l.sides × (keys_without g.K.Ord.cmp l.initial.sides.0 l.initial.sides.1 ≡ keys_without g.K.Ord.cmp l.sides.0 l.sides.1)
+
+abbrev pub decreases-loop-key : goal.decreases-loop-key
+decreases-loop-key g l = length l.sides.0 + length l.sides.1

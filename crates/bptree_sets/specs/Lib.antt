@@ -1,0 +1,6 @@
+pub mod Beside
+pub mod KeyLaws
+pub mod Replacing
+pub mod Symmetric
+pub mod TwoSets
+pub mod Union

@@ -1,0 +1,27 @@
+-- The union of two ascending lists of keys.
+use Rattle.std.specs.Prelude.{◌≡◌, ℕ, ◌+◌, ◌≤◌, ◌^◌, List, Option, MatchOption, length, max}
+use Rattle.std.specs.declared.cmp.Ordering.{Ordering}
+use Rattle.std.specs.Borrow.{Bor}
+use Rattle.std.specs.Map.Iter.{TakesFirst, deref}
+use Rattle.std.specs.Option.{option_map, option_or}
+use Rattle.bptree_merging.specs.Merge.{keys_given, merge_step, merged}
+
+module _ {K : Type 0} (cmp : K → K → Ordering) where
+  -- the keys of both lists in their order: of two equal keys the first list's
+  abbrev pub union : List K → List K → List K
+  union first second = keys_given (merged cmp first second)
+
+  -- how many keys both lists have together, each key once
+  abbrev pub union_count : List K × List K → ℕ
+  union_count both = length (union both.0 both.1)
+
+  -- a step gave the first key of the union of what was left of both lists, and left of each what a step of their merge does
+  abbrev pub IsUnionStep : List K × List K → Option (Bor K) → List K × List K → Type 0
+  IsUnionStep old r new =
+      let step = merge_step cmp old.0 old.1 in
+      (option_map deref r ≡ option_or step.first step.second) × (new ≡ step.left) × TakesFirst deref (union old.0 old.1) r (union new.0 new.1)
+
+-- what is told of the length of the union of two lists: the longer one's at least, and both together at most, where that can be told
+abbrev pub IsBetweenLengths : {X : Type 0} → List X → List X → ℕ × Option ℕ → Type 0
+IsBetweenLengths first second told =
+    (told.0 ≡ max (length first) (length second)) × MatchOption told.1 (2 ^ 64 ≤ length first + length second) (λ sum. sum ≡ length first + length second)

@@ -1,0 +1,104 @@
+//! Sets that are compared and hashed, by the lists that they are; and what shows them.
+ghost use Rattle.std.specs.Prelude.{◌≡◌};
+ghost use Rattle.std.specs.Hash as fed;
+ghost use Rattle.std.specs.List.{flat_map, fold};
+ghost use Rattle.std.specs.Cmp.Lexicographic.{pointwise, slice_cmp, slice_partial_cmp, lists_equiv, lists_agrees, lists_total, lists_ties, lists_per, lists_po};
+ghost use Rattle.std.specs.Hash.{items_Alike};
+
+use crate::set::BPlusTreeSet;
+use bptree_keys::key::Key;
+use std::cmp::Ordering;
+use std::fmt;
+use std::fmt::{Debug, Formatter, Write};
+use std::hash::{Hash, Hasher};
+
+/// Two sets are equal where they have as many keys, and at each place equal ones. It takes no
+/// memory.
+///
+/// Where the lengths differ, nothing is compared; else it stops at the first two keys that differ.
+impl<K: Key> PartialEq for BPlusTreeSet<K> {
+    ghost eq = { pointwise K.eq };
+
+    ghost laws = { lists_per K.PartialEq.laws };
+
+    fn eq(&self, other: &Self) -> bool {
+        if self.len() != other.len() {
+            return false;
+        }
+        let (mut left, mut right) = (self.iter(), other.iter());
+        while let Some(key) = left.next() {
+            let Some(beside) = right.next() else {
+                unreachable!();
+            };
+            if key != beside {
+                return false;
+            }
+        }
+        true
+    }
+}
+
+impl<K: Key> Eq for BPlusTreeSet<K> {
+    ghost laws = { lists_equiv K.Eq.laws };
+}
+
+/// The first two keys that differ decide, and else the lengths do. It takes no memory.
+impl<K: Key> PartialOrd for BPlusTreeSet<K> {
+    ghost partial_cmp = { slice_partial_cmp K.partial_cmp };
+
+    ghost laws = { lists_po K.PartialOrd.laws };
+
+    fn partial_cmp(&self, other: &Self) -> Option<Ordering> {
+        let (mut left, mut right) = (self.iter(), other.iter());
+        while let Some(key) = left.next() {
+            let Some(beside) = right.next() else {
+                return Some(Ordering::Greater);
+            };
+            match key.partial_cmp(&beside) {
+                Some(Ordering::Equal) => {}
+                decided => return decided,
+            }
+        }
+        match right.next() {
+            Some(_) => Some(Ordering::Less),
+            None => Some(Ordering::Equal),
+        }
+    }
+}
+
+/// The first two keys that differ decide, and else the lengths do. It takes no memory.
+impl<K: Key> Ord for BPlusTreeSet<K> {
+    ghost cmp = { slice_cmp K.cmp };
+
+    ghost total = { lists_total K.total };
+
+    ghost matches_partial_cmp = { lists_agrees K.matches_partial_cmp };
+
+    ghost matches_eq = { lists_ties K.cmp K.matches_eq };
+
+    fn cmp(&self, other: &Self) -> Ordering {
+        self.iter().cmp(other.iter())
+    }
+}
+
+/// The number of keys is hashed, and then each key. It takes no memory.
+impl<K: Key + Hash> Hash for BPlusTreeSet<K> {
+    ghost hash_input = { fed.slice K.hash_input };
+
+    ghost respects_eq = { (items_Alike (record { fed = K.respects_eq })).fed };
+
+    fn hash<H: Hasher>(&self, state: &mut H) {
+        self.len().hash(state);
+        let mut left = self.iter();
+        while let Some(k) = left.next() {
+            k.hash(state);
+        }
+    }
+}
+
+/// The keys in their order, as Rust shows a set's. Its text is not claimed.
+impl<K: Key + Debug> Debug for BPlusTreeSet<K> {
+    fn fmt<W: Write>(&self, f: &mut Formatter<W>) -> fmt::Result {
+        f.debug_set().entries(self.iter()).finish()
+    }
+}

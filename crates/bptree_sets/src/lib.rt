@@ -1,0 +1,5 @@
+//! An ordered set over a B+ tree of its own.
+#![tactic(auto)]
+
+mod comparing;
+pub mod set;

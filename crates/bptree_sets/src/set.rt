@@ -1,0 +1,348 @@
+//! An ordered set.
+ghost use Rattle.std.specs.Prelude.{◌≡◌, ◌*◌, [], false, not, length, slice_get, IfOk, IfErr, OnErr, Ok, Err, None, IsOk, IsTrue, ◌↔◌, List};
+ghost use Rattle.std.specs.Borrow.{Lends, sem};
+ghost use Rattle.std.specs.Iterator.{IsFiniteIterable as AreFinite};
+ghost use Rattle.std.specs.List.Sorted.{IsStrictlySortedBy};
+ghost use Rattle.std.specs.Map.{keys_of};
+ghost use Rattle.std.specs.Map.Iter.{ShowsInOrder, GivesInOrder, GivesInReverse, TakesFirst, TakesLast, deref};
+ghost use Rattle.std.specs.Option.{option_copied, option_copied as given};
+ghost use Rattle.bptree_tree.specs.Refusal.{pair_of};
+ghost use Rattle.bptree_maps.specs.Keys.{holds, key_found, keys_between, keys_within, keys_without, IsDisjoint, IsSubset};
+ghost use Rattle.bptree_sets.specs.contracts.set.BPlusTreeSet.{the_row};
+ghost use Rattle.bptree_maps.specs.Rows.{inner_row_of_set};
+ghost use Rattle.bptree_maps.specs.Gathering.{AreFewFor, IsSetOf};
+ghost use Rattle.bptree_maps.specs.KeyChanges.{IsFullForKey, PutsKey, RemovesKey};
+ghost use Rattle.bptree_keys.specs.Contents.{last_member};
+
+mod borrowed;
+mod bounds;
+mod difference;
+mod intersection;
+mod iter;
+mod laws;
+mod moving;
+mod retaining;
+mod symmetric;
+mod union;
+
+use bptree_keys::key::Key;
+use bptree_maps::gathering::gather_map;
+use bptree_maps::map::{BPlusTreeMap, Keys};
+pub use bptree_maps::refusals::{MoveError, ReplaceError, RetainError, SplitError};
+use bptree_stores::node_store_vec::NodeStoreVec;
+use bptree_tree::{BPlusTree, InsertError};
+pub use difference::Difference;
+pub use intersection::Intersection;
+pub use iter::{IntoIter, Iter};
+pub use laws::{laws_of_keys, laws_of_two_sets};
+use std::alloc::{AllocError, Global};
+use std::marker::Model;
+pub use symmetric::SymmetricDifference;
+pub use union::{Union, laws_of_union};
+
+// How many times fewer keys a set has than another, at least, where each is looked up in the other.
+const SEEK_RATIO: usize = 16;
+
+/// Keys in their strictly ascending order.
+#[derive(Drop)]
+pub struct BPlusTreeSet<K: Key> {
+    map: BPlusTreeMap<K, ()>,
+}
+
+impl<K: Key> Model for BPlusTreeSet<K> {
+    ghost use Rattle.std.specs.Prelude.{List};
+    ghost use Rattle.std.specs.Map.{keys_of};
+
+    ghost Value = { List K };
+
+    ghost view = { λ set. keys_of set.map };
+}
+
+impl<K: Key> BPlusTreeSet<K> {
+    /// A set with no keys. Its one leaf takes memory.
+    pub fn new(alloc: Global) -> Result<Self, AllocError>
+        ensures { IfOk result (λ set. set ≡ []) }
+    {
+        Ok(BPlusTreeSet {
+            map: BPlusTreeMap::new(alloc)?,
+        })
+    }
+
+    /// The same as `new`.
+    pub fn default(alloc: Global) -> Result<Self, AllocError>
+        ensures { IfOk result (λ set. set ≡ []) }
+    {
+        BPlusTreeSet::new(alloc)
+    }
+
+    /// The keys that an iterator gives, in any order; of equal ones the last stays.
+    ///
+    /// They are held in one vector, which is sorted and then loaded. A refusal for want of memory
+    /// drops the keys.
+    pub fn from_iter<I: IntoIterator<Item = K>>(alloc: Global, iter: I) -> Result<Self, AllocError>
+        requires { AreFinite I.into_iter_gives I.IntoIter.can_next I.IntoIter.remaining iter }
+        ensures { IfOk result (IsSetOf I.into_iter_gives K.cmp I.IntoIter.next_gives iter) }
+    {
+        let keys = iter.into_iter();
+        let mut pairs = Vec::with_capacity(alloc, keys.size_hint().0)?;
+        for k in keys {
+            pairs.push((k, ()))?;
+        }
+        Ok(BPlusTreeSet {
+            map: gather_map(pairs)?,
+        })
+    }
+
+    /// The number of keys.
+    pub fn len(&self) -> usize
+        ensures value { result ≡ length self.now }
+        ensures ascending { IsStrictlySortedBy K.cmp self.now }
+    {
+        self.map.len()
+    }
+
+    /// Whether there are no keys.
+    pub fn is_empty(&self) -> bool
+        ensures { IsTrue result ↔ (self.now ≡ []) }
+    {
+        self.map.is_empty()
+    }
+
+    /// Puts `k` in, and says whether no key equalled it.
+    ///
+    /// A key that equals `k` stays, and `k` is dropped: that takes no memory and is never refused.
+    /// A new key can be refused: for want of memory, or in a set of `usize::MAX` keys. Then nothing
+    /// has changed.
+    pub fn insert(&mut self, k: K) -> Result<bool, InsertError<K, ()>>
+        ensures ok { IfOk result (PutsKey K.cmp k self.old self.new) }
+        ensures err { IfErr result (λ r. (pair_of r ≡ (k, tt)) × (self.new ≡ self.old)) }
+        ensures present { IsTrue (holds K.cmp self.old k) → IsOk result }
+        ensures full { (result ≡ Err (InsertError.Full k tt)) ↔ IsFullForKey K.cmp usize.MAX self.old k }
+    {
+        Ok(self.map.insert(k, ())?.is_none())
+    }
+
+    /// Removes the key that equals `k`, and says whether there was one. Where there is none,
+    /// nothing changes and nothing can be refused. The removal of a key can be refused for want of
+    /// memory; then nothing has changed.
+    pub fn remove(&mut self, k: &K) -> Result<bool, AllocError>
+        ensures ok { IfOk result (RemovesKey K.cmp k.now self.old self.new) }
+        ensures absent { holds K.cmp self.old k.now ≡ false → result ≡ Ok false }
+        ensures err { OnErr result (self.new ≡ self.old) }
+    {
+        Ok(self.map.remove(k)?.is_some())
+    }
+
+    /// Whether some key equals `k`.
+    pub fn contains(&self, k: &K) -> bool
+        ensures { result ≡ holds K.cmp self.now k.now }
+    {
+        self.map.get(k).is_some()
+    }
+
+    /// The same as `contains`, and how many comparisons of keys it made.
+    pub fn contains_counted(&self, k: &K) -> (bool, usize)
+        ensures value { result.0 ≡ holds K.cmp self.now k.now }
+        ensures count { AreFewFor (length self.now) result.1 }
+    {
+        let (value, compares) = self.map.get_counted(k);
+        (value.is_some(), compares)
+    }
+
+    /// The key that equals `k`, as it was put in. It takes no memory, and costs what `contains`
+    /// does.
+    pub fn get(&self, k: &K) -> Option<&K>
+        ensures { option_copied result ≡ key_found K.cmp self.now k.now }
+    {
+        match self.map.get_key_value(k) {
+            Some((key, _)) => Some(key),
+            None => None,
+        }
+    }
+
+    /// Removes the least key, and hands it back: none of an empty set, where nothing can be
+    /// refused.
+    ///
+    /// It is one way down, on which no key is compared. What a removal takes is what `remove`
+    /// takes, and where it is refused nothing has changed.
+    pub fn pop_first(&mut self) -> Result<Option<K>, AllocError>
+        ensures ok { IfOk result (λ gone. TakesFirst (λ key. key) self.old gone self.new) }
+        ensures empty { self.old ≡ [] → result ≡ Ok None }
+        ensures err { OnErr result (self.new ≡ self.old) }
+    {
+        match self.map.pop_first()? {
+            Some((key, ())) => Ok(Some(key)),
+            None => Ok(None),
+        }
+    }
+
+    /// Removes the greatest key, and hands it back: none of an empty set, where nothing can be
+    /// refused.
+    ///
+    /// It is one way down, on which no key is compared. What a removal takes is what `remove`
+    /// takes, and where it is refused nothing has changed.
+    pub fn pop_last(&mut self) -> Result<Option<K>, AllocError>
+        ensures ok { IfOk result (λ gone. TakesLast (λ key. key) self.old gone self.new) }
+        ensures empty { self.old ≡ [] → result ≡ Ok None }
+        ensures err { OnErr result (self.new ≡ self.old) }
+    {
+        match self.map.pop_last()? {
+            Some((key, ())) => Ok(Some(key)),
+            None => Ok(None),
+        }
+    }
+
+    /// Removes all keys. The new leaf takes memory; where that is refused, nothing has changed.
+    pub fn clear(&mut self) -> Result<(), AllocError>
+        ensures ok { IfOk result (λ _. self.new ≡ []) }
+        ensures err { OnErr result (self.new ≡ self.old) }
+    {
+        self.map.clear()
+    }
+
+    /// The least key.
+    pub fn first(&self) -> Option<&K>
+        ensures { option_copied result ≡ slice_get self.now 0 }
+    {
+        let (key, _) = self.map.first()?;
+        Some(key)
+    }
+
+    /// The greatest key.
+    pub fn last(&self) -> Option<&K>
+        ensures { option_copied result ≡ last_member self.now }
+    {
+        let (key, _) = self.map.last()?;
+        Some(key)
+    }
+
+    /// The keys in their order. It takes no memory, and neither do its steps.
+    pub fn iter(&self) -> Iter<'_, K>
+        ensures rest { result ≡ self.now }
+        ensures ascending { IsStrictlySortedBy K.cmp self.now }
+        ensures runs { ShowsInOrder (deref {X = K}) }
+    {
+        Iter::new(self.map.keys())
+    }
+
+    /// The keys that are not below `lo` and are below `hi`, where they are given, in their order.
+    /// It takes no memory, and neither do its steps.
+    ///
+    /// Each end that is given is searched for once. How many keys there are is told when it is
+    /// asked, by a step for each leaf between.
+    pub fn range<'b>(&self, lo: Option<&'b K>, hi: Option<&'b K>) -> Iter<'_, K>
+        ensures rest { result ≡ keys_between K.cmp self.now (given lo.entry) (given hi.entry) }
+        ensures ascending { IsStrictlySortedBy K.cmp result }
+        ensures runs { ShowsInOrder (deref {X = K}) }
+    {
+        Iter::new(Keys::new(self.map.range(lo, hi)))
+    }
+
+    /// The keys in their order, each handed over. It takes no memory, and neither do its steps.
+    pub fn into_iter(self) -> IntoIter<K>
+        ensures rest { result ≡ self }
+        ensures ascending { IsStrictlySortedBy K.cmp self }
+        ensures runs { GivesInOrder K }
+        ensures runs_back { GivesInReverse K }
+    {
+        IntoIter::new(self.map.into_keys())
+    }
+
+    /// The keys of both sets in their order; of two equal keys that of this set. It takes no
+    /// memory, and neither do its steps.
+    pub fn union<'a>(&'a self, other: &'a Self) -> Union<'a, K>
+        ensures { result ≡ (self.now, other.now) }
+    {
+        Union::new(self.iter(), other.iter())
+    }
+
+    /// The keys of this set that no key of the other equals, in their order. It takes no memory,
+    /// and neither do its steps.
+    ///
+    /// Both sets are walked side by side, with a comparison for each key of either. Where this set
+    /// has at most a sixteenth of the other's keys, each of its keys is looked up in the other.
+    pub fn difference<'a>(&'a self, other: &'a Self) -> Difference<'a, K>
+        ensures rest { result ≡ keys_without K.cmp self.now other.now }
+        ensures ascending { IsStrictlySortedBy K.cmp result }
+        ensures runs { ShowsInOrder (deref {X = K}) }
+    {
+        Difference::new(self, other)
+    }
+
+    /// The keys of this set that a key of the other equals, in their order. It takes no memory, and
+    /// neither do its steps.
+    ///
+    /// Both sets are walked side by side, with a comparison for each key of either. Where one has
+    /// at most a sixteenth of the other's keys, each of its keys is looked up in the other.
+    pub fn intersection<'a>(&'a self, other: &'a Self) -> Intersection<'a, K>
+        ensures rest { result ≡ keys_within K.cmp self.now other.now }
+        ensures ascending { IsStrictlySortedBy K.cmp result }
+        ensures runs { ShowsInOrder (deref {X = K}) }
+    {
+        Intersection::new(self, other)
+    }
+
+    /// The keys of both sets in their order, without those that are in both. It takes no memory,
+    /// and neither do its steps: to give all takes at most as many comparisons as there are keys.
+    pub fn symmetric_difference<'a>(&'a self, other: &'a Self) -> SymmetricDifference<'a, K>
+        ensures { result ≡ (self.now, other.now) }
+    {
+        SymmetricDifference::new(self.iter(), other.iter())
+    }
+
+    /// Whether each key of this set equals one of the other. It takes no memory.
+    ///
+    /// Where this set has more keys it is told without a comparison. Else it costs what
+    /// `difference` costs up to the first key that the other lacks.
+    pub fn is_subset(&self, other: &Self) -> bool
+        ensures { IsTrue result ↔ IsSubset K.cmp self.now other.now }
+    {
+        if other.len() < self.len() {
+            return false;
+        }
+        self.difference(other).next().is_none()
+    }
+
+    /// Whether each key of the other set equals one of this. It costs what `is_subset` costs.
+    pub fn is_superset(&self, other: &Self) -> bool
+        ensures { IsTrue result ↔ IsSubset K.cmp other.now self.now }
+    {
+        other.is_subset(self)
+    }
+
+    /// Whether no key of this set equals one of the other. It takes no memory, and costs what
+    /// `intersection` costs up to the first key that both have.
+    pub fn is_disjoint(&self, other: &Self) -> bool
+        ensures { IsTrue result ↔ IsDisjoint K.cmp self.now other.now }
+    {
+        self.intersection(other).next().is_none()
+    }
+
+    /// The tree inside, whose keys are the set's.
+    pub fn tree(&self) -> &BPlusTree<NodeStoreVec<K, ()>>
+        ensures { keys_of result.now.contents ≡ self.now }
+    {
+        self.map.tree()
+    }
+
+    /// The tree inside, for writing: once it is given back, the set has the keys of what the tree's
+    /// contents are then.
+    pub fn tree_mut(&mut self) -> &mut BPlusTree<NodeStoreVec<K, ()>>
+        ensures* writes_back { sem 𝓛 (Lends (the_row K.row K.Key.own K.Clone K.Ord.own K.Eq.own K.PartialEq K.PartialOrd.own) (inner_row_of_set K.row K.Key.own K.Clone K.Ord.own K.Eq.own K.PartialEq K.PartialOrd.own) self.entry result (λ tree. keys_of tree.contents)) }
+        ensures value { keys_of result.now.contents ≡ self.old }
+    {
+        self.map.tree_mut()
+    }
+}
+
+impl<K: Key> IntoIterator for BPlusTreeSet<K> {
+    type Item = K;
+
+    type IntoIter = IntoIter<K>;
+
+    ghost into_iter_gives = { λ set keys. (keys ≡ set) × IsStrictlySortedBy K.cmp set × GivesInOrder K × GivesInReverse K };
+
+    fn into_iter(self) -> IntoIter<K> {
+        self.into_iter()
+    }
+}

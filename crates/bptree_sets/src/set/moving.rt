@@ -1,0 +1,121 @@
+//! One key that is handed out or takes another's place, and many keys at once.
+ghost use Rattle.std.specs.Prelude.{◌≡◌, ◌++◌, false, IfOk, IfErr, OnErr, OnOk, Ok, Some, None};
+ghost use Rattle.std.specs.Iterator.{IsFiniteIterable as AreFinite};
+ghost use Rattle.std.specs.Option.{option_map};
+ghost use Rattle.bptree_tree.specs.Refusal.{pair_of};
+ghost use Rattle.bptree_maps.specs.Keys.{holds, with_key};
+ghost use Rattle.bptree_maps.specs.Moving.{Moves, AllMove, Extends, ExtendsUpTo, MovesKeys};
+ghost use Rattle.bptree_sets.specs.Replacing.{IsNotReplaced};
+ghost use Rattle.bptree_maps.specs.Splitting.{keys_gone, KeepsKeysBelow, SplitsKeysOff};
+ghost use Rattle.bptree_maps.specs.KeyChanges.{ReplacesKey, TakesKey};
+
+use crate::set::BPlusTreeSet;
+use bptree_keys::key::Key;
+use bptree_maps::refusals::{MoveError, ReplaceError, SplitError};
+use bptree_tree::InsertError;
+use std::alloc::AllocError;
+
+// The key of a pair, where there is one.
+fn key_alone<K: Drop>(pair: Option<(K, ())>) -> Option<K>
+    ensures { result ≡ option_map (λ pair. pair.0) pair }
+{
+    match pair {
+        Some((key, ())) => Some(key),
+        None => None,
+    }
+}
+
+impl<K: Key> BPlusTreeSet<K> {
+    /// Removes the key that equals `k`, and hands it back as it was stored. Where there is none,
+    /// nothing changes and nothing can be refused.
+    ///
+    /// It costs what `remove` does, which drops that key. Where it is refused, nothing has changed.
+    pub fn take(&mut self, k: &K) -> Result<Option<K>, AllocError>
+        ensures ok { IfOk result (TakesKey K.cmp k.now self.old self.new) }
+        ensures absent { holds K.cmp self.old k.now ≡ false → result ≡ Ok None }
+        ensures err { OnErr result (self.new ≡ self.old) }
+    {
+        let gone = self.map.remove_entry(k)?;
+        Ok(key_alone(gone))
+    }
+
+    /// Puts `k` in the place of the key that equals it, and hands that key out: none where no key
+    /// does.
+    ///
+    /// It costs a removal and an insertion, since the sums of the keys on the way are made anew.
+    /// Where the removal is refused, nothing has changed, and `k` is handed back. Where the
+    /// insertion is, the key that equals `k` has left, and both are handed back.
+    pub fn replace(&mut self, k: K) -> Result<Option<K>, ReplaceError<K>>
+        ensures ok { IfOk result (ReplacesKey K.cmp k self.old self.new) }
+        ensures err { IfErr result (IsNotReplaced K.cmp k self.old self.new) }
+    {
+        match self.take(&k) {
+            Ok(gone) => match self.insert(k) {
+                Ok(_) => Ok(gone),
+                Err(refusal) => Err(ReplaceError::NotStored(refusal, gone)),
+            },
+            Err(_) => Err(ReplaceError::NotTaken(k)),
+        }
+    }
+
+    /// Puts the keys in that an iterator gives, one after another, as `insert` does: a key that was
+    /// stored stays.
+    ///
+    /// It costs an insertion a key. Where one is refused, the keys before it are in and that key is
+    /// handed back; the rest of the iterator is dropped.
+    pub fn extend<I: IntoIterator<Item = K>>(&mut self, keys: I) -> Result<(), InsertError<K, ()>>
+        requires { AreFinite I.into_iter_gives I.IntoIter.can_next I.IntoIter.remaining keys }
+        ensures ok { OnOk result (Extends (with_key K.cmp) I.IntoIter.next_gives I.into_iter_gives keys self.old self.new) }
+        ensures err { IfErr result (λ r. ExtendsUpTo (with_key K.cmp) I.IntoIter.next_gives I.into_iter_gives keys self.old self.new (pair_of r).0) }
+    {
+        for k in keys {
+            match self.insert(k) {
+                Ok(_) => {}
+                Err(refusal) => return Err(refusal),
+            }
+        }
+        Ok(())
+    }
+
+    /// Moves all keys of another set here, one after another, as `insert` does: of two equal keys
+    /// this set's stays, and the other's is dropped.
+    ///
+    /// It costs a removal and an insertion a key. Where one is refused, the first keys have moved,
+    /// and the others are still in the other set; a key that was removed and not stored is handed
+    /// back.
+    pub fn append(&mut self, other: &mut Self) -> Result<(), MoveError<K, ()>>
+        ensures ok { OnOk result (AllMove (with_key K.cmp) self.old other.old self.new other.new) }
+        ensures err { IfErr result (MovesKeys K.cmp self.old other.old self.new other.new) }
+    {
+        'moves: loop {
+            match other.pop_first() {
+                Ok(Some(k)) => match self.insert(k) {
+                    Ok(_) => {}
+                    Err(refusal) => return Err(MoveError::NotStored(refusal)),
+                },
+                Ok(None) => return Ok(()),
+                Err(_) => return Err(MoveError::NotTaken),
+            }
+        }
+    }
+
+    /// Moves the keys that are not below `k` to a set of their own, the greatest first.
+    ///
+    /// It costs a removal and an insertion a key that moves, and what a set with no keys takes.
+    /// Where that is refused, nothing has changed. Where a move is refused, the greatest keys have
+    /// left and are handed back in their set. With them comes the key that was removed and not
+    /// stored, if there is one. The others stayed.
+    pub fn split_off(&mut self, k: &K) -> Result<Self, SplitError<Self, MoveError<K, ()>>>
+        ensures ok { IfOk result (SplitsKeysOff K.cmp k.now self.old self.new) }
+        ensures err { IfErr result (λ refusal. self.old ≡ self.new ++ keys_gone refusal) }
+        ensures kept { KeepsKeysBelow K.cmp k.now self.old self.new }
+    {
+        match self.map.split_off(k) {
+            Ok(map) => Ok(BPlusTreeSet { map }),
+            Err(SplitError::NotMade) => Err(SplitError::NotMade),
+            Err(SplitError::NotAll(map, refusal)) => {
+                Err(SplitError::NotAll(BPlusTreeSet { map }, refusal))
+            }
+        }
+    }
+}

@@ -1,0 +1,75 @@
+//! The keys of a set that a closure keeps, and those outside a range.
+ghost use Rattle.std.specs.Prelude.{◌≡◌, length, IfErr, IfOk, OnErr, OnOk};
+ghost use Rattle.std.specs.Fn.{CalledAt};
+ghost use Rattle.std.specs.List.Retain.{IsFiltered};
+ghost use Rattle.std.specs.Option.{option_copied as given};
+ghost use Rattle.bptree_maps.specs.Keys.{keys_between};
+ghost use Rattle.bptree_maps.specs.RetainedKeys.{keys_outside, FirstKeysLeft, IsKeyRetainRefused};
+ghost use Rattle.bptree_tree.specs.Refusal.{pair_of};
+
+use super::{BPlusTreeSet, IntoIter};
+use bptree_keys::key::Key;
+use bptree_maps::map::BPlusTreeMap;
+use bptree_maps::refusals::RetainError;
+use bptree_stores::node_stores::NodeStore;
+use bptree_tree::InsertError;
+use std::alloc::AllocError;
+use std::mem;
+
+// The key that an insertion hands back.
+fn key_back<K: Drop>(refusal: InsertError<K, ()>) -> K
+    ensures { result ≡ (pair_of refusal).0 }
+{
+    match refusal {
+        InsertError::OutOfMemory(k, ()) => k,
+        InsertError::Full(k, ()) => k,
+    }
+}
+
+impl<K: Key> BPlusTreeSet<K> {
+    /// Keeps the keys for which a closure answers true, in their order, and drops the others.
+    ///
+    /// It costs an insertion in order of each key that stays, with no way down but for a new leaf.
+    /// Where memory for the set that holds them is refused, nothing has changed. Where an insertion
+    /// is, its key is handed back with the keys that were not asked; those before it that are to
+    /// stay are here.
+    pub fn retain<F: FnMut(&K) -> bool>(
+        &mut self,
+        mut f: F,
+    ) -> Result<(), RetainError<K, IntoIter<K>>>
+        requires { F.IsAlwaysCallable f }
+        ensures ok { OnOk result (IsFiltered (CalledAt F.FnMut) f self.old self.new) }
+        ensures err { IfErr result (IsKeyRetainRefused F.FnMut f self.old self.new) }
+    {
+        let Ok(fresh) = BPlusTreeMap::new(self.tree().node_store().allocator()) else {
+            return Err(RetainError::NotMade);
+        };
+        let mut keys = IntoIter::new(mem::replace(&mut self.map, fresh).into_keys());
+        'keys: while let Some(k) = keys.next() {
+            if f(&k) {
+                match self.insert(k) {
+                    Ok(_) => {}
+                    Err(refusal) => return Err(RetainError::NotStored(key_back(refusal), keys)),
+                }
+            }
+        }
+        Ok(())
+    }
+
+    /// Removes the keys that are not below `lo` and are below `hi`, where they are given, and
+    /// answers how many there were.
+    ///
+    /// It costs a removal a key, and a search for it and for each end that is given. Where one is
+    /// refused, the first of the keys have left, and nothing else has changed.
+    pub fn remove_range<'b>(
+        &mut self,
+        lo: Option<&'b K>,
+        hi: Option<&'b K>,
+    ) -> Result<usize, AllocError>
+        ensures rest { IfOk result (λ _. self.new ≡ keys_outside K.cmp self.old (given lo.entry) (given hi.entry)) }
+        ensures count { IfOk result (λ n. n ≡ length (keys_between K.cmp self.old (given lo.entry) (given hi.entry))) }
+        ensures err { OnErr result (FirstKeysLeft K.cmp (given lo.entry) (given hi.entry) self.old self.new) }
+    {
+        self.map.remove_range(lo, hi)
+    }
+}
