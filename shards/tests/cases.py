@@ -1,6 +1,7 @@
-"""Prints what crates/bptree_shards_cases prints, told from plain lists of pairs in place of sums and searches.
+"""Prints the cases of the functions of shards that crates/bptree_hostile prints, told from plain lists of pairs in place of sums
+and searches: the last lines of its file stdout.
 
-    python3 shards/tests/cases.py > crates/bptree_shards_cases/stdout
+    python3 shards/tests/cases.py
 """
 
 BOUNDS = [[], [0], [5], [1, 1, 1], [2, 7, 7, 9], [4, 8, 10]]

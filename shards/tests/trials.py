@@ -31,6 +31,8 @@ from sweep_bptree_shards.shard import Shard, message, reply
 PROGRAM = sys.argv[1] if len(sys.argv) > 1 else ""
 LINES = int(sys.argv[2]) if len(sys.argv) == 3 else 1_000_000
 GREATEST = drawn.GREATEST
+# What the program of the crate bptree_hostile has to print.
+CASES = os.path.join(os.path.dirname(os.path.abspath(__file__)), "..", "..", "crates", "bptree_hostile", "stdout")
 passed = failed = 0
 
 
@@ -194,15 +196,12 @@ def routes_beside_a_list() -> None:
 
 
 def routes_beside_the_proved() -> None:
-    """The same cases as a program prints that calls the proved functions, where there is one.
+    """The same cases as a program of the gate prints, which calls the proved functions and is compared with this file there.
 
     A line is 'NAME ARGUMENT .. = RESULT'. An argument is a number, 'none', or a list of numbers with commas between, '-' where it
     is empty; the first one is a list always. A result is a number, 'none', or numbers with commas between; parts are apart by
     spaces, and '-' is no part.
     """
-    program = os.environ.get("SWEEP_BPTREE_ROUTING_CASES")
-    if not program:
-        return
 
     def read(word: str) -> int | None:
         return None if word == "none" else int(word)
@@ -212,7 +211,8 @@ def routes_beside_the_proved() -> None:
             return " ".join(map(say, it)) or "-"
         return "none" if it is None else ",".join(map(str, it)) if isinstance(it, tuple) else str(it)
 
-    lines = subprocess.run([program], stdout=subprocess.PIPE, check=True, text=True).stdout.splitlines()
+    with open(CASES, encoding="utf-8") as it:
+        lines = [line for line in it.read().splitlines() if " = " in line]
     for line in lines:
         asked, _, wanted = line.partition(" = ")
         name, first, *others = asked.split()

@@ -9,6 +9,7 @@
 mod byte_handle;
 mod byte_set;
 mod bytes;
+mod callers;
 mod handle;
 mod loose;
 mod making;

@@ -18,24 +18,31 @@ fn fits<K>(len: usize, root_least: usize, low: Option<&K>, high: Option<&K>) -> 
     least <= len && len <= 64
 }
 
-// Whether keys ascend between two bounds, the lower one included.
-fn ascend<K: Key>(keys: &[K], low: Option<&K>, high: Option<&K>) -> bool {
-    let mut before = None;
-    for key in keys {
-        let above = match (before, low) {
-            (Some(smaller), _) => smaller < key,
-            (None, Some(bound)) => bound <= key,
-            (None, None) => true,
-        };
-        if !above {
-            return false;
-        }
-        before = Some(key);
-    }
-    match (before, high) {
-        (Some(last), Some(bound)) => last < bound,
+// Whether a key is below another, where there are both.
+fn is_below<K: Key>(key: Option<&K>, other: Option<&K>) -> bool {
+    match (key, other) {
+        (Some(key), Some(other)) => key < other,
         _ => true,
     }
+}
+
+// Whether it is not above the other.
+fn is_at_most<K: Key>(key: Option<&K>, other: Option<&K>) -> bool {
+    match (key, other) {
+        (Some(key), Some(other)) => key <= other,
+        _ => true,
+    }
+}
+
+// Whether keys ascend between two bounds, the lower one included.
+fn ascend<K: Key>(keys: &[K], low: Option<&K>, high: Option<&K>) -> bool {
+    let mut well = is_at_most(low, keys.first()) && is_below(keys.last(), high);
+    let mut before = None;
+    for key in keys {
+        well &= is_below(before, Some(key));
+        before = Some(key);
+    }
+    well
 }
 
 // Whether the nodes of a tree of a height have the right sizes, depths and bounds. It gathers the

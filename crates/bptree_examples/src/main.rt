@@ -1,11 +1,13 @@
-//! Four examples of a map and a set, and short uses of their reads and changes. Where standard
-//! input has lines, times of the calls of a tree instead: each line has a number of pairs and a
-//! number of rounds.
+//! Four examples of a map and a set, short uses of their reads and changes, and a tree that is
+//! drawn. Where standard input has lines, these are carried out instead. A line with a number of
+//! pairs and a number of rounds takes times of the calls of a tree. A line of the program `bptree`
+//! changes a map, whose tree is drawn at the end, as text for Graphviz.
 #![tactic(auto)]
 
 mod argument;
 mod calendar;
 mod date_statistic;
+mod draw;
 mod filling;
 mod race;
 mod speed;
@@ -17,6 +19,8 @@ use std::alloc::AllocError;
 use std::fmt::Debug;
 use std::io;
 use std::process::ExitCode;
+use sweep_bptree::BPlusTreeMap;
+use sweep_bptree::tree::count::Count;
 
 fn tell<T: Debug + Drop>(
     rt: &HostRuntime,
@@ -44,23 +48,41 @@ fn tell_all(rt: &HostRuntime) -> io::Result<()> {
     tell(rt, "segments beside", uses::sweep_line::run(alloc))?;
     tell(rt, "items", uses::grouped_index::run(alloc))?;
     tell(rt, "rows by value", uses::secondary_index::run(alloc))?;
-    tell(rt, "takings", uses::takings::run(alloc))
+    tell(rt, "takings", uses::takings::run(alloc))?;
+    match draw::run(alloc) {
+        Ok(text) => println!(rt; "{text}"),
+        Err(_) => println!(rt; "a tree: out of memory"),
+    }
+}
+
+// Carries out the lines of standard input, and shows the examples where there is none. Answers
+// whether all went well.
+fn answer(rt: &HostRuntime) -> Result<bool, AllocError> {
+    let mut map = BPlusTreeMap::<u64, u64, Count>::new(rt.alloc())?;
+    let (mut is_timed, mut is_drawn) = (false, false);
+    for line in rt.lines(rt.alloc()) {
+        let Ok(line) = line else {
+            return Ok(false);
+        };
+        if draw::carry_out(&mut map, line.as_str().as_bytes())? {
+            is_drawn = true;
+        } else if speed::run(rt, line.as_str()) {
+            is_timed = true;
+        } else {
+            return Ok(false);
+        }
+    }
+    if is_drawn {
+        let text = draw::text_of(rt.alloc(), map.tree())?;
+        return Ok(println!(rt; "{text}").is_ok());
+    }
+    Ok(is_timed || tell_all(rt).is_ok())
 }
 
 fn main(rt: HostRuntime) -> ExitCode {
-    let mut is_timed = false;
-    for line in rt.lines(rt.alloc()) {
-        let Ok(line) = line else {
-            return ExitCode::FAILURE;
-        };
-        if !speed::run(&rt, line.as_str()) {
-            return ExitCode::FAILURE;
-        }
-        is_timed = true;
-    }
-    if is_timed || tell_all(&rt).is_ok() {
-        ExitCode::SUCCESS
-    } else {
-        ExitCode::FAILURE
+    match answer(&rt) {
+        Ok(true) => ExitCode::SUCCESS,
+        Ok(false) => ExitCode::FAILURE,
+        Err(_) => ExitCode::FAILURE,
     }
 }

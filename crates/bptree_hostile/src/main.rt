@@ -1,6 +1,7 @@
 //! Hostile use: odd keys, false hints, foreign visitors, and calls in no order beside a plain list.
 //! Each byte of standard input names what is to be done, and for each its name is printed, and
-//! whether all was as it should be.
+//! whether all was as it should be. At an `e` stand cases of the functions of shards instead, each
+//! with its answer.
 #![tactic(auto)]
 
 mod calls;
@@ -11,6 +12,7 @@ mod forgetful;
 mod holds;
 mod plain;
 mod rounds;
+mod routes;
 mod rows;
 mod shards;
 mod whole;
@@ -60,6 +62,10 @@ fn main(rt: HostRuntime) -> ExitCode {
     let mut all = true;
     for (seed, letter) in letters[..count].iter().enumerate() {
         if *letter == b'\n' {
+            continue;
+        }
+        if *letter == b'e' {
+            all &= routes::tell_all(&rt);
             continue;
         }
         let (name, well) = match carry_out(rt.alloc(), *letter, seed as u64) {

@@ -34,6 +34,7 @@ mod borrowed;
 mod bounds;
 mod keys;
 mod moving;
+mod owned;
 mod places;
 mod retaining;
 mod updates;
@@ -48,8 +49,9 @@ use bptree_arguments::group::FromRef;
 use bptree_arguments::visit::{DescendError, DescendVisit};
 use bptree_keys::key::Key;
 use bptree_stores::node_store_vec::NodeStoreVec;
-use bptree_tree::{BPlusTree, Cursor, InsertError, SelectError, iterator, tree};
+use bptree_tree::{BPlusTree, Cursor, InsertError, SelectError, iterator};
 pub use keys::{IntoKeys, Keys};
+pub use owned::IntoIter;
 use std::alloc::{AllocError, Global};
 use std::iter::{ExactSizeIterator, FusedIterator};
 use std::marker::Model;
@@ -125,7 +127,7 @@ impl<K: Key, V: Drop, A: Argument<K>> BPlusTreeMap<K, V, A> {
     pub fn is_empty(&self) -> bool
         ensures { IsTrue result ↔ (self.now ≡ []) }
     {
-        self.inner.is_empty()
+        self.len() == 0
     }
 
     /// The value at a key equal to `k`.
@@ -139,7 +141,7 @@ impl<K: Key, V: Drop, A: Argument<K>> BPlusTreeMap<K, V, A> {
     pub fn contains_key(&self, k: &K) -> bool
         ensures { result ≡ has K.cmp self.now k.now }
     {
-        self.inner.contains_key(k)
+        self.get(k).is_some()
     }
 
     /// The pair whose key equals `k`, with the key that is stored. It costs what `get` does.
@@ -411,7 +413,7 @@ impl<K: Key, V: Drop, A: Argument<K>> BPlusTreeMap<K, V, A> {
         ensures runs { GivesInOrder K }
         ensures runs_back { GivesInReverse K }
     {
-        IntoKeys::new(self.inner.into_iter())
+        IntoKeys::new(self.into_iter())
     }
 
     /// The values in the order of their keys, each handed over; each key is dropped at its step. It
@@ -421,7 +423,7 @@ impl<K: Key, V: Drop, A: Argument<K>> BPlusTreeMap<K, V, A> {
         ensures runs { GivesInOrder V }
         ensures runs_back { GivesInReverse V }
     {
-        IntoValues::new(self.inner.into_iter())
+        IntoValues::new(self.into_iter())
     }
 
     /// The pairs in the order of their keys, each with its value. It takes no memory, and neither
@@ -432,7 +434,7 @@ impl<K: Key, V: Drop, A: Argument<K>> BPlusTreeMap<K, V, A> {
         ensures runs { GivesInOrder (K × V) }
         ensures runs_back { GivesInReverse (K × V) }
     {
-        self.inner.into_iter()
+        IntoIter::new(self.inner.into_iter())
     }
 
     /// The pairs whose key is not below `lo` and is below `hi`, where they are given, in the order
@@ -636,12 +638,9 @@ impl<K: Key, V: Drop, A: Argument<K>> IntoIterator for BPlusTreeMap<K, V, A> {
     ghost into_iter_gives = { λ map pairs. (pairs ≡ map) × IsAscending K.cmp map × GivesInOrder (K × V) × GivesInReverse (K × V) };
 
     fn into_iter(self) -> IntoIter<K, V, A> {
-        self.inner.into_iter()
+        BPlusTreeMap::into_iter(self)
     }
 }
-
-/// The pairs of an owned map that are left, in the order of their keys: those of its tree.
-pub type IntoIter<K, V, A> = tree::IntoIter<NodeStoreVec<K, V, A>>;
 
 /// The pairs of a map that are left, in the order of their keys. No step takes memory.
 #[derive(Drop)]
@@ -687,7 +686,7 @@ impl<'a, K: Key, V: Drop, A: Argument<K>> DoubleEndedIterator for Iter<'a, K, V,
 
 impl<'a, K: Key, V: Drop, A: Argument<K>> ExactSizeIterator for Iter<'a, K, V, A> {
     fn len(&self) -> usize {
-        self.inner.len()
+        self.size_hint().0
     }
 }
 

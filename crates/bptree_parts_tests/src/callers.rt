@@ -16,4 +16,5 @@ mod pairs;
 mod paths;
 mod requests;
 mod searches;
+mod shards;
 pub mod stores;

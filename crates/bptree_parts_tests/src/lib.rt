@@ -1,5 +1,5 @@
 //! Tests of what a B+ tree is made of: its numbers, its nodes and their stores, summaries, loading
-//! and merging; and callers of these and of requests.
+//! and merging; tests of shards; and callers of these and of requests.
 #![tactic(auto)]
 
 #[cfg(test)]
@@ -20,5 +20,7 @@ mod loading_tests;
 mod merge_tests;
 #[cfg(test)]
 mod number_tests;
+#[cfg(test)]
+mod shard_tests;
 #[cfg(test)]
 mod store_tests;

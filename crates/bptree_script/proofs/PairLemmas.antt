@@ -1,8 +1,10 @@
 -- The text of all pairs, pair by pair.
-use Rattle.std.proofs.Common.{◌≡◌, ℕ, zero, suc, List, [], ◌∷◌, ◌++◌, map, Bool, true, false, refl, sym, ap, append-nil}
+use Rattle.std.proofs.Common.{◌≡◌, ◌-◌, ◌^◌, ℕ, zero, suc, List, [], ◌∷◌, ◌++◌, codes, map, Bool, true, false, refl, sym, ap, append-nil}
 use Rattle.std.specs.List.{join_with_byte}
+use Rattle.std.specs.Ordering.{nat_cmp}
 use Rattle.bptree_maps.specs.Pages.{page}
-use Rattle.bptree_script.specs.Answers.{pair_text, item_text, pairs_text, page_text}
+use Rattle.bptree_script.specs.Answers.{pair_text, item_text, pairs_text, page_text, put_text}
+use Rattle.bptree_tree.specs.Changes.{IsFull}
 
 -- the pairs that are left of a list
 abbrev pub items_text : Bool → List (ℕ × ℕ) → List ℕ
@@ -23,3 +25,7 @@ items_text-is (pair ∷ pairs) some = joined_items pair pairs
 pub page_text-is : (pairs found : List (ℕ × ℕ)) (p s : ℕ) → (s ≡ 0 → ⊥) → found ≡ page pairs p s → page_text pairs p s ≡ pairs_text found
 page_text-is pairs found p zero some is = absurd (some refl)
 page_text-is pairs found p (suc s) some is = ap pairs_text (sym is)
+
+-- where no pair has room, the answer says so
+pub full_text-is : (pairs : List (ℕ × ℕ)) (key : ℕ) → IsFull nat_cmp (2 ^ 64 - 1) pairs key → put_text pairs key ≡ codes "full"
+full_text-is pairs key full = rw (full.0, full.1) refl

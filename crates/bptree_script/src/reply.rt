@@ -19,6 +19,7 @@ use arrayvec::ArrayString;
 use bptree_arguments::count::Count;
 use bptree_requests::{Request, read_request};
 use bptree_stores::node_store_vec::NodeStoreVec;
+use bptree_stores::node_stores::NodeStore;
 use bptree_tree::cursor::Cursor;
 use bptree_tree::iterator::Iter;
 use bptree_tree::{BPlusTree, InsertError};
@@ -26,9 +27,7 @@ use std::fmt::Write as _;
 use std::io::Write;
 
 /// The tree that lines are carried out on.
-pub type NumberTree = BPlusTree<NumberStore>;
-
-type NumberStore = NodeStoreVec<u64, u64, Count>;
+pub type NumberTree = BPlusTree<NodeStoreVec<u64, u64, Count>>;
 
 /// How many digits the greatest number has.
 const DIGITS: usize = 20;
@@ -117,9 +116,9 @@ fn send_item<W: Write>(
 }
 
 // Pairs, from one end to the other.
-fn send_pairs<W: Write>(
+fn send_pairs<S: NodeStore<K = u64, V = u64, Argument = Count>, W: Write>(
     out: &mut Output<W>,
-    pairs: Iter<'_, NumberStore>,
+    pairs: Iter<'_, S>,
     end: End,
 ) -> Result<(), ServeError>
     ensures { SendsOrFails out.old out.new (pairs_text (seen_from end pairs.entry)) result }
@@ -137,9 +136,9 @@ fn send_pairs<W: Write>(
 }
 
 // The pairs of a page, where a page has some.
-fn send_page<W: Write>(
+fn send_page<S: NodeStore<K = u64, V = u64, Argument = Count>, W: Write>(
     out: &mut Output<W>,
-    tree: &NumberTree,
+    tree: &BPlusTree<S>,
     p: u64,
     s: u64,
 ) -> Result<(), ServeError>
@@ -157,9 +156,9 @@ fn send_page<W: Write>(
 }
 
 // The pair at a place, if there is one.
-fn send_place<W: Write>(
+fn send_place<S: NodeStore<K = u64, V = u64, Argument = Count>, W: Write>(
     out: &mut Output<W>,
-    tree: &NumberTree,
+    tree: &BPlusTree<S>,
     place: u64,
 ) -> Result<(), ServeError>
     ensures { SendsOrFails out.old out.new (found_text (slice_get tree.now.contents place)) result }
@@ -184,7 +183,10 @@ fn send_beside<W: Write>(
 }
 
 // A cursor on the key, which need not be there.
-fn cursor_on(tree: &NumberTree, key: u64) -> Cursor<u64>
+fn cursor_on<S: NodeStore<K = u64, V = u64, Argument = Count>>(
+    tree: &BPlusTree<S>,
+    key: u64,
+) -> Cursor<u64>
     ensures { cursor_key result ≡ key }
 {
     match tree.get_cursor(&key) {
@@ -194,7 +196,11 @@ fn cursor_on(tree: &NumberTree, key: u64) -> Cursor<u64>
 }
 
 // The pair with the least greater key, if there is one.
-fn send_next<W: Write>(out: &mut Output<W>, tree: &NumberTree, key: u64) -> Result<(), ServeError>
+fn send_next<S: NodeStore<K = u64, V = u64, Argument = Count>, W: Write>(
+    out: &mut Output<W>,
+    tree: &BPlusTree<S>,
+    key: u64,
+) -> Result<(), ServeError>
     ensures { SendsOrFails out.old out.new (found_text (next nat_cmp tree.now.contents key)) result }
 {
     let cursor = cursor_on(tree, key);
@@ -205,7 +211,11 @@ fn send_next<W: Write>(out: &mut Output<W>, tree: &NumberTree, key: u64) -> Resu
 }
 
 // The pair with the greatest smaller key, if there is one.
-fn send_prev<W: Write>(out: &mut Output<W>, tree: &NumberTree, key: u64) -> Result<(), ServeError>
+fn send_prev<S: NodeStore<K = u64, V = u64, Argument = Count>, W: Write>(
+    out: &mut Output<W>,
+    tree: &BPlusTree<S>,
+    key: u64,
+) -> Result<(), ServeError>
     ensures { SendsOrFails out.old out.new (found_text (previous nat_cmp tree.now.contents key)) result }
 {
     let cursor = cursor_on(tree, key);
@@ -216,7 +226,11 @@ fn send_prev<W: Write>(out: &mut Output<W>, tree: &NumberTree, key: u64) -> Resu
 }
 
 // Whether a key is there, and how many keys are smaller.
-fn send_rank<W: Write>(out: &mut Output<W>, tree: &NumberTree, key: u64) -> Result<(), ServeError>
+fn send_rank<S: NodeStore<K = u64, V = u64, Argument = Count>, W: Write>(
+    out: &mut Output<W>,
+    tree: &BPlusTree<S>,
+    key: u64,
+) -> Result<(), ServeError>
     ensures { SendsOrFails out.old out.new (rank_text (has nat_cmp tree.now.contents key) (count_below nat_cmp key (keys_of tree.now.contents))) result }
 {
     match tree.rank_by_argument(&key) {
@@ -226,8 +240,8 @@ fn send_rank<W: Write>(out: &mut Output<W>, tree: &NumberTree, key: u64) -> Resu
     }
 }
 
-fn put_pair<W: Write>(
-    tree: &mut NumberTree,
+fn put_pair<S: NodeStore<K = u64, V = u64, Argument = Count>, W: Write>(
+    tree: &mut BPlusTree<S>,
     key: u64,
     value: u64,
     out: &mut Output<W>,
@@ -242,8 +256,8 @@ fn put_pair<W: Write>(
     }
 }
 
-fn delete_pair<W: Write>(
-    tree: &mut NumberTree,
+fn delete_pair<S: NodeStore<K = u64, V = u64, Argument = Count>, W: Write>(
+    tree: &mut BPlusTree<S>,
     key: u64,
     out: &mut Output<W>,
 ) -> Result<(), ServeError>
@@ -256,7 +270,10 @@ fn delete_pair<W: Write>(
     }
 }
 
-fn delete_all<W: Write>(tree: &mut NumberTree, out: &mut Output<W>) -> Result<(), ServeError>
+fn delete_all<S: NodeStore<K = u64, V = u64, Argument = Count>, W: Write>(
+    tree: &mut BPlusTree<S>,
+    out: &mut Output<W>,
+) -> Result<(), ServeError>
     ensures replies { Replies out.old out.new (codes "cleared") result }
     ensures pairs { OnOk result (tree.new.contents ≡ []) }
 {
@@ -266,8 +283,8 @@ fn delete_all<W: Write>(tree: &mut NumberTree, out: &mut Output<W>) -> Result<()
     }
 }
 
-fn carry_out<W: Write>(
-    tree: &mut NumberTree,
+fn carry_out<S: NodeStore<K = u64, V = u64, Argument = Count>, W: Write>(
+    tree: &mut BPlusTree<S>,
     request: Request,
     out: &mut Output<W>,
 ) -> Result<(), ServeError>
@@ -294,8 +311,8 @@ fn carry_out<W: Write>(
     }
 }
 
-fn reply_line<W: Write>(
-    tree: &mut NumberTree,
+fn reply_line<S: NodeStore<K = u64, V = u64, Argument = Count>, W: Write>(
+    tree: &mut BPlusTree<S>,
     line: &[u8],
     out: &mut Output<W>,
 ) -> Result<(), ServeError>
@@ -311,8 +328,8 @@ fn reply_line<W: Write>(
 
 /// Carries out a line, and sends the answer with a line feed.
 #[tactic(auto, unfolding(crate::specs::Answers::pairs_after))]
-pub fn answer_line<W: Write>(
-    tree: &mut NumberTree,
+pub fn answer_line<S: NodeStore<K = u64, V = u64, Argument = Count>, W: Write>(
+    tree: &mut BPlusTree<S>,
     line: &[u8],
     out: &mut Output<W>,
 ) -> Result<(), ServeError>

@@ -1,3 +1,4 @@
+pub mod Cuts
 pub mod Ends
 pub mod Inputs
 pub mod Replies

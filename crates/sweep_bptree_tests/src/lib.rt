@@ -1,5 +1,5 @@
-//! Tests of trees, of maps and of sets, of lists of commands and of lines; and callers of these
-//! last two.
+//! Tests of trees, of maps and of sets, of one map over shards, of lists of commands and of lines;
+//! and callers of these last three.
 #![tactic(auto)]
 
 #[cfg(test)]
@@ -30,6 +30,10 @@ mod serve_tests;
 mod set_tests;
 #[cfg(test)]
 mod shapes;
+#[cfg(test)]
+mod sharded;
+#[cfg(test)]
+mod sharded_tests;
 #[cfg(test)]
 mod tested;
 #[cfg(test)]

@@ -5,11 +5,9 @@ ghost use Rattle.std.specs.Iterator.SizeHint.{IsWithinCount};
 ghost use Rattle.std.specs.Map.{keys_of};
 ghost use Rattle.std.specs.Map.Iter.{TakesFirst, TakesLast, deref};
 
-use super::Iter;
+use super::{IntoIter, Iter};
 use bptree_arguments::argument::Argument;
 use bptree_keys::key::Key;
-use bptree_stores::node_store_vec::NodeStoreVec;
-use bptree_tree::tree;
 use std::alloc::AllocError;
 use std::iter::{ExactSizeIterator, FusedIterator};
 use std::marker::Model;
@@ -92,7 +90,7 @@ impl<'a, K: Key, V: Drop, A: Argument<K>> Clone for Keys<'a, K, V, A> {
 /// memory, and is not refused; what is left is dropped with it.
 #[derive(Drop)]
 pub struct IntoKeys<K: Key, V: Drop, A: Argument<K>> {
-    pairs: tree::IntoIter<NodeStoreVec<K, V, A>>,
+    pairs: IntoIter<K, V, A>,
 }
 
 impl<K: Key, V: Drop, A: Argument<K>> Model for IntoKeys<K, V, A> {
@@ -106,7 +104,7 @@ impl<K: Key, V: Drop, A: Argument<K>> Model for IntoKeys<K, V, A> {
 
 impl<K: Key, V: Drop, A: Argument<K>> IntoKeys<K, V, A> {
     /// Those of the pairs that an iterator has left.
-    pub fn new(pairs: tree::IntoIter<NodeStoreVec<K, V, A>>) -> Self
+    pub(crate) fn new(pairs: IntoIter<K, V, A>) -> Self
         ensures { result ≡ keys_of pairs }
     {
         IntoKeys { pairs }
@@ -145,7 +143,7 @@ impl<K: Key, V: Drop, A: Argument<K>> DoubleEndedIterator for IntoKeys<K, V, A> 
 
 impl<K: Key, V: Drop, A: Argument<K>> ExactSizeIterator for IntoKeys<K, V, A> {
     fn len(&self) -> usize {
-        self.pairs.len()
+        self.size_hint().0
     }
 }
 

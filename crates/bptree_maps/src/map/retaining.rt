@@ -9,7 +9,21 @@ use crate::refusals::RetainError;
 use crate::retaining::retain_in_tree;
 use bptree_arguments::argument::Argument;
 use bptree_keys::key::Key;
+use bptree_stores::node_store_vec::NodeStoreVec;
+use bptree_tree::tree;
 use std::alloc::AllocError;
+
+// The same with the pairs of a map that are left.
+fn of_map<K: Key, V: Drop, A: Argument<K>>(
+    refusal: RetainError<(K, V), tree::IntoIter<NodeStoreVec<K, V, A>>>,
+) -> RetainError<(K, V), IntoIter<K, V, A>>
+    ensures { result ≡ refusal }
+{
+    match refusal {
+        RetainError::NotMade => RetainError::NotMade,
+        RetainError::NotStored(pair, rest) => RetainError::NotStored(pair, IntoIter::new(rest)),
+    }
+}
 
 impl<K: Key, V: Drop, A: Argument<K>> BPlusTreeMap<K, V, A> {
     /// Keeps the pairs for which a closure answers true, in the order of their keys, with their
@@ -27,7 +41,10 @@ impl<K: Key, V: Drop, A: Argument<K>> BPlusTreeMap<K, V, A> {
         ensures ok { OnOk result (IsRetained F.FnMut f self.old self.new) }
         ensures err { IfErr result (IsRetainRefused F.FnMut f self.old self.new) }
     {
-        retain_in_tree(&mut self.inner, f)
+        match retain_in_tree(&mut self.inner, f) {
+            Ok(()) => Ok(()),
+            Err(refusal) => Err(of_map(refusal)),
+        }
     }
 
     /// Removes the pairs whose key is not below `lo` and is below `hi`, where they are given, and

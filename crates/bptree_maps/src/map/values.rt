@@ -5,11 +5,9 @@ ghost use Rattle.std.specs.Iterator.SizeHint.{IsWithinCount};
 ghost use Rattle.std.specs.Map.{values_of};
 ghost use Rattle.std.specs.Map.Iter.{TakesFirst, TakesLast, deref};
 
-use super::Iter;
+use super::{IntoIter, Iter};
 use bptree_arguments::argument::Argument;
 use bptree_keys::key::Key;
-use bptree_stores::node_store_vec::NodeStoreVec;
-use bptree_tree::tree;
 use std::alloc::AllocError;
 use std::iter::{ExactSizeIterator, FusedIterator};
 use std::marker::Model;
@@ -31,7 +29,7 @@ impl<'a, K: Key, V: Drop, A: Argument<K>> Model for Values<'a, K, V, A> {
 
 impl<'a, K: Key, V: Drop, A: Argument<K>> Values<'a, K, V, A> {
     /// Those of the pairs that an iterator has left.
-    pub fn new(pairs: Iter<'a, K, V, A>) -> Self
+    pub(crate) fn new(pairs: Iter<'a, K, V, A>) -> Self
         ensures { result ≡ values_of pairs.entry }
     {
         Values { pairs }
@@ -92,7 +90,7 @@ impl<'a, K: Key, V: Drop, A: Argument<K>> Clone for Values<'a, K, V, A> {
 /// beside, takes no memory, and is not refused; what is left is dropped with it.
 #[derive(Drop)]
 pub struct IntoValues<K: Key, V: Drop, A: Argument<K>> {
-    pairs: tree::IntoIter<NodeStoreVec<K, V, A>>,
+    pairs: IntoIter<K, V, A>,
 }
 
 impl<K: Key, V: Drop, A: Argument<K>> Model for IntoValues<K, V, A> {
@@ -105,7 +103,7 @@ impl<K: Key, V: Drop, A: Argument<K>> Model for IntoValues<K, V, A> {
 }
 
 impl<K: Key, V: Drop, A: Argument<K>> IntoValues<K, V, A> {
-    pub(crate) fn new(pairs: tree::IntoIter<NodeStoreVec<K, V, A>>) -> Self
+    pub(crate) fn new(pairs: IntoIter<K, V, A>) -> Self
         ensures { result ≡ values_of pairs }
     {
         IntoValues { pairs }
@@ -144,7 +142,7 @@ impl<K: Key, V: Drop, A: Argument<K>> DoubleEndedIterator for IntoValues<K, V, A
 
 impl<K: Key, V: Drop, A: Argument<K>> ExactSizeIterator for IntoValues<K, V, A> {
     fn len(&self) -> usize {
-        self.pairs.len()
+        self.size_hint().0
     }
 }
 

@@ -1,0 +1,71 @@
+//! The pairs of a map that is handed over, one by one from both ends.
+ghost use Rattle.std.specs.Prelude.{◌≡◌, Some, length, IfSome};
+ghost use Rattle.std.specs.Iterator.{at_most, item_count, UpTo};
+ghost use Rattle.std.specs.Iterator.SizeHint.{IsWithinCount};
+ghost use Rattle.std.specs.Map.Iter.{TakesFirst, TakesLast};
+
+use bptree_arguments::argument::Argument;
+use bptree_keys::key::Key;
+use bptree_stores::node_store_vec::NodeStoreVec;
+use bptree_tree::tree;
+use std::iter::{ExactSizeIterator, FusedIterator};
+use std::marker::Model;
+
+/// The pairs of an owned map that are left, in the order of their keys. A step takes no memory, and
+/// is not refused; what is left is dropped with it.
+#[derive(Drop)]
+pub struct IntoIter<K: Key, V: Drop, A: Argument<K>> {
+    inner: tree::IntoIter<NodeStoreVec<K, V, A>>,
+}
+
+impl<K: Key, V: Drop, A: Argument<K>> Model for IntoIter<K, V, A> {
+    ghost use Rattle.std.specs.Prelude.{List};
+
+    ghost Value = { List (K × V) };
+
+    ghost view = { λ it. it.inner };
+}
+
+impl<K: Key, V: Drop, A: Argument<K>> IntoIter<K, V, A> {
+    pub(crate) fn new(inner: tree::IntoIter<NodeStoreVec<K, V, A>>) -> Self
+        ensures { result ≡ inner }
+    {
+        IntoIter { inner }
+    }
+}
+
+impl<K: Key, V: Drop, A: Argument<K>> Iterator for IntoIter<K, V, A> {
+    type Item = (K, V);
+
+    ghost next_gives = { TakesFirst (λ pair. pair) };
+
+    ghost remaining = { item_count (λ left. left) };
+
+    fn next(&mut self) -> Option<(K, V)> {
+        self.inner.next()
+    }
+
+    fn size_hint(&self) -> (usize, Option<usize>)
+        ensures lower { IsWithinCount result.0 (at_most (length self.now)) }
+        ensures upper { IfSome result.1 (UpTo (at_most (length self.now))) }
+        ensures exact { result ≡ (length self.now, Some (length self.now)) }
+    {
+        self.inner.size_hint()
+    }
+}
+
+impl<K: Key, V: Drop, A: Argument<K>> DoubleEndedIterator for IntoIter<K, V, A> {
+    ghost next_back_gives = { TakesLast (λ pair. pair) };
+
+    fn next_back(&mut self) -> Option<(K, V)> {
+        self.inner.next_back()
+    }
+}
+
+impl<K: Key, V: Drop, A: Argument<K>> ExactSizeIterator for IntoIter<K, V, A> {
+    fn len(&self) -> usize {
+        self.size_hint().0
+    }
+}
+
+impl<K: Key, V: Drop, A: Argument<K>> FusedIterator for IntoIter<K, V, A> {}

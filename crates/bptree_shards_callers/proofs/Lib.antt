@@ -1,2 +1,0 @@
-pub mod KeyLemmas
-pub mod SumLemmas

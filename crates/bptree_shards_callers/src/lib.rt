@@ -1,8 +1,0 @@
-//! Callers of the functions and laws of shards, and tests of them at numbers that were reckoned by
-//! hand.
-#![tactic(auto)]
-
-#[cfg(test)]
-mod callers;
-#[cfg(test)]
-mod shard_tests;
