@@ -134,10 +134,45 @@ where
     well && pairs.next().is_none() && pairs.next_back().is_none()
 }
 
+// Whether the next pair is that of a list at a place, if there is one before the end; and the place
+// behind it.
+fn takes_next<S: NodeStore<V = u64>>(
+    pairs: &mut Iter<'_, S>,
+    plain: &Plain,
+    front: usize,
+    back: usize,
+) -> (bool, usize)
+where
+    S::K: Sample,
+{
+    if front >= back {
+        return (true, front);
+    }
+    let is_right = plain.pair_at(front) == numbers(pairs.next());
+    (is_right, front.saturating_add(1))
+}
+
+// The same of the last pair, and the place before it.
+fn takes_last<S: NodeStore<V = u64>>(
+    pairs: &mut Iter<'_, S>,
+    plain: &Plain,
+    front: usize,
+    back: usize,
+) -> (bool, usize)
+where
+    S::K: Sample,
+{
+    if front >= back {
+        return (true, back);
+    }
+    let last = back.saturating_sub(1);
+    (plain.pair_at(last) == numbers(pairs.next_back()), last)
+}
+
 // Whether the last of some pairs and the first two are those of a list between two places, as far
 // as there are so many; and the places between which the others stand.
-fn takes_three<'a, S: NodeStore<V = u64>>(
-    pairs: &mut Iter<'a, S>,
+fn takes_three<S: NodeStore<V = u64>>(
+    pairs: &mut Iter<'_, S>,
     plain: &Plain,
     from: usize,
     to: usize,
@@ -145,19 +180,10 @@ fn takes_three<'a, S: NodeStore<V = u64>>(
 where
     S::K: Sample,
 {
-    let (mut front, mut back) = (from, to);
-    let mut well = true;
-    if front < back {
-        back = back.saturating_sub(1);
-        well &= plain.pair_at(back) == numbers(pairs.next_back());
-    }
-    for _ in 0..2 {
-        if front < back {
-            well &= plain.pair_at(front) == numbers(pairs.next());
-            front = front.saturating_add(1);
-        }
-    }
-    (well, front, back)
+    let (last, back) = takes_last(pairs, plain, from, to);
+    let (first, front) = takes_next(pairs, plain, from, back);
+    let (second, front) = takes_next(pairs, plain, front, back);
+    (last && first && second, front, back)
 }
 
 // Whether the pairs that are left are those of a list from one place up to another.

@@ -99,12 +99,20 @@ fn keeps_the_last_of_each_key<A: Argument<u64>>(alloc: Global) -> Result<bool, A
     )
 }
 
+// Whether a pair came, and is this one.
+fn is_pair(found: Option<(u64, u64)>, wanted: (u64, u64)) -> bool {
+    match found {
+        Some((key, value)) => key == wanted.0 && value == wanted.1,
+        None => false,
+    }
+}
+
 // Whether a map hands its three pairs over, from both ends.
 fn hands_over_three<A: CloneArgument<u64>>(map: Map<A>) -> bool {
     let mut pairs = map.into_iter();
-    let mut all = pairs.next() == Some((0, 0));
-    all &= pairs.next_back() == Some((2, 20));
-    all &= pairs.next() == Some((1, 10));
+    let mut all = is_pair(pairs.next(), (0, 0));
+    all &= is_pair(pairs.next_back(), (2, 20));
+    all &= is_pair(pairs.next(), (1, 10));
     all && pairs.next().is_none()
 }
 

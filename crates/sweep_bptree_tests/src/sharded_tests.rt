@@ -3,6 +3,7 @@
 use bptree_arguments::count::Count;
 use bptree_maps::map::BPlusTreeMap;
 use bptree_sharded::map_shard::empty_over;
+use bptree_sharded::shard::Shard;
 use bptree_sharded::whole::Shards;
 use std::alloc::{AllocError, Global};
 use std::test::Fail;
@@ -57,7 +58,7 @@ fn key_of(pair: Option<(&u64, &u64)>) -> Option<u64> {
 }
 
 // Whether each read of a key is answered as the list answers it.
-fn reads_alike(whole: &Shards<BPlusTreeMap<u64, u64, Count>>, plain: &Plain, key: usize) -> bool {
+fn reads_alike<S: Shard<K = u64, V = u64>>(whole: &Shards<S>, plain: &Plain, key: usize) -> bool {
     let k = key as u64;
     let rank = count_below(plain, key);
     let next = least_from(plain, key.saturating_add(1));
@@ -68,7 +69,7 @@ fn reads_alike(whole: &Shards<BPlusTreeMap<u64, u64, Count>>, plain: &Plain, key
         && key_of(whole.at(rank)) == least_from(plain, key)
 }
 
-fn ends_alike(whole: &Shards<BPlusTreeMap<u64, u64, Count>>, plain: &Plain) -> bool {
+fn ends_alike<S: Shard<K = u64, V = u64>>(whole: &Shards<S>, plain: &Plain) -> bool {
     whole.len() == count_below(plain, 64)
         && key_of(whole.first()) == least_from(plain, 0)
         && key_of(whole.last()) == greatest_below(plain, 64)
@@ -76,8 +77,8 @@ fn ends_alike(whole: &Shards<BPlusTreeMap<u64, u64, Count>>, plain: &Plain) -> b
 }
 
 // Puts and deletes keys in an order that a multiplier draws, and reads each key after each.
-fn alike(alloc: Global) -> Result<bool, AllocError> {
-    let mut whole = shards(alloc)?;
+fn alike<S: Shard<K = u64, V = u64>>(whole: Shards<S>) -> Result<bool, AllocError> {
+    let mut whole = whole;
     let mut plain: Plain = [None; 64];
     let mut drawn = 1u64;
     for step in 0..200u64 {
@@ -117,13 +118,13 @@ fn alike(alloc: Global) -> Result<bool, AllocError> {
 
 #[test]
 fn answers_as_a_plain_list_does(rt: HostRuntime) -> Result<(), Fail> {
-    assert!(rt; alike(rt.alloc())?);
+    assert!(rt; alike(shards(rt.alloc())?)?);
     Ok(())
 }
 
 // Whether the bounds and the lengths are these.
-fn is_cut(
-    whole: &Shards<BPlusTreeMap<u64, u64, Count>>,
+fn is_cut<S: Shard<K = u64, V = u64>>(
+    whole: &Shards<S>,
     bounds: &[u64],
     lengths: &[usize],
 ) -> bool {
@@ -131,8 +132,8 @@ fn is_cut(
 }
 
 // A shard is cut in two, and then the first two become one.
-fn moves(alloc: Global) -> Result<bool, AllocError> {
-    let mut whole = shards(alloc)?;
+fn moves<S: Shard<K = u64, V = u64>>(whole: Shards<S>) -> Result<bool, AllocError> {
+    let mut whole = whole;
     for key in 0..64 {
         if whole.put(key, key).is_err() {
             return Ok(false);
@@ -147,6 +148,6 @@ fn moves(alloc: Global) -> Result<bool, AllocError> {
 
 #[test]
 fn bounds_come_and_go(rt: HostRuntime) -> Result<(), Fail> {
-    assert!(rt; moves(rt.alloc())?);
+    assert!(rt; moves(shards(rt.alloc())?)?);
     Ok(())
 }

@@ -4,10 +4,10 @@ use Rattle.bptree_examples.proofs.draw.drawing.+add_subtree.Given as goal
 
 -- one level lower with each call
 abbrev pub decreases-add_subtree : goal.decreases-add_subtree
-decreases-add_subtree l = l.height
+decreases-add_subtree g l = l.height
 
 abbrev pub invariant-loop-place : goal.invariant-loop-place
-invariant-loop-place l = record {
+invariant-loop-place g l = record {
   end : l.place-end ≡ length l.node.keys + 1;
   fits : Fits l.node;
   some : 0 < length l.node.keys;
