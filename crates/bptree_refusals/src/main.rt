@@ -81,7 +81,7 @@ fn on_keys<K: Sample>(trial: &mut Trial, letter: u8, plan: &Plan) {
         b's' => trial.carry_out::<BPlusTree<NodeStoreVec<K, u64>>>(plan),
         b'u' if plan.size > 0 => trial.carry_out::<MovedKeys<K>>(plan),
         b't' | b'u' => trial.carry_out::<BPlusTreeSet<K>>(plan),
-        b'w' => trial.carry_out::<Sharded<BPlusTreeMap<K, u64, Count>>>(plan),
+        b'w' => trial.carry_out::<Sharded<K>>(plan),
         _ => trial.carry_out::<SetReadings<K>>(plan),
     }
 }

@@ -6,37 +6,20 @@ use crate::plans::Call;
 use crate::sample::Sample;
 use crate::trees::is_sample;
 use crate::trial::Subject;
-use bptree_sharded::map_shard;
-use bptree_sharded::shard::Shard;
+use bptree_sharded::map_shard::empty_over;
 use bptree_sharded::whole::Shards;
 use std::alloc::{AllocError, Global};
 use sweep_bptree::BPlusTreeMap;
 use sweep_bptree::map::{MoveError, SplitError};
 use sweep_bptree::tree::count::Count;
 
-/// A shard that gives its pairs away, and many of them.
-pub trait Given: Shard<V = u64> {
-    /// So many shards with no pair, one more than there are bounds.
-    fn empty_over(alloc: Global, bounds: Vec<Self::K>) -> Result<Shards<Self>, AllocError>;
-
-    fn pop(&mut self) -> Result<Option<(Self::K, u64)>, AllocError>;
-}
-
-impl<K: Sample> Given for BPlusTreeMap<K, u64, Count> {
-    fn empty_over(alloc: Global, bounds: Vec<K>) -> Result<Shards<Self>, AllocError> {
-        map_shard::empty_over(alloc, bounds)
-    }
-
-    fn pop(&mut self) -> Result<Option<(K, u64)>, AllocError> {
-        self.pop_first()
-    }
-}
+type Map<K> = BPlusTreeMap<K, u64, Count>;
 
 /// A map with the even numbers over four shards. The first two have a quarter of its pairs each,
 /// the third has none, and the last has the others. The last leaf of each of these trees is full.
 #[derive(Drop)]
-pub struct Sharded<S: Given> {
-    whole: Shards<S>,
+pub struct Sharded<K: Sample> {
+    whole: Shards<Map<K>>,
     many: u64,
 }
 
@@ -56,10 +39,7 @@ fn are_four<K: Sample>(found: &[(&K, &u64)], first: u64, is_back: bool) -> bool 
     is_well
 }
 
-impl<S: Given> Sharded<S>
-where
-    S::K: Sample,
-{
+impl<K: Sample> Sharded<K> {
     // Two pairs on each side of the first bound: as a page, as a range, and back from a key.
     fn reads(&self, alloc: Global, turn: u64) -> Result<bool, AllocError> {
         let bound = self.many / 2;
@@ -69,18 +49,18 @@ where
             return Ok(are_four(&found, first, false));
         }
         if turn == 1 {
-            let lo = S::K::sample(alloc, first)?;
-            let hi = S::K::sample(alloc, bound.saturating_add(4))?;
+            let lo = K::sample(alloc, first)?;
+            let hi = K::sample(alloc, bound.saturating_add(4))?;
             let found = self.whole.range(alloc, Some(&lo), Some(&hi), 9)?;
             return Ok(are_four(&found, first, false));
         }
-        let key = S::K::sample(alloc, bound.saturating_add(3))?;
+        let key = K::sample(alloc, bound.saturating_add(3))?;
         let found = self.whole.back(alloc, &key, 4)?;
         Ok(are_four(&found, bound.saturating_add(2), true))
     }
 
     // Puts a new pair. A refusal must hand it back.
-    fn puts(&mut self, key: S::K, number: u64) -> Result<bool, AllocError> {
+    fn puts(&mut self, key: K, number: u64) -> Result<bool, AllocError> {
         match self.whole.put(key, number) {
             Ok(old) => Ok(old.is_none()),
             Err((key, value)) => {
@@ -94,7 +74,11 @@ where
     }
 
     // Puts what could not move: the pair in hand, and those of the shard that is handed back.
-    fn comes_back(&mut self, shard: S, refusal: MoveError<S::K, u64>) -> Result<bool, AllocError> {
+    fn comes_back(
+        &mut self,
+        shard: Map<K>,
+        refusal: MoveError<K, u64>,
+    ) -> Result<bool, AllocError> {
         let mut shard = shard;
         let mut is_well = true;
         if let MoveError::NotStored(refusal) = refusal {
@@ -102,7 +86,7 @@ where
             is_well = self.puts(key, value)?;
         }
         for _ in 0..shard.len() {
-            if let Some((key, value)) = shard.pop()? {
+            if let Some((key, value)) = shard.pop_first()? {
                 is_well &= self.puts(key, value)?;
             }
         }
@@ -112,7 +96,7 @@ where
     // The last 20 pairs get a shard of their own.
     fn splits(&mut self, alloc: Global) -> Result<bool, AllocError> {
         let number = self.many.saturating_sub(20).saturating_mul(2);
-        match self.whole.split(S::K::sample(alloc, number)?) {
+        match self.whole.split(K::sample(alloc, number)?) {
             Ok(()) => Ok(self.whole.lengths().len() == 5),
             Err(SplitError::NotMade) => Err(AllocError),
             Err(SplitError::NotAll(shard, refusal)) => {
@@ -144,13 +128,13 @@ where
     // A pair behind the last one.
     fn grows(&mut self, alloc: Global) -> Result<bool, AllocError> {
         let number = self.many.saturating_mul(2);
-        self.puts(S::K::sample(alloc, number)?, number)
+        self.puts(K::sample(alloc, number)?, number)
     }
 
     // A pair comes at the end of the second shard, or leaves.
     fn comes_or_goes(&mut self, alloc: Global, comes: bool) -> Result<bool, AllocError> {
         let number = self.many.saturating_sub(1);
-        let key = S::K::sample(alloc, number)?;
+        let key = K::sample(alloc, number)?;
         if comes {
             return self.puts(key, number);
         }
@@ -158,22 +142,19 @@ where
     }
 }
 
-impl<S: Given> Subject for Sharded<S>
-where
-    S::K: Sample,
-{
-    fn made(alloc: Global, many: u64) -> Result<Sharded<S>, AllocError> {
+impl<K: Sample> Subject for Sharded<K> {
+    fn made(alloc: Global, many: u64) -> Result<Sharded<K>, AllocError> {
         let mut bounds = Vec::new(alloc);
-        bounds.push(S::K::sample(alloc, many / 2)?)?;
-        bounds.push(S::K::sample(alloc, many)?)?;
-        bounds.push(S::K::sample(alloc, many)?)?;
+        bounds.push(K::sample(alloc, many / 2)?)?;
+        bounds.push(K::sample(alloc, many)?)?;
+        bounds.push(K::sample(alloc, many)?)?;
         let mut made = Sharded {
-            whole: S::empty_over(alloc, bounds)?,
+            whole: empty_over(alloc, bounds)?,
             many,
         };
         for place in 0..many {
             let number = place.saturating_mul(2);
-            made.puts(S::K::sample(alloc, number)?, number)?;
+            made.puts(K::sample(alloc, number)?, number)?;
         }
         Ok(made)
     }
