@@ -1,7 +1,8 @@
 //! Four examples of a map and a set, short uses of their reads and changes, and a tree that is
 //! drawn. Where standard input has lines, these are carried out instead. A line with a number of
 //! pairs and a number of rounds takes times of the calls of a tree. A line of the program `bptree`
-//! changes a map, whose tree is drawn at the end, as text for Graphviz.
+//! changes a map, whose tree is drawn at the end, as text for Graphviz; lines behind it that ask for
+//! nothing are passed over.
 #![tactic(auto)]
 
 mod argument;
@@ -21,6 +22,8 @@ use std::io;
 use std::process::ExitCode;
 use sweep_bptree::BPlusTreeMap;
 use sweep_bptree::tree::count::Count;
+
+type Map = BPlusTreeMap<u64, u64, Count>;
 
 fn tell<T: Debug + Drop>(
     rt: &HostRuntime,
@@ -55,28 +58,61 @@ fn tell_all(rt: &HostRuntime) -> io::Result<()> {
     }
 }
 
+// What the lines of standard input were for.
+#[derive(Clone, Copy)]
+enum Lines {
+    // There was none.
+    None,
+    Timed,
+    Drawn,
+    // One was for nothing, or could not be read.
+    Wrong,
+}
+
+// Carries out a line. Behind one that a map is asked by, each that asks for nothing is passed over.
+fn take_line(
+    rt: &HostRuntime,
+    map: &mut Map,
+    line: &str,
+    before: Lines,
+) -> Result<Lines, AllocError> {
+    if draw::carry_out(map, line.as_bytes())? {
+        return Ok(Lines::Drawn);
+    }
+    Ok(match before {
+        Lines::Drawn => Lines::Drawn,
+        _ if speed::run(rt, line) => Lines::Timed,
+        _ => Lines::Wrong,
+    })
+}
+
+fn take_lines(rt: &HostRuntime, map: &mut Map) -> Result<Lines, AllocError> {
+    let mut lines = Lines::None;
+    for line in rt.lines(rt.alloc()) {
+        let Ok(line) = line else {
+            return Ok(Lines::Wrong);
+        };
+        lines = take_line(rt, map, line.as_str(), lines)?;
+        if matches!(lines, Lines::Wrong) {
+            break;
+        }
+    }
+    Ok(lines)
+}
+
 // Carries out the lines of standard input, and shows the examples where there is none. Answers
 // whether all went well.
 fn answer(rt: &HostRuntime) -> Result<bool, AllocError> {
-    let mut map = BPlusTreeMap::<u64, u64, Count>::new(rt.alloc())?;
-    let (mut is_timed, mut is_drawn) = (false, false);
-    for line in rt.lines(rt.alloc()) {
-        let Ok(line) = line else {
-            return Ok(false);
-        };
-        if draw::carry_out(&mut map, line.as_str().as_bytes())? {
-            is_drawn = true;
-        } else if speed::run(rt, line.as_str()) {
-            is_timed = true;
-        } else {
-            return Ok(false);
+    let mut map = Map::new(rt.alloc())?;
+    match take_lines(rt, &mut map)? {
+        Lines::None => Ok(tell_all(rt).is_ok()),
+        Lines::Timed => Ok(true),
+        Lines::Drawn => {
+            let text = draw::text_of(rt.alloc(), map.tree())?;
+            Ok(println!(rt; "{text}").is_ok())
         }
+        Lines::Wrong => Ok(false),
     }
-    if is_drawn {
-        let text = draw::text_of(rt.alloc(), map.tree())?;
-        return Ok(println!(rt; "{text}").is_ok());
-    }
-    Ok(is_timed || tell_all(rt).is_ok())
 }
 
 fn main(rt: HostRuntime) -> ExitCode {

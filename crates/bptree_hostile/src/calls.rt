@@ -1,6 +1,6 @@
 //! The calls of maps and sets, by numbers.
 
-use crate::dice::Sample;
+use crate::dice::{Sample, Text};
 use crate::drawing::{Talk, is_same, numbers, own_numbers};
 use crate::plain::{Answered, Asked};
 use crate::whole::number;
@@ -74,9 +74,9 @@ pub fn carry_out<C: Calls>(alloc: Global, calls: &mut C, talk: &Talk) -> Result<
 }
 
 // Whether the counts of the keys below a key and from it on are right, where so many are below it.
-fn is_counted<K: Sample>(
-    map: &BPlusTreeMap<K, u64, Count>,
-    key: &K,
+fn is_counted(
+    map: &BPlusTreeMap<Text, u64, Count>,
+    key: &Text,
     below: usize,
 ) -> Result<bool, AllocError> {
     let from = map.len().saturating_sub(below);
@@ -88,10 +88,7 @@ fn is_counted<K: Sample>(
 }
 
 // The same of the keys from a place on, and of those before it.
-fn is_counted_at<K: Sample>(
-    map: &BPlusTreeMap<K, u64, Count>,
-    place: usize,
-) -> Result<bool, AllocError> {
+fn is_counted_at(map: &BPlusTreeMap<Text, u64, Count>, place: usize) -> Result<bool, AllocError> {
     let before = map.part_argument(0, place)?.count();
     let from = map.part_argument(place, usize::MAX)?.count();
     Ok(before == place.min(map.len()) && from == map.len().saturating_sub(place))
@@ -111,7 +108,7 @@ fn writes(found: Result<&mut u64, SelectError>, value: u64) -> bool {
 // No map has it.
 const WRONG: Option<(u64, u64)> = Some((u64::MAX, u64::MAX));
 
-impl<K: Sample> Places for BPlusTreeMap<K, u64, Count> {
+impl Places for BPlusTreeMap<Text, u64, Count> {
     // The first pair, and the last, by calls of their own; and of the others each second one by its
     // place alone.
     fn take_at(&mut self, place: usize) -> Result<Option<(u64, u64)>, AllocError> {
@@ -128,7 +125,7 @@ impl<K: Sample> Places for BPlusTreeMap<K, u64, Count> {
     }
 
     fn write(&mut self, alloc: Global, key: u64, value: u64) -> Result<bool, AllocError> {
-        let key = K::sample(alloc, key)?;
+        let key = Text::sample(alloc, key)?;
         Ok(match self.get_mut(&key) {
             Some(written) => {
                 *written = value;
@@ -159,7 +156,7 @@ impl<K: Sample> Places for BPlusTreeMap<K, u64, Count> {
 
     // And the counts of both sides of the key, by which no key has the greatest rank.
     fn rank(&self, alloc: Global, key: u64) -> Result<Result<usize, usize>, AllocError> {
-        let key = K::sample(alloc, key)?;
+        let key = Text::sample(alloc, key)?;
         let rank = self.rank_by_argument(&key)?;
         let below = match &rank {
             Ok(below) => *below,
@@ -174,9 +171,9 @@ impl<K: Sample> Places for BPlusTreeMap<K, u64, Count> {
     }
 }
 
-impl<K: Sample> Calls for BPlusTreeMap<K, u64, Count> {
+impl Calls for BPlusTreeMap<Text, u64, Count> {
     fn put(&mut self, alloc: Global, key: u64, value: u64) -> Result<Option<u64>, AllocError> {
-        match self.insert(K::sample(alloc, key)?, value) {
+        match self.insert(Text::sample(alloc, key)?, value) {
             Ok(old) => Ok(old),
             Err(_) => Err(AllocError),
         }
@@ -184,7 +181,7 @@ impl<K: Sample> Calls for BPlusTreeMap<K, u64, Count> {
 
     // Of each second key by a call that hands the key out.
     fn take(&mut self, alloc: Global, key: u64) -> Result<Option<u64>, AllocError> {
-        let wanted = K::sample(alloc, key)?;
+        let wanted = Text::sample(alloc, key)?;
         if key % 2 == 0 {
             return self.remove(&wanted);
         }
@@ -196,7 +193,7 @@ impl<K: Sample> Calls for BPlusTreeMap<K, u64, Count> {
     }
 
     fn value(&self, alloc: Global, key: u64) -> Result<Option<u64>, AllocError> {
-        Ok(self.get(&K::sample(alloc, key)?).copied())
+        Ok(self.get(&Text::sample(alloc, key)?).copied())
     }
 
     // None of a list is so long, if its summary tells another number.
@@ -213,9 +210,9 @@ impl<K: Sample> Calls for BPlusTreeMap<K, u64, Count> {
     }
 }
 
-impl<K: Sample> Calls for BPlusTreeSet<K> {
+impl Calls for BPlusTreeSet<Text> {
     fn put(&mut self, alloc: Global, key: u64, _value: u64) -> Result<Option<u64>, AllocError> {
-        match self.insert(K::sample(alloc, key)?) {
+        match self.insert(Text::sample(alloc, key)?) {
             Ok(true) => Ok(None),
             Ok(false) => Ok(Some(0)),
             Err(_) => Err(AllocError),
@@ -223,12 +220,12 @@ impl<K: Sample> Calls for BPlusTreeSet<K> {
     }
 
     fn take(&mut self, alloc: Global, key: u64) -> Result<Option<u64>, AllocError> {
-        let was_there = self.remove(&K::sample(alloc, key)?)?;
+        let was_there = self.remove(&Text::sample(alloc, key)?)?;
         Ok(if was_there { Some(0) } else { None })
     }
 
     fn value(&self, alloc: Global, key: u64) -> Result<Option<u64>, AllocError> {
-        let is_there = self.contains(&K::sample(alloc, key)?);
+        let is_there = self.contains(&Text::sample(alloc, key)?);
         Ok(if is_there { Some(0) } else { None })
     }
 

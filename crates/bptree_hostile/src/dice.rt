@@ -29,6 +29,9 @@ impl Dice {
     }
 }
 
+/// The keys of maps and of sets. Trees and shards also have numbers for keys.
+pub type Text = String;
+
 /// Keys that are made of numbers, and are ordered as they are.
 pub trait Sample: Key {
     fn sample(alloc: Global, number: u64) -> Result<Self, AllocError>;

@@ -1,7 +1,7 @@
 //! Trees, maps and sets, each asked by lists of commands on numbers.
 
 use crate::calls::carry_out;
-use crate::dice::Sample;
+use crate::dice::{Sample, Text};
 use crate::drawing::{Kinds, Talk, are_same, numbers, own_numbers};
 use crate::entries::{are_found, leave_and_return};
 use crate::plain::{Asked, Plain};
@@ -241,6 +241,61 @@ where
     Ok(part.key_count() == Some(to.saturating_sub(from)) && rest.key_count() == Some(left))
 }
 
+// Whether the pairs of a tree between two keys are those of a list between two places, and their
+// summary tells how many there are.
+fn is_between<S: NodeStore<V = u64>>(
+    tree: &BPlusTree<S>,
+    plain: &Plain,
+    (lo, hi): (Option<&S::K>, Option<&S::K>),
+    from: usize,
+    to: usize,
+) -> Result<bool, AllocError>
+where
+    S::K: Sample,
+{
+    let well = is_part(tree.range(lo, hi), plain, from, to)?;
+    let summary = tree.range_argument(lo, hi)?;
+    Ok(well && summary.key_count() == Some(to.saturating_sub(from)))
+}
+
+// Whether so many pairs from a place on, and all from there on, are those of a list.
+fn is_behind<S: NodeStore<V = u64>>(
+    tree: &BPlusTree<S>,
+    plain: &Plain,
+    from: usize,
+    to: usize,
+) -> Result<bool, AllocError>
+where
+    S::K: Sample,
+    S::Argument: SearchArgument<S::K, Query = usize>,
+{
+    let part = tree.range_by_argument(from, to.saturating_sub(from))?;
+    let well = is_part(part, plain, from, to)?;
+    let rest = tree.range_by_argument(from, usize::MAX)?;
+    Ok(is_part(rest, plain, from, plain.len().max(from))? && well)
+}
+
+// Whether a tree has the part of a list from one place up to another, by keys and by places. An end
+// at the end of the list is open.
+fn has_part<S: NodeStore<V = u64>>(
+    alloc: Global,
+    tree: &BPlusTree<S>,
+    plain: &Plain,
+    from: usize,
+    to: usize,
+) -> Result<bool, AllocError>
+where
+    S::K: Sample,
+    S::Argument: SearchArgument<S::K, Query = usize>,
+{
+    let first = if from == 0 { None } else { plain.key_at(from) };
+    let lo: Option<S::K> = some_key(alloc, &first)?;
+    let hi: Option<S::K> = some_key(alloc, &plain.key_at(to))?;
+    let end = to.min(plain.len()).max(from);
+    let well = is_between(tree, plain, (lo.as_ref(), hi.as_ref()), from, end)?;
+    Ok(is_behind(tree, plain, from, end)? && is_summed(tree, from, end)? && well)
+}
+
 // Whether a tree has the parts of a list: with open ends, empty ones, one of one key, and one whose
 // ends fall.
 fn has_parts<S: NodeStore<V = u64>>(
@@ -268,18 +323,7 @@ where
     for (from, to) in places {
         // No key stands at the end, so none can begin there.
         if from == 0 || from < len {
-            let end = to.min(len).max(from);
-            let lo = if from == 0 { None } else { plain.key_at(from) };
-            let lo: Option<S::K> = some_key(alloc, &lo)?;
-            let hi: Option<S::K> = some_key(alloc, &plain.key_at(to))?;
-            well &= is_part(tree.range(lo.as_ref(), hi.as_ref()), plain, from, end)?;
-            let few = end.saturating_sub(from);
-            well &= is_part(tree.range_by_argument(from, few)?, plain, from, end)?;
-            let rest = tree.range_by_argument(from, usize::MAX)?;
-            well &= is_part(rest, plain, from, len.max(from))?;
-            let summary = tree.range_argument(lo.as_ref(), hi.as_ref())?;
-            well &= summary.key_count() == Some(few);
-            well &= is_summed(tree, from, end)?;
+            well &= has_part(alloc, tree, plain, from, to)?;
         }
     }
     Ok(well)
@@ -338,7 +382,7 @@ where
     }
 }
 
-impl<K: Sample> Holds for BPlusTreeMap<K, u64, Count> {
+impl Holds for BPlusTreeMap<Text, u64, Count> {
     fn begin(alloc: Global) -> Result<Self, AllocError> {
         BPlusTreeMap::new(alloc)
     }
@@ -392,13 +436,13 @@ impl<K: Sample> Holds for BPlusTreeMap<K, u64, Count> {
 }
 
 // Keys that are made of those of a list, but each third.
-fn most_keys<K: Sample>(alloc: Global, plain: &Plain) -> Result<Vec<K>, AllocError> {
+fn most_keys(alloc: Global, plain: &Plain) -> Result<Vec<Text>, AllocError> {
     let mut keys = Vec::new(alloc);
     for place in 0..plain.len() {
         if let Some(key) = plain.key_at(place)
             && place % 3 != 0
         {
-            keys.push(K::sample(alloc, key)?)?;
+            keys.push(Text::sample(alloc, key)?)?;
         }
     }
     Ok(keys)
@@ -406,7 +450,7 @@ fn most_keys<K: Sample>(alloc: Global, plain: &Plain) -> Result<Vec<K>, AllocErr
 
 // Whether a set that lacks every third key of another, from the first on, is told to be a subset of
 // it, and what else that is.
-fn is_beside<K: Sample>(set: &BPlusTreeSet<K>, other: &BPlusTreeSet<K>) -> bool {
+fn is_beside(set: &BPlusTreeSet<Text>, other: &BPlusTreeSet<Text>) -> bool {
     let within = other.is_subset(set) && set.is_superset(other);
     let lacks = set.is_subset(other) == set.is_empty();
     let found = match set.last() {
@@ -417,7 +461,7 @@ fn is_beside<K: Sample>(set: &BPlusTreeSet<K>, other: &BPlusTreeSet<K>) -> bool 
 }
 
 // Whether the keys of a set, and those of the set and another together, are those of a list.
-fn has_union<K: Sample>(set: &BPlusTreeSet<K>, other: &BPlusTreeSet<K>, plain: &Plain) -> bool {
+fn has_union(set: &BPlusTreeSet<Text>, other: &BPlusTreeSet<Text>, plain: &Plain) -> bool {
     let (mut keys, mut union) = (set.iter(), set.union(other));
     let mut well = true;
     for place in 0..plain.len() {
@@ -428,11 +472,7 @@ fn has_union<K: Sample>(set: &BPlusTreeSet<K>, other: &BPlusTreeSet<K>, plain: &
 }
 
 // Whether each third key of a list, from the first on, is what a set has that another lacks.
-fn has_difference<K: Sample>(
-    set: &BPlusTreeSet<K>,
-    other: &BPlusTreeSet<K>,
-    plain: &Plain,
-) -> bool {
+fn has_difference(set: &BPlusTreeSet<Text>, other: &BPlusTreeSet<Text>, plain: &Plain) -> bool {
     let (mut left, mut alone) = (set.difference(other), other.symmetric_difference(set));
     let mut well = true;
     for place in 0..plain.len() {
@@ -445,7 +485,7 @@ fn has_difference<K: Sample>(
 }
 
 // Whether the others are what both have.
-fn has_shared<K: Sample>(set: &BPlusTreeSet<K>, other: &BPlusTreeSet<K>, plain: &Plain) -> bool {
+fn has_shared(set: &BPlusTreeSet<Text>, other: &BPlusTreeSet<Text>, plain: &Plain) -> bool {
     let mut shared = set.intersection(other);
     let mut well = true;
     for place in 0..plain.len() {
@@ -456,7 +496,7 @@ fn has_shared<K: Sample>(set: &BPlusTreeSet<K>, other: &BPlusTreeSet<K>, plain: 
     well && shared.next().is_none()
 }
 
-impl<K: Sample> Holds for BPlusTreeSet<K> {
+impl Holds for BPlusTreeSet<Text> {
     fn begin(alloc: Global) -> Result<Self, AllocError> {
         BPlusTreeSet::new(alloc)
     }

@@ -1,6 +1,6 @@
 //! Trees, maps and sets beside a plain list, by calls in no order.
 
-use crate::dice::Sample;
+use crate::dice::{Sample, Text};
 use crate::drawing::Drawing;
 use crate::holds::Holds;
 use std::alloc::{AllocError, Global};
@@ -41,17 +41,26 @@ fn round<H: Holds>(alloc: Global, seed: u64, end: u64) -> Result<bool, AllocErro
 /// A store of the library's.
 pub type Counted<K> = NodeStoreVec<K, u64, Count>;
 
-/// What a letter names of the calls in no order, with keys of one type: a capital letter stands for
-/// many keys.
-pub fn no_order<K: Sample>(alloc: Global, letter: u8, seed: u64) -> Result<bool, AllocError> {
-    let end = if letter.is_ascii_uppercase() {
+// The greatest number that a key is made of, less one: a capital letter stands for many keys.
+fn end_of(letter: u8) -> u64 {
+    if letter.is_ascii_uppercase() {
         u64::MAX
     } else {
         300
-    };
-    match letter {
-        b't' | b'T' | b's' | b'S' => round::<BPlusTree<Counted<K>>>(alloc, seed, end),
-        b'm' | b'M' | b'w' | b'W' => round::<BPlusTreeMap<K, u64, Count>>(alloc, seed, end),
-        _ => round::<BPlusTreeSet<K>>(alloc, seed, end),
     }
+}
+
+/// Calls of trees in no order, with keys of one type.
+pub fn on_trees<K: Sample>(alloc: Global, letter: u8, seed: u64) -> Result<bool, AllocError> {
+    round::<BPlusTree<Counted<K>>>(alloc, seed, end_of(letter))
+}
+
+/// The same of maps.
+pub fn on_maps(alloc: Global, letter: u8, seed: u64) -> Result<bool, AllocError> {
+    round::<BPlusTreeMap<Text, u64, Count>>(alloc, seed, end_of(letter))
+}
+
+/// The same of sets.
+pub fn on_sets(alloc: Global, letter: u8, seed: u64) -> Result<bool, AllocError> {
+    round::<BPlusTreeSet<Text>>(alloc, seed, end_of(letter))
 }

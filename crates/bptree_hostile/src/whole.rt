@@ -1,7 +1,7 @@
 //! Calls of a whole map or set: its keys and values alone, a part between two bounds, many pairs
 //! that come or leave at once, and a comparison with another.
 
-use crate::dice::Sample;
+use crate::dice::{Sample, Text};
 use crate::drawing::numbers;
 use crate::plain::Plain;
 use std::alloc::{AllocError, Global};
@@ -12,15 +12,15 @@ use sweep_bptree::tree::count::Count;
 use sweep_bptree::tree::{BPlusTree, Cursor, InsertError, NodeStore};
 use sweep_bptree::{BPlusTreeMap, BPlusTreeSet};
 
-type Map<K> = BPlusTreeMap<K, u64, Count>;
+type Map = BPlusTreeMap<Text, u64, Count>;
 
 /// The number of a key.
-pub fn number<K: Sample>(key: Option<&K>) -> Option<u64> {
+pub fn number(key: Option<&Text>) -> Option<u64> {
     Some(key?.number())
 }
 
 // The number of a key that is owned.
-fn own_number<K: Sample>(key: &Option<K>) -> Option<u64> {
+fn own_number(key: &Option<Text>) -> Option<u64> {
     number(key.as_ref())
 }
 
@@ -32,7 +32,7 @@ fn value_at(plain: &Plain, place: usize) -> Option<u64> {
 
 // Whether the keys and the values of a map are those of a list, once from the front and once from
 // the back.
-fn has_halves<K: Sample>(map: &Map<K>, plain: &Plain) -> bool {
+fn has_halves(map: &Map, plain: &Plain) -> bool {
     let (mut keys, mut values) = (map.keys(), map.values());
     let mut well = keys.len() == plain.len() && values.len() == plain.len();
     let mut back = plain.len();
@@ -51,7 +51,7 @@ fn has_halves<K: Sample>(map: &Map<K>, plain: &Plain) -> bool {
 }
 
 // Whether the keys of a map that is given away, and the values of another, are those of a list.
-fn gives_halves<K: Sample>(map: Map<K>, other: Map<K>, plain: &Plain) -> bool {
+fn gives_halves(map: Map, other: Map, plain: &Plain) -> bool {
     let (mut keys, mut values) = (map.into_keys(), other.into_values());
     let mut well = keys.len() == plain.len() && values.len() == plain.len();
     let mut back = plain.len();
@@ -64,7 +64,7 @@ fn gives_halves<K: Sample>(map: Map<K>, other: Map<K>, plain: &Plain) -> bool {
 }
 
 // A bound at the key of a place: of a start or an end, with the pair of its key or without it.
-fn bound_at<K: Sample>(key: &Option<K>, is_in: bool) -> Bound<&K> {
+fn bound_at(key: &Option<Text>, is_in: bool) -> Bound<&Text> {
     match key {
         Some(key) if is_in => Bound::Included(key),
         Some(key) => Bound::Excluded(key),
@@ -73,9 +73,9 @@ fn bound_at<K: Sample>(key: &Option<K>, is_in: bool) -> Bound<&K> {
 }
 
 // The key of a place, if there is one.
-fn key_of<K: Sample>(alloc: Global, plain: &Plain, place: usize) -> Result<Option<K>, AllocError> {
+fn key_of(alloc: Global, plain: &Plain, place: usize) -> Result<Option<Text>, AllocError> {
     match plain.key_at(place) {
-        Some(key) => Ok(Some(K::sample(alloc, key)?)),
+        Some(key) => Ok(Some(Text::sample(alloc, key)?)),
         None => Ok(None),
     }
 }
@@ -104,8 +104,8 @@ fn places(
 }
 
 // Whether pairs begin as those of a list between two places, and are as many.
-fn begins_at<K: Sample>(
-    pairs: Pairs<'_, K, u64, Count>,
+fn begins_at(
+    pairs: Pairs<'_, Text, u64, Count>,
     plain: &Plain,
     (start, end): (usize, usize),
 ) -> bool {
@@ -132,9 +132,9 @@ where
 
 // Whether the pairs of a map between bounds at two places are those of a list; and those of its
 // tree.
-fn is_bounded<K: Sample>(
+fn is_bounded(
     alloc: Global,
-    map: &Map<K>,
+    map: &Map,
     plain: &Plain,
     from: usize,
     to: usize,
@@ -153,24 +153,20 @@ fn is_bounded<K: Sample>(
 }
 
 // Whether the cursor at a place stands on its pair, and there is none past the end.
-fn is_pointed_at<K: Sample>(map: &Map<K>, plain: &Plain, place: usize) -> Result<bool, AllocError> {
+fn is_pointed_at(map: &Map, plain: &Plain, place: usize) -> Result<bool, AllocError> {
     let counted = at_cursor(map.cursor_at(place)?);
     let found = at_cursor(map.cursor_by_argument(place)?);
     Ok(counted == plain.pair_at(place) && found == counted)
 }
 
 // The numbers where a cursor stands.
-fn at_cursor<K: Sample>(found: Option<(Cursor<K>, &u64)>) -> Option<(u64, u64)> {
+fn at_cursor(found: Option<(Cursor<Text>, &u64)>) -> Option<(u64, u64)> {
     let (cursor, value) = found?;
     Some((cursor.key().number(), *value))
 }
 
 /// Whether a map shows a list by its keys and values, between bounds, and by cursors on places.
-pub fn shows_parts<K: Sample>(
-    alloc: Global,
-    map: &Map<K>,
-    plain: &Plain,
-) -> Result<bool, AllocError> {
+pub fn shows_parts(alloc: Global, map: &Map, plain: &Plain) -> Result<bool, AllocError> {
     let len = plain.len();
     let (third, late) = (len / 3, len.saturating_sub(2));
     let mut well = has_halves(map, plain);
@@ -190,34 +186,25 @@ pub fn shows_parts<K: Sample>(
 }
 
 // Whether the value that is lent at a key is the given one. It is one greater then.
-fn lends<K: Sample>(
-    map: &mut Map<K>,
-    key: K,
-    made: u64,
-    value: u64,
-) -> Result<bool, InsertError<K, u64>> {
+fn lends(map: &mut Map, key: Text, made: u64, value: u64) -> Result<bool, InsertError<Text, u64>> {
     let lent = map.get_or_insert_with(key, || made)?;
     let is_its = *lent == value;
     *lent = lent.wrapping_add(1);
     Ok(is_its)
 }
 
-fn is_lent<K: Sample>(map: &mut Map<K>, key: K, made: u64, value: u64) -> bool {
+fn is_lent(map: &mut Map, key: Text, made: u64, value: u64) -> bool {
     let lent = lends(map, key, made, value);
     matches!(lent, Ok(true))
 }
 
 // Each value is one greater. By turns a closure changes it, it is lent, or it leaves and is made
 // again.
-fn is_spoiled<K: Sample>(
-    alloc: Global,
-    map: &mut Map<K>,
-    plain: &Plain,
-) -> Result<bool, AllocError> {
+fn is_spoiled(alloc: Global, map: &mut Map, plain: &Plain) -> Result<bool, AllocError> {
     let mut well = true;
     for place in 0..plain.len() {
         let (number, value) = plain.pair_at(place).unwrap_or((0, 0));
-        let key = K::sample(alloc, number)?;
+        let key = Text::sample(alloc, number)?;
         let more = value.wrapping_add(1);
         let is_right = match place % 3 {
             0 => {
@@ -236,15 +223,15 @@ fn is_spoiled<K: Sample>(
 }
 
 // A map with the pairs of a list.
-fn made<K: Sample>(alloc: Global, plain: &Plain) -> Result<Map<K>, AllocError> {
+fn made(alloc: Global, plain: &Plain) -> Result<Map, AllocError> {
     BPlusTreeMap::from_iter(alloc, own_pairs(alloc, plain)?)
 }
 
-fn own_pairs<K: Sample>(alloc: Global, plain: &Plain) -> Result<Vec<(K, u64)>, AllocError> {
+fn own_pairs(alloc: Global, plain: &Plain) -> Result<Vec<(Text, u64)>, AllocError> {
     let mut pairs = Vec::new(alloc);
     for place in 0..plain.len() {
         if let Some((key, value)) = plain.pair_at(place) {
-            pairs.push((K::sample(alloc, key)?, value))?;
+            pairs.push((Text::sample(alloc, key)?, value))?;
         }
     }
     Ok(pairs)
@@ -252,7 +239,7 @@ fn own_pairs<K: Sample>(alloc: Global, plain: &Plain) -> Result<Vec<(K, u64)>, A
 
 // How a map with the pairs of a list stands to one of which some values are greater, or which is
 // equal.
-fn is_compared<K: Sample>(one: &Map<K>, other: &Map<K>, is_less: bool) -> bool {
+fn is_compared(one: &Map, other: &Map, is_less: bool) -> bool {
     let order = if is_less {
         Ordering::Less
     } else {
@@ -266,9 +253,9 @@ fn is_compared<K: Sample>(one: &Map<K>, other: &Map<K>, is_less: bool) -> bool {
 
 /// A map loses its values, and has them again from another one, or from pairs that come. What it
 /// was is given away.
-pub fn is_mended<K: Sample>(
+pub fn is_mended(
     alloc: Global,
-    map: &mut Map<K>,
+    map: &mut Map,
     plain: &Plain,
     by_pairs: bool,
 ) -> Result<bool, AllocError> {
@@ -285,10 +272,10 @@ pub fn is_mended<K: Sample>(
 }
 
 // A map has its values again, and another with the same pairs is given away.
-fn has_them_again<K: Sample>(
+fn has_them_again(
     alloc: Global,
-    map: &mut Map<K>,
-    other: Map<K>,
+    map: &mut Map,
+    other: Map,
     plain: &Plain,
 ) -> Result<bool, AllocError> {
     let well = map.extend(own_pairs(alloc, plain)?).is_ok();
@@ -296,13 +283,13 @@ fn has_them_again<K: Sample>(
 }
 
 /// The pairs from a place on leave for a map of their own, and come back.
-pub fn leave_and_join<K: Sample>(
+pub fn leave_and_join(
     alloc: Global,
-    map: &mut Map<K>,
+    map: &mut Map,
     plain: &Plain,
     place: usize,
 ) -> Result<bool, AllocError> {
-    let Some(key) = key_of::<K>(alloc, plain, place)? else {
+    let Some(key) = key_of(alloc, plain, place)? else {
         return Ok(true);
     };
     let Ok(mut left) = map.split_off(&key) else {
@@ -318,7 +305,7 @@ pub fn leave_and_join<K: Sample>(
 
 // Whether the pairs of a map are those of a list whose keys' numbers are no multiples of three,
 // each value one greater.
-fn is_thin<K: Sample>(map: &Map<K>, plain: &Plain) -> bool {
+fn is_thin(map: &Map, plain: &Plain) -> bool {
     let mut pairs = map.iter();
     let mut well = true;
     for place in 0..plain.len() {
@@ -331,22 +318,22 @@ fn is_thin<K: Sample>(map: &Map<K>, plain: &Plain) -> bool {
 }
 
 // Adds to the values between two keys.
-fn adds_between<K: Sample>(map: &mut Map<K>, lo: Option<&K>, hi: Option<&K>, more: u64) {
-    map.update_range(lo, hi, |_key: &K, value: &mut u64| {
+fn adds_between(map: &mut Map, lo: Option<&Text>, hi: Option<&Text>, more: u64) {
+    map.update_range(lo, hi, |_key: &Text, value: &mut u64| {
         *value = value.wrapping_add(more);
     });
 }
 
 // Adds the number of its key to each value, so many times.
-fn adds_keys<K: Sample>(map: &mut Map<K>, times: u64) {
-    map.update_each(|key: &K, value: &mut u64| {
+fn adds_keys(map: &mut Map, times: u64) {
+    map.update_each(|key: &Text, value: &mut u64| {
         *value = value.wrapping_add(key.number().wrapping_mul(times));
     });
 }
 
 // Whether each value is greater by the number of its key, and those between two places by one
 // more. A place past the end names no key, so that end is open.
-fn are_greater<K: Sample>(map: &Map<K>, plain: &Plain, from: usize, to: usize) -> bool {
+fn are_greater(map: &Map, plain: &Plain, from: usize, to: usize) -> bool {
     let mut well = true;
     let mut pairs = map.iter();
     for place in 0..plain.len() {
@@ -362,9 +349,9 @@ fn are_greater<K: Sample>(map: &Map<K>, plain: &Plain, from: usize, to: usize) -
 
 // The values between two places are one greater for a while, and all values greater by the number
 // of their key.
-fn is_updated<K: Sample>(
+fn is_updated(
     alloc: Global,
-    map: &mut Map<K>,
+    map: &mut Map,
     plain: &Plain,
     from: usize,
     to: usize,
@@ -380,10 +367,10 @@ fn is_updated<K: Sample>(
 }
 
 // The pairs between two keys leave, of which there are so many.
-fn loses_between<K: Sample>(
-    map: &mut Map<K>,
+fn loses_between(
+    map: &mut Map,
     plain: &Plain,
-    (lo, hi): (Option<&K>, Option<&K>),
+    (lo, hi): (Option<&Text>, Option<&Text>),
     (from, to): (usize, usize),
 ) -> Result<bool, AllocError> {
     let gone = map.remove_range(lo, hi)?;
@@ -392,20 +379,16 @@ fn loses_between<K: Sample>(
 }
 
 // The pairs from a key on leave, and then those before it.
-fn loses_both_sides<K: Sample>(
-    map: &mut Map<K>,
-    key: Option<&K>,
-    place: usize,
-) -> Result<bool, AllocError> {
+fn loses_both_sides(map: &mut Map, key: Option<&Text>, place: usize) -> Result<bool, AllocError> {
     let left = map.len().saturating_sub(place);
     let well = map.remove_range(key, None)? == left && map.len() == place;
     Ok(map.remove_range(None, key)? == place && map.is_empty() && well)
 }
 
 // The pairs between two places leave, then none, and then all others.
-fn is_emptied<K: Sample>(
+fn is_emptied(
     alloc: Global,
-    map: &mut Map<K>,
+    map: &mut Map,
     plain: &Plain,
     from: usize,
     to: usize,
@@ -417,8 +400,8 @@ fn is_emptied<K: Sample>(
 }
 
 // A closure keeps the pairs whose keys' numbers are no multiples of three, each value one greater.
-fn keeps_most<K: Sample>(map: &mut Map<K>, plain: &Plain) -> bool {
-    let kept = map.retain(|key: &K, value: &mut u64| {
+fn keeps_most(map: &mut Map, plain: &Plain) -> bool {
+    let kept = map.retain(|key: &Text, value: &mut u64| {
         *value = value.wrapping_add(1);
         key.number() % 3 != 0
     });
@@ -426,9 +409,9 @@ fn keeps_most<K: Sample>(map: &mut Map<K>, plain: &Plain) -> bool {
 }
 
 /// Pairs leave a map as a closure says, or those between two keys do, and come again.
-pub fn is_thinned<K: Sample>(
+pub fn is_thinned(
     alloc: Global,
-    map: &mut Map<K>,
+    map: &mut Map,
     plain: &Plain,
     by_range: bool,
 ) -> Result<bool, AllocError> {
@@ -445,9 +428,9 @@ pub fn is_thinned<K: Sample>(
 }
 
 // Whether the keys of a set between bounds at two places are those of a list.
-fn are_keys_bounded<K: Sample>(
+fn are_keys_bounded(
     alloc: Global,
-    set: &BPlusTreeSet<K>,
+    set: &BPlusTreeSet<Text>,
     plain: &Plain,
     from: usize,
     to: usize,
@@ -468,9 +451,9 @@ fn are_keys_bounded<K: Sample>(
 }
 
 /// Whether a set shows the keys of a list between bounds.
-pub fn shows_keys<K: Sample>(
+pub fn shows_keys(
     alloc: Global,
-    set: &BPlusTreeSet<K>,
+    set: &BPlusTreeSet<Text>,
     plain: &Plain,
 ) -> Result<bool, AllocError> {
     let len = plain.len();
@@ -489,7 +472,7 @@ pub fn shows_keys<K: Sample>(
 }
 
 // The keys of a list.
-fn own_keys<K: Sample>(alloc: Global, plain: &Plain) -> Result<Vec<K>, AllocError> {
+fn own_keys(alloc: Global, plain: &Plain) -> Result<Vec<Text>, AllocError> {
     let mut keys = Vec::new(alloc);
     for place in 0..plain.len() {
         if let Some(key) = key_of(alloc, plain, place)? {
@@ -500,17 +483,13 @@ fn own_keys<K: Sample>(alloc: Global, plain: &Plain) -> Result<Vec<K>, AllocErro
 }
 
 // Whether a set is ordered so beside what it was, and equal to it just where it is ordered so.
-fn is_ordered<K: Sample>(
-    set: &BPlusTreeSet<K>,
-    before: &BPlusTreeSet<K>,
-    wanted: Ordering,
-) -> bool {
+fn is_ordered(set: &BPlusTreeSet<Text>, before: &BPlusTreeSet<Text>, wanted: Ordering) -> bool {
     (*set == *before) == wanted.is_eq() && before.cmp(set) == wanted
 }
 
-// An end of a set leaves, of so many keys.
-fn end_leaves<K: Sample>(
-    set: &mut BPlusTreeSet<K>,
+// The first key of a set leaves, or the last.
+fn end_leaves(
+    set: &mut BPlusTreeSet<Text>,
     is_last: bool,
     wanted: Option<u64>,
 ) -> Result<bool, AllocError> {
@@ -523,9 +502,9 @@ fn end_leaves<K: Sample>(
 }
 
 // A key is put in the place of the one that equals it, where there is one.
-fn replaces<K: Sample>(
-    set: &mut BPlusTreeSet<K>,
-    key: K,
+fn replaces(
+    set: &mut BPlusTreeSet<Text>,
+    key: Text,
     wanted: Option<u64>,
 ) -> Result<bool, AllocError> {
     match set.replace(key) {
@@ -535,48 +514,60 @@ fn replaces<K: Sample>(
 }
 
 // A key leaves and is not there a second time; it comes again, and takes its own place.
-fn leaves_by_itself<K: Sample>(
+fn leaves_by_itself(
     alloc: Global,
-    set: &mut BPlusTreeSet<K>,
+    set: &mut BPlusTreeSet<Text>,
     plain: &Plain,
     place: usize,
 ) -> Result<bool, AllocError> {
     let wanted = plain.key_at(place);
-    let Some(key) = key_of::<K>(alloc, plain, place)? else {
+    let Some(key) = key_of(alloc, plain, place)? else {
         return Ok(true);
     };
     let mut well = own_number(&set.take(&key)?) == wanted;
     well &= set.take(&key)?.is_none();
     well &= replaces(set, key, None)?;
-    match key_of::<K>(alloc, plain, place)? {
+    match key_of(alloc, plain, place)? {
         Some(key) => Ok(replaces(set, key, wanted)? && well),
         None => Ok(false),
     }
 }
 
-/// Its first key and its last leave a set, and another by itself, and all come again.
-pub fn keys_leave_and_return<K: Sample>(
+// The first key of a set leaves, and of more than two the last as well, and another by itself. What
+// is left is less than what there was.
+fn some_leave(
     alloc: Global,
-    set: &mut BPlusTreeSet<K>,
+    set: &mut BPlusTreeSet<Text>,
+    before: &BPlusTreeSet<Text>,
     plain: &Plain,
 ) -> Result<bool, AllocError> {
-    let len = plain.len();
+    let first = end_leaves(set, false, plain.key_at(0))?;
+    if plain.len() <= 2 {
+        return Ok(first);
+    }
+    let is_less = is_ordered(set, before, Ordering::Less);
+    let end = plain.len().saturating_sub(1);
+    let last = end_leaves(set, true, plain.key_at(end))?;
+    Ok(leaves_by_itself(alloc, set, plain, 1)? && last && is_less && first)
+}
+
+/// Its first key and its last leave a set, and another by itself, and all come again.
+pub fn keys_leave_and_return(
+    alloc: Global,
+    set: &mut BPlusTreeSet<Text>,
+    plain: &Plain,
+) -> Result<bool, AllocError> {
     let before = BPlusTreeSet::from_iter(alloc, own_keys(alloc, plain)?)?;
     let mut well = is_ordered(set, &before, Ordering::Equal);
-    well &= end_leaves(set, false, plain.key_at(0))?;
-    if len > 2 {
-        well &= is_ordered(set, &before, Ordering::Less);
-        well &= end_leaves(set, true, plain.key_at(len.saturating_sub(1)))?;
-        well &= leaves_by_itself(alloc, set, plain, 1)?;
-    }
+    well &= some_leave(alloc, set, &before, plain)?;
     well &= set.extend(own_keys(alloc, plain)?).is_ok();
     Ok(*set == before && well)
 }
 
 // The keys between two places leave, of which there are so many.
-fn keys_between_leave<K: Sample>(
+fn keys_between_leave(
     alloc: Global,
-    set: &mut BPlusTreeSet<K>,
+    set: &mut BPlusTreeSet<Text>,
     plain: &Plain,
     from: usize,
     to: usize,
@@ -587,8 +578,8 @@ fn keys_between_leave<K: Sample>(
 }
 
 // A closure keeps the keys whose numbers are no multiples of three.
-fn most_keys_stay<K: Sample>(set: &mut BPlusTreeSet<K>, plain: &Plain) -> bool {
-    let mut well = set.retain(|key: &K| key.number() % 3 != 0).is_ok();
+fn most_keys_stay(set: &mut BPlusTreeSet<Text>, plain: &Plain) -> bool {
+    let mut well = set.retain(|key: &Text| key.number() % 3 != 0).is_ok();
     let mut keys = set.iter();
     for place in 0..plain.len() {
         let key = plain.key_at(place).unwrap_or(0);
@@ -600,9 +591,9 @@ fn most_keys_stay<K: Sample>(set: &mut BPlusTreeSet<K>, plain: &Plain) -> bool {
 }
 
 /// Keys leave a set as a closure says, or those between two keys do, and come again.
-pub fn keys_are_thinned<K: Sample>(
+pub fn keys_are_thinned(
     alloc: Global,
-    set: &mut BPlusTreeSet<K>,
+    set: &mut BPlusTreeSet<Text>,
     plain: &Plain,
     by_range: bool,
 ) -> Result<bool, AllocError> {
@@ -616,13 +607,13 @@ pub fn keys_are_thinned<K: Sample>(
 }
 
 /// The keys from a place on leave for a set of their own, and come back.
-pub fn keys_leave_and_join<K: Sample>(
+pub fn keys_leave_and_join(
     alloc: Global,
-    set: &mut BPlusTreeSet<K>,
+    set: &mut BPlusTreeSet<Text>,
     plain: &Plain,
     place: usize,
 ) -> Result<bool, AllocError> {
-    let Some(key) = key_of::<K>(alloc, plain, place)? else {
+    let Some(key) = key_of(alloc, plain, place)? else {
         return Ok(true);
     };
     let Ok(mut left) = set.split_off(&key) else {

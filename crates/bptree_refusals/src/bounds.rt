@@ -83,4 +83,8 @@ impl<K: Sample, A: Asked<K>> Subject for Bounded<K, A> {
     fn shape(&self) -> Option<Shape> {
         self.0.shape()
     }
+
+    fn ends_well(&self, _alloc: Global) -> bool {
+        true
+    }
 }

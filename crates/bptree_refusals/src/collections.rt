@@ -46,6 +46,10 @@ impl<K: Sample, A: Argument<K> + Told> Subject for BPlusTreeMap<K, u64, A> {
     fn shape(&self) -> Option<Shape> {
         Some(shape_of(self.tree()))
     }
+
+    fn ends_well(&self, _alloc: Global) -> bool {
+        true
+    }
 }
 
 // Whether the insertion of a key is answered as it is to be. A refusal hands the key back.
@@ -104,6 +108,10 @@ impl<K: Sample> Subject for BPlusTreeSet<K> {
         }
     }
 
+    fn is_tidy(&self) -> bool {
+        true
+    }
+
     // The keys, and how many are compared to find each of them: that tells the places of a key in
     // its nodes. All are looked up once before, so that the same leaf is remembered.
     fn told(&self) -> (u64, usize) {
@@ -118,5 +126,13 @@ impl<K: Sample> Subject for BPlusTreeSet<K> {
             digest.add(compares as u64);
         }
         (digest.value(), self.len())
+    }
+
+    fn shape(&self) -> Option<Shape> {
+        None
+    }
+
+    fn ends_well(&self, _alloc: Global) -> bool {
+        true
     }
 }

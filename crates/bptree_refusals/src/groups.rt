@@ -2,6 +2,7 @@
 
 use crate::plans::Call;
 use crate::sample::{Group, Sample, pairs_of};
+use crate::shapes::Shape;
 use crate::trial::Subject;
 use std::alloc::{AllocError, Global};
 use sweep_bptree::BPlusTreeMap;
@@ -40,7 +41,19 @@ impl<K: Sample, G: Group<K>> Subject for Grouped<K, G> {
         }
     }
 
+    fn is_tidy(&self) -> bool {
+        true
+    }
+
     fn told(&self) -> (u64, usize) {
         self.0.told()
+    }
+
+    fn shape(&self) -> Option<Shape> {
+        None
+    }
+
+    fn ends_well(&self, _alloc: Global) -> bool {
+        true
     }
 }

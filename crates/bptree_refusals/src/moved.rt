@@ -255,6 +255,10 @@ impl<K: Sample, A: Argument<K> + Told> Subject for Moved<K, A> {
     fn shape(&self) -> Option<Shape> {
         self.here.shape()
     }
+
+    fn ends_well(&self, _alloc: Global) -> bool {
+        true
+    }
 }
 
 /// A set, what left it, and how many keys both had at first.
@@ -433,6 +437,10 @@ impl<K: Sample> Subject for MovedKeys<K> {
         }
     }
 
+    fn is_tidy(&self) -> bool {
+        true
+    }
+
     // The keys of both, since what is refused may leave some of them in other nodes.
     fn told(&self) -> (u64, usize) {
         let mut digest = Digest::new();
@@ -450,5 +458,9 @@ impl<K: Sample> Subject for MovedKeys<K> {
 
     fn shape(&self) -> Option<Shape> {
         Some(shape_of(self.here.tree()))
+    }
+
+    fn ends_well(&self, _alloc: Global) -> bool {
+        true
     }
 }

@@ -230,7 +230,9 @@ const GROUP_NAMES: [&str; 25] = [
 
 // Of each letter: how many pairs or keys there are at first, the turn from which on requests are
 // refused, and how many there are at the end, at least and at most.
-const ROWS: [(u64, Option<u64>, usize, usize); 25] = [
+type Row = (u64, Option<u64>, usize, usize);
+
+const ROWS: [Row; 25] = [
     (0, None, 65, 65),
     (4160, Some(0), 4161, 4161),
     (65, None, 0, 0),
@@ -258,210 +260,144 @@ const ROWS: [(u64, Option<u64>, usize, usize); 25] = [
     (5000, Some(0), 5000, 5000),
 ];
 
-// A scenario on a larger tree, or by other calls: its letter and its digit, its names on numbers
-// and on groups, and the rest.
-type Row = (
-    (u8, u8),
-    (&'static str, &'static str),
-    (u64, Option<u64>, usize, usize),
-);
-
-const LARGER: [Row; 26] = [
-    (
-        (b'b', 1),
-        ("numbers, full root, high", "groups, full root, high"),
-        (270_400, Some(0), 270_401, 270_401),
-    ),
-    (
-        (b'e', 1),
-        ("numbers, a rotation, high", "groups, a rotation, high"),
-        (270_401, Some(1057), 269_341, 269_341),
-    ),
-    (
-        (b'e', 2),
-        ("numbers, a merge, high", "groups, a merge, high"),
-        (270_401, Some(2081), 268_317, 268_317),
-    ),
-    (
-        (b'k', 1),
-        ("numbers, commands, low", "groups, commands, low"),
-        (100, Some(0), 1, 399),
-    ),
-    (
-        (b'k', 2),
-        ("numbers, commands upward", "groups, commands upward"),
-        (4161, Some(0), 4162, 4231),
-    ),
-    (
-        (b'k', 3),
-        ("numbers, commands downward", "groups, commands downward"),
-        (4224, Some(0), 540, 580),
-    ),
-    (
-        (b'm', 1),
-        (
-            "numbers, room for eight, without memory",
-            "groups, room for eight, without memory",
-        ),
-        (8, Some(0), 8, 8),
-    ),
-    (
-        (b'o', 1),
-        (
-            "numbers, map by places, without memory",
-            "groups, map by places",
-        ),
-        (400, Some(0), 392, 392),
-    ),
-    (
-        (b'o', 2),
-        (
-            "numbers, few moved between maps",
-            "groups, few moved between maps",
-        ),
-        (40, Some(0), 45, 45),
-    ),
-    (
-        (b'o', 3),
-        ("numbers, moved between maps", "groups, moved between maps"),
-        (150, Some(0), 155, 155),
-    ),
-    (
-        (b'o', 4),
-        (
-            "numbers, many moved between maps",
-            "groups, many moved between maps",
-        ),
-        (4161, Some(0), 4166, 4166),
-    ),
-    (
-        (b'o', 5),
-        (
-            "numbers, few bounded, without memory",
-            "groups, few bounded",
-        ),
-        (40, Some(0), 40, 40),
-    ),
-    (
-        (b'o', 6),
-        ("numbers, bounded, without memory", "groups, bounded"),
-        (400, Some(0), 400, 400),
-    ),
-    (
-        (b'o', 7),
-        (
-            "numbers, many bounded, without memory",
-            "groups, many bounded",
-        ),
-        (4161, Some(0), 4161, 4161),
-    ),
-    (
-        (b'u', 1),
-        (
-            "numbers, few moved between sets",
-            "pairs, few moved between sets",
-        ),
-        (40, Some(0), 23, 23),
-    ),
-    (
-        (b'u', 2),
-        ("numbers, moved between sets", "pairs, moved between sets"),
-        (150, Some(0), 133, 133),
-    ),
-    (
-        (b'u', 3),
-        (
-            "numbers, many moved between sets",
-            "pairs, many moved between sets",
-        ),
-        (4161, Some(0), 4144, 4144),
-    ),
-    (
-        (b'w', 1),
-        ("numbers, few over shards", "pairs, few over shards"),
-        (256, Some(0), 257, 257),
-    ),
-    (
-        (b'w', 2),
-        ("numbers, over shards", "pairs, over shards"),
-        (384, Some(0), 385, 385),
-    ),
-    (
-        (b'w', 3),
-        ("numbers, many over shards", "pairs, many over shards"),
-        (8576, Some(0), 8577, 8577),
-    ),
-    (
-        (b'y', 1),
-        (
-            "numbers, few pointed at, without memory",
-            "pairs, few pointed at",
-        ),
-        (40, Some(0), 32, 32),
-    ),
-    (
-        (b'y', 2),
-        ("numbers, pointed at, without memory", "pairs, pointed at"),
-        (400, Some(0), 344, 344),
-    ),
-    (
-        (b'y', 3),
-        (
-            "numbers, many pointed at, without memory",
-            "pairs, many pointed at",
-        ),
-        (4161, Some(0), 4105, 4105),
-    ),
-    (
-        (b'g', 1),
-        ("counted pairs, loaded", "counted pairs, loaded"),
-        (0, None, 0, 0),
-    ),
-    (
-        (b'n', 1),
-        (
-            "counted pairs, map of items, with a hint",
-            "counted pairs, map of items, with a hint",
-        ),
-        (0, None, 0, 0),
-    ),
-    (
-        (b't', 1),
-        ("counted keys, set of items", "counted keys, set of items"),
-        (0, None, 0, 0),
-    ),
+// The scenarios on larger trees, or by other calls: the letter and the digit of each.
+const LARGER: [(u8, u8); 26] = [
+    (b'b', 1),
+    (b'e', 1),
+    (b'e', 2),
+    (b'k', 1),
+    (b'k', 2),
+    (b'k', 3),
+    (b'm', 1),
+    (b'o', 1),
+    (b'o', 2),
+    (b'o', 3),
+    (b'o', 4),
+    (b'o', 5),
+    (b'o', 6),
+    (b'o', 7),
+    (b'u', 1),
+    (b'u', 2),
+    (b'u', 3),
+    (b'w', 1),
+    (b'w', 2),
+    (b'w', 3),
+    (b'y', 1),
+    (b'y', 2),
+    (b'y', 3),
+    (b'g', 1),
+    (b'n', 1),
+    (b't', 1),
 ];
 
-// The plan of a scenario that has a digit.
-fn larger(letter: u8, size: u8, on_groups: bool) -> Option<Plan> {
-    for (key, names, (many, begins, least, most)) in &LARGER {
+// Their names on numbers.
+const LARGER_NUMBER_NAMES: [&str; 26] = [
+    "numbers, full root, high",
+    "numbers, a rotation, high",
+    "numbers, a merge, high",
+    "numbers, commands, low",
+    "numbers, commands upward",
+    "numbers, commands downward",
+    "numbers, room for eight, without memory",
+    "numbers, map by places, without memory",
+    "numbers, few moved between maps",
+    "numbers, moved between maps",
+    "numbers, many moved between maps",
+    "numbers, few bounded, without memory",
+    "numbers, bounded, without memory",
+    "numbers, many bounded, without memory",
+    "numbers, few moved between sets",
+    "numbers, moved between sets",
+    "numbers, many moved between sets",
+    "numbers, few over shards",
+    "numbers, over shards",
+    "numbers, many over shards",
+    "numbers, few pointed at, without memory",
+    "numbers, pointed at, without memory",
+    "numbers, many pointed at, without memory",
+    "counted pairs, loaded",
+    "counted pairs, map of items, with a hint",
+    "counted keys, set of items",
+];
+
+// Their names on groups.
+const LARGER_GROUP_NAMES: [&str; 26] = [
+    "groups, full root, high",
+    "groups, a rotation, high",
+    "groups, a merge, high",
+    "groups, commands, low",
+    "groups, commands upward",
+    "groups, commands downward",
+    "groups, room for eight, without memory",
+    "groups, map by places",
+    "groups, few moved between maps",
+    "groups, moved between maps",
+    "groups, many moved between maps",
+    "groups, few bounded",
+    "groups, bounded",
+    "groups, many bounded",
+    "pairs, few moved between sets",
+    "pairs, moved between sets",
+    "pairs, many moved between sets",
+    "pairs, few over shards",
+    "pairs, over shards",
+    "pairs, many over shards",
+    "pairs, few pointed at",
+    "pairs, pointed at",
+    "pairs, many pointed at",
+    "counted pairs, loaded",
+    "counted pairs, map of items, with a hint",
+    "counted keys, set of items",
+];
+
+// What `ROWS` has, of each of them.
+const LARGER_ROWS: [Row; 26] = [
+    (270_400, Some(0), 270_401, 270_401),
+    (270_401, Some(1057), 269_341, 269_341),
+    (270_401, Some(2081), 268_317, 268_317),
+    (100, Some(0), 1, 399),
+    (4161, Some(0), 4162, 4231),
+    (4224, Some(0), 540, 580),
+    (8, Some(0), 8, 8),
+    (400, Some(0), 392, 392),
+    (40, Some(0), 45, 45),
+    (150, Some(0), 155, 155),
+    (4161, Some(0), 4166, 4166),
+    (40, Some(0), 40, 40),
+    (400, Some(0), 400, 400),
+    (4161, Some(0), 4161, 4161),
+    (40, Some(0), 23, 23),
+    (150, Some(0), 133, 133),
+    (4161, Some(0), 4144, 4144),
+    (256, Some(0), 257, 257),
+    (384, Some(0), 385, 385),
+    (8576, Some(0), 8577, 8577),
+    (40, Some(0), 32, 32),
+    (400, Some(0), 344, 344),
+    (4161, Some(0), 4105, 4105),
+    (0, None, 0, 0),
+    (0, None, 0, 0),
+    (0, None, 0, 0),
+];
+
+// Where a scenario that has a digit stands among the larger ones.
+fn place_of(letter: u8, size: u8) -> Option<usize> {
+    for (place, key) in LARGER.iter().enumerate() {
         if *key == (letter, size) {
-            return Some(Plan {
-                letter,
-                size,
-                name: if on_groups { names.1 } else { names.0 },
-                many: *many,
-                begins: *begins,
-                least: *least,
-                most: *most,
-            });
+            return Some(place);
         }
     }
     None
 }
 
-/// The plan of a letter and a digit, where that is not 0, as it is called on groups or on numbers.
-pub fn plan_of(letter: u8, size: u8, on_groups: bool) -> Option<Plan> {
-    if size > 0 {
-        return larger(letter, size, on_groups);
-    }
-    let place = letter.checked_sub(b'a')? as usize;
-    let names = if on_groups {
-        &GROUP_NAMES
-    } else {
-        &NUMBER_NAMES
-    };
-    let (many, begins, least, most) = *ROWS.get(place)?;
+// The plan at a place of a table of names and one of rows.
+fn plan_at(
+    (letter, size): (u8, u8),
+    place: usize,
+    names: &[&'static str],
+    rows: &[Row],
+) -> Option<Plan> {
+    let (many, begins, least, most) = *rows.get(place)?;
     Some(Plan {
         letter,
         size,
@@ -471,4 +407,23 @@ pub fn plan_of(letter: u8, size: u8, on_groups: bool) -> Option<Plan> {
         least,
         most,
     })
+}
+
+/// The plan of a letter and a digit, where that is not 0, as it is called on groups or on numbers.
+pub fn plan_of(letter: u8, size: u8, on_groups: bool) -> Option<Plan> {
+    let key = (letter, size);
+    if size > 0 {
+        let place = place_of(letter, size)?;
+        return if on_groups {
+            plan_at(key, place, &LARGER_GROUP_NAMES, &LARGER_ROWS)
+        } else {
+            plan_at(key, place, &LARGER_NUMBER_NAMES, &LARGER_ROWS)
+        };
+    }
+    let place = letter.checked_sub(b'a')? as usize;
+    if on_groups {
+        plan_at(key, place, &GROUP_NAMES, &ROWS)
+    } else {
+        plan_at(key, place, &NUMBER_NAMES, &ROWS)
+    }
 }

@@ -81,4 +81,8 @@ impl<K: Sample> Subject for Pointed<K> {
     fn shape(&self) -> Option<Shape> {
         self.map.shape()
     }
+
+    fn ends_well(&self, _alloc: Global) -> bool {
+        true
+    }
 }

@@ -3,6 +3,7 @@
 use crate::digest::{Told, digest_of};
 use crate::plans::Call;
 use crate::sample::{Sample, keys_of};
+use crate::shapes::Shape;
 use crate::trees::last_of;
 use crate::trial::Subject;
 use std::alloc::{AllocError, Global};
@@ -152,6 +153,14 @@ where
     fn is_tidy(&self) -> bool {
         self.tree.is_tidy()
     }
+
+    fn shape(&self) -> Option<Shape> {
+        None
+    }
+
+    fn ends_well(&self, _alloc: Global) -> bool {
+        true
+    }
 }
 
 /// Two sets that are read, of which one is handed over, with the last key of both, that key once
@@ -260,7 +269,19 @@ impl<K: Sample> Subject for SetReadings<K> {
         }
     }
 
+    fn is_tidy(&self) -> bool {
+        true
+    }
+
     fn told(&self) -> (u64, usize) {
         (0, self.one.len())
+    }
+
+    fn shape(&self) -> Option<Shape> {
+        None
+    }
+
+    fn ends_well(&self, _alloc: Global) -> bool {
+        true
     }
 }

@@ -4,6 +4,7 @@ use crate::digest::{Digest, Told};
 use crate::moved::handed_back;
 use crate::plans::Call;
 use crate::sample::Sample;
+use crate::shapes::Shape;
 use crate::trees::is_sample;
 use crate::trial::Subject;
 use bptree_sharded::map_shard::empty_over;
@@ -171,6 +172,10 @@ impl<K: Sample> Subject for Sharded<K> {
         }
     }
 
+    fn is_tidy(&self) -> bool {
+        true
+    }
+
     // The pairs, and how many each shard has.
     fn told(&self) -> (u64, usize) {
         let mut digest = Digest::new();
@@ -184,5 +189,13 @@ impl<K: Sample> Subject for Sharded<K> {
             digest.add(*length as u64);
         }
         (digest.value(), self.whole.len())
+    }
+
+    fn shape(&self) -> Option<Shape> {
+        None
+    }
+
+    fn ends_well(&self, _alloc: Global) -> bool {
+        true
     }
 }

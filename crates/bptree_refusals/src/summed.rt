@@ -2,6 +2,7 @@
 
 use crate::plans::Call;
 use crate::sample::{Group, Sample, pairs_of};
+use crate::shapes::Shape;
 use crate::trial::Subject;
 use std::alloc::{AllocError, Global};
 use sweep_bptree::BPlusTreeMap;
@@ -117,8 +118,20 @@ impl<K: Sample, G: Group<K>> Subject for Summed<K, G> {
         Ok(self.0.are_three() && count == wanted(turn, numbers))
     }
 
+    fn is_tidy(&self) -> bool {
+        true
+    }
+
     fn told(&self) -> (u64, usize) {
         self.0.high.told()
+    }
+
+    fn shape(&self) -> Option<Shape> {
+        None
+    }
+
+    fn ends_well(&self, _alloc: Global) -> bool {
+        true
     }
 }
 
@@ -170,7 +183,19 @@ impl<K: Sample> Subject for Counted<K> {
         Ok(self.0.are_three() && count == wanted(turn, numbers))
     }
 
+    fn is_tidy(&self) -> bool {
+        true
+    }
+
     fn told(&self) -> (u64, usize) {
         self.0.high.told()
+    }
+
+    fn shape(&self) -> Option<Shape> {
+        None
+    }
+
+    fn ends_well(&self, _alloc: Global) -> bool {
+        true
     }
 }

@@ -190,4 +190,8 @@ where
     fn shape(&self) -> Option<Shape> {
         Some(shape_of(self))
     }
+
+    fn ends_well(&self, _alloc: Global) -> bool {
+        true
+    }
 }

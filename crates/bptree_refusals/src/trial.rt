@@ -12,23 +12,18 @@ pub trait Subject: Drop + Sized {
     /// Whether a call is answered as it is to be. An error stands for a refusal.
     fn answers(&mut self, alloc: Global, call: Call) -> Result<bool, AllocError>;
 
+    /// Whether its store holds no number but those of its nodes, where it shows one.
+    fn is_tidy(&self) -> bool;
+
     /// The whole of it as one number, and how many pairs or keys it has.
     fn told(&self) -> (u64, usize);
 
-    /// Whether its store holds no number but those of its nodes.
-    fn is_tidy(&self) -> bool {
-        true
-    }
-
     /// How the nodes of its tree stand, where it has one that is told of.
-    fn shape(&self) -> Option<Shape> {
-        None
-    }
+    fn shape(&self) -> Option<Shape>;
 
-    /// Whether all that was answered is what is answered where nothing is refused.
-    fn ends_well(&self, _alloc: Global) -> bool {
-        true
-    }
+    /// Whether all that was answered is what is answered where nothing is refused, where it knows
+    /// that.
+    fn ends_well(&self, alloc: Global) -> bool;
 }
 
 /// How a scenario went.

@@ -58,7 +58,7 @@ fn has_line<T: Loaded>(tree: &T, full: usize, last: &[usize]) -> Result<bool, Al
         } else {
             last.get(place - full).copied().unwrap_or(0)
         };
-        all = all && *len == wanted;
+        all &= *len == wanted;
     }
     Ok(all)
 }
@@ -72,7 +72,7 @@ fn has_nodes<T: Loaded>(tree: &T, wanted: &[usize]) -> Result<bool, AllocError> 
     let children = tree.children()?;
     let mut all = tree.levels() == 2 && children.len() == wanted.len();
     for (found, count) in children.iter().zip(wanted) {
-        all = all && *found == *count;
+        all &= *found == *count;
     }
     Ok(all)
 }
@@ -246,9 +246,9 @@ where
 {
     let mut tree: T = load(alloc, counts, len / 2, 1)?;
     let mut all = put_from(&mut tree, counts, len / 2, len)?;
-    all = all && clone_goes_its_own_way(&tree, counts, len)?;
+    all &= clone_goes_its_own_way(&tree, counts, len)?;
     // Those of a clone, and of another one of its half.
-    all = all && counts.dropped.get() == len.saturating_add(len - len / 2);
+    all &= counts.dropped.get() == len.saturating_add(len - len / 2);
     Ok(all && take_below(&mut tree, counts, len)? && tree.number_of_pairs() == 0)
 }
 
@@ -262,7 +262,7 @@ fn come_from_both_ends<P: Walked>(mut pairs: P, counts: &Counts, from_each_end: 
     let mut back = pairs.left() as u64;
     let mut all = true;
     for front in 0..from_each_end {
-        all = all && pairs.left() as u64 == back.saturating_sub(front);
+        all &= pairs.left() as u64 == back.saturating_sub(front);
         back = back.saturating_sub(1);
         all &= is_pair(pairs.front(), front) && is_pair(pairs.back(), back);
     }
@@ -297,6 +297,19 @@ where
     Ok(is_loaded && is_empty && counts.dropped.get() == 300 && Rc::strong_count(counts) == 1)
 }
 
+// Puts another pair at the one key of a map, in a turn. The pair that was there is dropped, and its
+// key or the new one.
+fn puts_an_equal<K: Key + Made, V: Made>(
+    map: &mut BPlusTreeMap<K, V>,
+    counts: &Rc<Counts>,
+    turn: u64,
+) -> Result<bool, AllocError> {
+    let key = K::made(counts, 7)?;
+    let value = V::made(counts, turn)?;
+    let is_put = map.insert(key, value).is_ok() && map.len() == 1;
+    Ok(is_put && counts.dropped.get() == turn && Rc::strong_count(counts) == 3)
+}
+
 // Of three pairs that are put at one key, a map keeps one key and the last value.
 fn map_keeps_one<K: Key + Made, V: Made>(
     alloc: Global,
@@ -306,10 +319,7 @@ fn map_keeps_one<K: Key + Made, V: Made>(
     let mut map: BPlusTreeMap<K, V> = BPlusTreeMap::new(alloc)?;
     let mut all = true;
     for turn in 0..3 {
-        let key = K::made(counts, 7)?;
-        let value = V::made(counts, turn)?;
-        all &= matches!(map.insert(key, value), Ok(_)) && map.len() == 1;
-        all &= counts.dropped.get() == turn && Rc::strong_count(counts) == 3;
+        all &= puts_an_equal(&mut map, counts, turn)?;
     }
     Ok(all)
 }
@@ -343,11 +353,11 @@ where
 {
     let counts = no_counts(alloc)?;
     let mut all = comes_and_goes::<T>(alloc, &counts, 16_000)?;
-    all = all && counts.dropped.get() == 40_000 && Rc::strong_count(&counts) == 1;
+    all &= counts.dropped.get() == 40_000 && Rc::strong_count(&counts) == 1;
     for (len, from_each_end) in [(10, 0), (300, 1), (300, 150)] {
         counts.dropped.set(0);
         all &= owned_pairs_come::<T>(alloc, &counts, len, from_each_end)?;
-        all = all && counts.dropped.get() == len && Rc::strong_count(&counts) == 1;
+        all &= counts.dropped.get() == len && Rc::strong_count(&counts) == 1;
     }
     Ok(is_cleared::<T>(alloc, &counts)? && all)
 }

@@ -12,14 +12,14 @@ pub fn answer_by_their_keys<T: Ranked>(tree: &mut T, other: &mut T) -> Result<bo
     let (Some((cursor, value)), Some((past, none))) = (tree.hold(10)?, tree.hold(70)?) else {
         return Ok(false);
     };
-    all = all && value == Some(value_of(10)) && none.is_none();
-    all = all && tree.stands_between(&cursor, Some(9), true, Some(11))?;
-    all = all && take(tree, 10);
-    all = all && tree.stands_between(&cursor, Some(9), false, Some(11))?;
-    all = all && tree.stands_between(&past, Some(29), false, None)?;
-    all = all && other.stands_between(&cursor, Some(5), false, Some(20))?;
-    all = all && other.empty_it();
-    all = all && other.stands_between(&cursor, None, false, None)?;
+    all &= value == Some(value_of(10)) && none.is_none();
+    all &= tree.stands_between(&cursor, Some(9), true, Some(11))?;
+    all &= take(tree, 10);
+    all &= tree.stands_between(&cursor, Some(9), false, Some(11))?;
+    all &= tree.stands_between(&past, Some(29), false, None)?;
+    all &= other.stands_between(&cursor, Some(5), false, Some(20))?;
+    all &= other.empty_it();
+    all &= other.stands_between(&cursor, None, false, None)?;
     Ok(all)
 }
 
@@ -45,14 +45,14 @@ pub fn survives_another_leaf<T: Ranked>(tree: &mut T) -> Result<bool, AllocError
     let Some((cursor, _)) = tree.hold(40)? else {
         return Ok(false);
     };
-    all = all && tree.has_key(1, 40) == Some(true);
-    all = all && take_from(tree, 0, 34) && tree.has_key(1, 40).is_none();
-    all = all && tree.stands_between(&cursor, Some(39), true, Some(41))?;
-    all = all && put_from(tree, 65, 99) && tree.has_key(1, 40) == Some(false);
-    all = all && tree.has_key(1, 98) == Some(true);
-    all = all && tree.stands_between(&cursor, Some(39), true, Some(41))?;
-    all = all && take(tree, 40);
-    all = all && tree.stands_between(&cursor, Some(39), false, Some(41))?;
+    all &= tree.has_key(1, 40) == Some(true);
+    all &= take_from(tree, 0, 34) && tree.has_key(1, 40).is_none();
+    all &= tree.stands_between(&cursor, Some(39), true, Some(41))?;
+    all &= put_from(tree, 65, 99) && tree.has_key(1, 40) == Some(false);
+    all &= tree.has_key(1, 98) == Some(true);
+    all &= tree.stands_between(&cursor, Some(39), true, Some(41))?;
+    all &= take(tree, 40);
+    all &= tree.stands_between(&cursor, Some(39), false, Some(41))?;
     Ok(all)
 }
 

@@ -166,7 +166,7 @@ fn are_ranked<A: Grouping>(alloc: Global) -> Result<bool, AllocError> {
         ((2, 3), false, 0),
         ((5, 0), false, 0),
     ] {
-        all = all && has_rank(&map, key, present, wanted);
+        all &= has_rank(&map, key, present, wanted);
     }
     Ok(all)
 }
@@ -182,13 +182,13 @@ fn are_sized<A: Grouping, W: DescendVisit<Pair, u64, A, Result = usize>>(
 ) -> Result<bool, AllocError> {
     let map: BPlusTreeMap<Pair, u64, A> = collect_by(alloc, 1050, 500)?;
     let mut all = has_groups(&map, 3);
-    all = all && has_size(&map, zero, 500) && has_size(&map, one, 500);
-    all = all && has_size(&map, two, 50) && has_size(&map, seven, 0);
+    all &= has_size(&map, zero, 500) && has_size(&map, one, 500);
+    all &= has_size(&map, two, 50) && has_size(&map, seven, 0);
     for (group, place, wanted) in [(0, 499, 499), (1, 0, 0), (2, 49, 49)] {
-        all = all && has_place(&map, group, place, wanted);
+        all &= has_place(&map, group, place, wanted);
     }
     for (group, size) in [(0, 500), (1, 500), (2, 50), (7, 0)] {
-        all = all && has_no_place(&map, group, size) && has_pairs(&map, group, size)?;
+        all &= has_no_place(&map, group, size) && has_pairs(&map, group, size)?;
     }
     for (group, p, first, len) in [
         (0, 24, 480, 20),
@@ -198,11 +198,11 @@ fn are_sized<A: Grouping, W: DescendVisit<Pair, u64, A, Result = usize>>(
         (2, usize::MAX, 0, 0),
         (7, 0, 0, 0),
     ] {
-        all = all && has_page(&map, group, p, first, len)?;
+        all &= has_page(&map, group, p, first, len)?;
     }
-    all = all && has_rank(&map, (1, 250), true, 250);
+    all &= has_rank(&map, (1, 250), true, 250);
     let copy = map.clone()?;
-    all = all && has_groups(&copy, 3) && has_place(&copy, 2, 49, 49);
+    all &= has_groups(&copy, 3) && has_place(&copy, 2, 49, 49);
     Ok(all && has_rank(&copy, (1, 250), true, 250) && has_no_place(&copy, 2, 50))
 }
 
@@ -224,11 +224,11 @@ fn one_group_comes_and_goes<A: Grouping, W: DescendVisit<Pair, u64, A, Result = 
 ) -> Result<bool, AllocError> {
     let mut map: BPlusTreeMap<Pair, u64, A> = collect(alloc, &[])?;
     let mut all = has_groups(&map, 0) && has_size(&map, before, 0);
-    all = all && put(&mut map, (1, 1), 100) && has_groups(&map, 1);
-    all = all && take(&mut map, (1, 1), 100) && has_groups(&map, 0);
-    all = all && put(&mut map, (1, 1), 100) && put(&mut map, (1, 2), 101);
-    all = all && has_groups(&map, 1) && has_size(&map, after, 2);
-    all = all && has_place(&map, 1, 0, 100) && has_place(&map, 1, 1, 101);
+    all &= put(&mut map, (1, 1), 100) && has_groups(&map, 1);
+    all &= take(&mut map, (1, 1), 100) && has_groups(&map, 0);
+    all &= put(&mut map, (1, 1), 100) && put(&mut map, (1, 2), 101);
+    all &= has_groups(&map, 1) && has_size(&map, after, 2);
+    all &= has_place(&map, 1, 0, 100) && has_place(&map, 1, 1, 101);
     Ok(all && has_no_place(&map, 1, 3) && has_rank(&map, (1, 0), false, 0))
 }
 

@@ -141,18 +141,18 @@ pub fn come_in_turn<P: Walked>(mut pairs: P, keys: &[u64], more: u64) -> bool {
     let mut left = keys;
     let mut all = true;
     for turn in 0..keys.len() {
-        all = all && pairs.left() == left.len();
+        all &= pairs.left() == left.len();
         if turn % 2 == 0 {
             let Some((key, rest)) = left.split_first() else {
                 return false;
             };
-            all = all && pairs.front() == Some((*key, key.wrapping_add(more)));
+            all &= pairs.front() == Some((*key, key.wrapping_add(more)));
             left = rest;
         } else {
             let Some((key, rest)) = left.split_last() else {
                 return false;
             };
-            all = all && pairs.back() == Some((*key, key.wrapping_add(more)));
+            all &= pairs.back() == Some((*key, key.wrapping_add(more)));
             left = rest;
         }
     }
@@ -169,7 +169,7 @@ pub fn come_backward<P: Walked>(mut pairs: P, end: u64, more: u64) -> bool {
     let mut all = true;
     for turn in 0..end {
         let key = end - 1 - turn;
-        all = all && pairs.back() == Some((key, key.wrapping_add(more)));
+        all &= pairs.back() == Some((key, key.wrapping_add(more)));
     }
     all && is_at_the_end(pairs)
 }
@@ -180,7 +180,7 @@ pub fn come_by_tens<P: Walked>(mut pairs: P, end: u64, more: u64) -> bool {
     let mut all = pairs.left() as u64 == end;
     for key in 0..end {
         let value = key.wrapping_mul(10).wrapping_add(more);
-        all = all && pairs.front() == Some((key, value));
+        all &= pairs.front() == Some((key, value));
     }
     all && is_at_the_end(pairs)
 }
@@ -239,7 +239,7 @@ pub fn has_leaves<T: Ranked>(tree: &T, wanted: &[Ends]) -> Result<bool, AllocErr
     let (leaves, is_well) = tree.leaves()?;
     let mut all = is_well && leaves.len() == wanted.len();
     for (leaf, ends) in leaves.iter().zip(wanted) {
-        all = all && *leaf == *ends;
+        all &= *leaf == *ends;
     }
     Ok(all)
 }

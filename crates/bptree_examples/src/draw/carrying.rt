@@ -9,8 +9,8 @@ use sweep_bptree::BPlusTreeMap;
 use sweep_bptree::tree::InsertError;
 use sweep_bptree::tree::count::Count;
 
-/// Puts a pair; in a map with no place for a new key nothing changes.
-pub fn put(map: &mut BPlusTreeMap<u64, u64, Count>, key: u64, value: u64) -> Result<(), AllocError>
+// Puts a pair; in a map with no place for a new key nothing changes.
+fn put(map: &mut BPlusTreeMap<u64, u64, Count>, key: u64, value: u64) -> Result<(), AllocError>
     ensures pairs { OnOk result (map.new ≡ pairs_with_put map.old key value) }
     ensures refused { OnErr result (map.new ≡ map.old) }
 {

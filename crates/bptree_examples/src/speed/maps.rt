@@ -58,27 +58,52 @@ fn pop_all(rt: &HostRuntime, map: &mut Plain, other: &mut Plain) -> Result<(), A
     Ok(())
 }
 
-// The upper half of the pairs leaves and comes back, for each pair that moves; and then every
-// second pair leaves, for each pair.
-fn move_half(rt: &HostRuntime, map: &mut Plain, middle: u64) -> Result<(), AllocError> {
-    let many = map.len();
+// The upper half of the pairs leaves, for each pair that moves.
+fn split_off(rt: &HostRuntime, map: &mut Plain, middle: u64) -> Result<Plain, AllocError> {
     let start = now(rt);
-    let Ok(mut half) = map.split_off(&middle) else {
+    let Ok(half) = map.split_off(&middle) else {
         return Err(AllocError);
     };
+    tell(rt, "plain", "splitoff", start, half.len(), map.len() as u64);
+    Ok(half)
+}
+
+// It comes back.
+fn append(rt: &HostRuntime, map: &mut Plain, half: &mut Plain) -> Result<(), AllocError> {
     let moved = half.len();
-    tell(rt, "plain", "splitoff", start, moved, map.len() as u64);
     let start = now(rt);
-    if map.append(&mut half).is_err() {
+    if map.append(half).is_err() {
         return Err(AllocError);
     }
     tell(rt, "plain", "append", start, moved, map.len() as u64);
+    Ok(())
+}
+
+// Every second pair leaves, for each pair.
+fn retain(rt: &HostRuntime, map: &mut Plain) -> Result<(), AllocError> {
+    let many = map.len();
     let start = now(rt);
     if map.retain(|key: &u64, _: &mut u64| *key % 4 == 1).is_err() {
         return Err(AllocError);
     }
     tell(rt, "plain", "retain", start, many, map.len() as u64);
     Ok(())
+}
+
+// Pairs of a map of the keys move, and leave.
+fn move_half(rt: &HostRuntime, keys: &[u64], middle: u64) -> Result<(), AllocError> {
+    let mut map = made(rt, keys)?;
+    let mut half = split_off(rt, &mut map, middle)?;
+    append(rt, &mut map, &mut half)?;
+    retain(rt, &mut map)
+}
+
+// Two maps of the keys are read and emptied.
+fn read_and_pop(rt: &HostRuntime, keys: &[u64], others: &[u64]) -> Result<(), AllocError> {
+    let mut map = made(rt, keys)?;
+    let mut other = made(rt, keys)?;
+    read_all(rt, &map, others);
+    pop_all(rt, &mut map, &mut other)
 }
 
 /// The calls of maps that have the keys, for each key.
@@ -88,11 +113,7 @@ pub fn take(
     others: &[u64],
     sorted: &[u64],
 ) -> Result<(), AllocError> {
-    let mut map = made(rt, keys)?;
-    let mut other = made(rt, keys)?;
-    read_all(rt, &map, others);
     let middle = sorted.get(sorted.len() / 2).copied().unwrap_or(0);
-    move_half(rt, &mut other, middle)?;
-    let mut other = made(rt, keys)?;
-    pop_all(rt, &mut map, &mut other)
+    move_half(rt, keys, middle)?;
+    read_and_pop(rt, keys, others)
 }

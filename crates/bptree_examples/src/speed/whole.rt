@@ -35,17 +35,23 @@ fn every_second(
     BPlusTreeSet::from_iter(alloc, keys)
 }
 
+// The sum of the keys of the union of two sets, and how many there are.
+fn sum_of_union(first: &BPlusTreeSet<u64>, second: &BPlusTreeSet<u64>) -> (u64, usize) {
+    let mut sum = 0u64;
+    let mut many = 0usize;
+    for key in first.union(second) {
+        sum = sum.wrapping_add(*key);
+        many = many.wrapping_add(1);
+    }
+    (sum, many)
+}
+
 /// The union of two sets that have a quarter of all keys in common, for each key of the union.
 pub fn union_all(rt: &HostRuntime, sorted: &[u64]) -> Result<(), AllocError> {
     let first = every_second(rt.alloc(), sorted, 0)?;
     let second = every_second(rt.alloc(), sorted, 1)?;
     let start = now(rt);
-    let mut sum = 0u64;
-    let mut many = 0usize;
-    for key in first.union(&second) {
-        sum = sum.wrapping_add(*key);
-        many = many.wrapping_add(1);
-    }
+    let (sum, many) = sum_of_union(&first, &second);
     tell(rt, "plain", "union", start, many, sum);
     Ok(())
 }
