@@ -64,34 +64,48 @@ fn answer_at<P: Places>(
     })
 }
 
+// Whether a command is answered as it has to be.
+fn is_answered<C: Calls>(alloc: Global, calls: &mut C, asked: &Asked, wanted: &Answered) -> bool {
+    let Ok(reply) = answer(alloc, calls, asked) else {
+        return false;
+    };
+    is_same(&reply, wanted)
+}
+
 /// Whether the commands are answered, by one call each, as they have to be.
-pub fn carry_out<C: Calls>(alloc: Global, calls: &mut C, talk: &Talk) -> Result<bool, AllocError> {
+pub fn carry_out<C: Calls>(alloc: Global, calls: &mut C, talk: &Talk) -> bool {
     let mut well = talk.asked.len() == talk.wanted.len();
     for (asked, wanted) in talk.asked.iter().zip(&talk.wanted) {
-        well &= is_same(&answer(alloc, calls, asked)?, wanted);
+        well &= is_answered(alloc, calls, asked, wanted);
     }
-    Ok(well)
+    well
+}
+
+// Whether a summary tells that there are so many keys.
+fn tells(summary: Result<Count, AllocError>, many: usize) -> bool {
+    let Ok(summary) = summary else {
+        return false;
+    };
+    summary.count() == many
 }
 
 // Whether the counts of the keys below a key and from it on are right, where so many are below it.
-fn is_counted(
-    map: &BPlusTreeMap<Text, u64, Count>,
-    key: &Text,
-    below: usize,
-) -> Result<bool, AllocError> {
+fn is_counted(map: &BPlusTreeMap<Text, u64, Count>, key: &Text, below: usize) -> bool {
     let from = map.len().saturating_sub(below);
-    let by_counts = map.range_len(None, Some(key)) == below
-        && map.range_len(Some(key), None) == from;
-    let low = map.range_argument(None, Some(key))?.count();
-    let high = map.range_argument(Some(key), None)?.count();
-    Ok(by_counts && low == below && high == from && map.range_len(Some(key), Some(key)) == 0)
+    let mut well = map.range_len(None, Some(key)) == below;
+    well &= map.range_len(Some(key), None) == from;
+    well &= tells(map.range_argument(None, Some(key)), below);
+    well &= tells(map.range_argument(Some(key), None), from);
+    well &= map.range_len(Some(key), Some(key)) == 0;
+    well
 }
 
 // The same of the keys from a place on, and of those before it.
-fn is_counted_at(map: &BPlusTreeMap<Text, u64, Count>, place: usize) -> Result<bool, AllocError> {
-    let before = map.part_argument(0, place)?.count();
-    let from = map.part_argument(place, usize::MAX)?.count();
-    Ok(before == place.min(map.len()) && from == map.len().saturating_sub(place))
+fn is_counted_at(map: &BPlusTreeMap<Text, u64, Count>, place: usize) -> bool {
+    let mut well = tells(map.part_argument(0, place), place.min(map.len()));
+    let from = map.len().saturating_sub(place);
+    well &= tells(map.part_argument(place, usize::MAX), from);
+    well
 }
 
 // Writes a value where there is one.
@@ -147,7 +161,7 @@ impl Places for BPlusTreeMap<Text, u64, Count> {
     fn at(&self, place: usize) -> Result<Option<(u64, u64)>, AllocError> {
         let pair = numbers(self.get_by_argument(place)?);
         let same = numbers(self.get_at(place)) == pair;
-        Ok(if is_counted_at(self, place)? && same {
+        Ok(if is_counted_at(self, place) && same {
             pair
         } else {
             WRONG
@@ -163,7 +177,7 @@ impl Places for BPlusTreeMap<Text, u64, Count> {
             Err(below) => *below,
         };
         let same = self.place_of(&key) == (if rank.is_ok() { Some(below) } else { None });
-        Ok(if is_counted(self, &key, below)? && same {
+        Ok(if is_counted(self, &key, below) && same {
             rank
         } else {
             Err(usize::MAX)

@@ -20,7 +20,7 @@ use sweep_bptree::tree::{
 use sweep_bptree::{BPlusTreeMap, BPlusTreeSet, CloneStore};
 
 /// What holds pairs, and is empty at first. Each call answers false where a reply or what is held
-/// is not as the list has it.
+/// is not as the list has it, and where memory was refused.
 pub trait Holds: Drop {
     fn begin(alloc: Global) -> Result<Self, AllocError>;
 
@@ -28,13 +28,13 @@ pub trait Holds: Drop {
     fn kinds(turn: u64) -> Kinds;
 
     /// Whether the commands are answered as they have to be.
-    fn answers(&mut self, alloc: Global, talk: Talk) -> Result<bool, AllocError>;
+    fn answers(&mut self, alloc: Global, talk: Talk) -> bool;
 
     /// Now and then another one with the same pairs goes on in its place.
-    fn renews(&mut self, alloc: Global, plain: &Plain, turn: u64) -> Result<bool, AllocError>;
+    fn renews(&mut self, alloc: Global, plain: &Plain, turn: u64) -> bool;
 
     /// Whether the pairs are those of the list.
-    fn shows(&self, alloc: Global, plain: &Plain) -> Result<bool, AllocError>;
+    fn shows(&self, alloc: Global, plain: &Plain) -> bool;
 }
 
 // The key that a number makes, if there is one.
@@ -99,18 +99,16 @@ fn pairs_on_keys<K: Sample>(
 }
 
 /// A run of commands on a tree.
-pub fn runs<S: NodeStore<V = u64>>(
-    alloc: Global,
-    tree: &mut BPlusTree<S>,
-    talk: Talk,
-) -> Result<bool, AllocError>
+pub fn runs<S: NodeStore<V = u64>>(alloc: Global, tree: &mut BPlusTree<S>, talk: Talk) -> bool
 where
     S::K: Sample,
     S::Argument: SearchArgument<S::K, Query = usize> + RankArgument<S::K, Rank = usize>,
 {
-    let commands = all_on_keys(alloc, talk.asked)?;
+    let Ok(commands) = all_on_keys(alloc, talk.asked) else {
+        return false;
+    };
     let (replies, error) = run(alloc, tree, commands);
-    Ok(error.is_none() && are_same(&replies, &talk.wanted))
+    error.is_none() && are_same(&replies, &talk.wanted)
 }
 
 // Whether a tree has the pairs of a list: two are taken from the front for each from the back.
@@ -207,38 +205,58 @@ where
 
 // Whether pairs are those of a list from one place up to another: one is taken from the back, two
 // from the front, and the rest of a clone. How many are left is asked before and after.
-fn is_part<S: NodeStore<V = u64>>(
-    pairs: Iter<'_, S>,
-    plain: &Plain,
-    from: usize,
-    to: usize,
-) -> Result<bool, AllocError>
+fn is_part<S: NodeStore<V = u64>>(pairs: Iter<'_, S>, plain: &Plain, from: usize, to: usize) -> bool
 where
     S::K: Sample,
 {
     let mut pairs = pairs;
     let mut well = pairs.len() == to.saturating_sub(from);
     let (are_right, front, back) = takes_three(&mut pairs, plain, from, to);
-    well &= are_right && pairs.len() == back.saturating_sub(front);
-    well &= is_rest(pairs.clone()?, plain, front, back);
-    Ok(pairs.len() == back.saturating_sub(front) && well)
+    let left = back.saturating_sub(front);
+    well &= are_right;
+    well &= pairs.len() == left;
+    let Ok(rest) = pairs.clone() else {
+        return false;
+    };
+    well &= is_rest(rest, plain, front, back);
+    pairs.len() == left && well
+}
+
+// The same of pairs that a call found.
+fn is_found_part<S: NodeStore<V = u64>>(
+    pairs: Result<Iter<'_, S>, AllocError>,
+    plain: &Plain,
+    from: usize,
+    to: usize,
+) -> bool
+where
+    S::K: Sample,
+{
+    let Ok(pairs) = pairs else {
+        return false;
+    };
+    is_part(pairs, plain, from, to)
+}
+
+// Whether a summary tells that there are so many keys.
+fn tells<S: NodeStore>(summary: Result<S::Argument, AllocError>, many: usize) -> bool {
+    let Ok(summary) = summary else {
+        return false;
+    };
+    summary.key_count() == Some(many)
 }
 
 // Whether the summaries of the keys from one place up to another, and up to the end, tell how many
 // there are.
-fn is_summed<S: NodeStore<V = u64>>(
-    tree: &BPlusTree<S>,
-    from: usize,
-    to: usize,
-) -> Result<bool, AllocError>
+fn is_summed<S: NodeStore<V = u64>>(tree: &BPlusTree<S>, from: usize, to: usize) -> bool
 where
     S::K: Sample,
     S::Argument: SearchArgument<S::K, Query = usize>,
 {
-    let part = tree.part_argument(from, to)?;
-    let rest = tree.part_argument(from, usize::MAX)?;
+    let mut well = tells::<S>(tree.part_argument(from, to), to.saturating_sub(from));
     let left = tree.len().saturating_sub(from);
-    Ok(part.key_count() == Some(to.saturating_sub(from)) && rest.key_count() == Some(left))
+    well &= tells::<S>(tree.part_argument(from, usize::MAX), left);
+    well
 }
 
 // Whether the pairs of a tree between two keys are those of a list between two places, and their
@@ -249,13 +267,13 @@ fn is_between<S: NodeStore<V = u64>>(
     (lo, hi): (Option<&S::K>, Option<&S::K>),
     from: usize,
     to: usize,
-) -> Result<bool, AllocError>
+) -> bool
 where
     S::K: Sample,
 {
-    let well = is_part(tree.range(lo, hi), plain, from, to)?;
-    let summary = tree.range_argument(lo, hi)?;
-    Ok(well && summary.key_count() == Some(to.saturating_sub(from)))
+    let mut well = is_part(tree.range(lo, hi), plain, from, to);
+    well &= tells::<S>(tree.range_argument(lo, hi), to.saturating_sub(from));
+    well
 }
 
 // Whether so many pairs from a place on, and all from there on, are those of a list.
@@ -264,15 +282,16 @@ fn is_behind<S: NodeStore<V = u64>>(
     plain: &Plain,
     from: usize,
     to: usize,
-) -> Result<bool, AllocError>
+) -> bool
 where
     S::K: Sample,
     S::Argument: SearchArgument<S::K, Query = usize>,
 {
-    let part = tree.range_by_argument(from, to.saturating_sub(from))?;
-    let well = is_part(part, plain, from, to)?;
-    let rest = tree.range_by_argument(from, usize::MAX)?;
-    Ok(is_part(rest, plain, from, plain.len().max(from))? && well)
+    let part = tree.range_by_argument(from, to.saturating_sub(from));
+    let mut well = is_found_part(part, plain, from, to);
+    let rest = tree.range_by_argument(from, usize::MAX);
+    well &= is_found_part(rest, plain, from, plain.len().max(from));
+    well
 }
 
 // Whether a tree has the part of a list from one place up to another, by keys and by places. An end
@@ -283,26 +302,28 @@ fn has_part<S: NodeStore<V = u64>>(
     plain: &Plain,
     from: usize,
     to: usize,
-) -> Result<bool, AllocError>
+) -> bool
 where
     S::K: Sample,
     S::Argument: SearchArgument<S::K, Query = usize>,
 {
     let first = if from == 0 { None } else { plain.key_at(from) };
-    let lo: Option<S::K> = some_key(alloc, &first)?;
-    let hi: Option<S::K> = some_key(alloc, &plain.key_at(to))?;
+    let Ok(lo) = some_key::<S::K>(alloc, &first) else {
+        return false;
+    };
+    let Ok(hi) = some_key::<S::K>(alloc, &plain.key_at(to)) else {
+        return false;
+    };
     let end = to.min(plain.len()).max(from);
-    let well = is_between(tree, plain, (lo.as_ref(), hi.as_ref()), from, end)?;
-    Ok(is_behind(tree, plain, from, end)? && is_summed(tree, from, end)? && well)
+    let mut well = is_between(tree, plain, (lo.as_ref(), hi.as_ref()), from, end);
+    well &= is_behind(tree, plain, from, end);
+    well &= is_summed(tree, from, end);
+    well
 }
 
 // Whether a tree has the parts of a list: with open ends, empty ones, one of one key, and one whose
 // ends fall.
-fn has_parts<S: NodeStore<V = u64>>(
-    alloc: Global,
-    tree: &BPlusTree<S>,
-    plain: &Plain,
-) -> Result<bool, AllocError>
+fn has_parts<S: NodeStore<V = u64>>(alloc: Global, tree: &BPlusTree<S>, plain: &Plain) -> bool
 where
     S::K: Sample,
     S::Argument: SearchArgument<S::K, Query = usize>,
@@ -323,10 +344,10 @@ where
     for (from, to) in places {
         // No key stands at the end, so none can begin there.
         if from == 0 || from < len {
-            well &= has_part(alloc, tree, plain, from, to)?;
+            well &= has_part(alloc, tree, plain, from, to);
         }
     }
-    Ok(well)
+    well
 }
 
 // The pairs of a tree that is given away, from the back.
@@ -344,6 +365,34 @@ where
     pairs.next().is_none() && well
 }
 
+// A tree that is loaded with what a list holds, each pair after one of the same key with another
+// value.
+fn loaded_twice<S: NodeStore<V = u64>>(
+    alloc: Global,
+    plain: &Plain,
+) -> Result<BPlusTree<S>, AllocError>
+where
+    S::K: Sample,
+{
+    loaded(pairs_on_keys(alloc, &plain.doubled()?)?)
+}
+
+// Another tree goes on in the place of one, which is given away.
+fn is_replaced<S: NodeStore<V = u64>>(
+    tree: &mut BPlusTree<S>,
+    next: Result<BPlusTree<S>, AllocError>,
+    plain: &Plain,
+) -> bool
+where
+    S::K: Sample,
+{
+    let Ok(next) = next else {
+        return false;
+    };
+    let before = mem::replace(tree, next);
+    gives_back(before, plain)
+}
+
 impl<S: CloneStore<V = u64>> Holds for BPlusTree<S>
 where
     S::K: Sample,
@@ -359,27 +408,36 @@ where
         Kinds::Tree
     }
 
-    fn answers(&mut self, alloc: Global, talk: Talk) -> Result<bool, AllocError> {
+    fn answers(&mut self, alloc: Global, talk: Talk) -> bool {
         runs(alloc, self, talk)
     }
 
-    // It is a clone, or one that is loaded with what the list holds, each pair after one of the
-    // same key with another value. Or some pairs leave and are put again.
-    fn renews(&mut self, alloc: Global, plain: &Plain, turn: u64) -> Result<bool, AllocError> {
-        let next = match turn % 5 {
-            0 => self.clone()?,
-            1 => loaded(pairs_on_keys(alloc, &plain.doubled()?)?)?,
-            2 => return leave_and_return(alloc, self, plain),
-            _ => return Ok(true),
-        };
-        let before = mem::replace(self, next);
-        Ok(gives_back(before, plain))
+    // It is a clone, or one that is loaded with what the list holds. Or some pairs leave and are
+    // put again.
+    fn renews(&mut self, alloc: Global, plain: &Plain, turn: u64) -> bool {
+        match turn % 5 {
+            0 => {
+                let next = self.clone();
+                is_replaced(self, next, plain)
+            }
+            1 => is_replaced(self, loaded_twice(alloc, plain), plain),
+            2 => leave_and_return(alloc, self, plain),
+            _ => true,
+        }
     }
 
-    fn shows(&self, alloc: Global, plain: &Plain) -> Result<bool, AllocError> {
-        let found = are_found(alloc, self, plain)?;
-        Ok(found && has_all(self, plain) && has_parts(alloc, self, plain)?)
+    fn shows(&self, alloc: Global, plain: &Plain) -> bool {
+        let mut well = are_found(alloc, self, plain);
+        well &= has_all(self, plain);
+        well &= has_parts(alloc, self, plain);
+        well
     }
+}
+
+// A map that is collected from what a list holds, twice, in two orders.
+fn collected(alloc: Global, plain: &Plain) -> Result<BPlusTreeMap<Text, u64, Count>, AllocError> {
+    let pairs = pairs_on_keys(alloc, &plain.both_ways()?)?;
+    BPlusTreeMap::from_iter(alloc, pairs)
 }
 
 impl Holds for BPlusTreeMap<Text, u64, Count> {
@@ -396,21 +454,22 @@ impl Holds for BPlusTreeMap<Text, u64, Count> {
     }
 
     // Some turns are runs on its tree.
-    fn answers(&mut self, alloc: Global, talk: Talk) -> Result<bool, AllocError> {
+    fn answers(&mut self, alloc: Global, talk: Talk) -> bool {
         match talk.kinds {
             Kinds::Tree => runs(alloc, self.tree_mut(), talk),
             _ => carry_out(alloc, self, &talk),
         }
     }
 
-    // It is collected from what the list holds, twice, in two orders; or many pairs leave and come
-    // back.
-    fn renews(&mut self, alloc: Global, plain: &Plain, turn: u64) -> Result<bool, AllocError> {
+    // It is collected from what the list holds; or many pairs leave and come back.
+    fn renews(&mut self, alloc: Global, plain: &Plain, turn: u64) -> bool {
         match turn % 7 {
             0 => {
-                let pairs = pairs_on_keys(alloc, &plain.both_ways()?)?;
-                *self = BPlusTreeMap::from_iter(alloc, pairs)?;
-                Ok(true)
+                let Ok(next) = collected(alloc, plain) else {
+                    return false;
+                };
+                *self = next;
+                true
             }
             1 => leave_and_join(alloc, self, plain, plain.len() / 2),
             2 => is_mended(alloc, self, plain, false),
@@ -421,7 +480,7 @@ impl Holds for BPlusTreeMap<Text, u64, Count> {
         }
     }
 
-    fn shows(&self, alloc: Global, plain: &Plain) -> Result<bool, AllocError> {
+    fn shows(&self, alloc: Global, plain: &Plain) -> bool {
         let mut pairs = self.iter();
         let mut well = pairs.len() == plain.len();
         for place in 0..plain.len() {
@@ -430,8 +489,10 @@ impl Holds for BPlusTreeMap<Text, u64, Count> {
         let last = plain.len().saturating_sub(1);
         well &= plain.pair_at(0) == numbers(self.first());
         well &= plain.pair_at(last) == numbers(self.last());
-        well &= pairs.next().is_none() && has_all(self.tree(), plain);
-        Ok(shows_parts(alloc, self, plain)? && well)
+        well &= pairs.next().is_none();
+        well &= has_all(self.tree(), plain);
+        well &= shows_parts(alloc, self, plain);
+        well
     }
 }
 
@@ -446,6 +507,11 @@ fn most_keys(alloc: Global, plain: &Plain) -> Result<Vec<Text>, AllocError> {
         }
     }
     Ok(keys)
+}
+
+// A set of these keys.
+fn most_of(alloc: Global, plain: &Plain) -> Result<BPlusTreeSet<Text>, AllocError> {
+    BPlusTreeSet::from_iter(alloc, most_keys(alloc, plain)?)
 }
 
 // Whether a set that lacks every third key of another, from the first on, is told to be a subset of
@@ -505,12 +571,12 @@ impl Holds for BPlusTreeSet<Text> {
         Kinds::Set
     }
 
-    fn answers(&mut self, alloc: Global, talk: Talk) -> Result<bool, AllocError> {
+    fn answers(&mut self, alloc: Global, talk: Talk) -> bool {
         carry_out(alloc, self, &talk)
     }
 
     // Keys leave, and come back.
-    fn renews(&mut self, alloc: Global, plain: &Plain, turn: u64) -> Result<bool, AllocError> {
+    fn renews(&mut self, alloc: Global, plain: &Plain, turn: u64) -> bool {
         match turn % 5 {
             0 => keys_leave_and_return(alloc, self, plain),
             1 => keys_leave_and_join(alloc, self, plain, plain.len() / 2),
@@ -521,12 +587,16 @@ impl Holds for BPlusTreeSet<Text> {
     }
 
     // Also beside a set of all of them but some.
-    fn shows(&self, alloc: Global, plain: &Plain) -> Result<bool, AllocError> {
-        let other = BPlusTreeSet::from_iter(alloc, most_keys(alloc, plain)?)?;
-        let mut well = self.iter().len() == plain.len() && is_beside(self, &other);
+    fn shows(&self, alloc: Global, plain: &Plain) -> bool {
+        let Ok(other) = most_of(alloc, plain) else {
+            return false;
+        };
+        let mut well = self.iter().len() == plain.len();
+        well &= is_beside(self, &other);
         well &= has_union(self, &other, plain);
         well &= has_difference(self, &other, plain);
         well &= has_shared(self, &other, plain);
-        Ok(shows_keys(alloc, self, plain)? && well)
+        well &= shows_keys(alloc, self, plain);
+        well
     }
 }

@@ -1,7 +1,7 @@
 //! Hostile use: odd keys, false hints, foreign visitors, and calls in no order beside a plain list.
 //! Each byte of standard input names what is to be done, and for each its name is printed, and
-//! whether all was as it should be. At an `e` stand cases of the functions of shards instead, each
-//! with its answer.
+//! whether all was as it should be. Where memory was refused, it was not. At an `e` stand cases of
+//! the functions of shards instead, each with its answer.
 #![tactic(auto)]
 
 mod calls;
@@ -18,7 +18,7 @@ mod shards;
 mod whole;
 
 use crate::rounds::Counted;
-use std::alloc::{AllocError, Global};
+use std::alloc::Global;
 use std::io::Read;
 use std::process::ExitCode;
 
@@ -41,7 +41,7 @@ fn name_of(letter: u8) -> &'static str {
 }
 
 // Whether what a byte names went well.
-fn carry_out(alloc: Global, letter: u8, seed: u64) -> Result<bool, AllocError> {
+fn carry_out(alloc: Global, letter: u8, seed: u64) -> bool {
     match letter {
         b'a' | b'b' | b'c' | b'd' => rows::known_pairs::<Counted<u64>>(alloc, letter),
         b't' | b'T' => rounds::on_trees::<u64>(alloc, letter, seed),
@@ -50,7 +50,7 @@ fn carry_out(alloc: Global, letter: u8, seed: u64) -> Result<bool, AllocError> {
         b'k' | b'K' => rounds::on_sets(alloc, letter, seed),
         b'h' | b'H' => shards::no_order::<u64>(alloc, letter, seed),
         b'r' | b'R' => shards::no_order::<String>(alloc, letter, seed),
-        _ => Ok(false),
+        _ => false,
     }
 }
 
@@ -68,10 +68,8 @@ fn main(rt: HostRuntime) -> ExitCode {
             all &= routes::tell_all(&rt);
             continue;
         }
-        let (name, well) = match carry_out(rt.alloc(), *letter, seed as u64) {
-            Ok(well) => (name_of(*letter), well),
-            Err(_) => ("out of memory", false),
-        };
+        let well = carry_out(rt.alloc(), *letter, seed as u64);
+        let name = name_of(*letter);
         let word = if well { "ok" } else { "failed" };
         all = println!(rt; "{name}: {word}").is_ok() && well && all;
     }

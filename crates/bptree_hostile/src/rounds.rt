@@ -3,7 +3,7 @@
 use crate::dice::{Sample, Text};
 use crate::drawing::Drawing;
 use crate::holds::Holds;
-use std::alloc::{AllocError, Global};
+use std::alloc::Global;
 use sweep_bptree::tree::BPlusTree;
 use sweep_bptree::tree::count::Count;
 use sweep_bptree::{BPlusTreeMap, BPlusTreeSet, NodeStoreVec};
@@ -15,27 +15,27 @@ pub const CALLS: u64 = 20_000;
 pub const RUN: u64 = 400;
 
 // More pairs are put than are taken in six turns of ten, and fewer in the others.
-fn turns<H: Holds>(
-    alloc: Global,
-    holder: &mut H,
-    drawing: &mut Drawing,
-    turn: u64,
-) -> Result<bool, AllocError> {
+fn turns<H: Holds>(alloc: Global, holder: &mut H, drawing: &mut Drawing, turn: u64) -> bool {
     drawing.put_of_ten(if turn % 10 < 6 { 7 } else { 3 });
-    let talk = drawing.talk(H::kinds(turn), RUN)?;
-    let mut well = holder.answers(alloc, talk)?;
-    well &= holder.renews(alloc, &drawing.plain, turn)?;
-    Ok(holder.shows(alloc, &drawing.plain)? && well)
+    let Ok(talk) = drawing.talk(H::kinds(turn), RUN) else {
+        return false;
+    };
+    let mut well = holder.answers(alloc, talk);
+    well &= holder.renews(alloc, &drawing.plain, turn);
+    well &= holder.shows(alloc, &drawing.plain);
+    well
 }
 
-fn round<H: Holds>(alloc: Global, seed: u64, end: u64) -> Result<bool, AllocError> {
+fn round<H: Holds>(alloc: Global, seed: u64, end: u64) -> bool {
     let mut drawing = Drawing::new(alloc, seed, end);
-    let mut holder: H = H::begin(alloc)?;
+    let Ok(mut holder) = H::begin(alloc) else {
+        return false;
+    };
     let mut well = true;
     for turn in 0..CALLS / RUN {
-        well &= turns(alloc, &mut holder, &mut drawing, turn)?;
+        well &= turns(alloc, &mut holder, &mut drawing, turn);
     }
-    Ok(well)
+    well
 }
 
 /// A store of the library's.
@@ -51,16 +51,16 @@ fn end_of(letter: u8) -> u64 {
 }
 
 /// Calls of trees in no order, with keys of one type.
-pub fn on_trees<K: Sample>(alloc: Global, letter: u8, seed: u64) -> Result<bool, AllocError> {
+pub fn on_trees<K: Sample>(alloc: Global, letter: u8, seed: u64) -> bool {
     round::<BPlusTree<Counted<K>>>(alloc, seed, end_of(letter))
 }
 
 /// The same of maps.
-pub fn on_maps(alloc: Global, letter: u8, seed: u64) -> Result<bool, AllocError> {
+pub fn on_maps(alloc: Global, letter: u8, seed: u64) -> bool {
     round::<BPlusTreeMap<Text, u64, Count>>(alloc, seed, end_of(letter))
 }
 
 /// The same of sets.
-pub fn on_sets(alloc: Global, letter: u8, seed: u64) -> Result<bool, AllocError> {
+pub fn on_sets(alloc: Global, letter: u8, seed: u64) -> bool {
     round::<BPlusTreeSet<Text>>(alloc, seed, end_of(letter))
 }

@@ -44,16 +44,18 @@ pub trait Known: Drop {
 
     fn visit(&self, says: Says) -> Result<Option<usize>, DescendError>;
 
-    fn put(&mut self, key: u64, value: u64) -> Result<Option<u64>, AllocError>;
+    /// Whether a pair is put whose key was not there.
+    fn put(&mut self, key: u64, value: u64) -> bool;
 
-    fn take(&mut self, key: u64) -> Result<Option<u64>, AllocError>;
+    /// Whether a pair leaves.
+    fn take(&mut self, key: u64) -> bool;
 
     fn count(&self) -> usize;
 
     /// Whether a walk over all nodes finds them as they have to be.
-    fn is_well(&self) -> Result<bool, AllocError>;
+    fn is_well(&self) -> bool;
 
-    fn answers(&mut self, alloc: Global, talk: Talk) -> Result<bool, AllocError>;
+    fn answers(&mut self, alloc: Global, talk: Talk) -> bool;
 }
 
 impl<S: NodeStore<K = u64, V = u64, Argument = Count>> Known for BPlusTree<S> {
@@ -106,26 +108,32 @@ impl<S: NodeStore<K = u64, V = u64, Argument = Count>> Known for BPlusTree<S> {
         self.descend_visit(says)
     }
 
-    fn put(&mut self, key: u64, value: u64) -> Result<Option<u64>, AllocError> {
-        match self.insert(key, value) {
-            Ok(old) => Ok(old),
-            Err(_) => Err(AllocError),
-        }
+    fn put(&mut self, key: u64, value: u64) -> bool {
+        let Ok(old) = self.insert(key, value) else {
+            return false;
+        };
+        old.is_none()
     }
 
-    fn take(&mut self, key: u64) -> Result<Option<u64>, AllocError> {
-        self.remove(&key)
+    fn take(&mut self, key: u64) -> bool {
+        let Ok(gone) = self.remove(&key) else {
+            return false;
+        };
+        gone.is_some()
     }
 
     fn count(&self) -> usize {
         self.len()
     }
 
-    fn is_well(&self) -> Result<bool, AllocError> {
-        Ok(is_well_shaped(self)? && is_counted(self))
+    fn is_well(&self) -> bool {
+        let Ok(well) = is_well_shaped(self) else {
+            return false;
+        };
+        well && is_counted(self)
     }
 
-    fn answers(&mut self, alloc: Global, talk: Talk) -> Result<bool, AllocError> {
+    fn answers(&mut self, alloc: Global, talk: Talk) -> bool {
         runs(alloc, self, talk)
     }
 }
@@ -203,27 +211,29 @@ fn is_one_leaf<T: Known>(tree: &T) -> bool {
 }
 
 // A hundred thousand pairs come. After each thousand all nodes are walked over.
-fn come<T: Known>(tree: &mut T) -> Result<bool, AllocError> {
+fn come<T: Known>(tree: &mut T) -> bool {
     let mut well = true;
     for turn in 0..100_000 {
-        well &= tree.put(turn * 7_919 % 100_000, turn)?.is_none();
+        well &= tree.put(turn * 7_919 % 100_000, turn);
         if turn % 1_000 == 999 {
-            well &= tree.is_well()?;
+            well &= tree.is_well();
         }
     }
-    Ok(well && tree.count() == 100_000 && (tree.levels() == 2 || tree.levels() == 3))
+    well &= tree.count() == 100_000;
+    well && (tree.levels() == 2 || tree.levels() == 3)
 }
 
 // They leave in another order.
-fn leave<T: Known>(tree: &mut T) -> Result<bool, AllocError> {
+fn leave<T: Known>(tree: &mut T) -> bool {
     let mut well = true;
     for turn in 0..100_000 {
-        well &= tree.take(turn * 6_007 % 100_000)?.is_some();
+        well &= tree.take(turn * 6_007 % 100_000);
         if turn % 1_000 == 999 {
-            well &= tree.is_well()?;
+            well &= tree.is_well();
         }
     }
-    Ok(well && tree.count() == 0 && is_one_leaf(tree))
+    well &= tree.count() == 0;
+    well && is_one_leaf(tree)
 }
 
 // The commands of two held cursors on a tree with no pairs, and what they are answered.
@@ -259,6 +269,14 @@ fn of_cursors(alloc: Global) -> Result<Talk, AllocError> {
     })
 }
 
+// Whether those commands are answered so.
+fn holds_cursors<T: Known>(alloc: Global, tree: &mut T) -> bool {
+    let Ok(talk) = of_cursors(alloc) else {
+        return false;
+    };
+    tree.answers(alloc, talk)
+}
+
 // Whether look-ups over a store that remembers no leaf make few comparisons.
 fn no_hint<T: Known>(tree: &T) -> bool {
     let mut well = tree.levels() == 2;
@@ -270,15 +288,19 @@ fn no_hint<T: Known>(tree: &T) -> bool {
 }
 
 // What a letter names of a tree.
-fn of_tree<T: Known>(alloc: Global, letter: u8) -> Result<bool, AllocError> {
-    let mut tree = T::begin(alloc)?;
-    let tens: T = tens(alloc)?;
-    Ok(match letter {
+fn of_tree<T: Known>(alloc: Global, letter: u8) -> bool {
+    let Ok(mut tree) = T::begin(alloc) else {
+        return false;
+    };
+    let Ok(tens) = tens::<T>(alloc) else {
+        return false;
+    };
+    match letter {
         b'a' => hints(&tens),
-        b'b' => no_hint(&tens) && tree.answers(alloc, of_cursors(alloc)?)?,
+        b'b' => no_hint(&tens) && holds_cursors(alloc, &mut tree),
         b'c' => visitors(&tens),
-        _ => come(&mut tree)? && leave(&mut tree)?,
-    })
+        _ => come(&mut tree) && leave(&mut tree),
+    }
 }
 
 /// What a letter names of the trees of known pairs: one of them over a store that remembers no
@@ -286,7 +308,7 @@ fn of_tree<T: Known>(alloc: Global, letter: u8) -> Result<bool, AllocError> {
 pub fn known_pairs<S: NodeStore<K = u64, V = u64, Argument = Count>>(
     alloc: Global,
     letter: u8,
-) -> Result<bool, AllocError> {
+) -> bool {
     if letter == b'b' {
         of_tree::<BPlusTree<Forgetful<S>>>(alloc, letter)
     } else {

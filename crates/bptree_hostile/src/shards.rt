@@ -189,38 +189,38 @@ fn cut<K: Sample>(alloc: Global, bounds: &[u64]) -> Result<Whole<K>, AllocError>
 }
 
 // A value is put at a key.
-fn puts<S: Shard<V = u64>>(
-    whole: &mut Shards<S>,
-    cuts: &mut Cuts,
-    number: u64,
-    value: u64,
-) -> Result<bool, AllocError>
+fn puts<S: Shard<V = u64>>(whole: &mut Shards<S>, cuts: &mut Cuts, number: u64, value: u64) -> bool
 where
     S::K: Sample,
 {
-    let key = S::K::sample(cuts.alloc, number)?;
-    let wanted = cuts.plain.put(number, value)?;
-    match whole.put(key, value) {
-        Ok(old) => Ok(old == wanted),
-        Err(_) => Err(AllocError),
-    }
+    let Ok(key) = S::K::sample(cuts.alloc, number) else {
+        return false;
+    };
+    let Ok(wanted) = cuts.plain.put(number, value) else {
+        return false;
+    };
+    let Ok(old) = whole.put(key, value) else {
+        return false;
+    };
+    old == wanted
 }
 
 // The pair of a key leaves.
-fn takes<S: Shard<V = u64>>(
-    whole: &mut Shards<S>,
-    cuts: &mut Cuts,
-    number: u64,
-) -> Result<bool, AllocError>
+fn takes<S: Shard<V = u64>>(whole: &mut Shards<S>, cuts: &mut Cuts, number: u64) -> bool
 where
     S::K: Sample,
 {
-    let key = S::K::sample(cuts.alloc, number)?;
-    Ok(whole.del(&key)? == cuts.plain.take(number))
+    let Ok(key) = S::K::sample(cuts.alloc, number) else {
+        return false;
+    };
+    let Ok(gone) = whole.del(&key) else {
+        return false;
+    };
+    gone == cuts.plain.take(number)
 }
 
 // A key at each place for keys is put, in an order of strides.
-fn fills<S: Shard<V = u64>>(whole: &mut Shards<S>, cuts: &mut Cuts) -> Result<bool, AllocError>
+fn fills<S: Shard<V = u64>>(whole: &mut Shards<S>, cuts: &mut Cuts) -> bool
 where
     S::K: Sample,
 {
@@ -228,17 +228,14 @@ where
     for turn in 0..cuts.places {
         let place = turn.wrapping_mul(STRIDE) % cuts.places.max(1);
         let (number, value) = (cuts.key_at(place), cuts.dice.number());
-        well &= puts(whole, cuts, number, value)?;
+        well &= puts(whole, cuts, number, value);
     }
-    Ok(cuts.has_sizes() && well)
+    well &= cuts.has_sizes();
+    well
 }
 
 // A change of the pairs: of ten, so many put one.
-fn changes<S: Shard<V = u64>>(
-    whole: &mut Shards<S>,
-    cuts: &mut Cuts,
-    puts_of_ten: u64,
-) -> Result<bool, AllocError>
+fn changes<S: Shard<V = u64>>(whole: &mut Shards<S>, cuts: &mut Cuts, puts_of_ten: u64) -> bool
 where
     S::K: Sample,
 {
@@ -251,15 +248,17 @@ where
 }
 
 // A look at the pairs: at an end, at a place, or at a key and beside it.
-fn looks<S: Shard<V = u64>>(whole: &Shards<S>, cuts: &mut Cuts) -> Result<bool, AllocError>
+fn looks<S: Shard<V = u64>>(whole: &Shards<S>, cuts: &mut Cuts) -> bool
 where
     S::K: Sample,
 {
     let (number, place) = (cuts.key(), cuts.place());
-    let key = S::K::sample(cuts.alloc, number)?;
+    let Ok(key) = S::K::sample(cuts.alloc, number) else {
+        return false;
+    };
     let kind = cuts.below(8);
     let plain = &cuts.plain;
-    Ok(match kind {
+    match kind {
         0 => whole.len() == plain.len(),
         1 => numbers(whole.first()) == plain.pair_at(0),
         2 => numbers(whole.last()) == plain.last(),
@@ -268,7 +267,7 @@ where
         5 => numbers(whole.at(place)) == plain.pair_at(place),
         6 => numbers(whole.next(&key)) == plain.pair_at(plain.beside(number, End::Front)),
         _ => numbers(whole.prev(&key)) == plain.pair_at(plain.beside(number, End::Back)),
-    })
+    }
 }
 
 // The pair beside another one, where there is one.
@@ -339,26 +338,36 @@ where
 }
 
 // Some steps from a key on, or back from it.
-fn steps<S: Shard<V = u64>>(whole: &Shards<S>, cuts: &mut Cuts) -> Result<bool, AllocError>
+fn steps<S: Shard<V = u64>>(whole: &Shards<S>, cuts: &mut Cuts) -> bool
 where
     S::K: Sample,
 {
     let number = cuts.key();
-    let key = S::K::sample(cuts.alloc, number)?;
+    let Ok(key) = S::K::sample(cuts.alloc, number) else {
+        return false;
+    };
     let (many, is_back) = (cuts.below(8), cuts.below(2) == 0);
     let plain = &cuts.plain;
-    Ok(if is_back {
+    if is_back {
         steps_back(whole, plain, &key, plain.beside(number, End::Back), many)
     } else {
         steps_on(whole, plain, &key, plain.beside(number, End::Front), many)
-    })
+    }
 }
 
-// Whether pairs that were found are so many of the list, from a place on.
-fn are_from<K: Sample>(found: &[(&K, &u64)], plain: &Plain, place: usize, many: usize) -> bool {
+// Whether pairs that a call found are so many of the list, from a place on.
+fn are_from<K: Sample>(
+    found: Result<Vec<(&K, &u64)>, AllocError>,
+    plain: &Plain,
+    place: usize,
+    many: usize,
+) -> bool {
+    let Ok(found) = found else {
+        return false;
+    };
     let mut place = place;
     let mut well = found.len() == many;
-    for pair in found {
+    for pair in &found {
         well &= numbers(Some(*pair)) == plain.pair_at(place);
         place = place.saturating_add(1);
     }
@@ -366,10 +375,18 @@ fn are_from<K: Sample>(found: &[(&K, &u64)], plain: &Plain, place: usize, many: 
 }
 
 // The same back from where they end.
-fn are_back<K: Sample>(found: &[(&K, &u64)], plain: &Plain, end: usize, many: usize) -> bool {
+fn are_back<K: Sample>(
+    found: Result<Vec<(&K, &u64)>, AllocError>,
+    plain: &Plain,
+    end: usize,
+    many: usize,
+) -> bool {
+    let Ok(found) = found else {
+        return false;
+    };
     let mut place = end;
     let mut well = found.len() == many;
-    for pair in found {
+    for pair in &found {
         place = place.wrapping_sub(1);
         well &= numbers(Some(*pair)) == plain.pair_at(place);
     }
@@ -378,26 +395,28 @@ fn are_back<K: Sample>(found: &[(&K, &u64)], plain: &Plain, end: usize, many: us
 
 // A look at some pairs at once: a page, those back from a key, or those between two keys, either of
 // which may be left out.
-fn parts<S: Shard<V = u64>>(whole: &Shards<S>, cuts: &mut Cuts) -> Result<bool, AllocError>
+fn parts<S: Shard<V = u64>>(whole: &Shards<S>, cuts: &mut Cuts) -> bool
 where
     S::K: Sample,
 {
     let (low, high) = (cuts.key(), cuts.key());
     let (place, n, kind) = (cuts.place(), cuts.many(), cuts.below(6));
-    let (lo, hi) = (
-        S::K::sample(cuts.alloc, low)?,
-        S::K::sample(cuts.alloc, high)?,
-    );
+    let Ok(lo) = S::K::sample(cuts.alloc, low) else {
+        return false;
+    };
+    let Ok(hi) = S::K::sample(cuts.alloc, high) else {
+        return false;
+    };
     let plain = &cuts.plain;
     if kind == 0 {
-        let found = whole.page(cuts.alloc, place, n)?;
+        let found = whole.page(cuts.alloc, place, n);
         let many = plain.len().saturating_sub(place).min(n);
-        return Ok(are_from(&found, plain, place, many));
+        return are_from(found, plain, place, many);
     }
     if kind == 1 {
-        let found = whole.back(cuts.alloc, &lo, n)?;
+        let found = whole.back(cuts.alloc, &lo, n);
         let end = plain.beside(low, End::Front);
-        return Ok(are_back(&found, plain, end, end.min(n)));
+        return are_back(found, plain, end, end.min(n));
     }
     let (from, lo) = match kind {
         2 | 3 => (plain.rank(low), Some(&lo)),
@@ -407,27 +426,26 @@ where
         2 | 4 => (plain.rank(high), Some(&hi)),
         _ => (plain.len(), None),
     };
-    let found = whole.range(cuts.alloc, lo, hi, n)?;
-    Ok(are_from(&found, plain, from, to.saturating_sub(from).min(n)))
+    let found = whole.range(cuts.alloc, lo, hi, n);
+    are_from(found, plain, from, to.saturating_sub(from).min(n))
 }
 
 // A shard is cut in two at a key, or it and the next one become one. There may be no such shards.
-fn moves<S: Shard<V = u64>>(whole: &mut Shards<S>, cuts: &mut Cuts) -> Result<bool, AllocError>
+fn moves<S: Shard<V = u64>>(whole: &mut Shards<S>, cuts: &mut Cuts) -> bool
 where
     S::K: Sample,
 {
-    let refused = if cuts.below(2) == 0 {
+    let well = if cuts.below(2) == 0 {
         let number = cuts.key();
-        let key = S::K::sample(cuts.alloc, number)?;
-        whole.split(key).is_err()
+        let Ok(key) = S::K::sample(cuts.alloc, number) else {
+            return false;
+        };
+        whole.split(key).is_ok()
     } else {
         let shard = cuts.below(12) as usize;
-        whole.merge(shard).is_err()
+        whole.merge(shard).is_ok()
     };
-    if refused {
-        return Err(AllocError);
-    }
-    Ok(whole.len() == cuts.plain.len())
+    well && whole.len() == cuts.plain.len()
 }
 
 // Whether the pairs are those of the list: by their places, and from both ends step by step.
@@ -450,10 +468,7 @@ where
 }
 
 // The pairs between two bounds leave, and come back.
-fn leave_and_return<S: Shard<V = u64>>(
-    whole: &mut Shards<S>,
-    cuts: &mut Cuts,
-) -> Result<bool, AllocError>
+fn leave_and_return<S: Shard<V = u64>>(whole: &mut Shards<S>, cuts: &mut Cuts) -> bool
 where
     S::K: Sample,
 {
@@ -463,25 +478,21 @@ where
     let mut well = true;
     for _ in from..to {
         if let Some(pair) = cuts.plain.pair_at(from) {
-            well &= takes(whole, cuts, pair.0)?;
-            gone.push(pair)?;
+            well &= takes(whole, cuts, pair.0);
+            well &= gone.push(pair).is_ok();
         }
     }
     well &= shows(whole, &cuts.plain);
     for pair in &gone {
         let (number, value) = *pair;
-        well &= puts(whole, cuts, number, value)?;
+        well &= puts(whole, cuts, number, value);
     }
-    Ok(well)
+    well
 }
 
 // More pairs are put than leave in six turns of ten, and fewer in the others. The last of ten turns
 // ends with a walk over all.
-fn turns<S: Shard<V = u64>>(
-    whole: &mut Shards<S>,
-    cuts: &mut Cuts,
-    turn: u64,
-) -> Result<bool, AllocError>
+fn turns<S: Shard<V = u64>>(whole: &mut Shards<S>, cuts: &mut Cuts, turn: u64) -> bool
 where
     S::K: Sample,
 {
@@ -489,29 +500,36 @@ where
     let mut well = true;
     for _ in 0..RUN {
         let kind = cuts.below(100);
-        well = match kind {
-            0 => moves(whole, cuts)? && well,
-            1..=49 => changes(whole, cuts, puts_of_ten)? && well,
-            50..=79 => looks(whole, cuts)? && well,
-            80..=89 => parts(whole, cuts)? && well,
-            _ => steps(whole, cuts)? && well,
+        well &= match kind {
+            0 => moves(whole, cuts),
+            1..=49 => changes(whole, cuts, puts_of_ten),
+            50..=79 => looks(whole, cuts),
+            80..=89 => parts(whole, cuts),
+            _ => steps(whole, cuts),
         };
     }
     if turn % 10 == 9 {
-        well &= leave_and_return(whole, cuts)? && shows(whole, &cuts.plain);
+        well &= leave_and_return(whole, cuts);
+        well &= shows(whole, &cuts.plain);
     }
-    Ok(well)
+    well
 }
 
 /// What a letter names of the calls in no order of a map over shards, with keys of one type: a
 /// capital letter stands for keys of all sizes.
-pub fn no_order<K: Sample>(alloc: Global, letter: u8, seed: u64) -> Result<bool, AllocError> {
-    let mut cuts = Cuts::new(alloc, seed, letter.is_ascii_uppercase())?;
-    let mut whole: Whole<K> = cut(alloc, &cuts.bounds)?;
+pub fn no_order<K: Sample>(alloc: Global, letter: u8, seed: u64) -> bool {
+    let Ok(mut cuts) = Cuts::new(alloc, seed, letter.is_ascii_uppercase()) else {
+        return false;
+    };
+    let Ok(mut whole) = cut::<K>(alloc, &cuts.bounds) else {
+        return false;
+    };
     let mut well = shows(&whole, &cuts.plain);
-    well &= fills(&mut whole, &mut cuts)? && shows(&whole, &cuts.plain);
+    well &= fills(&mut whole, &mut cuts);
+    well &= shows(&whole, &cuts.plain);
     for turn in 0..CALLS / RUN {
-        well &= turns(&mut whole, &mut cuts, turn)?;
+        well &= turns(&mut whole, &mut cuts, turn);
     }
-    Ok(shows(&whole, &cuts.plain) && well)
+    well &= shows(&whole, &cuts.plain);
+    well
 }

@@ -3,13 +3,14 @@
 
 use crate::dice::{Sample, Text};
 use crate::drawing::numbers;
+use crate::entries::is_at;
 use crate::plain::Plain;
 use std::alloc::{AllocError, Global};
 use std::cmp::Ordering;
 use std::ops::Bound;
 use sweep_bptree::map::Iter as Pairs;
 use sweep_bptree::tree::count::Count;
-use sweep_bptree::tree::{BPlusTree, Cursor, InsertError, NodeStore};
+use sweep_bptree::tree::{BPlusTree, InsertError, NodeStore};
 use sweep_bptree::{BPlusTreeMap, BPlusTreeSet};
 
 type Map = BPlusTreeMap<Text, u64, Count>;
@@ -80,6 +81,18 @@ fn key_of(alloc: Global, plain: &Plain, place: usize) -> Result<Option<Text>, Al
     }
 }
 
+// The keys of two places.
+fn keys_of(
+    alloc: Global,
+    plain: &Plain,
+    from: usize,
+    to: usize,
+) -> Result<(Option<Text>, Option<Text>), AllocError> {
+    let lo = key_of(alloc, plain, from)?;
+    let hi = key_of(alloc, plain, to)?;
+    Ok((lo, hi))
+}
+
 // The places between two bounds, of which each takes the pair of its key in or not.
 fn places(
     plain: &Plain,
@@ -132,14 +145,10 @@ where
 
 // Whether the pairs of a map between bounds at two places are those of a list; and those of its
 // tree.
-fn is_bounded(
-    alloc: Global,
-    map: &Map,
-    plain: &Plain,
-    from: usize,
-    to: usize,
-) -> Result<bool, AllocError> {
-    let (lo, hi) = (key_of(alloc, plain, from)?, key_of(alloc, plain, to)?);
+fn is_bounded(alloc: Global, map: &Map, plain: &Plain, from: usize, to: usize) -> bool {
+    let Ok((lo, hi)) = keys_of(alloc, plain, from, to) else {
+        return false;
+    };
     let mut well = true;
     for turn in 0..4 {
         let (from_in, to_in) = (turn % 2 == 0, turn < 2);
@@ -149,24 +158,19 @@ fn is_bounded(
         let bounds = (bound_at(&lo, from_in), bound_at(&hi, to_in));
         well &= ends_at(map.tree(), plain, bounds, few);
     }
-    Ok(well)
+    well
 }
 
 // Whether the cursor at a place stands on its pair, and there is none past the end.
-fn is_pointed_at(map: &Map, plain: &Plain, place: usize) -> Result<bool, AllocError> {
-    let counted = at_cursor(map.cursor_at(place)?);
-    let found = at_cursor(map.cursor_by_argument(place)?);
-    Ok(counted == plain.pair_at(place) && found == counted)
-}
-
-// The numbers where a cursor stands.
-fn at_cursor(found: Option<(Cursor<Text>, &u64)>) -> Option<(u64, u64)> {
-    let (cursor, value) = found?;
-    Some((cursor.key().number(), *value))
+fn is_pointed_at(map: &Map, plain: &Plain, place: usize) -> bool {
+    let pair = plain.pair_at(place);
+    let mut well = is_at(map.cursor_at(place), pair);
+    well &= is_at(map.cursor_by_argument(place), pair);
+    well
 }
 
 /// Whether a map shows a list by its keys and values, between bounds, and by cursors on places.
-pub fn shows_parts(alloc: Global, map: &Map, plain: &Plain) -> Result<bool, AllocError> {
+pub fn shows_parts(alloc: Global, map: &Map, plain: &Plain) -> bool {
     let len = plain.len();
     let (third, late) = (len / 3, len.saturating_sub(2));
     let mut well = has_halves(map, plain);
@@ -177,12 +181,12 @@ pub fn shows_parts(alloc: Global, map: &Map, plain: &Plain) -> Result<bool, Allo
         (third, third),
         (late, third),
     ] {
-        well &= is_bounded(alloc, map, plain, from, to)?;
+        well &= is_bounded(alloc, map, plain, from, to);
     }
     for place in [0, third, late, len, usize::MAX] {
-        well &= is_pointed_at(map, plain, place)?;
+        well &= is_pointed_at(map, plain, place);
     }
-    Ok(well)
+    well
 }
 
 // Whether the value that is lent at a key is the given one. It is one greater then.
@@ -198,28 +202,46 @@ fn is_lent(map: &mut Map, key: Text, made: u64, value: u64) -> bool {
     matches!(lent, Ok(true))
 }
 
-// Each value is one greater. By turns a closure changes it, it is lent, or it leaves and is made
+// The pair of a key leaves, and its value is lent once it is made again.
+fn is_made_again(map: &mut Map, key: Text, value: u64) -> bool {
+    let Ok(gone) = map.remove(&key) else {
+        return false;
+    };
+    is_lent(map, key, value, value) && gone == Some(value)
+}
+
+// The value of a key is one greater: a closure changes it, it is lent, or it leaves and is made
 // again.
-fn is_spoiled(alloc: Global, map: &mut Map, plain: &Plain) -> Result<bool, AllocError> {
+fn is_changed(map: &mut Map, key: Text, value: u64, turn: usize) -> bool {
+    let more = value.wrapping_add(1);
+    match turn % 3 {
+        0 => {
+            let added = map.upsert_with(key, 0, |there: &mut u64| *there = more);
+            matches!(added, Ok(false))
+        }
+        1 => is_lent(map, key, more, value),
+        _ => is_made_again(map, key, value),
+    }
+}
+
+// The value at a place is one greater.
+fn is_greater(alloc: Global, map: &mut Map, plain: &Plain, place: usize) -> bool {
+    let (number, value) = plain.pair_at(place).unwrap_or((0, 0));
+    let Ok(key) = Text::sample(alloc, number) else {
+        return false;
+    };
+    let mut well = is_changed(map, key, value, place);
+    well &= numbers(map.get_at(place)) == Some((number, value.wrapping_add(1)));
+    well
+}
+
+// Each value is one greater, in three ways by turns.
+fn is_spoiled(alloc: Global, map: &mut Map, plain: &Plain) -> bool {
     let mut well = true;
     for place in 0..plain.len() {
-        let (number, value) = plain.pair_at(place).unwrap_or((0, 0));
-        let key = Text::sample(alloc, number)?;
-        let more = value.wrapping_add(1);
-        let is_right = match place % 3 {
-            0 => {
-                let added = map.upsert_with(key, 0, |there: &mut u64| *there = more);
-                matches!(added, Ok(false))
-            }
-            1 => is_lent(map, key, more, value),
-            _ => {
-                let gone = map.remove(&key)?;
-                is_lent(map, key, value, value) && gone == Some(value)
-            }
-        };
-        well &= is_right && numbers(map.get_at(place)) == Some((number, more));
+        well &= is_greater(alloc, map, plain, place);
     }
-    Ok(well)
+    well
 }
 
 // A map with the pairs of a list.
@@ -235,6 +257,14 @@ fn own_pairs(alloc: Global, plain: &Plain) -> Result<Vec<(Text, u64)>, AllocErro
         }
     }
     Ok(pairs)
+}
+
+// The pairs of a list come to a map, again where they were there.
+fn come_again(alloc: Global, map: &mut Map, plain: &Plain) -> bool {
+    let Ok(pairs) = own_pairs(alloc, plain) else {
+        return false;
+    };
+    map.extend(pairs).is_ok()
 }
 
 // How a map with the pairs of a list stands to one of which some values are greater, or which is
@@ -253,54 +283,47 @@ fn is_compared(one: &Map, other: &Map, is_less: bool) -> bool {
 
 /// A map loses its values, and has them again from another one, or from pairs that come. What it
 /// was is given away.
-pub fn is_mended(
-    alloc: Global,
-    map: &mut Map,
-    plain: &Plain,
-    by_pairs: bool,
-) -> Result<bool, AllocError> {
-    let mut other = made(alloc, plain)?;
+pub fn is_mended(alloc: Global, map: &mut Map, plain: &Plain, by_pairs: bool) -> bool {
+    let Ok(mut other) = made(alloc, plain) else {
+        return false;
+    };
     let mut well = is_compared(&other, map, false);
-    well &= is_spoiled(alloc, map, plain)?;
+    well &= is_spoiled(alloc, map, plain);
     // Where the first value is the greatest number, what is one more is less.
     well &= value_at(plain, 0) == Some(u64::MAX) || is_compared(&other, map, plain.len() > 0);
     if by_pairs {
-        return Ok(has_them_again(alloc, map, other, plain)? && well);
+        return has_them_again(alloc, map, other, plain) && well;
     }
     well &= map.append(&mut other).is_ok();
-    Ok(other.is_empty() && well)
+    other.is_empty() && well
 }
 
 // A map has its values again, and another with the same pairs is given away.
-fn has_them_again(
-    alloc: Global,
-    map: &mut Map,
-    other: Map,
-    plain: &Plain,
-) -> Result<bool, AllocError> {
-    let well = map.extend(own_pairs(alloc, plain)?).is_ok();
-    Ok(gives_halves(other, made(alloc, plain)?, plain) && well)
+fn has_them_again(alloc: Global, map: &mut Map, other: Map, plain: &Plain) -> bool {
+    let well = come_again(alloc, map, plain);
+    let Ok(third) = made(alloc, plain) else {
+        return false;
+    };
+    gives_halves(other, third, plain) && well
 }
 
 /// The pairs from a place on leave for a map of their own, and come back.
-pub fn leave_and_join(
-    alloc: Global,
-    map: &mut Map,
-    plain: &Plain,
-    place: usize,
-) -> Result<bool, AllocError> {
-    let Some(key) = key_of(alloc, plain, place)? else {
-        return Ok(true);
+pub fn leave_and_join(alloc: Global, map: &mut Map, plain: &Plain, place: usize) -> bool {
+    let Some(key) = plain.key_at(place) else {
+        return true;
+    };
+    let Ok(key) = Text::sample(alloc, key) else {
+        return false;
     };
     let Ok(mut left) = map.split_off(&key) else {
-        return Err(AllocError);
+        return false;
     };
     let few = plain.len().saturating_sub(place);
     let mut well = map.len() == place && left.len() == few;
     well &= numbers(left.first()) == plain.pair_at(place);
     well &= numbers(left.last()) == plain.pair_at(plain.len().saturating_sub(1));
     well &= map.append(&mut left).is_ok();
-    Ok(left.is_empty() && well)
+    left.is_empty() && well
 }
 
 // Whether the pairs of a map are those of a list whose keys' numbers are no multiples of three,
@@ -349,21 +372,17 @@ fn are_greater(map: &Map, plain: &Plain, from: usize, to: usize) -> bool {
 
 // The values between two places are one greater for a while, and all values greater by the number
 // of their key.
-fn is_updated(
-    alloc: Global,
-    map: &mut Map,
-    plain: &Plain,
-    from: usize,
-    to: usize,
-) -> Result<bool, AllocError> {
-    let (lo, hi) = (key_of(alloc, plain, from)?, key_of(alloc, plain, to)?);
+fn is_updated(alloc: Global, map: &mut Map, plain: &Plain, from: usize, to: usize) -> bool {
+    let Ok((lo, hi)) = keys_of(alloc, plain, from, to) else {
+        return false;
+    };
     adds_between(map, lo.as_ref(), hi.as_ref(), 1);
     adds_keys(map, 1);
     let well = are_greater(map, plain, from, to);
     // The greatest number takes away what was added.
     adds_keys(map, u64::MAX);
     adds_between(map, lo.as_ref(), hi.as_ref(), u64::MAX);
-    Ok(well)
+    well
 }
 
 // The pairs between two keys leave, of which there are so many.
@@ -372,31 +391,44 @@ fn loses_between(
     plain: &Plain,
     (lo, hi): (Option<&Text>, Option<&Text>),
     (from, to): (usize, usize),
-) -> Result<bool, AllocError> {
-    let gone = map.remove_range(lo, hi)?;
-    let well = gone == to.saturating_sub(from) && map.len() == plain.len().saturating_sub(gone);
-    Ok(numbers(map.get_at(from)) == plain.pair_at(to) && well)
+) -> bool {
+    let Ok(gone) = map.remove_range(lo, hi) else {
+        return false;
+    };
+    let mut well = gone == to.saturating_sub(from);
+    well &= map.len() == plain.len().saturating_sub(gone);
+    well &= numbers(map.get_at(from)) == plain.pair_at(to);
+    well
 }
 
 // The pairs from a key on leave, and then those before it.
-fn loses_both_sides(map: &mut Map, key: Option<&Text>, place: usize) -> Result<bool, AllocError> {
+fn loses_both_sides(map: &mut Map, key: Option<&Text>, place: usize) -> bool {
     let left = map.len().saturating_sub(place);
-    let well = map.remove_range(key, None)? == left && map.len() == place;
-    Ok(map.remove_range(None, key)? == place && map.is_empty() && well)
+    let Ok(behind) = map.remove_range(key, None) else {
+        return false;
+    };
+    let mut well = behind == left;
+    well &= map.len() == place;
+    let Ok(before) = map.remove_range(None, key) else {
+        return false;
+    };
+    well &= before == place;
+    well &= map.is_empty();
+    well
 }
 
 // The pairs between two places leave, then none, and then all others.
-fn is_emptied(
-    alloc: Global,
-    map: &mut Map,
-    plain: &Plain,
-    from: usize,
-    to: usize,
-) -> Result<bool, AllocError> {
-    let (lo, hi) = (key_of(alloc, plain, from)?, key_of(alloc, plain, to)?);
-    let well = loses_between(map, plain, (lo.as_ref(), hi.as_ref()), (from, to))?;
-    let none = map.remove_range(hi.as_ref(), lo.as_ref())?;
-    Ok(loses_both_sides(map, lo.as_ref(), from)? && none == 0 && well)
+fn is_emptied(alloc: Global, map: &mut Map, plain: &Plain, from: usize, to: usize) -> bool {
+    let Ok((lo, hi)) = keys_of(alloc, plain, from, to) else {
+        return false;
+    };
+    let mut well = loses_between(map, plain, (lo.as_ref(), hi.as_ref()), (from, to));
+    let Ok(none) = map.remove_range(hi.as_ref(), lo.as_ref()) else {
+        return false;
+    };
+    well &= none == 0;
+    well &= loses_both_sides(map, lo.as_ref(), from);
+    well
 }
 
 // A closure keeps the pairs whose keys' numbers are no multiples of three, each value one greater.
@@ -409,22 +441,18 @@ fn keeps_most(map: &mut Map, plain: &Plain) -> bool {
 }
 
 /// Pairs leave a map as a closure says, or those between two keys do, and come again.
-pub fn is_thinned(
-    alloc: Global,
-    map: &mut Map,
-    plain: &Plain,
-    by_range: bool,
-) -> Result<bool, AllocError> {
+pub fn is_thinned(alloc: Global, map: &mut Map, plain: &Plain, by_range: bool) -> bool {
     let (from, to) = (plain.len() / 3, plain.len().saturating_sub(2));
-    let mut well = is_updated(alloc, map, plain, from, to)?;
-    well &= is_updated(alloc, map, plain, to, from)?;
-    well &= is_updated(alloc, map, plain, plain.len(), from)?;
+    let mut well = is_updated(alloc, map, plain, from, to);
+    well &= is_updated(alloc, map, plain, to, from);
+    well &= is_updated(alloc, map, plain, plain.len(), from);
     well &= if by_range && from < to {
-        is_emptied(alloc, map, plain, from, to)?
+        is_emptied(alloc, map, plain, from, to)
     } else {
         keeps_most(map, plain)
     };
-    Ok(map.extend(own_pairs(alloc, plain)?).is_ok() && well)
+    well &= come_again(alloc, map, plain);
+    well
 }
 
 // Whether the keys of a set between bounds at two places are those of a list.
@@ -434,8 +462,10 @@ fn are_keys_bounded(
     plain: &Plain,
     from: usize,
     to: usize,
-) -> Result<bool, AllocError> {
-    let (lo, hi) = (key_of(alloc, plain, from)?, key_of(alloc, plain, to)?);
+) -> bool {
+    let Ok((lo, hi)) = keys_of(alloc, plain, from, to) else {
+        return false;
+    };
     let mut well = true;
     for turn in 0..4 {
         let (from_in, to_in) = (turn % 2 == 0, turn < 2);
@@ -447,15 +477,11 @@ fn are_keys_bounded(
             well &= number(keys.next()) == plain.key_at(start);
         }
     }
-    Ok(well)
+    well
 }
 
 /// Whether a set shows the keys of a list between bounds.
-pub fn shows_keys(
-    alloc: Global,
-    set: &BPlusTreeSet<Text>,
-    plain: &Plain,
-) -> Result<bool, AllocError> {
+pub fn shows_keys(alloc: Global, set: &BPlusTreeSet<Text>, plain: &Plain) -> bool {
     let len = plain.len();
     let (third, late) = (len / 3, len.saturating_sub(2));
     let mut well = true;
@@ -466,9 +492,9 @@ pub fn shows_keys(
         (third, third),
         (late, third),
     ] {
-        well &= are_keys_bounded(alloc, set, plain, from, to)?;
+        well &= are_keys_bounded(alloc, set, plain, from, to);
     }
-    Ok(well)
+    well
 }
 
 // The keys of a list.
@@ -482,35 +508,51 @@ fn own_keys(alloc: Global, plain: &Plain) -> Result<Vec<Text>, AllocError> {
     Ok(keys)
 }
 
+// A set of them.
+fn set_of(alloc: Global, plain: &Plain) -> Result<BPlusTreeSet<Text>, AllocError> {
+    BPlusTreeSet::from_iter(alloc, own_keys(alloc, plain)?)
+}
+
+// The keys of a list come to a set, again where they were there.
+fn keys_come_again(alloc: Global, set: &mut BPlusTreeSet<Text>, plain: &Plain) -> bool {
+    let Ok(keys) = own_keys(alloc, plain) else {
+        return false;
+    };
+    set.extend(keys).is_ok()
+}
+
 // Whether a set is ordered so beside what it was, and equal to it just where it is ordered so.
 fn is_ordered(set: &BPlusTreeSet<Text>, before: &BPlusTreeSet<Text>, wanted: Ordering) -> bool {
     (*set == *before) == wanted.is_eq() && before.cmp(set) == wanted
 }
 
 // The first key of a set leaves, or the last.
-fn end_leaves(
-    set: &mut BPlusTreeSet<Text>,
-    is_last: bool,
-    wanted: Option<u64>,
-) -> Result<bool, AllocError> {
+fn end_leaves(set: &mut BPlusTreeSet<Text>, is_last: bool, wanted: Option<u64>) -> bool {
     let gone = if is_last {
-        set.pop_last()?
+        set.pop_last()
     } else {
-        set.pop_first()?
+        set.pop_first()
     };
-    Ok(own_number(&gone) == wanted)
+    let Ok(gone) = gone else {
+        return false;
+    };
+    own_number(&gone) == wanted
+}
+
+// A key leaves, where it is there.
+fn takes(set: &mut BPlusTreeSet<Text>, key: &Text, wanted: Option<u64>) -> bool {
+    let Ok(gone) = set.take(key) else {
+        return false;
+    };
+    own_number(&gone) == wanted
 }
 
 // A key is put in the place of the one that equals it, where there is one.
-fn replaces(
-    set: &mut BPlusTreeSet<Text>,
-    key: Text,
-    wanted: Option<u64>,
-) -> Result<bool, AllocError> {
-    match set.replace(key) {
-        Ok(gone) => Ok(own_number(&gone) == wanted),
-        Err(_) => Err(AllocError),
-    }
+fn replaces(set: &mut BPlusTreeSet<Text>, key: Text, wanted: Option<u64>) -> bool {
+    let Ok(gone) = set.replace(key) else {
+        return false;
+    };
+    own_number(&gone) == wanted
 }
 
 // A key leaves and is not there a second time; it comes again, and takes its own place.
@@ -519,18 +561,20 @@ fn leaves_by_itself(
     set: &mut BPlusTreeSet<Text>,
     plain: &Plain,
     place: usize,
-) -> Result<bool, AllocError> {
-    let wanted = plain.key_at(place);
-    let Some(key) = key_of(alloc, plain, place)? else {
-        return Ok(true);
+) -> bool {
+    let Some(number) = plain.key_at(place) else {
+        return true;
     };
-    let mut well = own_number(&set.take(&key)?) == wanted;
-    well &= set.take(&key)?.is_none();
-    well &= replaces(set, key, None)?;
-    match key_of(alloc, plain, place)? {
-        Some(key) => Ok(replaces(set, key, wanted)? && well),
-        None => Ok(false),
-    }
+    let Ok(key) = Text::sample(alloc, number) else {
+        return false;
+    };
+    let mut well = takes(set, &key, Some(number));
+    well &= takes(set, &key, None);
+    well &= replaces(set, key, None);
+    let Ok(key) = Text::sample(alloc, number) else {
+        return false;
+    };
+    replaces(set, key, Some(number)) && well
 }
 
 // The first key of a set leaves, and of more than two the last as well, and another by itself. What
@@ -540,28 +584,27 @@ fn some_leave(
     set: &mut BPlusTreeSet<Text>,
     before: &BPlusTreeSet<Text>,
     plain: &Plain,
-) -> Result<bool, AllocError> {
-    let first = end_leaves(set, false, plain.key_at(0))?;
+) -> bool {
+    let mut well = end_leaves(set, false, plain.key_at(0));
     if plain.len() <= 2 {
-        return Ok(first);
+        return well;
     }
-    let is_less = is_ordered(set, before, Ordering::Less);
+    well &= is_ordered(set, before, Ordering::Less);
     let end = plain.len().saturating_sub(1);
-    let last = end_leaves(set, true, plain.key_at(end))?;
-    Ok(leaves_by_itself(alloc, set, plain, 1)? && last && is_less && first)
+    well &= end_leaves(set, true, plain.key_at(end));
+    well &= leaves_by_itself(alloc, set, plain, 1);
+    well
 }
 
 /// Its first key and its last leave a set, and another by itself, and all come again.
-pub fn keys_leave_and_return(
-    alloc: Global,
-    set: &mut BPlusTreeSet<Text>,
-    plain: &Plain,
-) -> Result<bool, AllocError> {
-    let before = BPlusTreeSet::from_iter(alloc, own_keys(alloc, plain)?)?;
+pub fn keys_leave_and_return(alloc: Global, set: &mut BPlusTreeSet<Text>, plain: &Plain) -> bool {
+    let Ok(before) = set_of(alloc, plain) else {
+        return false;
+    };
     let mut well = is_ordered(set, &before, Ordering::Equal);
-    well &= some_leave(alloc, set, &before, plain)?;
-    well &= set.extend(own_keys(alloc, plain)?).is_ok();
-    Ok(*set == before && well)
+    well &= some_leave(alloc, set, &before, plain);
+    well &= keys_come_again(alloc, set, plain);
+    *set == before && well
 }
 
 // The keys between two places leave, of which there are so many.
@@ -571,10 +614,14 @@ fn keys_between_leave(
     plain: &Plain,
     from: usize,
     to: usize,
-) -> Result<bool, AllocError> {
-    let (lo, hi) = (key_of(alloc, plain, from)?, key_of(alloc, plain, to)?);
-    let gone = set.remove_range(lo.as_ref(), hi.as_ref())?;
-    Ok(gone == to.saturating_sub(from) && set.len() == plain.len().saturating_sub(gone))
+) -> bool {
+    let Ok((lo, hi)) = keys_of(alloc, plain, from, to) else {
+        return false;
+    };
+    let Ok(gone) = set.remove_range(lo.as_ref(), hi.as_ref()) else {
+        return false;
+    };
+    gone == to.saturating_sub(from) && set.len() == plain.len().saturating_sub(gone)
 }
 
 // A closure keeps the keys whose numbers are no multiples of three.
@@ -596,14 +643,15 @@ pub fn keys_are_thinned(
     set: &mut BPlusTreeSet<Text>,
     plain: &Plain,
     by_range: bool,
-) -> Result<bool, AllocError> {
+) -> bool {
     let (from, to) = (plain.len() / 3, plain.len().saturating_sub(2));
-    let well = if by_range && from < to {
-        keys_between_leave(alloc, set, plain, from, to)?
+    let mut well = if by_range && from < to {
+        keys_between_leave(alloc, set, plain, from, to)
     } else {
         most_keys_stay(set, plain)
     };
-    Ok(set.extend(own_keys(alloc, plain)?).is_ok() && well)
+    well &= keys_come_again(alloc, set, plain);
+    well
 }
 
 /// The keys from a place on leave for a set of their own, and come back.
@@ -612,16 +660,19 @@ pub fn keys_leave_and_join(
     set: &mut BPlusTreeSet<Text>,
     plain: &Plain,
     place: usize,
-) -> Result<bool, AllocError> {
-    let Some(key) = key_of(alloc, plain, place)? else {
-        return Ok(true);
+) -> bool {
+    let Some(key) = plain.key_at(place) else {
+        return true;
+    };
+    let Ok(key) = Text::sample(alloc, key) else {
+        return false;
     };
     let Ok(mut left) = set.split_off(&key) else {
-        return Err(AllocError);
+        return false;
     };
     let few = plain.len().saturating_sub(place);
     let mut well = set.len() == place && left.len() == few;
     well &= number(left.first()) == plain.key_at(place);
     well &= set.append(&mut left).is_ok();
-    Ok(left.is_empty() && well)
+    left.is_empty() && well
 }

@@ -117,12 +117,11 @@ fn count_from<A: Grouping>(
     all && pairs.next().is_none() && pairs.next_back().is_none()
 }
 
-fn has_pairs<A: Grouping>(
-    map: &BPlusTreeMap<Pair, u64, A>,
-    group: u64,
-    len: usize,
-) -> Result<bool, AllocError> {
-    Ok(count_from(map.group_range(&Tuple2(group))?, group, 0, len))
+fn has_pairs<A: Grouping>(map: &BPlusTreeMap<Pair, u64, A>, group: u64, len: usize) -> bool {
+    match map.group_range(&Tuple2(group)) {
+        Ok(pairs) => count_from(pairs, group, 0, len),
+        Err(_) => false,
+    }
 }
 
 // Whether a page of twenty pairs of a group begins with a number, and has so many pairs.
@@ -132,8 +131,11 @@ fn has_page<A: Grouping>(
     p: usize,
     first: u64,
     len: usize,
-) -> Result<bool, AllocError> {
-    Ok(count_from(group_page(map, &Tuple2(group), p, 20)?, group, first, len))
+) -> bool {
+    match group_page(map, &Tuple2(group), p, 20) {
+        Ok(pairs) => count_from(pairs, group, first, len),
+        Err(_) => false,
+    }
 }
 
 // Whether a key is there, or not, and its group has so many smaller keys.
@@ -151,12 +153,13 @@ fn has_rank<A: Grouping>(
     }
 }
 
-fn are_ranked<A: Grouping>(alloc: Global) -> Result<bool, AllocError> {
-    let none: BPlusTreeMap<Pair, u64, A> = collect(alloc, &[])?;
-    let map: BPlusTreeMap<Pair, u64, A> = collect(
-        alloc,
-        &[(1, 1), (1, 2), (1, 3), (2, 4), (3, 5)],
-    )?;
+fn are_ranked<A: Grouping>(alloc: Global) -> bool {
+    let Ok(none) = collect::<A>(alloc, &[]) else {
+        return false;
+    };
+    let Ok(map) = collect::<A>(alloc, &[(1, 1), (1, 2), (1, 3), (2, 4), (3, 5)]) else {
+        return false;
+    };
     let mut all = has_rank(&none, (4, 1), false, 0);
     for (key, present, wanted) in [
         ((1, 0), false, 0),
@@ -168,7 +171,7 @@ fn are_ranked<A: Grouping>(alloc: Global) -> Result<bool, AllocError> {
     ] {
         all &= has_rank(&map, key, present, wanted);
     }
-    Ok(all)
+    all
 }
 
 // Groups 0 and 1 have 500 keys each, and group 2 has 50, in a clone too. The visitors are those of
@@ -179,8 +182,10 @@ fn are_sized<A: Grouping, W: DescendVisit<Pair, u64, A, Result = usize>>(
     one: W,
     two: W,
     seven: W,
-) -> Result<bool, AllocError> {
-    let map: BPlusTreeMap<Pair, u64, A> = collect_by(alloc, 1050, 500)?;
+) -> bool {
+    let Ok(map) = collect_by::<A>(alloc, 1050, 500) else {
+        return false;
+    };
     let mut all = has_groups(&map, 3);
     all &= has_size(&map, zero, 500) && has_size(&map, one, 500);
     all &= has_size(&map, two, 50) && has_size(&map, seven, 0);
@@ -188,7 +193,7 @@ fn are_sized<A: Grouping, W: DescendVisit<Pair, u64, A, Result = usize>>(
         all &= has_place(&map, group, place, wanted);
     }
     for (group, size) in [(0, 500), (1, 500), (2, 50), (7, 0)] {
-        all &= has_no_place(&map, group, size) && has_pairs(&map, group, size)?;
+        all &= has_no_place(&map, group, size) && has_pairs(&map, group, size);
     }
     for (group, p, first, len) in [
         (0, 24, 480, 20),
@@ -198,22 +203,26 @@ fn are_sized<A: Grouping, W: DescendVisit<Pair, u64, A, Result = usize>>(
         (2, usize::MAX, 0, 0),
         (7, 0, 0, 0),
     ] {
-        all &= has_page(&map, group, p, first, len)?;
+        all &= has_page(&map, group, p, first, len);
     }
     all &= has_rank(&map, (1, 250), true, 250);
-    let copy = map.clone()?;
+    let Ok(copy) = map.clone() else {
+        return false;
+    };
     all &= has_groups(&copy, 3) && has_place(&copy, 2, 49, 49);
-    Ok(all && has_rank(&copy, (1, 250), true, 250) && has_no_place(&copy, 2, 50))
+    all && has_rank(&copy, (1, 250), true, 250) && has_no_place(&copy, 2, 50)
 }
 
 // One group of so many keys that two levels of nodes stand above its leaves.
-fn is_one_large_group<A: Grouping>(alloc: Global) -> Result<bool, AllocError> {
-    let map: BPlusTreeMap<Pair, u64, A> = collect_by(alloc, 4161, 4161)?;
+fn is_one_large_group<A: Grouping>(alloc: Global) -> bool {
+    let Ok(map) = collect_by::<A>(alloc, 4161, 4161) else {
+        return false;
+    };
     let mut all = measures(&map, 4161, 2);
     for place in [4160, 2112] {
         all &= has_rank(&map, (0, place), true, place as usize);
     }
-    Ok(all)
+    all
 }
 
 // One pair comes and goes, and no group is left; then two pairs are one group.
@@ -221,15 +230,17 @@ fn one_group_comes_and_goes<A: Grouping, W: DescendVisit<Pair, u64, A, Result = 
     alloc: Global,
     before: W,
     after: W,
-) -> Result<bool, AllocError> {
-    let mut map: BPlusTreeMap<Pair, u64, A> = collect(alloc, &[])?;
+) -> bool {
+    let Ok(mut map) = collect::<A>(alloc, &[]) else {
+        return false;
+    };
     let mut all = has_groups(&map, 0) && has_size(&map, before, 0);
     all &= put(&mut map, (1, 1), 100) && has_groups(&map, 1);
     all &= take(&mut map, (1, 1), 100) && has_groups(&map, 0);
     all &= put(&mut map, (1, 1), 100) && put(&mut map, (1, 2), 101);
     all &= has_groups(&map, 1) && has_size(&map, after, 2);
     all &= has_place(&map, 1, 0, 100) && has_place(&map, 1, 1, 101);
-    Ok(all && has_no_place(&map, 1, 3) && has_rank(&map, (1, 0), false, 0))
+    all && has_no_place(&map, 1, 3) && has_rank(&map, (1, 0), false, 0)
 }
 
 fn counter(group: u64) -> ExtractGroupSize<Tuple2<u64>, Pair> {
@@ -238,8 +249,8 @@ fn counter(group: u64) -> ExtractGroupSize<Tuple2<u64>, Pair> {
 
 #[test]
 fn groups_are_counted_and_ranked(rt: HostRuntime) -> Result<(), Fail> {
-    assert!(rt; are_ranked::<GroupCount<Tuple2<u64>>>(rt.alloc())?);
-    assert!(rt; is_one_large_group::<GroupCount<Tuple2<u64>>>(rt.alloc())?);
+    assert!(rt; are_ranked::<GroupCount<Tuple2<u64>>>(rt.alloc()));
+    assert!(rt; is_one_large_group::<GroupCount<Tuple2<u64>>>(rt.alloc()));
     assert!(rt;
         are_sized::<GroupCount<Tuple2<u64>>, ExtractGroupSize<Tuple2<u64>, Pair>>(
             rt.alloc(),
@@ -247,14 +258,14 @@ fn groups_are_counted_and_ranked(rt: HostRuntime) -> Result<(), Fail> {
             counter(1),
             counter(2),
             counter(7),
-        )?
+        )
     );
     assert!(rt;
         one_group_comes_and_goes::<GroupCount<Tuple2<u64>>, ExtractGroupSize<Tuple2<u64>, Pair>,>(
             rt.alloc(),
             counter(1),
             counter(1)
-        )?
+        )
     );
     Ok(())
 }

@@ -8,7 +8,7 @@ use bptree_arguments::visit::DescendError;
 use bptree_callers::probe::Probe;
 use bptree_callers::visitors::{GetTreeDepth, Says};
 use bptree_tree::SelectError;
-use std::alloc::{AllocError, Global};
+use std::alloc::Global;
 use std::test::Fail;
 
 // Whether the keys 1, 2 and 3 stand at the first places, and have their ranks among others.
@@ -43,19 +43,21 @@ fn are_written_and_taken<A: SearchArgument<u64, Query = usize>>(map: &mut Map<A>
 
 fn three_pairs_are_placed<A: SearchArgument<u64, Query = usize> + RankArgument<u64, Rank = usize>>(
     alloc: Global,
-) -> Result<bool, AllocError> {
-    let mut map: Map<A> = Map::new(alloc)?;
+) -> bool {
+    let Ok(mut map) = Map::<A>::new(alloc) else {
+        return false;
+    };
     let mut all = true;
     for (key, value) in [(1, 2), (2, 3), (3, 4)] {
         all &= put(&mut map, key, value);
     }
     all &= are_placed(&map);
-    Ok(are_written_and_taken(&mut map) && all)
+    are_written_and_taken(&mut map) && all
 }
 
 #[test]
 fn three_pairs_are_placed_and_taken(rt: HostRuntime) -> Result<(), Fail> {
-    assert!(rt; three_pairs_are_placed::<Count>(rt.alloc())?);
+    assert!(rt; three_pairs_are_placed::<Count>(rt.alloc()));
     Ok(())
 }
 
@@ -69,34 +71,42 @@ fn has_child<A: Argument<u64>>(map: &Map<A>, wanted: Result<Option<usize>, Desce
     map.descend_visit(Says::Child(65)) == wanted
 }
 
-fn removes_the_last_of_many<A: Argument<u64>>(alloc: Global) -> Result<bool, AllocError> {
-    let mut map: Map<A> = collect_times(alloc, 4161, 1)?;
+fn removes_the_last_of_many<A: Argument<u64>>(alloc: Global) -> bool {
+    let Ok(mut map) = collect_times::<A>(alloc, 4161, 1) else {
+        return false;
+    };
     let is_deep = has_depth(&map, 3);
-    Ok(take(&mut map, 4160, 4160) && is_deep && measures(&map, 4160, 2))
+    take(&mut map, 4160, 4160) && is_deep && measures(&map, 4160, 2)
 }
 
 // A map of two levels above its leaves, of which the root has fewer than 65 keys; and one leaf
 // alone, of one pair.
-fn goes_down_ten_thousand<A: Argument<u64>>(alloc: Global) -> Result<bool, AllocError> {
-    let map: Map<A> = collect_times(alloc, 10_000, 10)?;
-    let leaf: Map<A> = collect_times(alloc, 1, 10)?;
-    let is_deep = measures(&map, 10_000, 2) && has_depth(&map, 3);
-    let is_visited = has_child(&map, Err(DescendError::InvalidChild));
-    Ok(is_deep && is_visited && has(&map, 9_999, Some(99_990)) && has_child(&leaf, Ok(Some(1))))
+fn goes_down_ten_thousand<A: Argument<u64>>(alloc: Global) -> bool {
+    let Ok(map) = collect_times::<A>(alloc, 10_000, 10) else {
+        return false;
+    };
+    let Ok(leaf) = collect_times::<A>(alloc, 1, 10) else {
+        return false;
+    };
+    let mut all = measures(&map, 10_000, 2);
+    all &= has_depth(&map, 3);
+    all &= has_child(&map, Err(DescendError::InvalidChild));
+    all &= has(&map, 9_999, Some(99_990));
+    all && has_child(&leaf, Ok(Some(1)))
 }
 
 // Of pairs out of order the last of each key stays, and they come out ascending.
-fn keeps_the_last_of_each_key<A: Argument<u64>>(alloc: Global) -> Result<bool, AllocError> {
+fn keeps_the_last_of_each_key<A: Argument<u64>>(alloc: Global) -> bool {
     let mut pairs = Vec::new(alloc);
+    let mut all = true;
     for pair in [(2, 1), (1, 5), (2, 0)] {
-        pairs.push(pair)?;
+        all &= pairs.push(pair).is_ok();
     }
-    let map: Map<A> = collect(alloc, pairs)?;
-    Ok(
-        gives(map.iter(), 2, &[(true, 1), (false, 2)])
-            && has(&map, 1, Some(5))
-            && has(&map, 2, Some(0)),
-    )
+    let Ok(map) = collect::<u64, A>(alloc, pairs) else {
+        return false;
+    };
+    all &= gives(map.iter(), 2, &[(true, 1), (false, 2)]);
+    all && has(&map, 1, Some(5)) && has(&map, 2, Some(0))
 }
 
 // Whether a pair came, and is this one.
@@ -125,20 +135,28 @@ fn takes_one<A: CloneArgument<u64>>(map: Map<A>) -> bool {
 
 // A clone keeps the pairs of a map that is cleared. That map, and one that is made by default, then
 // take a pair each.
-fn is_cloned_and_cleared<A: CloneArgument<u64>>(alloc: Global) -> Result<bool, AllocError> {
-    let mut map: Map<A> = collect_times(alloc, 3, 10)?;
-    let other = map.clone()?;
-    map.clear()?;
-    let fresh: Map<A> = Map::default(alloc)?;
-    Ok(hands_over_three(other) && takes_one(map) && takes_one(fresh))
+fn is_cloned_and_cleared<A: CloneArgument<u64>>(alloc: Global) -> bool {
+    let Ok(mut map) = collect_times::<A>(alloc, 3, 10) else {
+        return false;
+    };
+    let Ok(other) = map.clone() else {
+        return false;
+    };
+    let is_cleared = map.clear().is_ok();
+    let Ok(fresh) = Map::<A>::default(alloc) else {
+        return false;
+    };
+    is_cleared && hands_over_three(other) && takes_one(map) && takes_one(fresh)
 }
 
 // A query and a rank ask each of the two levels above the leaves once, and at last one leaf.
 fn asks_each_level_once<A: SearchArgument<u64, Query = usize> + RankArgument<u64, Rank = usize>>(
     alloc: Global,
-) -> Result<bool, AllocError> {
-    let map: Map<A> = collect_times(alloc, 10_000, 10)?;
-    Ok(has_at(&map, 0, Some((2, 20))) && has_rank(&map, 9_999, Ok(2)))
+) -> bool {
+    let Ok(map) = collect_times::<A>(alloc, 10_000, 10) else {
+        return false;
+    };
+    has_at(&map, 0, Some((2, 20))) && has_rank(&map, 9_999, Ok(2))
 }
 
 // The ends of a part, how many pairs it has, and the keys that come from the front, or else from
@@ -176,25 +194,25 @@ fn has_part_at<A: SearchArgument<u64, Query = usize>>(
     }
 }
 
-fn gives_parts_of_a_hundred<A: SearchArgument<u64, Query = usize>>(
-    alloc: Global,
-) -> Result<bool, AllocError> {
-    let map: Map<A> = collect_times(alloc, 100, 1)?;
+fn gives_parts_of_a_hundred<A: SearchArgument<u64, Query = usize>>(alloc: Global) -> bool {
+    let Ok(map) = collect_times::<A>(alloc, 100, 1) else {
+        return false;
+    };
     let mut all = map.range(None, None).len() == 100;
     for part in &PARTS {
         all &= has_part(&map, part);
     }
     all &= has_part_at(&map, 98, 5, &[(true, 98), (true, 99)]);
-    Ok(all && has_part_at(&map, 100, 5, &[]) && has_part_at(&map, 0, 0, &[]))
+    all && has_part_at(&map, 100, 5, &[]) && has_part_at(&map, 0, 0, &[])
 }
 
 #[test]
 fn collected_pairs_are_held(rt: HostRuntime) -> Result<(), Fail> {
-    assert!(rt; removes_the_last_of_many::<Count>(rt.alloc())?);
-    assert!(rt; goes_down_ten_thousand::<Count>(rt.alloc())?);
-    assert!(rt; keeps_the_last_of_each_key::<Count>(rt.alloc())?);
-    assert!(rt; is_cloned_and_cleared::<Count>(rt.alloc())?);
-    assert!(rt; asks_each_level_once::<Probe>(rt.alloc())?);
-    assert!(rt; gives_parts_of_a_hundred::<Count>(rt.alloc())?);
+    assert!(rt; removes_the_last_of_many::<Count>(rt.alloc()));
+    assert!(rt; goes_down_ten_thousand::<Count>(rt.alloc()));
+    assert!(rt; keeps_the_last_of_each_key::<Count>(rt.alloc()));
+    assert!(rt; is_cloned_and_cleared::<Count>(rt.alloc()));
+    assert!(rt; asks_each_level_once::<Probe>(rt.alloc()));
+    assert!(rt; gives_parts_of_a_hundred::<Count>(rt.alloc()));
     Ok(())
 }

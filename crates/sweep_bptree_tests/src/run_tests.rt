@@ -78,8 +78,10 @@ where
 }
 
 // An equal key stays where a value is put at it.
-fn holds_what_was_put(alloc: Global) -> Result<bool, AllocError> {
-    let mut tree = new_tree(alloc)?;
+fn holds_what_was_put(alloc: Global) -> bool {
+    let Ok(mut tree) = new_tree(alloc) else {
+        return false;
+    };
     let mut all = shows(&tree, &[]);
     for (number, letter, value, before) in [
         (2, 'a', 20, None),
@@ -92,12 +94,12 @@ fn holds_what_was_put(alloc: Global) -> Result<bool, AllocError> {
     for (number, found) in [(1, Some(11)), (2, Some(21)), (3, None)] {
         all &= has(&tree, key_of(number, 'c'), found);
     }
-    Ok(shows(&tree, &[(1, 'a', 11), (2, 'a', 21)]) && all)
+    shows(&tree, &[(1, 'a', 11), (2, 'a', 21)]) && all
 }
 
 #[test]
 fn a_tree_holds_what_was_put(rt: HostRuntime) -> Result<(), Fail> {
-    assert!(rt; holds_what_was_put(rt.alloc())?);
+    assert!(rt; holds_what_was_put(rt.alloc()));
     Ok(())
 }
 
@@ -385,86 +387,107 @@ fn command_of(alloc: Global, row: &Row) -> Result<Asked, AllocError> {
     })
 }
 
-// Whether the commands of these rows are answered so.
-fn are_answered(alloc: Global, rows: &[Row]) -> Result<bool, AllocError> {
+// The replies to the commands of these rows.
+fn replies_to_rows(alloc: Global, rows: &[Row]) -> Result<Vec<Answered>, AllocError> {
     let mut commands = Vec::new(alloc);
     for row in rows {
         commands.push(command_of(alloc, row)?)?;
     }
-    let replies = replies_to(alloc, commands)?;
+    replies_to(alloc, commands)
+}
+
+// Whether a reply prints so.
+fn prints(alloc: Global, reply: &Answered, wanted: &str) -> bool {
+    match format!(in alloc; "{reply:?}") {
+        Ok(text) => text.as_str() == wanted,
+        Err(_) => false,
+    }
+}
+
+// Whether the commands of these rows are answered so.
+fn are_answered(alloc: Global, rows: &[Row]) -> bool {
+    let Ok(replies) = replies_to_rows(alloc, rows) else {
+        return false;
+    };
     let mut all = replies.len() == rows.len();
     for (reply, row) in replies.iter().zip(rows) {
-        all = format!(in alloc; "{reply:?}")?.as_str() == row.5 && all;
+        all &= prints(alloc, reply, row.5);
     }
-    Ok(all)
+    all
 }
 
 #[test]
 fn a_run_answers_each_command(rt: HostRuntime) -> Result<(), Fail> {
-    assert!(rt; are_answered(rt.alloc(), &EACH)? && are_answered(rt.alloc(), &HELD)?);
+    assert!(rt; are_answered(rt.alloc(), &EACH) && are_answered(rt.alloc(), &HELD));
     Ok(())
 }
 
 // Whether each of many commands is answered: new keys are put, and the length is asked for after
 // each.
-fn runs_many(alloc: Global) -> Result<bool, AllocError> {
+fn runs_many(alloc: Global) -> bool {
     let mut commands = Vec::new(alloc);
+    let mut all = true;
     for turn in 0..5_000u64 {
-        commands.push(Command::Insert(key_of(turn * 7 % 5_000, 'a'), 1))?;
-        commands.push(Command::Len)?;
+        all &= commands
+            .push(Command::Insert(key_of(turn * 7 % 5_000, 'a'), 1))
+            .is_ok();
+        all &= commands.push(Command::Len).is_ok();
     }
-    let replies = replies_to(alloc, commands)?;
+    let Ok(replies) = replies_to(alloc, commands) else {
+        return false;
+    };
     for (turn, reply) in replies.iter().enumerate() {
-        let is_due = match reply {
+        all &= match reply {
             Reply::Value(None) => turn % 2 == 0,
             Reply::Number(number) => turn % 2 == 1 && *number == turn / 2 + 1,
             _ => false,
         };
-        if !is_due {
-            return Ok(false);
-        }
     }
-    Ok(replies.len() == 10_000)
+    all && replies.len() == 10_000
 }
 
 #[test]
 fn a_run_answers_ten_thousand_commands(rt: HostRuntime) -> Result<(), Fail> {
-    assert!(rt; runs_many(rt.alloc())?);
+    assert!(rt; runs_many(rt.alloc()));
     Ok(())
 }
 
 // Whether the keys are in order, and a clone is equal to its key.
-fn has_order<K: Key>(small: K, great: K) -> Result<bool, AllocError> {
-    let clone = great.clone()?;
-    Ok(small < great && clone == great)
+fn has_order<K: Key>(small: K, great: K) -> bool {
+    let Ok(clone) = great.clone() else {
+        return false;
+    };
+    small < great && clone == great
 }
 
-fn have_order(alloc: Global) -> Result<bool, AllocError> {
-    let hello = String::from_str(alloc, "hello")?;
-    let world = String::from_str(alloc, "world")?;
-    Ok(
-        has_order(1u8, 2)?
-            && has_order(1u16, 2)?
-            && has_order(1u32, 2)?
-            && has_order(1u64, 2)?
-            && has_order(1u128, 2)?
-            && has_order(1usize, 2)?
-            && has_order(-2i8, -1)?
-            && has_order(-2i16, -1)?
-            && has_order(-2i32, -1)?
-            && has_order(-2i64, -1)?
-            && has_order(-2i128, -1)?
-            && has_order(-2isize, -1)?
-            && has_order(false, true)?
-            && has_order('a', 'b')?
-            && has_order(hello, world)?
-            && has_order((1u8, 'b'), (2, 'a'))?
-            && has_order(Tuple2(1u64), Tuple2(2))?,
-    )
+fn have_order(alloc: Global) -> bool {
+    let Ok(hello) = String::from_str(alloc, "hello") else {
+        return false;
+    };
+    let Ok(world) = String::from_str(alloc, "world") else {
+        return false;
+    };
+    let mut all = has_order(1u8, 2);
+    all &= has_order(1u16, 2);
+    all &= has_order(1u32, 2);
+    all &= has_order(1u64, 2);
+    all &= has_order(1u128, 2);
+    all &= has_order(1usize, 2);
+    all &= has_order(-2i8, -1);
+    all &= has_order(-2i16, -1);
+    all &= has_order(-2i32, -1);
+    all &= has_order(-2i64, -1);
+    all &= has_order(-2i128, -1);
+    all &= has_order(-2isize, -1);
+    all &= has_order(false, true);
+    all &= has_order('a', 'b');
+    all &= has_order(hello, world);
+    all &= has_order((1u8, 'b'), (2, 'a'));
+    all && has_order(Tuple2(1u64), Tuple2(2))
 }
 
 #[test]
 fn each_kind_of_key_has_an_order(rt: HostRuntime) -> Result<(), Fail> {
-    assert!(rt; have_order(rt.alloc())?);
+    assert!(rt; have_order(rt.alloc()));
     Ok(())
 }

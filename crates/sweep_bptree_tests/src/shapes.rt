@@ -2,7 +2,6 @@
 //! counted of them.
 use crate::places::is_empty;
 use crate::tested::{Ends, Ranked, has_leaves, nodes_below, put_from, refill, take, take_from};
-use std::alloc::AllocError;
 
 // Whether the keys from one on are put or leave, up to another, that one not included. Then how
 // many pairs, how many levels of inner nodes and which leaves there are. The tree is cleared before
@@ -74,27 +73,25 @@ fn change<T: Ranked>(tree: &mut T, is_put: bool, first: u64, end: u64) -> bool {
 }
 
 /// Whether the leaves are those of each row in turn.
-pub fn have_rows<T: Ranked>(tree: &mut T) -> Result<bool, AllocError> {
+pub fn have_rows<T: Ranked>(tree: &mut T) -> bool {
     let mut all = true;
     for (is_put, first, end, len, height, leaves) in &ROWS {
         all &= change(tree, *is_put, *first, *end) && tree.measures(*len, *height);
-        all &= has_leaves(tree, leaves)?;
+        all &= has_leaves(tree, leaves);
     }
-    Ok(all)
+    all
 }
 
 /// Of 65 pairs the last key has 64 smaller ones. Once the first leaf was lent 32, that key comes
 /// behind 31, with 15 smaller ones.
-pub fn lent_key_keeps_its_place<T: Ranked>(tree: &mut T) -> Result<bool, AllocError> {
-    let ranked = refill(tree, 0, 65)
-        && tree.rank(64)? == Ok(64)
-        && take_from(tree, 0, 17)
-        && tree.rank(32)? == Ok(15);
-    match tree.hold(31)? {
-        Some((cursor, _)) => {
-            Ok(ranked && tree.stands_between(&cursor, Some(30), true, Some(32))?)
-        }
-        None => Ok(false),
+pub fn lent_key_keeps_its_place<T: Ranked>(tree: &mut T) -> bool {
+    let mut all = refill(tree, 0, 65);
+    all &= tree.rank(64) == Ok(Ok(64));
+    all &= take_from(tree, 0, 17);
+    all &= tree.rank(32) == Ok(Ok(15));
+    match tree.hold(31) {
+        Ok(Some((cursor, _))) => all && tree.stands_between(&cursor, Some(30), true, Some(32)),
+        _ => false,
     }
 }
 
@@ -127,14 +124,12 @@ pub fn rebalancing_is_counted<T: Ranked>(tree: &mut T) -> bool {
 
 /// Whether a tree that changed and is cleared is as a new one, with no node but a leaf, and no
 /// counts.
-pub fn is_as_new<T: Ranked>(tree: &mut T) -> Result<bool, AllocError> {
-    Ok(
-        refill(tree, 0, 200)
-            && take_from(tree, 0, 40)
-            && tree.rebalanced() != [0; 8]
-            && tree.empty_it()
-            && tree.rebalanced() == [0; 8]
-            && nodes_below(tree, 100) == (1, 0)
-            && is_empty(tree)?,
-    )
+pub fn is_as_new<T: Ranked>(tree: &mut T) -> bool {
+    let mut all = refill(tree, 0, 200);
+    all &= take_from(tree, 0, 40);
+    all &= tree.rebalanced() != [0; 8];
+    all &= tree.empty_it();
+    all &= tree.rebalanced() == [0; 8];
+    all &= nodes_below(tree, 100) == (1, 0);
+    all && is_empty(tree)
 }

@@ -77,7 +77,7 @@ fn ends_alike<S: Shard<K = u64, V = u64>>(whole: &Shards<S>, plain: &Plain) -> b
 }
 
 // Puts and deletes keys in an order that a multiplier draws, and reads each key after each.
-fn alike<S: Shard<K = u64, V = u64>>(whole: Shards<S>) -> Result<bool, AllocError> {
+fn alike<S: Shard<K = u64, V = u64>>(whole: Shards<S>) -> bool {
     let mut whole = whole;
     let mut plain: Plain = [None; 64];
     let mut drawn = 1u64;
@@ -88,37 +88,36 @@ fn alike<S: Shard<K = u64, V = u64>>(whole: Shards<S>) -> Result<bool, AllocErro
         let key = (drawn >> 33) % 64;
         let at = (key % 64) as usize;
         if (drawn >> 40) % 3 == 0 {
-            let old = whole.del(&key)?;
-            if old != plain[at] {
-                return Ok(false);
+            if whole.del(&key) != Ok(plain[at]) {
+                return false;
             }
             plain[at] = None;
         } else {
             match whole.put(key, step) {
                 Ok(old) => {
                     if old != plain[at] {
-                        return Ok(false);
+                        return false;
                     }
                 }
-                Err(_) => return Ok(false),
+                Err(_) => return false,
             }
             plain[at] = Some(step);
         }
         for read in 0..64 {
             if !reads_alike(&whole, &plain, read) {
-                return Ok(false);
+                return false;
             }
         }
         if !ends_alike(&whole, &plain) {
-            return Ok(false);
+            return false;
         }
     }
-    Ok(true)
+    true
 }
 
 #[test]
 fn answers_as_a_plain_list_does(rt: HostRuntime) -> Result<(), Fail> {
-    assert!(rt; alike(shards(rt.alloc())?)?);
+    assert!(rt; alike(shards(rt.alloc())?));
     Ok(())
 }
 
@@ -132,22 +131,22 @@ fn is_cut<S: Shard<K = u64, V = u64>>(
 }
 
 // A shard is cut in two, and then the first two become one.
-fn moves<S: Shard<K = u64, V = u64>>(whole: Shards<S>) -> Result<bool, AllocError> {
+fn moves<S: Shard<K = u64, V = u64>>(whole: Shards<S>) -> bool {
     let mut whole = whole;
     for key in 0..64 {
         if whole.put(key, key).is_err() {
-            return Ok(false);
+            return false;
         }
     }
     let first = is_cut(&whole, &[16, 40, 40], &[16, 24, 0, 24]);
     let split = whole.split(24).is_ok() && is_cut(&whole, &[16, 24, 40, 40], &[16, 8, 16, 0, 24]);
     let merged = whole.merge(0).is_ok() && is_cut(&whole, &[24, 40, 40], &[24, 16, 0, 24]);
     let kept = whole.merge(3).is_ok() && is_cut(&whole, &[24, 40, 40], &[24, 16, 0, 24]);
-    Ok(first && split && merged && kept)
+    first && split && merged && kept
 }
 
 #[test]
 fn bounds_come_and_go(rt: HostRuntime) -> Result<(), Fail> {
-    assert!(rt; moves(shards(rt.alloc())?)?);
+    assert!(rt; moves(shards(rt.alloc())?));
     Ok(())
 }

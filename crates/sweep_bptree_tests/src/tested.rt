@@ -1,4 +1,5 @@
-//! What the tests ask of a tree, told in numbers alone: they name no store and no node.
+//! What the tests ask of a tree, told in numbers alone: they name no store and no node. Where a
+//! function answers whether something holds, `false` also stands for memory that was refused.
 use bptree_tree::SelectError;
 use std::alloc::{AllocError, Global};
 
@@ -112,7 +113,7 @@ pub trait Ranked: Tested<Key = u64, Value = u64> {
         before: Option<u64>,
         there: bool,
         after: Option<u64>,
-    ) -> Result<bool, AllocError>;
+    ) -> bool;
 
     /// Whether a leaf stands under a number, and has a key.
     fn has_key(&self, number: usize, key: u64) -> Option<bool>;
@@ -234,14 +235,24 @@ pub fn refill<T: Ranked>(tree: &mut T, first: u64, end: u64) -> bool {
     tree.empty_it() && put_from(tree, first, end)
 }
 
+/// Whether a tree is well shaped.
+pub fn is_well<T: Tested>(tree: &T) -> bool {
+    match tree.leaves() {
+        Ok((_, is_shaped)) => is_shaped,
+        Err(_) => false,
+    }
+}
+
 /// Whether a well shaped tree has these leaves in order.
-pub fn has_leaves<T: Ranked>(tree: &T, wanted: &[Ends]) -> Result<bool, AllocError> {
-    let (leaves, is_well) = tree.leaves()?;
-    let mut all = is_well && leaves.len() == wanted.len();
+pub fn has_leaves<T: Ranked>(tree: &T, wanted: &[Ends]) -> bool {
+    let Ok((leaves, is_shaped)) = tree.leaves() else {
+        return false;
+    };
+    let mut all = is_shaped && leaves.len() == wanted.len();
     for (leaf, ends) in leaves.iter().zip(wanted) {
         all &= *leaf == *ends;
     }
-    Ok(all)
+    all
 }
 
 /// How many leaves and inner nodes stand in the store under numbers below a bound.

@@ -59,6 +59,28 @@ fn pair_held<K: Key + Numbered, V: Numbered>(found: Option<(Cursor<K>, &V)>) -> 
     }
 }
 
+// Whether a step of a cursor led to this key, or to none.
+fn led_to<K: Key + Numbered>(
+    found: Result<Option<Cursor<K>>, AllocError>,
+    wanted: Option<u64>,
+) -> bool {
+    match found {
+        Ok(cursor) => key_of(cursor) == wanted,
+        Err(_) => false,
+    }
+}
+
+// Whether a step of a cursor led to the pair of this key, or to none.
+fn led_to_pair<K: Key + Numbered, V: Numbered>(
+    found: Result<Option<(Cursor<K>, &V)>, AllocError>,
+    wanted: Option<u64>,
+) -> bool {
+    match found {
+        Ok(pair) => pair_held(pair) == pair_of(wanted),
+        Err(_) => false,
+    }
+}
+
 fn ends_of<K: Numbered, V: Drop>(leaf: &LeafNode<K, V>) -> Ends {
     let keys = leaf.keys();
     match (keys.first(), keys.last()) {
@@ -217,7 +239,8 @@ where
 
     fn leaves(&self) -> Result<(Vec<Ends>, bool), AllocError> {
         let (leaves, _) = leaves_of(self)?;
-        Ok((all_ends(self.node_store(), &leaves)?, is_well_shaped(self)?))
+        let ends = all_ends(self.node_store(), &leaves)?;
+        Ok((ends, matches!(is_well_shaped(self), Ok(true))))
     }
 }
 
@@ -283,19 +306,17 @@ impl<S: NodeStore<K = u64, V = u64, Argument = Count>> Ranked for BPlusTree<S> {
         before: Option<u64>,
         there: bool,
         after: Option<u64>,
-    ) -> Result<bool, AllocError> {
+    ) -> bool {
         let value = if there {
             Some(value_of(*held.key()))
         } else {
             None
         };
-        Ok(
-            self.read_held(held) == (value, there)
-                && key_of(held.prev(self)?) == before
-                && key_of(held.next(self)?) == after
-                && pair_held(held.prev_with_value(self)?) == pair_of(before)
-                && pair_held(held.next_with_value(self)?) == pair_of(after),
-        )
+        let mut all = self.read_held(held) == (value, there);
+        all &= led_to(held.prev(self), before);
+        all &= led_to(held.next(self), after);
+        all &= led_to_pair(held.prev_with_value(self), before);
+        all && led_to_pair(held.next_with_value(self), after)
     }
 
     fn has_key(&self, number: usize, key: u64) -> Option<bool> {
