@@ -4,7 +4,7 @@
 mod arguments;
 mod contents;
 mod counts;
-mod dedup;
+pub mod dedup;
 mod group_answers;
 mod groups;
 mod inner;

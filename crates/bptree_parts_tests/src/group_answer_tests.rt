@@ -3,44 +3,47 @@ ghost use Rattle.std.specs.Prelude.{◌≤◌, length};
 ghost use Rattle.bptree_arguments.specs.Ranks.{IsSlotIn};
 
 use bptree_arguments::argument::RankArgument;
-use bptree_arguments::group::{FromRef, GroupCount, Tuple2};
-use bptree_keys::key::Key;
-use std::alloc::AllocError;
+use bptree_arguments::group::{GroupCount, Tuple2};
 use std::test::Fail;
 
-// The rank of a key in a leaf.
-fn rank_of<K: Key, G: FromRef<K> + Key>(
-    k: &K,
+type Groups = GroupCount<Tuple2<u64>>;
+
+// Whether a key with this slot in a leaf has this rank in this group, `Ok` where the slot is.
+fn has_rank(
+    k: &(u64, u64),
     slot: Result<usize, usize>,
-    keys: &[K],
-) -> Result<Result<Option<(G, usize)>, Option<(G, usize)>>, AllocError>
+    keys: &[(u64, u64)],
+    group: u64,
+    rank: usize,
+) -> bool
     requires few { length keys.now ≤ 64 }
     requires slot { IsSlotIn keys.now slot }
 {
-    let start = <GroupCount<G> as RankArgument<K>>::initial_value();
-    <GroupCount<G> as RankArgument<K>>::fold_leaf(k, start, slot, keys)
+    let start = <Groups as RankArgument<(u64, u64)>>::initial_value();
+    let Ok(found) = <Groups as RankArgument<(u64, u64)>>::fold_leaf(k, start, slot, keys) else {
+        return false;
+    };
+    let expected = Some((Tuple2(group), rank));
+    match found {
+        Ok(found) => slot.is_ok() && found == expected,
+        Err(found) => slot.is_err() && found == expected,
+    }
 }
 
-fn ranks() -> Result<bool, AllocError> {
-    let keys = [(1u64, 1u64), (1, 2), (1, 3), (2, 4), (3, 5)];
-    let before_all = rank_of(&(1, 0), Err(0), &keys)?;
-    let first = rank_of(&(1, 1), Ok(0), &keys)?;
-    let third = rank_of(&(1, 3), Ok(2), &keys)?;
-    let past_group = rank_of(&(1, 4), Err(3), &keys)?;
-    let before_group = rank_of(&(2, 3), Err(3), &keys)?;
-    let past_all = rank_of(&(5, 0), Err(5), &keys)?;
-    Ok(
-        before_all == Err(Some((Tuple2(1u64), 0)))
-            && first == Ok(Some((Tuple2(1), 0)))
-            && third == Ok(Some((Tuple2(1), 2)))
-            && past_group == Err(Some((Tuple2(1), 3)))
-            && before_group == Err(Some((Tuple2(2), 0)))
-            && past_all == Err(Some((Tuple2(5), 0))),
-    )
+fn has_ranks() -> bool {
+    let keys = [(1, 1), (1, 2), (1, 3), (2, 4), (3, 5)];
+    // Before all, the first of a group, and the third.
+    has_rank(&(1, 0), Err(0), &keys, 1, 0)
+        && has_rank(&(1, 1), Ok(0), &keys, 1, 0)
+        && has_rank(&(1, 3), Ok(2), &keys, 1, 2)
+        // Past the group, before one, and past all.
+        && has_rank(&(1, 4), Err(3), &keys, 1, 3)
+        && has_rank(&(2, 3), Err(3), &keys, 2, 0)
+        && has_rank(&(5, 0), Err(5), &keys, 5, 0)
 }
 
 #[test]
 fn ranks_keys_in_their_groups(rt: HostRuntime) -> Result<(), Fail> {
-    assert!(rt; ranks()?);
+    assert!(rt; has_ranks());
     Ok(())
 }

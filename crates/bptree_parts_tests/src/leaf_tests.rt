@@ -1,4 +1,5 @@
 //! Worked splits, merges and searches of a leaf, and what a dropped leaf drops.
+use crate::samples::{Counted, Sequence, several};
 use bptree_keys::node_id::LeafNodeId;
 use bptree_nodes::leaf_node::LeafNode;
 use std::alloc::{AllocError, Global};
@@ -6,191 +7,170 @@ use std::cell::Cell;
 use std::rc::Rc;
 use std::test::Fail;
 
-// A leaf of the first 64 pairs.
-fn leaf_of<K: Drop, V: Drop>(
-    alloc: Global,
-    pairs: Vec<(K, V)>,
-) -> Result<Box<LeafNode<K, V>>, AllocError> {
+type Leaf = LeafNode<usize, u64>;
+
+// A leaf of these pairs.
+fn leaf_of(alloc: Global, pairs: &[(usize, u64)]) -> Result<Box<Leaf>, AllocError> {
     let mut leaf = LeafNode::new(alloc)?;
-    leaf.set_data(&mut pairs.into_iter());
+    leaf.set_data(&mut pairs.iter().copied());
     Ok(leaf)
 }
 
-// A leaf of numbers.
-fn numbers(alloc: Global, pairs: Vec<(u64, u64)>) -> Result<Box<LeafNode<u64, u64>>, AllocError> {
-    leaf_of(alloc, pairs)
-}
-
-// The pairs of the even keys from `first` to `last`, each with the value 0.
-fn even_pairs(alloc: Global, first: u64, last: u64) -> Result<Vec<(u64, u64)>, AllocError> {
-    let mut pairs = Vec::new(alloc);
-    for key in first..last.saturating_add(1) {
-        if key % 2 == 0 {
-            pairs.push((key, 0))?;
-        }
-    }
-    Ok(pairs)
-}
-
-// A leaf of those pairs.
-fn even_leaf(alloc: Global, first: u64, last: u64) -> Result<Box<LeafNode<u64, u64>>, AllocError> {
-    numbers(alloc, even_pairs(alloc, first, last)?)
-}
-
-// Whether the leaf has these pairs.
-fn shows(leaf: &LeafNode<u64, u64>, pairs: &[(u64, u64)]) -> bool {
-    if leaf.len() != pairs.len() {
-        return false;
-    }
-    for (slot, (key, value)) in pairs.iter().enumerate() {
-        if leaf.try_data_at(slot) != Some((key, value)) {
-            return false;
-        }
-    }
-    true
-}
-
-// Whether the leaf has these links.
-fn is_linked(leaf: &LeafNode<u64, u64>, prev: Option<usize>, next: Option<usize>) -> bool {
-    leaf.prev() == prev.map(id) && leaf.next() == next.map(id)
+// The leaf of 2, 4, .. 128, each with the value 0.
+fn leaf_of_evens(alloc: Global) -> Result<Box<Leaf>, AllocError> {
+    let mut leaf = LeafNode::new(alloc)?;
+    leaf.set_data(&mut (1..65usize).map(|half| (half.saturating_mul(2), 0)));
+    Ok(leaf)
 }
 
 fn id(number: usize) -> LeafNodeId {
     LeafNodeId::from_usize(number)
 }
 
-// The two parts of the leaf of 2, 4, .. 128 before the leaf 3, where a key is put at a slot.
-fn split_of_evens(
-    alloc: Global,
-    slot: usize,
-    key: u64,
-) -> Result<Option<(Box<LeafNode<u64, u64>>, Box<LeafNode<u64, u64>>)>, AllocError> {
-    let mut leaf = even_leaf(alloc, 2, 128)?;
-    leaf.set_next(Some(id(3)));
-    let room = LeafNode::new(alloc)?;
-    if !leaf.is_full() || slot > 64 {
-        return Ok(None);
+// Whether the leaf has these links.
+fn is_linked(leaf: &Leaf, prev: Option<usize>, next: Option<usize>) -> bool {
+    leaf.prev() == prev.map(id) && leaf.next() == next.map(id)
+}
+
+// Whether the leaf has so many keys, which are those from a place on, each with the value 0.
+fn has_keys(leaf: &Leaf, len: usize, from: usize, keys: Sequence) -> bool {
+    for slot in 0..len {
+        let key = keys.at(from.saturating_add(slot));
+        if leaf.try_data_at(slot) != Some((&key, &0)) {
+            return false;
+        }
     }
-    let right = leaf.split_new_leaf(slot, (key, 0), id(2), id(1), room);
-    Ok(Some((leaf, right)))
+    leaf.len() == len
 }
 
-// Whether the split makes these parts, with their links.
-fn splits_into(
-    alloc: Global,
-    slot: usize,
-    key: u64,
-    left: Vec<(u64, u64)>,
-    right: Vec<(u64, u64)>,
-) -> Result<bool, AllocError> {
-    let Some((leaf, next)) = split_of_evens(alloc, slot, key)? else {
-        return Ok(false);
+// Whether a key that is put at a slot into the leaf of 2, 4, .. 128 before the leaf 3 leaves so
+// many pairs in the first part and the other pairs in the second, both with their links.
+fn splits_into(alloc: Global, slot: usize, key: usize, first_len: usize) -> bool {
+    let Ok(mut leaf) = leaf_of_evens(alloc) else {
+        return false;
     };
-    Ok(
-        shows(&leaf, &left)
-            && shows(&next, &right)
-            && is_linked(&leaf, None, Some(2))
-            && is_linked(&next, Some(1), Some(3)),
-    )
-}
-
-fn splits(alloc: Global) -> Result<(bool, bool), AllocError> {
-    let right = even_pairs(alloc, 66, 128)?;
-    let before = splits_into(alloc, 0, 0, even_pairs(alloc, 0, 64)?, right)?;
-    let mut right = even_pairs(alloc, 66, 128)?;
-    right.insert(0, (65, 0))?;
-    let middle = splits_into(alloc, 32, 65, even_pairs(alloc, 2, 64)?, right)?;
-    Ok((before, middle))
+    let Ok(room) = LeafNode::new(alloc) else {
+        return false;
+    };
+    leaf.set_next(Some(id(3)));
+    if !leaf.is_full() || slot > 64 || first_len > 65 {
+        return false;
+    }
+    let next = leaf.split_new_leaf(slot, (key, 0), id(2), id(1), room);
+    let keys = Sequence {
+        first: 2,
+        step: 2,
+        slot,
+        another: key,
+    };
+    has_keys(&leaf, first_len, 0, keys)
+        && has_keys(&next, 65 - first_len, first_len, keys)
+        && is_linked(&leaf, None, Some(2))
+        && is_linked(&next, Some(1), Some(3))
 }
 
 #[test]
 fn splits_a_full_leaf_before_and_in_the_middle(rt: HostRuntime) -> Result<(), Fail> {
-    assert_eq!(rt; splits(rt.alloc())?, (true, true));
+    assert!(rt; splits_into(rt.alloc(), 0, 0, 33));
+    assert!(rt; splits_into(rt.alloc(), 32, 65, 32));
     Ok(())
 }
 
 // Which of these keys are in the leaf's range.
-fn ranges(leaf: &LeafNode<u64, u64>) -> [bool; 4] {
+fn ranges(leaf: &Leaf) -> [bool; 4] {
     [0, 2, 128, 129].map(|key| leaf.in_range(&key))
 }
 
 // The ranges of a leaf of 2, 4, .. 128 without links, with one before it, and with one on each
 // side.
-fn links(alloc: Global) -> Result<[[bool; 4]; 3], AllocError> {
-    let mut leaf = even_leaf(alloc, 2, 128)?;
+fn is_in_range(alloc: Global) -> bool {
+    let Ok(mut leaf) = leaf_of_evens(alloc) else {
+        return false;
+    };
     let alone = ranges(&leaf);
     leaf.set_prev(Some(id(1)));
     let last = ranges(&leaf);
     leaf.set_next(Some(id(2)));
-    Ok([alone, last, ranges(&leaf)])
+    alone == [true, true, true, true]
+        && last == [false, true, true, true]
+        && ranges(&leaf) == [false, true, true, false]
 }
 
 #[test]
 fn is_in_range_by_its_links(rt: HostRuntime) -> Result<(), Fail> {
-    assert_eq!(rt;
-        links(rt.alloc())?,
-        [
-            [true, true, true, true],
-            [false, true, true, true],
-            [false, true, true, false]
-        ]
-    );
+    assert!(rt; is_in_range(rt.alloc()));
     Ok(())
 }
 
+// Whether the leaf has these keys and values, and this leaf behind it.
+fn shows(leaf: &Leaf, keys: &[usize], values: &[u64], next: Option<usize>) -> bool {
+    leaf.keys() == keys && leaf.values() == values && is_linked(leaf, None, next)
+}
+
 // Two leaves merged, whole and without one pair of the later one.
-fn merges(alloc: Global) -> Result<bool, AllocError> {
-    let mut leaf = numbers(alloc, vec![in alloc; (10, 1), (11, 1)]?)?;
-    let mut right = numbers(alloc, vec![in alloc; (39, 1), (40, 1)]?)?;
-    let last = numbers(alloc, vec![in alloc; (50, 1), (51, 1)]?)?;
+fn merges(alloc: Global) -> bool {
+    let Ok(mut leaf) = leaf_of(alloc, &[(10, 1), (11, 1)]) else {
+        return false;
+    };
+    let Ok(mut right) = leaf_of(alloc, &[(39, 1), (40, 1)]) else {
+        return false;
+    };
     right.set_next(Some(id(7)));
-    if leaf.len() != 2 || right.len() != 2 || last.len() != 2 {
-        return Ok(false);
+    if leaf.len() != 2 || right.len() != 2 {
+        return false;
     }
     let first = leaf.delete_at(0);
     leaf.merge_right(right);
-    let is_merged = shows(&leaf, &[(11, 1), (39, 1), (40, 1)]) && is_linked(&leaf, None, Some(7));
+    first == (10, 1)
+        && shows(&leaf, &[11, 39, 40], &[1, 1, 1], Some(7))
+        && merges_without_the_first(alloc, &mut leaf)
+}
+
+fn merges_without_the_first(alloc: Global, leaf: &mut Leaf) -> bool {
+    let Ok(last) = leaf_of(alloc, &[(50, 1), (51, 1)]) else {
+        return false;
+    };
+    if leaf.len() != 3 || last.len() != 2 {
+        return false;
+    }
     let removed = leaf.merge_right_delete_first(0, last);
-    Ok(
-        is_merged
-            && (first, removed) == ((10, 1), (50, 1))
-            && shows(&leaf, &[(11, 1), (39, 1), (40, 1), (51, 1)])
-            && is_linked(&leaf, None, None),
-    )
+    removed == (50, 1) && shows(leaf, &[11, 39, 40, 51], &[1, 1, 1, 1], None)
 }
 
 #[test]
 fn merges_with_the_leaf_after_it(rt: HostRuntime) -> Result<(), Fail> {
-    assert!(rt; merges(rt.alloc())?);
+    assert!(rt; merges(rt.alloc()));
     Ok(())
 }
 
-// What is dropped adds one to the count.
-struct Counted(Rc<Cell<u64>>);
-
-impl Drop for Counted {
-    fn drop(self) {
-        let Counted(count) = self;
-        count.set(count.get().saturating_add(1));
-    }
+// Whether none of ten keys and values is dropped before their leaf is.
+fn keeps_all(alloc: Global, keys: &Rc<Cell<u64>>, values: &Rc<Cell<u64>>) -> bool {
+    let Ok(ten_keys) = several(alloc, keys, 10) else {
+        return false;
+    };
+    let Ok(ten_values) = several(alloc, values, 10) else {
+        return false;
+    };
+    let Ok(mut leaf) = LeafNode::new(alloc) else {
+        return false;
+    };
+    leaf.set_data(&mut ten_keys.into_iter().zip(ten_values));
+    [keys.get(), values.get()] == [0, 0]
 }
 
-// The drops of ten keys and values before and after their leaf is dropped.
-fn drops(alloc: Global) -> Result<[u64; 4], AllocError> {
-    let keys = Rc::new(alloc, Cell::new(0))?;
-    let values = Rc::new(alloc, Cell::new(0))?;
-    let mut pairs = Vec::new(alloc);
-    for _ in 0..10 {
-        pairs.push((Counted(Rc::clone(&keys)?), Counted(Rc::clone(&values)?)))?;
-    }
-    let leaf = leaf_of(alloc, pairs)?;
-    let (before_keys, before_values) = (keys.get(), values.get());
-    drop(leaf);
-    Ok([before_keys, before_values, keys.get(), values.get()])
+// Whether all are dropped once it is.
+fn drops(alloc: Global) -> bool {
+    let Ok(keys) = Rc::new(alloc, Cell::new(0)) else {
+        return false;
+    };
+    let Ok(values) = Rc::new(alloc, Cell::new(0)) else {
+        return false;
+    };
+    keeps_all(alloc, &keys, &values) && [keys.get(), values.get()] == [10, 10]
 }
 
 #[test]
 fn drops_each_key_and_each_value_once(rt: HostRuntime) -> Result<(), Fail> {
-    assert_eq!(rt; drops(rt.alloc())?, [0, 0, 10, 10]);
+    assert!(rt; drops(rt.alloc()));
     Ok(())
 }

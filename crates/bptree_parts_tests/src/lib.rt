@@ -21,6 +21,8 @@ mod merge_tests;
 #[cfg(test)]
 mod number_tests;
 #[cfg(test)]
+mod samples;
+#[cfg(test)]
 mod shard_tests;
 #[cfg(test)]
 mod store_tests;

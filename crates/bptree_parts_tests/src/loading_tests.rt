@@ -1,56 +1,56 @@
 //! Lists of pairs and numbers, and what is kept of them.
 
-use bptree_loading::dedup::DedupByExt;
+use crate::callers::dedup::collects_the_last_numbers;
 use bptree_loading::loading::{in_load_order, keep_last_of_each_run};
-use std::alloc::{AllocError, Global};
+use std::alloc::Global;
 use std::test::Fail;
-
-const TWICE: [(u64, u64); 8] = [
-    (0, 0),
-    (0, 1),
-    (1, 10),
-    (1, 11),
-    (2, 20),
-    (2, 21),
-    (3, 30),
-    (3, 31),
-];
-
-const LAST: [(u64, u64); 4] = [(0, 1), (1, 11), (2, 21), (3, 31)];
 
 const NONE: [(u64, u64); 0] = [];
 
-// The last pairs of each run of `TWICE`.
-fn kept(alloc: Global) -> Result<Vec<(u64, u64)>, AllocError> {
-    let mut pairs = Vec::new(alloc);
-    for pair in &TWICE {
-        pairs.push(*pair)?;
+// The last pairs of each run, in load order before and after.
+fn keeps_the_last(alloc: Global) -> bool {
+    let twice = [
+        (0u64, 0u64),
+        (0, 1),
+        (1, 10),
+        (1, 11),
+        (2, 20),
+        (2, 21),
+        (3, 30),
+        (3, 31),
+    ];
+    let last = [(0, 1), (1, 11), (2, 21), (3, 31)];
+    let Ok(mut pairs) = twice.to_vec(alloc) else {
+        return false;
+    };
+    if !in_load_order(&pairs) {
+        return false;
     }
-    if in_load_order(&pairs) {
-        keep_last_of_each_run(&mut pairs);
-    }
-    Ok(pairs)
+    keep_last_of_each_run(&mut pairs);
+    pairs.as_slice() == last.as_slice() && in_load_order(&last)
 }
 
-// The last numbers of each run of 1, 1, 2, 3, 3.
-fn last_numbers(alloc: Global) -> Result<Vec<u64>, AllocError> {
-    [1u64, 1, 2, 3, 3]
-        .into_iter()
-        .dedup_keep_last(|number, after| *number == *after)
-        .collect(alloc)
+fn tells_load_order() -> bool {
+    in_load_order(&NONE)
+        && in_load_order(&[(7u64, 1u64)])
+        && in_load_order(&[(7u64, 1u64), (7, 0)])
+        && !in_load_order(&[(2u64, 1u64), (1, 5)])
+}
+
+// The last numbers of each run.
+fn keeps_the_last_numbers(alloc: Global) -> bool {
+    let Ok(numbers) = [1, 1, 2, 3, 3].to_vec(alloc) else {
+        return false;
+    };
+    let Ok(last) = collects_the_last_numbers(alloc, numbers) else {
+        return false;
+    };
+    last.as_slice() == [1, 2, 3].as_slice()
 }
 
 #[test]
 fn keeps_the_last_of_each_run(rt: HostRuntime) -> Result<(), Fail> {
-    assert!(rt;
-        in_load_order(&TWICE)
-            && in_load_order(&LAST)
-            && in_load_order(&NONE)
-            && in_load_order(&[(7u64, 1u64)])
-            && in_load_order(&[(7u64, 1u64), (7, 0)])
-            && !in_load_order(&[(2u64, 1u64), (1, 5)])
-            && kept(rt.alloc())?.as_slice() == LAST.as_slice()
-            && last_numbers(rt.alloc())?.as_slice() == [1u64, 2, 3].as_slice()
-    );
+    assert!(rt; tells_load_order() && keeps_the_last(rt.alloc()));
+    assert!(rt; keeps_the_last_numbers(rt.alloc()));
     Ok(())
 }

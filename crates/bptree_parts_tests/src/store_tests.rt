@@ -1,44 +1,71 @@
 //! Numbers of a store that come back.
 
 use crate::callers::stores::{holds_two_inner_nodes, holds_two_leaves};
+use bptree_keys::node_id::LeafNodeId;
 use bptree_stores::node_store_vec::NodeStoreVec;
 use bptree_stores::node_stores::{CloneStore, NodeStore};
-use std::alloc::AllocError;
+use std::alloc::Global;
 use std::test::Fail;
+
+// Whether the next two numbers for leaves are these.
+fn gives_leaves<S: NodeStore>(store: &mut S, first: LeafNodeId, second: LeafNodeId) -> bool {
+    let Ok(ids) = holds_two_leaves(store) else {
+        return false;
+    };
+    ids == (first, second)
+}
 
 // Of two numbers of leaves that are held the first is released and is given out again. Then both
 // are released, the second one last, and come back in the other order, and before any other; in a
 // clone too.
-fn leaf_numbers_come_back<S: CloneStore>(store: &mut S) -> Result<bool, AllocError>
+fn leaf_numbers_come_back<S: CloneStore>(store: &mut S) -> bool
 where
     S::V: Clone,
 {
-    let (first, second) = holds_two_leaves(store)?;
+    let Ok((first, second)) = holds_two_leaves(store) else {
+        return false;
+    };
     store.release_leaf(first);
-    let again = store.reserve_leaf()?;
+    let Ok(again) = store.reserve_leaf() else {
+        return false;
+    };
     store.release_leaf(again);
     store.release_leaf(second);
-    let mut copy = store.clone()?;
-    Ok(
-        again == first
-            && holds_two_leaves(store)? == (second, first)
-            && holds_two_leaves(&mut copy)? == (second, first),
-    )
+    let Ok(mut copy) = store.clone() else {
+        return false;
+    };
+    again == first && gives_leaves(store, second, first) && gives_leaves(&mut copy, second, first)
 }
 
-fn inner_numbers_come_back<S: NodeStore>(store: &mut S) -> Result<bool, AllocError> {
-    let (first, second) = holds_two_inner_nodes(store)?;
+fn inner_numbers_come_back<S: NodeStore>(store: &mut S) -> bool {
+    let Ok((first, second)) = holds_two_inner_nodes(store) else {
+        return false;
+    };
     store.release_inner(first);
-    let again = store.reserve_inner()?;
+    let Ok(again) = store.reserve_inner() else {
+        return false;
+    };
     store.release_inner(again);
     store.release_inner(second);
-    Ok(again == first && holds_two_inner_nodes(store)? == (second, first))
+    let Ok(ids) = holds_two_inner_nodes(store) else {
+        return false;
+    };
+    again == first && ids == (second, first)
+}
+
+fn numbers_come_back<S: CloneStore>(mut store: S) -> bool
+where
+    S::V: Clone,
+{
+    leaf_numbers_come_back(&mut store) && inner_numbers_come_back(&mut store)
+}
+
+fn numbers_of_a_vector_come_back(alloc: Global) -> bool {
+    numbers_come_back(NodeStoreVec::<u64, u64>::new(alloc))
 }
 
 #[test]
 fn released_numbers_come_back_the_last_first(rt: HostRuntime) -> Result<(), Fail> {
-    let mut store = NodeStoreVec::<u64, u64>::new(rt.alloc());
-    assert!(rt; leaf_numbers_come_back(&mut store)?);
-    assert!(rt; inner_numbers_come_back(&mut store)?);
+    assert!(rt; numbers_of_a_vector_come_back(rt.alloc()));
     Ok(())
 }

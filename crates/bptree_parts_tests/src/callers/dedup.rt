@@ -11,8 +11,8 @@ use bptree_loading::dedup::{DeDupKeepLast, DedupByExt};
 use bptree_loading::loading::laws_of_load;
 use std::alloc::{AllocError, Global};
 
-// The last number of each run of equal numbers.
-fn collects_the_last_numbers(alloc: Global, numbers: Vec<u64>) -> Result<Vec<u64>, AllocError>
+/// The last number of each run of equal numbers.
+pub fn collects_the_last_numbers(alloc: Global, numbers: Vec<u64>) -> Result<Vec<u64>, AllocError>
     ensures { IfOk result (λ v. v.items ≡ last_of_each_run (λ x y. x == y) numbers.items) }
 {
     numbers

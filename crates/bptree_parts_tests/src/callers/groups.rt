@@ -92,16 +92,22 @@ fn tells_what_it_has<G: Key>(
     ensures none { result.0 ≡ true ∷ false ∷ false ∷ [] }
     ensures groups { result.1 ≡ 0 ∷ 1 ∷ count ∷ [] }
 {
-    let none = GroupCount::<G>::Zero;
-    let one = GroupCount::One(group, count);
-    let several = GroupCount::Multiple {
-        min_group: least,
-        max_group: greatest,
-        group_count: count,
+    let of_several = {
+        let several = GroupCount::Multiple {
+            min_group: least,
+            max_group: greatest,
+            group_count: count,
+        };
+        (several.is_zero(), several.group_count())
     };
+    let of_one = {
+        let one = GroupCount::One(group, count);
+        (one.is_zero(), one.group_count())
+    };
+    let none = GroupCount::<G>::Zero;
     (
-        [none.is_zero(), one.is_zero(), several.is_zero()],
-        [none.group_count(), one.group_count(), several.group_count()],
+        [none.is_zero(), of_one.0, of_several.0],
+        [none.group_count(), of_one.1, of_several.1],
     )
 }
 

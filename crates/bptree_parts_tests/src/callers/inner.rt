@@ -137,7 +137,6 @@ fn puts_behind_the_first_child<K: Drop, A: Drop>(
 }
 
 // An entry that was put is the one that is removed, and the node is as before.
-#[tactic(auto, using(bptree_nodes::proofs::Inverses::remove_inserted))]
 fn takes_an_insertion_back<K: Drop, A: Drop>(
     node: &mut InnerNode<K, A>,
     slot: usize,

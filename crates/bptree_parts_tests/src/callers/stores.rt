@@ -35,9 +35,9 @@ fn says_that_it_is_empty<K: Key, V: Drop, A: Argument<K>>(
 ) -> Result<(bool, bool), AllocError>
     ensures { IfOk result (λ says. says ≡ (true, true)) }
 {
-    let plain = NodeStoreVec::<K, V, A>::new(alloc);
+    let plain = NodeStoreVec::<K, V, A>::new(alloc).is_empty();
     let roomy = NodeStoreVec::<K, V, A>::with_capacity(alloc, capacity)?;
-    Ok((plain.is_empty(), roomy.is_empty()))
+    Ok((plain, roomy.is_empty()))
 }
 
 // A number of either kind that is held is enough for a store not to be empty.
