@@ -130,18 +130,19 @@ fn bare_request(name: &[u8]) -> Option<Request>
 fn key_request(name: &[u8], key: &[u8]) -> Option<Request>
     ensures { result ≡ request_from (name.now ∷ key.now ∷ []) }
 {
+    let key = number(key)?;
     if name == b"get".as_slice() {
-        Some(Request::Get(number(key)?))
+        Some(Request::Get(key))
     } else if name == b"at".as_slice() {
-        Some(Request::At(number(key)?))
+        Some(Request::At(key))
     } else if name == b"rank".as_slice() {
-        Some(Request::Rank(number(key)?))
+        Some(Request::Rank(key))
     } else if name == b"del".as_slice() {
-        Some(Request::Del(number(key)?))
+        Some(Request::Del(key))
     } else if name == b"next".as_slice() {
-        Some(Request::Next(number(key)?))
+        Some(Request::Next(key))
     } else if name == b"prev".as_slice() {
-        Some(Request::Prev(number(key)?))
+        Some(Request::Prev(key))
     } else {
         None
     }
@@ -150,12 +151,13 @@ fn key_request(name: &[u8], key: &[u8]) -> Option<Request>
 fn pair_request(name: &[u8], first: &[u8], second: &[u8]) -> Option<Request>
     ensures { result ≡ request_from (name.now ∷ first.now ∷ second.now ∷ []) }
 {
+    let (first, second) = (number(first)?, number(second)?);
     if name == b"put".as_slice() {
-        Some(Request::Put(number(first)?, number(second)?))
+        Some(Request::Put(first, second))
     } else if name == b"range".as_slice() {
-        Some(Request::Range(number(first)?, number(second)?))
+        Some(Request::Range(first, second))
     } else if name == b"page".as_slice() {
-        Some(Request::Page(number(first)?, number(second)?))
+        Some(Request::Page(first, second))
     } else {
         None
     }
