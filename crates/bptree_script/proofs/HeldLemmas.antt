@@ -1,15 +1,16 @@
 -- Steps of commands on the cursors that are held.
-use Rattle.std.proofs.Common.{◌≡◌, ◌∙◌, ◌-◌, ◌<◌, ℕ, zero, suc, List, [], ◌∷◌, length, map, refl, sym, ap, subst, arith, Option, Some, None, slice_get, slice_set}
+use Rattle.std.proofs.Common.{◌≡◌, ◌∙◌, ◌<◌, ℕ, zero, suc, List, [], ◌∷◌, length, map, refl, sym, ap, Option, Some, None, get_or, slice_get, slice_set}
 use Rattle.std.specs.Prelude.{option_map}
 use Rattle.std.specs.Cmp.{IsTotalOrder}
 use Rattle.std.proofs.lemmas.Cmp.{tied_back}
+use Rattle.std.proofs.lemmas.Option.{slice_get-get_or}
 use Rattle.std.specs.declared.cmp.Ordering.{Ordering}
 use Rattle.std.specs.declared.cmp.Ordering.TheVariants.{Equal}
-use Rattle.bptree_keys.specs.Contents.{has, value, next, previous}
+use Rattle.bptree_keys.specs.Contents.{value, next, previous}
 use Rattle.bptree_tree.specs.Cursor.{cursor_key, StandsAt}
 use Rattle.bptree_tree.specs.declared.cursor.Cursor as cursor
 use Rattle.bptree_script.specs.Steps.{IsCopyOf, EndStep, JoinsOrStays, MovesTo, NeighbourStep, ForHeld, Step}
-use Rattle.bptree_script.specs.declared.commands.Command.TheVariants.{Cursor, Next, Prev, Exists, Value as ValueOf}
+use Rattle.bptree_script.specs.declared.commands.Command.TheVariants.{Cursor, Next, Prev}
 use Rattle.bptree_script.specs.declared.commands.Reply.{Reply}
 use Rattle.bptree_script.specs.declared.commands.Reply.TheVariants.{Value, Pair, Number, Done, Rank, Held, Walked, NoCursor, OutOfMemory, Full}
 
@@ -22,6 +23,10 @@ pub map-slice_get : {X Y : Type 0} (f : X → Y) (xs : List X) (n : ℕ) (x : X)
 map-slice_get f [] n x e = absurd (cc e)
 map-slice_get f (y ∷ ys) zero x e = let same : y ≡ x = cc in ap (λ z. Some (f z)) same
 map-slice_get f (y ∷ ys) (suc n) x e = map-slice_get f ys n x e
+
+-- the key of the cursor that was read
+pub key_read : {K : Type 0} (cursors : List (cursor.Cursor K)) (n : ℕ) (at : cursor.Cursor K) → at ≡ get_or cursors n at → n < length cursors → slice_get (map cursor_key cursors) n ≡ Some (cursor_key at)
+key_read cursors n at is within = map-slice_get cursor_key cursors n at (slice_get-get_or cursors n at within ∙ ap (λ x. Some x) (sym is))
 
 module _ {K V : Type 0} {cmp : K → K → Ordering} (total : IsTotalOrder cmp) where
   -- a cursor that stands at a pair, with the value there, is a copy of it
