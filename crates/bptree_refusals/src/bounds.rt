@@ -1,18 +1,18 @@
 //! Maps that are asked for cursors on lower and upper bounds.
 
-use crate::commands::Asked;
+use crate::digest::Told;
 use crate::plans::Call;
 use crate::sample::Sample;
-use crate::shapes::Shape;
+use crate::shapes::Nodes;
 use crate::trees::is_sample;
 use crate::trial::Subject;
 use std::alloc::{AllocError, Global};
 use sweep_bptree::BPlusTreeMap;
-use sweep_bptree::tree::Cursor;
+use sweep_bptree::tree::{Argument, Cursor};
 
 /// A map of the even numbers below twice as many, each with itself as the value.
 #[derive(Drop)]
-pub struct Bounded<K: Sample, A: Asked<K>>(BPlusTreeMap<K, u64, A>);
+pub struct Bounded<K: Sample, A: Argument<K> + Told>(BPlusTreeMap<K, u64, A>);
 
 // The numbers whose bounds are asked for, of so many pairs: those of the first key, of the 64th,
 // which is the last of a full leaf, and of the last one, each with the number behind it.
@@ -48,14 +48,26 @@ fn stands_on<K: Sample>(found: Option<(Cursor<K>, &u64)>, wanted: Option<u64>) -
     }
 }
 
-impl<K: Sample, A: Asked<K>> Subject for Bounded<K, A> {
+// Puts the even number at a place.
+fn put_even<K: Sample, A: Argument<K>>(
+    alloc: Global,
+    map: &mut BPlusTreeMap<K, u64, A>,
+    place: u64,
+) -> Result<(), AllocError> {
+    let number = place.saturating_mul(2);
+    match map.insert(K::sample(alloc, number)?, number) {
+        Ok(_) => Ok(()),
+        Err(_) => Err(AllocError),
+    }
+}
+
+impl<K: Sample, A: Argument<K> + Told> Subject for Bounded<K, A> {
     fn made(alloc: Global, many: u64) -> Result<Bounded<K, A>, AllocError> {
-        let mut pairs = Vec::new(alloc);
+        let mut map = BPlusTreeMap::new(alloc)?;
         for place in 0..many {
-            let number = place.saturating_mul(2);
-            pairs.push((K::sample(alloc, number)?, number))?;
+            put_even(alloc, &mut map, place)?;
         }
-        Ok(Bounded(BPlusTreeMap::from_iter(alloc, pairs)?))
+        Ok(Bounded(map))
     }
 
     fn answers(&mut self, alloc: Global, call: Call) -> Result<bool, AllocError> {
@@ -76,15 +88,7 @@ impl<K: Sample, A: Asked<K>> Subject for Bounded<K, A> {
         self.0.told()
     }
 
-    fn is_tidy(&self) -> bool {
-        self.0.is_tidy()
-    }
-
-    fn shape(&self) -> Option<Shape> {
-        self.0.shape()
-    }
-
-    fn ends_well(&self, _alloc: Global) -> bool {
-        true
+    fn nodes(&self) -> Nodes {
+        self.0.nodes()
     }
 }

@@ -3,12 +3,30 @@
 use crate::digest::{Digest, Told, digest_of};
 use crate::plans::Call;
 use crate::sample::{Sample, keys_of, pairs_of};
-use crate::shapes::{Shape, shape_of};
-use crate::trees::{is_put, is_sample, is_tidy_tree};
+use crate::shapes::{Nodes, nodes_of};
+use crate::trees::{is_put, is_sample};
 use crate::trial::Subject;
 use std::alloc::{AllocError, Global};
 use sweep_bptree::tree::{Argument, InsertError};
 use sweep_bptree::{BPlusTreeMap, BPlusTreeSet};
+
+/// A map of so many pairs, which come in the order of their keys, or each of 100 again and again.
+pub fn map_of<K: Sample, A: Argument<K>>(
+    alloc: Global,
+    many: u64,
+    in_order: bool,
+) -> Result<BPlusTreeMap<K, u64, A>, AllocError> {
+    BPlusTreeMap::from_iter(alloc, pairs_of(alloc, many, in_order)?)
+}
+
+/// A set of so many keys, which come in the same way.
+pub fn set_of<K: Sample>(
+    alloc: Global,
+    many: u64,
+    in_order: bool,
+) -> Result<BPlusTreeSet<K>, AllocError> {
+    BPlusTreeSet::from_iter(alloc, keys_of(alloc, many, in_order)?)
+}
 
 // Pairs and keys of items come in no order, and each key comes twice.
 impl<K: Sample, A: Argument<K> + Told> Subject for BPlusTreeMap<K, u64, A> {
@@ -16,7 +34,7 @@ impl<K: Sample, A: Argument<K> + Told> Subject for BPlusTreeMap<K, u64, A> {
         if many == 0 {
             BPlusTreeMap::new(alloc)
         } else {
-            BPlusTreeMap::from_iter(alloc, pairs_of(alloc, many, false)?)
+            map_of(alloc, many, false)
         }
     }
 
@@ -39,16 +57,8 @@ impl<K: Sample, A: Argument<K> + Told> Subject for BPlusTreeMap<K, u64, A> {
         (digest_of(tree), tree.len())
     }
 
-    fn is_tidy(&self) -> bool {
-        is_tidy_tree(self.tree())
-    }
-
-    fn shape(&self) -> Option<Shape> {
-        Some(shape_of(self.tree()))
-    }
-
-    fn ends_well(&self, _alloc: Global) -> bool {
-        true
+    fn nodes(&self) -> Nodes {
+        nodes_of(self.tree())
     }
 }
 
@@ -84,7 +94,7 @@ impl<K: Sample> Subject for BPlusTreeSet<K> {
         if many == 0 {
             BPlusTreeSet::new(alloc)
         } else {
-            BPlusTreeSet::from_iter(alloc, keys_of(alloc, many, false)?)
+            set_of(alloc, many, false)
         }
     }
 
@@ -108,10 +118,6 @@ impl<K: Sample> Subject for BPlusTreeSet<K> {
         }
     }
 
-    fn is_tidy(&self) -> bool {
-        true
-    }
-
     // The keys, and how many are compared to find each of them: that tells the places of a key in
     // its nodes. All are looked up once before, so that the same leaf is remembered.
     fn told(&self) -> (u64, usize) {
@@ -128,11 +134,7 @@ impl<K: Sample> Subject for BPlusTreeSet<K> {
         (digest.value(), self.len())
     }
 
-    fn shape(&self) -> Option<Shape> {
-        None
-    }
-
-    fn ends_well(&self, _alloc: Global) -> bool {
-        true
+    fn nodes(&self) -> Nodes {
+        Nodes::untold()
     }
 }

@@ -4,7 +4,7 @@
 use crate::digest::{Digest, Told};
 use crate::plans::{Call, lists_of};
 use crate::sample::{Group, Sample};
-use crate::shapes::Shape;
+use crate::shapes::Nodes;
 use crate::trial::Subject;
 use std::alloc::{AllocError, Global};
 use sweep_bptree::script::{Command, CommandOn, End, Reply, run};
@@ -384,20 +384,6 @@ pub struct Commanded<S: NodeStore> {
     replied: Digest,
 }
 
-// What a tree of so many pairs replies to all lists, with none refused.
-fn wanted<S: NodeStore<V = u64>>(alloc: Global, many: u64) -> Result<u64, AllocError>
-where
-    S::K: Sample,
-    S::Argument: Asked<S::K>,
-{
-    let mut tree: BPlusTree<S> = tree_of(alloc, many)?;
-    let mut digest = Digest::new();
-    for turn in 0..lists_of(many) {
-        digest.add(replies(alloc, &mut tree, Base::of(many), turn)?);
-    }
-    Ok(digest.value())
-}
-
 /// Lists of one change each, and between them lists of five commands that change nothing.
 impl<S: CloneStore<V = u64>> Subject for Commanded<S>
 where
@@ -421,19 +407,16 @@ where
         Ok(true)
     }
 
+    // The replies, too.
     fn told(&self) -> (u64, usize) {
-        self.tree.told()
+        let mut digest = Digest::new();
+        let (told, len) = self.tree.told();
+        digest.add(told);
+        digest.add(self.replied.value());
+        (digest.value(), len)
     }
 
-    fn is_tidy(&self) -> bool {
-        self.tree.is_tidy()
-    }
-
-    fn shape(&self) -> Option<Shape> {
-        self.tree.shape()
-    }
-
-    fn ends_well(&self, alloc: Global) -> bool {
-        wanted::<S>(alloc, self.many) == Ok(self.replied.value())
+    fn nodes(&self) -> Nodes {
+        self.tree.nodes()
     }
 }

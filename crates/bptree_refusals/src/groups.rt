@@ -1,8 +1,9 @@
 //! Maps that are asked for groups, and pages of these.
 
+use crate::collections::map_of;
 use crate::plans::Call;
-use crate::sample::{Group, Sample, pairs_of};
-use crate::shapes::Shape;
+use crate::sample::{Group, Sample};
+use crate::shapes::Nodes;
 use crate::trial::Subject;
 use std::alloc::{AllocError, Global};
 use sweep_bptree::BPlusTreeMap;
@@ -26,7 +27,7 @@ fn is_sized<K: Sample, G: Group<K>>(
 
 impl<K: Sample, G: Group<K>> Subject for Grouped<K, G> {
     fn made(alloc: Global, many: u64) -> Result<Grouped<K, G>, AllocError> {
-        let map = BPlusTreeMap::from_iter(alloc, pairs_of(alloc, many, true)?)?;
+        let map = map_of(alloc, many, true)?;
         Ok(Grouped(map))
     }
 
@@ -41,19 +42,11 @@ impl<K: Sample, G: Group<K>> Subject for Grouped<K, G> {
         }
     }
 
-    fn is_tidy(&self) -> bool {
-        true
-    }
-
     fn told(&self) -> (u64, usize) {
         self.0.told()
     }
 
-    fn shape(&self) -> Option<Shape> {
-        None
-    }
-
-    fn ends_well(&self, _alloc: Global) -> bool {
-        true
+    fn nodes(&self) -> Nodes {
+        Nodes::untold()
     }
 }

@@ -1,16 +1,17 @@
 //! Maps and sets from which many pairs or keys leave, and come back.
 
+use crate::collections::{map_of, set_of};
 use crate::digest::{Digest, Told};
 use crate::plans::Call;
-use crate::sample::{Sample, keys_of, pairs_of};
-use crate::shapes::{Shape, shape_of};
+use crate::sample::{Sample, keys_of};
+use crate::shapes::{Nodes, nodes_of};
 use crate::trees::is_sample;
 use crate::trial::Subject;
 use std::alloc::{AllocError, Global};
 use sweep_bptree::map::{MoveError, RetainError, SplitError};
 use sweep_bptree::set::ReplaceError;
 use sweep_bptree::tree::{Argument, InsertError};
-use sweep_bptree::{BPlusTreeMap, BPlusTreeSet};
+use sweep_bptree::{BPlusTreeMap, BPlusTreeSet, map, set};
 
 /// A map, what left it, and how many pairs both had at first.
 #[derive(Drop)]
@@ -53,6 +54,30 @@ fn add_to_each<K: Sample, A: Argument<K>>(map: &mut BPlusTreeMap<K, u64, A>, mor
     map.update_each(|_key: &K, value: &mut u64| {
         *value = value.wrapping_add(more);
     });
+}
+
+// The same from one key up to another.
+fn add_between<K: Sample, A: Argument<K>>(
+    map: &mut BPlusTreeMap<K, u64, A>,
+    lo: &K,
+    hi: &K,
+    more: u64,
+) {
+    map.update_range(Some(lo), Some(hi), |_key: &K, value: &mut u64| {
+        *value = value.wrapping_add(more);
+    });
+}
+
+// Puts pairs into a map again.
+fn takes_in<K: Sample, A: Argument<K>>(
+    map: &mut BPlusTreeMap<K, u64, A>,
+    pairs: map::IntoIter<K, u64, A>,
+) -> bool {
+    let mut is_well = true;
+    for (key, value) in pairs {
+        is_well &= map.insert(key, value).is_ok();
+    }
+    is_well
 }
 
 impl<K: Sample, A: Argument<K> + Told> Moved<K, A> {
@@ -123,8 +148,8 @@ impl<K: Sample, A: Argument<K> + Told> Moved<K, A> {
             Err(RetainError::NotMade) => Err(AllocError),
             Err(RetainError::NotStored(pair, rest)) => {
                 let (key, value) = pair;
-                let is_back = self.here.insert(key, value).is_ok()
-                    && self.here.extend(rest).is_ok();
+                let mut is_back = self.here.insert(key, value).is_ok();
+                is_back &= takes_in(&mut self.here, rest);
                 if is_back { Err(AllocError) } else { Ok(false) }
             }
         }
@@ -137,32 +162,32 @@ impl<K: Sample, A: Argument<K> + Told> Moved<K, A> {
         let (lo, hi) = (K::sample(alloc, first)?, K::sample(alloc, self.many)?);
         let many = self.many.saturating_sub(first) as usize;
         let len = self.here.len();
-        self.here
-            .update_range(Some(&lo), Some(&hi), |_key: &K, value: &mut u64| {
-                *value = value.wrapping_add(1);
-            });
-        self.here
-            .update_range(Some(&lo), Some(&hi), |_key: &K, value: &mut u64| {
-                *value = value.wrapping_sub(1);
-            });
+        add_between(&mut self.here, &lo, &hi, 1);
+        add_between(&mut self.here, &lo, &hi, u64::MAX);
         let answer = self.here.remove_range(Some(&lo), Some(&hi));
         let gone = len.saturating_sub(self.here.len());
         let is_right = match answer {
             Ok(count) => count == many && gone == many,
             Err(_) => gone < many,
         };
-        let mut is_refused = answer.is_err();
+        let is_refused = self.fills(alloc, first)? || answer.is_err();
+        if is_right && is_refused {
+            Err(AllocError)
+        } else {
+            Ok(is_right)
+        }
+    }
+
+    // Puts the pairs from a number on again, and answers whether one was refused at first.
+    fn fills(&mut self, alloc: Global, first: u64) -> Result<bool, AllocError> {
+        let mut is_refused = false;
         for number in first..self.many {
             if self.puts(alloc, number).is_err() {
                 is_refused = true;
                 self.puts(alloc, number)?;
             }
         }
-        if is_right && is_refused {
-            Err(AllocError)
-        } else {
-            Ok(is_right)
-        }
+        Ok(is_refused)
     }
 
     // Puts the pair of a number, which may be there.
@@ -210,7 +235,7 @@ impl<K: Sample, A: Argument<K> + Told> Moved<K, A> {
 impl<K: Sample, A: Argument<K> + Told> Subject for Moved<K, A> {
     fn made(alloc: Global, many: u64) -> Result<Moved<K, A>, AllocError> {
         Ok(Moved {
-            here: BPlusTreeMap::from_iter(alloc, pairs_of(alloc, many, true)?)?,
+            here: map_of(alloc, many, true)?,
             there: BPlusTreeMap::new(alloc)?,
             many,
         })
@@ -248,16 +273,8 @@ impl<K: Sample, A: Argument<K> + Told> Subject for Moved<K, A> {
         )
     }
 
-    fn is_tidy(&self) -> bool {
-        self.here.is_tidy() && self.there.is_tidy()
-    }
-
-    fn shape(&self) -> Option<Shape> {
-        self.here.shape()
-    }
-
-    fn ends_well(&self, _alloc: Global) -> bool {
-        true
+    fn nodes(&self) -> Nodes {
+        self.here.nodes().beside(self.there.nodes())
     }
 }
 
@@ -289,6 +306,15 @@ fn key_in_hand<K: Drop>(refusal: MoveError<K, ()>) -> Option<K> {
         }
         MoveError::NotTaken => None,
     }
+}
+
+// Puts keys into a set again.
+fn takes_keys_in<K: Sample>(set: &mut BPlusTreeSet<K>, keys: set::IntoIter<K>) -> bool {
+    let mut is_well = true;
+    for key in keys {
+        is_well &= set.insert(key).is_ok();
+    }
+    is_well
 }
 
 impl<K: Sample> MovedKeys<K> {
@@ -352,7 +378,8 @@ impl<K: Sample> MovedKeys<K> {
             Ok(()) => Ok(self.here.len() == len),
             Err(RetainError::NotMade) => Err(AllocError),
             Err(RetainError::NotStored(key, rest)) => {
-                let is_back = self.here.insert(key).is_ok() && self.here.extend(rest).is_ok();
+                let mut is_back = self.here.insert(key).is_ok();
+                is_back &= takes_keys_in(&mut self.here, rest);
                 if is_back { Err(AllocError) } else { Ok(false) }
             }
         }
@@ -418,7 +445,7 @@ impl<K: Sample> MovedKeys<K> {
 impl<K: Sample> Subject for MovedKeys<K> {
     fn made(alloc: Global, many: u64) -> Result<MovedKeys<K>, AllocError> {
         Ok(MovedKeys {
-            here: BPlusTreeSet::from_iter(alloc, keys_of(alloc, many, true)?)?,
+            here: set_of(alloc, many, true)?,
             there: BPlusTreeSet::new(alloc)?,
             many,
         })
@@ -437,10 +464,6 @@ impl<K: Sample> Subject for MovedKeys<K> {
         }
     }
 
-    fn is_tidy(&self) -> bool {
-        true
-    }
-
     // The keys of both, since what is refused may leave some of them in other nodes.
     fn told(&self) -> (u64, usize) {
         let mut digest = Digest::new();
@@ -456,11 +479,7 @@ impl<K: Sample> Subject for MovedKeys<K> {
         )
     }
 
-    fn shape(&self) -> Option<Shape> {
-        Some(shape_of(self.here.tree()))
-    }
-
-    fn ends_well(&self, _alloc: Global) -> bool {
-        true
+    fn nodes(&self) -> Nodes {
+        nodes_of(self.here.tree())
     }
 }

@@ -5,7 +5,7 @@ ghost use Rattle.std.specs.Prelude.{◌≡◌, ◌≤◌, ◌+◌, vec_len};
 use crate::digest::{Digest, Told, holds_none, tell_inner, tell_leaf, told_store};
 use crate::plans::Call;
 use crate::sample::Sample;
-use crate::shapes::Shape;
+use crate::shapes::{Nodes, is_tidy};
 use crate::trial::Subject;
 use std::alloc::{AllocError, Global};
 use std::marker::PhantomData;
@@ -32,20 +32,12 @@ impl<P: Part + Drop> Subject for Made<P> {
         Ok(false)
     }
 
-    fn is_tidy(&self) -> bool {
-        true
-    }
-
     fn told(&self) -> (u64, usize) {
         (self.0, 0)
     }
 
-    fn shape(&self) -> Option<Shape> {
-        None
-    }
-
-    fn ends_well(&self, _alloc: Global) -> bool {
-        true
+    fn nodes(&self) -> Nodes {
+        Nodes::untold()
     }
 }
 
@@ -152,20 +144,12 @@ impl<K: Sample, A: Argument<K>> Subject for Reserved<K, A> {
         Ok(holds_two(&mut self.0)? && !self.0.is_empty())
     }
 
-    fn is_tidy(&self) -> bool {
-        true
-    }
-
     fn told(&self) -> (u64, usize) {
         (0, 8)
     }
 
-    fn shape(&self) -> Option<Shape> {
-        None
-    }
-
-    fn ends_well(&self, _alloc: Global) -> bool {
-        true
+    fn nodes(&self) -> Nodes {
+        Nodes::untold()
     }
 }
 
@@ -216,18 +200,10 @@ where
         (told_store(&self.0), 0)
     }
 
-    fn is_tidy(&self) -> bool {
-        match self.0.clone() {
-            Ok(store) => holds_none(store),
-            Err(_) => false,
+    fn nodes(&self) -> Nodes {
+        Nodes {
+            is_tidy: is_tidy(&self.0),
+            shape: None,
         }
-    }
-
-    fn shape(&self) -> Option<Shape> {
-        None
-    }
-
-    fn ends_well(&self, _alloc: Global) -> bool {
-        true
     }
 }

@@ -1,9 +1,10 @@
 //! Maps that are asked for places and ranks, and lose pairs by a place or from the front.
 
+use crate::collections::map_of;
 use crate::commands::Asked;
 use crate::plans::Call;
-use crate::sample::{Sample, pairs_of};
-use crate::shapes::Shape;
+use crate::sample::Sample;
+use crate::shapes::Nodes;
 use crate::trees::is_sample;
 use crate::trial::Subject;
 use std::alloc::{AllocError, Global};
@@ -14,28 +15,24 @@ use sweep_bptree::tree::SelectError;
 #[derive(Drop)]
 pub struct Placed<K: Sample, A: Asked<K>>(BPlusTreeMap<K, u64, A>);
 
-// Whether a map has the pair of a number at a place of the first group, and ranks its key.
+// Whether a map has the pair of a number at a place, and ranks its key.
 fn has_at<K: Sample, A: Asked<K>>(
-    alloc: Global,
     map: &BPlusTreeMap<K, u64, A>,
-    place: usize,
+    query: A::Query,
     number: u64,
 ) -> Result<bool, AllocError> {
-    let query = A::query(alloc, 0, place)?;
     let Some((key, value)) = map.get_by_argument(query)? else {
         return Ok(false);
     };
     Ok(*value == number && map.rank_by_argument(key)?.is_ok())
 }
 
-// Writes the value of a number at a place of the first group, where it stands already.
+// Writes the value of a number at a place, where it stands already.
 fn writes_at<K: Sample, A: Asked<K>>(
-    alloc: Global,
     map: &mut BPlusTreeMap<K, u64, A>,
-    place: usize,
+    query: A::Query,
     number: u64,
 ) -> Result<bool, AllocError> {
-    let query = A::query(alloc, 0, place)?;
     match map.get_mut_by_argument(query) {
         Ok(value) => {
             let is_there = *value == number;
@@ -47,15 +44,12 @@ fn writes_at<K: Sample, A: Asked<K>>(
     }
 }
 
-// Whether three pairs from a place of the first group on have the values of a number and the next
-// ones.
+// Whether three pairs from a place on have the values of a number and the next ones.
 fn has_three<K: Sample, A: Asked<K>>(
-    alloc: Global,
     map: &BPlusTreeMap<K, u64, A>,
-    place: usize,
+    query: A::Query,
     number: u64,
 ) -> Result<bool, AllocError> {
-    let query = A::query(alloc, 0, place)?;
     let mut pairs = map.range_by_argument(query, 3)?;
     let mut all = pairs.len() == 3;
     for more in 0..3u64 {
@@ -68,18 +62,27 @@ fn has_three<K: Sample, A: Asked<K>>(
     Ok(all)
 }
 
-// Whether a cursor on a place of the first group stands on the pair of a number.
+// Whether a cursor on a place stands on the pair of a number.
 fn stands_at<K: Sample, A: Asked<K>>(
-    alloc: Global,
     map: &BPlusTreeMap<K, u64, A>,
-    place: usize,
+    query: A::Query,
     number: u64,
 ) -> Result<bool, AllocError> {
-    let query = A::query(alloc, 0, place)?;
     let Some((cursor, value)) = map.cursor_by_argument(query)? else {
         return Ok(false);
     };
     Ok(*value == number && is_sample(cursor.key(), number))
+}
+
+// The place in the first group that is asked for in a turn.
+fn place_of(turn: u64) -> usize {
+    match turn % 6 {
+        0 => 5,
+        1 => 7,
+        2 => 9,
+        3 => 100,
+        _ => 11,
+    }
 }
 
 // Whether a pair has the value of a number.
@@ -92,7 +95,7 @@ fn is_of<K: Drop>(pair: Option<(K, u64)>, number: u64) -> bool {
 
 impl<K: Sample, A: Asked<K>> Subject for Placed<K, A> {
     fn made(alloc: Global, many: u64) -> Result<Placed<K, A>, AllocError> {
-        let map = BPlusTreeMap::from_iter(alloc, pairs_of(alloc, many, true)?)?;
+        let map = map_of(alloc, many, true)?;
         Ok(Placed(map))
     }
 
@@ -104,17 +107,18 @@ impl<K: Sample, A: Asked<K>> Subject for Placed<K, A> {
         };
         let map = &mut self.0;
         let round = turn / 6;
+        if turn % 6 == 5 {
+            return Ok(is_of(map.pop_first()?, round));
+        }
+        let place = place_of(turn);
+        let number = round.wrapping_add(place as u64);
+        let query = A::query(alloc, 0, place)?;
         match turn % 6 {
-            0 => has_at(alloc, map, 5, round.wrapping_add(5)),
-            1 => writes_at(alloc, map, 7, round.wrapping_add(7)),
-            2 => has_three(alloc, map, 9, round.wrapping_add(9)),
-            3 => {
-                let query = A::query(alloc, 0, 100)?;
-                let number = round.wrapping_mul(2).wrapping_add(100);
-                Ok(is_of(map.remove_by_argument(query)?, number))
-            }
-            4 => stands_at(alloc, map, 11, round.wrapping_add(11)),
-            _ => Ok(is_of(map.pop_first()?, round)),
+            0 => has_at(map, query, number),
+            1 => writes_at(map, query, number),
+            2 => has_three(map, query, number),
+            3 => Ok(is_of(map.remove_by_argument(query)?, number.wrapping_add(round))),
+            _ => stands_at(map, query, number),
         }
     }
 
@@ -122,15 +126,7 @@ impl<K: Sample, A: Asked<K>> Subject for Placed<K, A> {
         self.0.told()
     }
 
-    fn is_tidy(&self) -> bool {
-        self.0.is_tidy()
-    }
-
-    fn shape(&self) -> Option<Shape> {
-        self.0.shape()
-    }
-
-    fn ends_well(&self, _alloc: Global) -> bool {
-        true
+    fn nodes(&self) -> Nodes {
+        self.0.nodes()
     }
 }

@@ -161,6 +161,11 @@ impl Plan {
         }
     }
 
+    /// Whether it is of lists of commands, each of which is replied to.
+    pub fn is_replied(&self) -> bool {
+        self.letter == b'k'
+    }
+
     // The turn behind the last removal.
     fn last_turn(&self) -> u64 {
         match self.begins {
@@ -412,18 +417,19 @@ fn plan_at(
 /// The plan of a letter and a digit, where that is not 0, as it is called on groups or on numbers.
 pub fn plan_of(letter: u8, size: u8, on_groups: bool) -> Option<Plan> {
     let key = (letter, size);
+    let (names, rows) = tables_of(size > 0, on_groups);
     if size > 0 {
-        let place = place_of(letter, size)?;
-        return if on_groups {
-            plan_at(key, place, &LARGER_GROUP_NAMES, &LARGER_ROWS)
-        } else {
-            plan_at(key, place, &LARGER_NUMBER_NAMES, &LARGER_ROWS)
-        };
+        return plan_at(key, place_of(letter, size)?, names, rows);
     }
-    let place = letter.checked_sub(b'a')? as usize;
-    if on_groups {
-        plan_at(key, place, &GROUP_NAMES, &ROWS)
-    } else {
-        plan_at(key, place, &NUMBER_NAMES, &ROWS)
+    plan_at(key, letter.checked_sub(b'a')? as usize, names, rows)
+}
+
+// The names and rows of the larger scenarios, or of the others.
+fn tables_of(are_larger: bool, on_groups: bool) -> (&'static [&'static str], &'static [Row]) {
+    match (are_larger, on_groups) {
+        (true, true) => (&LARGER_GROUP_NAMES, &LARGER_ROWS),
+        (true, false) => (&LARGER_NUMBER_NAMES, &LARGER_ROWS),
+        (false, true) => (&GROUP_NAMES, &ROWS),
+        (false, false) => (&NUMBER_NAMES, &ROWS),
     }
 }

@@ -1,9 +1,10 @@
 //! Maps with counts that are asked for cursors on places, and lose their first pairs by a place, one
 //! by its key, and the last one.
 
+use crate::collections::map_of;
 use crate::plans::Call;
-use crate::sample::{Sample, pairs_of};
-use crate::shapes::Shape;
+use crate::sample::Sample;
+use crate::shapes::Nodes;
 use crate::trees::is_sample;
 use crate::trial::Subject;
 use std::alloc::{AllocError, Global};
@@ -39,7 +40,7 @@ fn is_of<K: Sample>(gone: Option<(K, u64)>, number: u64) -> bool {
 
 impl<K: Sample> Subject for Pointed<K> {
     fn made(alloc: Global, many: u64) -> Result<Pointed<K>, AllocError> {
-        let mut map = BPlusTreeMap::from_iter(alloc, pairs_of(alloc, many, true)?)?;
+        let mut map = map_of(alloc, many, true)?;
         let mut gone = 0u64;
         // No leaf has more than 64 pairs, and of several each has at least 16.
         if many > 64 {
@@ -74,15 +75,7 @@ impl<K: Sample> Subject for Pointed<K> {
         self.map.told()
     }
 
-    fn is_tidy(&self) -> bool {
-        self.map.is_tidy()
-    }
-
-    fn shape(&self) -> Option<Shape> {
-        self.map.shape()
-    }
-
-    fn ends_well(&self, _alloc: Global) -> bool {
-        true
+    fn nodes(&self) -> Nodes {
+        self.map.nodes()
     }
 }

@@ -1,9 +1,10 @@
 //! Calls that take no memory.
 
+use crate::collections::set_of;
 use crate::digest::{Told, digest_of};
 use crate::plans::Call;
-use crate::sample::{Sample, keys_of};
-use crate::shapes::Shape;
+use crate::sample::Sample;
+use crate::shapes::Nodes;
 use crate::trees::last_of;
 use crate::trial::Subject;
 use std::alloc::{AllocError, Global};
@@ -22,6 +23,16 @@ pub struct Readings<S: NodeStore> {
     equal: Option<S::K>,
     gone: S::K,
     last: u64,
+}
+
+// The last key of so many, that key once more, and a greater one.
+fn last_keys<K: Sample>(alloc: Global, many: u64) -> Result<(K, K, K), AllocError> {
+    let last = many.saturating_sub(1);
+    Ok((
+        K::sample(alloc, last)?,
+        K::sample(alloc, last)?,
+        K::sample(alloc, many)?,
+    ))
 }
 
 // Reads of a tree, by a key that is there and one that is not.
@@ -100,9 +111,7 @@ where
 {
     fn made(alloc: Global, many: u64) -> Result<Readings<S>, AllocError> {
         let last = many.saturating_sub(1);
-        let here = S::K::sample(alloc, last)?;
-        let equal = S::K::sample(alloc, last)?;
-        let gone = S::K::sample(alloc, many)?;
+        let (here, equal, gone) = last_keys(alloc, many)?;
         let empty = <BPlusTree<S> as Subject>::made(alloc, 0)?;
         let tree = <BPlusTree<S> as Subject>::made(alloc, many)?;
         let given = <BPlusTree<S> as Subject>::made(alloc, many)?;
@@ -150,16 +159,8 @@ where
         self.tree.told()
     }
 
-    fn is_tidy(&self) -> bool {
-        self.tree.is_tidy()
-    }
-
-    fn shape(&self) -> Option<Shape> {
-        None
-    }
-
-    fn ends_well(&self, _alloc: Global) -> bool {
-        true
+    fn nodes(&self) -> Nodes {
+        self.tree.nodes()
     }
 }
 
@@ -180,8 +181,14 @@ fn counted<K: Sample>(one: &BPlusTreeSet<K>, other: BPlusTreeSet<K>) -> usize {
     if !are_alike(one, &other) {
         return 0;
     }
-    let mut count = together(one, &other).saturating_add(apart(one, &other));
-    for _key in other {
+    let count = together(one, &other).saturating_add(apart(one, &other));
+    count.saturating_add(given_out(other))
+}
+
+// How many keys a set hands over.
+fn given_out<K: Sample>(set: BPlusTreeSet<K>) -> usize {
+    let mut count: usize = 0;
+    for _key in set {
         count = count.saturating_add(1);
     }
     count
@@ -239,12 +246,9 @@ fn is_counted<K: Sample>(set: &BPlusTreeSet<K>, other: Option<BPlusTreeSet<K>>) 
 
 impl<K: Sample> Subject for SetReadings<K> {
     fn made(alloc: Global, many: u64) -> Result<SetReadings<K>, AllocError> {
-        let last = many.saturating_sub(1);
-        let here = K::sample(alloc, last)?;
-        let equal = K::sample(alloc, last)?;
-        let gone = K::sample(alloc, many)?;
-        let one = BPlusTreeSet::from_iter(alloc, keys_of(alloc, many, true)?)?;
-        let other = BPlusTreeSet::from_iter(alloc, keys_of(alloc, many, true)?)?;
+        let (here, equal, gone) = last_keys(alloc, many)?;
+        let one = set_of(alloc, many, true)?;
+        let other = set_of(alloc, many, true)?;
         Ok(SetReadings {
             one,
             other: Some(other),
@@ -269,19 +273,11 @@ impl<K: Sample> Subject for SetReadings<K> {
         }
     }
 
-    fn is_tidy(&self) -> bool {
-        true
-    }
-
     fn told(&self) -> (u64, usize) {
         (0, self.one.len())
     }
 
-    fn shape(&self) -> Option<Shape> {
-        None
-    }
-
-    fn ends_well(&self, _alloc: Global) -> bool {
-        true
+    fn nodes(&self) -> Nodes {
+        Nodes::untold()
     }
 }

@@ -1,7 +1,7 @@
 //! How the nodes of a tree stand, and what a call does to them.
 
-use crate::digest::NUMBERS;
-use sweep_bptree::tree::{BPlusTree, InnerNodeId, LeafNodeId, NodeStore};
+use crate::digest::{NUMBERS, holds_none};
+use sweep_bptree::tree::{BPlusTree, CloneStore, InnerNodeId, LeafNodeId, NodeStore};
 
 /// The height of a tree, the number of its nodes, and how often it was rebalanced by rotations and
 /// by merges.
@@ -16,8 +16,8 @@ pub struct Shape {
     merged_inners: u64,
 }
 
-/// The shape of a tree.
-pub fn shape_of<S: NodeStore>(tree: &BPlusTree<S>) -> Shape {
+// The shape of a tree.
+fn shape_of<S: NodeStore>(tree: &BPlusTree<S>) -> Shape {
     let store = tree.node_store();
     let mut leaves: usize = 0;
     let mut inners: usize = 0;
@@ -46,6 +46,54 @@ pub fn shape_of<S: NodeStore>(tree: &BPlusTree<S>) -> Shape {
         merged_inners: rebalanced
             .merge_with_left_inner
             .saturating_add(rebalanced.merge_with_right_inner),
+    }
+}
+
+/// What is told of the nodes of a tree, where it is.
+#[derive(Clone, Copy)]
+pub struct Nodes {
+    /// Whether its store holds no number but theirs.
+    pub is_tidy: bool,
+    pub shape: Option<Shape>,
+}
+
+impl Nodes {
+    /// Of no tree.
+    pub fn untold() -> Nodes {
+        Nodes {
+            is_tidy: true,
+            shape: None,
+        }
+    }
+
+    /// Of this tree, which is tidy only where another one is, too.
+    pub fn beside(self, other: Nodes) -> Nodes {
+        Nodes {
+            is_tidy: self.is_tidy && other.is_tidy,
+            shape: self.shape,
+        }
+    }
+}
+
+/// Whether a store holds no number but those of its nodes.
+pub fn is_tidy<S: CloneStore>(store: &S) -> bool
+where
+    S::V: Clone,
+{
+    match store.clone() {
+        Ok(store) => holds_none(store),
+        Err(_) => false,
+    }
+}
+
+/// The nodes of a tree.
+pub fn nodes_of<S: CloneStore>(tree: &BPlusTree<S>) -> Nodes
+where
+    S::V: Clone,
+{
+    Nodes {
+        is_tidy: is_tidy(tree.node_store()),
+        shape: Some(shape_of(tree)),
     }
 }
 

@@ -4,7 +4,7 @@ use crate::digest::{Digest, Told};
 use crate::moved::handed_back;
 use crate::plans::Call;
 use crate::sample::Sample;
-use crate::shapes::Shape;
+use crate::shapes::Nodes;
 use crate::trees::is_sample;
 use crate::trial::Subject;
 use bptree_sharded::map_shard::empty_over;
@@ -86,6 +86,12 @@ impl<K: Sample> Sharded<K> {
             let (key, value) = handed_back(refusal);
             is_well = self.puts(key, value)?;
         }
+        Ok(self.takes_in(&mut shard)? && is_well)
+    }
+
+    // Puts the pairs of a shard, which leave it.
+    fn takes_in(&mut self, shard: &mut Map<K>) -> Result<bool, AllocError> {
+        let mut is_well = true;
         for _ in 0..shard.len() {
             if let Some((key, value)) = shard.pop_first()? {
                 is_well &= self.puts(key, value)?;
@@ -172,10 +178,6 @@ impl<K: Sample> Subject for Sharded<K> {
         }
     }
 
-    fn is_tidy(&self) -> bool {
-        true
-    }
-
     // The pairs, and how many each shard has.
     fn told(&self) -> (u64, usize) {
         let mut digest = Digest::new();
@@ -191,11 +193,7 @@ impl<K: Sample> Subject for Sharded<K> {
         (digest.value(), self.whole.len())
     }
 
-    fn shape(&self) -> Option<Shape> {
-        None
-    }
-
-    fn ends_well(&self, _alloc: Global) -> bool {
-        true
+    fn nodes(&self) -> Nodes {
+        Nodes::untold()
     }
 }

@@ -1,8 +1,9 @@
 //! Maps of three heights that are asked for summaries and lengths of their parts.
 
+use crate::collections::map_of;
 use crate::plans::Call;
-use crate::sample::{Group, Sample, pairs_of};
-use crate::shapes::Shape;
+use crate::sample::{Group, Sample};
+use crate::shapes::Nodes;
 use crate::trial::Subject;
 use std::alloc::{AllocError, Global};
 use sweep_bptree::BPlusTreeMap;
@@ -10,14 +11,6 @@ use sweep_bptree::page::{page, page_of, pages};
 use sweep_bptree::tree::Argument;
 use sweep_bptree::tree::count::Count;
 use sweep_bptree::tree::group::GroupCount;
-
-// A map of so many pairs.
-fn of_pairs<K: Sample, A: Argument<K>>(
-    alloc: Global,
-    many: u64,
-) -> Result<BPlusTreeMap<K, u64, A>, AllocError> {
-    BPlusTreeMap::from_iter(alloc, pairs_of(alloc, many, true)?)
-}
 
 // Maps of height 0, 1 and 2.
 #[derive(Drop)]
@@ -29,10 +22,11 @@ struct Heights<K: Sample, A: Argument<K>> {
 
 impl<K: Sample, A: Argument<K>> Heights<K, A> {
     fn made(alloc: Global, many: u64) -> Result<Heights<K, A>, AllocError> {
-        let low = of_pairs(alloc, 40)?;
-        let middle = of_pairs(alloc, 400)?;
-        let high = of_pairs(alloc, many)?;
-        Ok(Heights { low, middle, high })
+        Ok(Heights {
+            low: map_of(alloc, 40, true)?,
+            middle: map_of(alloc, 400, true)?,
+            high: map_of(alloc, many, true)?,
+        })
     }
 
     // Whether they have the heights that they are to have.
@@ -52,14 +46,21 @@ impl<K: Sample, A: Argument<K>> Heights<K, A> {
     }
 }
 
-// The number that is wanted of the map of a turn.
-fn wanted(turn: u64, numbers: (usize, usize, usize)) -> usize {
-    match turn % 3 {
-        0 => numbers.0,
-        1 => numbers.1,
-        _ => numbers.2,
-    }
+// Whether a number is that of a turn.
+fn is_wanted(numbers: &[usize; 24], turn: u64, number: usize) -> bool {
+    numbers.get(turn as usize) == Some(&number)
 }
+
+// How many groups the maps have in the parts that are asked for, of each part three numbers.
+const GROUPS: [usize; 24] = [
+    1, 3, 26, 1, 3, 26, 1, 3, 3, 0, 2, 2, 1, 3, 26, 0, 0, 0, 1, 3, 26, 1, 3, 26,
+];
+
+// How many keys they have in these parts, and of pages.
+const KEYS: [usize; 24] = [
+    40, 400, 5000, 20, 380, 4980, 20, 20, 20, 20, 380, 4880, 0, 0, 0, 0, 20, 20, 2, 20, 250, 1, 1,
+    1,
+];
 
 /// Maps of 40, 400 and so many pairs in groups, that are asked how many groups a part has.
 #[derive(Drop)]
@@ -103,35 +104,24 @@ impl<K: Sample, G: Group<K>> Subject for Summed<K, G> {
             return Ok(false);
         };
         let map = self.0.of(turn);
-        let (count, numbers) = match turn / 3 {
-            0 => (groups_between(alloc, map, None, None)?, (1, 3, 26)),
-            1 => (groups_between(alloc, map, Some(20), None)?, (1, 3, 26)),
-            2 => (groups_between(alloc, map, None, Some(399))?, (1, 3, 3)),
-            3 => (groups_between(alloc, map, Some(150), Some(200))?, (0, 2, 2)),
-            4 => (
-                groups_between(alloc, map, Some(20), Some(4900))?,
-                (1, 3, 26),
-            ),
-            5 => (groups_between(alloc, map, Some(200), Some(150))?, (0, 0, 0)),
-            _ => (groups_of_part(alloc, map)?, (1, 3, 26)),
+        let count = match turn / 3 {
+            0 => groups_between(alloc, map, None, None)?,
+            1 => groups_between(alloc, map, Some(20), None)?,
+            2 => groups_between(alloc, map, None, Some(399))?,
+            3 => groups_between(alloc, map, Some(150), Some(200))?,
+            4 => groups_between(alloc, map, Some(20), Some(4900))?,
+            5 => groups_between(alloc, map, Some(200), Some(150))?,
+            _ => groups_of_part(alloc, map)?,
         };
-        Ok(self.0.are_three() && count == wanted(turn, numbers))
-    }
-
-    fn is_tidy(&self) -> bool {
-        true
+        Ok(self.0.are_three() && is_wanted(&GROUPS, turn, count))
     }
 
     fn told(&self) -> (u64, usize) {
         self.0.high.told()
     }
 
-    fn shape(&self) -> Option<Shape> {
-        None
-    }
-
-    fn ends_well(&self, _alloc: Global) -> bool {
-        true
+    fn nodes(&self) -> Nodes {
+        Nodes::untold()
     }
 }
 
@@ -139,13 +129,23 @@ impl<K: Sample, G: Group<K>> Subject for Summed<K, G> {
 #[derive(Drop)]
 pub struct Counted<K: Sample>(Heights<K, Count>);
 
-// The pairs from one key up to another one.
-fn pairs_between<'a, K: Sample>(
-    map: &'a BPlusTreeMap<K, u64, Count>,
-    lo: Option<&'a K>,
-    hi: Option<&'a K>,
-) -> usize {
-    map.range_len(lo, hi)
+// What is asked in a turn, with two keys.
+fn counted_in<K: Sample>(
+    map: &BPlusTreeMap<K, u64, Count>,
+    turn: u64,
+    lo: &K,
+    hi: &K,
+) -> Result<usize, AllocError> {
+    match turn / 3 {
+        0 => Ok(map.range_len(None, None)),
+        1 => Ok(map.range_len(Some(lo), None)),
+        2 => Ok(map.range_len(None, Some(lo))),
+        3 => Ok(map.range_len(Some(lo), Some(hi))),
+        4 => Ok(map.range_len(Some(hi), Some(lo))),
+        5 => pairs_of_page(map),
+        6 => Ok(pages(map, 20)),
+        _ => page_of_key(map, lo),
+    }
 }
 
 // How many pairs the fourth page of 20 has.
@@ -167,35 +167,17 @@ impl<K: Sample> Subject for Counted<K> {
         let Call::Own(turn) = call else {
             return Ok(false);
         };
-        let map = self.0.of(turn);
         let lo = K::sample(alloc, 20)?;
         let hi = K::sample(alloc, 4900)?;
-        let (count, numbers) = match turn / 3 {
-            0 => (pairs_between(map, None, None), (40, 400, 5000)),
-            1 => (pairs_between(map, Some(&lo), None), (20, 380, 4980)),
-            2 => (pairs_between(map, None, Some(&lo)), (20, 20, 20)),
-            3 => (pairs_between(map, Some(&lo), Some(&hi)), (20, 380, 4880)),
-            5 => (pairs_of_page(map)?, (0, 20, 20)),
-            6 => (pages(map, 20), (2, 20, 250)),
-            7 => (page_of_key(map, &lo)?, (1, 1, 1)),
-            _ => (pairs_between(map, Some(&hi), Some(&lo)), (0, 0, 0)),
-        };
-        Ok(self.0.are_three() && count == wanted(turn, numbers))
-    }
-
-    fn is_tidy(&self) -> bool {
-        true
+        let count = counted_in(self.0.of(turn), turn, &lo, &hi)?;
+        Ok(self.0.are_three() && is_wanted(&KEYS, turn, count))
     }
 
     fn told(&self) -> (u64, usize) {
         self.0.high.told()
     }
 
-    fn shape(&self) -> Option<Shape> {
-        None
-    }
-
-    fn ends_well(&self, _alloc: Global) -> bool {
-        true
+    fn nodes(&self) -> Nodes {
+        Nodes::untold()
     }
 }

@@ -3,7 +3,7 @@
 use crate::digest::{Digest, Told, digest_of, holds_none, told_store, word_of};
 use crate::plans::Call;
 use crate::sample::{Sample, pairs_of};
-use crate::shapes::{Shape, shape_of};
+use crate::shapes::{Nodes, nodes_of};
 use crate::trial::Subject;
 use std::alloc::{AllocError, Global};
 use sweep_bptree::script::End;
@@ -111,14 +111,6 @@ where
         || word_of(tree.root_argument()) == word_of(&<S::Argument as Default>::default())
 }
 
-/// Whether the store of a tree holds no number that none of its nodes has.
-pub fn is_tidy_tree<S: CloneStore<V = u64>>(tree: &BPlusTree<S>) -> bool {
-    match tree.node_store().clone() {
-        Ok(store) => holds_none(store),
-        Err(_) => false,
-    }
-}
-
 // Cursors go over a tree from both ends; then it is cloned, and its store.
 fn is_gone_over<S: CloneStore<V = u64>>(tree: &BPlusTree<S>, turn: u64) -> Result<bool, AllocError>
 where
@@ -183,15 +175,7 @@ where
         (digest_of(self), self.len())
     }
 
-    fn is_tidy(&self) -> bool {
-        is_tidy_tree(self)
-    }
-
-    fn shape(&self) -> Option<Shape> {
-        Some(shape_of(self))
-    }
-
-    fn ends_well(&self, _alloc: Global) -> bool {
-        true
+    fn nodes(&self) -> Nodes {
+        nodes_of(self)
     }
 }

@@ -1,7 +1,7 @@
 //! Scenarios: something is made and called, and what is refused is made or called again.
 
 use crate::plans::{Call, Plan, TURNS};
-use crate::shapes::{Seen, Shape};
+use crate::shapes::{Nodes, Seen};
 use std::alloc::{AllocError, Global};
 
 /// What a scenario is about.
@@ -12,18 +12,11 @@ pub trait Subject: Drop + Sized {
     /// Whether a call is answered as it is to be. An error stands for a refusal.
     fn answers(&mut self, alloc: Global, call: Call) -> Result<bool, AllocError>;
 
-    /// Whether its store holds no number but those of its nodes, where it shows one.
-    fn is_tidy(&self) -> bool;
-
     /// The whole of it as one number, and how many pairs or keys it has.
     fn told(&self) -> (u64, usize);
 
     /// How the nodes of its tree stand, where it has one that is told of.
-    fn shape(&self) -> Option<Shape>;
-
-    /// Whether all that was answered is what is answered where nothing is refused, where it knows
-    /// that.
-    fn ends_well(&self, alloc: Global) -> bool;
+    fn nodes(&self) -> Nodes;
 }
 
 /// How a scenario went.
@@ -112,7 +105,7 @@ impl<'a> Trial<'a> {
             Err(_) => {
                 self.count();
                 let before = told_before::<T>(self.allocator(), plan, turn);
-                let is_kept = Ok(subject.told()) == before && subject.is_tidy();
+                let is_kept = Ok(subject.told()) == before && subject.nodes().is_tidy;
                 is_kept && self.call_again(subject, call)
             }
         };
@@ -121,12 +114,23 @@ impl<'a> Trial<'a> {
 
     // Whether a call that was refused is answered as it is to be when it is made again.
     fn call_again<T: Subject>(&mut self, subject: &mut T, call: Call) -> bool {
-        let before = subject.shape();
+        let before = subject.nodes().shape;
         let is_well = subject.answers(self.allocator(), call) == Ok(true);
-        if let (Some(before), Some(after)) = (before, subject.shape()) {
+        if let (Some(before), Some(after)) = (before, subject.nodes().shape) {
             self.seen = Some(Seen { before, after });
         }
         is_well
+    }
+
+    // Looks at what a scenario ends with. One that is replied to ends as where nothing is refused.
+    fn close<T: Subject>(&mut self, subject: &T, plan: &Plan) {
+        let (told, len) = subject.told();
+        let is_long = plan.least <= len && len <= plan.most;
+        self.check(is_long && subject.nodes().is_tidy);
+        if plan.is_replied() {
+            let wanted = told_before::<T>(self.allocator(), plan, TURNS);
+            self.check(Ok((told, len)) == wanted);
+        }
     }
 
     /// Carries out a scenario. What is made after a refusal has to be the same as where nothing is
@@ -151,9 +155,7 @@ impl<'a> Trial<'a> {
             self.call(&mut subject, plan, turn, call);
         }
         self.end();
-        let (_, len) = subject.told();
-        let is_long = plan.least <= len && len <= plan.most;
-        self.check(is_long && subject.is_tidy() && subject.ends_well(self.allocator()));
+        self.close(&subject, plan);
         if plan.begins.is_none() {
             let is_same = match T::made(self.allocator(), plan.many) {
                 Ok(again) => again.told() == made,
