@@ -4,23 +4,41 @@ mod carrying;
 mod drawing;
 
 pub use carrying::carry_out;
-pub use drawing::text_of;
 use std::alloc::{AllocError, Global};
 use sweep_bptree::BPlusTreeMap;
 use sweep_bptree::tree::count::Count;
 
+type Map = BPlusTreeMap<u64, u64, Count>;
+
+/// The text of the tree of a map.
+pub fn text_of(alloc: Global, map: &Map) -> Result<String, AllocError> {
+    drawing::text_of(alloc, map.tree())
+}
+
+fn put_pair(alloc: Global, map: &mut Map, key: u64) -> Result<bool, AllocError> {
+    let line = format!(in alloc; "put {key} {key}")?;
+    carry_out(map, line.as_str().as_bytes())
+}
+
+fn put_pairs(alloc: Global, map: &mut Map) -> Result<(), AllocError> {
+    for key in 1..66 {
+        put_pair(alloc, map, key)?;
+    }
+    Ok(())
+}
+
+fn remove_one(map: &mut Map) -> Result<(), AllocError> {
+    for line in ["del 3", "nonsense", "get 3"] {
+        carry_out(map, line.as_bytes())?;
+    }
+    Ok(())
+}
+
 /// The text of the tree that lines make: of two leaves, into which 65 pairs are put, and of which
 /// one is removed. Lines that ask for no change, or for nothing, change nothing.
 pub fn run(alloc: Global) -> Result<String, AllocError> {
-    let mut map = BPlusTreeMap::<u64, u64, Count>::new(alloc)?;
-    for key in 1..66 {
-        carry_out(
-            &mut map,
-            format!(in alloc; "put {key} {key}")?.as_str().as_bytes(),
-        )?;
-    }
-    for line in ["del 3", "nonsense", "get 3"] {
-        carry_out(&mut map, line.as_bytes())?;
-    }
-    text_of(alloc, map.tree())
+    let mut map = Map::new(alloc)?;
+    put_pairs(alloc, &mut map)?;
+    remove_one(&mut map)?;
+    text_of(alloc, &map)
 }

@@ -36,26 +36,44 @@ fn tell<T: Debug + Drop>(
     }
 }
 
-fn tell_all(rt: &HostRuntime) -> io::Result<()> {
+fn tell_examples(rt: &HostRuntime) -> io::Result<()> {
     let alloc = rt.alloc();
     tell(rt, "race", race::run(alloc))?;
     tell(rt, "hello, world, other", string::run(alloc))?;
     tell(rt, "size, depth", visit_depth::run(alloc, 10000))?;
-    tell(rt, "even numbers", argument::run(alloc))?;
+    tell(rt, "even numbers", argument::run(alloc))
+}
+
+fn tell_dates(rt: &HostRuntime) -> io::Result<()> {
+    let alloc = rt.alloc();
     tell(rt, "leap years", Ok(calendar::leap_years()))?;
     tell(rt, "days of February", Ok(calendar::days_of_february()))?;
     tell(rt, "days of 2021", calendar::days_of_months(alloc, 2021))?;
     let days = date_statistic::run(alloc);
-    tell(rt, "days, of 2011, 2012, 2020, 2021, left of 2011", days)?;
+    tell(rt, "days, of 2011, 2012, 2020, 2021, left of 2011", days)
+}
+
+fn tell_uses(rt: &HostRuntime) -> io::Result<()> {
+    let alloc = rt.alloc();
     tell(rt, "ranks, players", uses::leaderboard::run(alloc))?;
     tell(rt, "segments beside", uses::sweep_line::run(alloc))?;
     tell(rt, "items", uses::grouped_index::run(alloc))?;
     tell(rt, "rows by value", uses::secondary_index::run(alloc))?;
-    tell(rt, "takings", uses::takings::run(alloc))?;
-    match draw::run(alloc) {
+    tell(rt, "takings", uses::takings::run(alloc))
+}
+
+fn tell_drawn(rt: &HostRuntime) -> io::Result<()> {
+    match draw::run(rt.alloc()) {
         Ok(text) => println!(rt; "{text}"),
         Err(_) => println!(rt; "a tree: out of memory"),
     }
+}
+
+fn tell_all(rt: &HostRuntime) -> io::Result<()> {
+    tell_examples(rt)?;
+    tell_dates(rt)?;
+    tell_uses(rt)?;
+    tell_drawn(rt)
 }
 
 // What the lines of standard input were for.
@@ -100,25 +118,40 @@ fn take_lines(rt: &HostRuntime, map: &mut Map) -> Result<Lines, AllocError> {
     Ok(lines)
 }
 
+// Tells the text of the tree of a map, and whether that went well.
+fn tell_text(rt: &HostRuntime, map: &Map) -> bool {
+    match draw::text_of(rt.alloc(), map) {
+        Ok(text) => println!(rt; "{text}").is_ok(),
+        Err(_) => false,
+    }
+}
+
+// Tells what is to be told behind the lines.
+fn tell_after(rt: &HostRuntime, map: &Map, lines: Lines) -> bool {
+    match lines {
+        Lines::None => tell_all(rt).is_ok(),
+        Lines::Timed => true,
+        Lines::Drawn => tell_text(rt, map),
+        Lines::Wrong => false,
+    }
+}
+
 // Carries out the lines of standard input, and shows the examples where there is none. Answers
 // whether all went well.
-fn answer(rt: &HostRuntime) -> Result<bool, AllocError> {
-    let mut map = Map::new(rt.alloc())?;
-    match take_lines(rt, &mut map)? {
-        Lines::None => Ok(tell_all(rt).is_ok()),
-        Lines::Timed => Ok(true),
-        Lines::Drawn => {
-            let text = draw::text_of(rt.alloc(), map.tree())?;
-            Ok(println!(rt; "{text}").is_ok())
-        }
-        Lines::Wrong => Ok(false),
+fn answer(rt: &HostRuntime) -> bool {
+    let Ok(mut map) = Map::new(rt.alloc()) else {
+        return false;
+    };
+    match take_lines(rt, &mut map) {
+        Ok(lines) => tell_after(rt, &map, lines),
+        Err(_) => false,
     }
 }
 
 fn main(rt: HostRuntime) -> ExitCode {
-    match answer(&rt) {
-        Ok(true) => ExitCode::SUCCESS,
-        Ok(false) => ExitCode::FAILURE,
-        Err(_) => ExitCode::FAILURE,
+    if answer(&rt) {
+        ExitCode::SUCCESS
+    } else {
+        ExitCode::FAILURE
     }
 }

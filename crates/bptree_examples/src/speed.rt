@@ -220,7 +220,35 @@ fn load_all<S: NodeStore<K = u64, V = u64>>(
     Ok(tree)
 }
 
-// One tree of ascending keys, filled by insertions, and another that is loaded at once and walked.
+fn walked<S: CloneStore<K = u64, V = u64>>(
+    rt: &HostRuntime,
+    kind: &str,
+    tree: &BPlusTree<S>,
+) -> Result<(), AllocError>
+where
+    S::Argument: CloneArgument<u64>,
+{
+    walk_through(rt, kind, tree)?;
+    step_through(rt, kind, "full", tree);
+    whole::clone_all(rt, kind, tree)
+}
+
+// A tree that is loaded at once, walked and drained.
+fn drained<S: CloneStore<K = u64, V = u64>>(
+    rt: &HostRuntime,
+    kind: &str,
+    sorted: &[u64],
+) -> Result<(), AllocError>
+where
+    S::Argument: CloneArgument<u64>,
+{
+    let tree: BPlusTree<S> = load_all(rt, kind, sorted)?;
+    walked(rt, kind, &tree)?;
+    drain(rt, kind, tree);
+    Ok(())
+}
+
+// One tree of ascending keys, filled by insertions, and another that is loaded at once.
 fn loaded<S: CloneStore<K = u64, V = u64>>(
     rt: &HostRuntime,
     kind: &str,
@@ -230,12 +258,7 @@ where
     S::Argument: CloneArgument<u64>,
 {
     let _upward: BPlusTree<S> = inserted(rt, kind, "upward", sorted)?;
-    let tree: BPlusTree<S> = load_all(rt, kind, sorted)?;
-    walk_through(rt, kind, &tree)?;
-    step_through(rt, kind, "full", &tree);
-    whole::clone_all(rt, kind, &tree)?;
-    drain(rt, kind, tree);
-    Ok(())
+    drained::<S>(rt, kind, sorted)
 }
 
 // The keys name places, and are ranked.
@@ -523,6 +546,21 @@ fn page_in_groups<S: NodeStore<K = Pair, V = u64>>(
     Ok(())
 }
 
+fn read_in_groups<S: NodeStore<K = Pair, V = u64>>(
+    rt: &HostRuntime,
+    tree: &BPlusTree<S>,
+    numbers: &[u64],
+) -> Result<(), AllocError>
+where
+    S::Argument: SearchArgument<Pair, Query = (Tuple2<u64>, usize)>,
+    S::Argument: RankArgument<Pair, Rank = Option<(Tuple2<u64>, usize)>>,
+{
+    get_in_groups(rt, tree, numbers);
+    place_in_groups(rt, tree, numbers)?;
+    rank_in_groups(rt, tree, numbers)?;
+    page_in_groups(rt, tree, numbers)
+}
+
 // The numbers are all those below their number, in two orders.
 fn grouped<S: NodeStore<K = Pair, V = u64>>(
     rt: &HostRuntime,
@@ -535,10 +573,7 @@ where
 {
     let mut tree: BPlusTree<S> = BPlusTree::new(S::empty(rt.alloc()))?;
     insert_in_groups(&mut tree, numbers)?;
-    get_in_groups(rt, &tree, others);
-    place_in_groups(rt, &tree, others)?;
-    rank_in_groups(rt, &tree, others)?;
-    page_in_groups(rt, &tree, others)
+    read_in_groups(rt, &tree, others)
 }
 
 fn numbers_below(alloc: Global, many: usize) -> Result<Vec<u64>, AllocError> {
@@ -549,17 +584,40 @@ fn numbers_below(alloc: Global, many: usize) -> Result<Vec<u64>, AllocError> {
     Ok(numbers)
 }
 
+// All calls on trees without summaries.
+fn take_plain<S: CloneStore<K = u64, V = u64>>(
+    rt: &HostRuntime,
+    numbers: &Numbers<'_>,
+) -> Result<(), AllocError>
+where
+    S::Argument: CloneArgument<u64>,
+{
+    plain::<S>(rt, numbers)?;
+    loaded::<S>(rt, "plain", numbers.sorted)
+}
+
+// All calls on trees with counts.
+fn take_counted<S: CloneStore<K = u64, V = u64>>(
+    rt: &HostRuntime,
+    numbers: &Numbers<'_>,
+) -> Result<(), AllocError>
+where
+    S::Argument: SearchArgument<u64, Query = usize> + RankArgument<u64, Rank = usize>,
+    S::Argument: CloneArgument<u64> + Tells,
+{
+    counted::<S>(rt, numbers)?;
+    loaded::<S>(rt, "count", numbers.sorted)
+}
+
 // All calls on each of the trees.
 fn round(rt: &HostRuntime, numbers: &Numbers<'_>, again: &[u64]) -> Result<(), AllocError> {
     grouped::<NodeStoreVec<Pair, u64, GroupCount<Tuple2<u64>>>>(rt, numbers.places, again)?;
-    plain::<Plain>(rt, numbers)?;
-    counted::<Counted>(rt, numbers)?;
+    take_plain::<Plain>(rt, numbers)?;
+    take_counted::<Counted>(rt, numbers)?;
     kit::take(rt, numbers.keys, numbers.others, numbers.sorted)?;
     strings::take(rt, numbers.keys, numbers.others)?;
     maps::take(rt, numbers.keys, numbers.others, numbers.sorted)?;
-    whole::union_all(rt, numbers.sorted)?;
-    loaded::<Plain>(rt, "plain", numbers.sorted)?;
-    loaded::<Counted>(rt, "count", numbers.sorted)
+    whole::union_all(rt, numbers.sorted)
 }
 
 fn rounds(rt: &HostRuntime, pairs: usize, rounds: usize) -> Result<(), AllocError> {

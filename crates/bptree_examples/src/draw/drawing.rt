@@ -26,15 +26,39 @@ fn is_drawn(place: usize, len: usize) -> bool {
     place < from || to <= place
 }
 
+// Adds a number between two texts.
+fn add_number(
+    alloc: Global,
+    text: &mut String,
+    before: &str,
+    number: u64,
+    behind: &str,
+) -> Result<(), AllocError> {
+    let part = format!(in alloc; "{before}{number}{behind}")?;
+    text.push_str(part.as_str())
+}
+
 // Adds keys, with a space before each.
 fn add_keys(alloc: Global, text: &mut String, keys: &[u64]) -> Result<(), AllocError> {
     for key in keys {
-        text.push_str(format!(in alloc; " {key}")?.as_str())?;
+        add_number(alloc, text, " ", *key, "")?;
     }
     Ok(())
 }
 
-// Adds a leaf as a box with its first and last keys, and how many there are.
+// Adds the first and the last of some keys, and how many there are.
+fn add_ends(alloc: Global, text: &mut String, keys: &[u64]) -> Result<(), AllocError> {
+    let (from, to) = left_out(keys.len());
+    add_keys(alloc, text, &keys[..from])?;
+    if from < to {
+        text.push_str(" …")?;
+        add_keys(alloc, text, &keys[to..])?;
+        add_number(alloc, text, " (", keys.len() as u64, ")")?;
+    }
+    Ok(())
+}
+
+// Adds a leaf as a box with its keys.
 fn add_leaf<S: NodeStore<K = u64, Argument = Count>>(
     alloc: Global,
     text: &mut String,
@@ -44,17 +68,15 @@ fn add_leaf<S: NodeStore<K = u64, Argument = Count>>(
     let Some(leaf) = store.try_get_leaf(id) else {
         return Ok(());
     };
-    let keys = leaf.keys();
-    let (from, to) = left_out(keys.len());
-    let number = id.as_usize();
-    text.push_str(format!(in alloc; "  leaf{number} [class=leaf shape=box label=\"")?.as_str())?;
-    add_keys(alloc, text, &keys[..from])?;
-    if from < to {
-        text.push_str(" …")?;
-        add_keys(alloc, text, &keys[to..])?;
-        let count = keys.len();
-        text.push_str(format!(in alloc; " ({count})")?.as_str())?;
-    }
+    let number = id.as_usize() as u64;
+    add_number(
+        alloc,
+        text,
+        "  leaf",
+        number,
+        " [class=leaf shape=box label=\"",
+    )?;
+    add_ends(alloc, text, leaf.keys())?;
     text.push_str("\"]\n")
 }
 
@@ -65,10 +87,23 @@ fn add_field(
     node: &InnerNode<u64, Count>,
     place: usize,
 ) -> Result<(), AllocError> {
-    text.push_str(format!(in alloc; "<c{place}> ")?.as_str())?;
+    add_number(alloc, text, "<c", place as u64, "> ")?;
     if place < node.len() {
-        let key = *node.key(place);
-        text.push_str(format!(in alloc; "| {key} |")?.as_str())?;
+        add_number(alloc, text, "| ", *node.key(place), " |")?;
+    }
+    Ok(())
+}
+
+// Adds the fields of the children from one place on, up to another.
+fn add_fields(
+    alloc: Global,
+    text: &mut String,
+    node: &InnerNode<u64, Count>,
+    from: usize,
+    to: usize,
+) -> Result<(), AllocError> {
+    for place in from..to {
+        add_field(alloc, text, node, place)?;
     }
     Ok(())
 }
@@ -80,20 +115,20 @@ fn add_inner(
     node: &InnerNode<u64, Count>,
     id: InnerNodeId,
 ) -> Result<(), AllocError> {
-    let number = id.as_usize();
-    text.push_str(format!(in alloc;
-        "  inner{number} [class=inner shape=record label=\""
-    )?.as_str())?;
-    let (from, to) = left_out(node.len() + 1);
-    for place in 0..from {
-        add_field(alloc, text, node, place)?;
-    }
+    let number = id.as_usize() as u64;
+    add_number(
+        alloc,
+        text,
+        "  inner",
+        number,
+        " [class=inner shape=record label=\"",
+    )?;
+    let many = node.len() + 1;
+    let (from, to) = left_out(many);
+    add_fields(alloc, text, node, 0, from)?;
     if from < to {
-        let count = to - from;
-        text.push_str(format!(in alloc; " … {count} children … |")?.as_str())?;
-        for place in to..node.len() + 1 {
-            add_field(alloc, text, node, place)?;
-        }
+        add_number(alloc, text, " … ", (to - from) as u64, " children … |")?;
+        add_fields(alloc, text, node, to, many)?;
     }
     text.push_str("\"]\n")
 }
@@ -109,15 +144,14 @@ fn add_edge(
     let Some(argument) = node.arguments().get(place) else {
         return Ok(());
     };
-    let (parent, count) = (id.as_usize(), argument.count());
     let (kind, child) = match node.child_id(place) {
         NodeId::Leaf(leaf) => ("leaf", leaf.as_usize()),
         NodeId::Inner(inner) => ("inner", inner.as_usize()),
     };
-    let line = format!(in alloc;
-        "  inner{parent}:c{place} -> {kind}{child} [label=\"{count}\"]\n"
-    )?;
-    text.push_str(line.as_str())
+    add_number(alloc, text, "  inner", id.as_usize() as u64, ":c")?;
+    add_number(alloc, text, "", place as u64, " -> ")?;
+    add_number(alloc, text, kind, child as u64, " [label=\"")?;
+    add_number(alloc, text, "", argument.count() as u64, "\"]\n")
 }
 
 // Adds the tree of a height under a number, and gathers its leaves that are drawn, in order.
@@ -153,7 +187,29 @@ fn add_subtree<S: NodeStore<K = u64, Argument = Count>>(
     Ok(())
 }
 
-// Adds the links between leaves that are drawn: dotted where leaves between the two are left out.
+// Adds the link from a leaf to the next one that is drawn: dotted where leaves between the two are
+// left out.
+fn add_link<S: NodeStore<K = u64, Argument = Count>>(
+    alloc: Global,
+    text: &mut String,
+    store: &S,
+    left: LeafNodeId,
+    right: LeafNodeId,
+) -> Result<(), AllocError> {
+    let next = match store.try_get_leaf(left) {
+        Some(node) => node.next(),
+        None => None,
+    };
+    let behind = if next == Some(right) {
+        " [class=link]\n"
+    } else {
+        " [class=gap]\n"
+    };
+    add_number(alloc, text, "  leaf", left.as_usize() as u64, " -> leaf")?;
+    add_number(alloc, text, "", right.as_usize() as u64, behind)
+}
+
+// Adds the links between leaves that are drawn.
 fn add_links<S: NodeStore<K = u64, Argument = Count>>(
     alloc: Global,
     text: &mut String,
@@ -163,14 +219,7 @@ fn add_links<S: NodeStore<K = u64, Argument = Count>>(
     let mut before: Option<LeafNodeId> = None;
     for leaf in leaves {
         if let Some(left) = before {
-            let next = match store.try_get_leaf(left) {
-                Some(node) => node.next(),
-                None => None,
-            };
-            let class = if next == Some(*leaf) { "link" } else { "gap" };
-            let (from, to) = (left.as_usize(), leaf.as_usize());
-            let line = format!(in alloc; "  leaf{from} -> leaf{to} [class={class}]\n")?;
-            text.push_str(line.as_str())?;
+            add_link(alloc, text, store, left, *leaf)?;
         }
         before = Some(*leaf);
     }
@@ -184,8 +233,7 @@ pub fn text_of<S: NodeStore<K = u64, Argument = Count>>(
     alloc: Global,
     tree: &BPlusTree<S>,
 ) -> Result<String, AllocError> {
-    let mut text = String::new(alloc);
-    text.push_str("digraph tree {\n")?;
+    let mut text = String::from_str(alloc, "digraph tree {\n")?;
     let mut leaves = Vec::new(alloc);
     let (store, root) = (tree.node_store(), tree.root_id());
     add_subtree(alloc, &mut text, store, root, tree.height(), &mut leaves)?;

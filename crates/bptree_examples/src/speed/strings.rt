@@ -97,12 +97,20 @@ fn put_and_get<S: NodeStore<K = String, V = u64>>(
     Ok(())
 }
 
+fn put_and_get_in_other(
+    rt: &HostRuntime,
+    texts: Vec<String>,
+    wanted: &[String],
+) -> Result<(), AllocError> {
+    let mut map = BTreeMap::new(rt.alloc());
+    insert_into_other(rt, &mut map, texts)?;
+    get_from_other(rt, &map, wanted);
+    Ok(())
+}
+
 /// Texts of the keys are put, and looked up in another order.
 pub fn take(rt: &HostRuntime, keys: &[u64], others: &[u64]) -> Result<(), AllocError> {
     let wanted = texts_of(rt.alloc(), others)?;
     put_and_get::<Texts>(rt, texts_of(rt.alloc(), keys)?, &wanted)?;
-    let mut map = BTreeMap::new(rt.alloc());
-    insert_into_other(rt, &mut map, texts_of(rt.alloc(), keys)?)?;
-    get_from_other(rt, &map, &wanted);
-    Ok(())
+    put_and_get_in_other(rt, texts_of(rt.alloc(), keys)?, &wanted)
 }
