@@ -129,19 +129,28 @@ impl<K: Sample, G: Group<K>> Subject for Summed<K, G> {
 #[derive(Drop)]
 pub struct Counted<K: Sample>(Heights<K, Count>);
 
+// The pairs from one key up to another one.
+fn pairs_between<'a, K: Sample>(
+    map: &'a BPlusTreeMap<K, u64, Count>,
+    lo: Option<&'a K>,
+    hi: Option<&'a K>,
+) -> usize {
+    map.range_len(lo, hi)
+}
+
 // What is asked in a turn, with two keys.
-fn counted_in<K: Sample>(
-    map: &BPlusTreeMap<K, u64, Count>,
+fn counted_in<'a, K: Sample>(
+    map: &'a BPlusTreeMap<K, u64, Count>,
     turn: u64,
-    lo: &K,
-    hi: &K,
+    lo: &'a K,
+    hi: &'a K,
 ) -> Result<usize, AllocError> {
     match turn / 3 {
-        0 => Ok(map.range_len(None, None)),
-        1 => Ok(map.range_len(Some(lo), None)),
-        2 => Ok(map.range_len(None, Some(lo))),
-        3 => Ok(map.range_len(Some(lo), Some(hi))),
-        4 => Ok(map.range_len(Some(hi), Some(lo))),
+        0 => Ok(pairs_between(map, None, None)),
+        1 => Ok(pairs_between(map, Some(lo), None)),
+        2 => Ok(pairs_between(map, None, Some(lo))),
+        3 => Ok(pairs_between(map, Some(lo), Some(hi))),
+        4 => Ok(pairs_between(map, Some(hi), Some(lo))),
         5 => pairs_of_page(map),
         6 => Ok(pages(map, 20)),
         _ => page_of_key(map, lo),
