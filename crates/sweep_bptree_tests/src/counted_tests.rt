@@ -1,7 +1,7 @@
 //! Trees that are loaded of many pairs at once, of keys and values that are counted: the sizes of
 //! their nodes, the comparisons of look-ups, and what is dropped.
 use crate::counted::{CountedKey, CountedValue, Counts, Made};
-use crate::tested::{Loaded, Numbered, Walked, is_well};
+use crate::tested::{Ends, Loaded, Numbered, Order, Walked, is_well};
 use bptree_arguments::argument::CloneArgument;
 use bptree_keys::key::Key;
 use bptree_maps::map::BPlusTreeMap;
@@ -22,6 +22,14 @@ fn no_counts(alloc: Global) -> Result<Rc<Counts>, AllocError> {
     Ok(Rc::new(alloc, counts)?)
 }
 
+fn new_pair<K: Made, V: Made>(
+    counts: &Rc<Counts>,
+    number: u64,
+    value: u64,
+) -> Result<(K, V), AllocError> {
+    Ok((K::made(counts, number)?, V::made(counts, value)?))
+}
+
 // So many pairs in runs of equal keys, whose values are ten times the key and then one more each.
 fn pairs_in_runs<K: Made, V: Made>(
     alloc: Global,
@@ -33,11 +41,15 @@ fn pairs_in_runs<K: Made, V: Made>(
     let mut pairs = Vec::new(alloc);
     for place in 0..len {
         let number = place / run;
-        let key = K::made(counts, number)?;
-        let value = V::made(counts, number.wrapping_mul(10).wrapping_add(place % run))?;
-        pairs.push((key, value))?;
+        let value = number.wrapping_mul(10).wrapping_add(place % run);
+        pairs.push(new_pair(counts, number, value)?)?;
     }
     Ok(pairs)
+}
+
+// Whether the keys below a number come from the front, each with ten times itself and so much more.
+fn holds<T: Loaded>(tree: &T, end: u64, more: u64) -> bool {
+    tree.gives(Order::Forward, (0, end), 10, more)
 }
 
 fn load<T: Loaded>(alloc: Global, counts: &Rc<Counts>, len: u64, run: u64) -> Result<T, AllocError>
@@ -49,11 +61,8 @@ where
 }
 
 // Whether the leaves are so many full ones and then those of these sizes.
-fn has_line<T: Loaded>(tree: &T, full: usize, last: &[usize]) -> bool {
-    let Ok((leaves, is_shaped)) = tree.leaves() else {
-        return false;
-    };
-    let mut all = is_shaped && leaves.len() == full.saturating_add(last.len());
+fn are_in_line(leaves: &[Ends], full: usize, last: &[usize]) -> bool {
+    let mut all = leaves.len() == full.saturating_add(last.len());
     for (place, (_, _, len)) in leaves.iter().enumerate() {
         let wanted = if place < full {
             64
@@ -65,20 +74,23 @@ fn has_line<T: Loaded>(tree: &T, full: usize, last: &[usize]) -> bool {
     all
 }
 
+fn has_line<T: Loaded>(tree: &T, full: usize, last: &[usize]) -> bool {
+    match tree.leaves() {
+        Ok((leaves, is_shaped)) => is_shaped && are_in_line(&leaves, full, last),
+        Err(_) => false,
+    }
+}
+
 // Whether the nodes below the root have so many children. Where none are named, no inner nodes
 // stand there.
 fn has_nodes<T: Loaded>(tree: &T, wanted: &[usize]) -> bool {
     if wanted.is_empty() {
         return tree.levels() < 2;
     }
-    let Ok(children) = tree.children() else {
-        return false;
-    };
-    let mut all = tree.levels() == 2 && children.len() == wanted.len();
-    for (found, count) in children.iter().zip(wanted) {
-        all &= *found == *count;
+    match tree.children() {
+        Ok(children) => tree.levels() == 2 && children.as_slice() == wanted,
+        Err(_) => false,
     }
-    all
 }
 
 // How many pairs there are and how long the runs of equal keys are. Then come the number of full
@@ -99,7 +111,7 @@ const ROWS: [Row; 9] = [
 
 fn is_loaded<T: Loaded>(tree: &T, row: &Row) -> bool {
     let (len, run, full, last, nodes) = *row;
-    let mut all = tree.holds(len / run.max(1), run.saturating_sub(1));
+    let mut all = holds(tree, len / run.max(1), run.saturating_sub(1));
     all &= has_line(tree, full, last);
     all && has_nodes(tree, nodes)
 }
@@ -115,17 +127,14 @@ where
     is_loaded(&tree, row)
 }
 
-fn all_rows_are_loaded<T: Loaded>(alloc: Global) -> bool
+fn all_rows_are_loaded<T: Loaded>(alloc: Global, counts: &Rc<Counts>) -> bool
 where
     T::Key: Made,
     T::Value: Made,
 {
-    let Ok(counts) = no_counts(alloc) else {
-        return false;
-    };
     let mut all = true;
     for row in &ROWS {
-        all &= row_is_loaded::<T>(alloc, &counts, row);
+        all &= row_is_loaded::<T>(alloc, counts, row);
     }
     all
 }
@@ -151,40 +160,36 @@ where
     tree.read_in_place(key) == wanted && counts.compared.get() <= most && all
 }
 
-// The same of each key of a tree and the next after them, upward and downward.
-fn all_are_looked_up<T: Loaded>(tree: &mut T, counts: &Rc<Counts>, most: u64) -> bool
+// The same of each key of a tree and the next after them, upward or downward.
+fn are_looked_up<T: Loaded>(tree: &mut T, counts: &Rc<Counts>, most: u64, is_upward: bool) -> bool
 where
     T::Key: Made,
 {
     let len = tree.number_of_pairs() as u64;
     let mut all = true;
-    for number in 0..len.saturating_add(1) {
-        let Ok(upward) = T::Key::made(counts, number) else {
+    for turn in 0..len.saturating_add(1) {
+        let number = if is_upward {
+            turn
+        } else {
+            len.saturating_sub(turn)
+        };
+        let Ok(key) = T::Key::made(counts, number) else {
             return false;
         };
-        all &= is_looked_up(tree, counts, &upward, most);
-    }
-    for number in 0..len.saturating_add(1) {
-        let Ok(downward) = T::Key::made(counts, len.saturating_sub(number)) else {
-            return false;
-        };
-        all &= is_looked_up(tree, counts, &downward, most);
+        all &= is_looked_up(tree, counts, &key, most);
     }
     all
 }
 
-fn comparisons_are_told<T: Loaded>(alloc: Global, len: u64, most: u64) -> bool
+fn comparisons_are_told<T: Loaded>(alloc: Global, counts: &Rc<Counts>, len: u64, most: u64) -> bool
 where
     T::Key: Made,
     T::Value: Made,
 {
-    let Ok(counts) = no_counts(alloc) else {
+    let Ok(mut tree) = load::<T>(alloc, counts, len, 1) else {
         return false;
     };
-    let Ok(mut tree) = load::<T>(alloc, &counts, len, 1) else {
-        return false;
-    };
-    all_are_looked_up(&mut tree, &counts, most)
+    are_looked_up(&mut tree, counts, most, true) && are_looked_up(&mut tree, counts, most, false)
 }
 
 // Puts the pairs from one number up to another.
@@ -216,7 +221,7 @@ where
         let Ok(key) = T::Key::made(counts, number) else {
             return false;
         };
-        all &= tree.take(&key) == Ok(Some(number.wrapping_mul(10)));
+        all &= tree.takes(&key, Some(number.wrapping_mul(10)));
     }
     all
 }
@@ -230,7 +235,7 @@ where
     let Ok(mut copy) = tree.copy() else {
         return false;
     };
-    let mut all = copy.holds(len, 0);
+    let mut all = holds(&copy, len, 0);
     all &= is_well(&copy);
     all &= counts.dropped.get() == 0;
     let half = len / 2;
@@ -242,7 +247,7 @@ where
     all &= copy.rebalanced() != [0; 8];
     all &= again.rebalanced() == [0; 8];
     all &= is_well(&again);
-    all && tree.holds(len, 0)
+    all && holds(tree, len, 0)
 }
 
 // Half of the pairs are loaded, and the others are put; a clone comes and goes; then all pairs
@@ -306,7 +311,7 @@ where
     let Ok(mut tree) = load::<T>(alloc, counts, 300, 3) else {
         return false;
     };
-    let mut all = tree.holds(100, 2);
+    let mut all = holds(&tree, 100, 2);
     all &= counts.dropped.get() == 200;
     all &= tree.empty_it();
     all &= tree.number_of_pairs() == 0;
@@ -336,11 +341,20 @@ fn map_keeps_one<K: Key + Made, V: Made>(alloc: Global, counts: &Rc<Counts>) -> 
     let Ok(mut map) = BPlusTreeMap::<K, V>::new(alloc) else {
         return false;
     };
-    let mut all = true;
-    for turn in 0..3 {
-        all &= puts_an_equal(&mut map, counts, turn);
-    }
-    all
+    puts_an_equal(&mut map, counts, 0)
+        && puts_an_equal(&mut map, counts, 1)
+        && puts_an_equal(&mut map, counts, 2)
+}
+
+fn keeps_the_first<K: Key + Made>(
+    set: &mut BPlusTreeSet<K>,
+    counts: &Rc<Counts>,
+    is_first: bool,
+) -> bool {
+    let Ok(key) = K::made(counts, 7) else {
+        return false;
+    };
+    set.insert(key).ok() == Some(is_first) && Rc::strong_count(counts) == 2
 }
 
 // Of three equal keys that are put, a set keeps one.
@@ -348,15 +362,9 @@ fn set_keeps_one<K: Key + Made>(alloc: Global, counts: &Rc<Counts>) -> bool {
     let Ok(mut set) = BPlusTreeSet::<K>::new(alloc) else {
         return false;
     };
-    let mut all = true;
-    for turn in 0..3 {
-        let Ok(key) = K::made(counts, 7) else {
-            return false;
-        };
-        all &= set.insert(key).ok() == Some(turn == 0);
-        all &= Rc::strong_count(counts) == 2;
-    }
-    all
+    keeps_the_first(&mut set, counts, true)
+        && keeps_the_first(&mut set, counts, false)
+        && keeps_the_first(&mut set, counts, false)
 }
 
 // Whether equal keys are dropped as they are put, and what was kept of them at the end.
@@ -365,28 +373,42 @@ fn equals_are_dropped<K: Key + Made, V: Made>(alloc: Global) -> bool {
         return false;
     };
     let mut all = map_keeps_one::<K, V>(alloc, &counts);
-    all &= counts.dropped.get() == 3 && Rc::strong_count(&counts) == 1;
+    all &= are_gone(&counts, 3);
     all &= set_keeps_one::<K>(alloc, &counts);
     all && Rc::strong_count(&counts) == 1
 }
 
-// Whether each value was dropped once, and no key and no value is left.
-fn are_dropped_once<T: Loaded>(alloc: Global) -> bool
+// Whether so many values were dropped, and no key and no value is left.
+fn are_gone(counts: &Rc<Counts>, dropped: u64) -> bool {
+    counts.dropped.get() == dropped && Rc::strong_count(counts) == 1
+}
+
+fn owned_pairs_are_dropped<T: Loaded>(
+    alloc: Global,
+    counts: &Rc<Counts>,
+    len: u64,
+    from_each_end: u64,
+) -> bool
 where
     T::Key: Made,
     T::Value: Made,
 {
-    let Ok(counts) = no_counts(alloc) else {
-        return false;
-    };
-    let mut all = comes_and_goes::<T>(alloc, &counts, 16_000);
-    all &= counts.dropped.get() == 40_000 && Rc::strong_count(&counts) == 1;
-    for (len, from_each_end) in [(10, 0), (300, 1), (300, 150)] {
-        counts.dropped.set(0);
-        all &= owned_pairs_come::<T>(alloc, &counts, len, from_each_end);
-        all &= counts.dropped.get() == len && Rc::strong_count(&counts) == 1;
-    }
-    is_cleared::<T>(alloc, &counts) && all
+    counts.dropped.set(0);
+    owned_pairs_come::<T>(alloc, counts, len, from_each_end) && are_gone(counts, len)
+}
+
+// Whether each value was dropped once.
+fn are_dropped_once<T: Loaded>(alloc: Global, counts: &Rc<Counts>) -> bool
+where
+    T::Key: Made,
+    T::Value: Made,
+{
+    comes_and_goes::<T>(alloc, counts, 16_000)
+        && are_gone(counts, 40_000)
+        && owned_pairs_are_dropped::<T>(alloc, counts, 10, 0)
+        && owned_pairs_are_dropped::<T>(alloc, counts, 300, 1)
+        && owned_pairs_are_dropped::<T>(alloc, counts, 300, 150)
+        && is_cleared::<T>(alloc, counts)
 }
 
 // What is asked of trees: the sizes of their nodes, the comparisons of look-ups in one of so many
@@ -403,10 +425,13 @@ where
     T::Key: Made,
     T::Value: Made,
 {
+    let Ok(counts) = no_counts(alloc) else {
+        return false;
+    };
     match asked {
-        Asked::Sizes => all_rows_are_loaded::<T>(alloc),
-        Asked::Comparisons(len, most) => comparisons_are_told::<T>(alloc, len, most),
-        Asked::Drops => are_dropped_once::<T>(alloc),
+        Asked::Sizes => all_rows_are_loaded::<T>(alloc, &counts),
+        Asked::Comparisons(len, most) => comparisons_are_told::<T>(alloc, &counts, len, most),
+        Asked::Drops => are_dropped_once::<T>(alloc, &counts),
     }
 }
 

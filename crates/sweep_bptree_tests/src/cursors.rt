@@ -1,42 +1,38 @@
 //! Cursors, on trees that change, and on others than the one that they came from; and numbers of
 //! nodes that are released, and stand for other nodes later.
-use crate::tested::{
-    Ranked, is_well, nodes_below, pair_of, put, put_from, refill, take, take_from, value_of,
-};
+use crate::tested::{Ranked, is_well, nodes_below, put, put_from, refill, take, take_from};
 
 /// Whether cursors on 10 and on a key past the end answer by these keys alone, once 10 has left,
 /// and in another tree of 5 and 20. That one is empty at last.
 pub fn answer_by_their_keys<T: Ranked>(tree: &mut T, other: &mut T) -> bool {
     let mut all = refill(tree, 0, 30) && refill(other, 5, 6) && put(other, 20);
-    let Ok(Some((cursor, value))) = tree.hold(10) else {
+    let Some(cursor) = tree.hold(10, true) else {
         return false;
     };
-    let Ok(Some((past, none))) = tree.hold(70) else {
+    let Some(past) = tree.hold(70, false) else {
         return false;
     };
-    all &= value == Some(value_of(10)) && none.is_none();
     all &= tree.stands_between(&cursor, Some(9), true, Some(11));
     all &= take(tree, 10);
     all &= tree.stands_between(&cursor, Some(9), false, Some(11));
     all &= tree.stands_between(&past, Some(29), false, None);
     all &= other.stands_between(&cursor, Some(5), false, Some(20));
     all &= other.empty_it();
-    all &= other.stands_between(&cursor, None, false, None);
-    all
+    all && other.stands_between(&cursor, None, false, None)
 }
 
 /// Whether two cursors from the first key go their own ways while it leaves and comes again with
 /// another value.
 pub fn two_go_on_alone<T: Ranked>(tree: &mut T) -> bool {
     let mut all = refill(tree, 0, 100);
-    all &= tree.ends() == Ok((pair_of(Some(0)), pair_of(Some(99))));
+    all &= tree.has_ends(Some(0), Some(99));
     let Ok(Some(first)) = tree.hold_first() else {
         return false;
     };
     let second = first;
     all &= take(tree, 0);
     all &= tree.stands_between(&first, None, false, Some(1));
-    all &= tree.put(0, 100);
+    all &= tree.put_number(0, 100);
     all &= tree.read_held(&second) == (Some(100), true);
     all && tree.read_held(&first).1
 }
@@ -46,7 +42,7 @@ pub fn two_go_on_alone<T: Ranked>(tree: &mut T) -> bool {
 /// leaf, and number 1 is given out for the greater ones.
 pub fn survives_another_leaf<T: Ranked>(tree: &mut T) -> bool {
     let mut all = refill(tree, 0, 65);
-    let Ok(Some((cursor, _))) = tree.hold(40) else {
+    let Some(cursor) = tree.hold(40, true) else {
         return false;
     };
     all &= tree.has_key(1, 40) == Some(true);

@@ -30,6 +30,17 @@ impl Grouping for GroupCount<Tuple2<u64>> {
     }
 }
 
+/// A visitor that counts the keys of a group.
+trait GroupSize: Drop {
+    fn of(group: u64) -> Self;
+}
+
+impl GroupSize for ExtractGroupSize<Tuple2<u64>, Pair> {
+    fn of(group: u64) -> Self {
+        ExtractGroupSize::new(Tuple2(group))
+    }
+}
+
 // A map of keys, each with its second part as its value.
 fn collect<A: Grouping>(
     alloc: Global,
@@ -42,25 +53,19 @@ fn collect<A: Grouping>(
     maps::collect(alloc, pairs)
 }
 
-fn quotient(number: u64, by: u64) -> u64 {
-    number.checked_div(by).unwrap_or(0)
-}
-
-// So many keys whose first part is their place by a number, and whose second is what is left.
-fn keys_by(alloc: Global, len: u64, size: u64) -> Result<Vec<Pair>, AllocError> {
-    let mut keys = Vec::new(alloc);
-    for place in 0..len {
-        keys.push((quotient(place, size), place.checked_rem(size).unwrap_or(0)))?;
-    }
-    Ok(keys)
-}
-
+// The same of so many keys whose first part is their place by a number, and whose second is what is
+// left.
 fn collect_by<A: Grouping>(
     alloc: Global,
     len: u64,
     size: u64,
 ) -> Result<BPlusTreeMap<Pair, u64, A>, AllocError> {
-    collect(alloc, &keys_by(alloc, len, size)?)
+    let size = size.max(1);
+    let mut pairs = Vec::new(alloc);
+    for place in 0..len {
+        pairs.push(((place / size, place % size), place % size))?;
+    }
+    maps::collect(alloc, pairs)
 }
 
 // Whether so many groups are there.
@@ -68,16 +73,13 @@ fn has_groups<A: Grouping>(map: &BPlusTreeMap<Pair, u64, A>, wanted: usize) -> b
     map.root_argument().number() == wanted
 }
 
-// Whether a visitor counts so many keys.
-fn has_size<A: Grouping, W: DescendVisit<Pair, u64, A, Result = usize>>(
+// Whether a visitor counts so many keys of a group.
+fn has_size<A: Grouping, W: GroupSize + DescendVisit<Pair, u64, A, Result = usize>>(
     map: &BPlusTreeMap<Pair, u64, A>,
-    visitor: W,
+    group: u64,
     wanted: usize,
 ) -> bool {
-    match map.descend_visit(visitor) {
-        Ok(Some(size)) => size == wanted,
-        _ => false,
-    }
+    map.descend_visit(W::of(group)) == Ok(Some(wanted))
 }
 
 // Whether this value stands at a place of a group.
@@ -97,6 +99,13 @@ fn has_no_place<A: Grouping>(map: &BPlusTreeMap<Pair, u64, A>, group: u64, place
     matches!(map.get_by_argument((Tuple2(group), place)), Ok(None))
 }
 
+fn is_pair(found: Option<(&Pair, &u64)>, group: u64, wanted: u64) -> bool {
+    match found {
+        Some((key, value)) => key.0 == group && key.1 == wanted && *value == wanted,
+        None => false,
+    }
+}
+
 // Whether there are so many pairs of a group, whose keys and values count from a number on.
 fn count_from<A: Grouping>(
     mut pairs: Iter<'_, Pair, u64, A>,
@@ -105,14 +114,8 @@ fn count_from<A: Grouping>(
     len: usize,
 ) -> bool {
     let mut all = pairs.len() == len;
-    let mut rest = first;
-    for _ in 0..len {
-        all = all
-            && match pairs.next() {
-                Some((key, value)) => *key == (group, rest) && *value == rest,
-                None => false,
-            };
-        rest = rest.wrapping_add(1);
+    for place in 0..len {
+        all &= is_pair(pairs.next(), group, first.wrapping_add(place as u64));
     }
     all && pairs.next().is_none() && pairs.next_back().is_none()
 }
@@ -153,119 +156,122 @@ fn has_rank<A: Grouping>(
     }
 }
 
-fn are_ranked<A: Grouping>(alloc: Global) -> bool {
-    let Ok(none) = collect::<A>(alloc, &[]) else {
-        return false;
-    };
-    let Ok(map) = collect::<A>(alloc, &[(1, 1), (1, 2), (1, 3), (2, 4), (3, 5)]) else {
-        return false;
-    };
-    let mut all = has_rank(&none, (4, 1), false, 0);
-    for (key, present, wanted) in [
-        ((1, 0), false, 0),
-        ((1, 1), true, 0),
-        ((1, 3), true, 2),
-        ((1, 4), false, 3),
-        ((2, 3), false, 0),
-        ((5, 0), false, 0),
-    ] {
-        all &= has_rank(&map, key, present, wanted);
-    }
-    all
+// Whether the keys of groups of three, one and one have their ranks.
+fn are_ranked<A: Grouping>(map: &BPlusTreeMap<Pair, u64, A>) -> bool {
+    has_rank(map, (1, 0), false, 0)
+        && has_rank(map, (1, 1), true, 0)
+        && has_rank(map, (1, 3), true, 2)
+        && has_rank(map, (1, 4), false, 3)
+        && has_rank(map, (2, 3), false, 0)
+        && has_rank(map, (5, 0), false, 0)
 }
 
-// Groups 0 and 1 have 500 keys each, and group 2 has 50, in a clone too. The visitors are those of
-// groups 0, 1, 2 and 7.
-fn are_sized<A: Grouping, W: DescendVisit<Pair, u64, A, Result = usize>>(
-    alloc: Global,
-    zero: W,
-    one: W,
-    two: W,
-    seven: W,
+// Whether a group ends with a key before a place, and has as many pairs and as many keys.
+fn ends_at<A: Grouping, W: GroupSize + DescendVisit<Pair, u64, A, Result = usize>>(
+    map: &BPlusTreeMap<Pair, u64, A>,
+    group: u64,
+    size: usize,
 ) -> bool {
-    let Ok(map) = collect_by::<A>(alloc, 1050, 500) else {
-        return false;
-    };
-    let mut all = has_groups(&map, 3);
-    all &= has_size(&map, zero, 500) && has_size(&map, one, 500);
-    all &= has_size(&map, two, 50) && has_size(&map, seven, 0);
-    for (group, place, wanted) in [(0, 499, 499), (1, 0, 0), (2, 49, 49)] {
-        all &= has_place(&map, group, place, wanted);
-    }
-    for (group, size) in [(0, 500), (1, 500), (2, 50), (7, 0)] {
-        all &= has_no_place(&map, group, size) && has_pairs(&map, group, size);
-    }
-    for (group, p, first, len) in [
-        (0, 24, 480, 20),
-        (2, 0, 0, 20),
-        (2, 2, 40, 10),
-        (2, 3, 60, 0),
-        (2, usize::MAX, 0, 0),
-        (7, 0, 0, 0),
-    ] {
-        all &= has_page(&map, group, p, first, len);
-    }
-    all &= has_rank(&map, (1, 250), true, 250);
+    has_size::<A, W>(map, group, size)
+        && has_no_place(map, group, size)
+        && has_pairs(map, group, size)
+}
+
+// Whether groups 0 and 1 have 500 keys each, and group 2 has 50.
+fn has_sizes<A: Grouping, W: GroupSize + DescendVisit<Pair, u64, A, Result = usize>>(
+    map: &BPlusTreeMap<Pair, u64, A>,
+) -> bool {
+    ends_at::<A, W>(map, 0, 500)
+        && ends_at::<A, W>(map, 1, 500)
+        && ends_at::<A, W>(map, 2, 50)
+        && ends_at::<A, W>(map, 7, 0)
+        && has_place(map, 0, 499, 499)
+        && has_place(map, 1, 0, 0)
+}
+
+fn has_pages<A: Grouping>(map: &BPlusTreeMap<Pair, u64, A>) -> bool {
+    has_page(map, 0, 24, 480, 20)
+        && has_page(map, 2, 0, 0, 20)
+        && has_page(map, 2, 2, 40, 10)
+        && has_page(map, 2, 3, 60, 0)
+        && has_page(map, 2, usize::MAX, 0, 0)
+        && has_page(map, 7, 0, 0, 0)
+}
+
+// Whether there are three groups, the last of which ends with its 50th key.
+fn has_three<A: Grouping>(map: &BPlusTreeMap<Pair, u64, A>) -> bool {
+    has_groups(map, 3)
+        && has_place(map, 2, 49, 49)
+        && has_no_place(map, 2, 50)
+        && has_rank(map, (1, 250), true, 250)
+}
+
+fn has_three_in_a_clone<A: Grouping>(map: &BPlusTreeMap<Pair, u64, A>) -> bool {
     let Ok(copy) = map.clone() else {
         return false;
     };
-    all &= has_groups(&copy, 3) && has_place(&copy, 2, 49, 49);
-    all && has_rank(&copy, (1, 250), true, 250) && has_no_place(&copy, 2, 50)
+    has_three(&copy)
 }
 
-// One group of so many keys that two levels of nodes stand above its leaves.
-fn is_one_large_group<A: Grouping>(alloc: Global) -> bool {
-    let Ok(map) = collect_by::<A>(alloc, 4161, 4161) else {
-        return false;
-    };
-    let mut all = measures(&map, 4161, 2);
-    for place in [4160, 2112] {
-        all &= has_rank(&map, (0, place), true, place as usize);
-    }
-    all
+// Whether one group has so many keys that two levels of nodes stand above its leaves.
+fn is_one_large_group<A: Grouping>(map: &BPlusTreeMap<Pair, u64, A>) -> bool {
+    measures(map, 4161, 2)
+        && has_rank(map, (0, 4160), true, 4160)
+        && has_rank(map, (0, 2112), true, 2112)
 }
 
-// One pair comes and goes, and no group is left; then two pairs are one group.
-fn one_group_comes_and_goes<A: Grouping, W: DescendVisit<Pair, u64, A, Result = usize>>(
-    alloc: Global,
-    before: W,
-    after: W,
+// A key has no rank in a map without pairs. One pair comes and goes, and no group is left; then two
+// pairs are one group.
+fn comes_and_goes<A: Grouping, W: GroupSize + DescendVisit<Pair, u64, A, Result = usize>>(
+    map: &mut BPlusTreeMap<Pair, u64, A>,
 ) -> bool {
-    let Ok(mut map) = collect::<A>(alloc, &[]) else {
-        return false;
-    };
-    let mut all = has_groups(&map, 0) && has_size(&map, before, 0);
-    all &= put(&mut map, (1, 1), 100) && has_groups(&map, 1);
-    all &= take(&mut map, (1, 1), 100) && has_groups(&map, 0);
-    all &= put(&mut map, (1, 1), 100) && put(&mut map, (1, 2), 101);
-    all &= has_groups(&map, 1) && has_size(&map, after, 2);
-    all &= has_place(&map, 1, 0, 100) && has_place(&map, 1, 1, 101);
-    all && has_no_place(&map, 1, 3) && has_rank(&map, (1, 0), false, 0)
+    let mut all = has_rank(map, (4, 1), false, 0);
+    all &= has_groups(map, 0) && has_size::<A, W>(map, 1, 0);
+    all &= put(map, (1, 1), 100) && has_groups(map, 1);
+    all &= take(map, (1, 1), 100) && has_groups(map, 0);
+    all &= put(map, (1, 1), 100) && put(map, (1, 2), 101);
+    all &= has_groups(map, 1) && has_size::<A, W>(map, 1, 2);
+    all &= has_place(map, 1, 0, 100) && has_place(map, 1, 1, 101);
+    all && has_no_place(map, 1, 3) && has_rank(map, (1, 0), false, 0)
 }
 
-fn counter(group: u64) -> ExtractGroupSize<Tuple2<u64>, Pair> {
-    ExtractGroupSize::new(Tuple2(group))
+// Whether a map that is made holds what is known of one of so many pairs. A function that has one
+// is dearer to prove than one that has a reference to it.
+fn holds<A: Grouping, W: GroupSize + DescendVisit<Pair, u64, A, Result = usize>>(
+    made: Result<BPlusTreeMap<Pair, u64, A>, AllocError>,
+    len: u64,
+) -> bool {
+    let Ok(mut map) = made else {
+        return false;
+    };
+    match len {
+        0 => comes_and_goes::<A, W>(&mut map),
+        5 => are_ranked(&map),
+        1050 => {
+            has_three(&map)
+                && has_sizes::<A, W>(&map)
+                && has_pages(&map)
+                && has_three_in_a_clone(&map)
+        }
+        _ => is_one_large_group(&map),
+    }
+}
+
+// Of the 1,050 pairs, groups 0 and 1 have 500 each, and group 2 has 50.
+fn groups_are_known<A: Grouping, W: GroupSize + DescendVisit<Pair, u64, A, Result = usize>>(
+    alloc: Global,
+) -> bool {
+    let five = collect(alloc, &[(1, 1), (1, 2), (1, 3), (2, 4), (3, 5)]);
+    holds::<A, W>(five, 5)
+        && holds::<A, W>(collect(alloc, &[]), 0)
+        && holds::<A, W>(collect_by(alloc, 1050, 500), 1050)
+        && holds::<A, W>(collect_by(alloc, 4161, 4161), 4161)
 }
 
 #[test]
 fn groups_are_counted_and_ranked(rt: HostRuntime) -> Result<(), Fail> {
-    assert!(rt; are_ranked::<GroupCount<Tuple2<u64>>>(rt.alloc()));
-    assert!(rt; is_one_large_group::<GroupCount<Tuple2<u64>>>(rt.alloc()));
     assert!(rt;
-        are_sized::<GroupCount<Tuple2<u64>>, ExtractGroupSize<Tuple2<u64>, Pair>>(
-            rt.alloc(),
-            counter(0),
-            counter(1),
-            counter(2),
-            counter(7),
-        )
-    );
-    assert!(rt;
-        one_group_comes_and_goes::<GroupCount<Tuple2<u64>>, ExtractGroupSize<Tuple2<u64>, Pair>,>(
-            rt.alloc(),
-            counter(1),
-            counter(1)
-        )
+        groups_are_known::<GroupCount<Tuple2<u64>>, ExtractGroupSize<Tuple2<u64>, Pair>>(rt.alloc())
     );
     Ok(())
 }

@@ -7,6 +7,7 @@ use bptree_arguments::count::Count;
 use bptree_arguments::visit::DescendError;
 use bptree_callers::probe::Probe;
 use bptree_callers::visitors::{GetTreeDepth, Says};
+use bptree_maps::map::IntoIter;
 use bptree_tree::SelectError;
 use std::alloc::Global;
 use std::test::Fail;
@@ -15,30 +16,38 @@ use std::test::Fail;
 fn are_placed<A: SearchArgument<u64, Query = usize> + RankArgument<u64, Rank = usize>>(
     map: &Map<A>,
 ) -> bool {
-    let mut all = true;
-    for (key, wanted) in [(0, Err(0)), (1, Ok(0)), (2, Ok(1)), (3, Ok(2)), (4, Err(3))] {
-        all &= has_rank(map, key, wanted);
-    }
-    for (place, wanted) in [
-        (0, Some((1, 2))),
-        (1, Some((2, 3))),
-        (2, Some((3, 4))),
-        (3, None),
-    ] {
-        all &= has_at(map, place, wanted);
-    }
-    all
+    has_rank(map, 0, Err(0))
+        && has_rank(map, 1, Ok(0))
+        && has_rank(map, 2, Ok(1))
+        && has_rank(map, 3, Ok(2))
+        && has_rank(map, 4, Err(3))
+        && has_at(map, 0, Some((1, 2)))
+        && has_at(map, 1, Some((2, 3)))
+        && has_at(map, 2, Some((3, 4)))
+        && has_at(map, 3, None)
+}
+
+// Whether this pair stands at the first place and leaves it.
+fn leaves_first<A: SearchArgument<u64, Query = usize>>(
+    map: &mut Map<A>,
+    wanted: Option<(u64, u64)>,
+) -> bool {
+    has_at(map, 0, wanted) && takes_at(map, 0, wanted)
 }
 
 // Whether a value is written at the first place, and none behind the last, and then the pairs leave
 // from the first place.
 fn are_written_and_taken<A: SearchArgument<u64, Query = usize>>(map: &mut Map<A>) -> bool {
-    let mut all = write(map, 3, 20) == Some(SelectError::NotFound);
-    all &= write(map, 0, 20).is_none();
-    for wanted in [Some((1, 20)), Some((2, 3)), Some((3, 4)), None] {
-        all &= has_at(map, 0, wanted) && takes_at(map, 0, wanted);
-    }
-    all
+    write(map, 3, 20) == Some(SelectError::NotFound)
+        && write(map, 0, 20).is_none()
+        && leaves_first(map, Some((1, 20)))
+        && leaves_first(map, Some((2, 3)))
+        && leaves_first(map, Some((3, 4)))
+        && leaves_first(map, None)
+}
+
+fn are_put<A: Argument<u64>>(map: &mut Map<A>) -> bool {
+    put(map, 1, 2) && put(map, 2, 3) && put(map, 3, 4)
 }
 
 fn three_pairs_are_placed<A: SearchArgument<u64, Query = usize> + RankArgument<u64, Rank = usize>>(
@@ -47,12 +56,7 @@ fn three_pairs_are_placed<A: SearchArgument<u64, Query = usize> + RankArgument<u
     let Ok(mut map) = Map::<A>::new(alloc) else {
         return false;
     };
-    let mut all = true;
-    for (key, value) in [(1, 2), (2, 3), (3, 4)] {
-        all &= put(&mut map, key, value);
-    }
-    all &= are_placed(&map);
-    are_written_and_taken(&mut map) && all
+    are_put(&mut map) && are_placed(&map) && are_written_and_taken(&mut map)
 }
 
 #[test]
@@ -71,82 +75,70 @@ fn has_child<A: Argument<u64>>(map: &Map<A>, wanted: Result<Option<usize>, Desce
     map.descend_visit(Says::Child(65)) == wanted
 }
 
-fn removes_the_last_of_many<A: Argument<u64>>(alloc: Global) -> bool {
-    let Ok(mut map) = collect_times::<A>(alloc, 4161, 1) else {
-        return false;
-    };
-    let is_deep = has_depth(&map, 3);
-    take(&mut map, 4160, 4160) && is_deep && measures(&map, 4160, 2)
+fn removes_the_last_of_many<A: Argument<u64>>(map: &mut Map<A>) -> bool {
+    has_depth(map, 3) && take(map, 4160, 4160) && measures(map, 4160, 2)
 }
 
-// A map of two levels above its leaves, of which the root has fewer than 65 keys; and one leaf
-// alone, of one pair.
-fn goes_down_ten_thousand<A: Argument<u64>>(alloc: Global) -> bool {
-    let Ok(map) = collect_times::<A>(alloc, 10_000, 10) else {
-        return false;
-    };
-    let Ok(leaf) = collect_times::<A>(alloc, 1, 10) else {
-        return false;
-    };
-    let mut all = measures(&map, 10_000, 2);
-    all &= has_depth(&map, 3);
-    all &= has_child(&map, Err(DescendError::InvalidChild));
-    all &= has(&map, 9_999, Some(99_990));
-    all && has_child(&leaf, Ok(Some(1)))
+// Whether a map of two levels above its leaves, of which the root has fewer than 65 keys, answers
+// visitors.
+fn goes_down_ten_thousand<A: Argument<u64>>(map: &Map<A>) -> bool {
+    measures(map, 10_000, 2)
+        && has_depth(map, 3)
+        && has_child(map, Err(DescendError::InvalidChild))
+        && has(map, 9_999, Some(99_990))
 }
 
 // Of pairs out of order the last of each key stays, and they come out ascending.
 fn keeps_the_last_of_each_key<A: Argument<u64>>(alloc: Global) -> bool {
-    let mut pairs = Vec::new(alloc);
-    let mut all = true;
-    for pair in [(2, 1), (1, 5), (2, 0)] {
-        all &= pairs.push(pair).is_ok();
-    }
+    let Ok(pairs) = Vec::from_slice(alloc, &[(2, 1), (1, 5), (2, 0)]) else {
+        return false;
+    };
     let Ok(map) = collect::<u64, A>(alloc, pairs) else {
         return false;
     };
-    all &= gives(map.iter(), 2, &[(true, 1), (false, 2)]);
-    all && has(&map, 1, Some(5)) && has(&map, 2, Some(0))
+    gives(map.iter(), 1, 2, true) && has(&map, 1, Some(5)) && has(&map, 2, Some(0))
 }
 
-// Whether a pair came, and is this one.
-fn is_pair(found: Option<(u64, u64)>, wanted: (u64, u64)) -> bool {
+// Whether a pair came, with this key and ten times as much.
+fn is_pair(found: Option<(u64, u64)>, wanted: u64) -> bool {
     match found {
-        Some((key, value)) => key == wanted.0 && value == wanted.1,
+        Some((key, value)) => key == wanted && value == wanted.wrapping_mul(10),
         None => false,
     }
 }
 
-// Whether a map hands its three pairs over, from both ends.
+// Whether three pairs come from both ends.
+fn come_three<A: CloneArgument<u64>>(pairs: &mut IntoIter<u64, u64, A>) -> bool {
+    is_pair(pairs.next(), 0)
+        && is_pair(pairs.next_back(), 2)
+        && is_pair(pairs.next(), 1)
+        && pairs.next().is_none()
+}
+
 fn hands_over_three<A: CloneArgument<u64>>(map: Map<A>) -> bool {
     let mut pairs = map.into_iter();
-    let mut all = is_pair(pairs.next(), (0, 0));
-    all &= is_pair(pairs.next_back(), (2, 20));
-    all &= is_pair(pairs.next(), (1, 10));
-    all && pairs.next().is_none()
+    come_three(&mut pairs)
 }
 
 // Whether a map has no pair, and then takes one.
-fn takes_one<A: CloneArgument<u64>>(map: Map<A>) -> bool {
-    let mut map = map;
-    let is_empty = measures(&map, 0, 0);
-    is_empty && put(&mut map, 5, 6) && has(&map, 5, Some(6)) && has(&map, 7, None)
+fn takes_one<A: CloneArgument<u64>>(map: &mut Map<A>) -> bool {
+    measures(map, 0, 0) && put(map, 5, 6) && has(map, 5, Some(6)) && has(map, 7, None)
 }
 
-// A clone keeps the pairs of a map that is cleared. That map, and one that is made by default, then
-// take a pair each.
-fn is_cloned_and_cleared<A: CloneArgument<u64>>(alloc: Global) -> bool {
-    let Ok(mut map) = collect_times::<A>(alloc, 3, 10) else {
-        return false;
-    };
+// A clone keeps the pairs of a map that is cleared and takes a pair again.
+fn is_cloned_and_cleared<A: CloneArgument<u64>>(map: &mut Map<A>) -> bool {
     let Ok(other) = map.clone() else {
         return false;
     };
     let is_cleared = map.clear().is_ok();
-    let Ok(fresh) = Map::<A>::default(alloc) else {
+    hands_over_three(other) && is_cleared && takes_one(map)
+}
+
+fn default_takes_one<A: CloneArgument<u64>>(alloc: Global) -> bool {
+    let Ok(mut map) = Map::<A>::default(alloc) else {
         return false;
     };
-    is_cleared && hands_over_three(other) && takes_one(map) && takes_one(fresh)
+    takes_one(&mut map)
 }
 
 // A query and a rank ask each of the two levels above the leaves once, and at last one leaf.
@@ -159,60 +151,83 @@ fn asks_each_level_once<A: SearchArgument<u64, Query = usize> + RankArgument<u64
     has_at(&map, 0, Some((2, 20))) && has_rank(&map, 9_999, Ok(2))
 }
 
-// The ends of a part, how many pairs it has, and the keys that come from the front, or else from
-// the back.
-type Part = (Option<u64>, Option<u64>, usize, &'static [(bool, u64)]);
-
-const PARTS: [Part; 5] = [
-    (
-        Some(10),
-        Some(13),
-        3,
-        &[(true, 10), (false, 12), (true, 11)],
-    ),
-    (None, Some(2), 2, &[(true, 0), (true, 1)]),
-    (Some(98), None, 2, &[(true, 98), (true, 99)]),
-    (Some(5), Some(5), 0, &[]),
-    (Some(7), Some(3), 0, &[]),
-];
-
-fn has_part<A: Argument<u64>>(map: &Map<A>, part: &Part) -> bool {
-    let (lo, hi, len, steps) = part;
-    gives(map.range(lo.as_ref(), hi.as_ref()), *len, *steps)
+// Whether the part between two ends has just so many keys from one on, which come in turn where
+// both ends are named.
+fn has_part<A: Argument<u64>>(
+    map: &Map<A>,
+    lo: Option<u64>,
+    hi: Option<u64>,
+    first: u64,
+    len: usize,
+) -> bool {
+    gives(
+        map.range(lo.as_ref(), hi.as_ref()),
+        first,
+        len,
+        lo.is_some() && hi.is_some(),
+    )
 }
 
-// Whether so many pairs at most from a place on begin with these.
+// Whether so many pairs at most from a place on are just so many from a key on.
 fn has_part_at<A: SearchArgument<u64, Query = usize>>(
     map: &Map<A>,
     place: usize,
     many: usize,
-    steps: &[(bool, u64)],
+    first: u64,
+    len: usize,
 ) -> bool {
     match map.range_by_argument(place, many) {
-        Ok(pairs) => gives(pairs, steps.len(), steps),
+        Ok(pairs) => gives(pairs, first, len, false),
         Err(_) => false,
     }
 }
 
-fn gives_parts_of_a_hundred<A: SearchArgument<u64, Query = usize>>(alloc: Global) -> bool {
-    let Ok(map) = collect_times::<A>(alloc, 100, 1) else {
+fn has_parts<A: SearchArgument<u64, Query = usize>>(map: &Map<A>) -> bool {
+    has_part(map, None, None, 0, 100)
+        && has_part(map, Some(10), Some(13), 10, 3)
+        && has_part(map, None, Some(2), 0, 2)
+        && has_part(map, Some(98), None, 98, 2)
+        && has_part(map, Some(5), Some(5), 5, 0)
+        && has_part(map, Some(7), Some(3), 7, 0)
+        && has_part_at(map, 98, 5, 98, 2)
+        && has_part_at(map, 100, 5, 100, 0)
+        && has_part_at(map, 0, 0, 0, 0)
+}
+
+// Whether a map of the keys below a number, each with so many times itself, is as is known. That of
+// one pair is one leaf alone.
+fn holds<A: SearchArgument<u64, Query = usize> + CloneArgument<u64>>(
+    alloc: Global,
+    len: u64,
+    times: u64,
+) -> bool {
+    let Ok(mut map) = collect_times::<A>(alloc, len, times) else {
         return false;
     };
-    let mut all = map.range(None, None).len() == 100;
-    for part in &PARTS {
-        all &= has_part(&map, part);
+    match len {
+        1 => has_child(&map, Ok(Some(1))),
+        3 => is_cloned_and_cleared(&mut map),
+        100 => has_parts(&map),
+        4161 => removes_the_last_of_many(&mut map),
+        _ => goes_down_ten_thousand(&map),
     }
-    all &= has_part_at(&map, 98, 5, &[(true, 98), (true, 99)]);
-    all && has_part_at(&map, 100, 5, &[]) && has_part_at(&map, 0, 0, &[])
+}
+
+fn hold_what_is_collected<A: SearchArgument<u64, Query = usize> + CloneArgument<u64>>(
+    alloc: Global,
+) -> bool {
+    holds::<A>(alloc, 4161, 1)
+        && holds::<A>(alloc, 10_000, 10)
+        && holds::<A>(alloc, 1, 10)
+        && holds::<A>(alloc, 3, 10)
+        && holds::<A>(alloc, 100, 1)
+        && keeps_the_last_of_each_key::<A>(alloc)
+        && default_takes_one::<A>(alloc)
 }
 
 #[test]
 fn collected_pairs_are_held(rt: HostRuntime) -> Result<(), Fail> {
-    assert!(rt; removes_the_last_of_many::<Count>(rt.alloc()));
-    assert!(rt; goes_down_ten_thousand::<Count>(rt.alloc()));
-    assert!(rt; keeps_the_last_of_each_key::<Count>(rt.alloc()));
-    assert!(rt; is_cloned_and_cleared::<Count>(rt.alloc()));
+    assert!(rt; hold_what_is_collected::<Count>(rt.alloc()));
     assert!(rt; asks_each_level_once::<Probe>(rt.alloc()));
-    assert!(rt; gives_parts_of_a_hundred::<Count>(rt.alloc()));
     Ok(())
 }

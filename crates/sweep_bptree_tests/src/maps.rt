@@ -99,25 +99,32 @@ pub fn takes_at<A: SearchArgument<u64, Query = usize>>(
     map.remove_by_argument(place) == Ok(wanted)
 }
 
-/// Whether there are so many pairs, of which those with these keys come from the front, or else
-/// from the back, and no more after them.
+fn has_key(pair: Option<(&u64, &u64)>, wanted: u64) -> bool {
+    match pair {
+        Some((key, _)) => *key == wanted,
+        None => false,
+    }
+}
+
+/// Whether just so many keys from one on come: from the front, or else from the front and from the
+/// back in turn.
 pub fn gives<A: Argument<u64>>(
     mut pairs: Iter<'_, u64, u64, A>,
+    first: u64,
     len: usize,
-    steps: &[(bool, u64)],
+    in_turn: bool,
 ) -> bool {
     let mut all = pairs.len() == len;
-    for (is_front, wanted) in steps {
-        let found = if *is_front {
-            pairs.next()
+    let mut next = first;
+    let mut end = first.wrapping_add(len as u64);
+    for turn in 0..len {
+        if in_turn && turn % 2 == 1 {
+            end = end.wrapping_sub(1);
+            all &= has_key(pairs.next_back(), end);
         } else {
-            pairs.next_back()
-        };
-        all = all
-            && match found {
-                Some((key, _)) => *key == *wanted,
-                None => false,
-            };
+            all &= has_key(pairs.next(), next);
+            next = next.wrapping_add(1);
+        }
     }
     all && pairs.next().is_none() && pairs.next_back().is_none()
 }

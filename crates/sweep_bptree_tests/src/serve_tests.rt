@@ -1,7 +1,7 @@
 //! Inputs and what is answered, and readers and writers that fail.
 ghost use Rattle.std.specs.Prelude.{◌<◌, Some};
 
-use std::alloc::Global;
+use std::alloc::{AllocError, Global};
 use std::io;
 use std::io::{ErrorKind, Read, Write};
 use std::test::Fail;
@@ -109,61 +109,64 @@ fn answers(alloc: Global, input: &[u8], output: &[u8]) -> bool {
     serves(alloc, source, sink, Ok(()), output)
 }
 
+// Inputs and their answers.
+const EXAMPLES: [(&str, &str); 18] = [
+    ("", ""),
+    ("len", "0\n"),
+    ("all\nget 1\nlen\n", "empty\nnone\n0\n"),
+    ("first\nlast\n", "none\nnone\n"),
+    (
+        "put 7 70\nfirst\nlast\nput 2 20\nput 11 0\nput 11 110\nfirst\nlast\nlen\n",
+        "new\n7 70\n7 70\nnew\nnew\nold 0\n2 20\n11 110\n3\n",
+    ),
+    (INPUT, OUTPUT),
+    (RANKS, RANKED),
+    (
+        "at 0\nrank 1\nat 18446744073709551615\n",
+        "none\nout 0\nnone\n",
+    ),
+    (
+        "put 18446744073709551615 1\nput 0 2\nrank 18446744073709551615\nrank 1\nat 1\nput 0 3\nat 0\nat 2\n",
+        "new\nnew\nin 1\nout 1\n18446744073709551615 1\nold 2\n0 3\nnone\n",
+    ),
+    (
+        "put 0 18446744073709551615\nput 18446744073709551615 0\nall\nget 18446744073709551615\nget 0",
+        "new\nnew\n0 18446744073709551615,18446744073709551615 0\n0\n18446744073709551615\n",
+    ),
+    (
+        "put 18446744073709551615 18446744073709551615\nput 18446744073709551615 184467440737095516150\nlen",
+        "new\nbad\n1\n",
+    ),
+    (NEIGHBOURS, NEIGHBOURED),
+    (
+        "put 0 18446744073709551615\nput 18446744073709551615 0\nall\nback\nat 2\nprev 0\nclear\nall\nlen",
+        "new\nnew\n0 18446744073709551615,18446744073709551615 0\n18446744073709551615 0,0 18446744073709551615\nnone\nnone\ncleared\nempty\n0\n",
+    ),
+    (
+        "back\nnext 0\nprev 5\nput 5 50\nback\nnext 5\nprev 5\nnext 0\nprev 18446744073709551615\nput 7 70\nput 6 60\nnext 5\nprev 7\nnext 6\nback\n",
+        "empty\nnone\nnone\nnew\n5 50\nnone\nnone\n5 50\n5 50\nnew\nnew\n6 60\n6 60\n7 70\n7 70,6 60,5 50\n",
+    ),
+    (
+        "del 5\nput 5 50\ndel 5\ndel 5\nlen\nclear\nput 5 51\ndel 5\n",
+        "none\nnew\ngone 50\nnone\n0\ncleared\nnew\ngone 51\n",
+    ),
+    (
+        "put 5 50\nput 6 60\nput 7 70\nrange 6 18446744073709551615\nrange 7 7\nrange 5\nrange 18446744073709551615 18446744073709551615\nrange 1 18446744073709551616\nrange 18446744073709551615 184467440737095516150",
+        "new\nnew\nnew\n6 60,7 70\nempty\nbad\nempty\nbad\nbad\n",
+    ),
+    (
+        "put 5 50\nput 6 60\nput 7 70\npage 0 2\npage 1 2\npage 2 2\npage 0 0\npage 9223372036854775808 2\npage 0",
+        "new\nnew\nnew\n5 50,6 60\n7 70\nempty\nbad\nempty\nbad\n",
+    ),
+    (
+        "put 1 10\nPUT 1 11\nget 1\n\nget 1\n",
+        "new\nbad\n10\nbad\n10\n",
+    ),
+];
+
 #[test]
 fn inputs(rt: HostRuntime) {
-    for (input, output) in [
-        ("", ""),
-        ("len", "0\n"),
-        ("all\nget 1\nlen\n", "empty\nnone\n0\n"),
-        ("first\nlast\n", "none\nnone\n"),
-        (
-            "put 7 70\nfirst\nlast\nput 2 20\nput 11 0\nput 11 110\nfirst\nlast\nlen\n",
-            "new\n7 70\n7 70\nnew\nnew\nold 0\n2 20\n11 110\n3\n",
-        ),
-        (INPUT, OUTPUT),
-        (RANKS, RANKED),
-        (
-            "at 0\nrank 1\nat 18446744073709551615\n",
-            "none\nout 0\nnone\n",
-        ),
-        (
-            "put 18446744073709551615 1\nput 0 2\nrank 18446744073709551615\nrank 1\nat 1\nput 0 3\nat 0\nat 2\n",
-            "new\nnew\nin 1\nout 1\n18446744073709551615 1\nold 2\n0 3\nnone\n",
-        ),
-        (
-            "put 0 18446744073709551615\nput 18446744073709551615 0\nall\nget 18446744073709551615\nget 0",
-            "new\nnew\n0 18446744073709551615,18446744073709551615 0\n0\n18446744073709551615\n",
-        ),
-        (
-            "put 18446744073709551615 18446744073709551615\nput 18446744073709551615 184467440737095516150\nlen",
-            "new\nbad\n1\n",
-        ),
-        (NEIGHBOURS, NEIGHBOURED),
-        (
-            "put 0 18446744073709551615\nput 18446744073709551615 0\nall\nback\nat 2\nprev 0\nclear\nall\nlen",
-            "new\nnew\n0 18446744073709551615,18446744073709551615 0\n18446744073709551615 0,0 18446744073709551615\nnone\nnone\ncleared\nempty\n0\n",
-        ),
-        (
-            "back\nnext 0\nprev 5\nput 5 50\nback\nnext 5\nprev 5\nnext 0\nprev 18446744073709551615\nput 7 70\nput 6 60\nnext 5\nprev 7\nnext 6\nback\n",
-            "empty\nnone\nnone\nnew\n5 50\nnone\nnone\n5 50\n5 50\nnew\nnew\n6 60\n6 60\n7 70\n7 70,6 60,5 50\n",
-        ),
-        (
-            "del 5\nput 5 50\ndel 5\ndel 5\nlen\nclear\nput 5 51\ndel 5\n",
-            "none\nnew\ngone 50\nnone\n0\ncleared\nnew\ngone 51\n",
-        ),
-        (
-            "put 5 50\nput 6 60\nput 7 70\nrange 6 18446744073709551615\nrange 7 7\nrange 5\nrange 18446744073709551615 18446744073709551615\nrange 1 18446744073709551616\nrange 18446744073709551615 184467440737095516150",
-            "new\nnew\nnew\n6 60,7 70\nempty\nbad\nempty\nbad\nbad\n",
-        ),
-        (
-            "put 5 50\nput 6 60\nput 7 70\npage 0 2\npage 1 2\npage 2 2\npage 0 0\npage 9223372036854775808 2\npage 0",
-            "new\nnew\nnew\n5 50,6 60\n7 70\nempty\nbad\nempty\nbad\n",
-        ),
-        (
-            "put 1 10\nPUT 1 11\nget 1\n\nget 1\n",
-            "new\nbad\n10\nbad\n10\n",
-        ),
-    ] {
+    for (input, output) in &EXAMPLES {
         let holds = answers(rt.alloc(), input.as_bytes(), output.as_bytes());
         assert!(rt; holds, "{input:?}");
     }
@@ -178,55 +181,57 @@ fn is_bad(alloc: Global, line: &[u8]) -> bool {
     is_whole && answers(alloc, &input, b"bad\n0\n")
 }
 
+const BAD_LINES: [&[u8]; 45] = [
+    b"",
+    b"put  1 2",
+    b" len",
+    b"len ",
+    b"\tlen",
+    b"len\t",
+    b"PUT 1 2",
+    b"Len",
+    b"put 1",
+    b"get",
+    b"put 1 2 3",
+    b"get 1 2",
+    b"len 0",
+    b"first 1",
+    b"last ",
+    b"First",
+    b"lasts",
+    b"at",
+    b"at ",
+    b"at 01",
+    b"at 1 2",
+    b"At 0",
+    b"at 18446744073709551616",
+    b"rank",
+    b"rank 1 2",
+    b"rank 01",
+    b"next",
+    b"prev 1 2",
+    b"back 1",
+    b"ranks 1",
+    b"del",
+    b"del 01",
+    b"del 1 2",
+    b"clear ",
+    b"clear 1",
+    b"Clear",
+    b"get 01",
+    b"get +1",
+    b"get -0",
+    b"get 1x",
+    b"get 18446744073709551616",
+    b"put 1 18446744073709551616",
+    b"len\r",
+    b"get 1\r",
+    b"get \xff\x00",
+];
+
 #[test]
 fn bad_lines(rt: HostRuntime) -> Result<(), Fail> {
-    for line in [
-        b"".as_slice(),
-        b"put  1 2",
-        b" len",
-        b"len ",
-        b"\tlen",
-        b"len\t",
-        b"PUT 1 2",
-        b"Len",
-        b"put 1",
-        b"get",
-        b"put 1 2 3",
-        b"get 1 2",
-        b"len 0",
-        b"first 1",
-        b"last ",
-        b"First",
-        b"lasts",
-        b"at",
-        b"at ",
-        b"at 01",
-        b"at 1 2",
-        b"At 0",
-        b"at 18446744073709551616",
-        b"rank",
-        b"rank 1 2",
-        b"rank 01",
-        b"next",
-        b"prev 1 2",
-        b"back 1",
-        b"ranks 1",
-        b"del",
-        b"del 01",
-        b"del 1 2",
-        b"clear ",
-        b"clear 1",
-        b"Clear",
-        b"get 01",
-        b"get +1",
-        b"get -0",
-        b"get 1x",
-        b"get 18446744073709551616",
-        b"put 1 18446744073709551616",
-        b"len\r",
-        b"get 1\r",
-        b"get \xff\x00",
-    ] {
+    for line in &BAD_LINES {
         assert!(rt; is_bad(rt.alloc(), line), "{line:?}");
     }
     Ok(())
@@ -241,22 +246,46 @@ fn answers_a_long_line(alloc: Global) -> bool {
     is_long && is_bad(alloc, &line)
 }
 
+// So many lines, and then two texts.
+fn lines(
+    alloc: Global,
+    line: &[u8],
+    many: u64,
+    then: &[u8],
+    last: &[u8],
+) -> Result<Vec<u8>, AllocError> {
+    let mut text = Vec::new(alloc);
+    for _ in 0..many {
+        text.extend_from_slice(line)?;
+    }
+    text.extend_from_slice(then)?;
+    text.extend_from_slice(last)?;
+    Ok(text)
+}
+
 // Short reads and short writes, of which there are more than 100,000.
 fn answers_byte_by_byte(alloc: Global) -> bool {
-    let mut input = Vec::new(alloc);
-    let mut output = Vec::new(alloc);
-    let mut all = true;
-    for _ in 0..15_000 {
-        all &= input.extend_from_slice(b"get 123\n").is_ok();
-        all &= output.extend_from_slice(b"none\n").is_ok();
-    }
-    all &= input.extend_from_slice(b"clear\n").is_ok();
-    all &= output.extend_from_slice(b"cleared\n").is_ok();
-    all &= input.extend_from_slice(NEIGHBOURS.as_bytes()).is_ok();
-    all &= output.extend_from_slice(NEIGHBOURED.as_bytes()).is_ok();
+    let Ok(input) = lines(
+        alloc,
+        b"get 123\n",
+        15_000,
+        b"clear\n",
+        NEIGHBOURS.as_bytes(),
+    ) else {
+        return false;
+    };
+    let Ok(output) = lines(
+        alloc,
+        b"none\n",
+        15_000,
+        b"cleared\n",
+        NEIGHBOURED.as_bytes(),
+    ) else {
+        return false;
+    };
     let source = new_source(&input, 1, usize::MAX);
     let sink = new_sink(alloc, 1, usize::MAX, true);
-    all && serves(alloc, source, sink, Ok(()), &output)
+    serves(alloc, source, sink, Ok(()), &output)
 }
 
 #[test]
@@ -265,47 +294,56 @@ fn long_inputs(rt: HostRuntime) -> Result<(), Fail> {
     Ok(())
 }
 
+// An input that is read so many bytes at a time, and fails after so many reads. Then come so many
+// bytes a write, and how many are written at most, whether it can flush, and what is written.
+type Faulty = (&'static str, usize, usize, usize, usize, bool, &'static str);
+
+const FAULTY: [Faulty; 11] = [
+    (INPUT, 1, 1000, 1, 6, true, "new\nne"),
+    (INPUT, 100, 1000, 100, 6, true, "new\nne"),
+    ("len", 100, 1000, 100, 1, true, "0"),
+    (NEIGHBOURS, 1, 1000, 100, 6, true, "new\nne"),
+    ("len", 100, 1000, 0, 100, true, ""),
+    ("len", 100, 1000, 100, 100, false, "0\n"),
+    ("", 100, 1000, 100, 100, false, ""),
+    ("len\n", 3, 1, 100, 100, true, ""),
+    ("len\nlen\n", 6, 1, 100, 100, true, "0\n"),
+    ("len\nlen", 100, 1, 100, 100, true, "0\n"),
+    ("len\n", 4, 0, 100, 100, true, ""),
+];
+
 // The lines that were read are answered before the read that fails; a line that it cuts off is not.
+fn ends_with_a_fault(alloc: Global, row: &Faulty) -> bool {
+    let (input, read, good, write, room, can_flush, written) = *row;
+    let source = new_source(input.as_bytes(), read, good);
+    let sink = new_sink(alloc, write, room, can_flush);
+    serves(alloc, source, sink, Err(ServeError::Io), written.as_bytes())
+}
+
 #[test]
 fn streams_with_faults(rt: HostRuntime) {
-    for (input, (read, good), (write, room, can_flush), written) in [
-        (INPUT, (1, 1000), (1, 6, true), "new\nne"),
-        (INPUT, (100, 1000), (100, 6, true), "new\nne"),
-        ("len", (100, 1000), (100, 1, true), "0"),
-        (NEIGHBOURS, (1, 1000), (100, 6, true), "new\nne"),
-        ("len", (100, 1000), (0, 100, true), ""),
-        ("len", (100, 1000), (100, 100, false), "0\n"),
-        ("", (100, 1000), (100, 100, false), ""),
-        ("len\n", (3, 1), (100, 100, true), ""),
-        ("len\nlen\n", (6, 1), (100, 100, true), "0\n"),
-        ("len\nlen", (100, 1), (100, 100, true), "0\n"),
-        ("len\n", (4, 0), (100, 100, true), ""),
-    ] {
-        let source = new_source(input.as_bytes(), read, good);
-        let sink = new_sink(rt.alloc(), write, room, can_flush);
-        let holds = serves(
-            rt.alloc(),
-            source,
-            sink,
-            Err(ServeError::Io),
-            written.as_bytes(),
+    for row in &FAULTY {
+        assert!(rt;
+            ends_with_a_fault(rt.alloc(), row),
+            "{:?} and {:?}",
+            row.0,
+            row.6
         );
-        assert!(rt; holds, "{input:?} and {written:?}");
     }
+}
+
+// Whether a program that ends with an error has this status and shows this text.
+fn exits_with(alloc: Global, error: ServeError, status: u8, text: &str) -> bool {
+    let Ok(shown) = error.to_string(alloc) else {
+        return false;
+    };
+    exit_status(&Err(error)) == status && shown.as_str() == text
 }
 
 #[test]
 fn statuses_and_texts(rt: HostRuntime) -> Result<(), Fail> {
-    for (served, status, text) in [
-        (Ok(()), 0, ""),
-        (Err(ServeError::Io), 1, "i/o fault"),
-        (Err(ServeError::OutOfMemory), 3, "out of memory"),
-    ] {
-        let shown = match served {
-            Ok(()) => String::new(rt.alloc()),
-            Err(error) => error.to_string(rt.alloc())?,
-        };
-        assert!(rt; exit_status(&served) == status && shown.as_str() == text);
-    }
+    assert!(rt; exit_status(&Ok(())) == 0);
+    assert!(rt; exits_with(rt.alloc(), ServeError::Io, 1, "i/o fault"));
+    assert!(rt; exits_with(rt.alloc(), ServeError::OutOfMemory, 3, "out of memory"));
     Ok(())
 }

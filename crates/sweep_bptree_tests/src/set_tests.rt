@@ -1,58 +1,50 @@
 //! The union of two sets.
 
-use bptree_keys::key::Key;
 use bptree_sets::set::BPlusTreeSet;
 use std::alloc::{AllocError, Global};
 use std::test::Fail;
 
-// The set of the first so many keys.
-fn set_of<K: Key + Copy>(
-    alloc: Global,
-    keys: &[K],
-    many: usize,
-) -> Result<BPlusTreeSet<K>, AllocError> {
-    let mut items = Vec::new(alloc);
-    for key in keys.iter().take(many) {
-        items.push(*key)?;
-    }
-    BPlusTreeSet::from_iter(alloc, items)
+type Set = BPlusTreeSet<u64>;
+
+fn set_of(alloc: Global, keys: &[u64]) -> Result<Set, AllocError> {
+    BPlusTreeSet::from_iter(alloc, Vec::from_slice(alloc, keys)?)
 }
 
-// Of the keys of two sets, one of which has all, each comes once.
-fn gives<K: Key>(first: &BPlusTreeSet<K>, second: &BPlusTreeSet<K>, wanted: &[K]) -> bool {
+// Of the keys of two sets, 1 and 2, one of which has both, each comes once. Before the first step
+// there are two at least and three at most.
+fn gives_both(first: &Set, second: &Set) -> bool {
     let mut keys = first.union(second);
-    let mut all = keys.size_hint() == (2, Some(3));
-    for key in wanted {
-        all &= keys.next() == Some(key);
-    }
-    keys.next().is_none() && keys.next().is_none() && all
+    keys.size_hint() == (2, Some(3))
+        && keys.next() == Some(&1)
+        && keys.next() == Some(&2)
+        && keys.next().is_none()
+        && keys.next().is_none()
 }
 
-// A set that is made by default takes each of the keys as a new one.
-fn takes_each<K: Key + Copy>(mut set: BPlusTreeSet<K>, keys: &[K]) -> bool {
-    let mut all = set.is_empty();
-    for key in keys {
-        all &= matches!(set.insert(*key), Ok(true)) && set.contains(key);
-    }
-    all && set.len() == keys.len()
+fn joins_two_sets(alloc: Global) -> bool {
+    let Ok(first) = set_of(alloc, &[1]) else {
+        return false;
+    };
+    let Ok(second) = set_of(alloc, &[1, 2]) else {
+        return false;
+    };
+    gives_both(&first, &second)
 }
 
-// Before the first step there are two keys at least and three at most.
-fn joins_two_sets<K: Key + Copy>(alloc: Global, both: &[K]) -> bool {
-    let Ok(first) = set_of(alloc, both, 1) else {
+fn takes(set: &mut Set, key: u64) -> bool {
+    matches!(set.insert(key), Ok(true)) && set.contains(&key)
+}
+
+// A set that is made by default takes each of two keys as a new one.
+fn default_takes_two(alloc: Global) -> bool {
+    let Ok(mut set) = Set::default(alloc) else {
         return false;
     };
-    let Ok(second) = set_of(alloc, both, 2) else {
-        return false;
-    };
-    let Ok(fresh) = BPlusTreeSet::default(alloc) else {
-        return false;
-    };
-    gives(&first, &second, both) && takes_each(fresh, both)
+    set.is_empty() && takes(&mut set, 1) && takes(&mut set, 2) && set.len() == 2
 }
 
 #[test]
 fn two_sets_are_joined(rt: HostRuntime) -> Result<(), Fail> {
-    assert!(rt; joins_two_sets(rt.alloc(), &[1u64, 2]));
+    assert!(rt; joins_two_sets(rt.alloc()) && default_takes_two(rt.alloc()));
     Ok(())
 }

@@ -86,12 +86,12 @@ pub fn have_rows<T: Ranked>(tree: &mut T) -> bool {
 /// behind 31, with 15 smaller ones.
 pub fn lent_key_keeps_its_place<T: Ranked>(tree: &mut T) -> bool {
     let mut all = refill(tree, 0, 65);
-    all &= tree.rank(64) == Ok(Ok(64));
+    all &= tree.has_rank(64, Ok(64));
     all &= take_from(tree, 0, 17);
-    all &= tree.rank(32) == Ok(Ok(15));
-    match tree.hold(31) {
-        Ok(Some((cursor, _))) => all && tree.stands_between(&cursor, Some(30), true, Some(32)),
-        _ => false,
+    all &= tree.has_rank(32, Ok(15));
+    match tree.hold(31, true) {
+        Some(cursor) => all && tree.stands_between(&cursor, Some(30), true, Some(32)),
+        None => false,
     }
 }
 

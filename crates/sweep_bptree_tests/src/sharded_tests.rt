@@ -76,49 +76,51 @@ fn ends_alike<S: Shard<K = u64, V = u64>>(whole: &Shards<S>, plain: &Plain) -> b
         && whole.at(whole.len()).is_none()
 }
 
+// Whether a key is put, or else deleted, with the same answer as the list's.
+fn changes_alike<S: Shard<K = u64, V = u64>>(
+    whole: &mut Shards<S>,
+    plain: &mut Plain,
+    key: u64,
+    put: Option<u64>,
+) -> bool {
+    let there = &mut plain[(key % 64) as usize];
+    let old = *there;
+    *there = put;
+    match put {
+        None => whole.del(&key) == Ok(old),
+        Some(value) => match whole.put(key, value) {
+            Ok(found) => found == old,
+            Err(_) => false,
+        },
+    }
+}
+
+fn is_alike<S: Shard<K = u64, V = u64>>(whole: &Shards<S>, plain: &Plain) -> bool {
+    let mut all = ends_alike(whole, plain);
+    for key in 0..64 {
+        all &= reads_alike(whole, plain, key);
+    }
+    all
+}
+
 // Puts and deletes keys in an order that a multiplier draws, and reads each key after each.
-fn alike<S: Shard<K = u64, V = u64>>(whole: Shards<S>) -> bool {
-    let mut whole = whole;
+fn alike<S: Shard<K = u64, V = u64>>(whole: &mut Shards<S>) -> bool {
     let mut plain: Plain = [None; 64];
+    let mut all = true;
     let mut drawn = 1u64;
     for step in 0..200u64 {
         drawn = drawn
             .wrapping_mul(6364136223846793005)
             .wrapping_add(1442695040888963407);
-        let key = (drawn >> 33) % 64;
-        let at = (key % 64) as usize;
-        if (drawn >> 40) % 3 == 0 {
-            if whole.del(&key) != Ok(plain[at]) {
-                return false;
-            }
-            plain[at] = None;
+        let put = if (drawn >> 40) % 3 == 0 {
+            None
         } else {
-            match whole.put(key, step) {
-                Ok(old) => {
-                    if old != plain[at] {
-                        return false;
-                    }
-                }
-                Err(_) => return false,
-            }
-            plain[at] = Some(step);
-        }
-        for read in 0..64 {
-            if !reads_alike(&whole, &plain, read) {
-                return false;
-            }
-        }
-        if !ends_alike(&whole, &plain) {
-            return false;
-        }
+            Some(step)
+        };
+        all &= changes_alike(whole, &mut plain, (drawn >> 33) % 64, put);
+        all &= is_alike(whole, &plain);
     }
-    true
-}
-
-#[test]
-fn answers_as_a_plain_list_does(rt: HostRuntime) -> Result<(), Fail> {
-    assert!(rt; alike(shards(rt.alloc())?));
-    Ok(())
+    all
 }
 
 // Whether the bounds and the lengths are these.
@@ -131,22 +133,40 @@ fn is_cut<S: Shard<K = u64, V = u64>>(
 }
 
 // A shard is cut in two, and then the first two become one.
-fn moves<S: Shard<K = u64, V = u64>>(whole: Shards<S>) -> bool {
-    let mut whole = whole;
+fn moves<S: Shard<K = u64, V = u64>>(whole: &mut Shards<S>) -> bool {
+    let mut all = true;
     for key in 0..64 {
-        if whole.put(key, key).is_err() {
-            return false;
-        }
+        all &= whole.put(key, key).is_ok();
     }
-    let first = is_cut(&whole, &[16, 40, 40], &[16, 24, 0, 24]);
-    let split = whole.split(24).is_ok() && is_cut(&whole, &[16, 24, 40, 40], &[16, 8, 16, 0, 24]);
-    let merged = whole.merge(0).is_ok() && is_cut(&whole, &[24, 40, 40], &[24, 16, 0, 24]);
-    let kept = whole.merge(3).is_ok() && is_cut(&whole, &[24, 40, 40], &[24, 16, 0, 24]);
-    first && split && merged && kept
+    all && is_cut(whole, &[16, 40, 40], &[16, 24, 0, 24])
+        && whole.split(24).is_ok()
+        && is_cut(whole, &[16, 24, 40, 40], &[16, 8, 16, 0, 24])
+        && whole.merge(0).is_ok()
+        && is_cut(whole, &[24, 40, 40], &[24, 16, 0, 24])
+        && whole.merge(3).is_ok()
+        && is_cut(whole, &[24, 40, 40], &[24, 16, 0, 24])
+}
+
+// Shards answer as a plain list does, or else move.
+fn answers(alloc: Global, as_a_list: bool) -> bool {
+    let Ok(mut whole) = shards(alloc) else {
+        return false;
+    };
+    if as_a_list {
+        alike(&mut whole)
+    } else {
+        moves(&mut whole)
+    }
+}
+
+#[test]
+fn answers_as_a_plain_list_does(rt: HostRuntime) -> Result<(), Fail> {
+    assert!(rt; answers(rt.alloc(), true));
+    Ok(())
 }
 
 #[test]
 fn bounds_come_and_go(rt: HostRuntime) -> Result<(), Fail> {
-    assert!(rt; moves(shards(rt.alloc())?));
+    assert!(rt; answers(rt.alloc(), false));
     Ok(())
 }

@@ -1,5 +1,8 @@
 //! What the tests ask of a tree, told in numbers alone: they name no store and no node. Where a
 //! function answers whether something holds, `false` also stands for memory that was refused.
+use bptree_arguments::argument::{RankArgument, SearchArgument};
+use bptree_arguments::count::Count;
+use bptree_keys::key::Key;
 use bptree_tree::SelectError;
 use std::alloc::{AllocError, Global};
 
@@ -20,6 +23,36 @@ impl Numbered for u64 {
     }
 }
 
+/// A key or a value that is a number.
+pub trait Plain: Numbered + Copy {
+    fn of(number: u64) -> Self;
+}
+
+impl Plain for u64 {
+    fn of(number: u64) -> Self {
+        number
+    }
+}
+
+/// A summary that counts keys, and finds them by their places.
+pub trait Counting<K: Key>: SearchArgument<K, Query = usize> + RankArgument<K, Rank = usize> {
+    fn number(&self) -> usize;
+}
+
+impl<K: Key> Counting<K> for Count {
+    fn number(&self) -> usize {
+        self.count()
+    }
+}
+
+/// From which end pairs come. In turn, the first comes from the front.
+#[derive(Copy, Clone, Drop)]
+pub enum Order {
+    Forward,
+    Backward,
+    InTurn,
+}
+
 /// Pairs that come from both ends.
 pub trait Walked: Drop {
     fn left(&self) -> usize;
@@ -38,8 +71,8 @@ pub trait Tested: Drop {
     /// Puts a new key.
     fn put(&mut self, key: Self::Key, value: Self::Value) -> bool;
 
-    /// Removes a key.
-    fn take(&mut self, key: &Self::Key) -> Result<Option<u64>, AllocError>;
+    /// Whether a key is removed with this value, or is not there.
+    fn takes(&mut self, key: &Self::Key, wanted: Option<u64>) -> bool;
 
     fn read(&self, key: &Self::Key) -> Option<u64>;
 
@@ -53,16 +86,9 @@ pub trait Tested: Drop {
     /// How many levels of inner nodes there are.
     fn levels(&self) -> usize;
 
-    /// Whether just these keys come, from the front and from the back in turn, each with a value so
-    /// much greater.
-    fn gives(&self, keys: &[u64], more: u64) -> bool;
-
-    /// Whether the keys below a number come from the back, each with a value so much greater.
-    fn gives_backward(&self, end: u64, more: u64) -> bool;
-
-    /// Whether the keys below a number come from the front, each with ten times itself and so much
-    /// more.
-    fn holds(&self, end: u64, more: u64) -> bool;
+    /// Whether just the keys from one on come, up to another, that one not included: each with so
+    /// many times itself and so much more.
+    fn gives(&self, order: Order, keys: (u64, u64), times: u64, more: u64) -> bool;
 
     fn empty_it(&mut self) -> bool;
 
@@ -74,34 +100,49 @@ pub trait Tested: Drop {
     fn rebalanced(&self) -> [u64; 8];
 }
 
-/// A tree of numbers that counts its pairs.
-pub trait Ranked: Tested<Key = u64, Value = u64> {
+/// A tree of numbers that counts its pairs. Where a key and no value is named, the value is that
+/// which stands at the key.
+pub trait Ranked: Tested {
     /// A cursor.
     type Held: Copy;
 
     fn new_one(alloc: Global) -> Result<Self, AllocError>;
 
+    /// Puts a new key.
+    fn put_number(&mut self, key: u64, value: u64) -> bool;
+
+    /// Whether a key is removed with this value, or is not there.
+    fn takes_number(&mut self, key: u64, wanted: Option<u64>) -> bool;
+
+    /// The value at a key.
+    fn number_at(&self, key: u64) -> Option<u64>;
+
+    /// Whether a look-up finds nothing and compares nothing.
+    fn compares_nothing(&self, key: u64) -> bool;
+
     /// Whether the tree has so many pairs, counts as many, and has so many levels of inner nodes,
     /// as a visitor finds too.
     fn measures(&self, len: usize, height: usize) -> bool;
 
-    /// The rank of a key: `Ok` where it is there.
-    fn rank(&self, key: u64) -> Result<Result<usize, usize>, AllocError>;
+    /// Whether a key has this rank: `Ok` where it is there.
+    fn has_rank(&self, key: u64, wanted: Result<usize, usize>) -> bool;
 
-    fn pair_at(&self, place: usize) -> Result<Option<Pair>, AllocError>;
+    /// Whether the pair of this key stands at a place, or none.
+    fn has_at(&self, place: usize, key: Option<u64>) -> bool;
 
     /// Writes the value at a place, and answers why it can't.
     fn write_at(&mut self, place: usize, value: u64) -> Option<SelectError>;
 
-    fn take_at(&mut self, place: usize) -> Result<Option<Pair>, AllocError>;
+    /// Whether this pair was taken from a place, or none.
+    fn takes_at(&mut self, place: usize, wanted: Option<Pair>) -> bool;
 
-    /// A cursor for a key, and the value that came with it.
-    fn hold(&self, key: u64) -> Result<Option<(Self::Held, Option<u64>)>, AllocError>;
+    /// A cursor for a key, where it came with the key's value, or with none as the key is not there.
+    fn hold(&self, key: u64, there: bool) -> Option<Self::Held>;
 
     fn hold_first(&self) -> Result<Option<Self::Held>, AllocError>;
 
-    /// The pairs of cursors on the first key and on the last.
-    fn ends(&self) -> Result<(Option<Pair>, Option<Pair>), AllocError>;
+    /// Whether cursors stand on the pairs of these keys, the first and the last.
+    fn has_ends(&self, first: Option<u64>, last: Option<u64>) -> bool;
 
     /// The value at a cursor's key, and whether the key is there.
     fn read_held(&self, held: &Self::Held) -> (Option<u64>, bool);
@@ -136,59 +177,52 @@ pub trait Loaded: Tested {
     fn children(&self) -> Result<Vec<usize>, AllocError>;
 }
 
-/// Whether just these keys come, from the front and from the back in turn, with the number of those
-/// left told each time.
-pub fn come_in_turn<P: Walked>(mut pairs: P, keys: &[u64], more: u64) -> bool {
-    let mut left = keys;
+/// Whether just the keys from one on come, up to another, that one not included: each with so many
+/// times itself and so much more. The number of those left is told each time.
+pub fn come<P: Walked>(
+    mut pairs: P,
+    order: Order,
+    keys: (u64, u64),
+    times: u64,
+    more: u64,
+) -> bool {
+    let (mut next, mut end) = keys;
     let mut all = true;
-    for turn in 0..keys.len() {
-        all &= pairs.left() == left.len();
-        if turn % 2 == 0 {
-            let Some((key, rest)) = left.split_first() else {
-                return false;
-            };
-            all &= pairs.front() == Some((*key, key.wrapping_add(more)));
-            left = rest;
+    for turn in 0..end.saturating_sub(next) {
+        all &= pairs.left() as u64 == end.wrapping_sub(next);
+        let is_front = match order {
+            Order::Forward => true,
+            Order::Backward => false,
+            Order::InTurn => turn % 2 == 0,
+        };
+        if is_front {
+            all &= is_pair(pairs.front(), next, times, more);
+            next = next.wrapping_add(1);
         } else {
-            let Some((key, rest)) = left.split_last() else {
-                return false;
-            };
-            all &= pairs.back() == Some((*key, key.wrapping_add(more)));
-            left = rest;
+            end = end.wrapping_sub(1);
+            all &= is_pair(pairs.back(), end, times, more);
         }
     }
-    all && is_at_the_end(pairs)
+    all && pairs.left() == 0 && pairs.front().is_none() && pairs.back().is_none()
 }
 
-// Whether nothing comes any more.
-fn is_at_the_end<P: Walked>(mut pairs: P) -> bool {
-    pairs.left() == 0 && pairs.front().is_none() && pairs.back().is_none()
-}
-
-/// Whether the keys below a number come from the back, and nothing else.
-pub fn come_backward<P: Walked>(mut pairs: P, end: u64, more: u64) -> bool {
-    let mut all = true;
-    for turn in 0..end {
-        let key = end - 1 - turn;
-        all &= pairs.back() == Some((key, key.wrapping_add(more)));
+fn is_pair(found: Option<Pair>, key: u64, times: u64, more: u64) -> bool {
+    match found {
+        Some((number, value)) => {
+            number == key && value == key.wrapping_mul(times).wrapping_add(more)
+        }
+        None => false,
     }
-    all && is_at_the_end(pairs)
-}
-
-/// Whether the keys below a number come from the front, each with ten times itself and so much
-/// more, and nothing else.
-pub fn come_by_tens<P: Walked>(mut pairs: P, end: u64, more: u64) -> bool {
-    let mut all = pairs.left() as u64 == end;
-    for key in 0..end {
-        let value = key.wrapping_mul(10).wrapping_add(more);
-        all &= pairs.front() == Some((key, value));
-    }
-    all && is_at_the_end(pairs)
 }
 
 /// The value that stands at a key.
 pub fn value_of(key: u64) -> u64 {
     key.wrapping_add(10_000)
+}
+
+/// The value that stands at a key, where the key is there.
+pub fn value_where(key: u64, there: bool) -> Option<u64> {
+    if there { Some(value_of(key)) } else { None }
 }
 
 /// The pair of a key, where one is named.
@@ -201,15 +235,12 @@ pub fn pair_of(key: Option<u64>) -> Option<Pair> {
 
 /// Puts a new key.
 pub fn put<T: Ranked>(tree: &mut T, key: u64) -> bool {
-    tree.put(key, value_of(key))
+    tree.put_number(key, value_of(key))
 }
 
 /// Removes a key that is there.
 pub fn take<T: Ranked>(tree: &mut T, key: u64) -> bool {
-    match tree.take(&key) {
-        Ok(Some(old)) => old == value_of(key),
-        _ => false,
-    }
+    tree.takes_number(key, Some(value_of(key)))
 }
 
 /// Puts the keys from one on up to another, that one not included.
@@ -245,14 +276,10 @@ pub fn is_well<T: Tested>(tree: &T) -> bool {
 
 /// Whether a well shaped tree has these leaves in order.
 pub fn has_leaves<T: Ranked>(tree: &T, wanted: &[Ends]) -> bool {
-    let Ok((leaves, is_shaped)) = tree.leaves() else {
-        return false;
-    };
-    let mut all = is_shaped && leaves.len() == wanted.len();
-    for (leaf, ends) in leaves.iter().zip(wanted) {
-        all &= *leaf == *ends;
+    match tree.leaves() {
+        Ok((leaves, is_shaped)) => is_shaped && leaves.as_slice() == wanted,
+        Err(_) => false,
     }
-    all
 }
 
 /// How many leaves and inner nodes stand in the store under numbers below a bound.

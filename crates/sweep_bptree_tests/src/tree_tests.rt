@@ -4,7 +4,7 @@ use crate::cursors::{
 };
 use crate::places::{give_their_pairs, have_places, is_empty};
 use crate::shapes::{have_rows, is_as_new, lent_key_keeps_its_place, rebalancing_is_counted};
-use crate::tested::Ranked;
+use crate::tested::{Counting, Plain, Ranked};
 use bptree_arguments::count::Count;
 use bptree_stores::node_store_vec::NodeStoreVec;
 use bptree_stores::node_stores::NodeStore;
@@ -38,7 +38,12 @@ fn answers<T: Ranked>(alloc: Global) -> bool {
 
 // Trees over any store answer so. A function that names a tree over a store of a known type is
 // dearer to prove.
-fn tree_answers<S: NodeStore<K = u64, V = u64, Argument = Count>>(alloc: Global) -> bool {
+fn tree_answers<S: NodeStore>(alloc: Global) -> bool
+where
+    S::K: Plain,
+    S::V: Plain,
+    S::Argument: Counting<S::K>,
+{
     answers::<BPlusTree<S>>(alloc)
 }
 

@@ -1,10 +1,9 @@
 //! Trees as the tests ask them.
 use crate::tested::{
-    Ends, Loaded, Numbered, Pair, Ranked, Tested, Walked, come_backward, come_by_tens,
-    come_in_turn, pair_of, value_of,
+    Counting, Ends, Loaded, Numbered, Order, Pair, Plain, Ranked, Tested, Walked, come, pair_of,
+    value_of, value_where,
 };
 use bptree_arguments::argument::CloneArgument;
-use bptree_arguments::count::Count;
 use bptree_callers::visitors::GetTreeDepth;
 use bptree_callers::walks::{is_well_shaped, leaves_of};
 use bptree_keys::key::Key;
@@ -45,29 +44,26 @@ fn owned_pair<K: Numbered, V: Numbered>(pair: Option<(K, V)>) -> Option<Pair> {
     }
 }
 
-fn key_of<K: Key + Numbered>(cursor: Option<Cursor<K>>) -> Option<u64> {
-    match cursor {
-        Some(cursor) => Some(cursor.key().number()),
-        None => None,
-    }
-}
-
-fn pair_held<K: Key + Numbered, V: Numbered>(found: Option<(Cursor<K>, &V)>) -> Option<Pair> {
-    match found {
-        Some((cursor, value)) => Some((cursor.key().number(), value.number())),
-        None => None,
-    }
-}
-
 // Whether a step of a cursor led to this key, or to none.
 fn led_to<K: Key + Numbered>(
     found: Result<Option<Cursor<K>>, AllocError>,
     wanted: Option<u64>,
 ) -> bool {
     match found {
-        Ok(cursor) => key_of(cursor) == wanted,
+        Ok(Some(cursor)) => wanted == Some(cursor.key().number()),
+        Ok(None) => wanted.is_none(),
         Err(_) => false,
     }
+}
+
+// Whether a cursor and its value are the pair of this key.
+fn holds_pair<K: Key + Numbered, V: Numbered>(
+    cursor: &Cursor<K>,
+    value: &V,
+    wanted: Option<u64>,
+) -> bool {
+    let key = cursor.key().number();
+    wanted == Some(key) && value.number() == value_of(key)
 }
 
 // Whether a step of a cursor led to the pair of this key, or to none.
@@ -76,7 +72,8 @@ fn led_to_pair<K: Key + Numbered, V: Numbered>(
     wanted: Option<u64>,
 ) -> bool {
     match found {
-        Ok(pair) => pair_held(pair) == pair_of(wanted),
+        Ok(Some((cursor, value))) => holds_pair(&cursor, value, wanted),
+        Ok(None) => wanted.is_none(),
         Err(_) => false,
     }
 }
@@ -179,8 +176,11 @@ where
         matches!(self.insert(key, value), Ok(None))
     }
 
-    fn take(&mut self, key: &S::K) -> Result<Option<u64>, AllocError> {
-        Ok(owned_number(self.remove(key)?))
+    fn takes(&mut self, key: &S::K, wanted: Option<u64>) -> bool {
+        match self.remove(key) {
+            Ok(old) => owned_number(old) == wanted,
+            Err(_) => false,
+        }
     }
 
     fn read(&self, key: &S::K) -> Option<u64> {
@@ -207,16 +207,8 @@ where
         self.height()
     }
 
-    fn gives(&self, keys: &[u64], more: u64) -> bool {
-        come_in_turn(self.iter(), keys, more)
-    }
-
-    fn gives_backward(&self, end: u64, more: u64) -> bool {
-        come_backward(self.iter(), end, more)
-    }
-
-    fn holds(&self, end: u64, more: u64) -> bool {
-        come_by_tens(self.iter(), end, more)
+    fn gives(&self, order: Order, keys: (u64, u64), times: u64, more: u64) -> bool {
+        come(self.iter(), order, keys, times, more)
     }
 
     fn empty_it(&mut self) -> bool {
@@ -244,79 +236,111 @@ where
     }
 }
 
-impl<S: NodeStore<K = u64, V = u64, Argument = Count>> Ranked for BPlusTree<S> {
-    type Held = Cursor<u64>;
+impl<S: NodeStore> Ranked for BPlusTree<S>
+where
+    S::K: Plain,
+    S::V: Plain,
+    S::Argument: Counting<S::K>,
+{
+    type Held = Cursor<S::K>;
 
     fn new_one(alloc: Global) -> Result<Self, AllocError> {
         BPlusTree::new(S::empty(alloc))
     }
 
+    fn put_number(&mut self, key: u64, value: u64) -> bool {
+        matches!(self.insert(S::K::of(key), S::V::of(value)), Ok(None))
+    }
+
+    fn takes_number(&mut self, key: u64, wanted: Option<u64>) -> bool {
+        match self.remove(&S::K::of(key)) {
+            Ok(old) => owned_number(old) == wanted,
+            Err(_) => false,
+        }
+    }
+
+    fn number_at(&self, key: u64) -> Option<u64> {
+        number_of(self.get(&S::K::of(key)))
+    }
+
+    fn compares_nothing(&self, key: u64) -> bool {
+        let (value, count) = self.get_counted(&S::K::of(key));
+        value.is_none() && count == 0
+    }
+
     fn measures(&self, len: usize, height: usize) -> bool {
         self.len() == len
-            && self.root_argument().count() == len
+            && self.root_argument().number() == len
             && self.height() == height
             && self.descend_visit(GetTreeDepth::new()) == Ok(Some(height.wrapping_add(1)))
     }
 
-    fn rank(&self, key: u64) -> Result<Result<usize, usize>, AllocError> {
-        self.rank_by_argument(&key)
+    fn has_rank(&self, key: u64, wanted: Result<usize, usize>) -> bool {
+        self.rank_by_argument(&S::K::of(key)) == Ok(wanted)
     }
 
-    fn pair_at(&self, place: usize) -> Result<Option<Pair>, AllocError> {
-        Ok(pair_lent(self.get_by_argument(place)?))
+    fn has_at(&self, place: usize, key: Option<u64>) -> bool {
+        match self.get_by_argument(place) {
+            Ok(found) => pair_lent(found) == pair_of(key),
+            Err(_) => false,
+        }
     }
 
     fn write_at(&mut self, place: usize, value: u64) -> Option<SelectError> {
         match self.get_mut_by_argument(place) {
             Ok(there) => {
-                *there = value;
+                *there = S::V::of(value);
                 None
             }
             Err(error) => Some(error),
         }
     }
 
-    fn take_at(&mut self, place: usize) -> Result<Option<Pair>, AllocError> {
-        self.remove_by_argument(place)
-    }
-
-    fn hold(&self, key: u64) -> Result<Option<(Cursor<u64>, Option<u64>)>, AllocError> {
-        match self.get_cursor(&key)? {
-            Some((cursor, value)) => Ok(Some((cursor, number_of(value)))),
-            None => Ok(None),
+    fn takes_at(&mut self, place: usize, wanted: Option<Pair>) -> bool {
+        match self.remove_by_argument(place) {
+            Ok(found) => owned_pair(found) == wanted,
+            Err(_) => false,
         }
     }
 
-    fn hold_first(&self) -> Result<Option<Cursor<u64>>, AllocError> {
+    fn hold(&self, key: u64, there: bool) -> Option<Cursor<S::K>> {
+        match self.get_cursor(&S::K::of(key)) {
+            Ok(Some((cursor, value))) => {
+                if number_of(value) == value_where(key, there) {
+                    Some(cursor)
+                } else {
+                    None
+                }
+            }
+            _ => None,
+        }
+    }
+
+    fn hold_first(&self) -> Result<Option<Cursor<S::K>>, AllocError> {
         self.cursor_first()
     }
 
-    fn ends(&self) -> Result<(Option<Pair>, Option<Pair>), AllocError> {
-        let first = pair_held(Cursor::first(self)?);
-        Ok((first, pair_held(Cursor::last(self)?)))
+    fn has_ends(&self, first: Option<u64>, last: Option<u64>) -> bool {
+        led_to_pair(Cursor::first(self), first) && led_to_pair(Cursor::last(self), last)
     }
 
-    fn read_held(&self, held: &Cursor<u64>) -> (Option<u64>, bool) {
+    fn read_held(&self, held: &Cursor<S::K>) -> (Option<u64>, bool) {
         (number_of(held.value(self)), held.exists(self))
     }
 
     fn stands_between(
         &self,
-        held: &Cursor<u64>,
+        held: &Cursor<S::K>,
         before: Option<u64>,
         there: bool,
         after: Option<u64>,
     ) -> bool {
-        let value = if there {
-            Some(value_of(*held.key()))
-        } else {
-            None
-        };
-        let mut all = self.read_held(held) == (value, there);
-        all &= led_to(held.prev(self), before);
-        all &= led_to(held.next(self), after);
-        all &= led_to_pair(held.prev_with_value(self), before);
-        all && led_to_pair(held.next_with_value(self), after)
+        held.exists(self) == there
+            && number_of(held.value(self)) == value_where(held.key().number(), there)
+            && led_to(held.prev(self), before)
+            && led_to(held.next(self), after)
+            && led_to_pair(held.prev_with_value(self), before)
+            && led_to_pair(held.next_with_value(self), after)
     }
 
     fn has_key(&self, number: usize, key: u64) -> Option<bool> {
@@ -324,7 +348,7 @@ impl<S: NodeStore<K = u64, V = u64, Argument = Count>> Ranked for BPlusTree<S> {
             .node_store()
             .try_get_leaf(LeafNodeId::from_usize(number))
         {
-            Some(leaf) => Some(leaf.keys().contains(&key)),
+            Some(leaf) => Some(leaf.keys().contains(&S::K::of(key))),
             None => None,
         }
     }
