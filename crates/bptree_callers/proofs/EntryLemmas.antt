@@ -17,7 +17,7 @@ use Rattle.bptree_shape.proofs.Ordered.{by_cases}
 use Rattle.bptree_tree.specs.Cursor.{cursor_key, StandsAt}
 use Rattle.bptree_tree.specs.Entries.{entry, at_least}
 use Rattle.bptree_tree.specs.declared.cursor.Cursor.{Cursor}
-use Rattle.bptree_tree.proofs.EntryLemmas.{entry_absent, entry_hit, at_least_hit}
+use Rattle.bptree_tree.proofs.EntryLemmas.{entry_absent, entry_hit, entry_value, at_least_hit}
 
 -- the first that passes a test passes it
 first_passes : {X : Type 0} (test : X → Bool) (l : List X) (x : X) → slice_get (filter test l) 0 ≡ Some x → test x ≡ true
@@ -48,10 +48,6 @@ module _ {K V : Type 0} (cmp : K → K → Ordering) (k : K) where
       by_cases (cmp p.0 k) (λ less. entry_key l pair (rw less at e)) (λ equal. let here : Some pair ≡ Some p = rw equal at e in let same : pair ≡ p = cc in ap (λ x. cmp x.0 k) same ∙ equal)
       (λ greater. entry_key l pair (rw greater at e))
 
-  entry_value : (l : List (K × V)) → option_map (λ pair. pair.1) (entry cmp l k) ≡ value cmp l k
-  entry_value [] = refl
-  entry_value (p ∷ l) = by_cases (cmp p.0 k) (λ less. rw less (entry_value l)) (λ equal. rw equal refl) (λ greater. rw greater (entry_value l))
-
   entry_place : (l : List (K × V)) (pair : K × V) → Some pair ≡ entry cmp l k → (i : ℕ) × (slice_get l i ≡ Some pair)
   entry_place [] pair e = cc
   entry_place (p ∷ l) pair e =
@@ -65,8 +61,8 @@ module _ {K V : Type 0} (cmp : K → K → Ordering) (k : K) where
     found_key (Some r) e = entry_key l (r.0.now, r.1.now) e
 
     pub found_value : (r : Option (Bor K × Bor V)) → option_map (λ pair. (pair.0.now, pair.1.now)) r ≡ entry cmp l k → option_map (λ pair. pair.1.now) r ≡ value cmp l k
-    found_value None e = ap (option_map (λ pair. pair.1)) e ∙ entry_value l
-    found_value (Some r) e = ap (option_map (λ pair. pair.1)) e ∙ entry_value l
+    found_value None e = ap (option_map (λ pair. pair.1)) e ∙ entry_value cmp l k
+    found_value (Some r) e = ap (option_map (λ pair. pair.1)) e ∙ entry_value cmp l k
 
     pub found_place : (r : Option (Bor K × Bor V)) → option_map (λ pair. (pair.0.now, pair.1.now)) r ≡ entry cmp l k → IfSome r (λ pair. (i : ℕ) × (slice_get l i ≡ Some (pair.0.now, pair.1.now)))
     found_place None e = tt
@@ -79,7 +75,7 @@ module _ {K V : Type 0} (cmp : K → K → Ordering) (k : K) where
     taken_key (Some pair) e = entry_key l pair e
 
     pub taken_value : (r : Option (K × V)) → r ≡ entry cmp l k → option_map (λ pair. pair.1) r ≡ value cmp l k
-    taken_value r e = ap (option_map (λ pair. pair.1)) e ∙ entry_value l
+    taken_value r e = ap (option_map (λ pair. pair.1)) e ∙ entry_value cmp l k
 
     pub taken_place : (r : Option (K × V)) → r ≡ entry cmp l k → IfSome r (λ pair. (i : ℕ) × (slice_get l i ≡ Some pair))
     taken_place None e = tt

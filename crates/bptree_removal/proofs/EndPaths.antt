@@ -1,5 +1,6 @@
 -- A way down to an end leads a search for any key of its leaf there, and a pair that is taken there is the first or the last.
 use Rattle.std.proofs.Common.{◌≡◌, ℕ, ◌+◌, ◌-◌, ◌<◌, ◌^◌, List, [], ◌∷◌, ◌++◌, length, refl, sym, ap, subst, ◌∙◌, arith, None, Some, slice_get}
+use Rattle.std.specs.Prelude.{Bool, true, false, cond}
 use Rattle.std.specs.declared.cmp.Ordering.{Ordering}
 use Rattle.std.specs.declared.cmp.Ordering.TheVariants.{Equal}
 use Rattle.std.specs.Cmp.{IsTotalOrder}
@@ -12,7 +13,6 @@ use Rattle.bptree_keys.specs.declared.node_id.NodeId.{NodeId}
 use Rattle.bptree_keys.specs.declared.node_id.NodeId.TheVariants as kind
 use Rattle.bptree_keys.proofs.Found.{hit_at}
 use Rattle.bptree_keys.proofs.Parted.{del_hit}
-use Rattle.bptree_nodes.proofs.LeafContents.{value_at_place}
 use Rattle.bptree_nodes.specs.Inner.{Inner}
 use Rattle.bptree_nodes.specs.Leaf.{Leaf}
 use Rattle.bptree_nodes.specs.Slot.{Slots, Present}
@@ -22,9 +22,8 @@ use Rattle.bptree_shape.proofs.ListReads.{read_below, read_some}
 use Rattle.bptree_shape.proofs.Walk.{tree_ascends}
 use Rattle.bptree_descents.specs.ByArgument.{IsSubtree}
 use Rattle.bptree_descents.proofs.Selected.{goes_on}
-use Rattle.bptree_removal.proofs.Removals.{value_read}
 use Rattle.bptree_removal.proofs.Withdrawn.{alike}
-use Rattle.bptree_removal.specs.Removal.{IsThere, IsFound, IsTakenFrom, IsTakenAt, IsEntryTaken, IsRemoved, LeadsOn}
+use Rattle.bptree_removal.specs.Removal.{IsThere, IsFound, IsTakenFrom, IsTakenAt, LeadsOn}
 
 module _ {K V A : Type 0} {cmp : K → K → Ordering} (total : IsTotalOrder cmp) (is_summary : A → List K → Type 0) (slots : Slots (Inner K A) (Leaf K V)) where
   -- with the entry for the child, a search goes on from the node
@@ -54,15 +53,6 @@ module _ {K V A : Type 0} {cmp : K → K → Ordering} (total : IsTotalOrder cmp
     told = taken.told;
   }
 
-  -- and its value, with its key
-  pub removed_of : (k : K) (pair : K × V) (top : NodeId) (top_height : ℕ) (a : A) → IsEntryTaken cmp is_summary old new h root k pair top top_height a → IsRemoved cmp is_summary old new h root k pair.1 top top_height a
-  removed_of k pair top top_height a (place, equal, taken) = record {
-    there = sym (value_at_place cmp total (pairs_at old h root) sorted k place (rw taken.was equal)) ∙ value_read (pairs_at old h root) place pair taken.was;
-    shape = taken.shape;
-    pairs = taken.pairs ∙ deleted_by total (pairs_at old h root) place pair k sorted taken.was equal;
-    told = taken.told;
-  }
-
 -- a place within a list, and the ends of an empty one
 pub none_here : {X : Type 0} (xs : List X) (i : ℕ) → length xs ≡ 0 → slice_get xs i ≡ None
 none_here [] i none = refl
@@ -71,13 +61,10 @@ none_here (x ∷ xs) i none = absurd (omega arith)
 pub some_here : {X : Type 0} (xs : List X) (i : ℕ) → i < length xs → slice_get xs i ≡ None → ⊥
 some_here xs i within none = let there = read_some xs i within in let z : Some there.0 ≡ None = sym there.1 ∙ none in cc
 
-pub none_first : {X : Type 0} (xs : List X) → slice_get xs 0 ≡ None → xs ≡ []
-none_first [] none = refl
-none_first (x ∷ xs) none = cc
-
-pub none_last : {X : Type 0} (xs : List X) → slice_get xs (length xs - 1) ≡ None → xs ≡ []
-none_last [] none = refl
-none_last (x ∷ xs) none = absurd (some_here (x ∷ xs) (length (x ∷ xs) - 1) (omega arith) none)
+pub none_at_end : {X : Type 0} (is_last : Bool) (xs : List X) → slice_get xs (cond is_last (length xs - 1) 0) ≡ None → xs ≡ []
+none_at_end is_last [] none = refl
+none_at_end true (x ∷ xs) none = absurd (some_here (x ∷ xs) (length (x ∷ xs) - 1) (omega arith) none)
+none_at_end false (x ∷ xs) none = cc
 
 module _ {K V A : Type 0} {cmp : K → K → Ordering} (total : IsTotalOrder cmp) (is_summary : A → List K → Type 0) (old : Slots (Inner K A) (Leaf K V)) (h : ℕ) (root : NodeId) (shape : IsWellShaped cmp is_summary old h root) (few : length (pairs_at old h root) < 2 ^ 64)
     (leaf : LeafNodeId) (slot : ℕ) (within : slot < length (leaf_pairs (old.leaf leaf.0))) (path longer : List (InnerNodeId × ℕ × NodeId)) (none : path ≡ []) (on : LeadsOn cmp old h root path longer leaf) where

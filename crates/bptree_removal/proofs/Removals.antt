@@ -34,12 +34,6 @@ leaf_again {K} {V} {A} was now new id slot node from back pair here read takes t
     undone : back ≡ node
     undone = is ∙ rw from_is (ap (λ ps. record node { pairs = ps }) (insert_removed node.pairs slot pair read))
 
--- the value of a pair that is read
-pub value_read : {K V : Type 0} (xs : List (K × V)) (i : ℕ) (p : K × V) → slice_get xs i ≡ Some p → slice_get (values_of xs) i ≡ Some p.1
-value_read [] i p read = cc
-value_read (x ∷ xs) zero p read = let same : x ≡ p = cc in rw same refl
-value_read (x ∷ xs) (suc i) p read = value_read xs i p read
-
 read_value : {K V : Type 0} (xs : List (K × V)) (i : ℕ) → i < length xs → (v : V) × (slice_get (values_of xs) i ≡ Some v)
 read_value [] i below = absurd (omega arith)
 read_value (x ∷ xs) zero below = (x.1, refl)

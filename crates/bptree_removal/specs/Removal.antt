@@ -1,9 +1,9 @@
 -- A pair that leaves a whole tree.
-use Rattle.std.specs.Prelude.{◌≡◌, ℕ, ◌-◌, ◌<◌, ◌^◌, false, List, [], length, Option, Some, None, Result, IfOk, MatchOption, slice_get, remove}
+use Rattle.std.specs.Prelude.{◌≡◌, ℕ, ◌-◌, ◌<◌, ◌^◌, Bool, cond, false, List, [], length, Option, Some, None, Result, IfOk, MatchOption, slice_get, remove}
 use Rattle.std.specs.declared.cmp.Ordering.{Ordering}
 use Rattle.std.specs.declared.cmp.Ordering.TheVariants.{Equal}
 use Rattle.std.specs.Map.{keys_of}
-use Rattle.bptree_keys.specs.Contents.{has, value, del}
+use Rattle.bptree_keys.specs.Contents.{has, del}
 use Rattle.bptree_nodes.specs.Inner.{Inner}
 use Rattle.bptree_nodes.specs.Leaf.{Leaf}
 use Rattle.bptree_nodes.specs.LeafResults.{HasEqualAt}
@@ -34,13 +34,6 @@ pub record Leaves {K V A : Type 0} (cmp : K → K → Ordering) (is_summary : A 
   pub loose : IsLoose cmp is_summary new height root
   pub pairs : pairs_at new height root ≡ del cmp (pairs_at old height root) k
   pub told : is_summary a (keys_of (pairs_at new height root))
-
--- the pair with a key left a whole tree, and the tree that a root and a height then name is well shaped
-pub record IsRemoved {K V A : Type 0} (cmp : K → K → Ordering) (is_summary : A → List K → Type 0) (old new : Slots (Inner K A) (Leaf K V)) (height : ℕ) (root : NodeId) (k : K) (was : V) (top : NodeId) (top_height : ℕ) (a : A) : Type 0 where
-  pub there : value cmp (pairs_at old height root) k ≡ Some was
-  pub shape : IsWellShaped cmp is_summary new top_height top
-  pub pairs : pairs_at new top_height top ≡ del cmp (pairs_at old height root) k
-  pub told : is_summary a (keys_of (pairs_at new top_height top))
 
 -- the same of the root and the height that a call names
 pub record IsFound {K V A : Type 0} (cmp : K → K → Ordering) (is_summary : A → List K → Type 0) (slots : Slots (Inner K A) (Leaf K V)) (height : ℕ) (root : NodeId) (path : List (InnerNodeId × ℕ × NodeId)) (leaf : LeafNodeId) (slot : ℕ) (k : K) : Type 0 where
@@ -119,19 +112,14 @@ module _ {K V A : Type 0} (cmp : K → K → Ordering) (is_summary : A → List 
       TakesEntry path leaf slot done =
           (k : K) → IsEntryAt cmp is_summary old height root path leaf slot k → IfOk done (λ r. IsEntryTaken cmp is_summary old new height root k r.value r.root r.height r.summary)
 
-      -- the pair with a key, or its value, left the tree, or no key equals it and nothing changed
+      -- the pair with a key left the tree, or no key equals it and nothing changed
       abbrev pub RemovesEntry : K → Option (Removed (K × V) A) → Type 0
       RemovesEntry k gone = MatchOption gone ((new ≡ old) × (has cmp (pairs_at old height root) k ≡ false)) (λ r. IsEntryTaken cmp is_summary old new height root k r.value r.root r.height r.summary)
 
-      abbrev pub RemovesKey : K → Option (Removed V A) → Type 0
-      RemovesKey k gone = MatchOption gone ((new ≡ old) × (has cmp (pairs_at old height root) k ≡ false)) (λ r. IsRemoved cmp is_summary old new height root k r.value r.root r.height r.summary)
-
       -- the first pair left, or the last one, or there was none and nothing changed
-      abbrev pub RemovesFirst : Option (Removed (K × V) A) → Type 0
-      RemovesFirst gone = MatchOption gone ((new ≡ old) × (pairs_at old height root ≡ [])) (λ r. IsTakenAt cmp is_summary old new height root 0 r.value r.root r.height r.summary)
-
-      abbrev pub RemovesLast : Option (Removed (K × V) A) → Type 0
-      RemovesLast gone = MatchOption gone ((new ≡ old) × (pairs_at old height root ≡ [])) (λ r. IsTakenAt cmp is_summary old new height root (length (pairs_at old height root) - 1) r.value r.root r.height r.summary)
+      abbrev pub RemovesEnd : Bool → Option (Removed (K × V) A) → Type 0
+      RemovesEnd is_last gone =
+          MatchOption gone ((new ≡ old) × (pairs_at old height root ≡ [])) (λ r. IsTakenAt cmp is_summary old new height root (cond is_last (length (pairs_at old height root) - 1) 0) r.value r.root r.height r.summary)
 
       -- the pair at a place that is allowed for a query left, or none is allowed and nothing changed
       abbrev pub RemovesSelected : {Q : Type 0} → (Q → List K → Option ℕ → Type 0) → Q → Option (Removed (K × V) A) → Type 0

@@ -6,9 +6,9 @@ ghost use Rattle.bptree_nodes.specs.Slot.{IsPresent};
 ghost use Rattle.bptree_ascent.specs.LeafChange.{SumsUpLeafAt};
 ghost use Rattle.bptree_shape.specs.Shape.{leaf_pairs, pairs_at, IsWellShaped, LacksKey};
 ghost use Rattle.bptree_rebalancing.specs.Trim.{LeafUnderflow, IsLoose, Trims};
-ghost use Rattle.bptree_removal.specs.Removal.{IsFound, IsEntryAt, NoPairIn, HasPair, HasSpare, KeepsPairs, PutsPairBack, RemovesEntry, RemovesFirst, RemovesKey, RemovesLast, RemovesSelected, TakesEntry, TakesFound, TakesOut, TakesPair};
+ghost use Rattle.bptree_removal.specs.Removal.{IsFound, IsEntryAt, NoPairIn, HasPair, HasSpare, KeepsPairs, PutsPairBack, RemovesEnd, RemovesEntry, RemovesSelected, TakesEntry, TakesFound, TakesOut, TakesPair};
 
-use crate::ends::{first_path, last_path};
+use crate::ends::end_path;
 use bptree_arguments::argument::{Argument, SearchArgument};
 use bptree_ascent::ascent::ascend;
 use bptree_ascent::links::relink_next;
@@ -20,7 +20,7 @@ use bptree_rebalancing::siblings::{
 };
 use bptree_rebalancing::statistics::Statistic;
 use bptree_rebalancing::underflow::{ascend_underflow, leaf_sibling, leaves_at};
-use bptree_shape::descent::find_path;
+use bptree_shape::descent::{end_place, find_path};
 use bptree_stores::node_stores::NodeStore;
 use std::alloc::AllocError;
 
@@ -282,87 +282,31 @@ pub fn remove_entry<S: NodeStore>(
     }
 }
 
-/// The same as `remove_entry`, with the value alone: the key that stood there is dropped.
-pub fn remove<S: NodeStore>(
+/// Removes the pair with the least key from a whole tree, or the one with the greatest, where there
+/// is one, and hands it out. No key is compared or cloned on the way down. It takes no memory where
+/// there is none; a refusal changes no slot. The path is rotated as to `remove_entry`.
+pub fn remove_end<S: NodeStore>(
     store: &mut S,
     path: &mut VisitStack,
     root: NodeId,
     height: usize,
-    k: &S::K,
-    statistic: &mut Statistic,
-) -> Result<Option<Removed<S::V, S::Argument>>, AllocError>
-    requires shape { IsWellShaped S.K.cmp S.Argument.is_summary (S.slots store.old) height root }
-    requires few { length (pairs_at (S.slots store.old) height root) < 2 ^ 64 }
-    ensures removed { IfOk result (RemovesKey S.K.cmp S.Argument.is_summary (S.slots store.old) (S.slots store.new) height root k.now) }
-    ensures absent { LacksKey S.K.cmp (S.slots store.old) height root k.now → result ≡ Ok None }
-    ensures refused { OnErr result (S.slots store.new ≡ S.slots store.old) }
-{
-    match remove_entry(store, path, root, height, k, statistic)? {
-        None => Ok(None),
-        Some(gone) => {
-            let Removed {
-                value: pair,
-                root,
-                height,
-                summary,
-            } = gone;
-            let (_, value) = pair;
-            Ok(Some(Removed {
-                value,
-                root,
-                height,
-                summary,
-            }))
-        }
-    }
-}
-
-/// Removes the pair with the least key from a whole tree, where there is one, and hands it out. No
-/// key is compared or cloned on the way down. It takes no memory where there is none; a refusal
-/// changes no slot. The path is rotated as to `remove_entry`.
-pub fn remove_first<S: NodeStore>(
-    store: &mut S,
-    path: &mut VisitStack,
-    root: NodeId,
-    height: usize,
+    is_last: bool,
     statistic: &mut Statistic,
 ) -> Result<Option<Removed<(S::K, S::V), S::Argument>>, AllocError>
     requires shape { IsWellShaped S.K.cmp S.Argument.is_summary (S.slots store.old) height root }
     requires few { length (pairs_at (S.slots store.old) height root) < 2 ^ 64 }
-    ensures removed { IfOk result (RemovesFirst S.K.cmp S.Argument.is_summary (S.slots store.old) (S.slots store.new) height root) }
+    ensures removed { IfOk result (RemovesEnd S.K.cmp S.Argument.is_summary (S.slots store.old) (S.slots store.new) height root is_last) }
     ensures empty { pairs_at (S.slots store.old) height root ≡ [] → result ≡ Ok None }
     ensures refused { OnErr result (S.slots store.new ≡ S.slots store.old) }
 {
     path.clear();
-    let leaf = first_path(store, root, height, path);
-    if store.get_leaf(leaf).len() == 0 {
-        return Ok(None);
-    }
-    let gone = take_whole(store, path, root, height, leaf, 0, statistic)?;
-    Ok(Some(gone))
-}
-
-/// The same of the pair with the greatest key.
-pub fn remove_last<S: NodeStore>(
-    store: &mut S,
-    path: &mut VisitStack,
-    root: NodeId,
-    height: usize,
-    statistic: &mut Statistic,
-) -> Result<Option<Removed<(S::K, S::V), S::Argument>>, AllocError>
-    requires shape { IsWellShaped S.K.cmp S.Argument.is_summary (S.slots store.old) height root }
-    requires few { length (pairs_at (S.slots store.old) height root) < 2 ^ 64 }
-    ensures removed { IfOk result (RemovesLast S.K.cmp S.Argument.is_summary (S.slots store.old) (S.slots store.new) height root) }
-    ensures empty { pairs_at (S.slots store.old) height root ≡ [] → result ≡ Ok None }
-    ensures refused { OnErr result (S.slots store.new ≡ S.slots store.old) }
-{
-    path.clear();
-    let leaf = last_path(store, root, height, path);
+    let leaf = end_path(store, root, height, is_last, path);
     let len = store.get_leaf(leaf).len();
     if len == 0 {
         return Ok(None);
     }
-    let gone = take_whole(store, path, root, height, leaf, len - 1, statistic)?;
+    let slot = end_place(len, is_last);
+    let gone = take_whole(store, path, root, height, leaf, slot, statistic)?;
     Ok(Some(gone))
 }
 

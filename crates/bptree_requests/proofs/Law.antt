@@ -59,57 +59,35 @@ words_digits_end (d ∷ ds) h =
     let digit : all_ascii_digits ds ≡ true = grind (arith, nat_tests) in
     slice_split-cons_no _ d ds (grind (arith, nat_tests)) ∙ ap (onto_first d) (words_digits_end ds digit)
 
+-- one number, and two, as the words of a line
+number_words : (n : ℕ) → n < 2 ^ 64 → words (decimal n) ≡ decimal n ∷ []
+number_words n small = words_digits_end (decimal n) (digits_decimal digits_model n small)
+
+pair_words : (m n : ℕ) → m < 2 ^ 64 → n < 2 ^ 64 → words ((decimal m ++ 32 ∷ []) ++ decimal n) ≡ decimal m ∷ decimal n ∷ []
+pair_words m n small small_too =
+    ap words (append_assoc (decimal m) (32 ∷ []) (decimal n)) ∙ words_digits (decimal m) (decimal n) (digits_decimal digits_model m small) ∙ ap (λ ws. decimal m ∷ ws) (number_words n small_too)
+
+named : (name : List ℕ) {was is : List (List ℕ)} → was ≡ is → request_from (name ∷ was) ≡ request_from (name ∷ is)
+named name = ap (λ ws. request_from (name ∷ ws))
+
 -- the words of the line that writes a request
 pub request_of-line : (r : Request) → FitsRequest r → request_of (line_of r) ≡ Some r
 unfolding words request_of
-request_of-line (Put k v) fits =
-    let dk = digits_decimal digits_model k fits.0 in
-    let dv = digits_decimal digits_model v fits.1 in
-    let e : words (line_of (Put k v)) ≡ codes "put" ∷ decimal k ∷ decimal v ∷ [] =
-    ap (λ ws. codes "put" ∷ ws) (ap words (append_assoc (decimal k) (32 ∷ []) (decimal v)) ∙ words_digits (decimal k) (decimal v) dk ∙ ap (λ ws. decimal k ∷ ws) (words_digits_end (decimal v) dv)) in
-    ap request_from e ∙ rw (number_of-decimal k fits.0, number_of-decimal v fits.1) refl
-request_of-line (Del k) fits =
-    let dk = digits_decimal digits_model k fits in
-    let e : words (line_of (Del k)) ≡ codes "del" ∷ decimal k ∷ [] = ap (λ ws. codes "del" ∷ ws) (words_digits_end (decimal k) dk) in
-    ap request_from e ∙ rw (number_of-decimal k fits) refl
-request_of-line (Get k) fits =
-    let dk = digits_decimal digits_model k fits in
-    let e : words (line_of (Get k)) ≡ codes "get" ∷ decimal k ∷ [] = ap (λ ws. codes "get" ∷ ws) (words_digits_end (decimal k) dk) in
-    ap request_from e ∙ rw (number_of-decimal k fits) refl
+request_of-line (Put k v) fits = named (codes "put") (pair_words k v fits.0 fits.1) ∙ rw (number_of-decimal k fits.0, number_of-decimal v fits.1) refl
+request_of-line (Del k) fits = named (codes "del") (number_words k fits) ∙ rw (number_of-decimal k fits) refl
+request_of-line (Get k) fits = named (codes "get") (number_words k fits) ∙ rw (number_of-decimal k fits) refl
 request_of-line Len fits = refl
 request_of-line AllPairs fits = refl
 request_of-line First fits = refl
 request_of-line Last fits = refl
-request_of-line (At i) fits =
-    let di = digits_decimal digits_model i fits in
-    let e : words (line_of (At i)) ≡ codes "at" ∷ decimal i ∷ [] = ap (λ ws. codes "at" ∷ ws) (words_digits_end (decimal i) di) in
-    ap request_from e ∙ rw (number_of-decimal i fits) refl
-request_of-line (Rank k) fits =
-    let dk = digits_decimal digits_model k fits in
-    let e : words (line_of (Rank k)) ≡ codes "rank" ∷ decimal k ∷ [] = ap (λ ws. codes "rank" ∷ ws) (words_digits_end (decimal k) dk) in
-    ap request_from e ∙ rw (number_of-decimal k fits) refl
-request_of-line (Next k) fits =
-    let dk = digits_decimal digits_model k fits in
-    let e : words (line_of (Next k)) ≡ codes "next" ∷ decimal k ∷ [] = ap (λ ws. codes "next" ∷ ws) (words_digits_end (decimal k) dk) in
-    ap request_from e ∙ rw (number_of-decimal k fits) refl
-request_of-line (Prev k) fits =
-    let dk = digits_decimal digits_model k fits in
-    let e : words (line_of (Prev k)) ≡ codes "prev" ∷ decimal k ∷ [] = ap (λ ws. codes "prev" ∷ ws) (words_digits_end (decimal k) dk) in
-    ap request_from e ∙ rw (number_of-decimal k fits) refl
+request_of-line (At i) fits = named (codes "at") (number_words i fits) ∙ rw (number_of-decimal i fits) refl
+request_of-line (Rank k) fits = named (codes "rank") (number_words k fits) ∙ rw (number_of-decimal k fits) refl
+request_of-line (Next k) fits = named (codes "next") (number_words k fits) ∙ rw (number_of-decimal k fits) refl
+request_of-line (Prev k) fits = named (codes "prev") (number_words k fits) ∙ rw (number_of-decimal k fits) refl
 request_of-line Back fits = refl
 request_of-line Clear fits = refl
-request_of-line (Range lo hi) fits =
-    let dl = digits_decimal digits_model lo fits.0 in
-    let dh = digits_decimal digits_model hi fits.1 in
-    let e : words (line_of (Range lo hi)) ≡ codes "range" ∷ decimal lo ∷ decimal hi ∷ [] =
-    ap (λ ws. codes "range" ∷ ws) (ap words (append_assoc (decimal lo) (32 ∷ []) (decimal hi)) ∙ words_digits (decimal lo) (decimal hi) dl ∙ ap (λ ws. decimal lo ∷ ws) (words_digits_end (decimal hi) dh)) in
-    ap request_from e ∙ rw (number_of-decimal lo fits.0, number_of-decimal hi fits.1) refl
-request_of-line (Page p s) fits =
-    let dp = digits_decimal digits_model p fits.0 in
-    let ds = digits_decimal digits_model s fits.1 in
-    let e : words (line_of (Page p s)) ≡ codes "page" ∷ decimal p ∷ decimal s ∷ [] =
-    ap (λ ws. codes "page" ∷ ws) (ap words (append_assoc (decimal p) (32 ∷ []) (decimal s)) ∙ words_digits (decimal p) (decimal s) dp ∙ ap (λ ws. decimal p ∷ ws) (words_digits_end (decimal s) ds)) in
-    ap request_from e ∙ rw (number_of-decimal p fits.0, number_of-decimal s fits.1) refl
+request_of-line (Range lo hi) fits = named (codes "range") (pair_words lo hi fits.0 fits.1) ∙ rw (number_of-decimal lo fits.0, number_of-decimal hi fits.1) refl
+request_of-line (Page p s) fits = named (codes "page") (pair_words p s fits.0 fits.1) ∙ rw (number_of-decimal p fits.0, number_of-decimal s fits.1) refl
 
 pair-some : (make : ℕ → ℕ → Request) (o p : Option ℕ) (r : Request) → option_and_then (λ k. option_map (make k) p) o ≡ Some r
     → (k : ℕ) × (v : ℕ) × (o ≡ Some k) × (p ≡ Some v) × (make k v ≡ r)
@@ -222,32 +200,29 @@ request_of-some line r h =
     let d = request_from-some (words line) r h in
     (sym (join_with_byte-slice_split 32 line) ∙ d.0, d.1)
 
+length_number : (n : ℕ) → n < 2 ^ 64 → length (decimal n) ≤ 20
+length_number n small = length-decimal-le 20 n (omega arith) (omega arith) small
+
+length_pair : (m n : ℕ) → m < 2 ^ 64 → n < 2 ^ 64 → length ((decimal m ++ 32 ∷ []) ++ decimal n) ≤ 41
+length_pair m n small small_too = omega (arith, length_number m small, length_number n small_too, length-append (decimal m ++ 32 ∷ []) (decimal n), length-append (decimal m) (32 ∷ []))
+
 -- a line that is read as a request is not longer
 length-line_of : (r : Request) → FitsRequest r → length (line_of r) ≤ LONGEST_LINE
-length-line_of (Put k v) fits =
-    let a = length-decimal-le 20 k (omega arith) (omega arith) fits.0 in
-    let b = length-decimal-le 20 v (omega arith) (omega arith) fits.1 in
-    omega (arith, length-append (decimal k ++ 32 ∷ []) (decimal v), length-append (decimal k) (32 ∷ []))
-length-line_of (Del k) fits = let a = length-decimal-le 20 k (omega arith) (omega arith) fits in omega arith
-length-line_of (Get k) fits = let a = length-decimal-le 20 k (omega arith) (omega arith) fits in omega arith
+length-line_of (Put k v) fits = omega (arith, length_pair k v fits.0 fits.1)
+length-line_of (Del k) fits = omega (arith, length_number k fits)
+length-line_of (Get k) fits = omega (arith, length_number k fits)
 length-line_of Len fits = omega arith
 length-line_of AllPairs fits = omega arith
 length-line_of First fits = omega arith
 length-line_of Last fits = omega arith
-length-line_of (At i) fits = let a = length-decimal-le 20 i (omega arith) (omega arith) fits in omega arith
-length-line_of (Rank k) fits = let a = length-decimal-le 20 k (omega arith) (omega arith) fits in omega arith
-length-line_of (Next k) fits = let a = length-decimal-le 20 k (omega arith) (omega arith) fits in omega arith
-length-line_of (Prev k) fits = let a = length-decimal-le 20 k (omega arith) (omega arith) fits in omega arith
+length-line_of (At i) fits = omega (arith, length_number i fits)
+length-line_of (Rank k) fits = omega (arith, length_number k fits)
+length-line_of (Next k) fits = omega (arith, length_number k fits)
+length-line_of (Prev k) fits = omega (arith, length_number k fits)
 length-line_of Back fits = omega arith
 length-line_of Clear fits = omega arith
-length-line_of (Range lo hi) fits =
-    let a = length-decimal-le 20 lo (omega arith) (omega arith) fits.0 in
-    let b = length-decimal-le 20 hi (omega arith) (omega arith) fits.1 in
-    omega (arith, length-append (decimal lo ++ 32 ∷ []) (decimal hi), length-append (decimal lo) (32 ∷ []))
-length-line_of (Page p s) fits =
-    let a = length-decimal-le 20 p (omega arith) (omega arith) fits.0 in
-    let b = length-decimal-le 20 s (omega arith) (omega arith) fits.1 in
-    omega (arith, length-append (decimal p ++ 32 ∷ []) (decimal s), length-append (decimal p) (32 ∷ []))
+length-line_of (Range lo hi) fits = omega (arith, length_pair lo hi fits.0 fits.1)
+length-line_of (Page p s) fits = omega (arith, length_pair p s fits.0 fits.1)
 
 option_none : (o : Option Request) → ((r : Request) → o ≡ Some r → ⊥) → o ≡ None
 option_none None h = refl

@@ -1,6 +1,6 @@
 -- The first and the last leaf of a tree, and its first and last pair.
 use Rattle.std.proofs.Common.{◌≡◌, ℕ, zero, suc, ◌+◌, ◌-◌, ◌<◌, ◌≤◌, List, [], ◌∷◌, ◌++◌, length, drop, refl, sym, ap, subst, arith, Option, Some, None, append-nil, length-append, slice_get}
-use Rattle.std.proofs.Common.{Bor, IfSome, IsSome, ◌↔◌, true, false}
+use Rattle.std.proofs.Common.{Bor, IfSome, IsSome, ◌↔◌, Bool, cond, true, false}
 use Rattle.std.specs.Option.{option_map}
 use mathlib.Core.Bool.{true≢false}
 use Rattle.std.specs.declared.cmp.Ordering.{Ordering}
@@ -13,7 +13,7 @@ use Rattle.bptree_keys.specs.declared.node_id.LeafNodeId.{LeafNodeId}
 use Rattle.bptree_keys.specs.declared.node_id.NodeId.{NodeId}
 use Rattle.bptree_keys.specs.declared.node_id.NodeId.TheVariants as kind
 use Rattle.bptree_keys.proofs.PieceLemmas.{AllByRecursion-append}
-use Rattle.bptree_shape.specs.Leaves.{pairs_of, StandsIn, Stands, IsFirstLeaf, IsLastLeaf}
+use Rattle.bptree_shape.specs.Leaves.{pairs_of, StandsIn, Stands, IsEndLeaf, IsFirstLeaf, IsLastLeaf}
 use Rattle.bptree_shape.specs.Order.{flat, Chain}
 use Rattle.bptree_shape.specs.Shape.{leaf_pairs, inner_keys, inner_children, pairs_at, leaves_at, IsTree, root_least}
 use Rattle.bptree_shape.proofs.Down.{stands_above}
@@ -28,6 +28,16 @@ drop_all (x ∷ xs) (suc n) h = drop_all xs n (omega arith)
 at_middle : {X : Type 0} (P : X → Type 0) (before : List X) (x : X) (after : List X) → AllByRecursion P (before ++ x ∷ after) → P x
 at_middle P [] x after all = all.0
 at_middle P (y ∷ before) x after all = at_middle P before x after all.1
+
+-- a place at an end of so many is one of them
+pub end_within : (is_last : Bool) (count i : ℕ) → 0 < count → i ≡ cond is_last (count - 1) 0 → i < count
+end_within true count i some at = omega (arith, some, at)
+end_within false count i some at = omega (arith, some, at)
+
+-- a node has a child more than keys
+pub end_child : (is_last : Bool) (keys children len i : ℕ) → children ≡ keys + 1 → len ≡ keys → i ≡ cond is_last (len + 1 - 1) 0 → i ≡ cond is_last (children - 1) 0
+end_child true keys children len i long is at = omega (arith, long, is, at)
+end_child false keys children len i long is at = at
 
 pub alone : {X : Type 0} (y : X) (before : List X) (x : X) (after : List X) → y ∷ [] ≡ before ++ x ∷ after → (before ≡ []) × (after ≡ [])
 alone y [] x [] e = (refl, refl)
@@ -62,6 +72,20 @@ module _ {K V A : Type 0} (cmp : K → K → Ordering) (slots : Slots (Inner K A
   pub last_of_leaf : (h : ℕ) (id : LeafNodeId) → Stands cmp slots h (kind.Leaf id) → IsLastLeaf slots h (kind.Leaf id) id
   last_of_leaf zero id s = record { stands = record { before = []; after = []; leaves = refl; present = s.tree.0 }; last = refl }
   last_of_leaf (suc h) id s = absurd s.tree
+
+  -- the same of the one end or the other
+  pub end_above : (is_last : Bool) (h : ℕ) (id : InnerNodeId) (node : Inner K A) (i : ℕ) (child : NodeId) (leaf : LeafNodeId) → 0 < h → slots.inner id.0 ≡ Present node → 0 < length node.children → i ≡ cond is_last (length node.children - 1) 0
+      → slice_get node.children i ≡ Some child → IsEndLeaf slots is_last (h - 1) child leaf → IsEndLeaf slots is_last h (kind.Inner id) leaf
+  end_above true h id node i child leaf up e some at read last = last_above h id node i child leaf up e (omega (arith, some, at)) read last
+  end_above false h id node i child leaf up e some at read first = first_above h id node child leaf up e some (rw at at read) first
+
+  pub end_of_leaf : (is_last : Bool) (h : ℕ) (id : LeafNodeId) → Stands cmp slots h (kind.Leaf id) → IsEndLeaf slots is_last h (kind.Leaf id) id
+  end_of_leaf true = last_of_leaf
+  end_of_leaf false = first_of_leaf
+
+  pub end_stands : (is_last : Bool) (h : ℕ) (root : NodeId) (leaf : LeafNodeId) → IsEndLeaf slots is_last h root leaf → StandsIn slots h root leaf
+  end_stands true h root leaf last = last.stands
+  end_stands false h root leaf first = first.stands
 
   chain_have : (h : ℕ) → ((c : NodeId) (lo hi : Option K) → IsTree cmp slots 16 h c lo hi → AllByRecursion (λ (l : LeafNodeId). 0 < length (leaf_pairs (slots.leaf l.0))) (leaves_at slots h c)) → (ks : List K) (cs : List NodeId) (lo hi : Option K)
       → Chain cmp (IsTree cmp slots 16 h) ks cs lo hi → AllByRecursion (λ (l : LeafNodeId). 0 < length (leaf_pairs (slots.leaf l.0))) (flat (leaves_at slots h) cs)
@@ -109,6 +133,10 @@ module _ {K V A : Type 0} (cmp : K → K → Ordering) (slots : Slots (Inner K A
       by_length : (ps : List (K × V)) → node.pairs ≡ ps → slice_get ps (length ps - 1) ≡ slice_get (pairs_of slots last.stands.before ++ ps) (length (pairs_of slots last.stands.before ++ ps) - 1)
       by_length [] is = rw (empty_alone cmp slots h root leaf last.stands tree (rw (e, is) refl)).0 refl
       by_length (p ∷ ps) is = sym (get_right (pairs_of slots last.stands.before) (p ∷ ps) (omega arith))
+
+  pub end_pair : (is_last : Bool) → IsEndLeaf slots is_last h root leaf → slice_get node.pairs (cond is_last (length node.pairs - 1) 0) ≡ slice_get (pairs_at slots h root) (cond is_last (length (pairs_at slots h root) - 1) 0)
+  end_pair true = last_pair
+  end_pair false = first_pair
 
 -- a pair that is lent where there is one
 pub shown : {K V : Type 0} (ps : List (K × V)) (i : ℕ) (r : Option (Bor K × Bor V)) → IfSome r (λ p. slice_get ps i ≡ Some (p.0.now, p.1.now)) → IsSome r ↔ (i < length ps) → option_map (λ p. (p.0.now, p.1.now)) r ≡ slice_get ps i

@@ -1,5 +1,5 @@
 -- Where a leaf stands in the order of a tree's leaves.
-use Rattle.std.specs.Prelude.{◌≡◌, ℕ, Bool, true, false, List, [], ◌∷◌, ◌++◌, Option}
+use Rattle.std.specs.Prelude.{◌≡◌, ℕ, Bool, cond, true, false, List, [], ◌∷◌, ◌++◌, Option}
 use Rattle.std.specs.declared.cmp.Ordering.{Ordering}
 use Rattle.std.specs.declared.cmp.Ordering.TheVariants.{Less, Greater}
 use Rattle.std.specs.List.{AllByRecursion}
@@ -32,6 +32,10 @@ module _ {K V A : Type 0} (slots : Slots (Inner K A) (Leaf K V)) where
   pub record IsLastLeaf (h : ℕ) (root : NodeId) (leaf : LeafNodeId) : Type 0 where
     pub stands : StandsIn h root leaf
     pub last : stands.after ≡ []
+
+  -- the one or the other
+  abbrev pub IsEndLeaf : Bool → ℕ → NodeId → LeafNodeId → Type 0
+  IsEndLeaf is_last h root leaf = cond is_last (IsLastLeaf h root leaf) (IsFirstLeaf h root leaf)
 
   -- the keys before the leaf pass a test, and those behind it don't
   pub record IsBorderLeaf (test : K → Bool) (h : ℕ) (root : NodeId) (leaf : LeafNodeId) : Type 0 where

@@ -1,7 +1,7 @@
 //! Ways down a tree that stands in a store.
-ghost use Rattle.std.specs.Prelude.{◌≡◌, ◌+◌, ◌*◌, ◌≤◌, List, ◌∷◌, ◌++◌, [], length};
+ghost use Rattle.std.specs.Prelude.{◌≡◌, ◌+◌, ◌-◌, ◌*◌, ◌≤◌, cond, List, ◌∷◌, ◌++◌, [], length};
 ghost use Rattle.bptree_keys.specs.declared.node_id.LeafNodeId.{LeafNodeId};
-ghost use Rattle.bptree_shape.specs.Leaves.{Stands, IsLeafFor, IsFirstLeaf, IsLastLeaf};
+ghost use Rattle.bptree_shape.specs.Leaves.{Stands, IsEndLeaf, IsLeafFor, IsFirstLeaf, IsLastLeaf};
 ghost use Rattle.bptree_keys.specs.declared.node_id.NodeId.TheVariants as kind;
 ghost use Rattle.bptree_shape.specs.Path.{GoesOnTo};
 ghost use Rattle.bptree_shape.specs.Shape.{leaves_at};
@@ -66,19 +66,34 @@ pub fn find_path<S: NodeStore>(
     }
 }
 
-/// The first leaf of the tree of a height under a number.
-pub fn first_leaf<S: NodeStore>(store: &S, id: NodeId, height: usize) -> LeafNodeId
+/// The first of so many places, or the last of them.
+pub fn end_place(count: usize, is_last: bool) -> usize
+    ensures { result ≡ cond is_last (count - 1) 0 }
+{
+    if is_last { count.saturating_sub(1) } else { 0 }
+}
+
+// The first leaf of the tree of a height under a number, or the last one.
+fn end_leaf<S: NodeStore>(store: &S, id: NodeId, height: usize, is_last: bool) -> LeafNodeId
     requires { Stands S.K.cmp (S.slots store.now) height id }
-    ensures { IsFirstLeaf (S.slots store.now) height id result }
+    ensures { IsEndLeaf (S.slots store.now) is_last height id result }
 {
     match id {
         NodeId::Leaf(leaf) => leaf,
         NodeId::Inner(inner) => {
             let node = store.get_inner(inner);
-            let child = node.child_id(0);
-            first_leaf(store, child, height - 1)
+            let child = node.child_id(end_place(node.len() + 1, is_last));
+            end_leaf(store, child, height - 1, is_last)
         }
     }
+}
+
+/// The first leaf of the tree of a height under a number.
+pub fn first_leaf<S: NodeStore>(store: &S, id: NodeId, height: usize) -> LeafNodeId
+    requires { Stands S.K.cmp (S.slots store.now) height id }
+    ensures { IsFirstLeaf (S.slots store.now) height id result }
+{
+    end_leaf(store, id, height, false)
 }
 
 /// The last leaf of the tree of a height under a number.
@@ -86,12 +101,5 @@ pub fn last_leaf<S: NodeStore>(store: &S, id: NodeId, height: usize) -> LeafNode
     requires { Stands S.K.cmp (S.slots store.now) height id }
     ensures { IsLastLeaf (S.slots store.now) height id result }
 {
-    match id {
-        NodeId::Leaf(leaf) => leaf,
-        NodeId::Inner(inner) => {
-            let node = store.get_inner(inner);
-            let child = node.child_id(node.len());
-            last_leaf(store, child, height - 1)
-        }
-    }
+    end_leaf(store, id, height, true)
 }

@@ -66,6 +66,14 @@ module _ {T K V : Type 0} (cmp : K → K → Ordering) (order : IsTotalOrder cmp
     pub in_range : i < length items
     in_range = rw is (there (shard_of cmp bounds k) (routed cmp order k bounds shards whole.are.between).in_range)
 
+  -- the same by the bounds as they were read
+  module _ (k : K) (i : ℕ) (read : List K) (route : i ≡ shard_of cmp read k) (same : read ≡ bounds) where
+    pub routed_to : i ≡ shard_of cmp bounds k
+    routed_to = route ∙ ap (λ l. shard_of cmp l k) same
+
+    pub routed_within : i < length items
+    routed_within = in_range k i routed_to
+
   module _ (k : K) (i : ℕ) (is : i ≡ shard_of cmp bounds k) (x : T) (here : x ≡ get_or items i x) where
     own : pairs x ≡ piece_at shards (shard_of cmp bounds k)
     own = asked pairs items i x (in_range k i is) here ∙ ap (piece_at shards) is
@@ -192,6 +200,13 @@ module _ {T K V : Type 0} (cmp : K → K → Ordering) (order : IsTotalOrder cmp
   module _ (k : K) (i : ℕ) (is : i ≡ shard_below cmp bounds k) where
     pub in_range_below : i < length items
     in_range_below = rw is (there (shard_below cmp bounds k) (routed_below cmp order k bounds shards whole.are.between).in_range)
+
+  module _ (k : K) (i : ℕ) (read : List K) (route : i ≡ shard_below cmp read k) (same : read ≡ bounds) where
+    pub below_routed_to : i ≡ shard_below cmp bounds k
+    below_routed_to = route ∙ ap (λ l. shard_below cmp l k) same
+
+    pub below_routed_within : i < length items
+    below_routed_within = in_range_below k i below_routed_to
 
   module _ (k : K) (i : ℕ) (is : i ≡ shard_below cmp bounds k) (x : T) (here : x ≡ get_or items i x) {R : Type 0} (shows : R → K × V) (r : Option R)
       (told : option_map shows r ≡ previous cmp (pairs x) k) where

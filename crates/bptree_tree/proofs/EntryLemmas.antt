@@ -4,10 +4,11 @@ use Rattle.std.specs.Prelude.{◌&&◌}
 use Rattle.std.specs.declared.cmp.Ordering.{Ordering}
 use Rattle.std.specs.declared.cmp.Ordering.TheVariants.{Less, Equal}
 use Rattle.std.specs.Cmp.{IsTotalOrder}
+use Rattle.std.specs.Option.{option_map}
 use Rattle.std.specs.Ordering.{is_lt, is_eq}
 use Rattle.std.proofs.lemmas.List.Elements.{filter-append}
 use Rattle.std.proofs.lemmas.Option.{get_or_from_slice_get}
-use Rattle.bptree_keys.specs.Contents.{IsAscending, has, next, pairs_above}
+use Rattle.bptree_keys.specs.Contents.{IsAscending, has, value, next, pairs_above}
 use Rattle.bptree_keys.specs.Places.{AllAnswer, IsHit}
 use Rattle.bptree_keys.specs.Ranges.{between}
 use Rattle.bptree_keys.specs.declared.node_id.LeafNodeId.{LeafNodeId}
@@ -20,6 +21,7 @@ use Rattle.bptree_nodes.specs.LeafResults.{HasEqualAt}
 use Rattle.bptree_nodes.specs.Slot.{Slots, Present}
 use Rattle.bptree_shape.specs.Leaves.{pairs_of, IsLeafFor}
 use Rattle.bptree_shape.specs.Shape.{pairs_at, root_least, IsWellShaped}
+use Rattle.bptree_shape.proofs.LeafFor.{node_ascends, absent_there}
 use Rattle.bptree_shape.proofs.Ordered.{by_cases}
 use Rattle.bptree_shape.proofs.Walk.{tree_ascends}
 use Rattle.bptree_descents.proofs.Selected.{place_read}
@@ -43,6 +45,11 @@ module _ {K V : Type 0} (cmp : K → K → Ordering) where
   entry_absent (p ∷ l) k absent =
       by_cases (cmp p.0 k) (λ less. rw less (entry_absent l k (rw less at absent))) (λ equal. let z : true ≡ false = rw equal at absent in cc)
       (λ greater. rw greater (entry_absent l k (rw greater at absent)))
+
+  -- the value of that pair is the one at the key
+  pub entry_value : (l : List (K × V)) (k : K) → option_map (λ pair. pair.1) (entry cmp l k) ≡ value cmp l k
+  entry_value [] k = refl
+  entry_value (p ∷ l) k = by_cases (cmp p.0 k) (λ less. rw less (entry_value l k)) (λ equal. rw equal refl) (λ greater. rw greater (entry_value l k))
 
   -- and the keys that are not below it are above it
   above_if_absent : (l : List (K × V)) (k : K) → has cmp l k ≡ false → between cmp l (Some k) None ≡ pairs_above cmp l k
@@ -83,3 +90,15 @@ module _ {K V A : Type 0} {cmp : K → K → Ordering} (total : IsTotalOrder cmp
 
   pub at_least_there : at_least cmp (pairs_at slots h root) k ≡ Some pair
   at_least_there = at_least_hit cmp whole _ pair _ k hit_there
+
+-- the leaf that can hold a key lacks it, and so does the tree
+module _ {K V A : Type 0} {cmp : K → K → Ordering} (total : IsTotalOrder cmp) (is_summary : A → List K → Type 0) (slots : Slots (Inner K A) (Leaf K V)) (h : ℕ) (root : NodeId) (shape : IsWellShaped cmp is_summary slots h root)
+    (k : K) (leaf : LeafNodeId) (node : Leaf K V) (for' : IsLeafFor cmp slots h root k leaf) (here : slots.leaf leaf.0 ≡ Present node) (lacks : IsAscending cmp node.pairs → has cmp node.pairs k ≡ false) where
+  absent : has cmp (pairs_at slots h root) k ≡ false
+  absent = absent_there total is_summary slots h root k leaf node shape for' here (lacks (node_ascends total is_summary slots h root k leaf node shape for' here))
+
+  pub entry_lacking : entry cmp (pairs_at slots h root) k ≡ None
+  entry_lacking = entry_absent cmp (pairs_at slots h root) k absent
+
+  pub at_least_lacking : at_least cmp (pairs_at slots h root) k ≡ next cmp (pairs_at slots h root) k
+  at_least_lacking = at_least_absent cmp (pairs_at slots h root) k absent

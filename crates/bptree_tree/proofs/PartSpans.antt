@@ -10,7 +10,7 @@ use Rattle.bptree_nodes.specs.Slot.{Slot, Slots, Free, Held, Present, IsPresent}
 use Rattle.bptree_keys.specs.declared.node_id.LeafNodeId.{LeafNodeId}
 use Rattle.bptree_keys.specs.declared.node_id.NodeId.{NodeId}
 use Rattle.bptree_keys.specs.Contents.{IsAscending}
-use Rattle.bptree_keys.specs.Ranges.{part, part_at}
+use Rattle.bptree_keys.specs.Ranges.{part}
 use Rattle.bptree_keys.proofs.PieceLemmas.{AllByRecursion-right}
 use Rattle.bptree_iteration.specs.declared.part.Part.{Part}
 use Rattle.bptree_iteration.specs.declared.part.Extent.TheVariants.{Exact}
@@ -250,7 +250,3 @@ pub part_ascends : {K V : Type 0} {cmp : K → K → Ordering} (total : IsTotalO
 part_ascends {cmp = cmp} total l i n ascending =
     let rest = ascending_after total (take i l) (drop i l) (subst (IsAscending cmp) (sym (take-append-drop i l)) ascending) in
     ascending_before cmp (take n (drop i l)) (drop n (drop i l)) (subst (IsAscending cmp) (sym (take-append-drop n (drop i l))) rest)
-
-pub part_at_ascends : {K V : Type 0} {cmp : K → K → Ordering} (total : IsTotalOrder cmp) (l : List (K × V)) (place : Option ℕ) (n : ℕ) → IsAscending cmp l → IsAscending cmp (part_at l place n)
-part_at_ascends {cmp = cmp} total l None n ascending = ascending_before cmp [] l ascending
-part_at_ascends total l (Some i) n ascending = part_ascends total l i n ascending

@@ -4,7 +4,7 @@ use Rattle.std.specs.Borrow.{Bor, MutBor}
 use Rattle.std.specs.Fn.{Mut}
 use Rattle.std.specs.Map.{keys_of}
 use Rattle.std.specs.declared.cmp.Ordering.{Ordering}
-use Rattle.std.proofs.Math.Seq.{drop-length, take-append-add, take-length}
+use Rattle.std.proofs.Math.Seq.{take-append-add}
 use Rattle.std.proofs.lemmas.List.{drop-take, drop_at, length-take-le, take-append-drop, take_at}
 use Rattle.std.proofs.lemmas.Map.Entries.{length-keys_of}
 use Rattle.bptree_keys.specs.Ranges.{between, part}
@@ -19,6 +19,7 @@ use Rattle.bptree_ascent.proofs.Alike.{AllAlike, alike_itself, alike_over, leave
 use Rattle.bptree_ascent.proofs.Lent.{set_alike, set_parts}
 use Rattle.bptree_ranges.specs.Ranges.{place_on, start, IsPlaceOn, IsSettled}
 use Rattle.bptree_ranges.proofs.Ranged.{NextLeaf, last_of, next_of, order, reached, size, start_is}
+use Rattle.bptree_ranges.proofs.Sums.{no_ends}
 use Rattle.bptree_shape.proofs.Agreeing.{present_if_stands, stands_if_present}
 use Rattle.bptree_shape.proofs.NodePieces.{keys-append}
 use Rattle.bptree_shape.proofs.Spot.{parts_of_read}
@@ -245,10 +246,16 @@ updated_keys calls f cmp lo hi old new updated =
     ∙ (ap (λ l. keys_of updated.before ++ l) joined
     ∙ (sym (keys-append updated.before (between cmp old lo hi ++ updated.behind)) ∙ sym (ap keys_of updated.was))))
 
--- the pairs between the first place and the last are all
-pub updated_all : {F K V : Type 0} (calls : Mut F (Bor K × (MutBor V × Unit {0})) (Unit {0} × (MutBor V × Unit {0}))) (f : F) (old new : List (K × V)) (i j : ℕ) → i ≡ 0 → j ≡ length old
-    → (after : F) × (changed : List (K × V)) × ChangesInTurn calls f (drop i (take j old)) after changed × (new ≡ take i old ++ changed ++ drop j old) → (after : F) × ChangesInTurn calls f old after new
-updated_all calls f old new i j e e' (after, changed, changes, now) =
-    let cut : drop i (take j old) ≡ old = rw (e, e') (take-length old) in
-    let is : new ≡ changed = now ∙ rw (e, e', drop-length old) (append-nil changed) in
-    (after, rw is (rw cut at changes))
+none_of : {X : Type 0} (xs : List X) → length xs ≡ 0 → xs ≡ []
+none_of [] none = refl
+none_of (x ∷ xs) none = absurd (omega (arith, none))
+
+-- the pairs between no ends are all
+pub updated_whole : {F K V : Type 0} (calls : Mut F (Bor K × (MutBor V × Unit {0})) (Unit {0} × (MutBor V × Unit {0}))) (f : F) (cmp : K → K → Ordering) (old new : List (K × V)) → IsUpdatedBetween calls f cmp None None old new → (after : F) × ChangesInTurn calls f old after new
+updated_whole calls f cmp old new updated =
+    let all = no_ends cmp old in
+    let was : old ≡ updated.before ++ (old ++ updated.behind) = updated.was ∙ ap (λ l. updated.before ++ (l ++ updated.behind)) all in
+    let ahead : length updated.before ≡ 0 = omega (arith, ap length was, length-append updated.before (old ++ updated.behind), length-append old updated.behind) in
+    let behind : length updated.behind ≡ 0 = omega (arith, ap length was, length-append updated.before (old ++ updated.behind), length-append old updated.behind) in
+    let is : new ≡ updated.changed = updated.is ∙ rw (none_of updated.before ahead, none_of updated.behind behind) (append-nil updated.changed) in
+    (updated.after, rw (is, ← all) updated.changes)

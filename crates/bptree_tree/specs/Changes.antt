@@ -1,5 +1,5 @@
 -- What a call that changes a list of pairs answers, beside the list that it leaves.
-use Rattle.std.specs.Prelude.{◌≡◌, ℕ, false, List, Option, MatchOption, length, Result, MatchResult}
+use Rattle.std.specs.Prelude.{◌≡◌, ℕ, Bool, cond, false, List, Option, MatchOption, length, Result, MatchResult}
 use Rattle.std.specs.declared.cmp.Ordering.{Ordering}
 use Rattle.bptree_keys.specs.Contents.{has, value, put, del}
 use Rattle.bptree_tree.specs.Entries.{entry}
@@ -34,6 +34,10 @@ module _ {X : Type 0} where
   -- the last one
   abbrev pub PopsLast : List X → List X → Option X → Type 0
   PopsLast old new told = TakesLast (λ x. x) old told new
+
+  -- the one or the other
+  abbrev pub PopsEnd : Bool → List X → List X → Option X → Type 0
+  PopsEnd is_last old new told = cond is_last (PopsLast old new told) (PopsFirst old new told)
 
 -- both variants of an answer carry what is right
 abbrev pub EitherWay : {R : Type 0} → (R → Type 0) → Result R R → Type 0

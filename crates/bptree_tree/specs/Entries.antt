@@ -7,7 +7,13 @@ use Rattle.bptree_keys.specs.Ranges.{between}
 use Rattle.std.specs.Borrow.{Bor}
 use Rattle.std.specs.declared.ops.Bound.{Bound}
 use Rattle.std.specs.Option.{option_copied}
+use Rattle.bptree_ascent.specs.NodeTree.{NodeTree}
+use Rattle.bptree_iteration.specs.declared.part.Part.{Part}
+use Rattle.bptree_nodes.specs.Inner.{Inner}
+use Rattle.bptree_nodes.specs.Leaf.{Leaf}
+use Rattle.bptree_nodes.specs.Slot.{Slots}
 use Rattle.bptree_ranges.specs.Bounds.{between_bounds, bound_copied}
+use Rattle.bptree_ranges.specs.Ranges.{IsPart}
 
 module _ {K V : Type 0} (cmp : K → K → Ordering) where
   -- the pair whose key equals k, with the key as it stands in the list
@@ -30,3 +36,7 @@ module _ {K V : Type 0} (cmp : K → K → Ordering) (l : List (K × V)) where
 -- a value is a summary of the keys between two ends that are lent
 abbrev pub SumsUpBetween : {A K V : Type 0} → (A → List K → Type 0) → (K → K → Ordering) → List (K × V) → Option (Bor K) → Option (Bor K) → A → Type 0
 SumsUpBetween is_summary cmp l lo hi a = is_summary a (keys_of (pairs_between cmp l lo hi))
+
+-- a part of a tree has these pairs
+abbrev pub IsPartOf : {S K V A : Type 0} → (S → Slots (Inner K A) (Leaf K V)) → NodeTree S K V A → Part → List (K × V) → Type 0
+IsPartOf slots tree part pairs = IsPart (slots tree.store) tree.height tree.root part pairs

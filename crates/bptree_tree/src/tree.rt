@@ -31,7 +31,6 @@ use bptree_keys::compares::Compares;
 use bptree_keys::entry_ref::VisitStack;
 use bptree_keys::node_id::NodeId;
 use bptree_rebalancing::statistics::Statistic;
-use bptree_removal::removal::{Removed, remove};
 use bptree_shape::descent::{first_leaf, last_leaf};
 use bptree_shape::reading;
 use bptree_stores::node_stores::NodeStore;
@@ -206,26 +205,10 @@ impl<S: NodeStore> BPlusTree<S> {
         ensures err { OnErr result (self.new.contents ≡ self.old.contents) }
         ensures unchanged { OnErr result (IsUntouched S.slots self.new self.old) }
     {
-        match remove(
-            &mut self.store,
-            &mut self.path,
-            self.root,
-            self.height,
-            k,
-            &mut self.statistic,
-        )? {
+        match self.remove_entry(k)? {
             None => Ok(None),
-            Some(gone) => {
-                let Removed {
-                    value,
-                    root,
-                    height,
-                    summary,
-                } = gone;
-                self.root = root;
-                self.height = height;
-                self.len -= 1;
-                self.root_argument = summary;
+            Some(pair) => {
+                let (_, value) = pair;
                 Ok(Some(value))
             }
         }

@@ -22,6 +22,6 @@ impl<S: NodeStore> BPlusTree<S> {
         ensures runs { ShowsInOrder (deref_pair {K = S.K} {X = S.V}) }
     {
         let part = part_between_bounds(&self.store, self.root, self.height, self.len, lo, hi);
-        Iter::new(&self.store, part)
+        self.iter_part(part)
     }
 }

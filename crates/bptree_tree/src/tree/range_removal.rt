@@ -7,7 +7,7 @@ ghost use Rattle.bptree_tree.specs.Entries.{pairs_between};
 
 use crate::tree::BPlusTree;
 use bptree_keys::entry_ref::VisitStack;
-use bptree_removal::removal::{self, Removed};
+use bptree_removal::removal;
 use bptree_stores::node_stores::NodeStore;
 use std::alloc::AllocError;
 
@@ -48,16 +48,10 @@ impl<S: NodeStore> BPlusTree<S> {
             slot,
             &mut self.statistic,
         )?;
-        let Removed {
-            value: _,
-            root,
-            height,
-            summary,
-        } = gone;
-        self.root = root;
-        self.height = height;
         self.len -= 1;
-        self.root_argument = summary;
+        self.root = gone.root;
+        self.height = gone.height;
+        self.root_argument = gone.summary;
         Ok(true)
     }
 

@@ -1,16 +1,17 @@
 //! Parts of the contents of a tree.
-ghost use Rattle.std.specs.Prelude.{◌≡◌, IfOk, IsOk};
+ghost use Rattle.std.specs.Prelude.{◌≡◌, List, IfOk, IsOk};
 ghost use Rattle.std.specs.Map.Iter.{ShowsInOrder, deref_pair};
 ghost use Rattle.bptree_arguments.specs.Groups.{of_group};
 ghost use Rattle.bptree_keys.specs.Contents.{IsAscending};
 ghost use Rattle.bptree_keys.specs.Ranges.{part};
 ghost use Rattle.bptree_descents.specs.ByArgument.{IsPartSelected};
-ghost use Rattle.bptree_tree.specs.Entries.{pairs_between};
+ghost use Rattle.bptree_tree.specs.Entries.{IsPartOf, pairs_between};
 
 use crate::tree::BPlusTree;
 use bptree_arguments::argument::SearchArgument;
 use bptree_arguments::group::FromRef;
 use bptree_iteration::iterator::Iter;
+use bptree_iteration::part::Part;
 use bptree_keys::key::Key;
 use bptree_ranges::groups::{part_of_group, part_within_group};
 use bptree_ranges::ranges::{part_between, part_by_argument};
@@ -18,6 +19,16 @@ use bptree_stores::node_stores::NodeStore;
 use std::alloc::AllocError;
 
 impl<S: NodeStore> BPlusTree<S> {
+    // The pairs of a part of the tree.
+    pub(crate) fn iter_part(&self, part: Part) -> Iter<'_, S>
+        requires { (pairs : List (S.K × S.V)) × IsPartOf S.slots self.now part pairs }
+        ensures rest { (pairs : List (S.K × S.V)) → IsPartOf S.slots self.now part pairs → result ≡ pairs }
+        ensures ascending { IsAscending S.K.cmp result }
+        ensures runs { ShowsInOrder (deref_pair {K = S.K} {X = S.V}) }
+    {
+        Iter::new(&self.store, part)
+    }
+
     /// The pairs whose key is not below `lo` and is below `hi`, where they are given, in the order
     /// of their keys. It takes no memory, and neither do its steps.
     ///
@@ -29,7 +40,7 @@ impl<S: NodeStore> BPlusTree<S> {
         ensures runs { ShowsInOrder (deref_pair {K = S.K} {X = S.V}) }
     {
         let part = part_between(&self.store, self.root, self.height, self.len, lo, hi);
-        Iter::new(&self.store, part)
+        self.iter_part(part)
     }
 
     /// The first `n` pairs, or all where there are fewer, from a place on that is allowed for the
@@ -54,7 +65,7 @@ impl<S: NodeStore> BPlusTree<S> {
         // Read, so that it is known to fit.
         let _len = self.len;
         let part = part_by_argument(&self.store, self.root, self.height, query, n)?;
-        Ok(Iter::new(&self.store, part))
+        Ok(self.iter_part(part))
     }
 
     /// The pairs whose key's group equals the group, in the order of their keys. Its steps take no
@@ -70,7 +81,7 @@ impl<S: NodeStore> BPlusTree<S> {
         ensures runs { ShowsInOrder (deref_pair {K = S.K} {X = S.V}) }
     {
         let part = part_of_group(&self.store, self.root, self.height, self.len, group)?;
-        Ok(Iter::new(&self.store, part))
+        Ok(self.iter_part(part))
     }
 
     /// So many pairs of a group, or all where there are fewer, without its first `i`: a page of the
@@ -93,6 +104,6 @@ impl<S: NodeStore> BPlusTree<S> {
         // Read, so that it is known to fit.
         let _len = self.len;
         let part = part_within_group(&self.store, self.root, self.height, group, i, n)?;
-        Ok(Iter::new(&self.store, part))
+        Ok(self.iter_part(part))
     }
 }

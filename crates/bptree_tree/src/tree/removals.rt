@@ -3,11 +3,11 @@ ghost use Rattle.std.specs.Prelude.{◌≡◌, [], false, None, Ok, IfOk, OnErr}
 ghost use Rattle.bptree_keys.specs.Contents.{has};
 ghost use Rattle.bptree_descents.specs.ByArgument.{IsTaken};
 ghost use Rattle.bptree_tree.specs.Whole.{IsWhole, IsUntouched, HasSameNodes};
-ghost use Rattle.bptree_tree.specs.Changes.{PopsFirst, PopsLast, RemovesEntry, RemovesTold};
+ghost use Rattle.bptree_tree.specs.Changes.{PopsEnd, PopsFirst, PopsLast, RemovesEntry, RemovesTold};
 
 use crate::tree::BPlusTree;
 use bptree_arguments::argument::SearchArgument;
-use bptree_removal::removal::{self, Removed};
+use bptree_removal::removal;
 use bptree_stores::node_stores::NodeStore;
 use std::alloc::AllocError;
 
@@ -44,17 +44,11 @@ impl<S: NodeStore> BPlusTree<S> {
         )? {
             None => Ok(None),
             Some(gone) => {
-                let Removed {
-                    value: pair,
-                    root,
-                    height,
-                    summary,
-                } = gone;
-                self.root = root;
-                self.height = height;
                 self.len -= 1;
-                self.root_argument = summary;
-                Ok(Some(pair))
+                self.root = gone.root;
+                self.height = gone.height;
+                self.root_argument = gone.summary;
+                Ok(Some(gone.value))
             }
         }
     }
@@ -83,17 +77,41 @@ impl<S: NodeStore> BPlusTree<S> {
         )? {
             None => Ok(None),
             Some(gone) => {
-                let Removed {
-                    value: pair,
-                    root,
-                    height,
-                    summary,
-                } = gone;
-                self.root = root;
-                self.height = height;
                 self.len -= 1;
-                self.root_argument = summary;
-                Ok(Some(pair))
+                self.root = gone.root;
+                self.height = gone.height;
+                self.root_argument = gone.summary;
+                Ok(Some(gone.value))
+            }
+        }
+    }
+
+    // Removes the pair with the least key, or the one with the greatest, and hands it back.
+    fn pop_end(&mut self, is_last: bool) -> Result<Option<(S::K, S::V)>, AllocError>
+        ensures ok { IfOk result (PopsEnd is_last self.old.contents self.new.contents) }
+        ensures empty { self.old.contents ≡ [] → result ≡ Ok None }
+        ensures whole { IsWhole S.K.cmp S.Argument.is_summary S.slots self.new }
+        ensures untouched { self.old.contents ≡ [] → IsUntouched S.slots self.new self.old }
+        ensures err { OnErr result (self.new.contents ≡ self.old.contents) }
+        ensures unchanged { OnErr result (IsUntouched S.slots self.new self.old) }
+    {
+        // Read, so that it is known to fit.
+        let _len = self.len;
+        match removal::remove_end(
+            &mut self.store,
+            &mut self.path,
+            self.root,
+            self.height,
+            is_last,
+            &mut self.statistic,
+        )? {
+            None => Ok(None),
+            Some(gone) => {
+                self.len -= 1;
+                self.root = gone.root;
+                self.height = gone.height;
+                self.root_argument = gone.summary;
+                Ok(Some(gone.value))
             }
         }
     }
@@ -111,30 +129,7 @@ impl<S: NodeStore> BPlusTree<S> {
         ensures err { OnErr result (self.new.contents ≡ self.old.contents) }
         ensures unchanged { OnErr result (IsUntouched S.slots self.new self.old) }
     {
-        // Read, so that it is known to fit.
-        let _len = self.len;
-        match removal::remove_first(
-            &mut self.store,
-            &mut self.path,
-            self.root,
-            self.height,
-            &mut self.statistic,
-        )? {
-            None => Ok(None),
-            Some(gone) => {
-                let Removed {
-                    value: pair,
-                    root,
-                    height,
-                    summary,
-                } = gone;
-                self.root = root;
-                self.height = height;
-                self.len -= 1;
-                self.root_argument = summary;
-                Ok(Some(pair))
-            }
-        }
+        self.pop_end(false)
     }
 
     /// Removes the pair with the greatest key, and hands it back: none of an empty tree, where
@@ -150,30 +145,7 @@ impl<S: NodeStore> BPlusTree<S> {
         ensures err { OnErr result (self.new.contents ≡ self.old.contents) }
         ensures unchanged { OnErr result (IsUntouched S.slots self.new self.old) }
     {
-        // Read, so that it is known to fit.
-        let _len = self.len;
-        match removal::remove_last(
-            &mut self.store,
-            &mut self.path,
-            self.root,
-            self.height,
-            &mut self.statistic,
-        )? {
-            None => Ok(None),
-            Some(gone) => {
-                let Removed {
-                    value: pair,
-                    root,
-                    height,
-                    summary,
-                } = gone;
-                self.root = root;
-                self.height = height;
-                self.len -= 1;
-                self.root_argument = summary;
-                Ok(Some(pair))
-            }
-        }
+        self.pop_end(true)
     }
 
     /// Removes all pairs. It takes memory for one leaf, before the nodes are let go: a refusal

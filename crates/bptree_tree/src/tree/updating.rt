@@ -7,8 +7,7 @@ ghost use Rattle.bptree_tree.specs.Updating.{IsNotBehind, IsSettledAt, UpdatesBe
 
 use crate::tree::BPlusTree;
 use bptree_keys::node_id::{LeafNodeId, NodeId};
-use bptree_ranges::ranges::{places_between, settled};
-use bptree_shape::descent::{first_leaf, last_leaf};
+use bptree_ranges::ranges::places_between;
 use bptree_stores::node_stores::NodeStore;
 
 // Changes the values of the slots of a leaf from one on and below another by a closure.
@@ -68,11 +67,7 @@ impl<S: NodeStore> BPlusTree<S> {
         requires { F.IsAlwaysCallable f }
         ensures { (after : F) × ChangesInTurn F.FnMut f self.old.contents after self.new.contents }
     {
-        let first = first_leaf(&self.store, self.root, self.height);
-        let front = settled(&self.store, self.root, self.height, (first, 0));
-        let last = last_leaf(&self.store, self.root, self.height);
-        let back = (last, self.store.get_leaf(last).len());
-        update_leaves(&mut self.store, self.root, self.height, front, back, f);
+        self.update_within(None, None, f);
     }
 
     /// Changes the value of each pair by a closure whose key is not below `lo` and is below `hi`,
@@ -85,6 +80,19 @@ impl<S: NodeStore> BPlusTree<S> {
         &mut self,
         lo: Option<&'b S::K>,
         hi: Option<&'b S::K>,
+        f: F,
+    )
+        requires { F.IsAlwaysCallable f }
+        ensures { UpdatesBetween F.FnMut f S.K.cmp lo.entry hi.entry self.old.contents self.new.contents }
+    {
+        self.update_within(lo, hi, f);
+    }
+
+    // The same, where the ends are lent no longer than the tree.
+    fn update_within<'a, F: FnMut(&S::K, &mut S::V)>(
+        &'a mut self,
+        lo: Option<&'a S::K>,
+        hi: Option<&'a S::K>,
         f: F,
     )
         requires { F.IsAlwaysCallable f }

@@ -4,27 +4,23 @@ use Rattle.std.specs.List.{sum}
 use Rattle.std.proofs.lemmas.List.{length-map, length-take, map-append}
 use Rattle.bptree_keys.specs.Pieces.{flatten}
 use Rattle.bptree_keys.specs.Ranges.{part}
-use Rattle.bptree_shards.specs.Shards.{shard_of, back_from}
+use Rattle.bptree_shards.specs.Shards.{back_from}
 use Rattle.bptree_sharded.specs.Shown.{shown}
-use Rattle.bptree_sharded.proofs.Asked.{in_range, same_count}
+use Rattle.bptree_sharded.proofs.Asked.{same_count, routed_to, routed_within}
 use Rattle.bptree_sharded.proofs.Pages.{back_more, map-reverse}
 use Rattle.bptree_sharded.proofs.whole.Shards.back.Goals as goal
 
 pub index-requires : goal.index-requires
 index-requires g c =
     let it = c.self.inside in
-    let cmp = g.S.K.Ord.cmp in
-    let is : c.route-at.result ≡ shard_of cmp it.bounds.items c.args.k.now = c.route-at.ensures.shard ∙ ap (λ bounds. shard_of cmp bounds c.args.k.now) c.deref.ensures.value in
-    let short = in_range cmp g.met.S.K.Ord.total g.S.Shard.pairs it.bounds.items it.shards.items it.lengths.items c.self.invariant c.args.k.now c.route-at.result is in
+    let short = routed_within g.S.K.Ord.cmp g.met.S.K.Ord.total g.S.Shard.pairs it.bounds.items it.shards.items it.lengths.items c.self.invariant c.args.k.now c.route-at.result _ c.route-at.ensures.shard c.deref.ensures.value in
     omega (arith, short)
 
 pub rank_of_whole-end-requires-clause-in_range : goal.rank_of_whole-end-requires-clause-in_range
 rank_of_whole-end-requires-clause-in_range g c =
     let it = c.self.inside in
-    let cmp = g.S.K.Ord.cmp in
-    let is : c.route-at.result ≡ shard_of cmp it.bounds.items c.args.k.now = c.route-at.ensures.shard ∙ ap (λ bounds. shard_of cmp bounds c.args.k.now) c.deref.ensures.value in
-    let short = in_range cmp g.met.S.K.Ord.total g.S.Shard.pairs it.bounds.items it.shards.items it.lengths.items c.self.invariant c.args.k.now c.route-at.result is in
-    let same = same_count cmp g.met.S.K.Ord.total g.S.Shard.pairs it.bounds.items it.shards.items it.lengths.items c.self.invariant in
+    let short = routed_within g.S.K.Ord.cmp g.met.S.K.Ord.total g.S.Shard.pairs it.bounds.items it.shards.items it.lengths.items c.self.invariant c.args.k.now c.route-at.result _ c.route-at.ensures.shard c.deref.ensures.value in
+    let same = same_count g.S.K.Ord.cmp g.met.S.K.Ord.total g.S.Shard.pairs it.bounds.items it.shards.items it.lengths.items c.self.invariant in
     omega (arith, short, same, ap length c.deref-2.ensures.value)
 
 pub overflow_sub-n : goal.overflow_sub-n
@@ -36,10 +32,9 @@ overflow_sub-n g c =
 pub returns : goal.returns
 returns g c =
     let it = c.self.inside in
-    let cmp = g.S.K.Ord.cmp in
-    let is : c.route-at.result ≡ shard_of cmp it.bounds.items c.args.k.now = c.route-at.ensures.shard ∙ ap (λ bounds. shard_of cmp bounds c.args.k.now) c.deref.ensures.value in
-    let short = in_range cmp g.met.S.K.Ord.total g.S.Shard.pairs it.bounds.items it.shards.items it.lengths.items c.self.invariant c.args.k.now c.route-at.result is in
-    let own = take c.args.n (back_from cmp (g.S.Shard.pairs c.index.result.now) c.args.k.now) in
+    let is = routed_to g.S.K.Ord.cmp g.met.S.K.Ord.total g.S.Shard.pairs it.bounds.items it.shards.items it.lengths.items c.self.invariant c.args.k.now c.route-at.result _ c.route-at.ensures.shard c.deref.ensures.value in
+    let short = routed_within g.S.K.Ord.cmp g.met.S.K.Ord.total g.S.Shard.pairs it.bounds.items it.shards.items it.lengths.items c.self.invariant c.args.k.now c.route-at.result _ c.route-at.ensures.shard c.deref.ensures.value in
+    let own = take c.args.n (back_from g.S.K.Ord.cmp (g.S.Shard.pairs c.index.result.now) c.args.k.now) in
     let found = shown c.back.new.found.items in
     let found_is : found ≡ own = c.in_ok-back.ensures ∙ ap (λ l. shown l ++ own) c.new-found.ensures.items in
     let end = c.rank_of_whole-end.result in
@@ -50,6 +45,6 @@ returns g c =
     let rest_is : rest ≡ part (flatten (map g.S.Shard.pairs it.shards.items)) (end - count) count = c.in_ok-rest.ensures ∙ ap (λ l. part l (end - count) count) (sym c.self.view_is) in
     ap shown c.in_ok-append.ensures.items ∙ map-append deref_pair c.back.new.found.items c.reverse.new.self.items
     ∙ ap (λ l. found ++ shown l) c.reverse.ensures.items ∙ ap (λ l. found ++ l) (map-reverse deref_pair c.in_ok-rest.rest.items)
-    ∙ back_more cmp g.S.Shard.pairs it.bounds.items it.shards.items it.lengths.items c.self.invariant g.met.S.K.Ord.total c.args.k.now c.route-at.result is c.index.result.now short c.index.ensures c.args.n
+    ∙ back_more g.S.K.Ord.cmp g.S.Shard.pairs it.bounds.items it.shards.items it.lengths.items c.self.invariant g.met.S.K.Ord.total c.args.k.now c.route-at.result is c.index.result.now short c.index.ensures c.args.n
     found rest end count found_is end_is count_is rest_is
-    ∙ ap (λ l. take c.args.n (back_from cmp l c.args.k.now)) c.self.view_is
+    ∙ ap (λ l. take c.args.n (back_from g.S.K.Ord.cmp l c.args.k.now)) c.self.view_is

@@ -1,42 +1,15 @@
-use Rattle.std.proofs.Common.{◌+◌, ◌∙◌, None, ap, length, subst, sym}
+use Rattle.std.proofs.Common.{ap, length}
 use Rattle.std.proofs.iter.runs.Sources.{from_front}
 use Rattle.std.specs.Map.Iter.{TakesFirst, deref_pair}
 use Rattle.bptree_arguments.specs.Groups.{of_group}
-use Rattle.bptree_keys.specs.Contents.{IsAscending}
-use Rattle.bptree_ranges.specs.Ranges.{start}
-use Rattle.bptree_shape.specs.Shape.{pairs_at, root_least}
-use Rattle.bptree_shape.proofs.Walk.{tree_ascends}
-use Rattle.bptree_tree.proofs.PartSpans.{part_between_places, part_ascends}
 use Rattle.bptree_tree.proofs.tree.BPlusTree.group_range.Goals as goal
 
-pub new-requires : goal.new-requires
-new-requires g c =
-    let tree = c.self.inside in
-    let slots = g.S.NodeStore.slots tree.store in
-    let pairs = pairs_at slots tree.height tree.root in
-    (part_between_places g.S.Argument.Argument.is_summary slots tree.height tree.root c.self.invariant.0 c.in_ok-part.part (of_group g.G.Ord.cmp g.G.FromRef.group_of c.args.group.now pairs) c.in_ok-part.ensures).0
+pub iter_part-requires : goal.iter_part-requires
+iter_part-requires g c = (of_group g.G.Ord.cmp g.G.FromRef.group_of c.args.group.now c.args.self.now.contents, rw (← c.self.view_is) c.in_ok-part.ensures)
 
 pub returns-clause-rest : goal.returns-clause-rest
-returns-clause-rest g c =
-    let tree = c.self.inside in
-    let slots = g.S.NodeStore.slots tree.store in
-    let pairs = pairs_at slots tree.height tree.root in
-    rw (← c.self.view_is) (c.new.ensures ∙ (part_between_places g.S.Argument.Argument.is_summary slots tree.height tree.root c.self.invariant.0 c.in_ok-part.part (of_group g.G.Ord.cmp g.G.FromRef.group_of c.args.group.now pairs) c.in_ok-part.ensures).1)
-
-pub returns-clause-ascending : goal.returns-clause-ascending
-returns-clause-ascending g c =
-    let tree = c.self.inside in
-    let slots = g.S.NodeStore.slots tree.store in
-    let pairs = pairs_at slots tree.height tree.root in
-    let p = c.in_ok-part.part in
-    let is = c.in_ok-part.ensures in
-    let shown = c.new.ensures ∙ (part_between_places g.S.Argument.Argument.is_summary slots tree.height tree.root c.self.invariant.0 p (of_group g.G.Ord.cmp g.G.FromRef.group_of c.args.group.now pairs) is).1 in
-    let all = tree_ascends g.met.S.K.Ord.total slots (root_least tree.height) tree.height tree.root None None c.self.invariant.0.tree in
-    subst (IsAscending g.S.K.Ord.cmp) (sym (shown ∙ is.pairs)) (part_ascends g.met.S.K.Ord.total pairs (start slots tree.height tree.root p.front + p.from) _ all)
+returns-clause-rest g c = c.iter_part.ensures.rest _ (rw (← c.self.view_is) c.in_ok-part.ensures)
 
 -- each step gives the first of what is left
 pub returns-in_err-part-clause-runs : goal.returns-in_err-part-clause-runs
 returns-in_err-part-clause-runs g c = from_front (TakesFirst deref_pair) deref_pair (λ s. s) (λ s t h. ap length h.0) (λ s x t h. h)
-
-pub returns-clause-runs : goal.returns-clause-runs
-returns-clause-runs g c = from_front (TakesFirst deref_pair) deref_pair (λ s. s) (λ s t h. ap length h.0) (λ s x t h. h)
