@@ -1,13 +1,18 @@
 -- Pairs by their place, as counts select them.
-use Rattle.std.proofs.Common.{◌≡◌, ◌≤◌, ◌∙◌, ℕ, zero, suc, ◌<◌, List, [], ◌∷◌, length, Option, Some, None, Result, Ok, Err, IfErr, IfOk, ap, sym, refl, arith}
+use Rattle.std.proofs.Common.{◌≡◌, ◌≤◌, ◌∙◌, ℕ, zero, suc, ◌<◌, List, [], ◌∷◌, length, Option, Some, None, Result, Ok, Err, IfErr, IfOk, Bor, ap, subst, sym, refl, arith}
 use mathlib.Core.Bool.{false≢true}
 use Rattle.std.specs.Prelude.{IsOk}
+use Rattle.std.specs.declared.cmp.Ordering.{Ordering}
 use Rattle.std.specs.List.{remove, slice_get}
+use Rattle.std.specs.Option.{option_map}
 use Rattle.std.specs.Map.{keys_of, values_of}
 use Rattle.std.proofs.lemmas.Map.Entries.{length-keys_of}
 use Rattle.std.proofs.lemmas.Option.{slice_get_past}
 use Rattle.bptree_arguments.specs.CountLaws.{SelectsPlace}
 use Rattle.bptree_descents.specs.ByArgument.{IsSelected, IsTaken}
+use Rattle.bptree_tree.specs.Cursor.{PointsAt, ShowsValueOf}
+use Rattle.bptree_tree.specs.Selected.{PointsAtSelected}
+use Rattle.bptree_tree.specs.declared.cursor.Cursor.{Cursor}
 
 -- what is selected by a place is the pair there, or none past the end
 pub selected_is : {K V : Type 0} (i : ℕ) (pairs : List (K × V)) (found : Option (K × V)) → IsSelected SelectsPlace i pairs found → found ≡ slice_get pairs i
@@ -39,3 +44,12 @@ of_ok (Err e) P Q ok turns holds = absurd (false≢true ok)
 pub of_err : {T E P Q : Type 0} (r : Result T E) (only : E) → IfErr r (λ e. e ≡ only → P) → IfErr r (λ e. e ≡ only) → (P → Q) → IfErr r (λ e. (e ≡ only) × Q)
 of_err (Ok x) only so is turns = tt
 of_err (Err e) only so is turns = (is, turns (so is))
+
+-- the cursor on what is selected by a place points at the pair there
+pub cursor_is : {K V : Type 0} (cmp : K → K → Ordering) (i : ℕ) (pairs : List (K × V)) (answer : Option (Cursor K × Bor V)) → PointsAtSelected SelectsPlace i pairs cmp answer → PointsAt cmp (slice_get pairs i) answer × ShowsValueOf (slice_get pairs i) answer
+cursor_is cmp i pairs None at =
+    let same = selected_is i pairs at.pair at.selected in
+    (subst (λ pair. PointsAt cmp pair None) same at.cursor, at.value ∙ ap (option_map (λ pair. pair.1)) same)
+cursor_is cmp i pairs (Some found) at =
+    let same = selected_is i pairs at.pair at.selected in
+    (subst (λ pair. PointsAt cmp pair (Some found)) same at.cursor, at.value ∙ ap (option_map (λ pair. pair.1)) same)
