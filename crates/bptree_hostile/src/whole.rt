@@ -8,7 +8,7 @@ use crate::plain::Plain;
 use std::alloc::{AllocError, Global};
 use std::cmp::Ordering;
 use std::ops::Bound;
-use sweep_bptree::map::Iter as Pairs;
+use sweep_bptree::map::{IntoKeys, IntoValues, Iter as Pairs};
 use sweep_bptree::tree::count::Count;
 use sweep_bptree::tree::{BPlusTree, InsertError, NodeStore};
 use sweep_bptree::{BPlusTreeMap, BPlusTreeSet};
@@ -51,17 +51,24 @@ fn has_halves(map: &Map, plain: &Plain) -> bool {
     well && keys.next().is_none() && values.next_back().is_none()
 }
 
-// Whether the keys of a map that is given away, and the values of another, are those of a list.
-fn gives_halves(map: Map, other: Map, plain: &Plain) -> bool {
-    let (mut keys, mut values) = (map.into_keys(), other.into_values());
-    let mut well = keys.len() == plain.len() && values.len() == plain.len();
-    let mut back = plain.len();
+// Whether the keys that are left of a map that was given away are those of a list.
+fn gives_keys(keys: &mut IntoKeys<Text, u64, Count>, plain: &Plain) -> bool {
+    let mut well = keys.len() == plain.len();
     for place in 0..plain.len() {
-        back = back.saturating_sub(1);
         well &= own_number(&keys.next()) == plain.key_at(place);
+    }
+    well && keys.next().is_none()
+}
+
+// The same of the values, from the back.
+fn gives_values(values: &mut IntoValues<Text, u64, Count>, plain: &Plain) -> bool {
+    let mut well = values.len() == plain.len();
+    let mut back = plain.len();
+    for _ in 0..plain.len() {
+        back = back.saturating_sub(1);
         well &= values.next_back() == value_at(plain, back);
     }
-    well && keys.next().is_none() && values.next().is_none()
+    well && values.next().is_none()
 }
 
 // A bound at the key of a place: of a start or an end, with the pair of its key or without it.
@@ -300,11 +307,13 @@ pub fn is_mended(alloc: Global, map: &mut Map, plain: &Plain, by_pairs: bool) ->
 
 // A map has its values again, and another with the same pairs is given away.
 fn has_them_again(alloc: Global, map: &mut Map, other: Map, plain: &Plain) -> bool {
-    let well = come_again(alloc, map, plain);
+    let mut well = come_again(alloc, map, plain);
     let Ok(third) = made(alloc, plain) else {
         return false;
     };
-    gives_halves(other, third, plain) && well
+    well &= gives_keys(&mut other.into_keys(), plain);
+    well &= gives_values(&mut third.into_values(), plain);
+    well
 }
 
 /// The pairs from a place on leave for a map of their own, and come back.

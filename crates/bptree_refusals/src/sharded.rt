@@ -41,23 +41,38 @@ fn are_four<K: Sample>(found: &[(&K, &u64)], first: u64, is_back: bool) -> bool 
 }
 
 impl<K: Sample> Sharded<K> {
-    // Two pairs on each side of the first bound: as a page, as a range, and back from a key.
+    // Two pairs on each side of the first bound, as a page.
+    fn pages(&self, alloc: Global, first: u64) -> Result<bool, AllocError> {
+        let found = self.whole.page(alloc, (first / 2) as usize, 4)?;
+        Ok(are_four(&found, first, false))
+    }
+
+    // The same as a range between two keys.
+    fn ranges(&self, alloc: Global, lo: &K, hi: &K, first: u64) -> Result<bool, AllocError> {
+        let found = self.whole.range(alloc, Some(lo), Some(hi), 9)?;
+        Ok(are_four(&found, first, false))
+    }
+
+    // The same back from a key.
+    fn goes_back(&self, alloc: Global, key: &K, last: u64) -> Result<bool, AllocError> {
+        let found = self.whole.back(alloc, key, 4)?;
+        Ok(are_four(&found, last, true))
+    }
+
+    // Two pairs on each side of the first bound, in three ways.
     fn reads(&self, alloc: Global, turn: u64) -> Result<bool, AllocError> {
         let bound = self.many / 2;
         let first = bound.saturating_sub(4);
         if turn == 0 {
-            let found = self.whole.page(alloc, (first / 2) as usize, 4)?;
-            return Ok(are_four(&found, first, false));
+            return self.pages(alloc, first);
         }
         if turn == 1 {
             let lo = K::sample(alloc, first)?;
             let hi = K::sample(alloc, bound.saturating_add(4))?;
-            let found = self.whole.range(alloc, Some(&lo), Some(&hi), 9)?;
-            return Ok(are_four(&found, first, false));
+            return self.ranges(alloc, &lo, &hi, first);
         }
         let key = K::sample(alloc, bound.saturating_add(3))?;
-        let found = self.whole.back(alloc, &key, 4)?;
-        Ok(are_four(&found, bound.saturating_add(2), true))
+        self.goes_back(alloc, &key, bound.saturating_add(2))
     }
 
     // Puts a new pair. A refusal must hand it back.
