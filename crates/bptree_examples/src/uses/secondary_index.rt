@@ -2,7 +2,8 @@
 ghost use Rattle.std.specs.Prelude.{◌≡◌, ◌≢◌, ◌⊎◌, ℕ, OnErr, OnOk, IfOk, IsTrue, None, Some};
 ghost use Rattle.std.specs.Ordering.{nat_cmp};
 ghost use Rattle.std.proofs.Common.{rules};
-ghost use Rattle.bptree_keys.specs.Contents.{del, has, put, value};
+ghost use Rattle.bptree_keys.specs.Contents.{has, put, value};
+ghost use Rattle.bptree_examples.specs.EntryMoves.{entry_of, moved};
 
 use crate::filling::filled;
 use std::alloc::{AllocError, Global};
@@ -48,7 +49,7 @@ pub fn new_index(alloc: Global, values: &[(u64, u64)]) -> Result<Index, AllocErr
 /// old entry can't be removed, the new one is taken back; where that can't be done either, it
 /// stays.
 pub fn move_entry(index: &mut Index, old: Entry, new: Entry) -> Result<(), AllocError>
-    ensures moved { OnOk result (old ≢ new → index.new ≡ del ⟦<Entry as Ord>⟧.cmp (put ⟦<Entry as Ord>⟧.cmp index.old new tt) old) }
+    ensures moved { OnOk result (old ≢ new → index.new ≡ moved ⟦<Entry as Ord>⟧.cmp tt index.old old new) }
     ensures kept { OnOk result (old ≡ new → index.new ≡ put ⟦<Entry as Ord>⟧.cmp index.old new tt) }
     ensures refused { OnErr result ((index.new ≡ index.old) ⊎ (index.new ≡ put ⟦<Entry as Ord>⟧.cmp index.old new tt)) }
 {
@@ -79,7 +80,7 @@ pub fn move_entry(index: &mut Index, old: Entry, new: Entry) -> Result<(), Alloc
 pub fn set_value(rows: &mut Rows, index: &mut Index, row: u64, now: u64) -> Result<bool, AllocError>
     ensures there { IfOk result (λ there. there ≡ has nat_cmp rows.old row) }
     ensures row { IfOk result (λ there. IsTrue there → rows.new ≡ put nat_cmp rows.old row now) }
-    ensures entry { OnOk result ((old : ℕ) → value nat_cmp rows.old row ≡ Some old → old ≢ now → index.new ≡ del ⟦<Entry as Ord>⟧.cmp (put ⟦<Entry as Ord>⟧.cmp index.old (record { value = now; row = row }) tt) (record { value = old; row = row })) }
+    ensures entry { OnOk result ((old : ℕ) → value nat_cmp rows.old row ≡ Some old → old ≢ now → index.new ≡ moved ⟦<Entry as Ord>⟧.cmp tt index.old (entry_of old row) (entry_of now row)) }
     ensures absent { OnOk result (value nat_cmp rows.old row ≡ None → index.new ≡ index.old) }
     ensures same { OnOk result (value nat_cmp rows.old row ≡ Some now → index.new ≡ index.old) }
     ensures refused { OnErr result (rows.new ≡ rows.old) }
