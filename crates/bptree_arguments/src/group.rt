@@ -198,7 +198,7 @@ impl<G: Key> GroupCount<G> {
 }
 
 /// The least and the greatest group of a list, each with its size, and the number of groups.
-#[derive(Clone, Copy)]
+#[derive(Drop)]
 pub(crate) struct Ends<'a, G> {
     pub(crate) least: &'a G,
     pub(crate) least_size: usize,

@@ -53,6 +53,12 @@ module _ {K V : Type 0} (cmp : K → K → Ordering) (total : IsTotalOrder cmp) 
   place_of_locate (p ∷ l) ascending = place_by p l ascending (place_of_locate l (sorted_tail cmp p.0 (keys_of l) ascending)) (cmp p.0 k) refl
 
 module _ {K V : Type 0} where
+  -- the value at a place
+  pub shown_at : (l : List (K × V)) (i : ℕ) (k : K) (v : V) → slice_get l i ≡ Some (k, v) → i < length l → (Some v ≡ slice_get (values_of l) i) × (i < length (values_of l))
+  shown_at [] i k v h within = absurd (omega arith)
+  shown_at (p ∷ l) zero k v h within = let same : p ≡ (k, v) = cc in (rw same refl, omega arith)
+  shown_at (p ∷ l) (suc i) k v h within = let later = shown_at l i k v h (omega arith) in (later.0, omega (arith, later.1))
+
   -- the pair at a place, and its value
   read_at : (P : K × V → Type 0) (l : List (K × V)) (i : ℕ) → IsSomeAnd (slice_get l i) P → (pair : K × V) × (slice_get l i ≡ Some pair) × (slice_get (values_of l) i ≡ Some pair.1)
   read_at P [] i found = absurd found

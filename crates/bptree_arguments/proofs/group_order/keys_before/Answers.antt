@@ -1,4 +1,5 @@
 use Rattle.std.proofs.Common.{◌≡◌, ◌+◌, ◌-◌, ◌/◌, map, drop, false, subst, arith}
+use Rattle.std.proofs.lemmas.Result.{IfOk-from_err}
 use Rattle.std.specs.List.{AllByRecursion}
 use Rattle.bptree_arguments.specs.GroupAnswers.{is_before}
 use Rattle.bptree_arguments.proofs.GroupOrderLemmas.{up_to_key, from_key}
@@ -33,3 +34,9 @@ returns g c = record {
         from_there = subst (λ n. AllByRecursion (λ x. is_before c.args.end (g.G.Ord.cmp x c.args.group.now) ≡ false) (drop n (map g.G.FromRef.group_of c.args.keys.now))) met (c.loop-low.invariant.from_there ascending);
       };
 }
+
+pub returns-in_err-of_key-clause-in_range : goal.returns-in_err-of_key-clause-in_range
+returns-in_err-of_key-clause-in_range g c = IfOk-from_err c.from_residual.result _ c.from_residual.ensures.0
+
+pub returns-in_err-of_key-clause-border : goal.returns-in_err-of_key-clause-border
+returns-in_err-of_key-clause-border g c = IfOk-from_err c.from_residual.result _ c.from_residual.ensures.0

@@ -2,6 +2,7 @@ use Rattle.std.proofs.Common.{◌≡◌, ◌+◌, ◌-◌, ◌<◌, List, [], �
 use Rattle.std.specs.Bool.{◌==◌}
 use Rattle.std.proofs.lemmas.Bool.{true≢false}
 use Rattle.std.proofs.lemmas.List.{take_all}
+use Rattle.std.proofs.lemmas.Result.{IfOk-from_err}
 use Rattle.bptree_arguments.proofs.GroupLemmas.{key_step}
 use Rattle.bptree_arguments.proofs.GroupEndsLemmas.{one_group_throughout, two_keys, first_key}
 use Rattle.bptree_arguments.proofs.group.GroupCountArgument.from_leaf.Goals as goal
@@ -31,3 +32,21 @@ returns-clause-summary g c = λ l ascending.
 
 pub returns-clause-empty : goal.returns-clause-empty
 returns-clause-empty g c = λ e. absurd (omega (arith, some_length c.args.keys.now c.if-is_empty.ensures, ap length e))
+
+pub returns-in_err-first-clause-summary : goal.returns-in_err-first-clause-summary
+returns-in_err-first-clause-summary g c = IfOk-from_err c.from_residual.result _ c.from_residual.ensures.0
+
+pub returns-in_err-first-clause-empty : goal.returns-in_err-first-clause-empty
+returns-in_err-first-clause-empty g c = λ e. absurd (omega (arith, some_length c.args.keys.now c.if-is_empty.ensures, ap length e))
+
+pub returns-in_err-last-clause-summary : goal.returns-in_err-last-clause-summary
+returns-in_err-last-clause-summary g c = IfOk-from_err c.from_residual-in_err-last.result _ c.from_residual-in_err-last.ensures.0
+
+pub returns-in_err-last-clause-empty : goal.returns-in_err-last-clause-empty
+returns-in_err-last-clause-empty g c = λ e. absurd (omega (arith, some_length c.args.keys.now c.if-is_empty.ensures, ap length e))
+
+pub returns-in-Equal-clause-empty : goal.returns-in-Equal-clause-empty
+returns-in-Equal-clause-empty g c = λ e. absurd (omega (arith, some_length c.args.keys.now c.if-is_empty.ensures, ap length e))
+
+pub bounds-keys-0 : goal.bounds-keys-0
+bounds-keys-0 g c = some_length c.args.keys.now c.if-is_empty.ensures

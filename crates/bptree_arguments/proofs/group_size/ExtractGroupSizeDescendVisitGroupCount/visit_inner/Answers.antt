@@ -27,7 +27,7 @@ returns-in-Less-cmp g c = record {
       let summary = summary_here g.G.Ord.cmp g.G.FromRef.group_of parts args summaries i c.loop-i-test.true c.index-arguments-i.result c.index-arguments-i.is in
       let ends = c.in-Some.ensures.ends _ summary in
       let down = count_down g.K.Ord.cmp g.G.Ord.cmp g.G.FromRef.group_of g.met.G.FromRef.keeps_order g.met.G.Ord.total c.args.self.now.group parts are args summaries i c.loop-i-test.true c.args.self.now.counted c.loop-i.counted (c.loop-i.invariant.sum parts are summaries) c.in-Some.ends.greatest.now c.in-Some.ends.greatest_size (ends.greatest_bound, ends.greatest_size, ends.greatest_there) above in (
-        λ l answer e. rw keys_of-flatten ((rw (c.loop-i.invariant.same, ← piece_at-keys pieces i) at e) ∙ ap (λ n. answered (Some n)) down),
+        λ l answer e. rw (keys_of-flatten, ← down) (rw (c.loop-i.invariant.same, ← piece_at-keys pieces i) at e),
         λ past. absurd (omega (arith, past, c.loop-i-test.true, AllZip-length _ args parts summaries, length-map pieces (λ p. keys_of p))),
       );
 }

@@ -27,10 +27,10 @@ returns-clause-table g c =
     rw (← c.self.view_is) (splits_by_table c.args.slot c.args.key c.args.child c.args.argument _ _ _ _ (omega (arith, full)) (omega (arith, full)) (omega (arith, full)) (omega arith) up children.kept arguments.kept children.moved arguments.moved)
 
 pub returns-clause-left : goal.returns-clause-left
-returns-clause-left g c = search rules
+returns-clause-left g c = rw (← c.self.view_is, c.insert_and_take_middle-promoted.ensures.kept, c.insert_and_cut_children.ensures.kept, c.insert_and_cut.ensures.kept) refl
 
 pub returns-clause-right : goal.returns-clause-right
-returns-clause-right g c = search rules
+returns-clause-right g c = rw (← c.self.view_is, c.insert_and_take_middle-promoted.ensures.moved, c.insert_and_cut_children.ensures.moved, c.insert_and_cut.ensures.moved) refl
 
 pub returns-clause-left_size : goal.returns-clause-left_size
 returns-clause-left_size g c = search rules
@@ -39,7 +39,7 @@ pub returns-clause-right_size : goal.returns-clause-right_size
 returns-clause-right_size g c = search rules
 
 pub returns-clause-promoted : goal.returns-clause-promoted
-returns-clause-promoted g c = search rules
+returns-clause-promoted g c = rw (← c.self.view_is) c.insert_and_take_middle-promoted.ensures.middle
 
 pub invariant_of-right : goal.invariant_of-right
 invariant_of-right g c = search rules

@@ -1,4 +1,5 @@
-use Rattle.std.proofs.Common.{◌-◌, arith}
+use Rattle.std.proofs.Common.{◌-◌, ◌+◌, arith, ap, length}
+use Rattle.std.proofs.lemmas.List.Edits.{length-remove}
 use Rattle.bptree_nodes.proofs.Inverses.{entry_taken_back, takes_from_left, takes_between, takes_from_right}
 use Rattle.bptree_nodes.proofs.inner_node.InnerNode.undo_split.Goals as goal
 
@@ -33,3 +34,59 @@ returns-clause-takes g c =
 pub returns-clause-undoes : goal.returns-clause-undoes
 returns-clause-undoes g c = λ was key child argument keys children arguments h i j.
     entry_taken_back c.args.slot _ _ _ _ _ (returns-clause-takes g c) was key child argument keys children arguments (omega arith) (omega arith) (omega arith)
+
+pub remove_at-taken-requires : goal.remove_at-taken-requires
+remove_at-taken-requires g c = omega arith
+
+pub merge_next-requires-clause-node : goal.merge_next-requires-clause-node
+merge_next-requires-clause-node g c =
+    let fits = c.len-kept.ensures.fits in
+    let children = ap (λ node. length node.children) c.remove_at-taken.ensures.after in
+    omega (arith, fits.children, children, length-remove c.args.self.now.children (c.args.slot + 1) (omega (arith, fits.children)))
+
+pub merge_next-requires-clause-right : goal.merge_next-requires-clause-right
+merge_next-requires-clause-right g c =
+    let fits = c.len-moved.ensures.fits in
+    omega (arith, rw c.deref.ensures at fits.children, c.requires.right)
+
+pub merge_next-requires-clause-fits : goal.merge_next-requires-clause-fits
+merge_next-requires-clause-fits g c =
+    let keys = ap (λ node. length node.keys) c.remove_at-taken.ensures.after in
+    omega (arith, keys, length-remove c.args.self.now.keys c.args.slot (omega arith), c.requires.most)
+
+pub pop_front-key-requires : goal.pop_front-key-requires
+pop_front-key-requires g c = rw c.deref_mut.ensures.value c.requires.right
+
+pub merge_next-requires-then-slot-kept-2-clause-node : goal.merge_next-requires-then-slot-kept-2-clause-node
+merge_next-requires-then-slot-kept-2-clause-node g c =
+    let fits = c.len-kept.ensures.fits in
+    omega (arith, fits.children, c.requires.left)
+
+pub merge_next-requires-then-slot-kept-2-clause-right : goal.merge_next-requires-then-slot-kept-2-clause-right
+merge_next-requires-then-slot-kept-2-clause-right g c =
+    let fits = c.len-moved.ensures.fits in
+    omega (arith, rw c.deref.ensures at fits.children, c.requires.right, ap length (rw c.deref_mut.ensures.value at c.pop_front-key.ensures.child))
+
+pub merge_next-requires-then-slot-kept-2-clause-fits : goal.merge_next-requires-then-slot-kept-2-clause-fits
+merge_next-requires-then-slot-kept-2-clause-fits g c = omega (arith, ap length (rw c.deref_mut.ensures.value at c.pop_front-key.ensures.key), c.requires.most)
+
+pub remove_at-taken-requires-2 : goal.remove_at-taken-requires-2
+remove_at-taken-requires-2 g c = rw c.deref_mut-2.ensures.value (omega (arith, c.requires.slot))
+
+pub merge_next-requires-2-clause-node : goal.merge_next-requires-2-clause-node
+merge_next-requires-2-clause-node g c =
+    let fits = c.len-kept.ensures.fits in
+    omega (arith, fits.children, c.requires.left)
+
+pub merge_next-requires-2-clause-right : goal.merge_next-requires-2-clause-right
+merge_next-requires-2-clause-right g c =
+    let after = rw c.deref_mut-2.ensures.value at c.remove_at-taken-2.ensures.after in
+    let fits = rw c.deref.ensures at c.len-moved.ensures.fits.children in
+    let place = c.args.slot - c.len-kept.result - 1 in
+    omega (arith, fits, c.requires.slot, ap (λ node. length node.children) after, length-remove c.args.right.value.children (place + 1) (omega (arith, fits, c.requires.slot)))
+
+pub merge_next-requires-2-clause-fits : goal.merge_next-requires-2-clause-fits
+merge_next-requires-2-clause-fits g c =
+    let after = rw c.deref_mut-2.ensures.value at c.remove_at-taken-2.ensures.after in
+    let place = c.args.slot - c.len-kept.result - 1 in
+    omega (arith, c.requires.slot, c.requires.most, ap (λ node. length node.keys) after, length-remove c.args.right.value.keys place (omega (arith, c.requires.slot)))

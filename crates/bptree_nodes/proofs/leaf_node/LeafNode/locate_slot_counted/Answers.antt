@@ -1,6 +1,7 @@
-use Rattle.std.proofs.Common.{◌≡◌, arith}
+use Rattle.std.proofs.Common.{◌≡◌, arith, ap, length}
 use Rattle.std.specs.Map.{keys_of}
 use Rattle.std.proofs.lemmas.Slice.Zip.{firsts-zip}
+use Rattle.bptree_nodes.proofs.Pairs.{length_pairs}
 use Rattle.bptree_nodes.proofs.LeafContents.{found_pair, place_of_locate}
 use Rattle.bptree_nodes.proofs.leaf_node.LeafNode.locate_slot_counted.Goals as goal
 
@@ -13,3 +14,17 @@ pub returns-clause-place : goal.returns-clause-place
 returns-clause-place g c = λ ascending.
     let keys : keys_of c.args.self.now.pairs ≡ c.deref.result.now = rw (← c.self.view_is, c.deref.ensures.value) (firsts-zip c.self.inside.keys.items c.self.inside.values.items (omega arith)) in
     rw (c.locate_counted.ensures.ascending (rw keys at ascending), ← keys) (place_of_locate g.K.Ord.cmp g.met.K.Ord.total c.args.key.now c.args.self.now.pairs ascending)
+
+pub returns-clause-in_range : goal.returns-clause-in_range
+returns-clause-in_range g c =
+    rw (← c.self.view_is, length_pairs c.self.inside.keys.items c.self.inside.values.items (omega arith)) (rw c.deref.ensures.value at c.locate_counted.ensures.in_range)
+
+pub returns-clause-ascending : goal.returns-clause-ascending
+returns-clause-ascending g c = λ ascending.
+    let keys : keys_of c.args.self.now.pairs ≡ c.deref.result.now = rw (← c.self.view_is, c.deref.ensures.value) (firsts-zip c.self.inside.keys.items c.self.inside.values.items (omega arith)) in
+    rw keys (c.locate_counted.ensures.ascending (rw keys at ascending))
+
+pub returns-clause-fits : goal.returns-clause-fits
+returns-clause-fits g c =
+    let whole = ap (λ leaf. length leaf.pairs) c.self.view_is in
+    omega (arith, whole, length_pairs c.self.inside.keys.items c.self.inside.values.items (omega arith))

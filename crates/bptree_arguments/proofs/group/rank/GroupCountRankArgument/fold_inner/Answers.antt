@@ -1,7 +1,8 @@
-use Rattle.std.proofs.Common.{◌≡◌, ◌∙◌, arith, length, refl, sym}
+use Rattle.std.proofs.Common.{◌≡◌, ◌∙◌, arith, ap, length, refl, sym}
 use Rattle.bptree_arguments.specs.GroupAnswers.{carried}
 use Rattle.std.proofs.lemmas.List.{nil_from_length}
-use Rattle.std.proofs.lemmas.Bool.{eqb-true}
+use Rattle.std.proofs.lemmas.Bool.{eqb-true, true≢false}
+use Rattle.std.proofs.lemmas.Result.{IfOk-from_err}
 use Rattle.bptree_arguments.proofs.GroupRankLemmas.{all_counted, carried_alike, more_none, more_same, no_child, none_behind, stopped}
 use Rattle.bptree_arguments.proofs.GroupSumLemmas.{all_over, none_over, over_alike, same_over, skipped_over, stopped_over}
 use Rattle.bptree_arguments.proofs.group.rank.GroupCountRankArgument.fold_inner.Goals as goal
@@ -72,3 +73,18 @@ returns-clause-capped g c =
       c.in_ok-group.ensures,
       omega (arith, c.saturating_add-count-2.ensures, carries, over, all),
     )
+
+pub returns-in_err-group-clause-carries : goal.returns-in_err-group-clause-carries
+returns-in_err-group-clause-carries g c = IfOk-from_err c.from_residual.result _ c.from_residual.ensures.0
+
+pub returns-in_err-group-clause-unchanged : goal.returns-in_err-group-clause-unchanged
+returns-in_err-group-clause-unchanged g c = λ none. absurd (true≢false (sym (rw none at c.if-is_empty.ensures)))
+
+pub returns-in_err-group-clause-capped : goal.returns-in_err-group-clause-capped
+returns-in_err-group-clause-capped g c = λ some. IfOk-from_err c.from_residual.result _ c.from_residual.ensures.0
+
+pub returns-clause-unchanged : goal.returns-clause-unchanged
+returns-clause-unchanged g c = λ none. absurd (true≢false (sym (rw none at c.if-is_empty.ensures)))
+
+pub returns-in_default-clause-unchanged : goal.returns-in_default-clause-unchanged
+returns-in_default-clause-unchanged g c = λ none. absurd (omega (arith, ap length none, c.loop-i-test.true, c.loop-i.auto.i))

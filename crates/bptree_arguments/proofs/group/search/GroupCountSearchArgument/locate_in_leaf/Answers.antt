@@ -1,3 +1,5 @@
+use Rattle.std.proofs.Common.{arith}
+use Rattle.std.proofs.lemmas.Result.{IfOk-from_err}
 use Rattle.bptree_arguments.proofs.GroupSelectLemmas.{leaf_past, leaf_other, leaf_item}
 use Rattle.bptree_arguments.proofs.group.search.GroupCountSearchArgument.locate_in_leaf.Goals as goal
 use Rattle.bptree_arguments.proofs.group.search.GroupCountSearchArgument.locate_in_leaf.Goals.{then-offset-keys+in_ok-of_key+else-is_eq, else-offset-keys}
@@ -12,3 +14,33 @@ returns-clause-selected g c = λ ascending.
       | then-offset-keys+in_ok-of_key+else-is_eq w ↦ leaf_other g.K.Ord.cmp g.G.Ord.cmp g.G.FromRef.group_of g.met.G.FromRef.keeps_order g.met.G.Ord.total c.args.query.0 c.args.keys.now ascending c.in_ok-start.start (c.in_ok-start.ensures.border ascending) c.args.query.1 w.if-offset-keys.true w.index-keys-place.result w.index-keys-place.is w.in_ok-of_key.of_key w.in_ok-of_key.ensures w.cmp.result w.cmp.ensures w.is_eq.result w.is_eq.ensures w.if-is_eq.false
       | else-offset-keys w ↦ leaf_past g.K.Ord.cmp g.G.Ord.cmp g.G.FromRef.group_of g.met.G.FromRef.keeps_order g.met.G.Ord.total c.args.query.0 c.args.keys.now ascending c.in_ok-start.start (c.in_ok-start.ensures.border ascending) c.args.query.1 w.if-offset-keys.false
     ]
+
+pub returns-in_err-start-clause-in_range : goal.returns-in_err-start-clause-in_range
+returns-in_err-start-clause-in_range g c = IfOk-from_err c.from_residual.result _ c.from_residual.ensures.0
+
+pub returns-in_err-start-clause-selected : goal.returns-in_err-start-clause-selected
+returns-in_err-start-clause-selected g c = IfOk-from_err c.from_residual.result _ c.from_residual.ensures.0
+
+pub returns-in_err-start-clause-sure : goal.returns-in_err-start-clause-sure
+returns-in_err-start-clause-sure g c = λ sure. absurd sure
+
+pub returns-in_err-of_key-clause-in_range : goal.returns-in_err-of_key-clause-in_range
+returns-in_err-of_key-clause-in_range g c = IfOk-from_err c.from_residual-in_err-of_key.result _ c.from_residual-in_err-of_key.ensures.0
+
+pub returns-in_err-of_key-clause-selected : goal.returns-in_err-of_key-clause-selected
+returns-in_err-of_key-clause-selected g c = IfOk-from_err c.from_residual-in_err-of_key.result _ c.from_residual-in_err-of_key.ensures.0
+
+pub returns-in_err-of_key-clause-sure : goal.returns-in_err-of_key-clause-sure
+returns-in_err-of_key-clause-sure g c = λ sure. absurd sure
+
+pub returns-then-is_eq-clause-in_range : goal.returns-then-is_eq-clause-in_range
+returns-then-is_eq-clause-in_range g c = λ ascending. omega (arith, c.if-offset-keys.true)
+
+pub returns-then-is_eq-clause-sure : goal.returns-then-is_eq-clause-sure
+returns-then-is_eq-clause-sure g c = λ sure. absurd sure
+
+pub returns-clause-sure : goal.returns-clause-sure
+returns-clause-sure g c = λ sure. absurd sure
+
+pub overflow_sub-keys : goal.overflow_sub-keys
+overflow_sub-keys g c = omega (arith, c.in_ok-start.ensures.in_range)

@@ -1,0 +1,33 @@
+use Rattle.std.proofs.Common.{ap, arith, length, [], ◌∷◌, ◌∙◌, append_assoc}
+use Rattle.std.proofs.lemmas.List.{length_push}
+use Rattle.bptree_nodes.proofs.inner_node.InnerNode.rotate_left.Goals as goal
+
+pub pop_front-up-requires : goal.pop_front-up-requires
+pop_front-up-requires g c = c.requires.some
+
+pub push-requires-clause-node : goal.push-requires-clause-node
+push-requires-clause-node g c = c.requires.node
+
+pub push-requires-clause-room : goal.push-requires-clause-room
+push-requires-clause-room g c = c.requires.room
+
+pub returns-clause-keys : goal.returns-clause-keys
+returns-clause-keys g c = rw (c.push.ensures, c.pop_front-up.ensures.key) (append_assoc _ (c.args.key ∷ []) _)
+
+pub returns-clause-children : goal.returns-clause-children
+returns-clause-children g c = rw (c.push.ensures, c.pop_front-up.ensures.child) (append_assoc _ (c.pop_front-up.result.1 ∷ []) _)
+
+pub returns-clause-arguments : goal.returns-clause-arguments
+returns-clause-arguments g c = rw (c.push.ensures, c.pop_front-up.ensures.argument) (append_assoc _ (c.pop_front-up.result.2 ∷ []) _)
+
+pub returns-clause-left_len : goal.returns-clause-left_len
+returns-clause-left_len g c = ap (λ node. length node.keys) c.push.ensures ∙ length_push c.args.self.now.keys c.args.key
+
+pub returns-clause-right_len : goal.returns-clause-right_len
+returns-clause-right_len g c = omega (arith, ap length c.pop_front-up.ensures.key)
+
+pub returns-clause-left : goal.returns-clause-left
+returns-clause-left g c = (c.len-3.ensures.fits, c.len.ensures.fits)
+
+pub returns-clause-right : goal.returns-clause-right
+returns-clause-right g c = (c.len-4.ensures.fits, c.len-2.ensures.fits)

@@ -1,0 +1,32 @@
+use Rattle.std.proofs.Common.{refl, arith, ap, length}
+use Rattle.std.proofs.lemmas.List.Edits.{length-remove}
+use Rattle.bptree_nodes.proofs.Pairs.{length_pairs, pair_at, remove_pair}
+use Rattle.bptree_nodes.proofs.leaf_node.LeafNode.delete_at.Goals as goal
+
+pub returns-clause-pair : goal.returns-clause-pair
+returns-clause-pair g c =
+    let keys = c.self.inside.keys.items in
+    let values = c.self.inside.values.items in
+    let within = rw (← c.self.view_is) at c.requires in
+    rw (← c.self.view_is) (pair_at keys values c.args.slot _ _ (omega arith) (omega (arith, within, length_pairs keys values (omega arith))) c.remove-key.ensures.value c.remove-value.ensures.value)
+
+pub returns-clause-after : goal.returns-clause-after
+returns-clause-after g c =
+    rw (← c.self.view_is, c.remove-key.ensures.items, c.remove-value.ensures.items, remove_pair c.self.inside.keys.items c.self.inside.values.items c.args.slot (omega arith)) refl
+
+pub remove-key-requires : goal.remove-key-requires
+remove-key-requires g c =
+    let within = rw (← c.self.view_is) at c.requires in
+    omega (arith, within, length_pairs c.self.inside.keys.items c.self.inside.values.items (omega arith))
+
+pub remove-value-requires : goal.remove-value-requires
+remove-value-requires g c =
+    let within = rw (← c.self.view_is) at c.requires in
+    omega (arith, within, length_pairs c.self.inside.keys.items c.self.inside.values.items (omega arith))
+
+pub invariant_of-self : goal.invariant_of-self
+invariant_of-self g c = (omega arith, omega arith, omega arith, omega arith)
+
+pub returns-clause-room : goal.returns-clause-room
+returns-clause-room g c =
+    omega (arith, ap (λ leaf. length leaf.pairs) (returns-clause-after g c), length-remove c.args.self.now.pairs c.args.slot c.requires, ap (λ leaf. length leaf.pairs) c.self.view_is, length_pairs c.self.inside.keys.items c.self.inside.values.items (omega arith))
