@@ -1,5 +1,5 @@
 -- Where the pairs between two bounds begin and end.
-use Rattle.std.proofs.Common.{◌≡◌, ℕ, suc, ◌+◌, ◌-◌, ◌<◌, ◌≤◌, Bool, true, false, not, ◌&&◌, List, [], ◌∷◌, ◌++◌, length, filter, take, drop, refl, sym, ap, subst, ◌∙◌, arith, Result, Ok, Err, Some, slice_get, IsSomeAnd, get_or, length-append}
+use Rattle.std.proofs.Common.{◌≡◌, ℕ, suc, ◌+◌, ◌-◌, ◌<◌, ◌≤◌, Bool, true, false, not, ◌&&◌, List, [], ◌∷◌, ◌++◌, length, filter, take, drop, refl, sym, ap, ◌∙◌, arith, Result, Ok, Err, Option, Some, None, get_or, length-append}
 use mathlib.Core.Bool.{true≢false}
 use Rattle.std.specs.declared.cmp.Ordering.{Ordering}
 use Rattle.std.specs.declared.cmp.Ordering.TheVariants.{Less, Equal, Greater}
@@ -12,8 +12,8 @@ use Rattle.std.proofs.lemmas.List.{append-nil, length-take-le}
 use Rattle.bptree_arguments.specs.GroupAnswers.{is_before}
 use Rattle.bptree_arguments.proofs.GroupOrderLemmas.{before_below, less_from}
 use Rattle.bptree_keys.specs.Contents.{IsAscending}
-use Rattle.bptree_keys.specs.Places.{AllAnswer, IsGap, IsHit, IsPlaceOf}
-use Rattle.bptree_keys.specs.Ranges.{part}
+use Rattle.bptree_keys.specs.Places.{IsGap, IsHit, IsPlaceOf}
+use Rattle.bptree_keys.specs.Ranges.{between, part}
 use Rattle.bptree_keys.specs.declared.node_id.LeafNodeId.{LeafNodeId}
 use Rattle.bptree_keys.specs.declared.node_id.NodeId.{NodeId}
 use Rattle.bptree_keys.proofs.Ascending.{less_turned}
@@ -23,15 +23,15 @@ use Rattle.bptree_nodes.specs.Inner.{Inner}
 use Rattle.bptree_nodes.specs.Leaf.{Leaf}
 use Rattle.bptree_nodes.specs.Slot.{Slots, Present}
 use Rattle.bptree_shape.specs.Leaves.{pairs_of, IsLeafFor}
-use Rattle.bptree_shape.specs.Shape.{leaf_pairs, pairs_at, IsWellShaped}
+use Rattle.bptree_shape.specs.Shape.{pairs_at, IsWellShaped}
 use Rattle.bptree_shape.proofs.Between.{cut, none_pass, each_of, all_pass}
-use Rattle.bptree_shape.proofs.Ordered.{by_cases, less_then_up, up_then_up, not_less_back}
+use Rattle.bptree_shape.proofs.Ordered.{by_cases, less_then_up}
 use Rattle.bptree_shape.proofs.Spot.{leaf_ascends, parts_of_read}
 use Rattle.bptree_descents.proofs.Beside.{found_at}
-use Rattle.bptree_ranges.specs.Bounds.{between_bounds, is_before_start, is_upto_end, may_hold}
+use Rattle.bptree_ranges.specs.Bounds.{between_bounds, end_bound, is_before_start, is_upto_end, may_hold, start_bound}
 use Rattle.bptree_ranges.specs.Ranges.{start, IsPlaceOn}
 use Rattle.bptree_ranges.proofs.Bordered.{falls_all}
-use Rattle.bptree_ranges.proofs.Ranged.{contents_ascend, size_of, start_is}
+use Rattle.bptree_ranges.proofs.Ranged.{contents_ascend, filter_fewer, size_of, start_is}
 
 not_above : (r : Ordering) → not (is_gt r) ≡ true → is_gt r ≡ false
 not_above Less e = refl
@@ -64,12 +64,12 @@ module _ {K : Type 0} {cmp : K → K → Ordering} (total : IsTotalOrder cmp) wh
   end_falls (Excluded b) x y up e = before_below total b false x y up e
   end_falls Unbounded x y up e = refl
 
-  pub between_bounds_is : {V : Type 0} (l : List (K × V)) (lo hi : Bound K) (i j : ℕ) → IsAscending cmp l → i ≡ length (filter (λ (p : K × V). is_before_start cmp lo p.0) l) → j ≡ length (filter (λ (p : K × V). is_upto_end cmp hi p.0) l) → between_bounds cmp l lo hi ≡ part l i (j - i)
+  between_bounds_is : {V : Type 0} (l : List (K × V)) (lo hi : Bound K) (i j : ℕ) → IsAscending cmp l → i ≡ length (filter (λ (p : K × V). is_before_start cmp lo p.0) l) → j ≡ length (filter (λ (p : K × V). is_upto_end cmp hi p.0) l) → between_bounds cmp l lo hi ≡ part l i (j - i)
   between_bounds_is {V} l lo hi i j ascending e f =
       rw (e, f) (cut (λ (p : K × V). is_before_start cmp lo p.0) (λ (p : K × V). is_upto_end cmp hi p.0) l (falls_all total (is_before_start cmp lo) (start_falls lo) l ascending) (falls_all total (is_upto_end cmp hi) (end_falls hi) l ascending))
 
   -- where some key can be between two bounds, what is before the start is not behind the end
-  pub held : (lo hi : Bound K) → may_hold cmp lo hi ≡ true → (k : K) → is_before_start cmp lo k ≡ true → is_upto_end cmp hi k ≡ true
+  held : (lo hi : Bound K) → may_hold cmp lo hi ≡ true → (k : K) → is_before_start cmp lo k ≡ true → is_upto_end cmp hi k ≡ true
   held Unbounded hi e k below = absurd (true≢false (sym below))
   held (Included a) Unbounded e k below = refl
   held (Included a) (Included b) e k below = before_below total b true k a (below_not_above (cmp k a) below) e
@@ -103,6 +103,16 @@ module _ {K : Type 0} {cmp : K → K → Ordering} (total : IsTotalOrder cmp) wh
   between_bounds_none {V} l lo hi e =
       none_pass (λ (p : K × V). not (is_before_start cmp lo p.0) && is_upto_end cmp hi p.0) l
       (each_of (λ (p : K × V). (not (is_before_start cmp lo p.0) && is_upto_end cmp hi p.0) ≡ false) (λ p. none_by (is_before_start cmp lo p.0) (is_upto_end cmp hi p.0) (empty lo hi e p.0)) l)
+
+-- the pairs between two keys, where they are given, are those between the bounds of these
+pub between_ends : {K V : Type 0} (cmp : K → K → Ordering) (l : List (K × V)) (lo hi : Option K) (start' end' : Bound K) → start' ≡ start_bound lo → end' ≡ end_bound hi → between_bounds cmp l start' end' ≡ between cmp l lo hi
+between_ends {K} cmp l lo hi start' end' e f = rw (e, f) (same lo hi)
+  where
+    same : (a b : Option K) → between_bounds cmp l (start_bound a) (end_bound b) ≡ between cmp l a b
+    same None None = refl
+    same None (Some b) = refl
+    same (Some a) None = refl
+    same (Some a) (Some b) = refl
 
 pub open_start : {K V : Type 0} (cmp : K → K → Ordering) (l : List (K × V)) (lo : Bound K) → lo ≡ Unbounded → length (filter (λ (p : K × V). is_before_start cmp lo p.0) l) ≡ 0
 open_start {K} {V} cmp l lo e = rw e (ap length (none_pass (λ (p : K × V). false) l (each_of (λ (p : K × V). false ≡ false) (λ p. refl) l)))
@@ -162,6 +172,13 @@ module _ {K V : Type 0} {cmp : K → K → Ordering} (total : IsTotalOrder cmp) 
       (within, parts_apart behind l (take i l) (drop i l) gap ∙ length-take-le i l within)
 
 module _ {K V A : Type 0} {cmp : K → K → Ordering} (total : IsTotalOrder cmp) (is_summary : A → List K → Type 0) (slots : Slots (Inner K A) (Leaf K V)) (h : ℕ) (root : NodeId) (shape : IsWellShaped cmp is_summary slots h root) where
+  -- where some key can be between two bounds, the pairs between them stand between the places where they begin and end
+  pub held_between : (lo hi : Bound K) (i j : ℕ) → i ≡ length (filter (λ (p : K × V). is_before_start cmp lo p.0) (pairs_at slots h root)) → j ≡ length (filter (λ (p : K × V). is_upto_end cmp hi p.0) (pairs_at slots h root)) → may_hold cmp lo hi ≡ true
+      → (i ≤ j) × (between_bounds cmp (pairs_at slots h root) lo hi ≡ part (pairs_at slots h root) i (j - i))
+  held_between lo hi i j before upto hold =
+      let few = filter_fewer (λ (p : K × V). is_before_start cmp lo p.0) (λ (p : K × V). is_upto_end cmp hi p.0) (pairs_at slots h root) (λ p. held total lo hi hold p.0) in
+      (omega (arith, few, before, upto), between_bounds_is total (pairs_at slots h root) lo hi i j (contents_ascend is_summary slots h root shape total) before upto)
+
   -- the place beside a key in the leaf for it is one in the tree
   pub place_beside : (k : K) (id : LeafNodeId) (leaf : Leaf K V) (r : Result ℕ ℕ) (behind : Bool) → IsLeafFor cmp slots h root k id → slots.leaf id.0 ≡ Present leaf → (IsAscending cmp leaf.pairs → IsPlaceOf cmp leaf.pairs k r) → length leaf.pairs ≤ 64
       → IsPlaceOn slots h root id (beside r behind) × (start slots h root id + beside r behind ≡ length (filter (λ (p : K × V). is_before behind (cmp p.0 k)) (pairs_at slots h root)))

@@ -1,5 +1,5 @@
 -- The part of the contents between two bounds, each of which takes its key in, leaves it out, or is open.
-use Rattle.std.specs.Prelude.{◌≡◌, ℕ, Bool, true, false, not, ◌&&◌, List, filter, length}
+use Rattle.std.specs.Prelude.{◌≡◌, ℕ, Bool, true, false, not, ◌&&◌, List, Option, Some, None, filter, length}
 use Rattle.std.specs.Borrow.{Bor}
 use Rattle.std.specs.declared.cmp.Ordering.{Ordering}
 use Rattle.std.specs.declared.ops.Bound.{Bound}
@@ -19,6 +19,15 @@ use Rattle.bptree_shape.specs.Shape.{pairs_at}
 -- the bound by the key that a reference shows
 abbrev pub bound_copied : {K : Type 0} → Bound (Bor K) → Bound K
 bound_copied bound = bound_map (λ key. key.now) bound
+
+-- the bound that takes its key in, or leaves it out, where the key is given
+abbrev pub start_bound : {K : Type 0} → Option K → Bound K
+start_bound None = Unbounded
+start_bound (Some lo) = Included lo
+
+abbrev pub end_bound : {K : Type 0} → Option K → Bound K
+end_bound None = Unbounded
+end_bound (Some hi) = Excluded hi
 
 module _ {K : Type 0} (cmp : K → K → Ordering) where
   -- the key comes before the start

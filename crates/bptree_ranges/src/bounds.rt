@@ -1,6 +1,7 @@
 //! Where a part of the contents begins and ends that is told by two bounds.
 ghost use Rattle.std.specs.Prelude.{◌≡◌, ◌≤◌, length};
-ghost use Rattle.bptree_ranges.specs.Bounds.{bound_copied, may_hold, IsEndPlace, IsPartInBounds, IsPlaceBeside, IsStartPlace};
+ghost use Rattle.std.specs.Option.{option_copied};
+ghost use Rattle.bptree_ranges.specs.Bounds.{bound_copied, end_bound, may_hold, start_bound, IsEndPlace, IsPartInBounds, IsPlaceBeside, IsStartPlace};
 ghost use Rattle.bptree_ranges.specs.Ranges.{IsPlaceOn};
 ghost use Rattle.bptree_shape.specs.Shape.{pairs_at, IsWellShaped};
 
@@ -37,8 +38,21 @@ pub fn part_between_bounds<S: NodeStore>(
     part_of_places(store, root, height, front, back, len, Extent::Open)
 }
 
-// Whether some key can be between two bounds.
-fn can_hold<K: Ord>(lo: Bound<&K>, hi: Bound<&K>) -> bool
+/// The bounds of the keys that are not below `lo` and are below `hi`, where they are given.
+pub(crate) fn bounds_of<'a, K>(lo: Option<&'a K>, hi: Option<&'a K>) -> (Bound<&'a K>, Bound<&'a K>)
+    ensures start { bound_copied result.0 ≡ start_bound (option_copied lo.entry) }
+    ensures end { bound_copied result.1 ≡ end_bound (option_copied hi.entry) }
+{
+    match (lo, hi) {
+        (Some(lo), Some(hi)) => (Bound::Included(lo), Bound::Excluded(hi)),
+        (Some(lo), None) => (Bound::Included(lo), Bound::Unbounded),
+        (None, Some(hi)) => (Bound::Unbounded, Bound::Excluded(hi)),
+        (None, None) => (Bound::Unbounded, Bound::Unbounded),
+    }
+}
+
+/// Whether some key can be between two bounds.
+pub(crate) fn can_hold<K: Ord>(lo: Bound<&K>, hi: Bound<&K>) -> bool
     ensures { result ≡ may_hold K.cmp (bound_copied lo.entry) (bound_copied hi.entry) }
 {
     match (lo, hi) {
@@ -50,8 +64,8 @@ fn can_hold<K: Ord>(lo: Bound<&K>, hi: Bound<&K>) -> bool
     }
 }
 
-// Where the keys begin that are not before a start: where it is open, the first of all.
-fn start_of<S: NodeStore>(
+/// Where the keys begin that are not before a start: where it is open, the first of all.
+pub(crate) fn start_of<S: NodeStore>(
     store: &S,
     root: NodeId,
     height: usize,
@@ -68,8 +82,8 @@ fn start_of<S: NodeStore>(
     }
 }
 
-// Where the keys end that are not behind an end: where it is open, behind the last of all.
-fn end_of<S: NodeStore>(
+/// Where the keys end that are not behind an end: where it is open, behind the last of all.
+pub(crate) fn end_of<S: NodeStore>(
     store: &S,
     root: NodeId,
     height: usize,

@@ -1,32 +1,39 @@
-use Rattle.std.proofs.Common.{◌≡◌, ◌+◌, ◌-◌, ◌≤◌, ◌∙◌, [], arith, ap, length, refl, subst, sym}
+use Rattle.std.proofs.Common.{◌≡◌, ◌-◌, ◌∙◌, arith, ap, sym}
 use Rattle.std.specs.Option.{option_copied}
-use Rattle.bptree_keys.specs.Ranges.{part, falls_short, stays_below}
-use Rattle.bptree_ranges.specs.Ranges.{place_on, IsSettled}
+use Rattle.bptree_keys.specs.Ranges.{part}
+use Rattle.bptree_ranges.specs.Bounds.{bound_copied}
+use Rattle.bptree_ranges.specs.Ranges.{place_on}
 use Rattle.bptree_shape.specs.Shape.{pairs_at}
-use Rattle.bptree_shape.proofs.Between.{between_is, between_none}
-use Rattle.bptree_ranges.proofs.Ranged.{contents_ascend, filter_fewer}
+use Rattle.bptree_ranges.proofs.Bounded.{between_ends, between_bounds_none, held_between}
+use Rattle.bptree_ranges.proofs.Ranged.{settled_itself}
 use Rattle.bptree_ranges.proofs.ranges.places_between.Goals as goal
 
-pub returns-then-not-are_apart : goal.returns-then-not-are_apart
-returns-then-not-are_apart g c =
+pub returns-then-not-can_hold : goal.returns-then-not-can_hold
+returns-then-not-can_hold g c =
     let slots = g.S.NodeStore.slots c.args.store.now in
     let pairs = pairs_at slots c.args.height c.args.root in
-    let i = place_on slots c.args.height c.args.root c.settled-front.result in
-    let here : IsSettled slots c.args.height c.args.root i c.settled-front.result = subst (λ n. IsSettled slots c.args.height c.args.root n c.settled-front.result) (sym c.settled-front.ensures.same) c.settled-front.ensures in
-    let none = between_none g.met.S.K.Ord.total pairs (option_copied c.args.lo) (option_copied c.args.hi) (c.are_apart.ensures.none c.if-not-are_apart.true) in
+    let at = c.settled-front.result in
+    let here = settled_itself g.S.Argument.Argument.is_summary slots c.args.height c.args.root c.requires (place_on slots c.args.height c.args.root c.start_of-first.result) at c.settled-front.ensures in
+    let ends = c.bounds_of in
+    let same = between_ends g.S.K.Ord.cmp pairs (option_copied c.args.lo) (option_copied c.args.hi) (bound_copied ends.result.0) (bound_copied ends.result.1) ends.ensures.start ends.ensures.end in
+    let none = between_bounds_none g.met.S.K.Ord.total pairs (bound_copied ends.result.0) (bound_copied ends.result.1) (sym c.can_hold.ensures ∙ c.if-not-can_hold.true) in
+    let i = place_on slots c.args.height c.args.root at in
     let gap : i - i ≡ 0 = omega arith in
-    record { front = here; back = here; rises = omega arith; pairs = none ∙ sym (ap (part pairs i) gap) }
+    record { front = here; back = here; rises = omega arith; pairs = sym same ∙ (none ∙ sym (ap (part pairs i) gap)) }
 
 pub returns : goal.returns
 returns g c =
     let slots = g.S.NodeStore.slots c.args.store.now in
-    let pairs = pairs_at slots c.args.height c.args.root in
-    let one = c.settled-front.ensures in
-    let other = c.settled-back.ensures in
-    let few = filter_fewer (λ pair. falls_short g.S.K.Ord.cmp (option_copied c.args.lo) pair.0) (λ pair. stays_below g.S.K.Ord.cmp (option_copied c.args.hi) pair.0) pairs (λ pair. c.are_apart.ensures.some c.if-not-are_apart.false pair.0) in
+    let sum = g.S.Argument.Argument.is_summary in
+    let one = c.settled-front in
+    let other = c.settled-back in
+    let ends = c.bounds_of in
+    let same = between_ends g.S.K.Ord.cmp (pairs_at slots c.args.height c.args.root) (option_copied c.args.lo) (option_copied c.args.hi) (bound_copied ends.result.0) (bound_copied ends.result.1) ends.ensures.start ends.ensures.end in
+    let held = held_between g.met.S.K.Ord.total sum slots c.args.height c.args.root c.requires (bound_copied ends.result.0) (bound_copied ends.result.1) (place_on slots c.args.height c.args.root one.result) (place_on slots c.args.height c.args.root other.result)
+    (one.ensures.same ∙ c.start_of-first.ensures.before) (other.ensures.same ∙ c.end_of-behind.ensures.before) (sym c.can_hold.ensures ∙ c.if-not-can_hold.false) in
     record {
-      front = subst (λ n. IsSettled slots c.args.height c.args.root n c.settled-front.result) (sym one.same) one;
-      back = subst (λ n. IsSettled slots c.args.height c.args.root n c.settled-back.result) (sym other.same) other;
-      rises = omega (arith, few, one.same, other.same, c.front_of-first.ensures.before, c.back_of-behind.ensures.before);
-      pairs = between_is g.met.S.K.Ord.total pairs (option_copied c.args.lo) (option_copied c.args.hi) _ _ (contents_ascend g.S.Argument.Argument.is_summary slots c.args.height c.args.root c.requires g.met.S.K.Ord.total) (one.same ∙ c.front_of-first.ensures.before) (other.same ∙ c.back_of-behind.ensures.before);
+      front = settled_itself sum slots c.args.height c.args.root c.requires (place_on slots c.args.height c.args.root c.start_of-first.result) one.result one.ensures;
+      back = settled_itself sum slots c.args.height c.args.root c.requires (place_on slots c.args.height c.args.root c.end_of-behind.result) other.result other.ensures;
+      rises = held.0;
+      pairs = sym same ∙ held.1;
     }
