@@ -1,4 +1,5 @@
 pub mod Beside
+pub mod Child
 pub mod Selected
 pub mod Slots
 pub mod Summed
