@@ -1,5 +1,5 @@
 -- The child of a tree's top that a descent goes on in.
-use Rattle.std.proofs.Common.{◌≡◌, ℕ, ◌+◌, ◌-◌, ◌<◌, ◌≤◌, List, length, Some, arith, slice_get}
+use Rattle.std.proofs.Common.{◌≡◌, ℕ, ◌+◌, ◌-◌, ◌<◌, ◌≤◌, List, length, Some, ap, arith, slice_get}
 use Rattle.std.specs.declared.cmp.Ordering.{Ordering}
 use Rattle.std.specs.Cmp.{IsTotalOrder}
 use Rattle.std.specs.List.Sorted.{IsStrictlySortedBy}
@@ -35,8 +35,11 @@ module _ {K V A : Type 0} {cmp : K → K → Ordering} (total : IsTotalOrder cmp
   separators_ascend at = node_keys total slots h id node at.subtree.stands at.read
 
   -- a number of separators is the place of a child
-  pub place_within : IsNodeAt cmp is_summary slots h top id node → (i : ℕ) → i ≤ length node.keys → i < length node.children
-  place_within at i few = omega (arith, few, node_children total slots h id node at.subtree.stands at.read)
+  pub border_within : IsSubtree cmp is_summary slots h top → top ≡ kind.Inner id → slots.inner id.0 ≡ Present node → (given : List K) (n : ℕ) → given ≡ node.keys → n ≤ length given → n < length node.children
+  border_within s is e given n are few = let at = node_at s is e in omega (arith, few, ap length are, node_children total slots h id node at.subtree.stands at.read)
+
+  pub border_child : IsSubtree cmp is_summary slots h top → top ≡ kind.Inner id → slots.inner id.0 ≡ Present node → (given : List K) (n : ℕ) → given ≡ node.keys → n ≤ length given → (child : NodeId) → slice_get node.children n ≡ Some child → IsChildAt cmp is_summary slots h top id node n child
+  border_child s is e given n are few child read = record { at = node_at s is e; within = border_within s is e given n are few; child_is = read }
 
   pub child_at : IsSubtree cmp is_summary slots h top → top ≡ kind.Inner id → slots.inner id.0 ≡ Present node → (i : ℕ) (child : NodeId) → i < length node.children → slice_get node.children i ≡ Some child → IsChildAt cmp is_summary slots h top id node i child
   child_at s is e i child within read = record { at = node_at s is e; within = within; child_is = read }

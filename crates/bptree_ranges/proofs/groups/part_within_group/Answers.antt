@@ -1,4 +1,4 @@
-use Rattle.std.proofs.Common.{◌≡◌, ◌∙◌, ◌+◌, ◌-◌, ◌<◌, ◌≤◌, length, min, ap, arith, drop, refl, subst, sym}
+use Rattle.std.proofs.Common.{◌≡◌, ◌∙◌, ◌+◌, ◌-◌, ◌<◌, length, min, ap, arith, drop, refl, subst, sym}
 use Rattle.std.proofs.lemmas.List.{length-take}
 use Rattle.bptree_arguments.specs.Groups.{of_group}
 use Rattle.bptree_keys.specs.Ranges.{part}
