@@ -1,5 +1,5 @@
 -- The way by summaries is the way of a search for the key that it finds.
-use Rattle.std.proofs.Common.{◌≡◌, ℕ, zero, suc, ◌+◌, ◌-◌, List, [], ◌∷◌, ◌++◌, length, refl, ap, subst, ◌∙◌, arith, Option, Some, None, slice_get, Result, Ok, Err, IfOk}
+use Rattle.std.proofs.Common.{◌≡◌, ℕ, zero, suc, ◌+◌, ◌-◌, ◌<◌, ◌≤◌, List, [], ◌∷◌, ◌++◌, length, refl, ap, subst, ◌∙◌, arith, Option, Some, None, slice_get, Result, Ok, Err, IfOk, length-append}
 use Rattle.std.specs.declared.cmp.Ordering.{Ordering}
 use Rattle.std.specs.Cmp.{IsTotalOrder}
 use Rattle.bptree_nodes.specs.Inner.{Inner}
@@ -23,6 +23,10 @@ use Rattle.bptree_shape.proofs.ListReads.{all_read, read_below}
 pub ok_both : {T E : Type 0} (r : Result T E) (P Q R : T → Type 0) → IfOk r P → IfOk r Q → ((x : T) → P x → Q x → R x) → IfOk r R
 ok_both (Ok x) P Q R one other so = so x one other
 ok_both (Err e) P Q R one other so = tt
+
+-- a longer path leaves room for the rest of the way
+pub room_left : {X : Type 0} (path longer : List X) (entry : X) (h : ℕ) → longer ≡ path ++ entry ∷ [] → length path + h ≤ 15 → h - 1 < h → length longer + (h - 1) ≤ 15
+room_left path longer entry h is room less = omega (arith, ap length is, length-append path (entry ∷ []), room, less)
 
 -- the child that holds a key is the one that the key leads to
 chain_to : {C K : Type 0} {cmp : K → K → Ordering} (total : IsTotalOrder cmp) (P : C → Option K → Option K → Type 0) (ks : List K) (cs : List C) (lo hi : Option K) (i : ℕ) (c : C) (k : K)
