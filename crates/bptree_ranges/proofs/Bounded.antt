@@ -27,6 +27,7 @@ use Rattle.bptree_shape.specs.Shape.{pairs_at, IsWellShaped}
 use Rattle.bptree_shape.proofs.Between.{cut, none_pass, each_of, all_pass}
 use Rattle.bptree_shape.proofs.Ordered.{by_cases, less_then_up}
 use Rattle.bptree_shape.proofs.Spot.{leaf_ascends, parts_of_read}
+use Rattle.bptree_descents.specs.Neighbours.{beside}
 use Rattle.bptree_descents.proofs.Beside.{found_at}
 use Rattle.bptree_ranges.specs.Bounds.{between_bounds, end_bound, is_before_start, is_upto_end, may_hold, start_bound}
 use Rattle.bptree_ranges.specs.Ranges.{start, IsPlaceOn}
@@ -120,12 +121,6 @@ open_start {K} {V} cmp l lo e = rw e (ap length (none_pass (λ (p : K × V). fal
 pub open_end : {K V : Type 0} (cmp : K → K → Ordering) (l : List (K × V)) (hi : Bound K) → hi ≡ Unbounded → length (filter (λ (p : K × V). is_upto_end cmp hi p.0) l) ≡ length l
 open_end {K} {V} cmp l hi e = rw e (ap length (all_pass (λ (p : K × V). true) l (λ p. refl)))
 
--- a place behind the smaller keys, or behind the key too
-abbrev pub beside : Result ℕ ℕ → Bool → ℕ
-beside (Ok i) true = i + 1
-beside (Ok i) false = i
-beside (Err i) behind = i
-
 less_passes : (behind : Bool) → is_before behind Less ≡ true
 less_passes true = refl
 less_passes false = refl
@@ -180,9 +175,9 @@ module _ {K V A : Type 0} {cmp : K → K → Ordering} (total : IsTotalOrder cmp
       (omega (arith, few, before, upto), between_bounds_is total (pairs_at slots h root) lo hi i j (contents_ascend is_summary slots h root shape total) before upto)
 
   -- the place beside a key in the leaf for it is one in the tree
-  pub place_beside : (k : K) (id : LeafNodeId) (leaf : Leaf K V) (r : Result ℕ ℕ) (behind : Bool) → IsLeafFor cmp slots h root k id → slots.leaf id.0 ≡ Present leaf → (IsAscending cmp leaf.pairs → IsPlaceOf cmp leaf.pairs k r) → length leaf.pairs ≤ 64
-      → IsPlaceOn slots h root id (beside r behind) × (start slots h root id + beside r behind ≡ length (filter (λ (p : K × V). is_before behind (cmp p.0 k)) (pairs_at slots h root)))
-  place_beside k id leaf r behind for' here found fits =
+  pub place_beside : (k : K) (id : LeafNodeId) (leaf : Leaf K V) (r : Result ℕ ℕ) (behind : Bool) (n : ℕ) → IsLeafFor cmp slots h root k id → slots.leaf id.0 ≡ Present leaf → (IsAscending cmp leaf.pairs → IsPlaceOf cmp leaf.pairs k r) → length leaf.pairs ≤ 64 → n ≡ beside r behind
+      → IsPlaceOn slots h root id n × (start slots h root id + n ≡ length (filter (λ (p : K × V). is_before behind (cmp p.0 k)) (pairs_at slots h root)))
+  place_beside k id leaf r behind n for' here found fits is =
       let at = found_at total is_summary slots h root shape k id leaf r for' here found fits in
       let in' = for'.stands in
       let ascending = leaf_ascends total slots h root id leaf in' (contents_ascend is_summary slots h root shape total) here in
@@ -195,6 +190,6 @@ module _ {K V A : Type 0} {cmp : K → K → Ordering} (total : IsTotalOrder cmp
       ∙ (filter-append t before (leaf.pairs ++ after)
       ∙ (ap (λ l. l ++ filter t (leaf.pairs ++ after)) (filter_all cmp k (is_before behind) Less before (less_passes behind) for'.smaller)
       ∙ ap (λ l. before ++ l) (filter-append t leaf.pairs after ∙ ap (λ l. filter t leaf.pairs ++ l) (filter_none cmp k (is_before behind) Greater after (greater_fails behind) for'.greater)))) in (
-        record { stands = in'; within = omega (arith, counts.0, size_of is_summary slots h root shape id leaf here) },
-        omega (arith, start_is is_summary slots h root shape id in', ap length all, length-append before (filter t leaf.pairs ++ []), length-append (filter t leaf.pairs) [], counts.1),
+        record { stands = in'; within = omega (arith, is, counts.0, size_of is_summary slots h root shape id leaf here) },
+        omega (arith, start_is is_summary slots h root shape id in', ap length all, length-append before (filter t leaf.pairs ++ []), length-append (filter t leaf.pairs) [], counts.1, is),
       )

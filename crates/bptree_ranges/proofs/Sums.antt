@@ -1,12 +1,12 @@
 -- The keys between two ends, by the children of a node that the ends lead to, and summaries of them.
-use Rattle.std.proofs.Common.{◌≡◌, ℕ, zero, suc, ◌+◌, ◌-◌, ◌<◌, ◌≤◌, ◌^◌, min, ◌⊎◌, inl, inr, Bool, true, false, not, ◌&&◌, cond, List, [], ◌∷◌, ◌++◌, length, filter, take, drop, refl, sym, ap, subst, ◌∙◌, arith, Option, Some, None, Result, IfOk, slice_get, length-append, append-nil, length-drop}
+use Rattle.std.proofs.Common.{◌≡◌, ℕ, zero, suc, ◌+◌, ◌-◌, ◌<◌, ◌≤◌, ◌^◌, min, ◌⊎◌, inl, inr, Bool, true, false, not, ◌&&◌, cond, List, [], ◌∷◌, ◌++◌, length, filter, take, drop, refl, sym, ap, subst, ◌∙◌, arith, Option, Some, None, Result, Ok, Err, IfOk, slice_get, length-append, append-nil, length-drop}
 use mathlib.Core.Bool.{true≢false}
 use Rattle.std.specs.declared.cmp.Ordering.{Ordering}
 use Rattle.std.specs.declared.cmp.Ordering.TheVariants.{Less, Equal, Greater}
 use Rattle.std.specs.Ordering.{is_lt}
 use Rattle.std.specs.Cmp.{IsTotalOrder}
 use Rattle.std.specs.List.{AllByRecursion, AllZip, slice_range, sum_by}
-use Rattle.std.specs.List.Sorted.{IsStrictlySortedBy}
+use Rattle.std.specs.List.Sorted.{IsSearchInRange, IsStrictlySortedBy}
 use Rattle.std.specs.Map.{keys_of}
 use Rattle.std.proofs.lemmas.List.{length-map, length-take-le, take-append-drop}
 use Rattle.std.proofs.lemmas.List.Elements.{filter-append}
@@ -38,7 +38,8 @@ use Rattle.bptree_shape.proofs.NodePieces.{keys-append, keys_of_flat, keys_take,
 use Rattle.bptree_shape.proofs.Ordered.{less_then_up}
 use Rattle.bptree_shape.proofs.Walk.{flat_parts, chain_inside, chain_smaller, chain_greater, tree_inside, tree_ascends}
 use Rattle.bptree_descents.specs.ByArgument.{IsSubtree}
-use Rattle.bptree_descents.proofs.Beside.{below_upto, place_within}
+use Rattle.bptree_descents.proofs.Beside.{before_place, below_upto, place_within}
+use Rattle.bptree_descents.specs.Neighbours.{beside}
 use Rattle.bptree_descents.proofs.Child.{IsChildAt, IsNodeAt, leads}
 use Rattle.bptree_descents.proofs.Summed.{pieces, summaries, whole, down, are_pieces, leaf_whole, leaf_sorted}
 
@@ -126,11 +127,15 @@ module _ {K A : Type 0} {cmp : K → K → Ordering} (is_summary : A → List K 
         subst (is_summary a) whole' (law (front ∷ back ∷ []) ps zip),
       )
 
+pub smaller_within : (place : Result ℕ ℕ) (n m : ℕ) → m ≡ beside place false → IsSearchInRange place n → m ≤ n
+smaller_within (Ok i) n m told within = omega (arith, told, within)
+smaller_within (Err i) n m told within = omega (arith, told, within)
+
 module _ {K V : Type 0} {cmp : K → K → Ordering} (total : IsTotalOrder cmp) where
   -- the place of a key is the number of smaller keys
-  pub smaller_of : (k : K) (l : List (K × V)) → IsAscending cmp l → (place : Result ℕ ℕ) → IsPlaceOf cmp l k place → place_of place ≡ length (pairs_below cmp l k)
-  smaller_of k l ascending place is =
-      sym (ap length (below_upto cmp total l ascending k place is) ∙ length-take-le (place_of place) l (place_within cmp total l ascending k place is))
+  pub smaller_of : (k : K) (l : List (K × V)) (place : Result ℕ ℕ) (n : ℕ) → n ≡ beside place false → IsAscending cmp l → IsPlaceOf cmp l k place → n ≡ length (pairs_below cmp l k)
+  smaller_of k l place n told ascending is =
+      told ∙ before_place place ∙ sym (ap length (below_upto cmp total l ascending k place is) ∙ length-take-le (place_of place) l (place_within cmp total l ascending k place is))
 
   sorted_part : (l : List (K × V)) (lo hi : Option K) → IsAscending cmp l → IsStrictlySortedBy cmp (keys_of (between cmp l lo hi))
   sorted_part l lo hi ascending =

@@ -6,6 +6,7 @@ ghost use Rattle.bptree_ranges.specs.Ranges.{IsPlaceOn};
 ghost use Rattle.bptree_shape.specs.Shape.{pairs_at, IsWellShaped};
 
 use crate::ranges::{end_of_all, no_part, part_of_places};
+use bptree_descents::neighbours::slot_beside;
 use bptree_iteration::part::{Extent, Part};
 use bptree_keys::node_id::{LeafNodeId, NodeId};
 use bptree_shape::descent::first_leaf;
@@ -113,9 +114,6 @@ fn place_beside<S: NodeStore>(
     ensures before { IsPlaceBeside S.K.cmp (S.slots store.now) height root key.now behind result }
 {
     let leaf = leaf_for(store, root, height, key);
-    match store.get_leaf(leaf).locate_slot(key) {
-        Ok(slot) if behind => (leaf, slot + 1),
-        Ok(slot) => (leaf, slot),
-        Err(slot) => (leaf, slot),
-    }
+    let place = store.get_leaf(leaf).locate_slot(key);
+    (leaf, slot_beside(place, behind))
 }

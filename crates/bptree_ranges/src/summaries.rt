@@ -9,6 +9,7 @@ ghost use Rattle.bptree_descents.specs.ByArgument.{IsSubtree};
 ghost use Rattle.bptree_ranges.specs.Counting.{CountsBelowIn, CountsShortIn, CountsSmallerIn};
 
 use bptree_arguments::argument::Argument;
+use bptree_descents::neighbours::slot_beside;
 use bptree_keys::key::Key;
 use bptree_keys::node_id::NodeId;
 use bptree_nodes::leaf_node::LeafNode;
@@ -187,10 +188,7 @@ pub(crate) fn slot_of<K: Key, V: Drop>(leaf: &LeafNode<K, V>, key: &K) -> usize
     ensures within { result ≤ length leaf.now.pairs }
     ensures smaller { CountsSmallerIn K.cmp leaf.now key.now result }
 {
-    match leaf.locate_slot(key) {
-        Ok(slot) => slot,
-        Err(slot) => slot,
-    }
+    slot_beside(leaf.locate_slot(key), false)
 }
 
 // A summary of all keys below the children of a node from one place to another, by the children's
