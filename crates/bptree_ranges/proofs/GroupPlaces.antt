@@ -1,5 +1,5 @@
 -- Where a group begins below a node, and the place of one of its pairs in a leaf.
-use Rattle.std.proofs.Common.{◌≡◌, ℕ, zero, suc, ◌+◌, ◌-◌, ◌<◌, ◌≤◌, ◌⊎◌, inl, inr, Bool, true, false, cond, List, [], ◌∷◌, ◌++◌, length, filter, take, drop, get_or, refl, sym, ap, subst, ◌∙◌, arith, Option, Some, None, length-append, length-drop, slice_get}
+use Rattle.std.proofs.Common.{◌≡◌, ℕ, zero, suc, ◌+◌, ◌-◌, ◌<◌, ◌≤◌, ◌⊎◌, inl, inr, Bool, true, false, cond, List, [], ◌∷◌, ◌++◌, length, filter, take, drop, min, get_or, refl, sym, ap, subst, ◌∙◌, arith, Option, Some, None, length-append, length-drop, slice_get}
 use Rattle.std.specs.declared.cmp.Ordering.{Ordering}
 use Rattle.std.specs.Ordering.{is_gt}
 use Rattle.std.specs.Cmp.{IsTotalOrder}
@@ -11,6 +11,7 @@ use Rattle.std.proofs.lemmas.Option.{get_or_from_slice_get}
 use Rattle.bptree_arguments.specs.GroupAnswers.{IsGroupBorder, is_before}
 use Rattle.bptree_arguments.specs.Groups.{of_group}
 use Rattle.bptree_keys.specs.Contents.{IsAscending}
+use Rattle.bptree_keys.specs.Ranges.{part}
 use Rattle.bptree_keys.specs.declared.node_id.InnerNodeId.{InnerNodeId}
 use Rattle.bptree_keys.specs.declared.node_id.LeafNodeId.{LeafNodeId}
 use Rattle.bptree_keys.specs.declared.node_id.NodeId.{NodeId}
@@ -33,7 +34,7 @@ use Rattle.bptree_descents.proofs.Child.{IsChildAt, border_child, separators_asc
 use Rattle.bptree_descents.proofs.Summed.{whole, down, leaf_sorted}
 use Rattle.bptree_ranges.proofs.Bordered.{IsCut, every_pass, cut_counts, falls_all, chain_passes, chain_fails, key_falls, of_group_is, border_cut, leaf_cut}
 use Rattle.bptree_ranges.proofs.Passing.{found, later_on, next_is}
-use Rattle.bptree_ranges.proofs.Ranged.{start_is, size_of, contents_ascend}
+use Rattle.bptree_ranges.proofs.Ranged.{start_is, size_of, contents_ascend, part_of_part}
 
 -- where those that pass a test stand first
 module _ {X : Type 0} (t : X → Bool) where
@@ -94,6 +95,17 @@ module _ {K G : Type 0} {cmp : K → K → Ordering} {R : G → G → Ordering} 
       let e = length (filter (λ (p : K × V). test true p.0) l) in
       let is = ap length (of_group_is total o group_of keeps g l b e ascending refl refl) in
       omega (arith, is, length-take (e - b) (drop b l), length-drop b l, no_more (λ (p : K × V). test true p.0) l)
+
+  -- from the place of a pair of the group to the group's end stands the rest of the group
+  pub rest_of_group : {V : Type 0} (l : List (K × V)) (at j i n : ℕ) → IsAscending cmp l → at ≡ before_group R group_of g l + i → i < length (of_group R group_of g l) → j ≡ length (filter (λ (p : K × V). test true p.0) l) → (at ≤ j) × (part l at (min n (j - at)) ≡ part (of_group R group_of g l) i n)
+  rest_of_group l at j i n ascending here more there =
+      let b = before_group R group_of g l in
+      let is = of_group_is total o group_of keeps g l b j ascending refl there in
+      let more' : i < j - b = omega (arith, more, ap length is, length-take (j - b) (drop b l)) in
+      let rest : j - at ≡ (j - b) - i = omega (arith, here, more') in (
+        omega (arith, here, more'),
+        ap (λ m. part l at (min n m)) rest ∙ (ap (λ k. part l k (min n ((j - b) - i))) here ∙ (sym (part_of_part l b (j - b) i n more') ∙ ap (λ l'. part l' i n) (sym is))),
+      )
 
   module _ {V A : Type 0} (slots : Slots (Inner K A) (Leaf K V)) (is_summary : A → List K → Type 0) where
     -- where a group begins below a node is where it begins below the child that its beginning leads to
