@@ -29,7 +29,7 @@ use Rattle.bptree_shape.proofs.Ordered.{by_cases, less_then_up}
 use Rattle.bptree_shape.proofs.Spot.{leaf_ascends, parts_of_read}
 use Rattle.bptree_descents.specs.Neighbours.{beside}
 use Rattle.bptree_descents.proofs.Beside.{found_at}
-use Rattle.bptree_ranges.specs.Bounds.{between_bounds, end_bound, is_before_start, is_upto_end, may_hold, start_bound}
+use Rattle.bptree_ranges.specs.Bounds.{between_bounds, end_bound, is_before_bound, is_before_start, is_upto_end, may_hold, start_bound}
 use Rattle.bptree_ranges.specs.Ranges.{start, IsPlaceOn}
 use Rattle.bptree_ranges.proofs.Bordered.{falls_all}
 use Rattle.bptree_ranges.proofs.Ranged.{contents_ascend, filter_fewer, size_of, start_is}
@@ -100,7 +100,7 @@ module _ {K : Type 0} {cmp : K → K → Ordering} (total : IsTotalOrder cmp) wh
   empty (Excluded a) (Included b) e k upto = before_below total a true k b (not_above (cmp k b) upto) (turned a b e)
   empty (Excluded a) (Excluded b) e k upto = before_below total a true k b (below_not_above (cmp k b) upto) (turned a b e)
 
-  pub between_bounds_none : {V : Type 0} (l : List (K × V)) (lo hi : Bound K) → may_hold cmp lo hi ≡ false → between_bounds cmp l lo hi ≡ []
+  between_bounds_none : {V : Type 0} (l : List (K × V)) (lo hi : Bound K) → may_hold cmp lo hi ≡ false → between_bounds cmp l lo hi ≡ []
   between_bounds_none {V} l lo hi e =
       none_pass (λ (p : K × V). not (is_before_start cmp lo p.0) && is_upto_end cmp hi p.0) l
       (each_of (λ (p : K × V). (not (is_before_start cmp lo p.0) && is_upto_end cmp hi p.0) ≡ false) (λ p. none_by (is_before_start cmp lo p.0) (is_upto_end cmp hi p.0) (empty lo hi e p.0)) l)
@@ -115,11 +115,21 @@ between_ends {K} cmp l lo hi start' end' e f = rw (e, f) (same lo hi)
     same (Some a) None = refl
     same (Some a) (Some b) = refl
 
-pub open_start : {K V : Type 0} (cmp : K → K → Ordering) (l : List (K × V)) (lo : Bound K) → lo ≡ Unbounded → length (filter (λ (p : K × V). is_before_start cmp lo p.0) l) ≡ 0
-open_start {K} {V} cmp l lo e = rw e (ap length (none_pass (λ (p : K × V). false) l (each_of (λ (p : K × V). false ≡ false) (λ p. refl) l)))
+module _ {K V : Type 0} (cmp : K → K → Ordering) (l : List (K × V)) where
+  -- how many pairs stand before a bound
+  pub at_included : (end' : Bool) (bound : Bound K) (k : K) (n : ℕ) → bound ≡ Included k → n ≡ length (filter (λ (p : K × V). is_before end' (cmp p.0 k)) l) → n ≡ length (filter (λ (p : K × V). is_before_bound cmp end' bound p.0) l)
+  at_included true bound k n is counted = rw is counted
+  at_included false bound k n is counted = rw is counted
 
-pub open_end : {K V : Type 0} (cmp : K → K → Ordering) (l : List (K × V)) (hi : Bound K) → hi ≡ Unbounded → length (filter (λ (p : K × V). is_upto_end cmp hi p.0) l) ≡ length l
-open_end {K} {V} cmp l hi e = rw e (ap length (all_pass (λ (p : K × V). true) l (λ p. refl)))
+  pub at_excluded : (end' : Bool) (bound : Bound K) (k : K) (n : ℕ) → bound ≡ Excluded k → n ≡ length (filter (λ (p : K × V). is_before (not end') (cmp p.0 k)) l) → n ≡ length (filter (λ (p : K × V). is_before_bound cmp end' bound p.0) l)
+  at_excluded true bound k n is counted = rw is counted
+  at_excluded false bound k n is counted = rw is counted
+
+  pub at_open_start : (end' : Bool) (bound : Bound K) (n : ℕ) → bound ≡ Unbounded → end' ≡ false → n ≡ 0 → n ≡ length (filter (λ (p : K × V). is_before_bound cmp end' bound p.0) l)
+  at_open_start end' bound n is start' none = rw (is, start') (none ∙ sym (ap length (none_pass (λ (p : K × V). false) l (each_of (λ (p : K × V). false ≡ false) (λ p. refl) l))))
+
+  pub at_open_end : (end' : Bool) (bound : Bound K) (n : ℕ) → bound ≡ Unbounded → end' ≡ true → n ≡ length l → n ≡ length (filter (λ (p : K × V). is_before_bound cmp end' bound p.0) l)
+  at_open_end end' bound n is end'' all = rw (is, end'') (all ∙ sym (ap length (all_pass (λ (p : K × V). true) l (λ p. refl))))
 
 less_passes : (behind : Bool) → is_before behind Less ≡ true
 less_passes true = refl
@@ -167,12 +177,23 @@ module _ {K V : Type 0} {cmp : K → K → Ordering} (total : IsTotalOrder cmp) 
       (within, parts_apart behind l (take i l) (drop i l) gap ∙ length-take-le i l within)
 
 module _ {K V A : Type 0} {cmp : K → K → Ordering} (total : IsTotalOrder cmp) (is_summary : A → List K → Type 0) (slots : Slots (Inner K A) (Leaf K V)) (h : ℕ) (root : NodeId) (shape : IsWellShaped cmp is_summary slots h root) where
-  -- where some key can be between two bounds, the pairs between them stand between the places where they begin and end
-  pub held_between : (lo hi : Bound K) (i j : ℕ) → i ≡ length (filter (λ (p : K × V). is_before_start cmp lo p.0) (pairs_at slots h root)) → j ≡ length (filter (λ (p : K × V). is_upto_end cmp hi p.0) (pairs_at slots h root)) → may_hold cmp lo hi ≡ true
-      → (i ≤ j) × (between_bounds cmp (pairs_at slots h root) lo hi ≡ part (pairs_at slots h root) i (j - i))
-  held_between lo hi i j before upto hold =
-      let few = filter_fewer (λ (p : K × V). is_before_start cmp lo p.0) (λ (p : K × V). is_upto_end cmp hi p.0) (pairs_at slots h root) (λ p. held total lo hi hold p.0) in
-      (omega (arith, few, before, upto), between_bounds_is total (pairs_at slots h root) lo hi i j (contents_ascend is_summary slots h root shape total) before upto)
+  -- where some key can be between two bounds, the pairs between them stand between the places where they begin and end, and
+  -- between those where these were settled; else there are none
+  module _ (lo hi : Bound K) (hold : Bool) (told : hold ≡ may_hold cmp lo hi) where
+    pub held_between : (i j : ℕ) → i ≡ length (filter (λ (p : K × V). is_before_start cmp lo p.0) (pairs_at slots h root)) → j ≡ length (filter (λ (p : K × V). is_upto_end cmp hi p.0) (pairs_at slots h root)) → hold ≡ true → (i ≤ j) × (between_bounds cmp (pairs_at slots h root) lo hi ≡ part (pairs_at slots h root) i (j - i))
+    held_between i j before upto yes' =
+        let few = filter_fewer (λ (p : K × V). is_before_start cmp lo p.0) (λ (p : K × V). is_upto_end cmp hi p.0) (pairs_at slots h root) (λ p. held total lo hi (sym told ∙ yes') p.0) in
+        (omega (arith, few, before, upto), between_bounds_is total (pairs_at slots h root) lo hi i j (contents_ascend is_summary slots h root shape total) before upto)
+
+    pub settled_between : (i j i' j' : ℕ) → i' ≡ i → j' ≡ j → i ≡ length (filter (λ (p : K × V). is_before_start cmp lo p.0) (pairs_at slots h root)) → j ≡ length (filter (λ (p : K × V). is_upto_end cmp hi p.0) (pairs_at slots h root)) → hold ≡ true
+        → (xs : List (K × V)) → between_bounds cmp (pairs_at slots h root) lo hi ≡ xs → (i' ≤ j') × (xs ≡ part (pairs_at slots h root) i' (j' - i'))
+    settled_between i j i' j' e f before upto yes' xs same = let found = held_between i' j' (e ∙ before) (f ∙ upto) yes' in (found.0, sym same ∙ found.1)
+
+    pub none_held : hold ≡ false → between_bounds cmp (pairs_at slots h root) lo hi ≡ []
+    none_held no' = between_bounds_none total (pairs_at slots h root) lo hi (sym told ∙ no')
+
+    pub none_settled : hold ≡ false → (xs : List (K × V)) → between_bounds cmp (pairs_at slots h root) lo hi ≡ xs → (i : ℕ) → xs ≡ part (pairs_at slots h root) i (i - i)
+    none_settled no' xs same i = let gap : i - i ≡ 0 = omega arith in sym same ∙ (none_held no' ∙ sym (ap (part (pairs_at slots h root) i) gap))
 
   -- the place beside a key in the leaf for it is one in the tree
   pub place_beside : (k : K) (id : LeafNodeId) (leaf : Leaf K V) (r : Result ℕ ℕ) (behind : Bool) (n : ℕ) → IsLeafFor cmp slots h root k id → slots.leaf id.0 ≡ Present leaf → (IsAscending cmp leaf.pairs → IsPlaceOf cmp leaf.pairs k r) → length leaf.pairs ≤ 64 → n ≡ beside r behind

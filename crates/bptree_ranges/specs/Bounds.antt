@@ -42,6 +42,11 @@ module _ {K : Type 0} (cmp : K → K → Ordering) where
   is_upto_end (Excluded hi) k = is_lt (cmp k hi)
   is_upto_end Unbounded k = true
 
+  -- the key stands before the end, or else before the start
+  abbrev pub is_before_bound : Bool → Bound K → K → Bool
+  is_before_bound true hi k = is_upto_end hi k
+  is_before_bound false lo k = is_before_start lo k
+
   -- the pairs whose key is neither before the start nor behind the end
   abbrev pub between_bounds : {V : Type 0} → List (K × V) → Bound K → Bound K → List (K × V)
   between_bounds l lo hi = filter (λ pair. not (is_before_start lo pair.0) && is_upto_end hi pair.0) l
@@ -61,12 +66,9 @@ module _ {K V A : Type 0} (cmp : K → K → Ordering) (slots : Slots (Inner K A
   abbrev pub IsPartInBounds : Bound (Bor K) → Bound (Bor K) → Part → Type 0
   IsPartInBounds lo hi p = IsPart slots height root p (between_bounds cmp (pairs_at slots height root) (bound_copied lo) (bound_copied hi))
 
-  -- before the place stand the pairs that come before a start, or that do not come behind an end
-  abbrev pub IsStartPlace : Bound (Bor K) → LeafNodeId × ℕ → Type 0
-  IsStartPlace lo at = place_on slots height root at ≡ length (filter (λ pair. is_before_start cmp (bound_copied lo) pair.0) (pairs_at slots height root))
-
-  abbrev pub IsEndPlace : Bound (Bor K) → LeafNodeId × ℕ → Type 0
-  IsEndPlace hi at = place_on slots height root at ≡ length (filter (λ pair. is_upto_end cmp (bound_copied hi) pair.0) (pairs_at slots height root))
+  -- before the place stand the pairs that do not come behind an end, or else those that come before a start
+  abbrev pub IsBoundPlace : Bool → Bound (Bor K) → LeafNodeId × ℕ → Type 0
+  IsBoundPlace end bound at = place_on slots height root at ≡ length (filter (λ pair. is_before_bound cmp end (bound_copied bound) pair.0) (pairs_at slots height root))
 
   -- or that are smaller than a key, and the one that equals it where the place is to be behind that
   abbrev pub IsPlaceBeside : K → Bool → LeafNodeId × ℕ → Type 0

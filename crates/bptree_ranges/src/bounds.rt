@@ -1,7 +1,7 @@
 //! Where a part of the contents begins and ends that is told by two bounds.
 ghost use Rattle.std.specs.Prelude.{◌≡◌, ◌≤◌, length};
 ghost use Rattle.std.specs.Option.{option_copied};
-ghost use Rattle.bptree_ranges.specs.Bounds.{bound_copied, end_bound, may_hold, start_bound, IsEndPlace, IsPartInBounds, IsPlaceBeside, IsStartPlace};
+ghost use Rattle.bptree_ranges.specs.Bounds.{bound_copied, end_bound, may_hold, start_bound, IsBoundPlace, IsPartInBounds, IsPlaceBeside};
 ghost use Rattle.bptree_ranges.specs.Ranges.{IsPlaceOn};
 ghost use Rattle.bptree_shape.specs.Shape.{pairs_at, IsWellShaped};
 
@@ -31,11 +31,11 @@ pub fn part_between_bounds<S: NodeStore>(
     requires fits { length (pairs_at (S.slots store.now) height root) ≤ len }
     ensures { IsPartInBounds S.K.cmp (S.slots store.now) height root lo.entry hi.entry result }
 {
-    let front = start_of(store, root, height, lo);
+    let front = place_of_bound(store, root, height, lo, false);
     if !can_hold(lo, hi) {
         return no_part(front);
     }
-    let back = end_of(store, root, height, hi);
+    let back = place_of_bound(store, root, height, hi, true);
     part_of_places(store, root, height, front, back, len, Extent::Open)
 }
 
@@ -65,39 +65,24 @@ pub(crate) fn can_hold<K: Ord>(lo: Bound<&K>, hi: Bound<&K>) -> bool
     }
 }
 
-/// Where the keys begin that are not before a start: where it is open, the first of all.
-pub(crate) fn start_of<S: NodeStore>(
+/// Where the keys end that are not behind an end, or else where those begin that are not before a
+/// start. Where the bound is open, that is behind the last of all, or at the first.
+pub(crate) fn place_of_bound<S: NodeStore>(
     store: &S,
     root: NodeId,
     height: usize,
-    lo: Bound<&S::K>,
+    bound: Bound<&S::K>,
+    end: bool,
 ) -> (LeafNodeId, usize)
     requires { IsWellShaped S.K.cmp S.Argument.is_summary (S.slots store.now) height root }
     ensures place { IsPlaceOn (S.slots store.now) height root result.0 result.1 }
-    ensures before { IsStartPlace S.K.cmp (S.slots store.now) height root lo.entry result }
+    ensures before { IsBoundPlace S.K.cmp (S.slots store.now) height root end bound.entry result }
 {
-    match lo {
-        Bound::Included(lo) => place_beside(store, root, height, lo, false),
-        Bound::Excluded(lo) => place_beside(store, root, height, lo, true),
+    match bound {
+        Bound::Included(key) => place_beside(store, root, height, key, end),
+        Bound::Excluded(key) => place_beside(store, root, height, key, !end),
+        Bound::Unbounded if end => end_of_all(store, root, height),
         Bound::Unbounded => (first_leaf(store, root, height), 0),
-    }
-}
-
-/// Where the keys end that are not behind an end: where it is open, behind the last of all.
-pub(crate) fn end_of<S: NodeStore>(
-    store: &S,
-    root: NodeId,
-    height: usize,
-    hi: Bound<&S::K>,
-) -> (LeafNodeId, usize)
-    requires { IsWellShaped S.K.cmp S.Argument.is_summary (S.slots store.now) height root }
-    ensures place { IsPlaceOn (S.slots store.now) height root result.0 result.1 }
-    ensures before { IsEndPlace S.K.cmp (S.slots store.now) height root hi.entry result }
-{
-    match hi {
-        Bound::Included(hi) => place_beside(store, root, height, hi, true),
-        Bound::Excluded(hi) => place_beside(store, root, height, hi, false),
-        Bound::Unbounded => end_of_all(store, root, height),
     }
 }
 

@@ -3,7 +3,7 @@ ghost use Rattle.std.specs.Prelude.{◌≡◌, ◌<◌, ◌≤◌, ◌^◌, IfOk
 ghost use Rattle.bptree_ranges.specs.Ranges.{empty_at, IsPlaceOn, AreInOrder, HoldsBetween, IsEndOfAll, IsPartBetween, IsPartFrom, IsPartUpTo, IsSelectedPart, Settles, TellsBetween};
 ghost use Rattle.bptree_shape.specs.Shape.{pairs_at, IsWellShaped};
 
-use crate::bounds::{bounds_of, can_hold, end_of, part_between_bounds, start_of};
+use crate::bounds::{bounds_of, can_hold, part_between_bounds, place_of_bound};
 use bptree_arguments::argument::SearchArgument;
 use bptree_descents::by_argument::find_by_argument;
 use bptree_iteration::part::{Extent, Part};
@@ -49,12 +49,12 @@ pub fn places_between<S: NodeStore>(
     ensures pairs { HoldsBetween S.K.cmp (S.slots store.now) height root lo.entry hi.entry result }
 {
     let (start, end) = bounds_of(lo, hi);
-    let first = start_of(store, root, height, start);
+    let first = place_of_bound(store, root, height, start, false);
     let front = settled(store, root, height, first);
     if !can_hold(start, end) {
         return (front, front);
     }
-    let behind = end_of(store, root, height, end);
+    let behind = place_of_bound(store, root, height, end, true);
     let back = settled(store, root, height, behind);
     (front, back)
 }

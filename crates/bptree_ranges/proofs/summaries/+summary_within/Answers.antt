@@ -5,13 +5,11 @@ use Rattle.bptree_ranges.proofs.summaries.+summary_within.Goals as goal
 
 pub summary_within-requires : goal.summary_within-requires
 summary_within-requires g t c κs within =
-    let total = g.met.S.K.Ord.total in
-    let sum = g.S.Argument.Argument.is_summary in
     let slots = g.S.NodeStore.slots c.args.store.now in
     let at = c.locate_child-from in
-    let there = child_at total sum slots c.args.height c.args.id c.in-Inner.inner c.get_inner-node.result.now c.requires.subtree c.in-Inner.is c.get_inner-node.ensures at.result.0 at.result.1 at.ensures.in_range at.ensures.child in (
-      omega (arith, one_down total sum slots c.args.height c.args.id c.in-Inner.inner c.get_inner-node.result.now at.result.0 at.result.1 there),
-      (within.0, (within.1.0, (within.1.1.0, (within.1.1.1, (below total sum slots c.args.height c.args.id c.in-Inner.inner c.get_inner-node.result.now at.result.0 at.result.1 there, c.requires.apart))))),
+    let there = child_at g.met.S.K.Ord.total g.S.Argument.Argument.is_summary slots c.args.height c.args.id c.in-Inner.inner c.get_inner-node.result.now c.requires.subtree c.in-Inner.is c.get_inner-node.ensures at.result.0 at.result.1 at.ensures.in_range at.ensures.child in (
+      omega (arith, one_down g.met.S.K.Ord.total g.S.Argument.Argument.is_summary slots c.args.height c.args.id c.in-Inner.inner c.get_inner-node.result.now at.result.0 at.result.1 there),
+      (within.0, (within.1.0, (within.1.1.0, (within.1.1.1, (below g.met.S.K.Ord.total g.S.Argument.Argument.is_summary slots c.args.height c.args.id c.in-Inner.inner c.get_inner-node.result.now at.result.0 at.result.1 there, c.requires.apart))))),
     )
 
 pub returns-then-from-to : goal.returns-then-from-to
