@@ -18,6 +18,11 @@ returns-then-below g t c =
     rw c.if-below.true
     (leaf_node g.met.S.K.Ord.total g.S.Argument.Argument.is_summary (g.S.NodeStore.slots c.args.store.now) c.args.height c.args.id c.in-Leaf.leaf c.get_leaf-node.result.now c.requires c.in-Leaf.is c.get_leaf-node.ensures None (Some c.args.key.now) c.summary_in_leaf.result c.summary_in_leaf.ensures)
 
+pub returns-else-below : goal.returns-else-below
+returns-else-below g t c =
+    rw c.if-below.false
+    (leaf_node g.met.S.K.Ord.total g.S.Argument.Argument.is_summary (g.S.NodeStore.slots c.args.store.now) c.args.height c.args.id c.in-Leaf.leaf c.get_leaf-node.result.now c.requires c.in-Leaf.is c.get_leaf-node.ensures (Some c.args.key.now) None c.summary_in_leaf-else-below.result c.summary_in_leaf-else-below.ensures)
+
 pub returns-in_ok-front-in-Inner : goal.returns-in_ok-front-in-Inner
 returns-in_ok-front-in-Inner g t c =
     let at = c.locate_child-place in

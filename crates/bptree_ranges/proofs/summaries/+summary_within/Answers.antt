@@ -1,6 +1,6 @@
-use Rattle.std.proofs.Common.{arith, refl, ◌+◌}
+use Rattle.std.proofs.Common.{arith, refl, Some, ◌+◌}
 use Rattle.bptree_descents.proofs.Child.{child_at, below, one_down, tree_below}
-use Rattle.bptree_ranges.proofs.Sums.{within_node, one_node}
+use Rattle.bptree_ranges.proofs.Sums.{leaf_node, within_node, one_node}
 use Rattle.bptree_ranges.proofs.summaries.+summary_within.Goals as goal
 
 pub summary_within-requires : goal.summary_within-requires
@@ -11,6 +11,10 @@ summary_within-requires g t c κs within =
       omega (arith, one_down g.met.S.K.Ord.total g.S.Argument.Argument.is_summary slots c.args.height c.args.id c.in-Inner.inner c.get_inner-node.result.now at.result.0 at.result.1 there),
       (within.0, (within.1.0, (within.1.1.0, (within.1.1.1, (below g.met.S.K.Ord.total g.S.Argument.Argument.is_summary slots c.args.height c.args.id c.in-Inner.inner c.get_inner-node.result.now at.result.0 at.result.1 there, c.requires.apart))))),
     )
+
+pub returns-in-Leaf : goal.returns-in-Leaf
+returns-in-Leaf g t c =
+    leaf_node g.met.S.K.Ord.total g.S.Argument.Argument.is_summary (g.S.NodeStore.slots c.args.store.now) c.args.height c.args.id c.in-Leaf.leaf c.get_leaf.result.now c.requires.subtree c.in-Leaf.is c.get_leaf.ensures (Some c.args.lo.now) (Some c.args.hi.now) c.summary_in_leaf.result c.summary_in_leaf.ensures
 
 pub returns-then-from-to : goal.returns-then-from-to
 returns-then-from-to g t c =
