@@ -1,20 +1,20 @@
-use Rattle.std.proofs.Common.{arith}
+use Rattle.std.proofs.Common.{arith, refl}
 use Rattle.bptree_descents.proofs.Child.{below, one_down}
 use Rattle.bptree_descents.proofs.Queried.{found_below, leaf_none, leaf_some, nowhere, query_child, query_within}
 use Rattle.bptree_descents.proofs.by_argument.+find_by_argument.Goals as goal
 
-pub child_id-child-requires : goal.child_id-child-requires
-child_id-child-requires g t c =
-    query_within g.met.S.K.Ord.total g.S.Argument.Argument.is_summary (g.S.NodeStore.slots c.args.store.now) g.S.Argument.SearchArgument.selects c.args.query c.args.id c.in-Inner.inner c.get_inner-node.result.now c.arguments.result.now c.in_ok-locate_in_inner-in-Inner.field-0 c.in-Some-2.place c.in-Some-2.next
-    c.args.height c.requires c.in-Inner.is c.get_inner-node.ensures c.arguments.ensures.value c.in_ok-locate_in_inner-in-Inner.ensures.leads c.in-Some-2.is
+pub child_id-requires : goal.child_id-requires
+child_id-requires g t c =
+    query_within g.met.S.K.Ord.total g.S.Argument.Argument.is_summary (g.S.NodeStore.slots c.args.store.now) g.S.Argument.SearchArgument.selects c.args.query c.args.id c.in-Inner.inner c.get_inner-node.result.now c.get_inner-node.result.now.arguments c.in_ok-lead_on-in-Inner.field-0 c.in-Some-2.place c.in-Some-2.next
+    c.args.height c.requires c.in-Inner.is c.get_inner-node.ensures refl c.in_ok-lead_on-in-Inner.ensures.leads c.in-Some-2.is
 
 pub find_by_argument-requires : goal.find_by_argument-requires
 find_by_argument-requires g t c κs within =
     let total = g.met.S.K.Ord.total in
     let sum = g.S.Argument.Argument.is_summary in
     let slots = g.S.NodeStore.slots c.args.store.now in
-    let there = query_child total sum slots g.S.Argument.SearchArgument.selects c.args.query c.args.id c.in-Inner.inner c.get_inner-node.result.now c.arguments.result.now c.in_ok-locate_in_inner-in-Inner.field-0 c.in-Some-2.place c.in-Some-2.next c.args.height c.requires c.in-Inner.is c.get_inner-node.ensures c.arguments.ensures.value c.in_ok-locate_in_inner-in-Inner.ensures.leads c.in-Some-2.is c.child_id-child.result c.child_id-child.ensures in
-    (omega (arith, one_down total sum slots c.args.height c.args.id c.in-Inner.inner c.get_inner-node.result.now c.in-Some-2.place c.child_id-child.result there), (within.0, (within.1.0, (within.1.1.0, (within.1.1.1.0, (within.1.1.1.1, below total sum slots c.args.height c.args.id c.in-Inner.inner c.get_inner-node.result.now c.in-Some-2.place c.child_id-child.result there))))))
+    let there = query_child total sum slots g.S.Argument.SearchArgument.selects c.args.query c.args.id c.in-Inner.inner c.get_inner-node.result.now c.get_inner-node.result.now.arguments c.in_ok-lead_on-in-Inner.field-0 c.in-Some-2.place c.in-Some-2.next c.args.height c.requires c.in-Inner.is c.get_inner-node.ensures refl c.in_ok-lead_on-in-Inner.ensures.leads c.in-Some-2.is c.child_id.result c.child_id.ensures in
+    (omega (arith, one_down total sum slots c.args.height c.args.id c.in-Inner.inner c.get_inner-node.result.now c.in-Some-2.place c.child_id.result there), (within.0, (within.1.0, (within.1.1.0, (within.1.1.1.0, (within.1.1.1.1, below total sum slots c.args.height c.args.id c.in-Inner.inner c.get_inner-node.result.now c.in-Some-2.place c.child_id.result there))))))
 
 pub returns-in-None-clause-selected : goal.returns-in-None-clause-selected
 returns-in-None-clause-selected g t c =
@@ -26,9 +26,9 @@ returns-in-Some-clause-selected g t c =
 
 pub returns-in-None-2-clause-selected : goal.returns-in-None-2-clause-selected
 returns-in-None-2-clause-selected g t c =
-    nowhere g.met.S.K.Ord.total g.S.Argument.Argument.is_summary (g.S.NodeStore.slots c.args.store.now) g.S.Argument.SearchArgument.selects c.args.query c.args.id c.in-Inner.inner c.get_inner-node.result.now c.arguments.result.now c.in_ok-locate_in_inner-in-Inner.field-0 c.args.height c.requires c.in-Inner.is c.get_inner-node.ensures c.arguments.ensures.value c.in_ok-locate_in_inner-in-Inner.ensures.leads c.in-None-2.is
+    nowhere g.met.S.K.Ord.total g.S.Argument.Argument.is_summary (g.S.NodeStore.slots c.args.store.now) g.S.Argument.SearchArgument.selects c.args.query c.args.id c.in-Inner.inner c.get_inner-node.result.now c.get_inner-node.result.now.arguments c.in_ok-lead_on-in-Inner.field-0 c.args.height c.requires c.in-Inner.is c.get_inner-node.ensures refl c.in_ok-lead_on-in-Inner.ensures.leads c.in-None-2.is
 
 pub returns-in-Some-2-clause-selected : goal.returns-in-Some-2-clause-selected
 returns-in-Some-2-clause-selected g t c =
-    found_below g.met.S.K.Ord.total g.S.Argument.Argument.is_summary (g.S.NodeStore.slots c.args.store.now) g.S.Argument.SearchArgument.selects c.args.query c.args.id c.in-Inner.inner c.get_inner-node.result.now c.arguments.result.now c.in_ok-locate_in_inner-in-Inner.field-0 c.in-Some-2.place c.in-Some-2.next
-    c.args.height c.requires c.in-Inner.is c.get_inner-node.ensures c.arguments.ensures.value c.in_ok-locate_in_inner-in-Inner.ensures.leads c.in-Some-2.is c.child_id-child.result c.child_id-child.ensures c.find_by_argument.result c.find_by_argument.ensures.selected
+    found_below g.met.S.K.Ord.total g.S.Argument.Argument.is_summary (g.S.NodeStore.slots c.args.store.now) g.S.Argument.SearchArgument.selects c.args.query c.args.id c.in-Inner.inner c.get_inner-node.result.now c.get_inner-node.result.now.arguments c.in_ok-lead_on-in-Inner.field-0 c.in-Some-2.place c.in-Some-2.next
+    c.args.height c.requires c.in-Inner.is c.get_inner-node.ensures refl c.in_ok-lead_on-in-Inner.ensures.leads c.in-Some-2.is c.child_id.result c.child_id.ensures c.find_by_argument.result c.find_by_argument.ensures.selected
