@@ -1,5 +1,7 @@
 -- What stands beside the place of a key in a tree.
-use Rattle.std.proofs.Common.{◌≡◌, ℕ, zero, suc, ◌+◌, ◌-◌, ◌<◌, ◌≤◌, Bool, true, false, List, [], ◌∷◌, ◌++◌, length, take, drop, refl, sym, ap, subst, ◌∙◌, arith, Option, Some, None, Result, Ok, Err, append_assoc, append-nil, length-append, slice_get, IsSomeAnd}
+use Rattle.std.proofs.Common.{◌≡◌, ℕ, zero, suc, ◌-◌, ◌<◌, ◌≤◌, Bool, true, false, List, [], ◌∷◌, ◌++◌, length, take, drop, refl, sym, ap, subst, ◌∙◌, arith, Option, Some, None, Result, Ok, Err, append_assoc, append-nil, length-append, slice_get, IsSomeAnd}
+use mathlib.Core.Bool.{true≢false}
+use Rattle.std.proofs.lemmas.List.{drop_all}
 use Rattle.std.specs.declared.cmp.Ordering.{Ordering}
 use Rattle.std.specs.declared.cmp.Ordering.TheVariants.{Equal}
 use Rattle.std.specs.Cmp.{IsTotalOrder}
@@ -25,7 +27,7 @@ use Rattle.bptree_nodes.specs.LeafResults.{place_of}
 use Rattle.bptree_nodes.specs.Slot.{Slot, Slots, Present}
 use Rattle.bptree_stores.specs.Hint.{HoldsKey}
 use Rattle.bptree_shape.specs.Leaves.{pairs_of, StandsIn, IsLeafFor}
-use Rattle.bptree_descents.specs.Neighbours.{beside, IsPlaceAt, leaf_pairs_of}
+use Rattle.bptree_descents.specs.Neighbours.{beside, first_from, IsPlaceAt, leaf_pairs_of}
 use Rattle.bptree_shape.specs.Shape.{leaf_pairs, leaf_prev, leaf_next, pairs_at, AreLinked, IsTree, IsWellShaped, root_least}
 use Rattle.bptree_shape.proofs.Ends.{alone, leaves_have, get_right}
 use Rattle.bptree_shape.proofs.Hinted.{first_or, last_or, hinted, linked_next, linked_prev}
@@ -89,6 +91,21 @@ module _ {K V A : Type 0} (slots : Slots (Inner K A) (Leaf K V)) where
   first_behind xs [] all = refl
   first_behind [] (y ∷ ys) all = get_left (leaf_pairs (slots.leaf y.0)) (pairs_of slots ys) all.0
   first_behind (x ∷ xs) (y ∷ ys) all = refl
+
+  -- the first pair from a place of a leaf on, where the leaf has one there, or else by the next leaf
+  pub first_here : (leaf : Leaf K V) (from : ℕ) (pair : K × V) → slice_get leaf.pairs from ≡ Some pair → Some pair ≡ first_from slots leaf from
+  first_here leaf from pair read = sym (read_on leaf.pairs from read)
+    where
+      read_on : (xs : List (K × V)) (n : ℕ) → slice_get xs n ≡ Some pair → slice_get (drop n xs ++ leaf_pairs_of slots leaf.next) 0 ≡ Some pair
+      read_on [] n read = cc
+      read_on (x ∷ xs) zero read = read
+      read_on (x ∷ xs) (suc n) read = read_on xs n read
+
+  pub first_after : (leaf : Leaf K V) (from : ℕ) (link : Option LeafNodeId) (found : Option (K × V)) → (from < length leaf.pairs → false ≡ true) → link ≡ leaf.next → found ≡ slice_get (leaf_pairs_of slots link) 0 → found ≡ first_from slots leaf from
+  first_after leaf from link found none is read =
+      let never : from < length leaf.pairs → ⊥ = λ less. true≢false (sym (none less)) in
+      let past : length leaf.pairs ≤ from = omega (arith, never) in
+      read ∙ (ap (λ o. slice_get (leaf_pairs_of slots o) 0) is ∙ sym (ap (λ xs. slice_get (xs ++ leaf_pairs_of slots leaf.next) 0) (drop_all from leaf.pairs past)))
 
   -- the last pair before a leaf is the last of the leaf before it
   last_among : (x : LeafNodeId) (xs : List LeafNodeId) (ys : List (K × V)) → AllByRecursion HasPair (x ∷ xs)

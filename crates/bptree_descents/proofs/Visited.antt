@@ -111,7 +111,7 @@ module _ {K V A W R : Type 0} {cmp : K → K → Ordering} (total : IsTotalOrder
 
   -- what a visitor answers at a leaf
   pub at_leaf : (visitor : W) (keys : List K) (values : List V) (answer : Option R) → ((pairs : List (K × V)) → keys_of pairs ≡ keys → values_of pairs ≡ values → IsStrictlySortedBy cmp keys → answers visitor pairs (answered answer))
-      → (h : ℕ) (id : LeafNodeId) (node : Leaf K V) → IsSubtree cmp is_summary slots h (kind.Leaf id) → slots.leaf id.0 ≡ Present node → keys ≡ keys_of node.pairs → values ≡ values_of node.pairs → answers visitor (pairs_at slots h (kind.Leaf id)) (answered answer)
-  at_leaf visitor keys values answer clause h id node s e is are =
-      subst (λ l. answers visitor l (answered answer)) (sym (leaf_whole total is_summary slots h id node s e))
-      (clause node.pairs (sym is) (sym are) (subst (IsStrictlySortedBy cmp) (sym is) (leaf_sorted total is_summary slots h id node s e)))
+      → (h : ℕ) (top : NodeId) (id : LeafNodeId) (node : Leaf K V) → IsSubtree cmp is_summary slots h top → top ≡ kind.Leaf id → slots.leaf id.0 ≡ Present node → keys ≡ keys_of node.pairs → values ≡ values_of node.pairs → answers visitor (pairs_at slots h top) (answered answer)
+  at_leaf visitor keys values answer clause h top id node s top_is e is are =
+      let s' : IsSubtree cmp is_summary slots h (kind.Leaf id) = rw top_is at s in
+      rw (top_is, leaf_whole total is_summary slots h id node s' e) (clause node.pairs (sym is) (sym are) (rw is (leaf_sorted total is_summary slots h id node s' e)))

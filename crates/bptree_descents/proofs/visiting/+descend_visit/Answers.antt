@@ -1,6 +1,6 @@
 use Rattle.std.proofs.Common.{ap, arith, length, ◌≤◌}
 use Rattle.bptree_descents.proofs.Child.{below, border_child, border_within, one_down}
-use Rattle.bptree_descents.proofs.Visited.{ended, told, lost, went}
+use Rattle.bptree_descents.proofs.Visited.{at_leaf, ended, told, lost, went}
 use Rattle.bptree_descents.proofs.visiting.+descend_visit.Goals as goal
 
 pub returns-in-Ok-Cancel : goal.returns-in-Ok-Cancel
@@ -37,3 +37,8 @@ pub returns : goal.returns
 returns g t c =
     went g.met.S.K.Ord.total g.S.Argument.Argument.is_summary (g.S.NodeStore.slots c.args.store.now) g.W.DescendVisit.answers (length c.keys-in-Inner.result.now) c.arguments.result.now c.args.visitor c.visit_inner.new.self c.in-Ok-GoDown.field-0 c.in-Ok-GoDown.ensures.step c.args.id c.in-Inner.inner c.get_inner-node.result.now (ap length c.keys-in-Inner.ensures.value) c.arguments.ensures.value c.in-Ok-GoDown.place c.child_id-child.result c.args.height c.requires c.in-Inner.is c.get_inner-node.ensures c.in-Ok-GoDown.field-0-is
     (omega (arith, c.len.ensures.value, c.if-place-len.false)) c.child_id-child.ensures c.descend_visit.result c.descend_visit.ensures
+
+pub returns-in-Leaf : goal.returns-in-Leaf
+returns-in-Leaf g t c =
+    at_leaf g.met.S.K.Ord.total g.S.Argument.Argument.is_summary (g.S.NodeStore.slots c.args.store.now) g.W.DescendVisit.answers c.args.visitor c.keys.result.now c.values.result.now c.in-Ok.answer c.in-Ok.ensures.answer c.args.height c.args.id c.in-Leaf.leaf c.get_leaf-node.result.now c.requires c.in-Leaf.is c.get_leaf-node.ensures
+    c.keys.ensures.value c.values.ensures.value
