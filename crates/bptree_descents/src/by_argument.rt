@@ -119,6 +119,9 @@ where
     rank_below(store, root, height, k, rank)
 }
 
+// A rank, `Ok` where the key is present.
+type RankResult<R> = Result<R, R>;
+
 // The same below a node, carried on from the rank that stands for the keys before it.
 fn rank_below<S: NodeStore>(
     store: &S,
@@ -126,10 +129,7 @@ fn rank_below<S: NodeStore>(
     height: usize,
     k: &S::K,
     rank: <S::Argument as RankArgument<S::K>>::Rank,
-) -> Result<
-    Result<<S::Argument as RankArgument<S::K>>::Rank, <S::Argument as RankArgument<S::K>>::Rank>,
-    AllocError,
->
+) -> Result<RankResult<<S::Argument as RankArgument<S::K>>::Rank>, AllocError>
 where
     S::Argument: RankArgument<S::K>,
     requires { IsSubtree S.K.cmp S.Argument.is_summary (S.slots store.now) height id }
