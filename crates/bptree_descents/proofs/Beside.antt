@@ -1,9 +1,12 @@
 -- What stands beside the place of a key in a tree.
-use Rattle.std.proofs.Common.{◌≡◌, ℕ, zero, suc, ◌-◌, ◌<◌, ◌≤◌, Bool, true, List, [], ◌∷◌, ◌++◌, length, take, drop, refl, sym, ap, subst, ◌∙◌, arith, Option, Some, None, Result, Ok, Err, append_assoc, append-nil, length-append, slice_get, IsSomeAnd}
+use Rattle.std.proofs.Common.{◌≡◌, ℕ, zero, suc, ◌-◌, ◌<◌, ◌≤◌, Bool, true, false, List, [], ◌∷◌, ◌++◌, length, take, drop, refl, sym, ap, subst, ◌∙◌, arith, Option, Some, None, Result, Ok, Err, append_assoc, append-nil, length-append, slice_get, IsSomeAnd}
+use mathlib.Core.Bool.{true≢false}
+use Rattle.std.proofs.lemmas.List.{drop_all}
 use Rattle.std.specs.declared.cmp.Ordering.{Ordering}
 use Rattle.std.specs.declared.cmp.Ordering.TheVariants.{Equal}
 use Rattle.std.specs.Cmp.{IsTotalOrder}
 use Rattle.std.specs.List.{AllByRecursion}
+use Rattle.std.specs.List.Sorted.{IsSearchInRange}
 use Rattle.std.specs.Ordering.{is_gt}
 use Rattle.std.proofs.lemmas.List.Elements.{filter-append}
 use Rattle.std.proofs.lemmas.Option.{get_or_from_slice_get, slice_get_within}
@@ -24,7 +27,7 @@ use Rattle.bptree_nodes.specs.LeafResults.{place_of}
 use Rattle.bptree_nodes.specs.Slot.{Slot, Slots, Present}
 use Rattle.bptree_stores.specs.Hint.{HoldsKey}
 use Rattle.bptree_shape.specs.Leaves.{pairs_of, StandsIn, IsLeafFor}
-use Rattle.bptree_descents.specs.Neighbours.{IsPlaceAt, leaf_pairs_of}
+use Rattle.bptree_descents.specs.Neighbours.{beside, first_from, IsPlaceAt, leaf_pairs_of}
 use Rattle.bptree_shape.specs.Shape.{leaf_pairs, leaf_prev, leaf_next, pairs_at, AreLinked, IsTree, IsWellShaped, root_least}
 use Rattle.bptree_shape.proofs.Ends.{alone, leaves_have, get_right}
 use Rattle.bptree_shape.proofs.Hinted.{first_or, last_or, hinted, linked_next, linked_prev}
@@ -56,14 +59,24 @@ module _ {K V : Type 0} (cmp : K → K → Ordering) (total : IsTotalOrder cmp) 
   place_within (Ok i) found = let pair = pair_found i found in omega (arith, slice_get_within l i pair.0 pair.1)
   place_within (Err i) gap = (gap_at cmp total l ascending k i gap.0 gap.1).0
 
-  slot_within : (i : ℕ) → IsPlaceOf cmp l k (Ok i) → i < length l
-  slot_within i found = let pair = pair_found i found in slice_get_within l i pair.0 pair.1
-
   value_there : (i : ℕ) (pair : K × V) → IsPlaceOf cmp l k (Ok i) → slice_get l i ≡ Some pair → value cmp l k ≡ Some pair.1
   value_there i pair found read = value_hit cmp l _ _ _ k (hit_at cmp total l ascending k i pair found).1 ∙ ap (λ (p : K × V). Some p.1) (get_or_from_slice_get l i pair pair read)
 
   value_absent : (i : ℕ) → IsPlaceOf cmp l k (Err i) → value cmp l k ≡ None
   value_absent i gap = value_gap cmp l _ _ k (gap_at cmp total l ascending k i gap.0 gap.1).1
+
+behind_place : (place : Result ℕ ℕ) → beside place true ≡ child_place place
+behind_place (Ok i) = omega arith
+behind_place (Err i) = refl
+
+pub before_place : (place : Result ℕ ℕ) → beside place false ≡ place_of place
+before_place (Ok i) = refl
+before_place (Err i) = refl
+
+-- what a search of a leaf told fits
+pub told_fits : (place : Result ℕ ℕ) (n : ℕ) → IsSearchInRange place n → n ≤ 64 → place_of place ≤ 64
+told_fits (Ok i) n within few = omega (arith, within, few)
+told_fits (Err i) n within few = omega (arith, within, few)
 
 get_left : {X : Type 0} (xs ys : List X) → 0 < length xs → slice_get xs 0 ≡ slice_get (xs ++ ys) 0
 get_left [] ys some = absurd (omega arith)
@@ -78,6 +91,21 @@ module _ {K V A : Type 0} (slots : Slots (Inner K A) (Leaf K V)) where
   first_behind xs [] all = refl
   first_behind [] (y ∷ ys) all = get_left (leaf_pairs (slots.leaf y.0)) (pairs_of slots ys) all.0
   first_behind (x ∷ xs) (y ∷ ys) all = refl
+
+  -- the first pair from a place of a leaf on, where the leaf has one there, or else by the next leaf
+  pub first_here : (leaf : Leaf K V) (from : ℕ) (pair : K × V) → slice_get leaf.pairs from ≡ Some pair → Some pair ≡ first_from slots leaf from
+  first_here leaf from pair read = sym (read_on leaf.pairs from read)
+    where
+      read_on : (xs : List (K × V)) (n : ℕ) → slice_get xs n ≡ Some pair → slice_get (drop n xs ++ leaf_pairs_of slots leaf.next) 0 ≡ Some pair
+      read_on [] n read = cc
+      read_on (x ∷ xs) zero read = read
+      read_on (x ∷ xs) (suc n) read = read_on xs n read
+
+  pub first_after : (leaf : Leaf K V) (from : ℕ) (link : Option LeafNodeId) (found : Option (K × V)) → (from < length leaf.pairs → false ≡ true) → link ≡ leaf.next → found ≡ slice_get (leaf_pairs_of slots link) 0 → found ≡ first_from slots leaf from
+  first_after leaf from link found none is read =
+      let never : from < length leaf.pairs → ⊥ = λ less. true≢false (sym (none less)) in
+      let past : length leaf.pairs ≤ from = omega (arith, never) in
+      read ∙ (ap (λ o. slice_get (leaf_pairs_of slots o) 0) is ∙ sym (ap (λ xs. slice_get (xs ++ leaf_pairs_of slots leaf.next) 0) (drop_all from leaf.pairs past)))
 
   -- the last pair before a leaf is the last of the leaf before it
   last_among : (x : LeafNodeId) (xs : List LeafNodeId) (ys : List (K × V)) → AllByRecursion HasPair (x ∷ xs)
@@ -133,14 +161,11 @@ module _ {K V A : Type 0} {cmp : K → K → Ordering} (total : IsTotalOrder cmp
     prev_is = sym (ap leaf_prev at.here) ∙ linked_prev slots None in'.before id in'.after None links
 
     -- the place lies within the leaf
-    pub within_leaf : place_of place ≤ length leaf.pairs
+    within_leaf : place_of place ≤ length leaf.pairs
     within_leaf = place_within cmp total leaf.pairs sorted k place at.place_is
 
-    pub slot_in_leaf : (i : ℕ) → place ≡ Ok i → i < length leaf.pairs
-    slot_in_leaf i is = slot_within cmp total leaf.pairs sorted k i (subst (IsPlaceOf cmp leaf.pairs k) is at.place_is)
-
     -- the pair behind the place of a key is the one with the least greater key
-    pub next_beside : slice_get (drop (child_place place) leaf.pairs ++ leaf_pairs_of slots leaf.next) 0 ≡ next cmp (pairs_at slots h root) k
+    next_beside : slice_get (drop (child_place place) leaf.pairs ++ leaf_pairs_of slots leaf.next) 0 ≡ next cmp (pairs_at slots h root) k
     next_beside =
         let around : pairs_above cmp (pairs_at slots h root) k ≡ drop (child_place place) leaf.pairs ++ pairs_of slots in'.after =
         ap (λ l. pairs_above cmp l k) (parts_of_read slots h root id in' leaf at.here)
@@ -150,8 +175,11 @@ module _ {K V A : Type 0} {cmp : K → K → Ordering} (total : IsTotalOrder cmp
         ∙ (first_behind slots (drop (child_place place) leaf.pairs) in'.after (others_have slots cmp h root id in' shape.tree).1
         ∙ ap (λ l. slice_get l 0) (sym around))
 
+    pub next_found : (n : ℕ) (found : Option (K × V)) → n ≡ beside place true → found ≡ slice_get (drop n leaf.pairs ++ leaf_pairs_of slots leaf.next) 0 → found ≡ next cmp (pairs_at slots h root) k
+    next_found n found is read = read ∙ (ap (λ m. slice_get (drop m leaf.pairs ++ leaf_pairs_of slots leaf.next) 0) (is ∙ behind_place place) ∙ next_beside)
+
     -- the pair before the place of a key is the one with the greatest smaller key
-    pub previous_beside : slice_get (leaf_pairs_of slots leaf.prev ++ take (place_of place) leaf.pairs) (length (leaf_pairs_of slots leaf.prev ++ take (place_of place) leaf.pairs) - 1) ≡ previous cmp (pairs_at slots h root) k
+    previous_beside : slice_get (leaf_pairs_of slots leaf.prev ++ take (place_of place) leaf.pairs) (length (leaf_pairs_of slots leaf.prev ++ take (place_of place) leaf.pairs) - 1) ≡ previous cmp (pairs_at slots h root) k
     previous_beside =
         let around : pairs_below cmp (pairs_at slots h root) k ≡ pairs_of slots in'.before ++ take (place_of place) leaf.pairs =
         ap (λ l. pairs_below cmp l k) (parts_of_read slots h root id in' leaf at.here)
@@ -160,6 +188,16 @@ module _ {K V A : Type 0} {cmp : K → K → Ordering} (total : IsTotalOrder cmp
         ap (λ o. slice_get (leaf_pairs_of slots o ++ take (place_of place) leaf.pairs) (length (leaf_pairs_of slots o ++ take (place_of place) leaf.pairs) - 1)) prev_is
         ∙ (last_before slots in'.before (take (place_of place) leaf.pairs) (others_have slots cmp h root id in' shape.tree).0
         ∙ ap (λ (l : List (K × V)). slice_get l (length l - 1)) (sym around))
+
+    pub previous_found : (n : ℕ) (found : Option (K × V)) → n ≡ beside place false → found ≡ slice_get (leaf_pairs_of slots leaf.prev ++ take n leaf.pairs) (length (leaf_pairs_of slots leaf.prev ++ take n leaf.pairs) - 1) → found ≡ previous cmp (pairs_at slots h root) k
+    previous_found n found is read =
+        read ∙ (ap (λ m. slice_get (leaf_pairs_of slots leaf.prev ++ take m leaf.pairs) (length (leaf_pairs_of slots leaf.prev ++ take m leaf.pairs) - 1)) (is ∙ before_place place) ∙ previous_beside)
+
+    pub slot_fits : place_of place ≤ 64
+    slot_fits = omega (arith, within_leaf, at.fits)
+
+    pub slot_within_leaf : (n : ℕ) → n ≡ beside place false → n ≤ length leaf.pairs
+    slot_within_leaf n is = omega (arith, is, before_place place, within_leaf)
 
     whole : value cmp (pairs_at slots h root) k ≡ value cmp leaf.pairs k
     whole = value_in_leaf total slots h root k id leaf at.for_key at.here

@@ -1,5 +1,5 @@
 -- The way by summaries is the way of a search for the key that it finds.
-use Rattle.std.proofs.Common.{◌≡◌, ℕ, zero, suc, ◌+◌, ◌-◌, List, [], ◌∷◌, ◌++◌, length, refl, ap, subst, ◌∙◌, arith, Option, Some, None, slice_get, Result, Ok, Err, IfOk}
+use Rattle.std.proofs.Common.{◌≡◌, ℕ, zero, suc, ◌+◌, ◌-◌, ◌<◌, ◌≤◌, List, [], ◌∷◌, ◌++◌, length, refl, sym, ap, subst, ◌∙◌, arith, Option, Some, None, slice_get, Result, Ok, Err, IfOk, length-append}
 use Rattle.std.specs.declared.cmp.Ordering.{Ordering}
 use Rattle.std.specs.Cmp.{IsTotalOrder}
 use Rattle.bptree_nodes.specs.Inner.{Inner}
@@ -11,6 +11,9 @@ use Rattle.bptree_keys.specs.declared.node_id.NodeId.{NodeId}
 use Rattle.bptree_keys.specs.declared.node_id.NodeId.TheVariants as kind
 use Rattle.bptree_descents.specs.ByArgument.{IsSubtree, IsSelectedAt, GoesOn}
 use Rattle.bptree_shape.specs.Leaves.{pairs_of, StandsIn}
+use Rattle.std.proofs.lemmas.Result.{IfOk-weaker}
+use Rattle.bptree_shape.specs.Path.{Way}
+use Rattle.bptree_shape.proofs.Ends.{alone}
 use Rattle.bptree_shape.specs.Order.{AtLeast, Within, Chain, Leads}
 use Rattle.bptree_shape.specs.Shape.{leaf_pairs, inner_keys, inner_children, pairs_at, IsTree}
 use Rattle.bptree_shape.proofs.Ordered.{AtLeast-up}
@@ -23,6 +26,10 @@ use Rattle.bptree_shape.proofs.ListReads.{all_read, read_below}
 pub ok_both : {T E : Type 0} (r : Result T E) (P Q R : T → Type 0) → IfOk r P → IfOk r Q → ((x : T) → P x → Q x → R x) → IfOk r R
 ok_both (Ok x) P Q R one other so = so x one other
 ok_both (Err e) P Q R one other so = tt
+
+-- a longer path leaves room for the rest of the way
+pub room_left : {X : Type 0} (path longer : List X) (entry : X) (h : ℕ) → longer ≡ path ++ entry ∷ [] → length path + h ≤ 15 → h - 1 < h → length longer + (h - 1) ≤ 15
+room_left path longer entry h is room less = omega (arith, ap length is, length-append path (entry ∷ []), room, less)
 
 -- the child that holds a key is the one that the key leads to
 chain_to : {C K : Type 0} {cmp : K → K → Ordering} (total : IsTotalOrder cmp) (P : C → Option K → Option K → Type 0) (ks : List K) (cs : List C) (lo hi : Option K) (i : ℕ) (c : C) (k : K)
@@ -65,3 +72,18 @@ module _ {K V A : Type 0} {cmp : K → K → Ordering} (total : IsTotalOrder cmp
   pub goes_here : (h : ℕ) (id : LeafNodeId) → IsSubtree cmp is_summary slots h (kind.Leaf id) → (slot : ℕ) (path : List (InnerNodeId × ℕ × NodeId)) → GoesOn cmp slots h (kind.Leaf id) path path (Some (id, slot))
   goes_here zero id s slot path pair there top root way = way
   goes_here (suc h) id s slot path pair there top root way = absurd s.stands.tree
+
+  -- what is selected in a leaf is in that leaf
+  pub ends_here : {Q E : Type 0} (selects : Q → List K → Option ℕ → Type 0) (query : Q) (h : ℕ) (top : NodeId) (id : LeafNodeId) → IsSubtree cmp is_summary slots h top → top ≡ kind.Leaf id → (found : Result (Option (LeafNodeId × ℕ)) E) → IfOk found (IsSelectedAt selects query slots h top) → (path : List (InnerNodeId × ℕ × NodeId))
+      → IfOk found (GoesOn cmp slots h top path path)
+  ends_here selects query h top id s is found selected path =
+      rw is (IfOk-weaker found (IsSelectedAt selects query slots h (kind.Leaf id)) (GoesOn cmp slots h (kind.Leaf id) path path) (λ place. here h (rw is at s) place) (rw is at selected))
+    where
+      only : (before : List LeafNodeId) (leaf : LeafNodeId) (after : List LeafNodeId) → id ∷ [] ≡ before ++ leaf ∷ after → leaf ≡ id
+      only before leaf after e = let none = (alone id before leaf after e).0 in let one : id ∷ [] ≡ leaf ∷ after = e ∙ ap (λ xs. xs ++ leaf ∷ after) none in cc
+
+      here : (h : ℕ) → IsSubtree cmp is_summary slots h (kind.Leaf id) → (place : Option (LeafNodeId × ℕ)) → IsSelectedAt selects query slots h (kind.Leaf id) place → GoesOn cmp slots h (kind.Leaf id) path path place
+      here (suc h) s place selected = absurd s.stands.tree
+      here zero s None selected = tt
+      here zero s (Some at) (stands, short, selected) =
+          λ pair there top' root way. subst (λ l. Way cmp slots pair.0 top' root path 0 (kind.Leaf l)) (sym (only stands.before at.0 stands.after stands.leaves)) way

@@ -162,13 +162,13 @@ module _ {K V A : Type 0} {cmp : K → K → Ordering} (total : IsTotalOrder cmp
       led : LeadsTo selects query pieces answer
       led = clause pieces are_pieces (subst (λ l. AllZip is_summary l pieces) (sym is) summaries)
 
-      led_within : (i : ℕ) (next : Q) → answer ≡ Some (i, next) → i < length node.children
+      pub led_within : (i : ℕ) (next : Q) → answer ≡ Some (i, next) → i < length node.children
       led_within i next some = let l = (subst (LeadsTo selects query pieces) some led).0 in omega (arith, l, length-map node.children (λ c. keys_of (pairs_at slots h c)))
 
-      led_nowhere : answer ≡ None → IsSelectedAt selects query slots (suc h) (kind.Inner id) None
+      pub led_nowhere : answer ≡ None → IsSelectedAt selects query slots (suc h) (kind.Inner id) None
       led_nowhere none = subst (λ keys. selects query keys None) (sym whole_keys) (subst (LeadsTo selects query pieces) none led)
 
-      led_on : (i : ℕ) (next : Q) → answer ≡ Some (i, next) → (child : NodeId) → slice_get node.children i ≡ Some child → (found : Option (LeafNodeId × ℕ)) → IsSelectedAt selects next slots h child found → IsSelectedAt selects query slots (suc h) (kind.Inner id) found
+      pub led_on : (i : ℕ) (next : Q) → answer ≡ Some (i, next) → (child : NodeId) → slice_get node.children i ≡ Some child → (found : Option (LeafNodeId × ℕ)) → IsSelectedAt selects next slots h child found → IsSelectedAt selects query slots (suc h) (kind.Inner id) found
       led_on i next some child read found selected = selected_above i child (led_within i next some) read selects query next (subst (LeadsTo selects query pieces) some led) found selected
 
   -- the same at a height that the code knows
@@ -179,36 +179,6 @@ module _ {K V A : Type 0} {cmp : K → K → Ordering} (total : IsTotalOrder cmp
   child_subtree zero id node s e i child within read = absurd s.stands.tree
   child_subtree (suc h) id node s e i child within read = rw (down h) (below h id node s e i child within read)
 
-  module _ {Q : Type 0} (selects : Q → List K → Option ℕ → Type 0) (query : Q) (answer : Option (ℕ × Q)) (arguments : List A)
-      (clause : (ps : List (List K)) → ArePieces cmp ps → AllZip is_summary arguments ps → LeadsTo selects query ps answer) where
-    pub place_within : (h : ℕ) (id : InnerNodeId) (node : Inner K A) → IsSubtree cmp is_summary slots h (kind.Inner id) → slots.inner id.0 ≡ Present node → arguments ≡ node.arguments → (i : ℕ) (next : Q) → answer ≡ Some (i, next) → i < length node.children
-    place_within zero id node s e is i next some = absurd s.stands.tree
-    place_within (suc h) id node s e is i next some = led_within h id node s e selects query answer arguments is clause i next some
-
-    pub nowhere : (h : ℕ) (id : InnerNodeId) (node : Inner K A) → IsSubtree cmp is_summary slots h (kind.Inner id) → slots.inner id.0 ≡ Present node → arguments ≡ node.arguments → answer ≡ None → IsSelectedAt selects query slots h (kind.Inner id) None
-    nowhere zero id node s e is none = absurd s.stands.tree
-    nowhere (suc h) id node s e is none = led_nowhere h id node s e selects query answer arguments is clause none
-
-    pub found_below : (h : ℕ) (id : InnerNodeId) (node : Inner K A) → IsSubtree cmp is_summary slots h (kind.Inner id) → slots.inner id.0 ≡ Present node → arguments ≡ node.arguments → (i : ℕ) (next : Q) → answer ≡ Some (i, next)
-        → (child : NodeId) → slice_get node.children i ≡ Some child → (found : Option (LeafNodeId × ℕ)) → IsSelectedAt selects next slots (h - 1) child found → IsSelectedAt selects query slots h (kind.Inner id) found
-    found_below zero id node s e is i next some child read found selected = absurd s.stands.tree
-    found_below (suc h) id node s e is i next some child read found selected =
-        led_on h id node s e selects query answer arguments is clause i next some child read found (rw (down h) at selected)
-
-  module _ {Q : Type 0} (selects : Q → List K → Option ℕ → Type 0) (query : Q) (keys : List K) where
-    -- what a leaf selects
-    pub leaf_none : (h : ℕ) (id : LeafNodeId) (node : Leaf K V) → IsSubtree cmp is_summary slots h (kind.Leaf id) → slots.leaf id.0 ≡ Present node → keys ≡ keys_of node.pairs → selects query keys None → IsSelectedAt selects query slots h (kind.Leaf id) None
-    leaf_none zero id node s e is selected = rw e (rw is at selected)
-    leaf_none (suc h) id node s e is selected = absurd s.stands.tree
-
-    pub leaf_some : (h : ℕ) (id : LeafNodeId) (node : Leaf K V) → IsSubtree cmp is_summary slots h (kind.Leaf id) → slots.leaf id.0 ≡ Present node → keys ≡ keys_of node.pairs → (slot : ℕ) → slot < length keys → selects query keys (Some slot) → IsSelectedAt selects query slots h (kind.Leaf id) (Some (id, slot))
-    leaf_some zero id node s e is slot within selected = (
-      record { before = []; after = []; leaves = refl; present = s.stands.tree.0 },
-      (let long = ap (λ (x : Slot (Leaf K V)). length (leaf_pairs x)) e in omega (arith, within, ap length is, length-keys_of node.pairs, long)),
-      (let start : slot ≡ 0 + slot = omega arith in rw e (subst (λ (n : ℕ). selects query (keys_of node.pairs) (Some n)) start (rw is at selected))),
-    )
-    leaf_some (suc h) id node s e is slot within selected = absurd s.stands.tree
-
   pub leaf_whole : (h : ℕ) (id : LeafNodeId) (node : Leaf K V) → IsSubtree cmp is_summary slots h (kind.Leaf id) → slots.leaf id.0 ≡ Present node → pairs_at slots h (kind.Leaf id) ≡ node.pairs
   leaf_whole zero id node s e = ap leaf_pairs e
   leaf_whole (suc h) id node s e = absurd s.stands.tree
@@ -216,20 +186,6 @@ module _ {K V A : Type 0} {cmp : K → K → Ordering} (total : IsTotalOrder cmp
   pub leaf_sorted : (h : ℕ) (id : LeafNodeId) (node : Leaf K V) → IsSubtree cmp is_summary slots h (kind.Leaf id) → slots.leaf id.0 ≡ Present node → IsAscending cmp node.pairs
   leaf_sorted zero id node s e = subst (λ (x : Slot (Leaf K V)). IsAscending cmp (leaf_pairs x)) e s.stands.tree.2
   leaf_sorted (suc h) id node s e = absurd s.stands.tree
-
-  module _ (k : K) (i : ℕ) (child : NodeId) where
-    pub has_in_child : (h : ℕ) (id : InnerNodeId) (node : Inner K A) → IsSubtree cmp is_summary slots h (kind.Inner id) → slots.inner id.0 ≡ Present node → i < length node.children → slice_get node.children i ≡ Some child → Leads cmp k node.keys i → has cmp (pairs_at slots h (kind.Inner id)) k ≡ has cmp (pairs_at slots (h - 1) child) k
-    has_in_child zero id node s e within read leads = absurd s.stands.tree
-    has_in_child (suc h) id node s e within read leads = rw (down h) (has_above h id node s e i child within read k leads)
-
-    module _ {R : Type 0} (stands_for : R → K → List K → Type 0) (ranks : K → List K → R → Type 0) (rank next : R) (arguments : List A)
-        (carries : (before : List K) (ps : List (List K)) → AllNonEmpty ps → AllZip is_summary arguments ps → IsStrictlySortedBy cmp (before ++ flatten ps) → AllBelow cmp k (before ++ flatten ps) → length (before ++ flatten ps) < 2 ^ 64 → stands_for rank k before → stands_for next k (before ++ flatten ps))
-        (answer : Result R R) where
-      pub ranked_below : (h : ℕ) (id : InnerNodeId) (node : Inner K A) → IsSubtree cmp is_summary slots h (kind.Inner id) → slots.inner id.0 ≡ Present node → i < length node.children → slice_get node.children i ≡ Some child → Leads cmp k node.keys i → arguments ≡ take i node.arguments
-          → RanksAmong cmp stands_for ranks k next (keys_of (pairs_at slots (h - 1) child)) answer → RanksAmong cmp stands_for ranks k rank (keys_of (pairs_at slots h (kind.Inner id))) answer
-      ranked_below zero id node s e within read leads is there = absurd s.stands.tree
-      ranked_below (suc h) id node s e within read leads is there =
-          rank_above h id node s e i child within read k leads stands_for ranks rank next (λ before ps some zip. carries before ps some (subst (λ l. AllZip is_summary l ps) (sym is) zip)) answer (rw (down h) at there)
 
   -- with no keys before and none behind
   pub ranked_alone : {R : Type 0} (stands_for : R → K → List K → Type 0) (ranks : K → List K → R → Type 0) (k : K) (rank : R) → stands_for rank k [] → (h : ℕ) (id : NodeId) → IsSubtree cmp is_summary slots h id → (answer : Result R R)

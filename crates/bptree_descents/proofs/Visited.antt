@@ -1,5 +1,5 @@
 -- What a visitor's step at an inner node means for the pairs below the node, and its answer at a leaf.
-use Rattle.std.proofs.Common.{◌≡◌, ℕ, zero, suc, ◌+◌, ◌-◌, ◌<◌, ◌≤◌, List, [], ◌∷◌, ◌++◌, length, map, get_or, refl, sym, ap, subst, ◌∙◌, arith, Option, Some, None, slice_get}
+use Rattle.std.proofs.Common.{◌≡◌, ℕ, zero, suc, ◌+◌, ◌-◌, ◌<◌, ◌≤◌, List, [], ◌∷◌, ◌++◌, length, map, get_or, refl, sym, ap, subst, ◌∙◌, arith, Option, Some, None, Result, slice_get}
 use Rattle.std.specs.declared.cmp.Ordering.{Ordering}
 use Rattle.std.specs.Cmp.{IsTotalOrder}
 use Rattle.std.specs.List.{AllZip}
@@ -20,6 +20,8 @@ use Rattle.bptree_nodes.specs.Inner.{Inner}
 use Rattle.bptree_nodes.specs.Leaf.{Leaf}
 use Rattle.bptree_nodes.specs.Slot.{Slots, Present}
 use Rattle.bptree_descents.specs.ByArgument.{IsSubtree}
+use Rattle.bptree_descents.specs.Visiting.{IsAllowedAnswer}
+use Rattle.std.proofs.lemmas.Result.{MatchResult-weaker}
 use Rattle.bptree_shape.specs.Order.{flat}
 use Rattle.bptree_shape.specs.Shape.{pairs_at}
 use Rattle.bptree_shape.proofs.Down.{node_children}
@@ -41,6 +43,11 @@ keys_of_each f [] = refl
 keys_of_each f (c ∷ cs) = ap (λ rest. keys_of (f c) ∷ rest) (keys_of_each f cs)
 
 module _ {K V A W R : Type 0} {cmp : K → K → Ordering} (total : IsTotalOrder cmp) (is_summary : A → List K → Type 0) (slots : Slots (Inner K A) (Leaf K V)) (answers : W → List (K × V) → VisitAnswer R → Type 0) where
+  -- an error below that is allowed there is allowed above
+  allowed_above : (old new : W) (above below : List (K × V)) → ((answer : VisitAnswer R) → answers new below answer → answers old above answer) → (error : DescendError) → IsAllowedError answers new below error → IsAllowedError answers old above error
+  allowed_above old new above below carried OutOfMemory there = tt
+  allowed_above old new above below carried InvalidChild there = carried invalid_child there
+
   module _ (n : ℕ) (arguments : List A) (old new : W) (step : DescendVisitResult R)
       (clause : (ps : List (List (K × V))) → ArePieces cmp (key_pieces ps) → AllZip is_summary arguments (key_pieces ps) → length ps ≡ n + 1 → IsStep answers old new ps step)
     where
@@ -82,32 +89,29 @@ module _ {K V A W R : Type 0} {cmp : K → K → Ordering} (total : IsTotalOrder
             subst (λ l. answers old l answer) all_of ((subst (IsStep answers old new parts) c stepped).0 small answer (subst (λ l. answers new l answer) (sym piece) there))
 
       -- the same at a height that the code knows
-      module _ (id : InnerNodeId) (node : Inner K A) where
-        pub ended : (h : ℕ) → IsSubtree cmp is_summary slots h (kind.Inner id) → slots.inner id.0 ≡ Present node → n ≡ length node.keys → arguments ≡ node.arguments → step ≡ Cancel → answers old (pairs_at slots h (kind.Inner id)) (answered None)
-        ended zero s e wide is c = absurd s.stands.tree
-        ended (suc h) s e wide is c = ended_here h id node s e wide is c
+      module _ (top : NodeId) (id : InnerNodeId) (node : Inner K A) (wide : n ≡ length node.keys) (are : arguments ≡ node.arguments) where
+        pub ended : (h : ℕ) → IsSubtree cmp is_summary slots h top → top ≡ kind.Inner id → slots.inner id.0 ≡ Present node → step ≡ Cancel → answers old (pairs_at slots h top) (answered None)
+        ended zero s is e c = absurd (rw is at s.stands.tree)
+        ended (suc h) s is e c = rw is (ended_here h id node (rw is at s) e wide are c)
 
-        pub told : (h : ℕ) → IsSubtree cmp is_summary slots h (kind.Inner id) → slots.inner id.0 ≡ Present node → n ≡ length node.keys → arguments ≡ node.arguments → (r : R) → step ≡ Complete r → answers old (pairs_at slots h (kind.Inner id)) (answered (Some r))
-        told zero s e wide is r c = absurd s.stands.tree
-        told (suc h) s e wide is r c = told_here h id node s e wide is r c
+        pub told : (r : R) (h : ℕ) → IsSubtree cmp is_summary slots h top → top ≡ kind.Inner id → slots.inner id.0 ≡ Present node → step ≡ Complete r → answers old (pairs_at slots h top) (answered (Some r))
+        told r zero s is e c = absurd (rw is at s.stands.tree)
+        told r (suc h) s is e c = rw is (told_here h id node (rw is at s) e wide are r c)
 
-        pub lost : (h : ℕ) → IsSubtree cmp is_summary slots h (kind.Inner id) → slots.inner id.0 ≡ Present node → n ≡ length node.keys → arguments ≡ node.arguments → (i : ℕ) → step ≡ GoDown i → n < i → answers old (pairs_at slots h (kind.Inner id)) invalid_child
-        lost zero s e wide is i c past = absurd s.stands.tree
-        lost (suc h) s e wide is i c past = lost_here h id node s e wide is i c past
+        pub lost : (i : ℕ) (h : ℕ) → IsSubtree cmp is_summary slots h top → top ≡ kind.Inner id → slots.inner id.0 ≡ Present node → step ≡ GoDown i → length node.keys < i → answers old (pairs_at slots h top) invalid_child
+        lost i zero s is e c past = absurd (rw is at s.stands.tree)
+        lost i (suc h) s is e c past = rw is (lost_here h id node (rw is at s) e wide are i c (omega (arith, wide, past)))
 
-        pub went : (h : ℕ) → IsSubtree cmp is_summary slots h (kind.Inner id) → slots.inner id.0 ≡ Present node → n ≡ length node.keys → arguments ≡ node.arguments → (i : ℕ) (child : NodeId) → step ≡ GoDown i → i ≤ n → slice_get node.children i ≡ Some child
-            → (answer : VisitAnswer R) → answers new (pairs_at slots (h - 1) child) answer → answers old (pairs_at slots h (kind.Inner id)) answer
-        went zero s e wide is i child c within read answer there = absurd s.stands.tree
-        went (suc h) s e wide is i child c within read answer there = went_here h id node s e wide is i child c within read answer (rw (down total is_summary slots h) at there)
-
-  -- an error below that is allowed there is allowed above
-  pub allowed_above : (old new : W) (above below : List (K × V)) → ((answer : VisitAnswer R) → answers new below answer → answers old above answer) → (error : DescendError) → IsAllowedError answers new below error → IsAllowedError answers old above error
-  allowed_above old new above below carried OutOfMemory there = tt
-  allowed_above old new above below carried InvalidChild there = carried invalid_child there
+        pub went : (i : ℕ) (child : NodeId) (h : ℕ) → IsSubtree cmp is_summary slots h top → top ≡ kind.Inner id → slots.inner id.0 ≡ Present node → step ≡ GoDown i → i ≤ length node.keys → slice_get node.children i ≡ Some child
+            → (done : Result (Option R) DescendError) → IsAllowedAnswer answers new (pairs_at slots (h - 1) child) done → IsAllowedAnswer answers old (pairs_at slots h top) done
+        went i child zero s is e c within read done there = absurd (rw is at s.stands.tree)
+        went i child (suc h) s is e c within read done there =
+            let carried = went_here h id node (rw is at s) e wide are i child c (omega (arith, wide, within)) read in
+            rw is (MatchResult-weaker done (rw (down total is_summary slots h) at there) (λ answer below. carried (answered answer) below) (λ error below. allowed_above old new (pairs_at slots (suc h) (kind.Inner id)) (pairs_at slots h child) carried error below))
 
   -- what a visitor answers at a leaf
   pub at_leaf : (visitor : W) (keys : List K) (values : List V) (answer : Option R) → ((pairs : List (K × V)) → keys_of pairs ≡ keys → values_of pairs ≡ values → IsStrictlySortedBy cmp keys → answers visitor pairs (answered answer))
-      → (h : ℕ) (id : LeafNodeId) (node : Leaf K V) → IsSubtree cmp is_summary slots h (kind.Leaf id) → slots.leaf id.0 ≡ Present node → keys ≡ keys_of node.pairs → values ≡ values_of node.pairs → answers visitor (pairs_at slots h (kind.Leaf id)) (answered answer)
-  at_leaf visitor keys values answer clause h id node s e is are =
-      subst (λ l. answers visitor l (answered answer)) (sym (leaf_whole total is_summary slots h id node s e))
-      (clause node.pairs (sym is) (sym are) (subst (IsStrictlySortedBy cmp) (sym is) (leaf_sorted total is_summary slots h id node s e)))
+      → (h : ℕ) (top : NodeId) (id : LeafNodeId) (node : Leaf K V) → IsSubtree cmp is_summary slots h top → top ≡ kind.Leaf id → slots.leaf id.0 ≡ Present node → keys ≡ keys_of node.pairs → values ≡ values_of node.pairs → answers visitor (pairs_at slots h top) (answered answer)
+  at_leaf visitor keys values answer clause h top id node s top_is e is are =
+      let s' : IsSubtree cmp is_summary slots h (kind.Leaf id) = rw top_is at s in
+      rw (top_is, leaf_whole total is_summary slots h id node s' e) (clause node.pairs (sym is) (sym are) (rw is (leaf_sorted total is_summary slots h id node s' e)))

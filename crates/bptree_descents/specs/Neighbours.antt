@@ -1,5 +1,5 @@
 -- Where a key is found in a tree, and what stands beside its leaf.
-use Rattle.std.specs.Prelude.{◌≡◌, ℕ, ◌≤◌, ◌++◌, List, [], drop, length, slice_get, take, Option, Some, None, Result}
+use Rattle.std.specs.Prelude.{◌≡◌, ℕ, ◌+◌, ◌≤◌, ◌++◌, Bool, true, false, List, [], drop, length, slice_get, take, Option, Some, None, Result, Ok, Err}
 use Rattle.std.specs.Borrow.{Bor}
 use Rattle.std.specs.declared.cmp.Ordering.{Ordering}
 use Rattle.std.specs.Option.{option_map}
@@ -17,6 +17,12 @@ use Rattle.bptree_shape.specs.Shape.{leaf_pairs, pairs_at}
 abbrev pub leaf_pairs_of : {K V A : Type 0} → Slots (Inner K A) (Leaf K V) → Option LeafNodeId → List (K × V)
 leaf_pairs_of slots None = []
 leaf_pairs_of slots (Some id) = leaf_pairs (slots.leaf id.0)
+
+-- the slot that a search told, or the one behind it, where the key is there and that is asked
+abbrev pub beside : Result ℕ ℕ → Bool → ℕ
+beside (Ok i) true = i + 1
+beside (Ok i) false = i
+beside (Err i) behind = i
 
 -- the leaf for the key, which was read, and the key's place in it
 pub record IsPlaceAt {K V A : Type 0} (cmp : K → K → Ordering) (slots : Slots (Inner K A) (Leaf K V)) (h : ℕ) (root : NodeId) (k : K) (id : LeafNodeId) (leaf : Leaf K V) (place : Result ℕ ℕ) : Type 0 where

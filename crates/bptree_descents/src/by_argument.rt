@@ -1,13 +1,16 @@
 //! Reads of a tree that stands in a store, by the summaries of its keys.
 ghost use Rattle.std.specs.Prelude.{◌≡◌, ◌+◌, ◌≤◌, length, IfOk, IsOk, is_ok};
 ghost use Rattle.std.specs.Map.{keys_of};
+ghost use Rattle.bptree_arguments.specs.Selection.{LeadsOver};
 ghost use Rattle.bptree_keys.specs.Contents.{has};
 ghost use Rattle.bptree_descents.specs.ByArgument.{IsSubtree, IsSelectedAt, GoesOn, RanksAmong, RanksKey, TellsIfThere};
 ghost use Rattle.bptree_shape.specs.Shape.{pairs_at};
 
 use bptree_arguments::argument::{RankArgument, SearchArgument};
 use bptree_keys::entry_ref::VisitStack;
+use bptree_keys::key::Key;
 use bptree_keys::node_id::{LeafNodeId, NodeId};
+use bptree_nodes::inner_node::InnerNode;
 use bptree_stores::node_stores::NodeStore;
 use std::alloc::AllocError;
 
@@ -38,19 +41,25 @@ where
         }
         NodeId::Inner(inner) => {
             let node = store.get_inner(inner);
-            match <S::Argument as SearchArgument<S::K>>::locate_in_inner(
-                query,
-                node.keys(),
-                node.arguments(),
-            )? {
+            match lead_on(node, query)? {
                 None => Ok(None),
                 Some((place, next)) => {
-                    let child = node.child_id(place);
-                    find_by_argument(store, child, height - 1, next)
+                    find_by_argument(store, node.child_id(place), height - 1, next)
                 }
             }
         }
     }
+}
+
+// The child of an inner node that the query leads to, and the query that is asked there.
+fn lead_on<K: Key, A: SearchArgument<K>>(
+    node: &InnerNode<K, A>,
+    query: A::Query,
+) -> Result<Option<(usize, A::Query)>, AllocError>
+    ensures leads { IfOk result (LeadsOver A.is_summary K.cmp node.now.arguments A.selects query) }
+    ensures sure { A.needs_no_memory → IsOk result }
+{
+    A::locate_in_inner(query, node.keys(), node.arguments())
 }
 
 /// The leaf and the slot of a place that is allowed for the query, and at the end of a path the
@@ -71,22 +80,10 @@ where
     ensures sure { S.Argument.needs_no_memory → IsOk result }
 {
     match id {
-        NodeId::Leaf(leaf) => {
-            match <S::Argument as SearchArgument<S::K>>::locate_in_leaf(
-                query,
-                store.get_leaf(leaf).keys(),
-            )? {
-                None => Ok(None),
-                Some(slot) => Ok(Some((leaf, slot))),
-            }
-        }
+        NodeId::Leaf(_) => find_by_argument(store, id, height, query),
         NodeId::Inner(inner) => {
             let node = store.get_inner(inner);
-            match <S::Argument as SearchArgument<S::K>>::locate_in_inner(
-                query,
-                node.keys(),
-                node.arguments(),
-            )? {
+            match lead_on(node, query)? {
                 None => Ok(None),
                 Some((offset, next)) => {
                     let child = node.child_id(offset);
@@ -122,6 +119,9 @@ where
     rank_below(store, root, height, k, rank)
 }
 
+// A rank, `Ok` where the key is present.
+type RankResult<R> = Result<R, R>;
+
 // The same below a node, carried on from the rank that stands for the keys before it.
 fn rank_below<S: NodeStore>(
     store: &S,
@@ -129,10 +129,7 @@ fn rank_below<S: NodeStore>(
     height: usize,
     k: &S::K,
     rank: <S::Argument as RankArgument<S::K>>::Rank,
-) -> Result<
-    Result<<S::Argument as RankArgument<S::K>>::Rank, <S::Argument as RankArgument<S::K>>::Rank>,
-    AllocError,
->
+) -> Result<RankResult<<S::Argument as RankArgument<S::K>>::Rank>, AllocError>
 where
     S::Argument: RankArgument<S::K>,
     requires { IsSubtree S.K.cmp S.Argument.is_summary (S.slots store.now) height id }

@@ -2,9 +2,9 @@
 ghost use Rattle.std.specs.Prelude.{◌≡◌, ◌≤◌, length, slice_get};
 ghost use Rattle.std.specs.Option.{option_copied, option_map};
 ghost use Rattle.bptree_keys.specs.Contents.{last_member};
-ghost use Rattle.bptree_descents.specs.Neighbours.{IsPlaceAt, leaf_pairs_of, ReadsNext, ReadsPrevious, first_from, last_upto, pair_read};
+ghost use Rattle.bptree_descents.specs.Neighbours.{beside, IsPlaceAt, leaf_pairs_of, ReadsNext, ReadsPrevious, first_from, last_upto, pair_read};
 ghost use Rattle.bptree_shape.specs.Shape.{pairs_at, IsWellShaped, value_in};
-ghost use Rattle.bptree_nodes.specs.LeafResults.{IsPlaceInLeaf};
+ghost use Rattle.bptree_nodes.specs.LeafResults.{place_of, IsPlaceInLeaf};
 
 use bptree_keys::node_id::{LeafNodeId, NodeId};
 use bptree_nodes::leaf_node::LeafNode;
@@ -56,6 +56,19 @@ fn place_in<K: Ord + Drop, V: Drop>(
         }
     }
     leaf.locate_slot(key)
+}
+
+/// The slot that a search told, or the one behind it, where the key is there and that is asked.
+#[inline]
+pub fn slot_beside(place: Result<usize, usize>, behind: bool) -> usize
+    requires { place_of place ≤ 64 }
+    ensures { result ≡ beside place behind }
+{
+    match place {
+        Ok(slot) if behind => slot + 1,
+        Ok(slot) => slot,
+        Err(slot) => slot,
+    }
 }
 
 // The pair at a place of a leaf, where there is one.
@@ -141,11 +154,7 @@ pub fn pair_after<'a, S: NodeStore>(
     ensures { ReadsNext S.K.cmp (S.slots store.now) height root key.now result }
 {
     let (id, leaf, place) = place_of(store, root, height, hint, offset, key);
-    let from = match place {
-        Ok(slot) => slot + 1,
-        Err(slot) => slot,
-    };
-    pair_from(store, id, leaf, from)
+    pair_from(store, id, leaf, slot_beside(place, true))
 }
 
 /// The pair with the greatest smaller key, and where it stands. The key need not be there.
@@ -163,11 +172,7 @@ pub fn pair_before<'a, S: NodeStore>(
     ensures { ReadsPrevious S.K.cmp (S.slots store.now) height root key.now result }
 {
     let (id, leaf, place) = place_of(store, root, height, hint, offset, key);
-    let to = match place {
-        Ok(slot) => slot,
-        Err(slot) => slot,
-    };
-    pair_upto(store, id, leaf, to)
+    pair_upto(store, id, leaf, slot_beside(place, false))
 }
 
 /// The value at a key.

@@ -8,8 +8,10 @@ use Rattle.std.specs.Cmp.{IsTotalOrder}
 use Rattle.std.specs.List.{AllByRecursion}
 use Rattle.std.specs.Map.{keys_of}
 use Rattle.std.proofs.lemmas.List.Elements.{filter-append}
+use Rattle.std.specs.List.Sorted.{IsStrictlySortedBy}
+use Rattle.std.proofs.lemmas.Map.Entries.{length-keys_of}
 use Rattle.std.proofs.lemmas.Map.Keys.{sorted_head, sorted_tail}
-use Rattle.bptree_arguments.specs.GroupAnswers.{IsBorderOf, is_before}
+use Rattle.bptree_arguments.specs.GroupAnswers.{IsBorderOf, IsGroupBorder, is_before}
 use Rattle.bptree_arguments.specs.Groups.{of_group}
 use Rattle.bptree_arguments.proofs.GroupOrderLemmas.{before_below}
 use Rattle.bptree_nodes.specs.Inner.{Inner}
@@ -23,15 +25,15 @@ use Rattle.bptree_keys.specs.declared.node_id.NodeId.{NodeId}
 use Rattle.bptree_keys.specs.declared.node_id.NodeId.TheVariants as kind
 use Rattle.bptree_keys.proofs.Ascending.{all_pairs, less_turned}
 use Rattle.bptree_keys.proofs.PieceLemmas.{AllByRecursion-append, AllByRecursion-weaker}
-use Rattle.bptree_shape.specs.Leaves.{pairs_of, Stands, IsBorderLeaf}
+use Rattle.bptree_shape.specs.Leaves.{pairs_of, Stands, StandsIn, IsBorderLeaf}
 use Rattle.bptree_shape.specs.Order.{flat, Within, Chain}
 use Rattle.bptree_ranges.specs.Ranges.{start, IsPlaceOn}
 use Rattle.bptree_shape.specs.Shape.{leaf_pairs, pairs_at, leaves_at, IsTree, IsWellShaped}
 use Rattle.bptree_shape.proofs.Between.{Falls, cut, none_pass}
 use Rattle.bptree_shape.proofs.Down.{inner_at, node_children, pairs_of_all, stands_above}
 use Rattle.bptree_shape.proofs.Ordered.{by_cases, not_less_back}
-use Rattle.bptree_ranges.proofs.Ranged.{filter_fewer, size_of, start_is}
-use Rattle.bptree_shape.proofs.Spot.{parts_of_read}
+use Rattle.bptree_ranges.proofs.Ranged.{contents_ascend, filter_fewer, size_of, start_is}
+use Rattle.bptree_shape.proofs.Spot.{leaf_ascends, parts_of_read}
 use Rattle.bptree_shape.proofs.Walk.{flat-append, chain_inside, tree_inside}
 
 -- the first of the members that a function makes, and those from one on
@@ -47,15 +49,24 @@ module _ {X Y : Type 0} (P : Y → Type 0) (f : X → Y) where
   made_from (suc n) [] all = tt
   made_from (suc n) (x ∷ xs) all = made_from n xs all
 
+-- the first n keys pass a test, and no others do
+pub record IsCut {K : Type 0} (test : K → Bool) (keys : List K) (n : ℕ) : Type 0 where
+  pub within : n ≤ length keys
+  pub pass : AllByRecursion (λ k. test k ≡ true) (take n keys)
+  pub fail : AllByRecursion (λ k. test k ≡ false) (drop n keys)
+
 pub every_pass : {X : Type 0} (test : X → Bool) (l : List X) → AllByRecursion (λ x. test x ≡ true) l → filter test l ≡ l
 every_pass test [] all = refl
 every_pass test (x ∷ l) all = rw all.0 (ap (λ more. x ∷ more) (every_pass test l all.1))
 
 -- where the first n keys pass and no others do, n pairs pass
-pub count_of_first : {K V : Type 0} (test : K → Bool) (l : List (K × V)) (n : ℕ) → n ≤ length l → AllByRecursion (λ k. test k ≡ true) (take n (keys_of l)) → AllByRecursion (λ k. test k ≡ false) (drop n (keys_of l)) → length (filter (λ (p : K × V). test p.0) l) ≡ n
+count_of_first : {K V : Type 0} (test : K → Bool) (l : List (K × V)) (n : ℕ) → n ≤ length l → AllByRecursion (λ k. test k ≡ true) (take n (keys_of l)) → AllByRecursion (λ k. test k ≡ false) (drop n (keys_of l)) → length (filter (λ (p : K × V). test p.0) l) ≡ n
 count_of_first test [] n within pass fail = omega (arith, within)
 count_of_first test (p ∷ l) zero within pass fail = rw fail.0 (count_of_first test l zero (omega arith) tt fail.1)
 count_of_first test (p ∷ l) (suc n) within pass fail = rw pass.0 (ap suc (count_of_first test l n (omega (arith, within)) pass.1 fail))
+
+pub cut_counts : {K V : Type 0} (test : K → Bool) (l : List (K × V)) (n : ℕ) → IsCut test (keys_of l) n → length (filter (λ (p : K × V). test p.0) l) ≡ n
+cut_counts test l n parts = count_of_first test l n (omega (arith, parts.within, length-keys_of l)) parts.pass parts.fail
 
 module _ {K : Type 0} {cmp : K → K → Ordering} (total : IsTotalOrder cmp) (test : K → Bool) (falls : (x y : K) → is_gt (cmp x y) ≡ false → test y ≡ true → test x ≡ true) where
   fails_from : (x y : K) → is_lt (cmp y x) ≡ false → test x ≡ false → test y ≡ false
@@ -119,14 +130,13 @@ module _ {K : Type 0} {cmp : K → K → Ordering} (total : IsTotalOrder cmp) (t
         }
 
     -- the same at a height that the code knows
-    pub border_node : (h : ℕ) (id : InnerNodeId) (node : Inner K A) (i : ℕ) (child : NodeId) → Stands cmp slots h (kind.Inner id) → slots.inner id.0 ≡ Present node → i ≤ length node.keys
-        → AllByRecursion (λ k. test k ≡ true) (take i node.keys) → AllByRecursion (λ k. test k ≡ false) (drop i node.keys) → slice_get node.children i ≡ Some child → (leaf : LeafNodeId) → IsBorderLeaf slots test (h - 1) child leaf → IsBorderLeaf slots test h (kind.Inner id) leaf
-    border_node h id node i child s e few pass fail read leaf below =
+    pub border_node : (h : ℕ) (id : InnerNodeId) (node : Inner K A) (i : ℕ) (child : NodeId) → Stands cmp slots h (kind.Inner id) → slots.inner id.0 ≡ Present node → IsCut test node.keys i → slice_get node.children i ≡ Some child → (leaf : LeafNodeId) → IsBorderLeaf slots test (h - 1) child leaf → IsBorderLeaf slots test h (kind.Inner id) leaf
+    border_node h id node i child s e parts read leaf below =
         let at = inner_at total slots h id node s e in
         let down : h - 1 ≡ at.below = let up = at.above in omega arith in
         let long = node_children total slots h id node s e in
         subst (λ m. IsBorderLeaf slots test m (kind.Inner id) leaf) (sym at.above)
-        (border_above at.below id node e at.low at.high i child leaf at.chain few (omega (arith, long, few)) pass fail read (subst (λ m. IsBorderLeaf slots test m child leaf) down below))
+        (border_above at.below id node e at.low at.high i child leaf at.chain parts.within (omega (arith, long, parts.within)) parts.pass parts.fail read (subst (λ m. IsBorderLeaf slots test m child leaf) down below))
 
     -- a leaf is the border of its tree
     pub border_leaf : (h : ℕ) (id : LeafNodeId) → Stands cmp slots h (kind.Leaf id) → IsBorderLeaf slots test h (kind.Leaf id) id
@@ -135,18 +145,18 @@ module _ {K : Type 0} {cmp : K → K → Ordering} (total : IsTotalOrder cmp) (t
 
     -- the place in it behind the keys that pass
     pub border_place : (is_summary : A → List K → Type 0) (h : ℕ) (root : NodeId) (shape : IsWellShaped cmp is_summary slots h root) (leaf : LeafNodeId) (node : Leaf K V) → IsBorderLeaf slots test h root leaf → slots.leaf leaf.0 ≡ Present node
-        → (n : ℕ) → n ≤ length node.pairs → AllByRecursion (λ k. test k ≡ true) (take n (keys_of node.pairs)) → AllByRecursion (λ k. test k ≡ false) (drop n (keys_of node.pairs)) → IsPlaceOn slots h root leaf n × (start slots h root leaf + n ≡ length (filter (λ (p : K × V). test p.0) (pairs_at slots h root)))
-    border_place is_summary h root shape leaf node border here n within pass fail =
+        → (n : ℕ) → IsCut test (keys_of node.pairs) n → IsPlaceOn slots h root leaf n × (start slots h root leaf + n ≡ length (filter (λ (p : K × V). test p.0) (pairs_at slots h root)))
+    border_place is_summary h root shape leaf node border here n parts =
         let in' = border.stands in
         let before = pairs_of slots in'.before in
         let after = pairs_of slots in'.after in
         let t = λ (p : K × V). test p.0 in
-        let here' : length (filter t node.pairs) ≡ n = count_of_first test node.pairs n within pass fail in
+        let here' : length (filter t node.pairs) ≡ n = cut_counts test node.pairs n parts in
         let one : filter t before ≡ before = every_pass t before border.before in
         let other : filter t after ≡ [] = none_pass t after border.behind in
         let cut' : filter t (pairs_at slots h root) ≡ before ++ (filter t node.pairs ++ []) =
         ap (filter t) (parts_of_read slots h root leaf in' node here) ∙ (filter-append t before (node.pairs ++ after) ∙ (ap (λ l. l ++ filter t (node.pairs ++ after)) one ∙ ap (λ l. before ++ l) (filter-append t node.pairs after ∙ ap (λ l. filter t node.pairs ++ l) other))) in (
-          record { stands = in'; within = omega (arith, within, size_of is_summary slots h root shape leaf node here) },
+          record { stands = in'; within = omega (arith, parts.within, length-keys_of node.pairs, size_of is_summary slots h root shape leaf node here) },
           omega (arith, start_is is_summary slots h root shape leaf in', ap length cut', length-append before (filter t node.pairs ++ []), length-append (filter t node.pairs) [], here'),
         )
 
@@ -170,12 +180,21 @@ module _ {K G : Type 0} {cmp : K → K → Ordering} {R : G → G → Ordering} 
       let other = λ (p : K × V). is_key_before true p.0 in
       rw (e, f) (ap (λ t. filter t l) (λ i p. eq_parts (R (group_of p.0) g) i) ∙ cut one other l (falls_all total (is_key_before false) (key_falls false) l ascending) (falls_all total (is_key_before true) (key_falls true) l ascending))
 
-  -- the borders that a search finds among keys
-  pub passed : (end : Bool) (keys : List K) (n : ℕ) → IsBorderOf R g end (map group_of keys) n → AllByRecursion (λ k. is_key_before end k ≡ true) (take n keys)
-  passed end keys n border = first_made (λ x. is_before end (R x g) ≡ true) group_of n keys border.before
+  -- the border that a search finds among keys
+  pub border_cut : (end : Bool) (keys given : List K) (n : ℕ) → given ≡ keys → IsStrictlySortedBy cmp keys → n ≤ length given → IsGroupBorder cmp R group_of g end given n → IsCut (is_key_before end) keys n
+  border_cut end keys given n is sorted few found =
+      let border : IsBorderOf R g end (map group_of keys) n = (rw is at found) sorted in
+      record {
+        within = omega (arith, few, ap length is);
+        pass = first_made (λ x. is_before end (R x g) ≡ true) group_of n keys border.before;
+        fail = made_from (λ x. is_before end (R x g) ≡ false) group_of n keys border.from_there;
+      }
 
-  pub failed : (end : Bool) (keys : List K) (n : ℕ) → IsBorderOf R g end (map group_of keys) n → AllByRecursion (λ k. is_key_before end k ≡ false) (drop n keys)
-  failed end keys n border = made_from (λ x. is_before end (R x g) ≡ false) group_of n keys border.from_there
+  -- and among those of a leaf of a tree
+  pub leaf_cut : {V A : Type 0} (is_summary : A → List K → Type 0) (slots : Slots (Inner K A) (Leaf K V)) (h : ℕ) (root : NodeId) → IsWellShaped cmp is_summary slots h root → (leaf : LeafNodeId) (node : Leaf K V) → StandsIn slots h root leaf → slots.leaf leaf.0 ≡ Present node
+      → (end : Bool) (given : List K) (n : ℕ) → given ≡ keys_of node.pairs → n ≤ length given → IsGroupBorder cmp R group_of g end given n → IsCut (is_key_before end) (keys_of node.pairs) n
+  leaf_cut is_summary slots h root shape leaf node in' e end given n is few found =
+      border_cut end (keys_of node.pairs) given n is (leaf_ascends total slots h root leaf node in' (contents_ascend is_summary slots h root shape total) e) few found
 
 before_begins : (r : Ordering) → is_before false r ≡ true → is_before true r ≡ true
 before_begins Less e = refl

@@ -1,5 +1,5 @@
 -- Where the pairs between two bounds begin and end.
-use Rattle.std.proofs.Common.{◌≡◌, ℕ, suc, ◌+◌, ◌-◌, ◌<◌, ◌≤◌, Bool, true, false, not, ◌&&◌, List, [], ◌∷◌, ◌++◌, length, filter, take, drop, refl, sym, ap, subst, ◌∙◌, arith, Result, Ok, Err, Some, slice_get, IsSomeAnd, get_or, length-append}
+use Rattle.std.proofs.Common.{◌≡◌, ℕ, suc, ◌+◌, ◌-◌, ◌<◌, ◌≤◌, Bool, true, false, not, ◌&&◌, List, [], ◌∷◌, ◌++◌, length, filter, take, drop, refl, sym, ap, ◌∙◌, arith, Result, Ok, Err, Option, Some, None, get_or, length-append}
 use mathlib.Core.Bool.{true≢false}
 use Rattle.std.specs.declared.cmp.Ordering.{Ordering}
 use Rattle.std.specs.declared.cmp.Ordering.TheVariants.{Less, Equal, Greater}
@@ -12,8 +12,8 @@ use Rattle.std.proofs.lemmas.List.{append-nil, length-take-le}
 use Rattle.bptree_arguments.specs.GroupAnswers.{is_before}
 use Rattle.bptree_arguments.proofs.GroupOrderLemmas.{before_below, less_from}
 use Rattle.bptree_keys.specs.Contents.{IsAscending}
-use Rattle.bptree_keys.specs.Places.{AllAnswer, IsGap, IsHit, IsPlaceOf}
-use Rattle.bptree_keys.specs.Ranges.{part}
+use Rattle.bptree_keys.specs.Places.{IsGap, IsHit, IsPlaceOf}
+use Rattle.bptree_keys.specs.Ranges.{between, part}
 use Rattle.bptree_keys.specs.declared.node_id.LeafNodeId.{LeafNodeId}
 use Rattle.bptree_keys.specs.declared.node_id.NodeId.{NodeId}
 use Rattle.bptree_keys.proofs.Ascending.{less_turned}
@@ -23,15 +23,16 @@ use Rattle.bptree_nodes.specs.Inner.{Inner}
 use Rattle.bptree_nodes.specs.Leaf.{Leaf}
 use Rattle.bptree_nodes.specs.Slot.{Slots, Present}
 use Rattle.bptree_shape.specs.Leaves.{pairs_of, IsLeafFor}
-use Rattle.bptree_shape.specs.Shape.{leaf_pairs, pairs_at, IsWellShaped}
+use Rattle.bptree_shape.specs.Shape.{pairs_at, IsWellShaped}
 use Rattle.bptree_shape.proofs.Between.{cut, none_pass, each_of, all_pass}
-use Rattle.bptree_shape.proofs.Ordered.{by_cases, less_then_up, up_then_up, not_less_back}
+use Rattle.bptree_shape.proofs.Ordered.{by_cases, less_then_up}
 use Rattle.bptree_shape.proofs.Spot.{leaf_ascends, parts_of_read}
+use Rattle.bptree_descents.specs.Neighbours.{beside}
 use Rattle.bptree_descents.proofs.Beside.{found_at}
-use Rattle.bptree_ranges.specs.Bounds.{between_bounds, is_before_start, is_upto_end, may_hold}
+use Rattle.bptree_ranges.specs.Bounds.{between_bounds, end_bound, is_before_bound, is_before_start, is_upto_end, may_hold, start_bound}
 use Rattle.bptree_ranges.specs.Ranges.{start, IsPlaceOn}
 use Rattle.bptree_ranges.proofs.Bordered.{falls_all}
-use Rattle.bptree_ranges.proofs.Ranged.{contents_ascend, size_of, start_is}
+use Rattle.bptree_ranges.proofs.Ranged.{contents_ascend, filter_fewer, size_of, start_is}
 
 not_above : (r : Ordering) → not (is_gt r) ≡ true → is_gt r ≡ false
 not_above Less e = refl
@@ -64,12 +65,12 @@ module _ {K : Type 0} {cmp : K → K → Ordering} (total : IsTotalOrder cmp) wh
   end_falls (Excluded b) x y up e = before_below total b false x y up e
   end_falls Unbounded x y up e = refl
 
-  pub between_bounds_is : {V : Type 0} (l : List (K × V)) (lo hi : Bound K) (i j : ℕ) → IsAscending cmp l → i ≡ length (filter (λ (p : K × V). is_before_start cmp lo p.0) l) → j ≡ length (filter (λ (p : K × V). is_upto_end cmp hi p.0) l) → between_bounds cmp l lo hi ≡ part l i (j - i)
+  between_bounds_is : {V : Type 0} (l : List (K × V)) (lo hi : Bound K) (i j : ℕ) → IsAscending cmp l → i ≡ length (filter (λ (p : K × V). is_before_start cmp lo p.0) l) → j ≡ length (filter (λ (p : K × V). is_upto_end cmp hi p.0) l) → between_bounds cmp l lo hi ≡ part l i (j - i)
   between_bounds_is {V} l lo hi i j ascending e f =
       rw (e, f) (cut (λ (p : K × V). is_before_start cmp lo p.0) (λ (p : K × V). is_upto_end cmp hi p.0) l (falls_all total (is_before_start cmp lo) (start_falls lo) l ascending) (falls_all total (is_upto_end cmp hi) (end_falls hi) l ascending))
 
   -- where some key can be between two bounds, what is before the start is not behind the end
-  pub held : (lo hi : Bound K) → may_hold cmp lo hi ≡ true → (k : K) → is_before_start cmp lo k ≡ true → is_upto_end cmp hi k ≡ true
+  held : (lo hi : Bound K) → may_hold cmp lo hi ≡ true → (k : K) → is_before_start cmp lo k ≡ true → is_upto_end cmp hi k ≡ true
   held Unbounded hi e k below = absurd (true≢false (sym below))
   held (Included a) Unbounded e k below = refl
   held (Included a) (Included b) e k below = before_below total b true k a (below_not_above (cmp k a) below) e
@@ -99,22 +100,36 @@ module _ {K : Type 0} {cmp : K → K → Ordering} (total : IsTotalOrder cmp) wh
   empty (Excluded a) (Included b) e k upto = before_below total a true k b (not_above (cmp k b) upto) (turned a b e)
   empty (Excluded a) (Excluded b) e k upto = before_below total a true k b (below_not_above (cmp k b) upto) (turned a b e)
 
-  pub between_bounds_none : {V : Type 0} (l : List (K × V)) (lo hi : Bound K) → may_hold cmp lo hi ≡ false → between_bounds cmp l lo hi ≡ []
+  between_bounds_none : {V : Type 0} (l : List (K × V)) (lo hi : Bound K) → may_hold cmp lo hi ≡ false → between_bounds cmp l lo hi ≡ []
   between_bounds_none {V} l lo hi e =
       none_pass (λ (p : K × V). not (is_before_start cmp lo p.0) && is_upto_end cmp hi p.0) l
       (each_of (λ (p : K × V). (not (is_before_start cmp lo p.0) && is_upto_end cmp hi p.0) ≡ false) (λ p. none_by (is_before_start cmp lo p.0) (is_upto_end cmp hi p.0) (empty lo hi e p.0)) l)
 
-pub open_start : {K V : Type 0} (cmp : K → K → Ordering) (l : List (K × V)) (lo : Bound K) → lo ≡ Unbounded → length (filter (λ (p : K × V). is_before_start cmp lo p.0) l) ≡ 0
-open_start {K} {V} cmp l lo e = rw e (ap length (none_pass (λ (p : K × V). false) l (each_of (λ (p : K × V). false ≡ false) (λ p. refl) l)))
+-- the pairs between two keys, where they are given, are those between the bounds of these
+pub between_ends : {K V : Type 0} (cmp : K → K → Ordering) (l : List (K × V)) (lo hi : Option K) (start' end' : Bound K) → start' ≡ start_bound lo → end' ≡ end_bound hi → between_bounds cmp l start' end' ≡ between cmp l lo hi
+between_ends {K} cmp l lo hi start' end' e f = rw (e, f) (same lo hi)
+  where
+    same : (a b : Option K) → between_bounds cmp l (start_bound a) (end_bound b) ≡ between cmp l a b
+    same None None = refl
+    same None (Some b) = refl
+    same (Some a) None = refl
+    same (Some a) (Some b) = refl
 
-pub open_end : {K V : Type 0} (cmp : K → K → Ordering) (l : List (K × V)) (hi : Bound K) → hi ≡ Unbounded → length (filter (λ (p : K × V). is_upto_end cmp hi p.0) l) ≡ length l
-open_end {K} {V} cmp l hi e = rw e (ap length (all_pass (λ (p : K × V). true) l (λ p. refl)))
+module _ {K V : Type 0} (cmp : K → K → Ordering) (l : List (K × V)) where
+  -- how many pairs stand before a bound
+  pub at_included : (end' : Bool) (bound : Bound K) (k : K) (n : ℕ) → bound ≡ Included k → n ≡ length (filter (λ (p : K × V). is_before end' (cmp p.0 k)) l) → n ≡ length (filter (λ (p : K × V). is_before_bound cmp end' bound p.0) l)
+  at_included true bound k n is counted = rw is counted
+  at_included false bound k n is counted = rw is counted
 
--- a place behind the smaller keys, or behind the key too
-abbrev pub beside : Result ℕ ℕ → Bool → ℕ
-beside (Ok i) true = i + 1
-beside (Ok i) false = i
-beside (Err i) behind = i
+  pub at_excluded : (end' : Bool) (bound : Bound K) (k : K) (n : ℕ) → bound ≡ Excluded k → n ≡ length (filter (λ (p : K × V). is_before (not end') (cmp p.0 k)) l) → n ≡ length (filter (λ (p : K × V). is_before_bound cmp end' bound p.0) l)
+  at_excluded true bound k n is counted = rw is counted
+  at_excluded false bound k n is counted = rw is counted
+
+  pub at_open_start : (end' : Bool) (bound : Bound K) (n : ℕ) → bound ≡ Unbounded → end' ≡ false → n ≡ 0 → n ≡ length (filter (λ (p : K × V). is_before_bound cmp end' bound p.0) l)
+  at_open_start end' bound n is start' none = rw (is, start') (none ∙ sym (ap length (none_pass (λ (p : K × V). false) l (each_of (λ (p : K × V). false ≡ false) (λ p. refl) l))))
+
+  pub at_open_end : (end' : Bool) (bound : Bound K) (n : ℕ) → bound ≡ Unbounded → end' ≡ true → n ≡ length l → n ≡ length (filter (λ (p : K × V). is_before_bound cmp end' bound p.0) l)
+  at_open_end end' bound n is end'' all = rw (is, end'') (all ∙ sym (ap length (all_pass (λ (p : K × V). true) l (λ p. refl))))
 
 less_passes : (behind : Bool) → is_before behind Less ≡ true
 less_passes true = refl
@@ -162,10 +177,28 @@ module _ {K V : Type 0} {cmp : K → K → Ordering} (total : IsTotalOrder cmp) 
       (within, parts_apart behind l (take i l) (drop i l) gap ∙ length-take-le i l within)
 
 module _ {K V A : Type 0} {cmp : K → K → Ordering} (total : IsTotalOrder cmp) (is_summary : A → List K → Type 0) (slots : Slots (Inner K A) (Leaf K V)) (h : ℕ) (root : NodeId) (shape : IsWellShaped cmp is_summary slots h root) where
+  -- where some key can be between two bounds, the pairs between them stand between the places where they begin and end, and
+  -- between those where these were settled; else there are none
+  module _ (lo hi : Bound K) (hold : Bool) (told : hold ≡ may_hold cmp lo hi) where
+    pub held_between : (i j : ℕ) → i ≡ length (filter (λ (p : K × V). is_before_start cmp lo p.0) (pairs_at slots h root)) → j ≡ length (filter (λ (p : K × V). is_upto_end cmp hi p.0) (pairs_at slots h root)) → hold ≡ true → (i ≤ j) × (between_bounds cmp (pairs_at slots h root) lo hi ≡ part (pairs_at slots h root) i (j - i))
+    held_between i j before upto yes' =
+        let few = filter_fewer (λ (p : K × V). is_before_start cmp lo p.0) (λ (p : K × V). is_upto_end cmp hi p.0) (pairs_at slots h root) (λ p. held total lo hi (sym told ∙ yes') p.0) in
+        (omega (arith, few, before, upto), between_bounds_is total (pairs_at slots h root) lo hi i j (contents_ascend is_summary slots h root shape total) before upto)
+
+    pub settled_between : (i j i' j' : ℕ) → i' ≡ i → j' ≡ j → i ≡ length (filter (λ (p : K × V). is_before_start cmp lo p.0) (pairs_at slots h root)) → j ≡ length (filter (λ (p : K × V). is_upto_end cmp hi p.0) (pairs_at slots h root)) → hold ≡ true
+        → (xs : List (K × V)) → between_bounds cmp (pairs_at slots h root) lo hi ≡ xs → (i' ≤ j') × (xs ≡ part (pairs_at slots h root) i' (j' - i'))
+    settled_between i j i' j' e f before upto yes' xs same = let found = held_between i' j' (e ∙ before) (f ∙ upto) yes' in (found.0, sym same ∙ found.1)
+
+    pub none_held : hold ≡ false → between_bounds cmp (pairs_at slots h root) lo hi ≡ []
+    none_held no' = between_bounds_none total (pairs_at slots h root) lo hi (sym told ∙ no')
+
+    pub none_settled : hold ≡ false → (xs : List (K × V)) → between_bounds cmp (pairs_at slots h root) lo hi ≡ xs → (i : ℕ) → xs ≡ part (pairs_at slots h root) i (i - i)
+    none_settled no' xs same i = let gap : i - i ≡ 0 = omega arith in sym same ∙ (none_held no' ∙ sym (ap (part (pairs_at slots h root) i) gap))
+
   -- the place beside a key in the leaf for it is one in the tree
-  pub place_beside : (k : K) (id : LeafNodeId) (leaf : Leaf K V) (r : Result ℕ ℕ) (behind : Bool) → IsLeafFor cmp slots h root k id → slots.leaf id.0 ≡ Present leaf → (IsAscending cmp leaf.pairs → IsPlaceOf cmp leaf.pairs k r) → length leaf.pairs ≤ 64
-      → IsPlaceOn slots h root id (beside r behind) × (start slots h root id + beside r behind ≡ length (filter (λ (p : K × V). is_before behind (cmp p.0 k)) (pairs_at slots h root)))
-  place_beside k id leaf r behind for' here found fits =
+  pub place_beside : (k : K) (id : LeafNodeId) (leaf : Leaf K V) (r : Result ℕ ℕ) (behind : Bool) (n : ℕ) → IsLeafFor cmp slots h root k id → slots.leaf id.0 ≡ Present leaf → (IsAscending cmp leaf.pairs → IsPlaceOf cmp leaf.pairs k r) → length leaf.pairs ≤ 64 → n ≡ beside r behind
+      → IsPlaceOn slots h root id n × (start slots h root id + n ≡ length (filter (λ (p : K × V). is_before behind (cmp p.0 k)) (pairs_at slots h root)))
+  place_beside k id leaf r behind n for' here found fits is =
       let at = found_at total is_summary slots h root shape k id leaf r for' here found fits in
       let in' = for'.stands in
       let ascending = leaf_ascends total slots h root id leaf in' (contents_ascend is_summary slots h root shape total) here in
@@ -178,6 +211,6 @@ module _ {K V A : Type 0} {cmp : K → K → Ordering} (total : IsTotalOrder cmp
       ∙ (filter-append t before (leaf.pairs ++ after)
       ∙ (ap (λ l. l ++ filter t (leaf.pairs ++ after)) (filter_all cmp k (is_before behind) Less before (less_passes behind) for'.smaller)
       ∙ ap (λ l. before ++ l) (filter-append t leaf.pairs after ∙ ap (λ l. filter t leaf.pairs ++ l) (filter_none cmp k (is_before behind) Greater after (greater_fails behind) for'.greater)))) in (
-        record { stands = in'; within = omega (arith, counts.0, size_of is_summary slots h root shape id leaf here) },
-        omega (arith, start_is is_summary slots h root shape id in', ap length all, length-append before (filter t leaf.pairs ++ []), length-append (filter t leaf.pairs) [], counts.1),
+        record { stands = in'; within = omega (arith, is, counts.0, size_of is_summary slots h root shape id leaf here) },
+        omega (arith, start_is is_summary slots h root shape id in', ap length all, length-append before (filter t leaf.pairs ++ []), length-append (filter t leaf.pairs) [], counts.1, is),
       )

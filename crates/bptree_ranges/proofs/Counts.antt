@@ -1,5 +1,5 @@
 -- How many pairs stand between two ends, by how many keys are smaller than each.
-use Rattle.std.proofs.Common.{◌≡◌, ℕ, ◌-◌, ◌≤◌, List, length, filter, drop, sym, ap, ◌∙◌, arith, Option, length-drop, subst}
+use Rattle.std.proofs.Common.{◌≡◌, ℕ, ◌-◌, ◌≤◌, List, length, filter, drop, sym, ap, ◌∙◌, arith, Option, length-drop}
 use Rattle.std.specs.declared.cmp.Ordering.{Ordering}
 use Rattle.std.specs.Cmp.{IsTotalOrder}
 use Rattle.std.proofs.lemmas.List.{length-take-le}
@@ -31,7 +31,8 @@ module _ {K V A : Type 0} {cmp : K → K → Ordering} (total : IsTotalOrder cmp
       sym (ap length (between_is total l lo hi i j ascending short below) ∙ length-take-le (j - i) (drop i l) fewer)
 
   -- a leaf
-  pub leaf_counted : (id : LeafNodeId) (node : Leaf K V) → IsSubtree cmp is_summary slots h (kind.Leaf id) → slots.leaf id.0 ≡ Present node → (k : K) (n : ℕ)
-      → (IsAscending cmp node.pairs → n ≡ length (pairs_below cmp node.pairs k)) → n ≡ length (pairs_below cmp (pairs_at slots h (kind.Leaf id)) k)
-  leaf_counted id node s e k n clause =
-      subst (λ l. n ≡ length (pairs_below cmp l k)) (sym (leaf_whole total is_summary slots h id node s e)) (clause (leaf_sorted total is_summary slots h id node s e))
+  pub leaf_counted : (top : NodeId) (id : LeafNodeId) (node : Leaf K V) → IsSubtree cmp is_summary slots h top → top ≡ kind.Leaf id → slots.leaf id.0 ≡ Present node → (k : K) (n : ℕ)
+      → (IsAscending cmp node.pairs → n ≡ length (pairs_below cmp node.pairs k)) → n ≡ length (pairs_below cmp (pairs_at slots h top) k)
+  leaf_counted top id node s is e k n clause =
+      let s' : IsSubtree cmp is_summary slots h (kind.Leaf id) = rw is at s in
+      rw (is, leaf_whole total is_summary slots h id node s' e) (clause (leaf_sorted total is_summary slots h id node s' e))

@@ -1,16 +1,17 @@
 -- Where a group begins below a node, and the place of one of its pairs in a leaf.
-use Rattle.std.proofs.Common.{◌≡◌, ℕ, zero, suc, ◌+◌, ◌-◌, ◌<◌, ◌≤◌, ◌⊎◌, inl, inr, Bool, true, false, cond, List, [], ◌∷◌, ◌++◌, length, filter, take, drop, get_or, refl, ap, subst, ◌∙◌, arith, Option, Some, None, length-append, length-drop, slice_get}
+use Rattle.std.proofs.Common.{◌≡◌, ℕ, zero, suc, ◌+◌, ◌-◌, ◌<◌, ◌≤◌, ◌⊎◌, inl, inr, Bool, true, false, cond, List, [], ◌∷◌, ◌++◌, length, filter, take, drop, min, get_or, refl, sym, ap, subst, ◌∙◌, arith, Option, Some, None, length-append, length-drop, slice_get}
 use Rattle.std.specs.declared.cmp.Ordering.{Ordering}
 use Rattle.std.specs.Ordering.{is_gt}
 use Rattle.std.specs.Cmp.{IsTotalOrder}
-use Rattle.std.specs.List.{AllByRecursion}
 use Rattle.std.specs.Map.{keys_of}
 use Rattle.std.proofs.lemmas.List.{length-take}
+use Rattle.std.proofs.lemmas.Map.Entries.{length-keys_of}
 use Rattle.std.proofs.lemmas.List.Elements.{filter-append}
 use Rattle.std.proofs.lemmas.Option.{get_or_from_slice_get}
-use Rattle.bptree_arguments.specs.GroupAnswers.{is_before}
+use Rattle.bptree_arguments.specs.GroupAnswers.{IsGroupBorder, is_before}
 use Rattle.bptree_arguments.specs.Groups.{of_group}
 use Rattle.bptree_keys.specs.Contents.{IsAscending}
+use Rattle.bptree_keys.specs.Ranges.{part}
 use Rattle.bptree_keys.specs.declared.node_id.InnerNodeId.{InnerNodeId}
 use Rattle.bptree_keys.specs.declared.node_id.LeafNodeId.{LeafNodeId}
 use Rattle.bptree_keys.specs.declared.node_id.NodeId.{NodeId}
@@ -20,6 +21,7 @@ use Rattle.bptree_nodes.specs.Inner.{Inner}
 use Rattle.bptree_nodes.specs.Leaf.{Leaf}
 use Rattle.bptree_nodes.specs.Slot.{Slot, Slots, Present}
 use Rattle.bptree_ranges.specs.Places.{before_entry, before_group, IsPlaceInGroup, IsSkipped}
+use Rattle.bptree_ranges.specs.declared.places.Skipped.{Skipped}
 use Rattle.bptree_ranges.specs.declared.places.Skipped.TheVariants.{Found, Short}
 use Rattle.bptree_shape.specs.Leaves.{pairs_of}
 use Rattle.bptree_shape.specs.Order.{flat, Chain}
@@ -28,9 +30,11 @@ use Rattle.bptree_shape.proofs.Between.{Falls, none_pass}
 use Rattle.bptree_shape.proofs.Spot.{parts_of_read}
 use Rattle.bptree_shape.proofs.Walk.{flat_parts, tree_inside}
 use Rattle.bptree_descents.specs.ByArgument.{IsSubtree}
-use Rattle.bptree_descents.proofs.Summed.{whole, down}
-use Rattle.bptree_ranges.proofs.Bordered.{every_pass, count_of_first, falls_all, chain_passes, chain_fails, key_falls, of_group_is}
-use Rattle.bptree_ranges.proofs.Ranged.{start_is, size_of, contents_ascend}
+use Rattle.bptree_descents.proofs.Child.{IsChildAt, border_child, separators_ascend}
+use Rattle.bptree_descents.proofs.Summed.{whole, down, leaf_sorted}
+use Rattle.bptree_ranges.proofs.Bordered.{IsCut, every_pass, cut_counts, falls_all, chain_passes, chain_fails, key_falls, of_group_is, border_cut, leaf_cut}
+use Rattle.bptree_ranges.proofs.Passing.{found, later_on, next_is}
+use Rattle.bptree_ranges.proofs.Ranged.{start_is, size_of, contents_ascend, part_of_part}
 
 -- where those that pass a test stand first
 module _ {X : Type 0} (t : X → Bool) where
@@ -92,15 +96,25 @@ module _ {K G : Type 0} {cmp : K → K → Ordering} {R : G → G → Ordering} 
       let is = ap length (of_group_is total o group_of keeps g l b e ascending refl refl) in
       omega (arith, is, length-take (e - b) (drop b l), length-drop b l, no_more (λ (p : K × V). test true p.0) l)
 
+  -- from the place of a pair of the group to the group's end stands the rest of the group
+  pub rest_of_group : {V : Type 0} (l : List (K × V)) (at j i n : ℕ) → IsAscending cmp l → at ≡ before_group R group_of g l + i → i < length (of_group R group_of g l) → j ≡ length (filter (λ (p : K × V). test true p.0) l) → (at ≤ j) × (part l at (min n (j - at)) ≡ part (of_group R group_of g l) i n)
+  rest_of_group l at j i n ascending here more there =
+      let b = before_group R group_of g l in
+      let is = of_group_is total o group_of keeps g l b j ascending refl there in
+      let more' : i < j - b = omega (arith, more, ap length is, length-take (j - b) (drop b l)) in
+      let rest : j - at ≡ (j - b) - i = omega (arith, here, more') in (
+        omega (arith, here, more'),
+        ap (λ m. part l at (min n m)) rest ∙ (ap (λ k. part l k (min n ((j - b) - i))) here ∙ (sym (part_of_part l b (j - b) i n more') ∙ ap (λ l'. part l' i n) (sym is))),
+      )
+
   module _ {V A : Type 0} (slots : Slots (Inner K A) (Leaf K V)) (is_summary : A → List K → Type 0) where
     -- where a group begins below a node is where it begins below the child that its beginning leads to
     module _ (h : ℕ) (id : InnerNodeId) (node : Inner K A) (s : IsSubtree cmp is_summary slots (suc h) (kind.Inner id)) (e : slots.inner id.0 ≡ Present node) where
       chain : Chain cmp (IsTree cmp slots 16 h) node.keys node.children s.stands.low s.stands.high
       chain = subst (λ (x : Slot (Inner K A)). Chain cmp (IsTree cmp slots 16 h) (inner_keys x) (inner_children x) s.stands.low s.stands.high) e s.stands.tree.1
 
-      begins_here : (i : ℕ) (child : NodeId) → i ≤ length node.keys → i < length node.children → slice_get node.children i ≡ Some child → AllByRecursion (λ k. test false k ≡ true) (take i node.keys) → AllByRecursion (λ k. test false k ≡ false) (drop i node.keys)
-          → before_group R group_of g (pairs_at slots (suc h) (kind.Inner id)) ≡ before_entry slots (suc h) (kind.Inner id) i + before_group R group_of g (pairs_at slots h child)
-      begins_here i child few within read pass fail =
+      begins_here : (i : ℕ) (child : NodeId) → i < length node.children → slice_get node.children i ≡ Some child → IsCut (test false) node.keys i → before_group R group_of g (pairs_at slots (suc h) (kind.Inner id)) ≡ before_entry slots (suc h) (kind.Inner id) i + before_group R group_of g (pairs_at slots h child)
+      begins_here i child within read parts' =
           let f = pairs_at slots h in
           let t = λ (p : K × V). test false p.0 in
           let inside = λ (c : NodeId) (a b : Option K) (u : IsTree cmp slots 16 h c a b). tree_inside total slots 16 h c a b u in
@@ -108,26 +122,47 @@ module _ {K G : Type 0} {cmp : K → K → Ordering} {R : G → G → Ordering} 
           let right = flat f (drop (suc i) node.children) in
           let same : get_or node.children i child ≡ child = get_or_from_slice_get node.children i child child read in
           let parts : pairs_at slots (suc h) (kind.Inner id) ≡ left ++ (f child ++ right) = whole total is_summary slots h id node s e ∙ (flat_parts f node.children i child within ∙ ap (λ c. left ++ (f c ++ right)) same) in
-          let all : filter t left ≡ left = every_pass t left (chain_passes total (test false) (key_falls total o group_of keeps g false) f (IsTree cmp slots 16 h) inside node.keys node.children s.stands.low s.stands.high i chain few pass) in
-          let none : filter t right ≡ [] = none_pass t right (chain_fails total (test false) (key_falls total o group_of keeps g false) f (IsTree cmp slots 16 h) inside node.keys node.children s.stands.low s.stands.high i chain few fail) in
+          let all : filter t left ≡ left = every_pass t left (chain_passes total (test false) (key_falls total o group_of keeps g false) f (IsTree cmp slots 16 h) inside node.keys node.children s.stands.low s.stands.high i chain parts'.within parts'.pass) in
+          let none : filter t right ≡ [] = none_pass t right (chain_fails total (test false) (key_falls total o group_of keeps g false) f (IsTree cmp slots 16 h) inside node.keys node.children s.stands.low s.stands.high i chain parts'.within parts'.fail) in
           let is : before_entry slots (suc h) (kind.Inner id) i ≡ length left = ap (λ (x : Slot (Inner K A)). length (flat f (take i (inner_children x)))) e in
           let cut : length (filter t (pairs_at slots (suc h) (kind.Inner id))) ≡ length (filter t left) + length (filter t (f child ++ right)) = ap (λ l. length (filter t l)) parts ∙ (ap length (filter-append t left (f child ++ right)) ∙ length-append (filter t left) (filter t (f child ++ right))) in
           let rest : length (filter t (f child ++ right)) ≡ length (filter t (f child)) + length (filter t right) = ap length (filter-append t (f child) right) ∙ length-append (filter t (f child)) (filter t right) in
           omega (arith, cut, rest, is, ap length all, ap length none)
 
-    pub begins : (h : ℕ) (id : InnerNodeId) (node : Inner K A) → IsSubtree cmp is_summary slots h (kind.Inner id) → slots.inner id.0 ≡ Present node → (i : ℕ) (child : NodeId) → i ≤ length node.keys → i < length node.children → slice_get node.children i ≡ Some child
-        → AllByRecursion (λ k. test false k ≡ true) (take i node.keys) → AllByRecursion (λ k. test false k ≡ false) (drop i node.keys) → before_group R group_of g (pairs_at slots h (kind.Inner id)) ≡ before_entry slots h (kind.Inner id) i + before_group R group_of g (pairs_at slots (h - 1) child)
-    begins zero id node s e i child few within read pass fail = absurd s.stands.tree
-    begins (suc h) id node s e i child few within read pass fail = rw (down total is_summary slots h) (begins_here h id node s e i child few within read pass fail)
+    module _ (top : NodeId) (id : InnerNodeId) (node : Inner K A) (n : ℕ) (child : NodeId) where
+      begins : (h : ℕ) → IsChildAt cmp is_summary slots h top id node n child → IsCut (test false) node.keys n → before_group R group_of g (pairs_at slots h top) ≡ before_entry slots h top n + before_group R group_of g (pairs_at slots (h - 1) child)
+      begins zero there parts = absurd there.at.subtree.stands.tree
+      begins (suc h) there parts = rw (there.at.is, down total is_summary slots h) (begins_here h id node there.at.subtree there.at.read n child there.within there.child_is parts)
+
+    -- what a walk from there finds below the child, or else behind it
+    module _ (h : ℕ) (top : NodeId) (id : InnerNodeId) (node : Inner K A) (s : IsSubtree cmp is_summary slots h top) (is : top ≡ kind.Inner id) (e : slots.inner id.0 ≡ Present node)
+        (given : List K) (n : ℕ) (are : given ≡ node.keys) (few : n ≤ length given) (border : IsGroupBorder cmp R group_of g false given n) (child : NodeId) (read : slice_get node.children n ≡ Some child) where
+      there : IsChildAt cmp is_summary slots h top id node n child
+      there = border_child total is_summary slots h top id node s is e given n are few child read
+
+      starts : before_group R group_of g (pairs_at slots h top) ≡ before_entry slots h top n + before_group R group_of g (pairs_at slots (h - 1) child)
+      starts = begins top id node n child h there (border_cut total o group_of keeps g false node.keys given n are (separators_ascend total is_summary slots h top id node there.at) few border)
+
+      pub found_in_child : (i : ℕ) (leaf : LeafNodeId) (slot : ℕ) → IsSkipped slots (h - 1) child (before_group R group_of g (pairs_at slots (h - 1) child)) i (Found leaf slot) → IsSkipped slots h top (before_group R group_of g (pairs_at slots h top)) i (Found leaf slot)
+      found_in_child i leaf slot below =
+          found total is_summary slots top id node n h child there (before_group R group_of g (pairs_at slots (h - 1) child)) i (before_group R group_of g (pairs_at slots h top)) i leaf slot (omega (arith, starts)) below
+
+      pub found_behind : (i rest : ℕ) (skipped : Skipped) → IsSkipped slots (h - 1) child (before_group R group_of g (pairs_at slots (h - 1) child)) i (Short rest) → IsSkipped slots h (kind.Inner id) (before_entry slots h (kind.Inner id) (n + 1)) rest skipped → IsSkipped slots h top (before_group R group_of g (pairs_at slots h top)) i skipped
+      found_behind i rest skipped short behind =
+          let behind' = subst (λ t. IsSkipped slots h t (before_entry slots h t (n + 1)) rest skipped) (sym is) behind in
+          later_on total is_summary slots h top (before_group R group_of g (pairs_at slots h top)) (before_entry slots h top (n + 1)) rest i (omega (arith, starts, next_is total is_summary slots top id node n h child there, short)) skipped behind'
 
     -- and in a leaf
-    pub begins_in_leaf : (h : ℕ) (id : LeafNodeId) (node : Leaf K V) → IsSubtree cmp is_summary slots h (kind.Leaf id) → slots.leaf id.0 ≡ Present node → (n : ℕ) → n ≤ length node.pairs → AllByRecursion (λ k. test false k ≡ true) (take n (keys_of node.pairs)) → AllByRecursion (λ k. test false k ≡ false) (drop n (keys_of node.pairs))
-        → before_entry slots h (kind.Leaf id) n ≡ before_group R group_of g (pairs_at slots h (kind.Leaf id))
-    begins_in_leaf zero id node s e n within pass fail =
-        let is : length (leaf_pairs (slots.leaf id.0)) ≡ length node.pairs = ap (λ (x : Slot (Leaf K V)). length (leaf_pairs x)) e in
-        let count : before_group R group_of g (leaf_pairs (slots.leaf id.0)) ≡ n = ap (λ (x : Slot (Leaf K V)). before_group R group_of g (leaf_pairs x)) e ∙ count_of_first (test false) node.pairs n within pass fail in
-        omega (arith, is, count, within)
-    begins_in_leaf (suc h) id node s e n within pass fail = absurd s.stands.tree
+    pub found_in_leaf : (h : ℕ) (top : NodeId) (id : LeafNodeId) (node : Leaf K V) → IsSubtree cmp is_summary slots h top → top ≡ kind.Leaf id → slots.leaf id.0 ≡ Present node → (given : List K) (n : ℕ) → given ≡ keys_of node.pairs → n ≤ length given → IsGroupBorder cmp R group_of g false given n
+        → (i : ℕ) (skipped : Skipped) → IsSkipped slots h (kind.Leaf id) (before_entry slots h (kind.Leaf id) n) i skipped → IsSkipped slots h top (before_group R group_of g (pairs_at slots h top)) i skipped
+    found_in_leaf zero top id node s is e given n are few found i skipped there =
+        let s' : IsSubtree cmp is_summary slots zero (kind.Leaf id) = rw is at s in
+        let parts = border_cut total o group_of keeps g false (keys_of node.pairs) given n are (leaf_sorted total is_summary slots zero id node s' e) few found in
+        let long : length (leaf_pairs (slots.leaf id.0)) ≡ length node.pairs = ap (λ (x : Slot (Leaf K V)). length (leaf_pairs x)) e in
+        let count : before_group R group_of g (leaf_pairs (slots.leaf id.0)) ≡ n = ap (λ (x : Slot (Leaf K V)). before_group R group_of g (leaf_pairs x)) e ∙ cut_counts (test false) node.pairs n parts in
+        let same : before_entry slots zero (kind.Leaf id) n ≡ before_group R group_of g (pairs_at slots zero (kind.Leaf id)) = omega (arith, long, count, parts.within, length-keys_of node.pairs) in
+        rw is (subst (λ m. IsSkipped slots zero (kind.Leaf id) m i skipped) same there)
+    found_in_leaf (suc h) top id node s is e given n are few found i skipped there = absurd (rw is at s.stands.tree)
 
     -- what a walk over the whole tree says of the group
     module _ (h : ℕ) (root : NodeId) (shape : IsWellShaped cmp is_summary slots h root) (i : ℕ) where
@@ -138,10 +173,13 @@ module _ {K G : Type 0} {cmp : K → K → Ordering} {R : G → G → Ordering} 
       ascending = contents_ascend is_summary slots h root shape total
 
       pub group_short : (n : ℕ) → IsSkipped slots h root (before_group R group_of g pairs) i (Short n) → IsPlaceInGroup slots R group_of g h root i None
-      group_short n (all, less) = omega (arith, size_of_group pairs ascending, no_more (λ (p : K × V). test true p.0) pairs, all, less)
+      group_short n all = omega (arith, size_of_group pairs ascending, no_more (λ (p : K × V). test true p.0) pairs, all)
 
       module _ (leaf : LeafNodeId) (slot end : ℕ) (node : Leaf K V) (there : IsSkipped slots h root (before_group R group_of g pairs) i (Found leaf slot)) (e : slots.leaf leaf.0 ≡ Present node)
-          (within : end ≤ length node.pairs) (pass : AllByRecursion (λ k. test true k ≡ true) (take end (keys_of node.pairs))) (fail : AllByRecursion (λ k. test true k ≡ false) (drop end (keys_of node.pairs))) where
+          (given : List K) (are : given ≡ keys_of node.pairs) (few : end ≤ length given) (found' : IsGroupBorder cmp R group_of g true given end) where
+        ends_there : length (filter (λ (p : K × V). test true p.0) node.pairs) ≡ end
+        ends_there = cut_counts (test true) node.pairs end (leaf_cut total o group_of keeps g is_summary slots h root shape leaf node there.0 e true given end are few found')
+
         abbrev front : List (K × V)
         front = pairs_of slots there.0.before
 
@@ -159,7 +197,7 @@ module _ {K G : Type 0} {cmp : K → K → Ordering} {R : G → G → Ordering} 
 
         pub in_group : slot < end → IsPlaceInGroup slots R group_of g h root i (Some (leaf, slot))
         in_group less =
-            let inside = inside_end (λ (p : K × V). test true p.0) front node.pairs back falls end slot (count_of_first (test true) node.pairs end within pass fail) less in
+            let inside = inside_end (λ (p : K × V). test true p.0) front node.pairs back falls end slot ends_there less in
             let short = there.1 in
             let at = there.2 in (
               record { stands = there.0; within = omega (arith, short) },
@@ -170,5 +208,5 @@ module _ {K G : Type 0} {cmp : K → K → Ordering} {R : G → G → Ordering} 
         pub past_group : end ≤ slot → IsPlaceInGroup slots R group_of g h root i None
         past_group past =
             let small : slot < length node.pairs = omega (arith, there.1, size_of is_summary slots h root shape leaf node e) in
-            let behind = behind_end (λ (p : K × V). test true p.0) front node.pairs back falls end slot (count_of_first (test true) node.pairs end within pass fail) past small in
+            let behind = behind_end (λ (p : K × V). test true p.0) front node.pairs back falls end slot ends_there past small in
             omega (arith, size_of_group pairs ascending, ends, behind, there.2)

@@ -15,14 +15,17 @@ use Rattle.bptree_nodes.specs.Inner.{Inner}
 use Rattle.bptree_nodes.specs.Leaf.{Leaf}
 use Rattle.bptree_nodes.specs.Slot.{Slot, Slots, Present}
 use Rattle.bptree_ranges.specs.Places.{before_entry, IsSkipped}
+use Rattle.bptree_ranges.specs.declared.places.Skipped.{Skipped}
 use Rattle.bptree_ranges.specs.declared.places.Skipped.TheVariants.{Found, Short}
 use Rattle.bptree_shape.specs.Leaves.{pairs_of}
 use Rattle.bptree_shape.specs.Order.{flat}
 use Rattle.bptree_shape.specs.Shape.{leaf_pairs, inner_children, leaves_at, pairs_at}
 use Rattle.bptree_shape.proofs.Down.{pairs_of_all, stands_above}
+use Rattle.bptree_shape.proofs.ListReads.{read_some}
 use Rattle.bptree_shape.proofs.NodePieces.{keys_at}
 use Rattle.bptree_shape.proofs.Walk.{flat-append}
 use Rattle.bptree_descents.specs.ByArgument.{IsSubtree}
+use Rattle.bptree_descents.proofs.Child.{IsChildAt, IsNodeAt}
 use Rattle.bptree_descents.proofs.Summed.{pieces, same, summaries, whole, down}
 
 one_more : {C X : Type 0} (f : C → List X) (cs : List C) (n : ℕ) (d : C) → n < length cs → length (flat f (take (n + 1) cs)) ≡ length (flat f (take n cs)) + length (f (get_or cs n d))
@@ -37,30 +40,24 @@ module _ {K V A : Type 0} {cmp : K → K → Ordering} (total : IsTotalOrder cmp
   none_before (suc h) (kind.Leaf id) = refl
 
   -- a leaf has so many places from a slot on
-  module _ (id : LeafNodeId) (node : Leaf K V) (first i len : ℕ) where
-    pub leaf_found : (h : ℕ) → IsSubtree cmp is_summary slots h (kind.Leaf id) → slots.leaf id.0 ≡ Present node → len ≡ length node.pairs - first → i < len → IsSkipped slots h (kind.Leaf id) (before_entry slots h (kind.Leaf id) first) i (Found id (first + i))
-    leaf_found zero s e is less =
+  module _ (top : NodeId) (id : LeafNodeId) (node : Leaf K V) (first i all len : ℕ) where
+    pub leaf_found : (h : ℕ) → IsSubtree cmp is_summary slots h top → top ≡ kind.Leaf id → slots.leaf id.0 ≡ Present node → all ≡ length node.pairs → len ≡ all - first → i < len → IsSkipped slots h top (before_entry slots h top first) i (Found id (first + i))
+    leaf_found zero s is e are rest less =
         let long : length (leaf_pairs (slots.leaf id.0)) ≡ length node.pairs = ap (λ (x : Slot (Leaf K V)). length (leaf_pairs x)) e in
-        (record { before = []; after = []; leaves = refl; present = s.stands.tree.0 }, omega (arith, long), omega (arith, long))
-    leaf_found (suc h) s e is less = absurd s.stands.tree
+        let s' : IsSubtree cmp is_summary slots zero (kind.Leaf id) = rw is at s in
+        rw is (record { before = []; after = []; leaves = refl; present = s'.stands.tree.0 }, omega (arith, long), omega (arith, long))
+    leaf_found (suc h) s is e are rest less = absurd (rw is at s.stands.tree)
 
-    pub leaf_short : (h : ℕ) → IsSubtree cmp is_summary slots h (kind.Leaf id) → slots.leaf id.0 ≡ Present node → len ≡ length node.pairs - first → len ≤ i → IsSkipped slots h (kind.Leaf id) (before_entry slots h (kind.Leaf id) first) i (Short len)
-    leaf_short zero s e is less =
+    pub leaf_short : (h : ℕ) → IsSubtree cmp is_summary slots h top → top ≡ kind.Leaf id → slots.leaf id.0 ≡ Present node → all ≡ length node.pairs → len ≡ all - first → len ≤ i → IsSkipped slots h top (before_entry slots h top first) i (Short (i - len))
+    leaf_short zero s is e are rest less =
         let long : length (leaf_pairs (slots.leaf id.0)) ≡ length node.pairs = ap (λ (x : Slot (Leaf K V)). length (leaf_pairs x)) e in
-        (omega (arith, long), less)
-    leaf_short (suc h) s e is less = absurd s.stands.tree
-
-  -- a child that has no more pairs than are to be passed
-  pub child_passed : (h : ℕ) (child : NodeId) (rest count : ℕ) → IsSkipped slots h child (before_entry slots h child 0) rest (Short count) → (count ≤ rest) × (count ≡ length (pairs_at slots h child))
-  child_passed h child rest count (all, less) = (less, omega (arith, none_before h child, all))
+        rw is (omega (arith, long))
+    leaf_short (suc h) s is e are rest less = absurd (rw is at s.stands.tree)
 
   -- what is found from a later place on
-  module _ (h : ℕ) (id : NodeId) (start later count i : ℕ) (is : later ≡ start + count) (less : count ≤ i) where
-    pub found_later : (leaf : LeafNodeId) (slot : ℕ) → IsSkipped slots h id later (i - count) (Found leaf slot) → IsSkipped slots h id start i (Found leaf slot)
-    found_later leaf slot (stands, short, at) = (stands, short, omega (arith, at, is, less))
-
-    pub short_later : (more : ℕ) → IsSkipped slots h id later (i - count) (Short more) → IsSkipped slots h id start i (Short (count + more))
-    short_later more (all, few) = (omega (arith, all, is), omega (arith, few, less))
+  pub later_on : (h : ℕ) (id : NodeId) (start later rest i : ℕ) → start + i ≡ later + rest → (skipped : Skipped) → IsSkipped slots h id later rest skipped → IsSkipped slots h id start i skipped
+  later_on h id start later rest i is (Found leaf slot) (stands, short, at) = (stands, short, omega (arith, at, is))
+  later_on h id start later rest i is (Short more) all = omega (arith, all, is)
 
   module _ (h : ℕ) (id : InnerNodeId) (node : Inner K A) (s : IsSubtree cmp is_summary slots (suc h) (kind.Inner id)) (e : slots.inner id.0 ≡ Present node) where
     before_is : (n : ℕ) → before_entry slots (suc h) (kind.Inner id) n ≡ length (flat (pairs_at slots h) (take n node.children))
@@ -97,35 +94,47 @@ module _ {K V A : Type 0} {cmp : K → K → Ordering} (total : IsTotalOrder cmp
           (stands_above slots h id node e n child leaf within read stands, short, moved)
 
   -- the same at a height that the code knows
-  module _ (id : InnerNodeId) (node : Inner K A) where
-    pub as_many : (h : ℕ) → IsSubtree cmp is_summary slots h (kind.Inner id) → slots.inner id.0 ≡ Present node → length node.arguments ≡ length node.children
-    as_many zero s e = absurd s.stands.tree
-    as_many (suc h) s e = many h id node s e
+  module _ (top : NodeId) (id : InnerNodeId) (node : Inner K A) where
+    as_many : (h : ℕ) → IsNodeAt cmp is_summary slots h top id node → length node.arguments ≡ length node.children
+    as_many zero at = absurd at.subtree.stands.tree
+    as_many (suc h) at = many h id node at.subtree at.read
 
-    pub ended : (h : ℕ) → IsSubtree cmp is_summary slots h (kind.Inner id) → slots.inner id.0 ≡ Present node → (n start rest i : ℕ) → length node.children ≤ n → before_entry slots h (kind.Inner id) n + rest ≡ start + i → rest ≤ i → IsSkipped slots h (kind.Inner id) start i (Short (i - rest))
-    ended zero s e n start rest i past sum less = absurd s.stands.tree
-    ended (suc h) s e n start rest i past sum less = (omega (arith, all_before h id node s e n past, sum, less), omega arith)
+    pub ended : (h : ℕ) → IsNodeAt cmp is_summary slots h top id node → (arguments : List A) → arguments ≡ node.arguments → (n start rest i : ℕ) → length arguments ≤ n → before_entry slots h top n + rest ≡ start + i → IsSkipped slots h top start i (Short rest)
+    ended zero at arguments are n start rest i past sum = absurd at.subtree.stands.tree
+    ended (suc h) at arguments are n start rest i past sum =
+        let sum' = rw at.is at sum in
+        let all = all_before h id node at.subtree at.read n (omega (arith, past, ap length are, many h id node at.subtree at.read)) in
+        rw at.is (omega (arith, all, sum'))
 
-    module _ (n : ℕ) (child : NodeId) where
-      pub told : (h : ℕ) → IsSubtree cmp is_summary slots h (kind.Inner id) → slots.inner id.0 ≡ Present node → n < length node.children → slice_get node.children n ≡ Some child → (arguments : List A) (argument : A) (count : ℕ) → arguments ≡ node.arguments → argument ≡ get_or arguments n argument → ((keys : List K) → is_summary argument keys → count ≡ length keys)
-          → count ≡ length (pairs_at slots (h - 1) child)
-      told zero s e within read arguments argument count are is law = absurd s.stands.tree
-      told (suc h) s e within read arguments argument count are is law = rw (down total is_summary slots h) (told_here h id node s e n child within read argument count (is ∙ ap (λ l. get_or l n argument) are) law)
+    module _ (n : ℕ) where
+      -- each summary belongs to a child
+      pub child_of : (h : ℕ) → IsNodeAt cmp is_summary slots h top id node → (arguments : List A) → arguments ≡ node.arguments → n < length arguments → (child : NodeId) → slice_get node.children n ≡ Some child → IsChildAt cmp is_summary slots h top id node n child
+      child_of h at' arguments are less child read = record { at = at'; within = omega (arith, less, ap length are, as_many h at'); child_is = read }
 
-      pub passed : (h : ℕ) → IsSubtree cmp is_summary slots h (kind.Inner id) → slots.inner id.0 ≡ Present node → n < length node.children → slice_get node.children n ≡ Some child → (count rest start i : ℕ) → count ≡ length (pairs_at slots (h - 1) child) → count ≤ rest → before_entry slots h (kind.Inner id) n + rest ≡ start + i
-          → before_entry slots h (kind.Inner id) (n + 1) + (rest - count) ≡ start + i
-      passed zero s e within read count rest start i is less sum = absurd s.stands.tree
-      passed (suc h) s e within read count rest start i is less sum = let is' : count ≡ length (pairs_at slots h child) = rw (down total is_summary slots h) at is in omega (arith, next_before h id node s e n child within read, is', less, sum)
+      pub next_is : (h : ℕ) (child : NodeId) → IsChildAt cmp is_summary slots h top id node n child → before_entry slots h top (n + 1) ≡ before_entry slots h top n + length (pairs_at slots (h - 1) child)
+      next_is zero child there = absurd there.at.subtree.stands.tree
+      next_is (suc h) child there = rw (there.at.is, down total is_summary slots h) (next_before h id node there.at.subtree there.at.read n child there.within there.child_is)
 
-      pub next_is : (h : ℕ) → IsSubtree cmp is_summary slots h (kind.Inner id) → slots.inner id.0 ≡ Present node → n < length node.children → slice_get node.children n ≡ Some child → before_entry slots h (kind.Inner id) (n + 1) ≡ before_entry slots h (kind.Inner id) n + length (pairs_at slots (h - 1) child)
-      next_is zero s e within read = absurd s.stands.tree
-      next_is (suc h) s e within read = rw (down total is_summary slots h) (next_before h id node s e n child within read)
+      -- a child is passed that its summary tells of, or that was walked over
+      pub passed_by : (h : ℕ) → IsNodeAt cmp is_summary slots h top id node → (arguments : List A) → arguments ≡ node.arguments → n < length arguments → (argument : A) → argument ≡ get_or arguments n argument → (count : ℕ) → ((keys : List K) → is_summary argument keys → count ≡ length keys)
+          → (rest start i : ℕ) → count ≤ rest → before_entry slots h top n + rest ≡ start + i → before_entry slots h top (n + 1) + (rest - count) ≡ start + i
+      passed_by zero at arguments are less argument is count law rest start i few sum = absurd at.subtree.stands.tree
+      passed_by (suc h) at arguments are less argument is count law rest start i few sum =
+          let within : n < length node.children = omega (arith, less, ap length are, many h id node at.subtree at.read) in
+          let child = read_some node.children n within in
+          let told = told_here h id node at.subtree at.read n child.0 within child.1 argument count (is ∙ ap (λ l. get_or l n argument) are) law in
+          let sum' = rw at.is at sum in
+          rw at.is (omega (arith, next_before h id node at.subtree at.read n child.0 within child.1, told, few, sum'))
 
-      pub found : (h : ℕ) → IsSubtree cmp is_summary slots h (kind.Inner id) → slots.inner id.0 ≡ Present node → n < length node.children → slice_get node.children n ≡ Some child → (from rest start i : ℕ) (leaf : LeafNodeId) (slot : ℕ) → before_entry slots h (kind.Inner id) n + (from + rest) ≡ start + i
-          → IsSkipped slots (h - 1) child from rest (Found leaf slot) → IsSkipped slots h (kind.Inner id) start i (Found leaf slot)
-      found zero s e within read from rest start i leaf slot sum there = absurd s.stands.tree
-      found (suc h) s e within read from rest start i leaf slot sum there = found_here h id node s e n child within read from rest start i leaf slot sum (rw (down total is_summary slots h) at there)
+      pub passed_below : (h : ℕ) (child : NodeId) → IsChildAt cmp is_summary slots h top id node n child → (rest more start i : ℕ) → IsSkipped slots (h - 1) child (before_entry slots (h - 1) child 0) rest (Short more) → before_entry slots h top n + rest ≡ start + i → before_entry slots h top (n + 1) + more ≡ start + i
+      passed_below h child there rest more start i all sum = omega (arith, next_is h child there, none_before (h - 1) child, all, sum)
 
-      pub found_first : (h : ℕ) → IsSubtree cmp is_summary slots h (kind.Inner id) → slots.inner id.0 ≡ Present node → n < length node.children → slice_get node.children n ≡ Some child → (rest start i : ℕ) (leaf : LeafNodeId) (slot : ℕ) → before_entry slots h (kind.Inner id) n + rest ≡ start + i
-          → IsSkipped slots (h - 1) child (before_entry slots (h - 1) child 0) rest (Found leaf slot) → IsSkipped slots h (kind.Inner id) start i (Found leaf slot)
-      found_first h s e within read rest start i leaf slot sum there = found h s e within read (before_entry slots (h - 1) child 0) rest start i leaf slot (omega (arith, none_before (h - 1) child, sum)) there
+      pub found : (h : ℕ) (child : NodeId) → IsChildAt cmp is_summary slots h top id node n child → (from rest start i : ℕ) (leaf : LeafNodeId) (slot : ℕ) → before_entry slots h top n + (from + rest) ≡ start + i
+          → IsSkipped slots (h - 1) child from rest (Found leaf slot) → IsSkipped slots h top start i (Found leaf slot)
+      found zero child there from rest start i leaf slot sum below = absurd there.at.subtree.stands.tree
+      found (suc h) child there from rest start i leaf slot sum below =
+          rw there.at.is (found_here h id node there.at.subtree there.at.read n child there.within there.child_is from rest start i leaf slot (rw there.at.is at sum) (rw (down total is_summary slots h) at below))
+
+      pub found_first : (h : ℕ) (child : NodeId) → IsChildAt cmp is_summary slots h top id node n child → (rest start i : ℕ) (leaf : LeafNodeId) (slot : ℕ) → before_entry slots h top n + rest ≡ start + i
+          → IsSkipped slots (h - 1) child (before_entry slots (h - 1) child 0) rest (Found leaf slot) → IsSkipped slots h top start i (Found leaf slot)
+      found_first h child there rest start i leaf slot sum below = found h child there (before_entry slots (h - 1) child 0) rest start i leaf slot (omega (arith, none_before (h - 1) child, sum)) below

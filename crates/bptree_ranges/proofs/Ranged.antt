@@ -1,33 +1,32 @@
 -- Places in the leaves of a tree: how many pairs stand before them, and which leaf comes after which.
-use Rattle.std.proofs.Common.{◌≡◌, ℕ, zero, suc, ◌+◌, ◌-◌, ◌<◌, ◌≤◌, ◌⊎◌, inl, inr, Bool, true, false, not, cond, eqb, List, [], ◌∷◌, ◌++◌, length, refl, sym, ap, subst, ◌∙◌, arith, Option, Some, None, Result, take, drop, filter, min, append_assoc, length-append, length-drop}
+use Rattle.std.proofs.Common.{◌≡◌, ℕ, zero, suc, ◌+◌, ◌-◌, ◌<◌, ◌≤◌, ◌⊎◌, inl, inr, Bool, true, false, cond, eqb, List, [], ◌∷◌, ◌++◌, length, refl, sym, ap, subst, ◌∙◌, arith, Option, Some, None, take, drop, filter, min, append_assoc, length-append, length-drop}
 use Rattle.std.proofs.Common.{drop-drop}
 use Rattle.std.proofs.Math.Nat.{eq-or-lt_of_le}
 use Rattle.std.proofs.Math.Seq.{take-nil}
-use Rattle.std.proofs.lemmas.List.{drop-take, drop_all, length-take, length-take-le, take_min}
+use Rattle.std.proofs.lemmas.List.{drop-take, drop_all, take_min}
 use Rattle.std.specs.Cmp.{IsTotalOrder}
 use mathlib.Core.Bool.{true≢false}
 use Rattle.std.proofs.lemmas.Bool.Decides.{eqb_tells}
 use Rattle.std.specs.declared.cmp.Ordering.{Ordering}
 use Rattle.std.specs.List.{AllByRecursion}
 use Rattle.std.specs.Map.{keys_of}
+use Rattle.bptree_iteration.specs.Span.{Tells}
+use Rattle.bptree_iteration.specs.declared.part.Extent.{Extent}
 use Rattle.bptree_keys.specs.declared.node_id.LeafNodeId.{LeafNodeId}
 use Rattle.bptree_keys.specs.declared.node_id.NodeId.{NodeId}
 use Rattle.bptree_nodes.specs.Inner.{Inner}
 use Rattle.bptree_nodes.specs.Leaf.{Leaf}
 use Rattle.bptree_nodes.specs.Slot.{Slot, Slots, Free, Held, Present, IsPresent}
-use Rattle.bptree_keys.specs.Contents.{IsAscending, pairs_below}
-use Rattle.bptree_keys.specs.Places.{IsPlaceOf}
+use Rattle.bptree_keys.specs.Contents.{IsAscending}
 use Rattle.bptree_keys.specs.Ranges.{part}
-use Rattle.bptree_nodes.specs.LeafResults.{place_of}
-use Rattle.bptree_keys.proofs.Around.{pairs_below_around}
 use Rattle.bptree_keys.proofs.PieceLemmas.{AllByRecursion-right}
 use Rattle.bptree_descents.specs.ByArgument.{IsSelectedAt}
-use Rattle.bptree_shape.specs.Leaves.{pairs_of, StandsIn, IsFirstLeaf, IsLastLeaf, IsLeafFor}
-use Rattle.bptree_ranges.specs.Ranges.{ahead, start, empty_at, IsPart, IsPlaceOn, IsSettled}
+use Rattle.bptree_shape.specs.Leaves.{pairs_of, StandsIn, IsFirstLeaf, IsLastLeaf}
+use Rattle.bptree_ranges.specs.Ranges.{ahead, start, place_on, empty_at, IsPart, IsPlaceOn, IsSettled}
 use Rattle.bptree_shape.specs.Shape.{leaf_pairs, leaf_next, leaves_at, pairs_at, stands, AreLinked, IsWellShaped, root_least}
-use Rattle.bptree_descents.proofs.Beside.{HasPair, others_have, found_at, below_upto, place_within}
+use Rattle.bptree_descents.proofs.Beside.{HasPair, others_have}
 use Rattle.bptree_shape.proofs.Hinted.{count_of, count_leaves, first_or, linked_next, total-append}
-use Rattle.bptree_shape.proofs.Spot.{parts_of, parts_of_read, leaf_ascends}
+use Rattle.bptree_shape.proofs.Spot.{parts_of}
 use Rattle.bptree_shape.proofs.Walk.{flat-append, tree_ascends}
 
 -- of two members of a list, each with what stands before and behind it: they are one, or one stands before the other
@@ -205,6 +204,29 @@ module _ {K V A : Type 0} {cmp : K → K → Ordering} (is_summary : A → List 
             ])
       ]
 
+  -- the part between two places that were settled
+  pub part_between_settled : (front back one other : LeafNodeId × ℕ) (limit' : ℕ) (extent' : Extent) → IsSettled slots h root (place_on slots h root front) one → IsSettled slots h root (place_on slots h root back) other → place_on slots h root front ≤ place_on slots h root back
+      → Tells extent' limit' (place_on slots h root back - place_on slots h root front)
+      → IsPart slots h root (record { front = one.0; from = one.1; back = other.0; to = other.1; limit = limit'; extent = extent' }) (part (pairs_at slots h root) (place_on slots h root front) (min limit' (place_on slots h root back - place_on slots h root front)))
+  part_between_settled front back one other limit' extent' a b le told =
+      let i = place_on slots h root front in
+      let j = place_on slots h root back in
+      let i' = place_on slots h root one in
+      let j' = place_on slots h root other in
+      let from : i ≡ i' = sym a.same in
+      let apart : j - i ≡ j' - i' = omega (arith, a.same, b.same) in
+      record {
+        front = a.on;
+        back = b.on;
+        rises = rises_between one other i j a b le;
+        tells = subst (Tells extent' limit') apart told;
+        pairs = ap (λ k. part (pairs_at slots h root) k (min limit' (j - i))) from ∙ ap (λ n. part (pairs_at slots h root) i' (min limit' n)) apart;
+      }
+
+  -- the place that was settled has as many pairs before it as itself
+  pub settled_itself : (i : ℕ) (at : LeafNodeId × ℕ) → IsSettled slots h root i at → IsSettled slots h root (place_on slots h root at) at
+  settled_itself i at settled = subst (λ n. IsSettled slots h root n at) (sym settled.same) settled
+
   -- the first place of all, and the one behind the last pair
   pub first_place : (leaf : LeafNodeId) → IsFirstLeaf slots h root leaf → IsPlaceOn slots h root leaf 0 × (start slots h root leaf + 0 ≡ 0)
   first_place leaf first =
@@ -215,22 +237,6 @@ module _ {K V A : Type 0} {cmp : K → K → Ordering} (is_summary : A → List 
   last_place leaf node last here =
       let none : length (pairs_of slots last.stands.after) ≡ 0 = rw last.last refl in
       (record { stands = last.stands; within = omega (arith, size_of leaf node here) }, omega (arith, total_is leaf last.stands, none, size_of leaf node here))
-
-  -- the place behind the smaller keys
-  pub key_place : (total : IsTotalOrder cmp) (k : K) (id : LeafNodeId) (leaf : Leaf K V) (place : Result ℕ ℕ) → IsLeafFor cmp slots h root k id → slots.leaf id.0 ≡ Present leaf → (IsAscending cmp leaf.pairs → IsPlaceOf cmp leaf.pairs k place) → length leaf.pairs ≤ 64
-      → IsPlaceOn slots h root id (place_of place) × (start slots h root id + place_of place ≡ length (pairs_below cmp (pairs_at slots h root) k))
-  key_place total k id leaf place for' here found fits =
-      let at = found_at total is_summary slots h root shape k id leaf place for' here found fits in
-      let in' = for'.stands in
-      let ascending = leaf_ascends total slots h root id leaf in' (tree_ascends total slots (root_least h) h root None None shape.tree) here in
-      let within = place_within cmp total leaf.pairs ascending k place at.place_is in
-      let around : pairs_below cmp (pairs_at slots h root) k ≡ pairs_of slots in'.before ++ take (place_of place) leaf.pairs =
-      ap (λ l. pairs_below cmp l k) (parts_of_read slots h root id in' leaf here)
-      ∙ (pairs_below_around cmp k (pairs_of slots in'.before) leaf.pairs (pairs_of slots in'.after) for'.smaller for'.greater
-      ∙ ap (λ l. pairs_of slots in'.before ++ l) (below_upto cmp total leaf.pairs ascending k place at.place_is)) in (
-        record { stands = in'; within = omega (arith, within, size_of id leaf here) },
-        omega (arith, start_is id in', ap length around, length-append (pairs_of slots in'.before) (take (place_of place) leaf.pairs), length-take-le (place_of place) leaf.pairs within),
-      )
 
   pub contents_ascend : IsTotalOrder cmp → IsAscending cmp (pairs_at slots h root)
   contents_ascend total = tree_ascends total slots (root_least h) h root None None shape.tree
@@ -247,8 +253,12 @@ module _ {K V A : Type 0} {cmp : K → K → Ordering} (is_summary : A → List 
   selected_within selects query leaf slot (in', short, selected) = omega (arith, short, start_is leaf in', total_is leaf in')
 
 -- a part that asks for more than there is
-pub part_cut : {X : Type 0} (l : List X) (i n m : ℕ) → m ≡ min n (length l - i) → part l i n ≡ part l i m
+part_cut : {X : Type 0} (l : List X) (i n m : ℕ) → m ≡ min n (length l - i) → part l i n ≡ part l i m
 part_cut l i n m e = sym (take_min n (drop i l)) ∙ ap (λ k. take k (drop i l)) (ap (min n) (length-drop i l) ∙ sym e)
+
+-- a part up to the end
+pub part_upto_end : {X : Type 0} (l : List X) (i n m : ℕ) → m ≡ length l → part l i (min n (m - i)) ≡ part l i n
+part_upto_end l i n m e = ap (λ k. part l i (min n (k - i))) e ∙ sym (part_cut l i n (min n (length l - i)) refl)
 
 -- the first of the first, of two numbers the less
 pub take_of_take : {X : Type 0} (n k : ℕ) (l : List X) → take n (take k l) ≡ take (min n k) l

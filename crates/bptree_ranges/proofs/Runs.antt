@@ -25,7 +25,7 @@ module _ {K V Q : Type 0} (selects : Q → List K → Option ℕ → Type 0) (qu
 
 module _ {K V : Type 0} {cmp : K → K → Ordering} (total : IsTotalOrder cmp) (alike : (k : K) → cmp k k ≡ Equal) (l : List (K × V)) (ascending : IsAscending cmp l) where
   place_is : (i : ℕ) (p : K × V) → slice_get l i ≡ Some p → i ≡ length (pairs_below cmp l p.0)
-  place_is i p read = smaller_of total p.0 l ascending (Ok i) (rw read (alike p.0))
+  place_is i p read = smaller_of total p.0 l (Ok i) i refl ascending (rw read (alike p.0))
 
   range_keys : (i j : ℕ) (p q : K × V) → slice_get l i ≡ Some p → slice_get l j ≡ Some q → keys_of (between cmp l (Some p.0) (Some q.0)) ≡ slice_range (keys_of l) i j
   range_keys i j p q read read' =

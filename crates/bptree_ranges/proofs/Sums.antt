@@ -1,18 +1,19 @@
 -- The keys between two ends, by the children of a node that the ends lead to, and summaries of them.
-use Rattle.std.proofs.Common.{◌≡◌, ℕ, zero, suc, ◌+◌, ◌-◌, ◌<◌, ◌≤◌, ◌^◌, min, ◌⊎◌, inl, inr, Bool, true, false, not, ◌&&◌, cond, List, [], ◌∷◌, ◌++◌, length, filter, take, drop, refl, sym, ap, subst, ◌∙◌, arith, Option, Some, None, Result, slice_get, length-append, append-nil, length-drop}
+use Rattle.std.proofs.Common.{◌≡◌, ℕ, zero, suc, ◌+◌, ◌-◌, ◌<◌, ◌≤◌, ◌^◌, min, ◌⊎◌, inl, inr, Bool, true, false, not, ◌&&◌, cond, List, [], ◌∷◌, ◌++◌, length, filter, take, drop, refl, sym, ap, subst, ◌∙◌, arith, Option, Some, None, Result, Ok, Err, IfOk, slice_get, length-append, append-nil, length-drop}
 use mathlib.Core.Bool.{true≢false}
 use Rattle.std.specs.declared.cmp.Ordering.{Ordering}
 use Rattle.std.specs.declared.cmp.Ordering.TheVariants.{Less, Equal, Greater}
 use Rattle.std.specs.Ordering.{is_lt}
 use Rattle.std.specs.Cmp.{IsTotalOrder}
 use Rattle.std.specs.List.{AllByRecursion, AllZip, slice_range, sum_by}
-use Rattle.std.specs.List.Sorted.{IsStrictlySortedBy}
+use Rattle.std.specs.List.Sorted.{IsSearchInRange, IsStrictlySortedBy}
 use Rattle.std.specs.Map.{keys_of}
 use Rattle.std.proofs.lemmas.List.{length-map, length-take-le, take-append-drop}
 use Rattle.std.proofs.lemmas.List.Elements.{filter-append}
 use Rattle.std.proofs.lemmas.List.Kept.{IsStrictlySortedBy-filter}
 use Rattle.std.proofs.lemmas.Map.Entries.{length-keys_of}
 use Rattle.std.proofs.lemmas.Option.{get_or_from_slice_get}
+use Rattle.std.proofs.lemmas.Result.{IfOk-weaker}
 use Rattle.std.proofs.lemmas.Slice.{between_to_end, between_from_start}
 use Rattle.bptree_arguments.proofs.CountLemmas.{sum_by-lengths}
 use Rattle.bptree_keys.specs.Contents.{IsAscending, pairs_below}
@@ -25,7 +26,7 @@ use Rattle.bptree_keys.specs.declared.node_id.NodeId.{NodeId}
 use Rattle.bptree_keys.specs.declared.node_id.NodeId.TheVariants as kind
 use Rattle.bptree_keys.proofs.Ascending.{greater_turned}
 use Rattle.bptree_keys.proofs.PieceLemmas.{AllZip-take, AllZip-length, AllByRecursion-weaker, pieces_part, sorted_right}
-use Rattle.bptree_nodes.specs.Inner.{Inner}
+use Rattle.bptree_nodes.specs.Inner.{Inner, LeadsToChild}
 use Rattle.bptree_nodes.specs.Leaf.{Leaf}
 use Rattle.bptree_nodes.specs.LeafResults.{place_of}
 use Rattle.bptree_nodes.specs.Slot.{Slot, Slots, Present}
@@ -37,8 +38,10 @@ use Rattle.bptree_shape.proofs.NodePieces.{keys-append, keys_of_flat, keys_take,
 use Rattle.bptree_shape.proofs.Ordered.{less_then_up}
 use Rattle.bptree_shape.proofs.Walk.{flat_parts, chain_inside, chain_smaller, chain_greater, tree_inside, tree_ascends}
 use Rattle.bptree_descents.specs.ByArgument.{IsSubtree}
-use Rattle.bptree_descents.proofs.Beside.{below_upto, place_within}
-use Rattle.bptree_descents.proofs.Summed.{pieces, summaries, whole, are_pieces, leaf_whole, leaf_sorted}
+use Rattle.bptree_descents.proofs.Beside.{before_place, below_upto, place_within}
+use Rattle.bptree_descents.specs.Neighbours.{beside}
+use Rattle.bptree_descents.proofs.Child.{IsChildAt, IsNodeAt, leads}
+use Rattle.bptree_descents.proofs.Summed.{pieces, summaries, whole, down, are_pieces, leaf_whole, leaf_sorted}
 
 and_false : (b : Bool) → (b && false) ≡ false
 and_false true = refl
@@ -124,11 +127,15 @@ module _ {K A : Type 0} {cmp : K → K → Ordering} (is_summary : A → List K 
         subst (is_summary a) whole' (law (front ∷ back ∷ []) ps zip),
       )
 
+pub smaller_within : (place : Result ℕ ℕ) (n m : ℕ) → m ≡ beside place false → IsSearchInRange place n → m ≤ n
+smaller_within (Ok i) n m told within = omega (arith, told, within)
+smaller_within (Err i) n m told within = omega (arith, told, within)
+
 module _ {K V : Type 0} {cmp : K → K → Ordering} (total : IsTotalOrder cmp) where
   -- the place of a key is the number of smaller keys
-  pub smaller_of : (k : K) (l : List (K × V)) → IsAscending cmp l → (place : Result ℕ ℕ) → IsPlaceOf cmp l k place → place_of place ≡ length (pairs_below cmp l k)
-  smaller_of k l ascending place is =
-      sym (ap length (below_upto cmp total l ascending k place is) ∙ length-take-le (place_of place) l (place_within cmp total l ascending k place is))
+  pub smaller_of : (k : K) (l : List (K × V)) (place : Result ℕ ℕ) (n : ℕ) → n ≡ beside place false → IsAscending cmp l → IsPlaceOf cmp l k place → n ≡ length (pairs_below cmp l k)
+  smaller_of k l place n told ascending is =
+      told ∙ before_place place ∙ sym (ap length (below_upto cmp total l ascending k place is) ∙ length-take-le (place_of place) l (place_within cmp total l ascending k place is))
 
   sorted_part : (l : List (K × V)) (lo hi : Option K) → IsAscending cmp l → IsStrictlySortedBy cmp (keys_of (between cmp l lo hi))
   sorted_part l lo hi ascending =
@@ -195,7 +202,7 @@ module _ {K V : Type 0} (cmp : K → K → Ordering) where
 
 module _ {K : Type 0} {cmp : K → K → Ordering} (total : IsTotalOrder cmp) (lo hi : K) (apart : cmp lo hi ≡ Less) where
   -- the smaller key leads to no later child
-  pub leads_rise : (ks : List K) (i j : ℕ) → Leads cmp lo ks i → Leads cmp hi ks j → i ≤ j
+  leads_rise : (ks : List K) (i j : ℕ) → Leads cmp lo ks i → Leads cmp hi ks j → i ≤ j
   leads_rise [] i j at to = omega (arith, at)
   leads_rise (s ∷ ss) zero j at to = omega arith
   leads_rise (s ∷ ss) (suc i) zero at to = absurd (true≢false (sym (ap is_lt (total.trans lo hi s apart to)) ∙ at.0))
@@ -363,50 +370,73 @@ module _ {K V A : Type 0} {cmp : K → K → Ordering} (total : IsTotalOrder cmp
         omega (arith, is_below, sum, long, ap length cut, length-append front (between cmp (f child) None (Some k)), s.fits, filter_few (test cmp None (Some k)) all)
 
   -- the same at a height that the code knows
-  down : (h : ℕ) → suc h - 1 ≡ h
-  down h = omega arith
+  module _ {E : Type 0} (top : NodeId) (id : InnerNodeId) (node : Inner K A) (arguments : List A) (is : arguments ≡ node.arguments) where
+    pub from_node : (h : ℕ) (lo : K) (i m n : ℕ) (child : NodeId) → IsChildAt cmp is_summary slots h top id node i child → LeadsToChild cmp lo node.keys i → m ≡ i + 1 → n ≡ length arguments → (first second : Option A) (answer : Result (Option A) E)
+        → SumsUpSome is_summary (keys_of (between cmp (pairs_at slots (h - 1) child) (Some lo) None)) first → SumsUpRange is_summary cmp arguments m n second → IfOk answer (SumsUpBoth is_summary cmp first second) → IfOk answer (SumsUpSome is_summary (keys_of (between cmp (pairs_at slots h top) (Some lo) None)))
+    from_node zero lo i m n child there found next end first second answer one clause both = absurd there.at.subtree.stands.tree
+    from_node (suc h) lo i m n child there found next end first second answer one clause both =
+        let way = leads total is_summary slots (suc h) top id node i child there lo found in
+        let next' : m ≡ suc i = omega (arith, next) in
+        rw there.at.is
+        (IfOk-weaker answer (SumsUpBoth is_summary cmp first second) (SumsUpSome is_summary (keys_of (between cmp (pairs_at slots (suc h) (kind.Inner id)) (Some lo) None)))
+        (λ sum clause'. from_here h id node there.at.subtree there.at.read arguments is lo i m n child way there.within there.child_is next' end first second sum (rw (down total is_summary slots h) at one) clause clause') both)
 
-  module _ (id : InnerNodeId) (node : Inner K A) (arguments : List A) (is : arguments ≡ node.arguments) where
-    pub from_node : (h : ℕ) → IsSubtree cmp is_summary slots h (kind.Inner id) → slots.inner id.0 ≡ Present node → (lo : K) (i m n : ℕ) (child : NodeId) → Leads cmp lo node.keys i → i < length node.children → slice_get node.children i ≡ Some child → m ≡ suc i → n ≡ length arguments
-        → (first second found : Option A) → SumsUpSome is_summary (keys_of (between cmp (pairs_at slots (h - 1) child) (Some lo) None)) first → SumsUpRange is_summary cmp arguments m n second → SumsUpBoth is_summary cmp first second found → SumsUpSome is_summary (keys_of (between cmp (pairs_at slots h (kind.Inner id)) (Some lo) None)) found
-    from_node zero s e lo i m n child leads within read next end first second found one clause both = absurd s.stands.tree
-    from_node (suc h) s e lo i m n child leads within read next end first second found one clause both =
-        from_here h id node s e arguments is lo i m n child leads within read next end first second found (rw (down h) at one) clause both
+    pub upto_node : (h : ℕ) (hi : K) (i : ℕ) (child : NodeId) → IsChildAt cmp is_summary slots h top id node i child → LeadsToChild cmp hi node.keys i → (first second : Option A) (answer : Result (Option A) E)
+        → SumsUpRange is_summary cmp arguments 0 i first → SumsUpSome is_summary (keys_of (between cmp (pairs_at slots (h - 1) child) None (Some hi))) second → IfOk answer (SumsUpBoth is_summary cmp first second) → IfOk answer (SumsUpSome is_summary (keys_of (between cmp (pairs_at slots h top) None (Some hi))))
+    upto_node zero hi i child there found first second answer clause other both = absurd there.at.subtree.stands.tree
+    upto_node (suc h) hi i child there found first second answer clause other both =
+        let way = leads total is_summary slots (suc h) top id node i child there hi found in
+        rw there.at.is
+        (IfOk-weaker answer (SumsUpBoth is_summary cmp first second) (SumsUpSome is_summary (keys_of (between cmp (pairs_at slots (suc h) (kind.Inner id)) None (Some hi))))
+        (λ sum clause'. upto_here h id node there.at.subtree there.at.read arguments is hi i child way there.within there.child_is first second sum clause (rw (down total is_summary slots h) at other) clause') both)
 
-    pub upto_node : (h : ℕ) → IsSubtree cmp is_summary slots h (kind.Inner id) → slots.inner id.0 ≡ Present node → (hi : K) (i : ℕ) (child : NodeId) → Leads cmp hi node.keys i → i < length node.children → slice_get node.children i ≡ Some child
-        → (first second found : Option A) → SumsUpRange is_summary cmp arguments 0 i first → SumsUpSome is_summary (keys_of (between cmp (pairs_at slots (h - 1) child) None (Some hi))) second → SumsUpBoth is_summary cmp first second found → SumsUpSome is_summary (keys_of (between cmp (pairs_at slots h (kind.Inner id)) None (Some hi))) found
-    upto_node zero s e hi i child leads within read first second found clause other both = absurd s.stands.tree
-    upto_node (suc h) s e hi i child leads within read first second found clause other both =
-        upto_here h id node s e arguments is hi i child leads within read first second found clause (rw (down h) at other) both
+    pub all_node : (h : ℕ) → IsNodeAt cmp is_summary slots h top id node → (n : ℕ) → n ≡ length arguments → (answer : Result (Option A) E) → IfOk answer (SumsUpRange is_summary cmp arguments 0 n) → IfOk answer (SumsUpSome is_summary (keys_of (between cmp (pairs_at slots h top) None None)))
+    all_node zero at n end answer clause = absurd at.subtree.stands.tree
+    all_node (suc h) at n end answer clause =
+        rw at.is
+        (IfOk-weaker answer (SumsUpRange is_summary cmp arguments 0 n) (SumsUpSome is_summary (keys_of (between cmp (pairs_at slots (suc h) (kind.Inner id)) None None)))
+        (λ sum clause'. all_here h id node at.subtree at.read arguments is n end sum clause') clause)
 
-    pub counted_node : (h : ℕ) → IsSubtree cmp is_summary slots h (kind.Inner id) → slots.inner id.0 ≡ Present node → (count : A → ℕ) → ((a : A) (keys : List K) → is_summary a keys → count a ≡ length keys) → (k : K) (i : ℕ) (child : NodeId) → Leads cmp k node.keys i → i < length node.children → slice_get node.children i ≡ Some child
-        → (below : ℕ) → below ≡ length (pairs_below cmp (pairs_at slots (h - 1) child) k) → min (below + sum_by count (take i arguments)) (2 ^ 64 - 1) ≡ length (pairs_below cmp (pairs_at slots h (kind.Inner id)) k)
-    counted_node zero s e count counts k i child leads within read below is_below = absurd s.stands.tree
-    counted_node (suc h) s e count counts k i child leads within read below is_below =
-        counted_here h id node s e arguments is count counts k i child leads within read below (rw (down h) at is_below)
+    module _ (lo hi : K) (i j : ℕ) (first last : NodeId) where
+      pub within_node : (h : ℕ) → IsChildAt cmp is_summary slots h top id node i first → IsChildAt cmp is_summary slots h top id node j last → LeadsToChild cmp lo node.keys i → LeadsToChild cmp hi node.keys j → cmp lo hi ≡ Less → (i ≡ j → ⊥) → (m : ℕ) → m ≡ i + 1
+          → (front middle back rest : Option A) (answer : Result (Option A) E) → SumsUpSome is_summary (keys_of (between cmp (pairs_at slots (h - 1) first) (Some lo) None)) front → SumsUpRange is_summary cmp arguments m j middle → SumsUpSome is_summary (keys_of (between cmp (pairs_at slots (h - 1) last) None (Some hi))) back
+          → SumsUpBoth is_summary cmp middle back rest → IfOk answer (SumsUpBoth is_summary cmp front rest) → IfOk answer (SumsUpSome is_summary (keys_of (between cmp (pairs_at slots h top) (Some lo) (Some hi))))
+      within_node zero there other found found' apart differ m next front middle back rest answer one clause two both both' = absurd there.at.subtree.stands.tree
+      within_node (suc h) there other found found' apart differ m next front middle back rest answer one clause two both both' =
+          let way = leads total is_summary slots (suc h) top id node i first there lo found in
+          let way' = leads total is_summary slots (suc h) top id node j last other hi found' in
+          let up : i ≤ j = leads_rise total lo hi apart node.keys i j way way' in
+          let less : i < j = omega (arith, up, differ) in
+          let next' : m ≡ suc i = omega (arith, next) in
+          rw there.at.is
+          (IfOk-weaker answer (SumsUpBoth is_summary cmp front rest) (SumsUpSome is_summary (keys_of (between cmp (pairs_at slots (suc h) (kind.Inner id)) (Some lo) (Some hi))))
+          (λ sum clause'. within_here h id node there.at.subtree there.at.read arguments is lo hi i j m first last way way' less other.within there.child_is other.child_is next' front middle back rest sum (rw (down total is_summary slots h) at one) clause (rw (down total is_summary slots h) at two) both clause') both')
 
-    pub all_node : (h : ℕ) → IsSubtree cmp is_summary slots h (kind.Inner id) → slots.inner id.0 ≡ Present node → (n : ℕ) → n ≡ length arguments → (found : Option A) → SumsUpRange is_summary cmp arguments 0 n found → SumsUpSome is_summary (keys_of (between cmp (pairs_at slots h (kind.Inner id)) None None)) found
-    all_node zero s e n end found clause = absurd s.stands.tree
-    all_node (suc h) s e n end found clause = all_here h id node s e arguments is n end found clause
+      pub one_node : (h : ℕ) → IsChildAt cmp is_summary slots h top id node i first → LeadsToChild cmp lo node.keys i → LeadsToChild cmp hi node.keys j → i ≡ j → (answer : Result (Option A) E)
+          → IfOk answer (SumsUpSome is_summary (keys_of (between cmp (pairs_at slots (h - 1) first) (Some lo) (Some hi)))) → IfOk answer (SumsUpSome is_summary (keys_of (between cmp (pairs_at slots h top) (Some lo) (Some hi))))
+      one_node zero there found found' same answer one = absurd there.at.subtree.stands.tree
+      one_node (suc h) there found found' same answer one =
+          let way = leads total is_summary slots (suc h) top id node i first there lo found in
+          let way' = leads total is_summary slots (suc h) top id node i first there hi (subst (LeadsToChild cmp hi node.keys) (sym same) found') in
+          let cut = one_here h id node there.at.subtree there.at.read arguments is lo hi i first way way' there.within there.child_is in
+          rw (there.at.is, cut) (rw (down total is_summary slots h) at one)
 
-    pub within_node : (h : ℕ) → IsSubtree cmp is_summary slots h (kind.Inner id) → slots.inner id.0 ≡ Present node → (lo hi : K) (i j m : ℕ) (first last : NodeId) → Leads cmp lo node.keys i → Leads cmp hi node.keys j → i < j → j < length node.children → slice_get node.children i ≡ Some first → slice_get node.children j ≡ Some last → m ≡ suc i
-        → (front middle back rest found : Option A) → SumsUpSome is_summary (keys_of (between cmp (pairs_at slots (h - 1) first) (Some lo) None)) front → SumsUpRange is_summary cmp arguments m j middle → SumsUpSome is_summary (keys_of (between cmp (pairs_at slots (h - 1) last) None (Some hi))) back
-        → SumsUpBoth is_summary cmp middle back rest → SumsUpBoth is_summary cmp front rest found → SumsUpSome is_summary (keys_of (between cmp (pairs_at slots h (kind.Inner id)) (Some lo) (Some hi))) found
-    within_node zero s e lo hi i j m first last leads leads' less within read read' next front middle back rest found one clause other both both' = absurd s.stands.tree
-    within_node (suc h) s e lo hi i j m first last leads leads' less within read read' next front middle back rest found one clause other both both' =
-        within_here h id node s e arguments is lo hi i j m first last leads leads' less within read read' next front middle back rest found (rw (down h) at one) clause (rw (down h) at other) both both'
-
-    pub one_node : (h : ℕ) → IsSubtree cmp is_summary slots h (kind.Inner id) → slots.inner id.0 ≡ Present node → (lo hi : K) (i : ℕ) (child : NodeId) → Leads cmp lo node.keys i → Leads cmp hi node.keys i → i < length node.children → slice_get node.children i ≡ Some child
-        → (found : Option A) → SumsUpSome is_summary (keys_of (between cmp (pairs_at slots (h - 1) child) (Some lo) (Some hi))) found → SumsUpSome is_summary (keys_of (between cmp (pairs_at slots h (kind.Inner id)) (Some lo) (Some hi))) found
-    one_node zero s e lo hi i child leads leads' within read found one = absurd s.stands.tree
-    one_node (suc h) s e lo hi i child leads leads' within read found one =
-        subst (λ l. SumsUpSome is_summary (keys_of l) found) (sym (one_here h id node s e arguments is lo hi i child leads leads' within read)) (rw (down h) at one)
+  module _ (top : NodeId) (id : InnerNodeId) (node : Inner K A) (arguments : List A) (is : arguments ≡ node.arguments) where
+    pub counted_node : (h : ℕ) (count : A → ℕ) → ((a : A) (keys : List K) → is_summary a keys → count a ≡ length keys) → (k : K) (i : ℕ) (child : NodeId) → IsChildAt cmp is_summary slots h top id node i child → LeadsToChild cmp k node.keys i
+        → (smaller all : ℕ) → smaller ≡ length (pairs_below cmp (pairs_at slots (h - 1) child) k) → all ≡ min (smaller + sum_by count (take i arguments)) (2 ^ 64 - 1) → all ≡ length (pairs_below cmp (pairs_at slots h top) k)
+    counted_node zero count counts k i child there found smaller all is_smaller is_all = absurd there.at.subtree.stands.tree
+    counted_node (suc h) count counts k i child there found smaller all is_smaller is_all =
+        let way = leads total is_summary slots (suc h) top id node i child there k found in
+        rw there.at.is (is_all ∙ counted_here h id node there.at.subtree there.at.read arguments is count counts k i child way there.within there.child_is smaller (rw (down total is_summary slots h) at is_smaller))
 
   -- a leaf
-  pub at_leaf : (h : ℕ) (id : LeafNodeId) (node : Leaf K V) → IsSubtree cmp is_summary slots h (kind.Leaf id) → slots.leaf id.0 ≡ Present node → (lo hi : Option K) (found : Option A) → (IsAscending cmp node.pairs → SumsUpSome is_summary (keys_of (between cmp node.pairs lo hi)) found)
-      → SumsUpSome is_summary (keys_of (between cmp (pairs_at slots h (kind.Leaf id)) lo hi)) found
-  at_leaf h id node s e lo hi found clause =
-      subst (λ l. SumsUpSome is_summary (keys_of (between cmp l lo hi)) found) (sym (leaf_whole total is_summary slots h id node s e)) (clause (leaf_sorted total is_summary slots h id node s e))
+  pub leaf_node : {E : Type 0} (h : ℕ) (top : NodeId) (id : LeafNodeId) (node : Leaf K V) → IsSubtree cmp is_summary slots h top → top ≡ kind.Leaf id → slots.leaf id.0 ≡ Present node → (lo hi : Option K) (answer : Result (Option A) E)
+      → IfOk answer (λ found. IsAscending cmp node.pairs → SumsUpSome is_summary (keys_of (between cmp node.pairs lo hi)) found) → IfOk answer (SumsUpSome is_summary (keys_of (between cmp (pairs_at slots h top) lo hi)))
+  leaf_node h top id node s is e lo hi answer clause =
+      let s' : IsSubtree cmp is_summary slots h (kind.Leaf id) = rw is at s in
+      rw (is, leaf_whole total is_summary slots h id node s' e)
+      (IfOk-weaker answer (λ found. IsAscending cmp node.pairs → SumsUpSome is_summary (keys_of (between cmp node.pairs lo hi)) found) (SumsUpSome is_summary (keys_of (between cmp node.pairs lo hi)))
+      (λ found law. law (leaf_sorted total is_summary slots h id node s' e)) clause)
 
 -- no key stands between two ends of which the lower is not below the upper
 pub nothing_between : {K V : Type 0} {cmp : K → K → Ordering} (total : IsTotalOrder cmp) (lo hi : K) → is_lt (cmp lo hi) ≡ false → (l : List (K × V)) → keys_of (between cmp l (Some lo) (Some hi)) ≡ []

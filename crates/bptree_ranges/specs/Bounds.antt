@@ -1,5 +1,5 @@
 -- The part of the contents between two bounds, each of which takes its key in, leaves it out, or is open.
-use Rattle.std.specs.Prelude.{◌≡◌, ℕ, Bool, true, false, not, ◌&&◌, List, filter, length}
+use Rattle.std.specs.Prelude.{◌≡◌, ℕ, Bool, true, false, not, ◌&&◌, List, Option, Some, None, filter, length}
 use Rattle.std.specs.Borrow.{Bor}
 use Rattle.std.specs.declared.cmp.Ordering.{Ordering}
 use Rattle.std.specs.declared.ops.Bound.{Bound}
@@ -20,6 +20,15 @@ use Rattle.bptree_shape.specs.Shape.{pairs_at}
 abbrev pub bound_copied : {K : Type 0} → Bound (Bor K) → Bound K
 bound_copied bound = bound_map (λ key. key.now) bound
 
+-- the bound that takes its key in, or leaves it out, where the key is given
+abbrev pub start_bound : {K : Type 0} → Option K → Bound K
+start_bound None = Unbounded
+start_bound (Some lo) = Included lo
+
+abbrev pub end_bound : {K : Type 0} → Option K → Bound K
+end_bound None = Unbounded
+end_bound (Some hi) = Excluded hi
+
 module _ {K : Type 0} (cmp : K → K → Ordering) where
   -- the key comes before the start
   abbrev pub is_before_start : Bound K → K → Bool
@@ -32,6 +41,11 @@ module _ {K : Type 0} (cmp : K → K → Ordering) where
   is_upto_end (Included hi) k = not (is_gt (cmp k hi))
   is_upto_end (Excluded hi) k = is_lt (cmp k hi)
   is_upto_end Unbounded k = true
+
+  -- the key stands before the end, or else before the start
+  abbrev pub is_before_bound : Bool → Bound K → K → Bool
+  is_before_bound true hi k = is_upto_end hi k
+  is_before_bound false lo k = is_before_start lo k
 
   -- the pairs whose key is neither before the start nor behind the end
   abbrev pub between_bounds : {V : Type 0} → List (K × V) → Bound K → Bound K → List (K × V)
@@ -52,12 +66,9 @@ module _ {K V A : Type 0} (cmp : K → K → Ordering) (slots : Slots (Inner K A
   abbrev pub IsPartInBounds : Bound (Bor K) → Bound (Bor K) → Part → Type 0
   IsPartInBounds lo hi p = IsPart slots height root p (between_bounds cmp (pairs_at slots height root) (bound_copied lo) (bound_copied hi))
 
-  -- before the place stand the pairs that come before a start, or that do not come behind an end
-  abbrev pub IsStartPlace : Bound (Bor K) → LeafNodeId × ℕ → Type 0
-  IsStartPlace lo at = place_on slots height root at ≡ length (filter (λ pair. is_before_start cmp (bound_copied lo) pair.0) (pairs_at slots height root))
-
-  abbrev pub IsEndPlace : Bound (Bor K) → LeafNodeId × ℕ → Type 0
-  IsEndPlace hi at = place_on slots height root at ≡ length (filter (λ pair. is_upto_end cmp (bound_copied hi) pair.0) (pairs_at slots height root))
+  -- before the place stand the pairs that do not come behind an end, or else those that come before a start
+  abbrev pub IsBoundPlace : Bool → Bound (Bor K) → LeafNodeId × ℕ → Type 0
+  IsBoundPlace end bound at = place_on slots height root at ≡ length (filter (λ pair. is_before_bound cmp end (bound_copied bound) pair.0) (pairs_at slots height root))
 
   -- or that are smaller than a key, and the one that equals it where the place is to be behind that
   abbrev pub IsPlaceBeside : K → Bool → LeafNodeId × ℕ → Type 0

@@ -1,5 +1,5 @@
 -- How many pairs of a tree stand between two ends, before the lower one, before the upper one, and before a key.
-use Rattle.std.specs.Prelude.{◌≡◌, ℕ, List, Option, filter, length}
+use Rattle.std.specs.Prelude.{◌≡◌, ℕ, Option, filter, length}
 use Rattle.std.specs.Borrow.{Bor}
 use Rattle.std.specs.declared.cmp.Ordering.{Ordering}
 use Rattle.std.specs.Option.{option_copied}

@@ -30,11 +30,11 @@ module _ {K V A : Type 0} (slots : Slots (Inner K A) (Leaf K V)) where
   before_entry (suc h) (kind.Inner id) n = length (flat (pairs_at slots h) (take n (inner_children (slots.inner id.0))))
   before_entry (suc h) (kind.Leaf id) n = 0
 
-  -- the pair behind so many from one place on, or how many there are from there on
+  -- the pair behind so many from one place on, or how many more would have to stand there
   abbrev pub IsSkipped : ℕ → NodeId → ℕ → ℕ → Skipped → Type 0
   IsSkipped h id from i (Found leaf offset) =
       (stands : StandsIn slots h id leaf) × (offset < length (leaf_pairs (slots.leaf leaf.0))) × (length (pairs_of slots stands.before) + offset ≡ from + i)
-  IsSkipped h id from i (Short n) = (from + n ≡ length (pairs_at slots h id)) × (n ≤ i)
+  IsSkipped h id from i (Short rest) = from + i ≡ length (pairs_at slots h id) + rest
 
   -- the place of the pair behind so many of a group, or none where the group has no more
   abbrev pub IsPlaceInGroup : {G : Type 0} → (G → G → Ordering) → (K → G) → G → ℕ → NodeId → ℕ → Option (LeafNodeId × ℕ) → Type 0

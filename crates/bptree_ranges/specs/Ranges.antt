@@ -1,5 +1,5 @@
 -- Places in the leaves of a tree, and the part of its contents between two of them.
-use Rattle.std.specs.Prelude.{◌≡◌, ℕ, ◌+◌, ◌-◌, ◌<◌, ◌≤◌, ◌==◌, ◌⊎◌, ◌&&◌, cond, false, filter, min, not, true, List, [], ◌∷◌, length, Option}
+use Rattle.std.specs.Prelude.{◌≡◌, ℕ, ◌+◌, ◌-◌, ◌<◌, ◌≤◌, ◌==◌, ◌⊎◌, cond, min, List, [], ◌∷◌, length, Option}
 use Rattle.std.specs.Borrow.{Bor}
 use Rattle.std.specs.declared.cmp.Ordering.{Ordering}
 use Rattle.std.specs.Map.{keys_of}
@@ -9,8 +9,7 @@ use Rattle.bptree_iteration.specs.Span.{Tells}
 use Rattle.bptree_iteration.specs.declared.part.Extent.{Extent}
 use Rattle.bptree_iteration.specs.declared.part.Extent.TheVariants.{Exact}
 use Rattle.bptree_iteration.specs.declared.part.Part.{Part}
-use Rattle.bptree_keys.specs.Contents.{pairs_below}
-use Rattle.bptree_keys.specs.Ranges.{between, falls_short, part, part_at, stays_below}
+use Rattle.bptree_keys.specs.Ranges.{between, part, part_at}
 use Rattle.bptree_keys.specs.declared.node_id.LeafNodeId.{LeafNodeId}
 use Rattle.bptree_keys.specs.declared.node_id.NodeId.{NodeId}
 use Rattle.bptree_nodes.specs.Inner.{Inner}
@@ -87,25 +86,6 @@ module _ {K V A : Type 0} (cmp : K → K → Ordering) (slots : Slots (Inner K A
   abbrev pub HoldsBetween : Option (Bor K) → Option (Bor K) → (LeafNodeId × ℕ) × (LeafNodeId × ℕ) → Type 0
   HoldsBetween lo hi places =
       between cmp (pairs_at slots h root) (option_copied lo) (option_copied hi) ≡ part (pairs_at slots h root) (place_on slots h root places.0) (place_on slots h root places.1 - place_on slots h root places.0)
-
-  -- before the place stand the pairs that fall short of the lower end, or that stay below the upper end, or that are smaller
-  -- than a key
-  abbrev pub IsLowerPlace : Option (Bor K) → LeafNodeId × ℕ → Type 0
-  IsLowerPlace lo at = start slots h root at.0 + at.1 ≡ length (filter (λ pair. falls_short cmp (option_copied lo) pair.0) (pairs_at slots h root))
-
-  abbrev pub IsUpperPlace : Option (Bor K) → LeafNodeId × ℕ → Type 0
-  IsUpperPlace hi at = start slots h root at.0 + at.1 ≡ length (filter (λ pair. stays_below cmp (option_copied hi) pair.0) (pairs_at slots h root))
-
-  abbrev pub IsKeyPlace : K → LeafNodeId × ℕ → Type 0
-  IsKeyPlace k at = start slots h root at.0 + at.1 ≡ length (pairs_below cmp (pairs_at slots h root) k)
-
-module _ {K : Type 0} (cmp : K → K → Ordering) (lo hi : Option (Bor K)) where
-  -- no key is between two ends; a key that falls short of the lower one stays below the upper one
-  abbrev pub NoneBetween : Type 0
-  NoneBetween = (k : K) → (not (falls_short cmp (option_copied lo) k) && stays_below cmp (option_copied hi) k) ≡ false
-
-  abbrev pub ShortIsBelow : Type 0
-  ShortIsBelow = (k : K) → falls_short cmp (option_copied lo) k ≡ true → stays_below cmp (option_copied hi) k ≡ true
 
 -- a part without a pair, at a place
 abbrev pub empty_at : LeafNodeId × ℕ → Part

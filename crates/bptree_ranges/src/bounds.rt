@@ -1,10 +1,12 @@
 //! Where a part of the contents begins and ends that is told by two bounds.
 ghost use Rattle.std.specs.Prelude.{◌≡◌, ◌≤◌, length};
-ghost use Rattle.bptree_ranges.specs.Bounds.{bound_copied, may_hold, IsEndPlace, IsPartInBounds, IsPlaceBeside, IsStartPlace};
+ghost use Rattle.std.specs.Option.{option_copied};
+ghost use Rattle.bptree_ranges.specs.Bounds.{bound_copied, end_bound, may_hold, start_bound, IsBoundPlace, IsPartInBounds, IsPlaceBeside};
 ghost use Rattle.bptree_ranges.specs.Ranges.{IsPlaceOn};
 ghost use Rattle.bptree_shape.specs.Shape.{pairs_at, IsWellShaped};
 
 use crate::ranges::{end_of_all, no_part, part_of_places};
+use bptree_descents::neighbours::slot_beside;
 use bptree_iteration::part::{Extent, Part};
 use bptree_keys::node_id::{LeafNodeId, NodeId};
 use bptree_shape::descent::first_leaf;
@@ -29,16 +31,29 @@ pub fn part_between_bounds<S: NodeStore>(
     requires fits { length (pairs_at (S.slots store.now) height root) ≤ len }
     ensures { IsPartInBounds S.K.cmp (S.slots store.now) height root lo.entry hi.entry result }
 {
-    let front = start_of(store, root, height, lo);
+    let front = place_of_bound(store, root, height, lo, false);
     if !can_hold(lo, hi) {
         return no_part(front);
     }
-    let back = end_of(store, root, height, hi);
+    let back = place_of_bound(store, root, height, hi, true);
     part_of_places(store, root, height, front, back, len, Extent::Open)
 }
 
-// Whether some key can be between two bounds.
-fn can_hold<K: Ord>(lo: Bound<&K>, hi: Bound<&K>) -> bool
+/// The bounds of the keys that are not below `lo` and are below `hi`, where they are given.
+pub(crate) fn bounds_of<'a, K>(lo: Option<&'a K>, hi: Option<&'a K>) -> (Bound<&'a K>, Bound<&'a K>)
+    ensures start { bound_copied result.0 ≡ start_bound (option_copied lo.entry) }
+    ensures end { bound_copied result.1 ≡ end_bound (option_copied hi.entry) }
+{
+    match (lo, hi) {
+        (Some(lo), Some(hi)) => (Bound::Included(lo), Bound::Excluded(hi)),
+        (Some(lo), None) => (Bound::Included(lo), Bound::Unbounded),
+        (None, Some(hi)) => (Bound::Unbounded, Bound::Excluded(hi)),
+        (None, None) => (Bound::Unbounded, Bound::Unbounded),
+    }
+}
+
+/// Whether some key can be between two bounds.
+pub(crate) fn can_hold<K: Ord>(lo: Bound<&K>, hi: Bound<&K>) -> bool
     ensures { result ≡ may_hold K.cmp (bound_copied lo.entry) (bound_copied hi.entry) }
 {
     match (lo, hi) {
@@ -50,39 +65,24 @@ fn can_hold<K: Ord>(lo: Bound<&K>, hi: Bound<&K>) -> bool
     }
 }
 
-// Where the keys begin that are not before a start: where it is open, the first of all.
-fn start_of<S: NodeStore>(
+/// Where the keys end that are not behind an end, or else where those begin that are not before a
+/// start. Where the bound is open, that is behind the last of all, or at the first.
+pub(crate) fn place_of_bound<S: NodeStore>(
     store: &S,
     root: NodeId,
     height: usize,
-    lo: Bound<&S::K>,
+    bound: Bound<&S::K>,
+    end: bool,
 ) -> (LeafNodeId, usize)
     requires { IsWellShaped S.K.cmp S.Argument.is_summary (S.slots store.now) height root }
     ensures place { IsPlaceOn (S.slots store.now) height root result.0 result.1 }
-    ensures before { IsStartPlace S.K.cmp (S.slots store.now) height root lo.entry result }
+    ensures before { IsBoundPlace S.K.cmp (S.slots store.now) height root end bound.entry result }
 {
-    match lo {
-        Bound::Included(lo) => place_beside(store, root, height, lo, false),
-        Bound::Excluded(lo) => place_beside(store, root, height, lo, true),
+    match bound {
+        Bound::Included(key) => place_beside(store, root, height, key, end),
+        Bound::Excluded(key) => place_beside(store, root, height, key, !end),
+        Bound::Unbounded if end => end_of_all(store, root, height),
         Bound::Unbounded => (first_leaf(store, root, height), 0),
-    }
-}
-
-// Where the keys end that are not behind an end: where it is open, behind the last of all.
-fn end_of<S: NodeStore>(
-    store: &S,
-    root: NodeId,
-    height: usize,
-    hi: Bound<&S::K>,
-) -> (LeafNodeId, usize)
-    requires { IsWellShaped S.K.cmp S.Argument.is_summary (S.slots store.now) height root }
-    ensures place { IsPlaceOn (S.slots store.now) height root result.0 result.1 }
-    ensures before { IsEndPlace S.K.cmp (S.slots store.now) height root hi.entry result }
-{
-    match hi {
-        Bound::Included(hi) => place_beside(store, root, height, hi, true),
-        Bound::Excluded(hi) => place_beside(store, root, height, hi, false),
-        Bound::Unbounded => end_of_all(store, root, height),
     }
 }
 
@@ -99,9 +99,6 @@ fn place_beside<S: NodeStore>(
     ensures before { IsPlaceBeside S.K.cmp (S.slots store.now) height root key.now behind result }
 {
     let leaf = leaf_for(store, root, height, key);
-    match store.get_leaf(leaf).locate_slot(key) {
-        Ok(slot) if behind => (leaf, slot + 1),
-        Ok(slot) => (leaf, slot),
-        Err(slot) => (leaf, slot),
-    }
+    let place = store.get_leaf(leaf).locate_slot(key);
+    (leaf, slot_beside(place, behind))
 }

@@ -19,7 +19,7 @@ use std::alloc::AllocError;
 pub(crate) enum Skipped {
     /// The leaf and the slot of the pair behind them.
     Found(LeafNodeId, usize),
-    /// There is no pair behind them; how many there are.
+    /// There are fewer pairs; how many more are to be passed.
     Short(usize),
 }
 
@@ -75,10 +75,7 @@ fn skip_from_group<S: NodeStore, G: FromRef<S::K> + Key>(
             let child = node.child_id(place);
             match skip_from_group(store, child, height - 1, group, i)? {
                 Skipped::Found(leaf, slot) => Ok(Skipped::Found(leaf, slot)),
-                Skipped::Short(count) => match skip(store, id, height, place + 1, i - count) {
-                    Skipped::Found(leaf, slot) => Ok(Skipped::Found(leaf, slot)),
-                    Skipped::Short(more) => Ok(Skipped::Short(count + more)),
-                },
+                Skipped::Short(rest) => Ok(skip(store, id, height, place + 1, rest)),
             }
         }
     }
@@ -96,7 +93,7 @@ fn skip<S: NodeStore>(store: &S, id: NodeId, height: usize, first: usize, i: usi
             if i < len {
                 Skipped::Found(leaf, first + i)
             } else {
-                Skipped::Short(len)
+                Skipped::Short(i - len)
             }
         }
         NodeId::Inner(inner) => {
@@ -108,11 +105,11 @@ fn skip<S: NodeStore>(store: &S, id: NodeId, height: usize, first: usize, i: usi
                     Some(count) => rest -= count,
                     None => match skip(store, node.child_id(place), height - 1, 0, rest) {
                         Skipped::Found(leaf, slot) => return Skipped::Found(leaf, slot),
-                        Skipped::Short(count) => rest -= count,
+                        Skipped::Short(more) => rest = more,
                     },
                 }
             }
-            Skipped::Short(i - rest)
+            Skipped::Short(rest)
         }
     }
 }

@@ -1,17 +1,16 @@
 //! Parts of the contents of a tree that stands in a store, by the places where they begin and end.
-ghost use Rattle.std.specs.Prelude.{◌≡◌, ◌<◌, ◌≤◌, ◌^◌, IfOk, IsOk, false, true, length};
-ghost use Rattle.bptree_ranges.specs.Ranges.{empty_at, IsPlaceOn, AreInOrder, HoldsBetween, IsEndOfAll, IsKeyPlace, IsLowerPlace, IsPartBetween, IsPartFrom, IsPartUpTo, IsSelectedPart, IsUpperPlace, NoneBetween, Settles, ShortIsBelow, TellsBetween};
+ghost use Rattle.std.specs.Prelude.{◌≡◌, ◌<◌, ◌≤◌, ◌^◌, IfOk, IsOk, length};
+ghost use Rattle.bptree_ranges.specs.Ranges.{empty_at, IsPlaceOn, AreInOrder, HoldsBetween, IsEndOfAll, IsPartBetween, IsPartFrom, IsPartUpTo, IsSelectedPart, Settles, TellsBetween};
 ghost use Rattle.bptree_shape.specs.Shape.{pairs_at, IsWellShaped};
 
+use crate::bounds::{bounds_of, can_hold, part_between_bounds, place_of_bound};
 use bptree_arguments::argument::SearchArgument;
 use bptree_descents::by_argument::find_by_argument;
 use bptree_iteration::part::{Extent, Part};
 use bptree_keys::node_id::{LeafNodeId, NodeId};
 use bptree_shape::descent::{first_leaf, last_leaf};
-use bptree_shape::reading::leaf_for;
 use bptree_stores::node_stores::NodeStore;
 use std::alloc::AllocError;
-use std::cmp::Ordering;
 
 /// The pairs whose key is not below `lo` and is below `hi`, where they are given, of a tree of at
 /// most `len` pairs.
@@ -30,12 +29,8 @@ pub fn part_between<S: NodeStore>(
     requires fits { length (pairs_at (S.slots store.now) height root) ≤ len }
     ensures { IsPartBetween S.K.cmp (S.slots store.now) height root lo.entry hi.entry result }
 {
-    let front = front_of(store, root, height, lo);
-    if !are_apart(lo, hi) {
-        return no_part(front);
-    }
-    let back = back_of(store, root, height, hi);
-    part_of_places(store, root, height, front, back, len, Extent::Open)
+    let (start, end) = bounds_of(lo, hi);
+    part_between_bounds(store, root, height, len, start, end)
 }
 
 /// The places where the pairs begin and end whose key is not below `lo` and is below `hi`, where
@@ -53,12 +48,13 @@ pub fn places_between<S: NodeStore>(
     ensures rises { AreInOrder (S.slots store.now) height root result.0 result.1 }
     ensures pairs { HoldsBetween S.K.cmp (S.slots store.now) height root lo.entry hi.entry result }
 {
-    let first = front_of(store, root, height, lo);
+    let (start, end) = bounds_of(lo, hi);
+    let first = place_of_bound(store, root, height, start, false);
     let front = settled(store, root, height, first);
-    if !are_apart(lo, hi) {
+    if !can_hold(start, end) {
         return (front, front);
     }
-    let behind = back_of(store, root, height, hi);
+    let behind = place_of_bound(store, root, height, end, true);
     let back = settled(store, root, height, behind);
     (front, back)
 }
@@ -128,55 +124,7 @@ pub fn settled<S: NodeStore>(
     }
 }
 
-// Whether some key can be between two ends.
-fn are_apart<K: Ord>(lo: Option<&K>, hi: Option<&K>) -> bool
-    ensures none { result ≡ false → NoneBetween K.cmp lo.entry hi.entry }
-    ensures some { result ≡ true → ShortIsBelow K.cmp lo.entry hi.entry }
-{
-    match (lo, hi) {
-        (Some(lo), Some(hi)) => match lo.cmp(hi) {
-            Ordering::Less => true,
-            Ordering::Equal | Ordering::Greater => false,
-        },
-        _ => true,
-    }
-}
-
-// Where the keys begin that are not below `lo`: where no end is given, the first of all.
-fn front_of<S: NodeStore>(
-    store: &S,
-    root: NodeId,
-    height: usize,
-    lo: Option<&S::K>,
-) -> (LeafNodeId, usize)
-    requires { IsWellShaped S.K.cmp S.Argument.is_summary (S.slots store.now) height root }
-    ensures place { IsPlaceOn (S.slots store.now) height root result.0 result.1 }
-    ensures before { IsLowerPlace S.K.cmp (S.slots store.now) height root lo.entry result }
-{
-    match lo {
-        Some(lo) => place_of_key(store, root, height, lo),
-        None => (first_leaf(store, root, height), 0),
-    }
-}
-
-// Where the keys end that are below `hi`: where no end is given, behind the last of all.
-fn back_of<S: NodeStore>(
-    store: &S,
-    root: NodeId,
-    height: usize,
-    hi: Option<&S::K>,
-) -> (LeafNodeId, usize)
-    requires { IsWellShaped S.K.cmp S.Argument.is_summary (S.slots store.now) height root }
-    ensures place { IsPlaceOn (S.slots store.now) height root result.0 result.1 }
-    ensures before { IsUpperPlace S.K.cmp (S.slots store.now) height root hi.entry result }
-{
-    match hi {
-        Some(hi) => place_of_key(store, root, height, hi),
-        None => end_of_all(store, root, height),
-    }
-}
-
-// The place behind the last pair of all.
+/// The place behind the last pair of all.
 pub(crate) fn end_of_all<S: NodeStore>(
     store: &S,
     root: NodeId,
@@ -188,24 +136,6 @@ pub(crate) fn end_of_all<S: NodeStore>(
 {
     let leaf = last_leaf(store, root, height);
     (leaf, store.get_leaf(leaf).len())
-}
-
-// The place behind the smaller keys.
-fn place_of_key<S: NodeStore>(
-    store: &S,
-    root: NodeId,
-    height: usize,
-    key: &S::K,
-) -> (LeafNodeId, usize)
-    requires { IsWellShaped S.K.cmp S.Argument.is_summary (S.slots store.now) height root }
-    ensures place { IsPlaceOn (S.slots store.now) height root result.0 result.1 }
-    ensures before { IsKeyPlace S.K.cmp (S.slots store.now) height root key.now result }
-{
-    let leaf = leaf_for(store, root, height, key);
-    match store.get_leaf(leaf).locate_slot(key) {
-        Ok(slot) => (leaf, slot),
-        Err(slot) => (leaf, slot),
-    }
 }
 
 /// The first `n` pairs, or all where there are fewer, from a place on that is allowed for the

@@ -3,12 +3,13 @@ ghost use Rattle.std.specs.Prelude.{◌≡◌, ◌≤◌, None, Some, IfOk, leng
 ghost use Rattle.std.specs.Map.{keys_of};
 ghost use Rattle.std.specs.declared.cmp.Ordering.TheVariants.{Less};
 ghost use Rattle.bptree_keys.specs.Ranges.{between};
-ghost use Rattle.bptree_ranges.specs.Summaries.{SumsUpBoth, SumsUpRange, SumsUpSome, SumsUpBetween, SumsUpSomeBetween, SumsUpSomeIn};
+ghost use Rattle.bptree_ranges.specs.Summaries.{SumsUpBeside, SumsUpBoth, SumsUpRange, SumsUpSome, SumsUpBetween, SumsUpSomeBetween, SumsUpSomeIn};
 ghost use Rattle.bptree_shape.specs.Shape.{pairs_at};
 ghost use Rattle.bptree_descents.specs.ByArgument.{IsSubtree};
 ghost use Rattle.bptree_ranges.specs.Counting.{CountsBelowIn, CountsShortIn, CountsSmallerIn};
 
 use bptree_arguments::argument::Argument;
+use bptree_descents::neighbours::slot_beside;
 use bptree_keys::key::Key;
 use bptree_keys::node_id::NodeId;
 use bptree_nodes::leaf_node::LeafNode;
@@ -51,8 +52,8 @@ fn some_between<S: NodeStore>(
 {
     match (lo, hi) {
         (None, None) => summary_of_all(store, root, height),
-        (Some(lo), None) => summary_from(store, root, height, lo),
-        (None, Some(hi)) => summary_upto(store, root, height, hi),
+        (Some(lo), None) => summary_beside(store, root, height, lo, false),
+        (None, Some(hi)) => summary_beside(store, root, height, hi, true),
         (Some(lo), Some(hi)) => match lo.cmp(hi) {
             Ordering::Less => summary_within(store, root, height, lo, hi),
             Ordering::Equal | Ordering::Greater => Ok(None),
@@ -78,47 +79,38 @@ fn summary_of_all<S: NodeStore>(
     }
 }
 
-// The keys below a node that are not below `lo`.
-fn summary_from<S: NodeStore>(
+// The keys below a node that are below a key, or else those that are not.
+fn summary_beside<S: NodeStore>(
     store: &S,
     id: NodeId,
     height: usize,
-    lo: &S::K,
+    key: &S::K,
+    below: bool,
 ) -> Result<Option<S::Argument>, AllocError>
     requires { IsSubtree S.K.cmp S.Argument.is_summary (S.slots store.now) height id }
-    ensures { IfOk result (SumsUpSome S.Argument.is_summary (keys_of (between S.K.cmp (pairs_at (S.slots store.now) height id) (Some lo.now) None))) }
+    ensures { IfOk result (SumsUpBeside S.K.cmp S.Argument.is_summary (S.slots store.now) height id key.now below) }
 {
     match id {
-        NodeId::Leaf(leaf) => summary_in_leaf(store.get_leaf(leaf), Some(lo), None),
-        NodeId::Inner(inner) => {
-            let node = store.get_inner(inner);
-            let (place, child) = node.locate_child(lo);
-            let front = summary_from(store, child, height - 1, lo)?;
-            let arguments = node.arguments();
-            let back = sum_of_some(arguments, place + 1, arguments.len())?;
-            sum_of_both(store.allocator(), front, back)
+        NodeId::Leaf(leaf) => {
+            let node = store.get_leaf(leaf);
+            if below {
+                summary_in_leaf(node, None, Some(key))
+            } else {
+                summary_in_leaf(node, Some(key), None)
+            }
         }
-    }
-}
-
-// The keys below a node that are below `hi`.
-fn summary_upto<S: NodeStore>(
-    store: &S,
-    id: NodeId,
-    height: usize,
-    hi: &S::K,
-) -> Result<Option<S::Argument>, AllocError>
-    requires { IsSubtree S.K.cmp S.Argument.is_summary (S.slots store.now) height id }
-    ensures { IfOk result (SumsUpSome S.Argument.is_summary (keys_of (between S.K.cmp (pairs_at (S.slots store.now) height id) None (Some hi.now)))) }
-{
-    match id {
-        NodeId::Leaf(leaf) => summary_in_leaf(store.get_leaf(leaf), None, Some(hi)),
         NodeId::Inner(inner) => {
             let node = store.get_inner(inner);
-            let (place, child) = node.locate_child(hi);
-            let front = sum_of_some(node.arguments(), 0, place)?;
-            let back = summary_upto(store, child, height - 1, hi)?;
-            sum_of_both(store.allocator(), front, back)
+            let (place, child) = node.locate_child(key);
+            let part = summary_beside(store, child, height - 1, key, below)?;
+            let arguments = node.arguments();
+            if below {
+                let front = sum_of_some(arguments, 0, place)?;
+                sum_of_both(store.allocator(), front, part)
+            } else {
+                let back = sum_of_some(arguments, place + 1, arguments.len())?;
+                sum_of_both(store.allocator(), part, back)
+            }
         }
     }
 }
@@ -144,9 +136,9 @@ fn summary_within<S: NodeStore>(
             if from == to {
                 return summary_within(store, first, height - 1, lo, hi);
             }
-            let front = summary_from(store, first, height - 1, lo)?;
+            let front = summary_beside(store, first, height - 1, lo, false)?;
             let middle = sum_of_some(node.arguments(), from + 1, to)?;
-            let back = summary_upto(store, last, height - 1, hi)?;
+            let back = summary_beside(store, last, height - 1, hi, true)?;
             let rest = sum_of_both(store.allocator(), middle, back)?;
             sum_of_both(store.allocator(), front, rest)
         }
@@ -196,10 +188,7 @@ pub(crate) fn slot_of<K: Key, V: Drop>(leaf: &LeafNode<K, V>, key: &K) -> usize
     ensures within { result ≤ length leaf.now.pairs }
     ensures smaller { CountsSmallerIn K.cmp leaf.now key.now result }
 {
-    match leaf.locate_slot(key) {
-        Ok(slot) => slot,
-        Err(slot) => slot,
-    }
+    slot_beside(leaf.locate_slot(key), false)
 }
 
 // A summary of all keys below the children of a node from one place to another, by the children's

@@ -1,19 +1,13 @@
-use Rattle.std.proofs.Common.{true, false, Err, Ok, subst}
-use Rattle.bptree_keys.specs.Places.{IsPlaceOf}
+use Rattle.std.proofs.Common.{length}
+use Rattle.bptree_descents.proofs.Beside.{told_fits}
 use Rattle.bptree_ranges.proofs.Bounded.{place_beside}
 use Rattle.bptree_ranges.proofs.bounds.place_beside.Goals as goal
 
-pub returns-in-Ok-clause-before : goal.returns-in-Ok-clause-before
-returns-in-Ok-clause-before g c =
-    rw c.if-behind.true (place_beside g.met.S.K.Ord.total g.S.Argument.Argument.is_summary (g.S.NodeStore.slots c.args.store.now) c.args.height c.args.root c.requires c.args.key.now c.leaf_for-leaf.result c.get_leaf.result.now (Ok c.in-Ok.slot) true c.leaf_for-leaf.ensures c.get_leaf.ensures
-    (λ ascending. subst (IsPlaceOf g.S.K.Ord.cmp c.get_leaf.result.now.pairs c.args.key.now) c.in-Ok.is (c.locate_slot.ensures.place ascending)) c.locate_slot.ensures.fits).1
+pub slot_beside-requires : goal.slot_beside-requires
+slot_beside-requires g c = told_fits c.locate_slot-place.result (length c.get_leaf.result.now.pairs) c.locate_slot-place.ensures.in_range c.locate_slot-place.ensures.fits
 
-pub returns-in-Ok-2-clause-before : goal.returns-in-Ok-2-clause-before
-returns-in-Ok-2-clause-before g c =
-    rw c.if-behind.false (place_beside g.met.S.K.Ord.total g.S.Argument.Argument.is_summary (g.S.NodeStore.slots c.args.store.now) c.args.height c.args.root c.requires c.args.key.now c.leaf_for-leaf.result c.get_leaf.result.now (Ok c.in-Ok.slot) false c.leaf_for-leaf.ensures c.get_leaf.ensures
-    (λ ascending. subst (IsPlaceOf g.S.K.Ord.cmp c.get_leaf.result.now.pairs c.args.key.now) c.in-Ok.is (c.locate_slot.ensures.place ascending)) c.locate_slot.ensures.fits).1
-
-pub returns-in-Err-clause-before : goal.returns-in-Err-clause-before
-returns-in-Err-clause-before g c =
-    (place_beside g.met.S.K.Ord.total g.S.Argument.Argument.is_summary (g.S.NodeStore.slots c.args.store.now) c.args.height c.args.root c.requires c.args.key.now c.leaf_for-leaf.result c.get_leaf.result.now (Err c.in-Err.slot) c.args.behind c.leaf_for-leaf.ensures c.get_leaf.ensures
-    (λ ascending. subst (IsPlaceOf g.S.K.Ord.cmp c.get_leaf.result.now.pairs c.args.key.now) c.in-Err.is (c.locate_slot.ensures.place ascending)) c.locate_slot.ensures.fits).1
+pub returns : goal.returns
+returns g c =
+    let found = place_beside g.met.S.K.Ord.total g.S.Argument.Argument.is_summary (g.S.NodeStore.slots c.args.store.now) c.args.height c.args.root c.requires c.args.key.now c.leaf_for-leaf.result c.get_leaf.result.now c.locate_slot-place.result c.args.behind c.slot_beside.result
+    c.leaf_for-leaf.ensures c.get_leaf.ensures c.locate_slot-place.ensures.place c.locate_slot-place.ensures.fits c.slot_beside.ensures in
+    record { place = found.0; before = found.1 }

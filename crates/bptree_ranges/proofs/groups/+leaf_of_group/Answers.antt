@@ -2,7 +2,7 @@ use Rattle.std.proofs.Common.{arith, ◌-◌}
 use Rattle.std.proofs.lemmas.Result.{IfOk-weaker}
 use Rattle.bptree_keys.specs.declared.node_id.NodeId.TheVariants.{Inner}
 use Rattle.bptree_shape.specs.Leaves.{Stands, IsBorderLeaf}
-use Rattle.bptree_ranges.proofs.Bordered.{border_leaf, border_node, key_falls, is_key_before, passed, failed}
+use Rattle.bptree_ranges.proofs.Bordered.{border_cut, border_leaf, border_node, key_falls, is_key_before}
 use Rattle.bptree_shape.proofs.Down.{inner_present, node_children, node_keys, child_stands}
 use Rattle.bptree_ranges.proofs.groups.+leaf_of_group.Goals as goal
 
@@ -42,11 +42,9 @@ returns-in_ok-place-in-Inner g t c =
     let test = is_key_before total g.met.G.Ord.total g.G.FromRef.group_of g.met.G.FromRef.keeps_order c.args.group.now c.args.end in
     let falls = key_falls total g.met.G.Ord.total g.G.FromRef.group_of g.met.G.FromRef.keeps_order c.args.group.now c.args.end in
     let place = c.in_ok-place-in-Inner.place in
-    let few = rw c.keys.ensures.value at c.in_ok-place-in-Inner.ensures.in_range in
-    let border = (rw c.keys.ensures.value at c.in_ok-place-in-Inner.ensures.border) (node_keys total slots c.args.height c.in-Inner.inner node s c.get_inner-node.ensures) in
-    let pass = passed total g.met.G.Ord.total g.G.FromRef.group_of g.met.G.FromRef.keeps_order c.args.group.now c.args.end node.keys place border in
-    let fail = failed total g.met.G.Ord.total g.G.FromRef.group_of g.met.G.FromRef.keeps_order c.args.group.now c.args.end node.keys place border in
+    let sorted = node_keys total slots c.args.height c.in-Inner.inner node s c.get_inner-node.ensures in
+    let parts = border_cut total g.met.G.Ord.total g.G.FromRef.group_of g.met.G.FromRef.keeps_order c.args.group.now c.args.end node.keys c.keys.result.now place c.keys.ensures.value sorted c.in_ok-place-in-Inner.ensures.in_range c.in_ok-place-in-Inner.ensures.border in
     rw c.in-Inner.is
     (IfOk-weaker c.leaf_of_group.result (IsBorderLeaf slots test (c.args.height - 1) c.child_id-child.result) (IsBorderLeaf slots test c.args.height (Inner c.in-Inner.inner))
-    (border_node total test falls slots c.args.height c.in-Inner.inner node place c.child_id-child.result s c.get_inner-node.ensures few pass fail c.child_id-child.ensures)
+    (border_node total test falls slots c.args.height c.in-Inner.inner node place c.child_id-child.result s c.get_inner-node.ensures parts c.child_id-child.ensures)
     c.leaf_of_group.ensures)

@@ -1,12 +1,9 @@
-use Rattle.std.proofs.Common.{◌≡◌, ◌∙◌, ◌+◌, ◌-◌, ◌<◌, ◌≤◌, length, min, ap, arith, drop, refl, subst, sym}
-use Rattle.std.proofs.lemmas.List.{length-take}
+use Rattle.std.proofs.Common.{subst, sym}
 use Rattle.bptree_arguments.specs.Groups.{of_group}
-use Rattle.bptree_keys.specs.Ranges.{part}
-use Rattle.bptree_ranges.specs.Places.{before_group}
 use Rattle.bptree_ranges.specs.Ranges.{place_on, IsPart}
 use Rattle.bptree_shape.specs.Shape.{pairs_at}
-use Rattle.bptree_ranges.proofs.Bordered.{of_group_is}
-use Rattle.bptree_ranges.proofs.Ranged.{contents_ascend, empty_part, first_place, part_of_part, part_past}
+use Rattle.bptree_ranges.proofs.GroupPlaces.{rest_of_group}
+use Rattle.bptree_ranges.proofs.Ranged.{contents_ascend, empty_part, first_place, part_past}
 use Rattle.bptree_ranges.proofs.groups.part_within_group.Goals as goal
 
 pub returns-in-None : goal.returns-in-None
@@ -24,27 +21,14 @@ part_of_places-requires-clause-front g c =
 
 pub part_of_places-requires-clause-rises : goal.part_of_places-requires-clause-rises
 part_of_places-requires-clause-rises g c =
-    let total = g.met.S.K.Ord.total in
     let slots = g.S.NodeStore.slots c.args.store.now in
     let pairs = pairs_at slots c.args.height c.args.root in
     let there = rw c.in-Some.is at c.in_ok-place_in_group.ensures in
-    let b = before_group g.G.Ord.cmp g.G.FromRef.group_of c.args.group.now pairs in
-    let j = place_on slots c.args.height c.args.root c.in_ok-back-in-Some.back in
-    let is = of_group_is total g.met.G.Ord.total g.G.FromRef.group_of g.met.G.FromRef.keeps_order c.args.group.now pairs b j (contents_ascend g.S.Argument.Argument.is_summary slots c.args.height c.args.root c.requires.shape total) refl c.in_ok-back-in-Some.ensures.1 in
-    omega (arith, there.1, there.2, ap length is, length-take (j - b) (drop b pairs))
+    (rest_of_group g.met.S.K.Ord.total g.met.G.Ord.total g.G.FromRef.group_of g.met.G.FromRef.keeps_order c.args.group.now pairs (place_on slots c.args.height c.args.root c.in-Some.front) (place_on slots c.args.height c.args.root c.in_ok-back-in-Some.back) c.args.i c.args.n (contents_ascend g.S.Argument.Argument.is_summary slots c.args.height c.args.root c.requires.shape g.met.S.K.Ord.total) there.1 there.2 c.in_ok-back-in-Some.ensures.1).0
 
 pub returns-in_ok-back-in-Some : goal.returns-in_ok-back-in-Some
 returns-in_ok-back-in-Some g c =
-    let total = g.met.S.K.Ord.total in
     let slots = g.S.NodeStore.slots c.args.store.now in
     let pairs = pairs_at slots c.args.height c.args.root in
     let there = rw c.in-Some.is at c.in_ok-place_in_group.ensures in
-    let b = before_group g.G.Ord.cmp g.G.FromRef.group_of c.args.group.now pairs in
-    let j = place_on slots c.args.height c.args.root c.in_ok-back-in-Some.back in
-    let at = place_on slots c.args.height c.args.root c.in-Some.front in
-    let is = of_group_is total g.met.G.Ord.total g.G.FromRef.group_of g.met.G.FromRef.keeps_order c.args.group.now pairs b j (contents_ascend g.S.Argument.Argument.is_summary slots c.args.height c.args.root c.requires.shape total) refl c.in_ok-back-in-Some.ensures.1 in
-    let more : c.args.i < j - b = omega (arith, there.2, ap length is, length-take (j - b) (drop b pairs)) in
-    let there' : at ≡ b + c.args.i = there.1 in
-    let rest : j - at ≡ (j - b) - c.args.i = omega (arith, there', more) in
-    subst (IsPart slots c.args.height c.args.root c.part_of_places.result)
-    (ap (λ m. part pairs at (min c.args.n m)) rest ∙ (ap (λ k. part pairs k (min c.args.n ((j - b) - c.args.i))) there' ∙ (sym (part_of_part pairs b (j - b) c.args.i c.args.n more) ∙ ap (λ l. part l c.args.i c.args.n) (sym is)))) c.part_of_places.ensures
+    subst (IsPart slots c.args.height c.args.root c.part_of_places.result) (rest_of_group g.met.S.K.Ord.total g.met.G.Ord.total g.G.FromRef.group_of g.met.G.FromRef.keeps_order c.args.group.now pairs (place_on slots c.args.height c.args.root c.in-Some.front) (place_on slots c.args.height c.args.root c.in_ok-back-in-Some.back) c.args.i c.args.n (contents_ascend g.S.Argument.Argument.is_summary slots c.args.height c.args.root c.requires.shape g.met.S.K.Ord.total) there.1 there.2 c.in_ok-back-in-Some.ensures.1).1 c.part_of_places.ensures

@@ -1,4 +1,4 @@
-use Rattle.std.proofs.Common.{ap, arith, ◌∙◌}
+use Rattle.std.proofs.Common.{arith}
 use Rattle.bptree_ranges.proofs.Ranged.{last_place}
 use Rattle.bptree_ranges.proofs.ranges.end_of_all.Goals as goal
 

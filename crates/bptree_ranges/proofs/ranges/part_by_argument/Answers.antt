@@ -1,4 +1,4 @@
-use Rattle.std.proofs.Common.{◌+◌, inr, length, refl, arith, take, None, Some}
+use Rattle.std.proofs.Common.{◌+◌, length, refl, None, Some}
 use Rattle.bptree_ranges.specs.Ranges.{start}
 use Rattle.bptree_shape.specs.Shape.{pairs_at}
 use Rattle.bptree_ranges.proofs.Ranged.{first_place, selected_place, selected_within, empty_part}

@@ -1,8 +1,7 @@
-use Rattle.std.proofs.Common.{◌≡◌, ◌-◌, ◌+◌, ◌∙◌, ap, arith, length, min, refl, subst, sym}
-use Rattle.bptree_keys.specs.Ranges.{part}
+use Rattle.std.proofs.Common.{arith, subst}
 use Rattle.bptree_ranges.specs.Ranges.{place_on, IsPart}
 use Rattle.bptree_shape.specs.Shape.{pairs_at}
-use Rattle.bptree_ranges.proofs.Ranged.{part_cut, reached}
+use Rattle.bptree_ranges.proofs.Ranged.{part_upto_end, reached}
 use Rattle.bptree_ranges.proofs.ranges.part_from.Goals as goal
 
 pub part_of_places-requires-clause-rises : goal.part_of_places-requires-clause-rises
@@ -15,5 +14,4 @@ returns g c =
     let slots = g.S.NodeStore.slots c.args.store.now in
     let pairs = pairs_at slots c.args.height c.args.root in
     let i = place_on slots c.args.height c.args.root c.args.front in
-    subst (IsPart slots c.args.height c.args.root c.part_of_places.result)
-    (ap (λ m. part pairs i (min c.args.n (m - i))) c.end_of_all-back.ensures.end ∙ sym (part_cut pairs i c.args.n (min c.args.n (length pairs - i)) refl)) c.part_of_places.ensures
+    subst (IsPart slots c.args.height c.args.root c.part_of_places.result) (part_upto_end pairs i c.args.n (place_on slots c.args.height c.args.root c.end_of_all-back.result) c.end_of_all-back.ensures.end) c.part_of_places.ensures

@@ -1,32 +1,42 @@
-use Rattle.std.proofs.Common.{◌≡◌, ◌+◌, ◌-◌, ◌≤◌, ◌∙◌, [], arith, ap, length, refl, subst, sym}
+use Rattle.std.proofs.Common.{arith}
 use Rattle.std.specs.Option.{option_copied}
-use Rattle.bptree_keys.specs.Ranges.{part, falls_short, stays_below}
-use Rattle.bptree_ranges.specs.Ranges.{place_on, IsSettled}
+use Rattle.bptree_keys.specs.Ranges.{between}
+use Rattle.bptree_ranges.specs.Bounds.{bound_copied}
+use Rattle.bptree_ranges.specs.Ranges.{place_on}
 use Rattle.bptree_shape.specs.Shape.{pairs_at}
-use Rattle.bptree_shape.proofs.Between.{between_is, between_none}
-use Rattle.bptree_ranges.proofs.Ranged.{contents_ascend, filter_fewer}
+use Rattle.bptree_ranges.proofs.Bounded.{between_ends, none_settled, settled_between}
+use Rattle.bptree_ranges.proofs.Ranged.{settled_itself}
 use Rattle.bptree_ranges.proofs.ranges.places_between.Goals as goal
 
-pub returns-then-not-are_apart : goal.returns-then-not-are_apart
-returns-then-not-are_apart g c =
+pub returns-then-not-can_hold : goal.returns-then-not-can_hold
+returns-then-not-can_hold g c =
     let slots = g.S.NodeStore.slots c.args.store.now in
     let pairs = pairs_at slots c.args.height c.args.root in
-    let i = place_on slots c.args.height c.args.root c.settled-front.result in
-    let here : IsSettled slots c.args.height c.args.root i c.settled-front.result = subst (λ n. IsSettled slots c.args.height c.args.root n c.settled-front.result) (sym c.settled-front.ensures.same) c.settled-front.ensures in
-    let none = between_none g.met.S.K.Ord.total pairs (option_copied c.args.lo) (option_copied c.args.hi) (c.are_apart.ensures.none c.if-not-are_apart.true) in
-    let gap : i - i ≡ 0 = omega arith in
-    record { front = here; back = here; rises = omega arith; pairs = none ∙ sym (ap (part pairs i) gap) }
+    let here = settled_itself g.S.Argument.Argument.is_summary slots c.args.height c.args.root c.requires (place_on slots c.args.height c.args.root c.place_of_bound-first.result) c.settled-front.result c.settled-front.ensures in
+    let ends = c.bounds_of in
+    let same = between_ends g.S.K.Ord.cmp pairs (option_copied c.args.lo) (option_copied c.args.hi) (bound_copied ends.result.0) (bound_copied ends.result.1) ends.ensures.start ends.ensures.end in
+    record {
+      front = here;
+      back = here;
+      rises = omega arith;
+      pairs = none_settled g.met.S.K.Ord.total g.S.Argument.Argument.is_summary slots c.args.height c.args.root c.requires (bound_copied ends.result.0) (bound_copied ends.result.1) c.can_hold.result c.can_hold.ensures c.if-not-can_hold.true (between g.S.K.Ord.cmp pairs (option_copied c.args.lo) (option_copied c.args.hi)) same (place_on slots c.args.height c.args.root c.settled-front.result);
+    }
 
 pub returns : goal.returns
 returns g c =
     let slots = g.S.NodeStore.slots c.args.store.now in
     let pairs = pairs_at slots c.args.height c.args.root in
-    let one = c.settled-front.ensures in
-    let other = c.settled-back.ensures in
-    let few = filter_fewer (λ pair. falls_short g.S.K.Ord.cmp (option_copied c.args.lo) pair.0) (λ pair. stays_below g.S.K.Ord.cmp (option_copied c.args.hi) pair.0) pairs (λ pair. c.are_apart.ensures.some c.if-not-are_apart.false pair.0) in
+    let on = place_on slots c.args.height c.args.root in
+    let sum = g.S.Argument.Argument.is_summary in
+    let one = c.settled-front in
+    let other = c.settled-back in
+    let ends = c.bounds_of in
+    let same = between_ends g.S.K.Ord.cmp pairs (option_copied c.args.lo) (option_copied c.args.hi) (bound_copied ends.result.0) (bound_copied ends.result.1) ends.ensures.start ends.ensures.end in
+    let found = settled_between g.met.S.K.Ord.total g.S.Argument.Argument.is_summary slots c.args.height c.args.root c.requires (bound_copied ends.result.0) (bound_copied ends.result.1) c.can_hold.result c.can_hold.ensures (on c.place_of_bound-first.result) (on c.place_of_bound-behind.result) (on one.result) (on other.result) one.ensures.same other.ensures.same
+    c.place_of_bound-first.ensures.before c.place_of_bound-behind.ensures.before c.if-not-can_hold.false (between g.S.K.Ord.cmp pairs (option_copied c.args.lo) (option_copied c.args.hi)) same in
     record {
-      front = subst (λ n. IsSettled slots c.args.height c.args.root n c.settled-front.result) (sym one.same) one;
-      back = subst (λ n. IsSettled slots c.args.height c.args.root n c.settled-back.result) (sym other.same) other;
-      rises = omega (arith, few, one.same, other.same, c.front_of-first.ensures.before, c.back_of-behind.ensures.before);
-      pairs = between_is g.met.S.K.Ord.total pairs (option_copied c.args.lo) (option_copied c.args.hi) _ _ (contents_ascend g.S.Argument.Argument.is_summary slots c.args.height c.args.root c.requires g.met.S.K.Ord.total) (one.same ∙ c.front_of-first.ensures.before) (other.same ∙ c.back_of-behind.ensures.before);
+      front = settled_itself sum slots c.args.height c.args.root c.requires (on c.place_of_bound-first.result) one.result one.ensures;
+      back = settled_itself sum slots c.args.height c.args.root c.requires (on c.place_of_bound-behind.result) other.result other.ensures;
+      rises = found.0;
+      pairs = found.1;
     }

@@ -1,4 +1,4 @@
-use Rattle.std.proofs.Common.{◌<◌, refl, sym, ◌∙◌, arith}
+use Rattle.std.proofs.Common.{refl, sym, ◌∙◌, arith}
 use Rattle.bptree_ranges.proofs.Ranged.{next_of, last_of, size_of}
 use Rattle.bptree_ranges.proofs.ranges.settled.Goals as goal
 

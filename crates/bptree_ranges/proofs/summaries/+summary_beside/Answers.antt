@@ -1,0 +1,41 @@
+use Rattle.std.proofs.Common.{refl, length, None, Some, ◌+◌, arith}
+use Rattle.bptree_descents.proofs.Child.{child_at, below, one_down}
+use Rattle.bptree_ranges.proofs.Sums.{from_node, upto_node, leaf_node}
+use Rattle.bptree_ranges.proofs.summaries.+summary_beside.Goals as goal
+
+pub summary_beside-requires : goal.summary_beside-requires
+summary_beside-requires g t c κs within =
+    let total = g.met.S.K.Ord.total in
+    let sum = g.S.Argument.Argument.is_summary in
+    let slots = g.S.NodeStore.slots c.args.store.now in
+    let i = c.locate_child-place.result.0 in
+    let child = c.locate_child-place.result.1 in
+    let there = child_at total sum slots c.args.height c.args.id c.in-Inner.inner c.get_inner-node.result.now c.requires c.in-Inner.is c.get_inner-node.ensures i child c.locate_child-place.ensures.in_range c.locate_child-place.ensures.child in
+    (omega (arith, one_down total sum slots c.args.height c.args.id c.in-Inner.inner c.get_inner-node.result.now i child there), (within.0, (within.1.0, (within.1.1.0, (within.1.1.1, below total sum slots c.args.height c.args.id c.in-Inner.inner c.get_inner-node.result.now i child there)))))
+
+pub returns-then-below : goal.returns-then-below
+returns-then-below g t c =
+    rw c.if-below.true
+    (leaf_node g.met.S.K.Ord.total g.S.Argument.Argument.is_summary (g.S.NodeStore.slots c.args.store.now) c.args.height c.args.id c.in-Leaf.leaf c.get_leaf-node.result.now c.requires c.in-Leaf.is c.get_leaf-node.ensures None (Some c.args.key.now) c.summary_in_leaf.result c.summary_in_leaf.ensures)
+
+pub returns-else-below : goal.returns-else-below
+returns-else-below g t c =
+    rw c.if-below.false
+    (leaf_node g.met.S.K.Ord.total g.S.Argument.Argument.is_summary (g.S.NodeStore.slots c.args.store.now) c.args.height c.args.id c.in-Leaf.leaf c.get_leaf-node.result.now c.requires c.in-Leaf.is c.get_leaf-node.ensures (Some c.args.key.now) None c.summary_in_leaf-else-below.result c.summary_in_leaf-else-below.ensures)
+
+pub returns-in_ok-front-in-Inner : goal.returns-in_ok-front-in-Inner
+returns-in_ok-front-in-Inner g t c =
+    let at = c.locate_child-place in
+    let there = child_at g.met.S.K.Ord.total g.S.Argument.Argument.is_summary (g.S.NodeStore.slots c.args.store.now) c.args.height c.args.id c.in-Inner.inner c.get_inner-node.result.now c.requires c.in-Inner.is c.get_inner-node.ensures at.result.0 at.result.1 at.ensures.in_range at.ensures.child in
+    rw c.if-below-2.true
+    (upto_node g.met.S.K.Ord.total g.S.Argument.Argument.is_summary (g.S.NodeStore.slots c.args.store.now) c.args.id c.in-Inner.inner c.get_inner-node.result.now c.arguments-arguments.result.now c.arguments-arguments.ensures.value c.args.height c.args.key.now at.result.0 at.result.1 there at.ensures.leads
+    c.in_ok-front-in-Inner.front c.in_ok-part-in-Inner.part c.sum_of_both.result c.in_ok-front-in-Inner.ensures (rw c.if-below-2.true at c.in_ok-part-in-Inner.ensures) c.sum_of_both.ensures)
+
+pub returns-in_ok-back-in-Inner : goal.returns-in_ok-back-in-Inner
+returns-in_ok-back-in-Inner g t c =
+    let at = c.locate_child-place in
+    let arguments = c.arguments-arguments.result.now in
+    let there = child_at g.met.S.K.Ord.total g.S.Argument.Argument.is_summary (g.S.NodeStore.slots c.args.store.now) c.args.height c.args.id c.in-Inner.inner c.get_inner-node.result.now c.requires c.in-Inner.is c.get_inner-node.ensures at.result.0 at.result.1 at.ensures.in_range at.ensures.child in
+    rw c.if-below-2.false
+    (from_node g.met.S.K.Ord.total g.S.Argument.Argument.is_summary (g.S.NodeStore.slots c.args.store.now) c.args.id c.in-Inner.inner c.get_inner-node.result.now arguments c.arguments-arguments.ensures.value c.args.height c.args.key.now at.result.0 (at.result.0 + 1) (length arguments) at.result.1 there at.ensures.leads refl refl
+    c.in_ok-part-in-Inner.part c.in_ok-back-in-Inner.back c.sum_of_both-else-below-2.result (rw c.if-below-2.false at c.in_ok-part-in-Inner.ensures) c.in_ok-back-in-Inner.ensures c.sum_of_both-else-below-2.ensures)
