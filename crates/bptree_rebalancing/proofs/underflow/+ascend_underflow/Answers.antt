@@ -57,40 +57,16 @@ inners_at-requires-clause-fits g t c = sn.fits_there g.met.S.K.Ord.total c.requi
 pub inners_at-requires-clause-slot : goal.inners_at-requires-clause-slot
 inners_at-requires-clause-slot g t c = sn.slot_there g.met.S.K.Ord.total c.requires c.pop.new.self c.in-Some.parent c.in-Some.place c.in-Some.field-0-2 c.in-Some.ensures.some c.inner_sibling-slot.result.0 c.inner_sibling-slot.result.1 c.inner_sibling-slot.ensures
 
-pub rotate_inners_at-requires-clause-place : goal.rotate_inners_at-requires-clause-place
-rotate_inners_at-requires-clause-place g t c = sn.entry_at g.met.S.K.Ord.total c.requires c.pop.new.self c.in-Some.parent c.in-Some.place c.in-Some.field-0-2 c.in-Some.ensures.some c.inner_sibling-slot.result.0 c.inner_sibling-slot.result.1 c.inner_sibling-slot.ensures
-
-pub rotate_inners_at-requires-clause-most : goal.rotate_inners_at-requires-clause-most
-rotate_inners_at-requires-clause-most g t c = sn.most_there g.met.S.K.Ord.total c.requires c.pop.new.self c.in-Some.parent c.in-Some.place c.in-Some.field-0-2 c.in-Some.ensures.some
-
-pub rotate_inners_at-requires-clause-left : goal.rotate_inners_at-requires-clause-left
-rotate_inners_at-requires-clause-left g t c = omega (arith, (sn.left_there g.met.S.K.Ord.total c.requires c.pop.new.self c.in-Some.parent c.in-Some.place c.in-Some.field-0-2 c.in-Some.ensures.some c.inner_sibling-slot.result.0 c.inner_sibling-slot.result.1 c.inner_sibling-slot.ensures c.inners_at.result.0 c.inners_at.result.1 c.inners_at.ensures.left c.inners_at.ensures.right).3)
-
-pub rotate_inners_at-requires-clause-right : goal.rotate_inners_at-requires-clause-right
-rotate_inners_at-requires-clause-right g t c = omega (arith, (sn.right_there g.met.S.K.Ord.total c.requires c.pop.new.self c.in-Some.parent c.in-Some.place c.in-Some.field-0-2 c.in-Some.ensures.some c.inner_sibling-slot.result.0 c.inner_sibling-slot.result.1 c.inner_sibling-slot.ensures c.inners_at.result.0 c.inners_at.result.1 c.inners_at.ensures.left c.inners_at.ensures.right).3)
-
-pub rotate_inners_at-requires-clause-apart : goal.rotate_inners_at-requires-clause-apart
-rotate_inners_at-requires-clause-apart g t c = sn.apart_there g.met.S.K.Ord.total c.requires c.pop.new.self c.in-Some.parent c.in-Some.place c.in-Some.field-0-2 c.in-Some.ensures.some c.inner_sibling-slot.result.0 c.inner_sibling-slot.result.1 c.inner_sibling-slot.ensures c.inners_at.result.0 c.inners_at.result.1 c.inners_at.ensures.left c.inners_at.ensures.right
-
-pub merge_inners_at-requires-clause-place : goal.merge_inners_at-requires-clause-place
-merge_inners_at-requires-clause-place g t c = sn.entry_at g.met.S.K.Ord.total c.requires c.pop.new.self c.in-Some.parent c.in-Some.place c.in-Some.field-0-2 c.in-Some.ensures.some c.inner_sibling-slot.result.0 c.inner_sibling-slot.result.1 c.inner_sibling-slot.ensures
-
-pub merge_inners_at-requires-clause-most : goal.merge_inners_at-requires-clause-most
-merge_inners_at-requires-clause-most g t c = sn.most_there g.met.S.K.Ord.total c.requires c.pop.new.self c.in-Some.parent c.in-Some.place c.in-Some.field-0-2 c.in-Some.ensures.some
-
-pub merge_inners_at-requires-clause-left : goal.merge_inners_at-requires-clause-left
-merge_inners_at-requires-clause-left g t c = omega (arith, (sn.left_there g.met.S.K.Ord.total c.requires c.pop.new.self c.in-Some.parent c.in-Some.place c.in-Some.field-0-2 c.in-Some.ensures.some c.inner_sibling-slot.result.0 c.inner_sibling-slot.result.1 c.inner_sibling-slot.ensures c.inners_at.result.0 c.inners_at.result.1 c.inners_at.ensures.left c.inners_at.ensures.right).3)
-
-pub merge_inners_at-requires-clause-right : goal.merge_inners_at-requires-clause-right
-merge_inners_at-requires-clause-right g t c = omega (arith, (sn.right_there g.met.S.K.Ord.total c.requires c.pop.new.self c.in-Some.parent c.in-Some.place c.in-Some.field-0-2 c.in-Some.ensures.some c.inner_sibling-slot.result.0 c.inner_sibling-slot.result.1 c.inner_sibling-slot.ensures c.inners_at.result.0 c.inners_at.result.1 c.inners_at.ensures.left c.inners_at.ensures.right).3)
-
-pub merge_inners_at-requires-clause-apart : goal.merge_inners_at-requires-clause-apart
-merge_inners_at-requires-clause-apart g t c = sn.apart_there g.met.S.K.Ord.total c.requires c.pop.new.self c.in-Some.parent c.in-Some.place c.in-Some.field-0-2 c.in-Some.ensures.some c.inner_sibling-slot.result.0 c.inner_sibling-slot.result.1 c.inner_sibling-slot.ensures c.inners_at.result.0 c.inners_at.result.1 c.inners_at.ensures.left c.inners_at.ensures.right
+pub rotate_inners_at-requires-clause-siblings : goal.rotate_inners_at-requires-clause-siblings
+rotate_inners_at-requires-clause-siblings g t c = sn.siblings_there g.met.S.K.Ord.total c.requires c.pop.new.self c.in-Some.parent c.in-Some.place c.in-Some.field-0-2 c.in-Some.ensures.some c.inner_sibling-slot.result.0 c.inner_sibling-slot.result.1 c.inner_sibling-slot.ensures c.inners_at.result.0 c.inners_at.result.1 c.inners_at.ensures.left c.inners_at.ensures.right
 
 pub rotate_inners_at-requires-clause-rotates : goal.rotate_inners_at-requires-clause-rotates
 rotate_inners_at-requires-clause-rotates g t c =
     let lacks : length (inner_keys ((g.S.NodeStore.slots c.args.store.now).inner c.args.id.0)) < 16 = rw c.get_inner.ensures (omega (arith, c.len.ensures.value, c.if-len-ge-INNER_MINIMUM.false)) in
     sn.rotates_there g.met.S.K.Ord.total c.requires c.pop.new.self c.in-Some.parent c.in-Some.place c.in-Some.field-0-2 c.in-Some.ensures.some c.inner_sibling-slot.result.0 c.inner_sibling-slot.result.1 c.inner_sibling-slot.ensures c.inners_at.result.0 c.inners_at.result.1 c.inners_at.ensures.left c.inners_at.ensures.right lacks c.in-Some-giver.giver c.in-Some-giver.is
+
+pub merge_inners_at-requires-clause-siblings : goal.merge_inners_at-requires-clause-siblings
+merge_inners_at-requires-clause-siblings g t c = sn.siblings_there g.met.S.K.Ord.total c.requires c.pop.new.self c.in-Some.parent c.in-Some.place c.in-Some.field-0-2 c.in-Some.ensures.some c.inner_sibling-slot.result.0 c.inner_sibling-slot.result.1 c.inner_sibling-slot.ensures c.inners_at.result.0 c.inners_at.result.1 c.inners_at.ensures.left c.inners_at.ensures.right
 
 pub merge_inners_at-requires-clause-fits : goal.merge_inners_at-requires-clause-fits
 merge_inners_at-requires-clause-fits g t c =
