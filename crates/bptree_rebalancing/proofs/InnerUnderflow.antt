@@ -15,7 +15,7 @@ use Rattle.bptree_keys.proofs.PieceLemmas.{AllByRecursion-weaker}
 use Rattle.bptree_ascent.specs.Climb.{least_at, Climbs, Risen}
 use Rattle.bptree_shape.specs.Edit.{Edits}
 use Rattle.bptree_shape.specs.Outcome.{Done}
-use Rattle.bptree_rebalancing.specs.ChooseSibling.{ChoosesSibling, node_size, child_size, IsInnerAt, AllInner}
+use Rattle.bptree_rebalancing.specs.ChooseSibling.{ChoosesSibling, node_size, child_size, IsInnerAt, AllInner, NodesBelow}
 use Rattle.bptree_shape.specs.Order.{Chain}
 use Rattle.bptree_shape.specs.Path.{Way}
 use Rattle.bptree_shape.specs.Shape.{inner_keys, inner_children, pairs_at, inner_count, stands, root_least, IsTree}
@@ -28,7 +28,7 @@ use Rattle.bptree_shape.proofs.Agreeing.{stands_le}
 use Rattle.bptree_ascent.proofs.Climbing.{climb_on, has_place, most, least_most, edits_less}
 use Rattle.bptree_rebalancing.proofs.ClimbingUnderflow as short
 use Rattle.bptree_rebalancing.proofs.Choosing as choosing
-use Rattle.bptree_rebalancing.proofs.Choosing.{size_read, chain_all, key_of, rotates_so, enough_so, fits_so}
+use Rattle.bptree_rebalancing.proofs.Choosing.{nodes_of_inners, size_read, chain_all, key_of, rotates_so, enough_so, fits_so}
 use Rattle.bptree_rebalancing.proofs.Seated.{Seat, seat_of, seat_size, inner_high}
 use Rattle.bptree_rebalancing.proofs.Transfers.{entry_out}
 use Rattle.bptree_shape.proofs.Walk.{chain_length}
@@ -215,6 +215,9 @@ module _ {K V A : Type 0} {cmp : K → K → Ordering} (total : IsTotalOrder cmp
 
   pub inners_there : AllInner now (inner_children (now.inner number.0))
   inners_there = rw at_number (all_inner total is_summary now path nid a c rest number i child e)
+
+  pub nodes_there : NodesBelow now number
+  nodes_there = nodes_of_inners now (inner_children (now.inner number.0)) inners_there
 
   pub long_there : length (inner_children (now.inner number.0)) ≡ length (inner_keys (now.inner number.0)) + 1
   long_there = rw at_number (place total is_summary now path nid a c rest number i child e).children

@@ -121,8 +121,10 @@ module _ {K A : Type 0} where
       })
 
   -- it is put in again
-  pub entry_in : (node bare now back : Inner K A) (slot : ℕ) (s : K) (child : NodeId) (a : A) → HasEntry node bare slot s child a → now ≡ bare → back ≡ with_entry now slot s child a → back ≡ node
-  entry_in node bare now back slot s child a entry same is = is ∙ (ap (λ n. with_entry n slot s child a) same ∙ sym entry.is)
+  pub entry_returned : (node bare now back : Inner K A) (slot : ℕ) (s : K) (child : NodeId) (a : A) → HasPlace node (slot + 1) → slice_get node.keys slot ≡ Some s → slice_get node.children (slot + 1) ≡ Some child → slice_get node.arguments (slot + 1) ≡ Some a
+      → bare ≡ without_entry node slot → now ≡ bare → back ≡ with_entry now slot s child a → back ≡ node
+  entry_returned node bare now back slot s child a h key at told out same is =
+      is ∙ (ap (λ n. with_entry n slot s child a) same ∙ sym (entry_out node bare slot s child a h key at told out).is)
 
   -- a node that took another entry has the old one again
   module _ (cmp : K → K → Ordering) (node bare now taken set back : Inner K A) (slot : ℕ) (s : K) (child out_child : NodeId) (a before out_a out : A) (out_s : K) (left_told : A → Type 0) (parts : K → Type 0) (right_told : A → Type 0)
