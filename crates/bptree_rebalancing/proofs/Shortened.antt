@@ -30,7 +30,7 @@ use Rattle.bptree_shape.proofs.Frame.{Same, same}
 use Rattle.bptree_ascent.proofs.Lift.{links_moved}
 use Rattle.bptree_rebalancing.proofs.RebalanceInner as relink_next
 use Rattle.bptree_rebalancing.proofs.InnerUnderflow as spot
-use Rattle.bptree_ascent.proofs.Undone.{same_node}
+use Rattle.bptree_rebalancing.proofs.Transfers.{entry_of}
 
 -- an edit is what it was once a held number that it does not reach is let go
 pub edits_released : {K V A : Type 0} {cmp : K → K → Ordering} (is_summary : A → List K → Type 0) (edit : List (K × V) → List (K × V)) (kept : ℕ) (old new final : Slots (Inner K A) (Leaf K V)) (h : ℕ) (root : NodeId) (k : K) (leaf : LeafNodeId) (turn : Turn) (right : InnerNodeId)
@@ -72,28 +72,25 @@ module _ {K V A : Type 0} {cmp : K → K → Ordering} (total : IsTotalOrder cmp
   abbrev pub node : Inner K A
   node = (short.step total is_summary now after path nid a c rest number i child e).node
 
+  abbrev pub high : (m : ℕ) × (c.climb.height ≡ suc m)
+  high = short.high total is_summary now after path nid a c rest number i child e
+
   module _ (read_left : slice_get node.children slot ≡ Some (kind.Inner left)) (read_right : slice_get node.children (slot + 1) ≡ Some (kind.Inner right)) (sides : Sides A) where
     -- two that merged
     module _ (emptied : Inner K A) (j : MergesInnersAt cmp is_summary slot now after number left right sides emptied) where
-      pub j_same : node ≡ j.three.node
-      j_same = same_node (now.inner number.0) node j.three.node (short.node_stands total is_summary now after path nid a c rest number i child e) j.three.at_node
-
       pub j_entry : HasEntry node j.transfers.bare slot j.transfers.separator j.transfers.child sides.right
-      j_entry = subst (λ n. HasEntry n j.transfers.bare slot j.transfers.separator j.transfers.child sides.right) (sym j_same) j.transfers.entry
-
-      abbrev pub j_high : (m : ℕ) × (c.climb.height ≡ suc m)
-      j_high = short.high total is_summary now after path nid a c rest number i child e
+      j_entry = entry_of (now.inner number.0) node j.three.node (short.node_stands total is_summary now after path nid a c rest number i child e) j.three.at_node j.transfers.entry
 
       pub merge_rebalances : RebalancesPair cmp is_summary now after c.climb.height number.0 (kind.Inner left) j.transfers.separator (kind.Inner right) Done
       merge_rebalances =
-          subst (λ n. RebalancesPair cmp is_summary now after n number.0 (kind.Inner left) j.transfers.separator (kind.Inner right) Done) (sym j_high.1)
-          (relink_next.inners_merged total is_summary now after j_high.0 number left right j.three.one j.three.other j.three.one' j.transfers.separator j.three.at_left j.three.at_right j.three.is_left j.inners j.leaf (j.three.apart, j.far.0, j.far.1)
+          subst (λ n. RebalancesPair cmp is_summary now after n number.0 (kind.Inner left) j.transfers.separator (kind.Inner right) Done) (sym high.1)
+          (relink_next.inners_merged total is_summary now after high.0 number left right j.three.one j.three.other j.three.one' j.transfers.separator j.three.at_left j.three.at_right j.three.is_left j.inners j.leaf (j.three.apart, j.far.0, j.far.1)
           (short.own_high total is_summary now after path nid a c rest number i child e slot left right j.transfers.bare j.transfers.child j.transfers.separator sides.right j_entry beside read_left read_right) emptied j.three.is_right j.transfers.nodes j.fits)
 
       pub j_order : leaves_at after c.climb.height (kind.Inner left) ≡ leaves_at now c.climb.height (kind.Inner left) ++ leaves_at now c.climb.height (kind.Inner right)
       j_order =
-          subst (λ n. leaves_at after n (kind.Inner left) ≡ leaves_at now n (kind.Inner left) ++ leaves_at now n (kind.Inner right)) (sym j_high.1)
-          (relink_next.order_merged total is_summary now after j_high.0 number left right j.three.one j.three.other j.three.one' j.transfers.separator j.three.at_left j.three.at_right j.three.is_left j.inners j.leaf (j.three.apart, j.far.0, j.far.1)
+          subst (λ n. leaves_at after n (kind.Inner left) ≡ leaves_at now n (kind.Inner left) ++ leaves_at now n (kind.Inner right)) (sym high.1)
+          (relink_next.order_merged total is_summary now after high.0 number left right j.three.one j.three.other j.three.one' j.transfers.separator j.three.at_left j.three.at_right j.three.is_left j.inners j.leaf (j.three.apart, j.far.0, j.far.1)
           (short.own_high total is_summary now after path nid a c rest number i child e slot left right j.transfers.bare j.transfers.child j.transfers.separator sides.right j_entry beside read_left read_right) emptied j.three.is_right j.transfers.nodes j.fits)
 
       pub j_held : HeldAre (λ n. cond (eqb right.0 n) true (c.climb.held_inner n)) c.climb.held_leaf after
@@ -144,28 +141,22 @@ module _ {K V A : Type 0} {cmp : K → K → Ordering} (total : IsTotalOrder cmp
 
     -- two of which one rotated to the other
     module _ (giver : Sibling) (l : RotatesInnersAt cmp is_summary slot now after number giver left right sides) (least : (16 ≤ length l.three.one'.keys) × (16 ≤ length l.other'.keys)) where
-      pub l_same : node ≡ l.three.node
-      l_same = same_node (now.inner number.0) node l.three.node (short.node_stands total is_summary now after path nid a c rest number i child e) l.three.at_node
-
       pub l_entry : HasEntry node l.transfers.bare slot l.transfers.separator l.transfers.child sides.right
-      l_entry = subst (λ n. HasEntry n l.transfers.bare slot l.transfers.separator l.transfers.child sides.right) (sym l_same) l.transfers.entry
-
-      abbrev pub l_high : (m : ℕ) × (c.climb.height ≡ suc m)
-      l_high = short.high total is_summary now after path nid a c rest number i child e
+      l_entry = entry_of (now.inner number.0) node l.three.node (short.node_stands total is_summary now after path nid a c rest number i child e) l.three.at_node l.transfers.entry
 
       pub l_given : l.transfers.child ≡ kind.Inner right
       l_given = short.given_is total is_summary now after path nid a c rest number i child e slot left right l.transfers.bare l.transfers.child l.transfers.separator sides.right l_entry beside read_left read_right
 
       pub left_rebalances : RebalancesPair cmp is_summary now after c.climb.height number.0 (kind.Inner left) l.transfers.separator (kind.Inner right) (Split l.transfers.up (kind.Inner right))
       left_rebalances =
-          subst (λ n. RebalancesPair cmp is_summary now after n number.0 (kind.Inner left) l.transfers.separator (kind.Inner right) (Split l.transfers.up (kind.Inner right))) (sym l_high.1)
-          (relink_next.inners_rotated total is_summary now after l_high.0 number left right l.three.one l.three.other l.three.one' l.transfers.separator l.three.at_left l.three.at_right l.three.is_left l.inners l.leaf (l.three.apart, l.far.0, l.far.1)
+          subst (λ n. RebalancesPair cmp is_summary now after n number.0 (kind.Inner left) l.transfers.separator (kind.Inner right) (Split l.transfers.up (kind.Inner right))) (sym high.1)
+          (relink_next.inners_rotated total is_summary now after high.0 number left right l.three.one l.three.other l.three.one' l.transfers.separator l.three.at_left l.three.at_right l.three.is_left l.inners l.leaf (l.three.apart, l.far.0, l.far.1)
           (short.own_high total is_summary now after path nid a c rest number i child e slot left right l.transfers.bare l.transfers.child l.transfers.separator sides.right l_entry beside read_left read_right) giver l.other' l.transfers.up l.three.is_right l.transfers.moves least)
 
       pub l_order : leaves_at after c.climb.height (kind.Inner left) ++ leaves_at after c.climb.height (kind.Inner right) ≡ leaves_at now c.climb.height (kind.Inner left) ++ leaves_at now c.climb.height (kind.Inner right)
       l_order =
-          subst (λ n. leaves_at after n (kind.Inner left) ++ leaves_at after n (kind.Inner right) ≡ leaves_at now n (kind.Inner left) ++ leaves_at now n (kind.Inner right)) (sym l_high.1)
-          (relink_next.order_rotated total is_summary now after l_high.0 number left right l.three.one l.three.other l.three.one' l.transfers.separator l.three.at_left l.three.at_right l.three.is_left l.inners l.leaf (l.three.apart, l.far.0, l.far.1)
+          subst (λ n. leaves_at after n (kind.Inner left) ++ leaves_at after n (kind.Inner right) ≡ leaves_at now n (kind.Inner left) ++ leaves_at now n (kind.Inner right)) (sym high.1)
+          (relink_next.order_rotated total is_summary now after high.0 number left right l.three.one l.three.other l.three.one' l.transfers.separator l.three.at_left l.three.at_right l.three.is_left l.inners l.leaf (l.three.apart, l.far.0, l.far.1)
           (short.own_high total is_summary now after path nid a c rest number i child e slot left right l.transfers.bare l.transfers.child l.transfers.separator sides.right l_entry beside read_left read_right) giver l.other' l.transfers.up l.three.is_right l.transfers.moves least)
 
       pub l_held : HeldAre c.climb.held_inner c.climb.held_leaf after

@@ -1,5 +1,5 @@
 -- A parent and two of its children are taken out of a store, changed, and put back.
-use Rattle.std.proofs.Common.{◌≡◌, ℕ, ◌≤◌, List, length, inl, inr, sym, ap, ◌∙◌, Result, Ok, Err, IfOk}
+use Rattle.std.proofs.Common.{◌≡◌, ℕ, ◌+◌, ◌≤◌, List, length, slice_get, Some, inl, inr, sym, ap, ◌∙◌, Result, Ok, Err, IfOk}
 use Rattle.std.specs.declared.cmp.Ordering.{Ordering}
 use Rattle.std.proofs.lemmas.Bool.{cases_eq}
 use Rattle.bptree_nodes.specs.Inner.{Inner}
@@ -7,10 +7,11 @@ use Rattle.bptree_nodes.specs.Leaf.{Leaf}
 use Rattle.bptree_nodes.specs.Slot.{Slot, Slots, Held, Present, UpdatesInner, UpdatesLeaf}
 use Rattle.bptree_keys.specs.declared.node_id.InnerNodeId.{InnerNodeId}
 use Rattle.bptree_keys.specs.declared.node_id.LeafNodeId.{LeafNodeId}
-use Rattle.bptree_shape.specs.Shape.{inner_keys}
+use Rattle.bptree_keys.specs.declared.node_id.NodeId.TheVariants as kind
+use Rattle.bptree_shape.specs.Shape.{leaf_pairs, leaf_next, inner_keys, inner_children}
 use Rattle.bptree_ascent.proofs.Undone.{same_node}
 use Rattle.bptree_rebalancing.specs.ChooseSibling.{CanGivePair, CanGiveChild, FitInOneLeaf, FitInOneNode}
-use Rattle.bptree_rebalancing.specs.RotateMerge.{RotatesLeaves, MergesLeaves, RotatesInners, MergesInners, UndoesRotateLeaves, UndoesRotateInners, ThreeAt, RotatesLeavesAt, MergesLeavesAt, RotatesInnersAt, MergesInnersAt}
+use Rattle.bptree_rebalancing.specs.RotateMerge.{RotatesLeaves, MergesLeaves, RotatesInners, MergesInners, UndoesRotateLeaves, UndoesRotateInners, UndoesMergeLeaves, UndoesMergeInners, ThreeAt, RotatesLeavesAt, MergesLeavesAt, RotatesInnersAt, MergesInnersAt}
 use Rattle.bptree_rebalancing.specs.declared.rotate_merge.Joint.{Joint}
 use Rattle.bptree_rebalancing.specs.declared.rotate_merge.Sibling.{Sibling}
 use Rattle.bptree_rebalancing.specs.declared.rotate_merge.Sides.{Sides}
@@ -199,7 +200,7 @@ ok_so (Ok x) P R given turns = turns x given
 ok_so (Err e) P R given turns = tt
 
 -- a parent and the left child are taken out and put back, and the right one is put in anew
-pub leaf_put_back : {K V A : Type 0} (old s1 s2 s4 s5 s6 was : Slots (Inner K A) (Leaf K V)) (id : InnerNodeId) (left right : LeafNodeId) (node' : Inner K A) (one' : Leaf K V) (slot : Slot (Leaf K V)) → (left.0 ≡ right.0 → ⊥)
+leaf_put_back : {K V A : Type 0} (old s1 s2 s4 s5 s6 was : Slots (Inner K A) (Leaf K V)) (id : InnerNodeId) (left right : LeafNodeId) (node' : Inner K A) (one' : Leaf K V) (slot : Slot (Leaf K V)) → (left.0 ≡ right.0 → ⊥)
     → UpdatesInner old s1 id.0 Held → UpdatesLeaf s1 s2 left.0 Held → UpdatesInner s2 s4 id.0 (Present node') → UpdatesLeaf s4 s5 left.0 (Present one') → UpdatesLeaf s5 s6 right.0 slot
     → ((n : ℕ) → (n ≡ id.0 → ⊥) → old.inner n ≡ was.inner n) → ((n : ℕ) → (n ≡ left.0 → ⊥) → (n ≡ right.0 → ⊥) → old.leaf n ≡ was.leaf n)
     → was.inner id.0 ≡ Present node' → was.leaf left.0 ≡ Present one' → was.leaf right.0 ≡ slot → s6 ≡ was
@@ -217,7 +218,7 @@ leaf_put_back {K} {V} {A} old s1 s2 s4 s5 s6 was id left right node' one' slot a
       ]
     ])
 
-pub inner_put_back : {K V A : Type 0} (old s1 s2 s4 s5 s6 was : Slots (Inner K A) (Leaf K V)) (id left right : InnerNodeId) (node' one' : Inner K A) (slot : Slot (Inner K A)) → (left.0 ≡ right.0 → ⊥) × (left.0 ≡ id.0 → ⊥) × (right.0 ≡ id.0 → ⊥)
+inner_put_back : {K V A : Type 0} (old s1 s2 s4 s5 s6 was : Slots (Inner K A) (Leaf K V)) (id left right : InnerNodeId) (node' one' : Inner K A) (slot : Slot (Inner K A)) → (left.0 ≡ right.0 → ⊥) × (left.0 ≡ id.0 → ⊥) × (right.0 ≡ id.0 → ⊥)
     → UpdatesInner old s1 id.0 Held → UpdatesInner s1 s2 left.0 Held → UpdatesInner s2 s4 id.0 (Present node') → UpdatesInner s4 s5 left.0 (Present one') → UpdatesInner s5 s6 right.0 slot
     → ((n : ℕ) → (n ≡ id.0 → ⊥) → (n ≡ left.0 → ⊥) → (n ≡ right.0 → ⊥) → old.inner n ≡ was.inner n) → old.leaf ≡ was.leaf
     → was.inner id.0 ≡ Present node' → was.inner left.0 ≡ Present one' → was.inner right.0 ≡ slot → s6 ≡ was
@@ -234,3 +235,23 @@ inner_put_back {K} {V} {A} old s1 s2 s4 s5 s6 was id left right node' one' slot 
   where
     back : (n : ℕ) → (n ≡ right.0 → ⊥) → (n ≡ left.0 → ⊥) → s4.inner n ≡ was.inner n
     back n r l = elim (cases_eq n id.0) [ inl e ↦ (rw e (p1.inner.changed ∙ sym here)) | inr far ↦ (p1.inner.others n far ∙ (t2.inner.others n l ∙ (t1.inner.others n far ∙ inners n far l r))) ]
+
+-- so a merge was undone
+module _ {K V A : Type 0} {cmp : K → K → Ordering} {is_summary : A → List K → Type 0} {slot kept : ℕ} {old s1 s2 s4 s5 s6 : Slots (Inner K A) (Leaf K V)} {node node' : Inner K A} (was : Slots (Inner K A) (Leaf K V)) (id : InnerNodeId) (here : old.inner id.0 ≡ Present node) (t1 : UpdatesInner old s1 id.0 Held) where
+  pub leaves_unmerged_at : {joint : Joint K A} {one one' emptied back : Leaf K V} (left right : LeafNodeId) → s1.leaf left.0 ≡ Present one → UpdatesLeaf s1 s2 left.0 Held → UpdatesInner s2 s4 id.0 (Present node') → UpdatesLeaf s4 s5 left.0 (Present one') → UpdatesLeaf s5 s6 right.0 (Present back)
+      → MergesLeavesAt cmp is_summary slot was old id left right joint emptied → UndoesMergeLeaves cmp is_summary slot joint node one emptied node' one' back (kind.Leaf right) kept (Some right)
+      → kept ≡ length (leaf_pairs (was.leaf left.0)) → slice_get (inner_children (was.inner id.0)) (slot + 1) ≡ Some (kind.Leaf right) → leaf_next (was.leaf left.0) ≡ Some right → s6 ≡ was
+  leaves_unmerged_at {one = one} {one' = one'} {back = back} left right v2 t2 p1 p2 p3 m undoes long read next =
+      let t = m.three in
+      let there = sym (ap (λ (f : ℕ → Slot (Leaf K V)). f left.0) t1.leaf) ∙ v2 in
+      let undone = undoes t.node t.one t.other (rw (same_node (old.inner id.0) node t.node' here t.is_node, same_node (old.leaf left.0) one t.one' there t.is_left) m.transfers) (rw t.at_node at read) (rw t.at_left at long) (sym (rw t.at_left at next)) in
+      leaf_put_back old s1 s2 s4 s5 s6 was id left right node' one' (Present back) t.apart t1 t2 p1 p2 p3 m.inners m.leaves (t.at_node ∙ ap Present (sym undone.0)) (t.at_left ∙ ap Present (sym undone.1)) (t.at_right ∙ ap Present (sym undone.2))
+
+  pub inners_unmerged_at : {sides : Sides A} {one one' emptied back : Inner K A} (left right : InnerNodeId) → s1.inner left.0 ≡ Present one → UpdatesInner s1 s2 left.0 Held → UpdatesInner s2 s4 id.0 (Present node') → UpdatesInner s4 s5 left.0 (Present one') → UpdatesInner s5 s6 right.0 (Present back)
+      → MergesInnersAt cmp is_summary slot was old id left right sides emptied → UndoesMergeInners cmp is_summary slot sides node one emptied node' one' back (kind.Inner right) kept
+      → kept ≡ length (inner_keys (was.inner left.0)) → slice_get (inner_children (was.inner id.0)) (slot + 1) ≡ Some (kind.Inner right) → s6 ≡ was
+  inners_unmerged_at {one = one} {one' = one'} {back = back} left right v2 t2 p1 p2 p3 m undoes long read =
+      let t = m.three in
+      let there = sym (t1.inner.others left.0 m.far.0) ∙ v2 in
+      let undone = undoes t.node t.one t.other (rw (same_node (old.inner id.0) node t.node' here t.is_node, same_node (old.inner left.0) one t.one' there t.is_left) m.transfers) (rw t.at_node at read) (rw t.at_left at long) in
+      inner_put_back old s1 s2 s4 s5 s6 was id left right node' one' (Present back) (t.apart, m.far.0, m.far.1) t1 t2 p1 p2 p3 m.inners m.leaf (t.at_node ∙ ap Present (sym undone.0)) (t.at_left ∙ ap Present (sym undone.1)) (t.at_right ∙ ap Present (sym undone.2))

@@ -15,9 +15,9 @@ pub returns-in-Ok-clause-rotates : goal.returns-in-Ok-clause-rotates
 returns-in-Ok-clause-rotates g c =
     record {
       bare = c.remove_at-separator.new.self;
+      moves = c.move_pair.ensures;
       child = c.remove_at-separator.result.1;
       entry = entry_out c.args.node.now c.remove_at-separator.new.self c.args.slot c.remove_at-separator.result.0 c.remove_at-separator.result.1 c.remove_at-separator.result.2 c.requires.place c.remove_at-separator.ensures.key c.remove_at-separator.ensures.child c.remove_at-separator.ensures.argument c.remove_at-separator.ensures.after;
-      moves = c.move_pair.ensures;
       rotates = c.in-Ok.ensures.rotates;
     }
 
