@@ -111,6 +111,14 @@ module _ {K V A : Type 0} {cmp : K → K → Ordering} (total' : IsTotalOrder cm
       pub next_is : leaf_next (now.leaf left.0) ≡ Some right
       next_is = spot.next_of total' is_summary now path number i c left right before behind was_order left_there
 
+    -- no other number of an inner node is held, where the node above was written anew
+    held_inners : {is : Inner K A} → after.inner number.0 ≡ Present is → ((n : ℕ) → (n ≡ number.0 → ⊥) → after.inner n ≡ now.inner n) → (n : ℕ) → is_held (after.inner n) ≡ c.climb.held_inner n
+    held_inners stands others n =
+        elim (cases_eq n number.0) [
+          | inl q ↦ (rw q (ap is_held stands ∙ (sym (ap is_held (spot.here total' is_summary now path number i c)) ∙ c.climb.free.inners number.0)))
+          | inr far ↦ ap is_held (others n far) ∙ c.climb.free.inners n
+        ]
+
     -- what the node above is then told
     pub told_above : (kept : ℕ) (leaf' : LeafNodeId) (turn' : Turn) → Edits cmp is_summary c.climb.edit kept c.climb.old after (suc c.climb.height) (kind.Inner number) c.climb.k leaf' turn' Done → (above : A) → SumsUpAt cmp is_summary (after.inner number.0) above
         → is_summary above (keys_of (pairs_at after (suc c.climb.height) (kind.Inner number)))
@@ -156,11 +164,7 @@ module _ {K V A : Type 0} {cmp : K → K → Ordering} (total' : IsTotalOrder cm
 
       pub j_held : HeldAre c.climb.held_inner (λ n. cond (eqb right.0 n) true (c.climb.held_leaf n)) after
       j_held = record {
-        inners = λ n.
-            elim (cases_eq n number.0) [
-              | inl q ↦ (rw q (ap is_held j.three.is_node ∙ (sym (ap is_held j.three.at_node) ∙ c.climb.free.inners number.0)))
-              | inr far ↦ ap is_held (j.inners n far) ∙ c.climb.free.inners n
-            ];
+        inners = held_inners j.three.is_node j.inners;
         leaves = λ n.
             elim (eqb_tells right.0 n) [
               | inl q ↦ (rw q.0 (ap (λ m. is_held (after.leaf m)) (sym q.1) ∙ ap is_held j.three.is_right))
@@ -345,11 +349,7 @@ module _ {K V A : Type 0} {cmp : K → K → Ordering} (total' : IsTotalOrder cm
 
       pub l_held : HeldAre c.climb.held_inner c.climb.held_leaf after
       l_held = record {
-        inners = λ n.
-            elim (cases_eq n number.0) [
-              | inl q ↦ (rw q (ap is_held l.three.is_node ∙ (sym (ap is_held l.three.at_node) ∙ c.climb.free.inners number.0)))
-              | inr far ↦ ap is_held (l.inners n far) ∙ c.climb.free.inners n
-            ];
+        inners = held_inners l.three.is_node l.inners;
         leaves = λ n.
             elim (cases_eq n left.0) [
               | inl q ↦ (rw q (ap is_held l.three.is_left ∙ (sym (ap is_held l.three.at_left) ∙ c.climb.free.leaves left.0)))

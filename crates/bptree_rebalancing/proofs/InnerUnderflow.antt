@@ -1,5 +1,5 @@
 -- The children of a node one of which may have underflowed, and the sibling that is chosen for it.
-use Rattle.std.proofs.Common.{◌≡◌, ℕ, suc, ◌+◌, ◌<◌, ◌≤◌, ◌⊎◌, cond, List, [], ◌∷◌, ◌++◌, length, refl, sym, ap, subst, ◌∙◌, arith, Option, Some, None, eqb, slice_get}
+use Rattle.std.proofs.Common.{◌≡◌, ℕ, suc, ◌+◌, ◌<◌, ◌≤◌, ◌⊎◌, cond, List, [], ◌∷◌, ◌++◌, length, refl, sym, ap, subst, ◌∙◌, arith, Option, Some, None, Result, IfOk, eqb, slice_get}
 use Rattle.std.specs.declared.cmp.Ordering.{Ordering}
 use Rattle.std.specs.Cmp.{IsTotalOrder}
 use Rattle.std.specs.List.{AllByRecursion}
@@ -31,6 +31,7 @@ use Rattle.bptree_rebalancing.proofs.Choosing as choosing
 use Rattle.bptree_rebalancing.proofs.Choosing.{nodes_of_inners, size_read, chain_all, key_of, rotates_so, enough_so, fits_so}
 use Rattle.bptree_rebalancing.proofs.Seated.{Seat, seat_of, seat_size, inner_high}
 use Rattle.bptree_rebalancing.proofs.Transfers.{entry_out}
+use Rattle.bptree_rebalancing.proofs.Triples.{ok_so}
 use Rattle.bptree_shape.proofs.Walk.{chain_length}
 use Rattle.bptree_shape.proofs.Widen.{tree_less, grown_done}
 use Rattle.bptree_shape.proofs.ListReads.{all_read, read_some}
@@ -93,12 +94,15 @@ module _ {K V A : Type 0} {cmp : K → K → Ordering} (total : IsTotalOrder cmp
       told = c.told;
     }
 
-    pub sunk_filled : (new : Slots (Inner K A) (Leaf K V)) (top : A) → Risen filled_climbs.climb new top → Sunk c.climb new top
+    sunk_filled : (new : Slots (Inner K A) (Leaf K V)) (top : A) → Risen filled_climbs.climb new top → Sunk c.climb new top
     sunk_filled new top r = record {
       edits = edits_less is_summary c.climb.edit (root_least c.climb.top) 0 c.climb.old new c.climb.top c.climb.root c.climb.k c.climb.leaf c.climb.turn Done (omega arith) r.edits;
       free = r.free;
       told = r.told;
     }
+
+    pub filled_sinks : {E : Type 0} (new : Slots (Inner K A) (Leaf K V)) (r : Result A E) → IfOk r (λ top. Risen filled_climbs.climb new top) → IfOk r (λ top. Sunk c.climb new top)
+    filled_sinks new r rises = ok_so r (λ top. Risen filled_climbs.climb new top) (λ top. Sunk c.climb new top) rises (sunk_filled new)
 
   -- with no node above, it is the root
   pub sunk_here : path ≡ [] → Sunk c.climb now a

@@ -5,8 +5,7 @@ use Rattle.bptree_insertion.proofs.insertion.upsert.Goals as goal
 
 pub find_path-leaf-requires-clause-room : goal.find_path-leaf-requires-clause-room
 find_path-leaf-requires-clause-room g c =
-    let low = low_tree g.S.K.Ord.cmp g.S.Argument.Argument.is_summary (g.S.NodeStore.slots c.args.store.now) c.args.height c.args.root c.requires.shape c.requires.few in
-    omega (arith, low, ap length c.clear.ensures)
+    omega (arith, low_tree g.S.K.Ord.cmp g.S.Argument.Argument.is_summary (g.S.NodeStore.slots c.args.store.now) c.args.height c.args.root c.requires.shape c.requires.few, ap length c.clear.ensures)
 
 pub put_new-requires : goal.put_new-requires
 put_new-requires g c =

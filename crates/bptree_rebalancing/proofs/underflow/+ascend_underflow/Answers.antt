@@ -4,7 +4,6 @@ use Rattle.bptree_shape.specs.Shape.{inner_keys}
 use Rattle.bptree_ascent.proofs.Climbing.{empty_path}
 use Rattle.bptree_rebalancing.proofs.InnerUnderflow as sn
 use Rattle.bptree_rebalancing.proofs.Shortened as sh
-use Rattle.bptree_rebalancing.proofs.Triples.{ok_so}
 use Rattle.bptree_rebalancing.proofs.underflow.+ascend_underflow.Goals as goal
 
 pub get_inner-requires : goal.get_inner-requires
@@ -18,12 +17,10 @@ rise-requires g t c =
 
 pub returns-then-len-ge-INNER_MINIMUM-clause-rises : goal.returns-then-len-ge-INNER_MINIMUM-clause-rises
 returns-then-len-ge-INNER_MINIMUM-clause-rises g t c climbs =
-    let total = g.met.S.K.Ord.total in
-    let sum = g.S.Argument.Argument.is_summary in
     let now = g.S.NodeStore.slots c.args.store.now in
     let filled : 16 ≤ length (inner_keys (now.inner c.args.id.0)) = rw c.get_inner.ensures (omega (arith, c.len.ensures.value, c.if-len-ge-INNER_MINIMUM.true)) in
-    ok_so c.rise.result _ _ (c.rise.ensures.rises (sn.filled_climbs total sum now c.args.path.now c.args.id c.args.summary climbs filled))
-    (λ top risen. sn.sunk_filled total sum now c.args.path.now c.args.id c.args.summary climbs filled (g.S.NodeStore.slots c.rise.new.store) top risen)
+    sn.filled_sinks g.met.S.K.Ord.total g.S.Argument.Argument.is_summary now c.args.path.now c.args.id c.args.summary climbs filled (g.S.NodeStore.slots c.rise.new.store) c.rise.result
+    (c.rise.ensures.rises (sn.filled_climbs g.met.S.K.Ord.total g.S.Argument.Argument.is_summary now c.args.path.now c.args.id c.args.summary climbs filled))
 
 pub returns-in_default-clause-rises : goal.returns-in_default-clause-rises
 returns-in_default-clause-rises g t c climbs =
