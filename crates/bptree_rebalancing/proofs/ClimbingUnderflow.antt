@@ -21,7 +21,7 @@ use Rattle.bptree_shape.specs.Shape.{pairs_at, leaves_at, inner_count, stands, I
 use Rattle.bptree_rebalancing.specs.Transfer.{HasEntry}
 use Rattle.bptree_ascent.specs.Sums.{SumsUpAt, with_summary, with_split}
 use Rattle.bptree_rebalancing.specs.Trim.{ClimbsUnderflow}
-use Rattle.bptree_ascent.proofs.Climbing.{climb_on, told_up, last, can, summed_there, stays, few_there, least_most, least_some}
+use Rattle.bptree_ascent.proofs.Climbing.{climb_on, told_up, last, can, summed_there, few_there, least_most, least_some}
 use Rattle.bptree_ascent.proofs.Lift.{links_moved}
 use Rattle.bptree_rebalancing.proofs.Pair as pair
 use Rattle.bptree_rebalancing.proofs.Seated.{Seat, seat_of, seat_size, inner_high}
@@ -41,9 +41,6 @@ module _ {K V A : Type 0} {cmp : K → K → Ordering} (total : IsTotalOrder cmp
 
   pub at : CanReach cmp c.climb.old (suc c.climb.height) (kind.Inner number) c.climb.k
   at = can total is_summary now path Done c.climb rest number i child e
-
-  pub node_stands : now.inner number.0 ≡ Present step.node
-  node_stands = stays total is_summary now path Done c.climb rest number i child e
 
   pub summed : IsSummed c.climb.old is_summary (suc c.climb.height) (kind.Inner number)
   summed = summed_there total is_summary now path Done c.climb rest number i child e

@@ -25,7 +25,7 @@ use Rattle.bptree_ascent.specs.Sums.{HasPlace, PlaceAt}
 use Rattle.bptree_rebalancing.specs.Trim.{ClimbsUnderflow, Sunk}
 use Rattle.bptree_rebalancing.specs.declared.rotate_merge.Sibling.{Sibling}
 use Rattle.bptree_shape.proofs.Agreeing.{stands_le}
-use Rattle.bptree_ascent.proofs.Climbing.{climb_on, has_place, most, least_most, edits_less}
+use Rattle.bptree_ascent.proofs.Climbing.{climb_on, has_place, stays, most, least_most, edits_less}
 use Rattle.bptree_rebalancing.proofs.ClimbingUnderflow as short
 use Rattle.bptree_rebalancing.proofs.Choosing as choosing
 use Rattle.bptree_rebalancing.proofs.Choosing.{nodes_of_inners, size_read, chain_all, key_of, rotates_so, enough_so, fits_so}
@@ -121,7 +121,7 @@ module _ {K V A : Type 0} {cmp : K → K → Ordering} (total : IsTotalOrder cmp
     node = (short.step total is_summary now now path nid a c rest number i child e).node
 
     pub here : now.inner number.0 ≡ Present node
-    here = short.node_stands total is_summary now now path nid a c rest number i child e
+    here = stays total is_summary now path _ c.climb rest number i child e
 
     pub place : HasPlace node i
     place = has_place total is_summary now path _ c.climb rest number i child e

@@ -412,6 +412,20 @@ module _ {K V A : Type 0} {cmp : K → K → Ordering} (total' : IsTotalOrder cm
         let own_one = rw (eq-eqb id.0 id.0 refl) at (own_inner id.0) in
         omega (arith, e, own_one, stands_le (old.inner id.0), in_total (λ c. inner_count old m c id.0) bare.children slot child below, rebalances.above)
 
+  -- and with the node itself, which stands as before
+  with_own : (at : Inner K A) → after.inner id.0 ≡ Present at → (there : ℕ → ℕ) → there id.0 ≡ 0 → ((x : ℕ) → (x ≡ id.0 → ⊥) → there x + stands (old.inner x) ≡ total (λ c. inner_count old m c x) node.children + stands (after.inner x))
+      → (x : ℕ) → (cond (eqb id.0 x) 1 0 + there x) + stands (old.inner x) ≡ (cond (eqb id.0 x) 1 0 + total (λ c. inner_count old m c x) node.children) + stands (after.inner x)
+  with_own at here there none so x =
+      elim (eqb_tells id.0 x) [
+        | inl h ↦ (rw h.0 (let own_one = rw (eq-eqb id.0 id.0 refl) at (own_inner id.0) in
+            let z : stands (after.inner x) ≡ 1 = ap (λ n. stands (after.inner n)) (sym h.1) ∙ ap stands here in
+            let y : stands (old.inner x) ≡ 1 = ap (λ n. stands (old.inner n)) (sym h.1) ∙ ap stands is in
+            let gone : there x ≡ 0 = subst (λ n. there n ≡ 0) h.1 none in
+            let none_old : total (λ c. inner_count old m c x) node.children ≡ 0 = subst (λ n. total (λ c. inner_count old m c n) node.children ≡ 0) h.1 (omega (arith, own_one, stands_le (old.inner id.0), count_inners_old id.0)) in
+            omega arith))
+        | inr h ↦ (rw h.0 (omega (arith, so x (λ q. h.1 (sym q)))))
+      ]
+
   -- the two merged
   module _ (both : A) (rebalances : RebalancesPair cmp is_summary now after m id.0 left s right Done) (here : after.inner id.0 ≡ Present (with_summary bare slot both)) (told : is_summary both (keys_of (pairs_at after m left)))
       (most : ℕ) (low : most ≤ length bare.keys) (leaf' : LeafNodeId) (turn' : Turn) (ordered : Ordered Done rebalances leaf' turn' bare.children) where
@@ -439,16 +453,7 @@ module _ {K V A : Type 0} {cmp : K → K → Ordering} (total' : IsTotalOrder cm
           ∙ (ap (λ l. flat (pairs_at old m) (take slot bare.children) ++ (l ++ flat (pairs_at old m) (drop (suc slot) bare.children))) rebalances.pairs
           ∙ (sym (pairs_unmerged Done rebalances) ∙ pairs_now Done rebalances)));
       leaves = λ x. rw (here, is) (merged_leaves x);
-      inners = λ x. rw (here, is)
-          (elim (eqb_tells id.0 x) [
-            | inl h ↦ (rw h.0 (let o = own_inner id.0 in let own_one = rw (eq-eqb id.0 id.0 refl) at o in
-                let z : stands (after.inner x) ≡ 1 = ap (λ n. stands (after.inner n)) (sym h.1) ∙ ap stands here in
-                let y : stands (old.inner x) ≡ 1 = ap (λ n. stands (old.inner n)) (sym h.1) ∙ ap stands is in
-                let none : total (λ c. inner_count after m c x) bare.children ≡ 0 = subst (λ n. total (λ c. inner_count after m c n) bare.children ≡ 0) h.1 merged_above in
-                let none_old : total (λ c. inner_count old m c x) node.children ≡ 0 = subst (λ n. total (λ c. inner_count old m c n) node.children ≡ 0) h.1 (omega (arith, own_one, stands_le (old.inner id.0), count_inners_old id.0)) in
-                omega arith))
-            | inr h ↦ (rw h.0 (omega (arith, merged_inners x (λ q. h.1 (sym q)))))
-          ]);
+      inners = λ x. rw (here, is) (with_own (with_summary bare slot both) here (λ n. total (λ c. inner_count after m c n) bare.children) merged_above merged_inners x);
       other_leaves = kept_leaf Done rebalances;
       other_inners = kept_inner Done rebalances;
       order = rw (here, is) ordered.order;
@@ -494,16 +499,7 @@ module _ {K V A : Type 0} {cmp : K → K → Ordering} (total' : IsTotalOrder cm
           ∙ (ap (λ l. flat (pairs_at old m) (take slot bare.children) ++ (l ++ flat (pairs_at old m) (drop (suc slot) bare.children))) rebalances.pairs
           ∙ (sym (pairs_unmerged (Split up right) rebalances) ∙ pairs_now (Split up right) rebalances)));
       leaves = λ x. rw (here_is, is) (rotated_leaves x);
-      inners = λ x. rw (here_is, is)
-          (elim (eqb_tells id.0 x) [
-            | inl h ↦ (rw h.0 (let o = own_inner id.0 in let own_one = rw (eq-eqb id.0 id.0 refl) at o in
-                let z : stands (after.inner x) ≡ 1 = ap (λ n. stands (after.inner n)) (sym h.1) ∙ ap stands here in
-                let y : stands (old.inner x) ≡ 1 = ap (λ n. stands (old.inner n)) (sym h.1) ∙ ap stands is in
-                let none : total (λ c. inner_count after m c x) (insert bare.children (suc slot) right) ≡ 0 = subst (λ n. total (λ c. inner_count after m c n) (insert bare.children (suc slot) right) ≡ 0) h.1 rotated_above in
-                let none_old : total (λ c. inner_count old m c x) node.children ≡ 0 = subst (λ n. total (λ c. inner_count old m c n) node.children ≡ 0) h.1 (omega (arith, own_one, stands_le (old.inner id.0), count_inners_old id.0)) in
-                omega arith))
-            | inr h ↦ (rw h.0 (omega (arith, rotated_inners x (λ q. h.1 (sym q)))))
-          ]);
+      inners = λ x. rw (here_is, is) (with_own (with_split bare slot l up right r) here (λ n. total (λ c. inner_count after m c n) (insert bare.children (suc slot) right)) rotated_above rotated_inners x);
       other_leaves = kept_leaf (Split up right) rebalances;
       other_inners = kept_inner (Split up right) rebalances;
       order = rw (here_is, is) ordered.order;

@@ -79,7 +79,7 @@ module _ {K V A : Type 0} {cmp : K → K → Ordering} (total : IsTotalOrder cmp
     -- two that merged
     module _ (emptied : Inner K A) (j : MergesInnersAt cmp is_summary slot now after number left right sides emptied) where
       pub j_entry : HasEntry node j.transfers.bare slot j.transfers.separator j.transfers.child sides.right
-      j_entry = entry_of (now.inner number.0) node j.three.node (short.node_stands total is_summary now after path nid a c rest number i child e) j.three.at_node j.transfers.entry
+      j_entry = entry_of (now.inner number.0) node j.three.node (spot.here total is_summary now path nid a c rest number i child e) j.three.at_node j.transfers.entry
 
       pub merge_rebalances : RebalancesPair cmp is_summary now after c.climb.height number.0 (kind.Inner left) j.transfers.separator (kind.Inner right) Done
       merge_rebalances =
@@ -142,7 +142,7 @@ module _ {K V A : Type 0} {cmp : K → K → Ordering} (total : IsTotalOrder cmp
     -- two of which one rotated to the other
     module _ (giver : Sibling) (l : RotatesInnersAt cmp is_summary slot now after number giver left right sides) (least : (16 ≤ length l.three.one'.keys) × (16 ≤ length l.other'.keys)) where
       pub l_entry : HasEntry node l.transfers.bare slot l.transfers.separator l.transfers.child sides.right
-      l_entry = entry_of (now.inner number.0) node l.three.node (short.node_stands total is_summary now after path nid a c rest number i child e) l.three.at_node l.transfers.entry
+      l_entry = entry_of (now.inner number.0) node l.three.node (spot.here total is_summary now path nid a c rest number i child e) l.three.at_node l.transfers.entry
 
       pub l_given : l.transfers.child ≡ kind.Inner right
       l_given = short.given_is total is_summary now after path nid a c rest number i child e slot left right l.transfers.bare l.transfers.child l.transfers.separator sides.right l_entry beside read_left read_right
