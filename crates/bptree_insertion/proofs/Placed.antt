@@ -17,7 +17,7 @@ use Rattle.bptree_keys.specs.declared.node_id.NodeId.TheVariants as kind
 use Rattle.bptree_keys.proofs.Found.{inserted}
 use Rattle.bptree_keys.proofs.Updates.{length_put}
 use Rattle.bptree_ascent.specs.Change.{SplitsLeaf, RelinksNext}
-use Rattle.bptree_ascent.specs.Climb.{StaysFew, is_held, Climb, Climbs, ClimbsTwo, Risen, Reaches}
+use Rattle.bptree_ascent.specs.Climb.{StaysFew, Climb, Climbs, ClimbsTwo, Risen, Reaches}
 use Rattle.bptree_shape.specs.Edit.{CanReach, Turn, Stays, Gains, Edits}
 use Rattle.bptree_ascent.specs.LeafChange.{HasSlotAt, SumsUpLeaf, Adds, AreHalves, DividesLeaf}
 use Rattle.bptree_shape.specs.Outcome.{Outcome, Done, Split}

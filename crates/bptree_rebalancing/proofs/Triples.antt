@@ -37,6 +37,14 @@ three_at {node = node} {node' = node'} {one = one} {other = other} {one' = one'}
   most = rw at_node at most;
 }
 
+-- what undoes a change of the three leaves them as they were
+three_back : {K A C : Type 0} {above above' : ℕ → Slot (Inner K A)} {below below' : ℕ → Slot C} {id left right : ℕ} {last : C} {node back : Inner K A} {one other one' other' : C} (t : ThreeAt above above' below below' id left right (Present last)) (R : Inner K A → C → C → Type 0)
+    → above' id ≡ Present node → below' left ≡ Present one → below' right ≡ Present other → R t.node' t.one' last → (R node one other → (back ≡ t.node) × (one' ≡ t.one) × (other' ≡ t.other))
+    → (above id ≡ Present back) × (below left ≡ Present one') × (below right ≡ Present other')
+three_back {above' = above'} {below' = below'} {id = id} {left = left} {right = right} {last = last} {node = node} {one = one} {other = other} t R here at_left at_right changed undoes =
+    let undone = undoes (rw (same_node (above' id) node t.node' here t.is_node, same_node (below' left) one t.one' at_left t.is_left, same_node (below' right) other last at_right t.is_right) changed) in
+    (t.at_node ∙ ap Present (sym undone.0), t.at_left ∙ ap Present (sym undone.1), t.at_right ∙ ap Present (sym undone.2))
+
 module _ {K V A : Type 0} {old s1 s2 s3 s4 s5 : Slots (Inner K A) (Leaf K V)} (id : InnerNodeId) (left right : LeafNodeId) {node' : Inner K A} {one other one' : Leaf K V} (apart : left.0 ≡ right.0 → ⊥)
     (t1 : UpdatesInner old s1 id.0 Held) (v2 : s1.leaf left.0 ≡ Present one) (t2 : UpdatesLeaf s1 s2 left.0 Held) (v3 : s2.leaf right.0 ≡ Present other) (t3 : UpdatesLeaf s2 s3 right.0 Held)
     (p1 : UpdatesInner s3 s4 id.0 (Present node')) (p2 : UpdatesLeaf s4 s5 left.0 (Present one')) where
@@ -78,8 +86,8 @@ module _ {K V A : Type 0} {old s1 s2 s3 s4 s5 : Slots (Inner K A) (Leaf K V)} (i
 
     -- all is as it was in another store
     all_back : (was : Slots (Inner K A) (Leaf K V)) → ((n : ℕ) → (n ≡ id.0 → ⊥) → old.inner n ≡ was.inner n) → ((n : ℕ) → (n ≡ left.0 → ⊥) → (n ≡ right.0 → ⊥) → old.leaf n ≡ was.leaf n)
-        → was.inner id.0 ≡ Present node' → was.leaf left.0 ≡ Present one' → was.leaf right.0 ≡ slot → s6 ≡ was
-    all_back was inners leaves here at_left at_right =
+        → (was.inner id.0 ≡ Present node') × (was.leaf left.0 ≡ Present one') × (was.leaf right.0 ≡ slot) → s6 ≡ was
+    all_back was inners leaves (here, at_left, at_right) =
         slots_same s6 was
         (λ n. elim (cases_eq n id.0) [ inl e ↦ (rw e (node_is_then ∙ sym here)) | inr far ↦ inners_stay_then n far ∙ inners n far ])
         (λ n. elim (cases_eq n left.0) [
@@ -111,9 +119,7 @@ module _ {K V A : Type 0} {old s1 s2 s3 s4 s5 : Slots (Inner K A) (Leaf K V)} (i
 
       pub leaves_unrotated : (was : Slots (Inner K A) (Leaf K V)) → RotatesLeavesAt cmp is_summary slot was old id giver left right joint → UndoesRotateLeaves cmp is_summary slot joint node one other node' one' other' giver → s6 ≡ was
       leaves_unrotated was r undoes =
-          let t = r.three in
-          let undone = undoes t.node t.one t.other (rw (same_node (old.inner id.0) node t.node' here t.is_node, same_node (old.leaf left.0) one t.one' left_was t.is_left, same_node (old.leaf right.0) other r.other' right_was t.is_right) r.transfers) in
-          all_back s6 (Present other') p3 was r.inners r.leaves (t.at_node ∙ ap Present (sym undone.0)) (t.at_left ∙ ap Present (sym undone.1)) (t.at_right ∙ ap Present (sym undone.2))
+          all_back s6 (Present other') p3 was r.inners r.leaves (three_back r.three (λ x y z. RotatesLeaves cmp is_summary giver slot r.three.node r.three.one r.three.other x y z joint) here left_was right_was r.transfers (undoes r.three.node r.three.one r.three.other))
 
 -- the same where the children are inner nodes
 module _ {K V A : Type 0} {old s1 s2 s3 s4 s5 : Slots (Inner K A) (Leaf K V)} (id left right : InnerNodeId) {node' one other one' : Inner K A} (apart : (left.0 ≡ right.0 → ⊥) × (left.0 ≡ id.0 → ⊥) × (right.0 ≡ id.0 → ⊥))
@@ -154,8 +160,8 @@ module _ {K V A : Type 0} {old s1 s2 s3 s4 s5 : Slots (Inner K A) (Leaf K V)} (i
     leaf_stays_then = p3.leaf ∙ leaf_stays
 
     all_inners_back : (was : Slots (Inner K A) (Leaf K V)) → ((n : ℕ) → (n ≡ id.0 → ⊥) → (n ≡ left.0 → ⊥) → (n ≡ right.0 → ⊥) → old.inner n ≡ was.inner n) → old.leaf ≡ was.leaf
-        → was.inner id.0 ≡ Present node' → was.inner left.0 ≡ Present one' → was.inner right.0 ≡ slot → s6 ≡ was
-    all_inners_back was inners leaf here at_left at_right =
+        → (was.inner id.0 ≡ Present node') × (was.inner left.0 ≡ Present one') × (was.inner right.0 ≡ slot) → s6 ≡ was
+    all_inners_back was inners leaf (here, at_left, at_right) =
         slots_same s6 was
         (λ n. elim (cases_eq n id.0) [
           | inl e ↦ (rw e (above_is_then ∙ sym here))
@@ -191,9 +197,7 @@ module _ {K V A : Type 0} {old s1 s2 s3 s4 s5 : Slots (Inner K A) (Leaf K V)} (i
 
       pub inners_unrotated : (was : Slots (Inner K A) (Leaf K V)) → RotatesInnersAt cmp is_summary slot was old id giver left right sides → UndoesRotateInners cmp is_summary slot sides node one other node' one' other' giver → s6 ≡ was
       inners_unrotated was r undoes =
-          let t = r.three in
-          let undone = undoes t.node t.one t.other (rw (same_node (old.inner id.0) node t.node' here t.is_node, same_node (old.inner left.0) one t.one' one_was t.is_left, same_node (old.inner right.0) other r.other' other_was t.is_right) r.transfers) in
-          all_inners_back s6 (Present other') p3 was r.inners r.leaf (t.at_node ∙ ap Present (sym undone.0)) (t.at_left ∙ ap Present (sym undone.1)) (t.at_right ∙ ap Present (sym undone.2))
+          all_inners_back s6 (Present other') p3 was r.inners r.leaf (three_back r.three (λ x y z. RotatesInners cmp is_summary giver slot r.three.node r.three.one r.three.other x y z sides) here one_was other_was r.transfers (undoes r.three.node r.three.one r.three.other))
 
 pub ok_so : {T E : Type 0} (r : Result T E) (P R : T → Type 0) → IfOk r P → ((x : T) → P x → R x) → IfOk r R
 ok_so (Ok x) P R given turns = turns x given
