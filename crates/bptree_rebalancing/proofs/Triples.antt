@@ -4,7 +4,7 @@ use Rattle.std.specs.declared.cmp.Ordering.{Ordering}
 use Rattle.std.proofs.lemmas.Bool.{cases_eq}
 use Rattle.bptree_nodes.specs.Inner.{Inner}
 use Rattle.bptree_nodes.specs.Leaf.{Leaf}
-use Rattle.bptree_nodes.specs.Slot.{Slot, Slots, Held, Present, UpdatesInner, UpdatesLeaf}
+use Rattle.bptree_nodes.specs.Slot.{Slot, Slots, Held, Present, IsPresent, UpdatesInner, UpdatesLeaf}
 use Rattle.bptree_keys.specs.declared.node_id.InnerNodeId.{InnerNodeId}
 use Rattle.bptree_keys.specs.declared.node_id.LeafNodeId.{LeafNodeId}
 use Rattle.bptree_keys.specs.declared.node_id.NodeId.TheVariants as kind
@@ -259,3 +259,22 @@ module _ {K V A : Type 0} {cmp : K → K → Ordering} {is_summary : A → List 
       let there = sym (t1.inner.others left.0 m.far.0) ∙ v2 in
       let undone = undoes t.node t.one t.other (rw (same_node (old.inner id.0) node t.node' here t.is_node, same_node (old.inner left.0) one t.one' there t.is_left) m.transfers) (rw t.at_node at read) (rw t.at_left at long) in
       inner_put_back old s1 s2 s4 s5 s6 was id left right node' one' (Present back) (t.apart, m.far.0, m.far.1) t1 t2 p1 p2 p3 m.inners m.leaf (t.at_node ∙ ap Present (sym undone.0)) (t.at_left ∙ ap Present (sym undone.1)) (t.at_right ∙ ap Present (sym undone.2))
+
+-- two inner nodes that changed with the node above are there to be taken out, and their numbers are held then
+module _ {K V A : Type 0} {now s1 : Slots (Inner K A) (Leaf K V)} {behind : Inner K A} (was : Slots (Inner K A) (Leaf K V)) (id left right : InnerNodeId) (t : ThreeAt was.inner now.inner was.inner now.inner id.0 left.0 right.0 (Present behind)) (far : (left.0 ≡ id.0 → ⊥) × (right.0 ≡ id.0 → ⊥)) (t1 : UpdatesInner now s1 id.0 Held) where
+  pub one_there : IsPresent (s1.inner left.0)
+  one_there = rw (t1.inner.others left.0 far.0, t.is_left) tt
+
+  module _ {s2 : Slots (Inner K A) (Leaf K V)} (t2 : UpdatesInner s1 s2 left.0 Held) where
+    pub other_there : IsPresent (s2.inner right.0)
+    other_there = rw (t2.inner.others right.0 (λ e. t.apart (sym e)), t1.inner.others right.0 far.1, t.is_right) tt
+
+    module _ {s3 : Slots (Inner K A) (Leaf K V)} (t3 : UpdatesInner s2 s3 right.0 Held) where
+      pub node_held : s3.inner id.0 ≡ Held
+      node_held = t3.inner.others id.0 (λ e. far.1 (sym e)) ∙ (t2.inner.others id.0 (λ e. far.0 (sym e)) ∙ t1.inner.changed)
+
+      pub one_held : {x : Slot (Inner K A)} {s4 : Slots (Inner K A) (Leaf K V)} → UpdatesInner s3 s4 id.0 x → s4.inner left.0 ≡ Held
+      one_held p1 = p1.inner.others left.0 far.0 ∙ (t3.inner.others left.0 t.apart ∙ t2.inner.changed)
+
+      pub other_held_then : {x y : Slot (Inner K A)} {s4 s5 : Slots (Inner K A) (Leaf K V)} → UpdatesInner s3 s4 id.0 x → UpdatesInner s4 s5 left.0 y → s5.inner right.0 ≡ Held
+      other_held_then p1 p2 = p2.inner.others right.0 (λ e. t.apart (sym e)) ∙ (p1.inner.others right.0 far.1 ∙ t3.inner.changed)
