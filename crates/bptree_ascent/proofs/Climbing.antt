@@ -95,6 +95,31 @@ edits_less is_summary edit kept less old new h id k leaf turn outcome low e = re
   summed = e.summed;
 }
 
+-- An edit is carried on, to a node of the tree that it is in. What is known of the tree before stays.
+module _ {K V A : Type 0} {cmp : K → K → Ordering} {is_summary : A → List K → Type 0} {now : Slots (Inner K A) (Leaf K V)} {path : List (InnerNodeId × ℕ × NodeId)} {outcome : Outcome K} (c : Climb cmp is_summary now path outcome) where
+  abbrev pub climb_on : {after : Slots (Inner K A) (Leaf K V)} {rest : List (InnerNodeId × ℕ × NodeId)} {outcome' : Outcome K} {leaf : LeafNodeId} {turn : Turn} {held_inner held_leaf : ℕ → Bool} (height : ℕ) (id : NodeId) (kept : ℕ)
+      → Way cmp c.old c.k c.top c.root rest height id → Edits cmp is_summary c.edit kept c.old after height id c.k leaf turn outcome' → HeldAre held_inner held_leaf after → Climb cmp is_summary after rest outcome'
+  climb_on {after} {rest} {outcome'} {leaf} {turn} {held_inner} {held_leaf} height id kept way edits free = record {
+    old = c.old;
+    edit = c.edit;
+    leaf = leaf;
+    k = c.k;
+    turn = turn;
+    kept = kept;
+    held_inner = held_inner;
+    held_leaf = held_leaf;
+    top = c.top;
+    root = c.root;
+    height = height;
+    id = id;
+    shape = c.shape;
+    few = c.few;
+    local = c.local;
+    way = way;
+    edits = edits;
+    free = free;
+  }
+
 pub empty_path : {X : Type 0} (xs : List X) → (0 < length xs → ⊥) → xs ≡ []
 empty_path [] none = refl
 empty_path (x ∷ xs) none = absurd (none (omega arith))
@@ -175,26 +200,8 @@ module _ {K V A : Type 0} {cmp : K → K → Ordering} (total : IsTotalOrder cmp
       climb_keeps =
           let d = c.climb in
           let s = last now path Done d rest number i child e in
-          record {
-            old = d.old;
-            edit = d.edit;
-            k = d.k;
-            leaf = d.leaf;
-            turn = d.turn;
-            kept = 16;
-            held_inner = d.held_inner;
-            held_leaf = d.held_leaf;
-            top = d.top;
-            root = d.root;
-            height = suc d.height;
-            id = kind.Inner number;
-            shape = d.shape;
-            few = d.few;
-            local = d.local;
-            way = s.way;
-            edits = node_keeps total is_summary d.edit d.kept d.old now after d.height number d.k s.node i d.id d.leaf d.turn d.local (can now path Done d rest number i child e) s.is s.leads s.read 16 (enough_for now path Done d rest number i child e c.enough) d.edits a c.told keeps;
-            free = held_same;
-          }
+          climb_on d {leaf = d.leaf} {turn = d.turn} {held_inner = d.held_inner} {held_leaf = d.held_leaf} (suc d.height) (kind.Inner number) 16 s.way
+          (node_keeps total is_summary d.edit d.kept d.old now after d.height number d.k s.node i d.id d.leaf d.turn d.local (can now path Done d rest number i child e) s.is s.leads s.read 16 (enough_for now path Done d rest number i child e c.enough) d.edits a c.told keeps) held_same
 
       -- the last node of the rest of the path keeps a summary of the node
       pub place_above : HasPlaceAbove after rest

@@ -19,7 +19,7 @@ use Rattle.bptree_shape.specs.Path.{Way}
 use Rattle.bptree_shape.specs.Shape.{pairs_at, root_least, IsSummed}
 use Rattle.bptree_ascent.specs.Sums.{SumsUpAt, PlaceAt, HasKeysAt, HasPlace, IsLinked, IsSplit, with_split}
 use Rattle.bptree_ascent.specs.declared.node_changes.Division.{Division}
-use Rattle.bptree_ascent.proofs.Climbing.{least_most, held_kept, not_held, edits_less, enough_for, told_up, last, can, summed_there, stays, has_place, few_there}
+use Rattle.bptree_ascent.proofs.Climbing.{climb_on, least_most, held_kept, not_held, edits_less, enough_for, told_up, last, can, summed_there, stays, has_place, few_there}
 use Rattle.bptree_ascent.proofs.Lift.{node_links, node_splits}
 use Rattle.bptree_ascent.proofs.NodeChanges.{set_long}
 use Rattle.bptree_ascent.proofs.Rooted.{split_unlinked, split_unlinked_pairs}
@@ -88,28 +88,7 @@ module _ {K V A : Type 0} {cmp : K → K → Ordering} (total : IsTotalOrder cmp
         node_links total is_summary d.edit d.kept d.old now after d.height number d.k step.node i d.id d.leaf d.turn d.local at step.is step.leads step.read 16 enough_here division.separator division.node d.edits division.left division.right c.left c.right links
 
     abbrev pub climb_linked : Climb cmp is_summary after rest Done
-    climb_linked =
-        let d = c.climb in
-        record {
-          old = d.old;
-          edit = d.edit;
-          k = d.k;
-          leaf = d.leaf;
-          turn = d.turn;
-          kept = 16;
-          held_inner = d.held_inner;
-          held_leaf = d.held_leaf;
-          top = d.top;
-          root = d.root;
-          height = suc d.height;
-          id = kind.Inner number;
-          shape = d.shape;
-          few = d.few;
-          local = d.local;
-          way = step.way;
-          edits = edits_linked;
-          free = held_linked;
-        }
+    climb_linked = climb_on c.climb {leaf = c.climb.leaf} {turn = c.climb.turn} {held_inner = c.climb.held_inner} {held_leaf = c.climb.held_leaf} (suc c.climb.height) (kind.Inner number) 16 step.way edits_linked held_linked
 
     pub told_linked : (above : A) → SumsUpAt cmp is_summary (after.inner number.0) above → is_summary above (keys_of (pairs_at after (suc c.climb.height) (kind.Inner number)))
     told_linked above sums =
@@ -188,28 +167,7 @@ module _ {K V A : Type 0} {cmp : K → K → Ordering} (total : IsTotalOrder cmp
         node_splits total is_summary d.edit d.kept d.old now after d.height number d.k step.node i d.id d.leaf d.turn d.local at step.is step.leads step.read 16 enough_here division.separator division.node d.edits division.left division.right c.left c.right up fresh parts
 
     abbrev pub climb_split : Climb cmp is_summary after rest (Split up (kind.Inner fresh))
-    climb_split =
-        let d = c.climb in
-        record {
-          old = d.old;
-          edit = d.edit;
-          k = d.k;
-          leaf = d.leaf;
-          turn = d.turn;
-          kept = 16;
-          held_inner = d.held_inner;
-          held_leaf = d.held_leaf;
-          top = d.top;
-          root = d.root;
-          height = suc d.height;
-          id = kind.Inner number;
-          shape = d.shape;
-          few = d.few;
-          local = d.local;
-          way = step.way;
-          edits = edits_split;
-          free = held_split;
-        }
+    climb_split = climb_on c.climb {leaf = c.climb.leaf} {turn = c.climb.turn} {held_inner = c.climb.held_inner} {held_leaf = c.climb.held_leaf} (suc c.climb.height) (kind.Inner number) 16 step.way edits_split held_split
 
     long : length (pairs_at after (suc c.climb.height) (kind.Inner number)) + length (pairs_at after (suc c.climb.height) (kind.Inner fresh)) < 2 ^ 64
     long = omega (arith, few, ap length edits_split.pairs, length-append (pairs_at after (suc c.climb.height) (kind.Inner number)) (pairs_at after (suc c.climb.height) (kind.Inner fresh)))

@@ -249,14 +249,8 @@ fn grow_root<S: NodeStore>(
     let Ok(id) = store.reserve_inner() else {
         return Err(division);
     };
-    let Division {
-        left,
-        separator,
-        node: child,
-        right,
-    } = division;
-    node.adopt(root, left);
-    node.push(separator, child, right);
+    node.adopt(root, division.left);
+    node.push(division.separator, division.node, division.right);
     match S::Argument::from_inner(node.keys(), node.arguments()) {
         Ok(above) => {
             store.put_back_inner(id, node);

@@ -75,14 +75,8 @@ pub fn take_entry<K: Key, A: Argument<K>>(
     ensures refused { OnErr result (node.new ≡ node.old) }
     ensures handed_back { IfErr result (λ back. back ≡ division) }
 {
-    let Division {
-        left,
-        separator,
-        node: child,
-        right,
-    } = division;
-    let old = node.set_argument(place, left);
-    node.insert_at(place, separator, child, right);
+    let old = node.set_argument(place, division.left);
+    node.insert_at(place, division.separator, division.node, division.right);
     match A::from_inner(node.keys(), node.arguments()) {
         Ok(above) => Ok(Resummed { above, old }),
         Err(_) => Err(give_entry(node, place, old)),
@@ -128,14 +122,14 @@ pub fn take_and_split<K: Key, A: Argument<K>>(
     ensures refused { OnErr result (node.new ≡ node.old) }
     ensures handed_back { IfErr result (λ back. back ≡ division) }
 {
-    let Division {
-        left,
-        separator,
-        node: child,
-        right,
-    } = division;
-    let old = node.set_argument(place, left);
-    let (up, half) = node.split(place, separator, child, right, room);
+    let old = node.set_argument(place, division.left);
+    let (up, half) = node.split(
+        place,
+        division.separator,
+        division.node,
+        division.right,
+        room,
+    );
     let Ok(left) = A::from_inner(node.keys(), node.arguments()) else {
         return Err(undo_take_and_split(node, place, up, half, old));
     };

@@ -1,8 +1,8 @@
 -- A pair is put into the remembered leaf, where it holds the key and has room.
-use Rattle.std.proofs.Common.{◌≡◌, ℕ, ◌+◌, ◌<◌, ◌^◌, false, List, length}
+use Rattle.std.proofs.Common.{◌≡◌, ℕ, ◌<◌, false, None, List, length, refl, subst}
 use Rattle.std.specs.declared.cmp.Ordering.{Ordering}
 use Rattle.std.specs.Cmp.{IsTotalOrder}
-use Rattle.bptree_keys.specs.Contents.{below, has}
+use Rattle.bptree_keys.specs.Contents.{IsAscending, below, has, value}
 use Rattle.bptree_keys.specs.declared.node_id.InnerNodeId.{InnerNodeId}
 use Rattle.bptree_keys.specs.declared.node_id.LeafNodeId.{LeafNodeId}
 use Rattle.bptree_keys.specs.declared.node_id.NodeId.{NodeId}
@@ -13,14 +13,14 @@ use Rattle.bptree_nodes.specs.Slot.{Slots, Present}
 use Rattle.bptree_stores.specs.Hint.{HoldsKey}
 use Rattle.bptree_shape.specs.Leaves.{IsLeafFor}
 use Rattle.bptree_shape.specs.Path.{Way}
-use Rattle.bptree_shape.specs.Shape.{leaf_pairs, pairs_at, IsWellShaped}
+use Rattle.bptree_shape.specs.Shape.{leaf_pairs, pairs_at, IsWellShaped, LacksKey}
 use Rattle.bptree_shape.proofs.Hinted.{hinted}
 use Rattle.bptree_shape.proofs.Remembered.{way_hinted}
-use Rattle.bptree_ascent.specs.LeafChange.{Adds, HasSlotAt, SumsUpLeaf}
+use Rattle.bptree_ascent.specs.LeafChange.{Adds, SumsUpLeaf}
 use Rattle.bptree_ascent.proofs.AnySummary.{risen_untouched}
-use Rattle.bptree_insertion.specs.Puts.{IsDue, IsPlaced}
-use Rattle.bptree_insertion.proofs.Placed.{slot_at, placed_added}
-use Rattle.bptree_shape.proofs.LeafFor.{absent_there}
+use Rattle.bptree_insertion.specs.Puts.{HasRoomFor, IsPlaced, SaysNothing}
+use Rattle.bptree_insertion.proofs.Placed.{placed_added}
+use Rattle.bptree_insertion.proofs.Upserted.{absent, added}
 
 module _ {K V A : Type 0} {cmp : K → K → Ordering} (total : IsTotalOrder cmp) (is_summary : A → List K → Type 0) (old : Slots (Inner K A) (Leaf K V)) (h : ℕ) (root : NodeId) (k : K) (leaf : LeafNodeId) (node : Leaf K V)
     (shape : IsWellShaped cmp is_summary old h root) (holds : HoldsKey cmp (old.leaf leaf.0) k) (read : old.leaf leaf.0 ≡ Present node) where
@@ -30,18 +30,13 @@ module _ {K V A : Type 0} {cmp : K → K → Ordering} (total : IsTotalOrder cmp
   way : (path : List (InnerNodeId × ℕ × NodeId)) × Way cmp old k h root path 0 (kind.Leaf leaf)
   way = way_hinted total old k is_summary h root shape leaf holds
 
-  module _ (slot : ℕ) (found : (has cmp node.pairs k ≡ false) × (slot ≡ length (below cmp node.pairs k))) (room : has cmp (pairs_at old h root) k ≡ false → length (pairs_at old h root) + 1 < 2 ^ 64) where
-    pub absent_at_hand : has cmp (pairs_at old h root) k ≡ false
-    absent_at_hand = absent_there total is_summary old h root k leaf node shape leaf_at_hand read found.0
-
-    due : IsDue cmp is_summary old way.0 leaf slot k
-    due = record { top = h; root = root; shape = shape; few = room absent_at_hand; way = way.1; absent = rw read found.0; place = rw read found.1 }
-
-    pub slot_at_hand : V → HasSlotAt (old.leaf leaf.0) slot
-    slot_at_hand v = slot_at total is_summary old way.0 leaf slot k due v
+  module _ (slot : ℕ) (place : IsAscending cmp node.pairs → (has cmp node.pairs k ≡ false) × (slot ≡ length (below cmp node.pairs k))) where
+    pub absent_at_hand : LacksKey cmp old h root k
+    absent_at_hand = absent total is_summary old h root k leaf node shape leaf_at_hand read slot place
 
     -- no other node is touched, since every value is a summary of every list
-    pub placed_at_hand : (v : V) (mid : Slots (Inner K A) (Leaf K V)) → ((a : A) (keys : List K) → is_summary a keys) → ((was : Leaf K V) → old.leaf leaf.0 ≡ Present was → Adds old mid leaf slot (k, v) was)
-        → length (leaf_pairs (old.leaf leaf.0)) < 64 → (a : A) → SumsUpLeaf cmp is_summary (leaf_pairs (mid.leaf leaf.0)) a → IsPlaced cmp is_summary old mid h root k v h root a
-    unfolding due
-    placed_at_hand v mid any add few a sums = placed_added total is_summary old way.0 leaf slot k due v mid add few a sums mid a (λ c. risen_untouched total is_summary any mid way.0 a c)
+    pub added_at_hand : HasRoomFor cmp (pairs_at old h root) k → (v : V) (mid : Slots (Inner K A) (Leaf K V)) → SaysNothing is_summary → ((was : Leaf K V) → old.leaf leaf.0 ≡ Present was → Adds old mid leaf slot (k, v) was)
+        → length (leaf_pairs (old.leaf leaf.0)) < 64 → (a : A) → SumsUpLeaf cmp is_summary (leaf_pairs (mid.leaf leaf.0)) a → (value cmp (pairs_at old h root) k ≡ None) × IsPlaced cmp is_summary old mid h root k v h root a
+    added_at_hand room v mid any add few a sums =
+        added total is_summary old h root k leaf node shape leaf_at_hand read slot place room way.0 way.1 mid v None a (root, h) refl
+        (λ due same. subst (λ x. IsPlaced cmp is_summary old mid due.top x k v due.top x a) same (placed_added total is_summary old way.0 leaf slot k due v mid add few a sums mid a (λ c. risen_untouched total is_summary any mid way.0 a c)))

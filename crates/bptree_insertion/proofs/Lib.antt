@@ -1,3 +1,4 @@
 pub mod AtHand
 pub mod Placed
+pub mod SplitLeaf
 pub mod Upserted

@@ -17,8 +17,8 @@ use Rattle.bptree_keys.specs.declared.node_id.NodeId.TheVariants as kind
 use Rattle.bptree_keys.proofs.Found.{inserted}
 use Rattle.bptree_keys.proofs.Updates.{length_put}
 use Rattle.bptree_ascent.specs.Change.{SplitsLeaf, RelinksNext}
-use Rattle.bptree_ascent.specs.Climb.{StaysFew, is_held, Climb, Climbs, ClimbsTwo, Risen, Reaches}
-use Rattle.bptree_shape.specs.Edit.{CanReach, Stays, Gains, Edits}
+use Rattle.bptree_ascent.specs.Climb.{StaysFew, Climb, Climbs, ClimbsTwo, Risen, Reaches}
+use Rattle.bptree_shape.specs.Edit.{CanReach, Turn, Stays, Gains, Edits}
 use Rattle.bptree_ascent.specs.LeafChange.{HasSlotAt, SumsUpLeaf, Adds, AreHalves, DividesLeaf}
 use Rattle.bptree_shape.specs.Outcome.{Outcome, Done, Split}
 use Rattle.bptree_insertion.specs.Puts.{IsDue, IsPlaced, IsPlacedUpTo}
@@ -122,6 +122,29 @@ module _ {K V A : Type 0} {cmp : K → K → Ordering} (total : IsTotalOrder cmp
         (inserted cmp total node.pairs sorted_here k slot v (subst (λ (s : Slot (Leaf K V)). has cmp (leaf_pairs s) k ≡ false) here due.absent)
         (due.place ∙ ap (λ (s : Slot (Leaf K V)). length (below cmp (leaf_pairs s) k)) here)).new
 
+    -- the edit of the leaf, at the beginning of its way up
+    abbrev pub climb_put : {mid : Slots (Inner K A) (Leaf K V)} {turn : Turn} {outcome : Outcome K} → Edits cmp is_summary (λ l. put cmp l k v) 16 old mid 0 (kind.Leaf leaf) k leaf turn outcome → mid.inner ≡ old.inner → ((n : ℕ) → mid.leaf n ≡ Held → ⊥) → Climb cmp is_summary mid path outcome
+    climb_put {mid} {turn} {outcome} edits inner none = record {
+      old = old;
+      edit = λ l. put cmp l k v;
+      k = k;
+      leaf = leaf;
+      turn = turn;
+      kept = 16;
+      held_inner = λ n. false;
+      held_leaf = λ n. false;
+      top = due.top;
+      root = due.root;
+      height = 0;
+      id = kind.Leaf leaf;
+      shape = due.shape;
+      few = put_few total k v (length (pairs_at old due.top due.root)) due.few;
+      local = put_is_local cmp k v;
+      way = due.way;
+      edits = edits;
+      free = record { inners = λ n. none_is (mid.inner n) (λ h. due.shape.no_inner_held n (ap (λ (f : ℕ → Slot (Inner K A)). f n) (sym inner) ∙ h)); leaves = λ n. none_is (mid.leaf n) (none n) };
+    }
+
     -- in a leaf with room
     module _ (mid : Slots (Inner K A) (Leaf K V)) (add : (was : Leaf K V) → old.leaf leaf.0 ≡ Present was → Adds old mid leaf slot (k, v) was) (few : length (leaf_pairs (old.leaf leaf.0)) < 64) where
       pub adds : Adds old mid leaf slot (k, v) node
@@ -143,26 +166,7 @@ module _ {K V A : Type 0} {cmp : K → K → Ordering} (total : IsTotalOrder cmp
       none_added n h = elim (cases_eq n leaf.0) [ inl same ↦ (let z = sym adds.leaf.changed ∙ (ap mid.leaf (sym same) ∙ h) in cc) | inr other ↦ due.shape.no_leaf_held n (sym (adds.leaf.others n other) ∙ h) ]
 
       abbrev pub climb_added : Climb cmp is_summary mid path Done
-      climb_added = record {
-        old = old;
-        edit = λ l. put cmp l k v;
-        k = k;
-        leaf = leaf;
-        turn = Stays;
-        kept = 16;
-        held_inner = λ n. false;
-        held_leaf = λ n. false;
-        top = due.top;
-        root = due.root;
-        height = 0;
-        id = kind.Leaf leaf;
-        shape = due.shape;
-        few = put_few total k v (length (pairs_at old due.top due.root)) due.few;
-        local = put_is_local cmp k v;
-        way = due.way;
-        edits = edits_added;
-        free = record { inners = λ n. none_is (mid.inner n) (λ h. due.shape.no_inner_held n (ap (λ (f : ℕ → Slot (Inner K A)). f n) (sym adds.inner) ∙ h)); leaves = λ n. none_is (mid.leaf n) (none_added n) };
-      }
+      climb_added = climb_put edits_added adds.inner none_added
 
       pub told_added : (a : A) → SumsUpLeaf cmp is_summary (leaf_pairs (mid.leaf leaf.0)) a → is_summary a (keys_of (leaf_pairs (mid.leaf leaf.0)))
       told_added a sums =
@@ -223,26 +227,7 @@ module _ {K V A : Type 0} {cmp : K → K → Ordering} (total : IsTotalOrder cmp
           ]
 
       abbrev pub climb_divided : Climb cmp is_summary mid path (Split division.separator division.node)
-      climb_divided = record {
-        old = old;
-        edit = λ l. put cmp l k v;
-        k = k;
-        leaf = leaf;
-        turn = Gains fresh;
-        kept = 16;
-        held_inner = λ n. false;
-        held_leaf = λ n. false;
-        top = due.top;
-        root = due.root;
-        height = 0;
-        id = kind.Leaf leaf;
-        shape = due.shape;
-        few = put_few total k v (length (pairs_at old due.top due.root)) due.few;
-        local = put_is_local cmp k v;
-        way = due.way;
-        edits = edits_divided;
-        free = record { inners = λ n. none_is (mid.inner n) (λ h. due.shape.no_inner_held n (ap (λ (f : ℕ → Slot (Inner K A)). f n) (sym divides.inner) ∙ h)); leaves = λ n. none_is (mid.leaf n) (none_divided n) };
-      }
+      climb_divided = climb_put edits_divided divides.inner none_divided
 
       parts_ascend : IsAscending cmp (divides.left ++ divides.right)
       parts_ascend = rw divides.parts ascends

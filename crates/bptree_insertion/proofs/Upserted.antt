@@ -1,9 +1,9 @@
 -- A pair with a key that is in the whole tree, or is not.
-use Rattle.std.proofs.Common.{◌≡◌, ℕ, true, false, None, List, sym, ap, ◌∙◌, Some, is_some, slice_get, Option, suc, ◌+◌, subst, arith}
+use Rattle.std.proofs.Common.{◌≡◌, ℕ, refl, true, false, None, List, length, sym, ap, ◌∙◌, Some, is_some, slice_get, Option, suc, ◌+◌, subst, arith}
 use Rattle.std.specs.declared.cmp.Ordering.{Ordering}
 use Rattle.std.specs.Cmp.{IsTotalOrder}
 use Rattle.std.specs.Map.{values_of}
-use Rattle.bptree_keys.specs.Contents.{IsAscending, has, value}
+use Rattle.bptree_keys.specs.Contents.{IsAscending, below, has, value}
 use Rattle.bptree_nodes.specs.Inner.{Inner}
 use Rattle.bptree_nodes.specs.Leaf.{Leaf, set_value_at}
 use Rattle.bptree_nodes.specs.LeafResults.{HasEqualAt}
@@ -15,10 +15,19 @@ use Rattle.bptree_keys.specs.declared.node_id.NodeId.TheVariants as kind
 use Rattle.bptree_keys.proofs.Equal.{has_where_value}
 use Rattle.bptree_nodes.proofs.LeafContents.{value_at_place}
 use Rattle.bptree_shape.specs.Leaves.{IsLeafFor}
-use Rattle.bptree_insertion.specs.Puts.{IsReplaced, IsPlaced, IsPlacedUpTo, risen}
-use Rattle.bptree_shape.specs.Shape.{pairs_at, root_least, IsWellShaped}
-use Rattle.bptree_ascent.proofs.Lent.{keys_stay, set_shape, set_keys, lent_pairs}
-use Rattle.bptree_shape.proofs.LeafFor.{whole_ascends, node_ascends, value_there}
+use Rattle.bptree_insertion.specs.Puts.{HasRoomFor, IsDue, IsReplaced, IsPlaced, IsPlacedUpTo, risen}
+use Rattle.bptree_shape.specs.Shape.{pairs_at, IsWellShaped, LacksKey}
+use Rattle.bptree_shape.specs.Path.{Way}
+use Rattle.bptree_ascent.proofs.Lent.{keys_stay, none_if_absent, set_shape, set_keys, lent_pairs}
+use Rattle.bptree_shape.proofs.LeafFor.{whole_ascends, node_ascends, value_there, absent_there}
+
+-- the tree stands below the root that was named
+pub placed_at : {K V A : Type 0} (cmp : K → K → Ordering) (is_summary : A → List K → Type 0) (old new : Slots (Inner K A) (Leaf K V)) (h : ℕ) (root : NodeId) (k : K) (v : V) (top : Option InnerNodeId) (a : A) (at : NodeId × ℕ) → at ≡ risen root h top
+    → IsPlacedUpTo cmp is_summary old new h root k v top a → IsPlaced cmp is_summary old new h root k v at.1 at.0 a
+placed_at cmp is_summary old new h root k v None a at e placed = rw e placed
+placed_at cmp is_summary old new h root k v (Some id) a at e placed =
+    let up : suc h ≡ h + 1 = omega arith in
+    rw e (subst (λ n. IsPlaced cmp is_summary old new h root k v n (kind.Inner id) a) up placed)
 
 module _ {K V A : Type 0} {cmp : K → K → Ordering} (total : IsTotalOrder cmp) (is_summary : A → List K → Type 0) (old : Slots (Inner K A) (Leaf K V)) (h : ℕ) (root : NodeId) (k : K) (leaf : LeafNodeId) (node : Leaf K V)
     (shape : IsWellShaped cmp is_summary old h root) (for' : IsLeafFor cmp old h root k leaf) (read : old.leaf leaf.0 ≡ Present node) where
@@ -46,10 +55,22 @@ module _ {K V A : Type 0} {cmp : K → K → Ordering} (total : IsTotalOrder cmp
       keys = set_keys cmp is_summary old new h root shape leaf node read for'.stands (set_value_at node.pairs i v) (keys_stay node.pairs i v) updates;
     }
 
--- the tree stands below the root that was named
-pub placed_at : {K V A : Type 0} (cmp : K → K → Ordering) (is_summary : A → List K → Type 0) (old new : Slots (Inner K A) (Leaf K V)) (h : ℕ) (root : NodeId) (k : K) (v : V) (top : Option InnerNodeId) (a : A) (at : NodeId × ℕ) → at ≡ risen root h top
-    → IsPlacedUpTo cmp is_summary old new h root k v top a → IsPlaced cmp is_summary old new h root k v at.1 at.0 a
-placed_at cmp is_summary old new h root k v None a at e placed = rw e placed
-placed_at cmp is_summary old new h root k v (Some id) a at e placed =
-    let up : suc h ≡ h + 1 = omega arith in
-    rw e (subst (λ n. IsPlaced cmp is_summary old new h root k v n (kind.Inner id) a) up placed)
+  -- it is not in the tree, and belongs at a slot of the leaf
+  module _ (slot : ℕ) (place : IsAscending cmp node.pairs → (has cmp node.pairs k ≡ false) × (slot ≡ length (below cmp node.pairs k))) where
+    placed : (has cmp node.pairs k ≡ false) × (slot ≡ length (below cmp node.pairs k))
+    placed = place (node_ascends total is_summary old h root k leaf node shape for' read)
+
+    pub absent : LacksKey cmp old h root k
+    absent = absent_there total is_summary old h root k leaf node shape for' read placed.0
+
+    module _ (room : HasRoomFor cmp (pairs_at old h root) k) (path : List (InnerNodeId × ℕ × NodeId)) (way : Way cmp old k h root path 0 (kind.Leaf leaf)) where
+      pub due : (due : IsDue cmp is_summary old path leaf slot k) × (due.root ≡ root) × (due.top ≡ h)
+      due = (record { top = h; root = root; shape = shape; few = room absent; way = way; absent = rw read placed.0; place = rw read placed.1 }, refl, refl)
+
+      -- what came of it is named by a root and a height
+      pub added : (new : Slots (Inner K A) (Leaf K V)) (v : V) (top : Option InnerNodeId) (a : A) (at : NodeId × ℕ) → at ≡ risen root h top → ((given : IsDue cmp is_summary old path leaf slot k) → given.root ≡ root → IsPlacedUpTo cmp is_summary old new given.top root k v top a)
+          → (value cmp (pairs_at old h root) k ≡ None) × IsPlaced cmp is_summary old new h root k v at.1 at.0 a
+      added new v top a at is done = (
+        none_if_absent cmp (pairs_at old h root) k absent,
+        placed_at cmp is_summary old new h root k v top a at is (subst (λ n. IsPlacedUpTo cmp is_summary old new n root k v top a) due.2 (done due.0 due.1)),
+      )

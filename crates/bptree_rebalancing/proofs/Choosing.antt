@@ -4,11 +4,15 @@ use Rattle.std.specs.declared.cmp.Ordering.{Ordering}
 use Rattle.std.specs.List.{AllByRecursion, insert}
 use Rattle.bptree_nodes.specs.Inner.{Inner}
 use Rattle.bptree_nodes.specs.Leaf.{Leaf}
-use Rattle.bptree_nodes.specs.Slot.{Slots}
+use Rattle.bptree_nodes.specs.Slot.{Slots, Present}
+use Rattle.bptree_shape.specs.Shape.{inner_children}
+use Rattle.bptree_shape.proofs.ListReads.{all_read}
 use Rattle.bptree_keys.specs.declared.node_id.InnerNodeId.{InnerNodeId}
 use Rattle.bptree_keys.specs.declared.node_id.NodeId.{NodeId}
+use Rattle.bptree_keys.specs.declared.node_id.NodeId.TheVariants as kind
+use Rattle.bptree_keys.proofs.PieceLemmas.{AllByRecursion-weaker}
 use Rattle.bptree_ascent.specs.Climb.{least_at}
-use Rattle.bptree_rebalancing.specs.ChooseSibling.{ChoosesSibling, node_size, child_size}
+use Rattle.bptree_rebalancing.specs.ChooseSibling.{ChoosesSibling, HasOneChildMore, NodesBelow, node_size, child_size, size_below, IsInnerAt, IsLeafAt, IsNodeAt}
 use Rattle.bptree_shape.specs.Order.{total, Chain}
 use Rattle.bptree_shape.specs.Path.{Way}
 use Rattle.bptree_rebalancing.specs.Transfer.{CanGive, Moves}
@@ -25,6 +29,32 @@ module _ {K V A : Type 0} (slots : Slots (Inner K A) (Leaf K V)) where
   size_past [] i past = refl
   size_past (d ∷ cs) zero past = absurd (omega arith)
   size_past (d ∷ cs) (suc i) past = size_past cs i (omega arith)
+
+  -- what is known of a child that is read from the node under a number
+  module _ {id : InnerNodeId} {node : Inner K A} (here : slots.inner id.0 ≡ Present node) (place : ℕ) where
+    pub none_below : HasOneChildMore slots id → length node.keys < place → 0 ≡ size_below slots id place
+    none_below long past = sym (size_past (inner_children (slots.inner id.0)) place (rw here (let z = rw here at long in omega (arith, z, past))))
+
+    pub node_below : NodesBelow slots id → (child : NodeId) → slice_get node.children place ≡ Some child → IsNodeAt slots child
+    node_below all child read = all_read (IsNodeAt slots) (inner_children (slots.inner id.0)) place child all (rw here read)
+
+    pub size_there : (child : NodeId) → slice_get node.children place ≡ Some child → node_size slots child ≡ size_below slots id place
+    size_there child read = sym (size_read (inner_children (slots.inner id.0)) place child (rw here read))
+
+  leaf_is_node : (c : NodeId) → IsLeafAt slots c → IsNodeAt slots c
+  leaf_is_node (kind.Leaf id) there = there
+  leaf_is_node (kind.Inner id) there = absurd there
+
+  inner_is_node : (c : NodeId) → IsInnerAt slots c → IsNodeAt slots c
+  inner_is_node (kind.Leaf id) there = absurd there
+  inner_is_node (kind.Inner id) there = there
+
+  -- leaves are nodes, and so are inner ones
+  pub nodes_of_leaves : (cs : List NodeId) → AllByRecursion (IsLeafAt slots) cs → AllByRecursion (IsNodeAt slots) cs
+  nodes_of_leaves cs all = AllByRecursion-weaker (IsLeafAt slots) (IsNodeAt slots) leaf_is_node cs all
+
+  pub nodes_of_inners : (cs : List NodeId) → AllByRecursion (IsInnerAt slots) cs → AllByRecursion (IsNodeAt slots) cs
+  nodes_of_inners cs all = AllByRecursion-weaker (IsInnerAt slots) (IsNodeAt slots) inner_is_node cs all
 
 -- what each child of a chain is
 pub chain_all : {C K : Type 0} (cmp : K → K → Ordering) (P : C → Option K → Option K → Type 0) (Q : C → Type 0) → ((c : C) (a b : Option K) → P c a b → Q c) → (ks : List K) (cs : List C) (lo hi : Option K) → Chain cmp P ks cs lo hi → AllByRecursion Q cs

@@ -30,7 +30,7 @@ use Rattle.bptree_rebalancing.specs.Trim.{ClimbsUnderflow, Sunk, LeafUnderflow, 
 use Rattle.bptree_rebalancing.specs.declared.rotate_merge.Joint.{Joint}
 use Rattle.bptree_rebalancing.specs.declared.rotate_merge.Sibling.{Sibling}
 use Rattle.bptree_shape.proofs.Agreeing.{stands_le}
-use Rattle.bptree_ascent.proofs.Climbing.{told_up, least_most, not_held, held_is}
+use Rattle.bptree_ascent.proofs.Climbing.{climb_on, told_up, least_most, not_held, held_is}
 use Rattle.bptree_shape.proofs.Frame.{Same, same}
 use Rattle.bptree_rebalancing.proofs.Choosing.{inserted_is, before_is, most_so}
 use Rattle.bptree_shape.proofs.Hinted.{count_of, count_leaves, first_or, linked_next}
@@ -41,7 +41,7 @@ use Rattle.bptree_rebalancing.proofs.Pair as pair
 use Rattle.bptree_ascent.proofs.Rooted.{whole_done, present_leaf}
 use Rattle.bptree_rebalancing.proofs.Seated.{seat_size}
 use Rattle.bptree_rebalancing.proofs.Loose.{loose_of}
-use Rattle.bptree_ascent.proofs.Undone.{same_node}
+use Rattle.bptree_rebalancing.proofs.Transfers.{entry_of}
 use Rattle.bptree_shape.proofs.Ways.{LastStep}
 use Rattle.bptree_shape.proofs.Widen.{tree_less}
 
@@ -111,6 +111,14 @@ module _ {K V A : Type 0} {cmp : K → K → Ordering} (total' : IsTotalOrder cm
       pub next_is : leaf_next (now.leaf left.0) ≡ Some right
       next_is = spot.next_of total' is_summary now path number i c left right before behind was_order left_there
 
+    -- no other number of an inner node is held, where the node above was written anew
+    held_inners : {is : Inner K A} → after.inner number.0 ≡ Present is → ((n : ℕ) → (n ≡ number.0 → ⊥) → after.inner n ≡ now.inner n) → (n : ℕ) → is_held (after.inner n) ≡ c.climb.held_inner n
+    held_inners stands others n =
+        elim (cases_eq n number.0) [
+          | inl q ↦ (rw q (ap is_held stands ∙ (sym (ap is_held (spot.here total' is_summary now path number i c)) ∙ c.climb.free.inners number.0)))
+          | inr far ↦ ap is_held (others n far) ∙ c.climb.free.inners n
+        ]
+
     -- what the node above is then told
     pub told_above : (kept : ℕ) (leaf' : LeafNodeId) (turn' : Turn) → Edits cmp is_summary c.climb.edit kept c.climb.old after (suc c.climb.height) (kind.Inner number) c.climb.k leaf' turn' Done → (above : A) → SumsUpAt cmp is_summary (after.inner number.0) above
         → is_summary above (keys_of (pairs_at after (suc c.climb.height) (kind.Inner number)))
@@ -120,58 +128,48 @@ module _ {K V A : Type 0} {cmp : K → K → Ordering} (total' : IsTotalOrder cm
 
     -- the two merged
     module _ (emptied : Leaf K V) (j : MergesLeavesAt cmp is_summary slot now after number left right joint emptied) where
-      abbrev pub jb : Inner K A
-      jb = j.transfers.bare
+      pub je : HasEntry node j.transfers.bare slot joint.separator j.transfers.child joint.right
+      je = entry_of (now.inner number.0) node j.three.node (spot.here total' is_summary now path number i c) j.three.at_node j.transfers.entry
 
-      abbrev pub jg : NodeId
-      jg = j.transfers.child
-
-      pub je : HasEntry node jb slot joint.separator jg joint.right
-      je = subst (λ n. HasEntry n jb slot joint.separator jg joint.right) (sym (same_node (now.inner number.0) node j.node (spot.here total' is_summary now path number i c) j.at_node)) j.transfers.entry
-
-      merge_rebalances : RebalancesPair cmp is_summary now after c.climb.height number.0 (get_or jb.children slot c.climb.id) joint.separator (kind.Leaf right) Done
+      merge_rebalances : RebalancesPair cmp is_summary now after c.climb.height number.0 (get_or j.transfers.bare.children slot c.climb.id) joint.separator (kind.Leaf right) Done
       merge_rebalances =
-          from_low jb jg je (λ m x. RebalancesPair cmp is_summary now after m number.0 x joint.separator (kind.Leaf right) Done)
-          (relink_next.leaves_joined total' is_summary now after number.0 left right j.one j.other j.one' joint.separator j.at_left j.at_right j.is_left j.inners j.leaves j.apart emptied j.is_right j.transfers.leaves j.fits)
+          from_low j.transfers.bare j.transfers.child je (λ m x. RebalancesPair cmp is_summary now after m number.0 x joint.separator (kind.Leaf right) Done)
+          (relink_next.leaves_joined total' is_summary now after number.0 left right j.three.one j.three.other j.three.one' joint.separator j.three.at_left j.three.at_right j.three.is_left j.inners j.leaves j.three.apart emptied j.three.is_right j.transfers.leaves j.fits)
 
-      j_told : is_summary j.transfers.merges.both (keys_of (pairs_at after c.climb.height (get_or jb.children slot c.climb.id)))
+      j_told : is_summary j.transfers.merges.both (keys_of (pairs_at after c.climb.height (get_or j.transfers.bare.children slot c.climb.id)))
       j_told =
-          let t = pair.pair_tree total' is_summary c.climb.edit c.climb.kept c.climb.old now after c.climb.height number c.climb.k node i c.climb.id c.climb.leaf c.climb.turn c.climb.local at step.is step.leads step.read c.enough c.climb.edits jb slot joint.separator (kind.Leaf right) joint.right (entry jb jg je) beside Done merge_rebalances in
-          let low = to_low jb jg je (λ m x. IsTree cmp after 16 m x t.0 t.1) t.2 in
-          let so : (16 ≤ length j.one'.pairs) × IsAscending cmp j.one'.pairs = subst (λ (x : Slot (Leaf K V)). (16 ≤ length (leaf_pairs x)) × IsAscending cmp (leaf_pairs x)) j.is_left (low.3, low.2) in
-          from_low jb jg je (λ m x. is_summary j.transfers.merges.both (keys_of (pairs_at after m x)))
-          (subst (λ (x : Slot (Leaf K V)). is_summary j.transfers.merges.both (keys_of (leaf_pairs x))) (sym j.is_left) (j.transfers.merges.told_both (omega (arith, so.0)) so.1))
+          let t = pair.pair_tree total' is_summary c.climb.edit c.climb.kept c.climb.old now after c.climb.height number c.climb.k node i c.climb.id c.climb.leaf c.climb.turn c.climb.local at step.is step.leads step.read c.enough c.climb.edits j.transfers.bare slot joint.separator (kind.Leaf right) joint.right (entry j.transfers.bare j.transfers.child je) beside Done merge_rebalances in
+          let low = to_low j.transfers.bare j.transfers.child je (λ m x. IsTree cmp after 16 m x t.0 t.1) t.2 in
+          let so : (16 ≤ length j.three.one'.pairs) × IsAscending cmp j.three.one'.pairs = subst (λ (x : Slot (Leaf K V)). (16 ≤ length (leaf_pairs x)) × IsAscending cmp (leaf_pairs x)) j.three.is_left (low.3, low.2) in
+          from_low j.transfers.bare j.transfers.child je (λ m x. is_summary j.transfers.merges.both (keys_of (pairs_at after m x)))
+          (subst (λ (x : Slot (Leaf K V)). is_summary j.transfers.merges.both (keys_of (leaf_pairs x))) (sym j.three.is_left) (j.transfers.merges.told_both (omega (arith, so.0)) so.1))
 
-      pub j_edits : Edits cmp is_summary c.climb.edit (length jb.keys) c.climb.old after (suc c.climb.height) (kind.Inner number) c.climb.k left (Loses right) Done
+      pub j_edits : Edits cmp is_summary c.climb.edit (length j.transfers.bare.keys) c.climb.old after (suc c.climb.height) (kind.Inner number) c.climb.k left (Loses right) Done
       j_edits =
-          pair.node_merged total' is_summary c.climb.edit c.climb.kept c.climb.old now after c.climb.height number c.climb.k node i c.climb.id c.climb.leaf c.climb.turn c.climb.local at step.is step.leads step.read c.enough c.climb.edits jb slot joint.separator (kind.Leaf right) joint.right (entry jb jg je) beside j.transfers.merges.both merge_rebalances (j.is_node ∙ ap Present j.transfers.merges.is) j_told (length jb.keys) (omega arith) left (Loses right)
+          pair.node_merged total' is_summary c.climb.edit c.climb.kept c.climb.old now after c.climb.height number c.climb.k node i c.climb.id c.climb.leaf c.climb.turn c.climb.local at step.is step.leads step.read c.enough c.climb.edits j.transfers.bare slot joint.separator (kind.Leaf right) joint.right (entry j.transfers.bare j.transfers.child je) beside j.transfers.merges.both merge_rebalances (j.three.is_node ∙ ap Present j.transfers.merges.is) j_told (length j.transfers.bare.keys) (omega arith) left (Loses right)
           (record {
             order = record {
-              before = before jb jg je;
-              after = behind jb jg je;
-              was = was_order jb jg je;
-              is = pair.order_after total' is_summary c.climb.edit c.climb.kept c.climb.old now after c.climb.height number c.climb.k node i c.climb.id c.climb.leaf c.climb.turn c.climb.local at step.is step.leads step.read c.enough c.climb.edits jb slot joint.separator (kind.Leaf right) joint.right (entry jb jg je) beside Done merge_rebalances
-                  ∙ ap (λ x. before jb jg je ++ (x ++ behind jb jg je)) (from_low jb jg je (λ m x. leaves_at after m x ≡ left ∷ []) refl);
+              before = before j.transfers.bare j.transfers.child je;
+              after = behind j.transfers.bare j.transfers.child je;
+              was = was_order j.transfers.bare j.transfers.child je;
+              is = pair.order_after total' is_summary c.climb.edit c.climb.kept c.climb.old now after c.climb.height number c.climb.k node i c.climb.id c.climb.leaf c.climb.turn c.climb.local at step.is step.leads step.read c.enough c.climb.edits j.transfers.bare slot joint.separator (kind.Leaf right) joint.right (entry j.transfers.bare j.transfers.child je) beside Done merge_rebalances
+                  ∙ ap (λ x. before j.transfers.bare j.transfers.child je ++ (x ++ behind j.transfers.bare j.transfers.child je)) (from_low j.transfers.bare j.transfers.child je (λ m x. leaves_at after m x ≡ left ∷ []) refl);
             };
             links = (
-              ap leaf_prev j.is_left ∙ (ap (λ (x : Leaf K V). x.prev) j.transfers.leaves.left_is ∙ (ap leaf_prev (sym j.at_left) ∙ links_left.0)),
-              ap leaf_next j.is_left ∙ (ap (λ (x : Leaf K V). x.next) j.transfers.leaves.left_is ∙ (ap leaf_next (sym j.at_right) ∙ links_right.1)),
+              ap leaf_prev j.three.is_left ∙ (ap (λ (x : Leaf K V). x.prev) j.transfers.leaves.left_is ∙ (ap leaf_prev (sym j.three.at_left) ∙ links_left.0)),
+              ap leaf_next j.three.is_left ∙ (ap (λ (x : Leaf K V). x.next) j.transfers.leaves.left_is ∙ (ap leaf_next (sym j.three.at_right) ∙ links_right.1)),
             );
             untouched = λ x l r some. rw (j.leaves x.0 l r) (spot.links_now total' is_summary now path number i c x some, spot.there_now total' is_summary now path number i c x some);
           })
 
       pub j_held : HeldAre c.climb.held_inner (λ n. cond (eqb right.0 n) true (c.climb.held_leaf n)) after
       j_held = record {
-        inners = λ n.
-            elim (cases_eq n number.0) [
-              | inl q ↦ (rw q (ap is_held j.is_node ∙ (sym (ap is_held j.at_node) ∙ c.climb.free.inners number.0)))
-              | inr far ↦ ap is_held (j.inners n far) ∙ c.climb.free.inners n
-            ];
+        inners = held_inners j.three.is_node j.inners;
         leaves = λ n.
             elim (eqb_tells right.0 n) [
-              | inl q ↦ (rw q.0 (ap (λ m. is_held (after.leaf m)) (sym q.1) ∙ ap is_held j.is_right))
+              | inl q ↦ (rw q.0 (ap (λ m. is_held (after.leaf m)) (sym q.1) ∙ ap is_held j.three.is_right))
               | inr far ↦ (rw far.0 (elim (cases_eq n left.0) [
-                | inl q ↦ (rw q (ap is_held j.is_left ∙ (sym (ap is_held j.at_left) ∙ c.climb.free.leaves left.0)))
+                | inl q ↦ (rw q (ap is_held j.three.is_left ∙ (sym (ap is_held j.three.at_left) ∙ c.climb.free.leaves left.0)))
                 | inr l ↦ ap is_held (j.leaves n l (λ z. far.1 (sym z))) ∙ c.climb.free.leaves n
               ]))
             ];
@@ -179,29 +177,10 @@ module _ {K V A : Type 0} {cmp : K → K → Ordering} (total' : IsTotalOrder cm
 
       abbrev pub merged_climbs : (above : A) → SumsUpAt cmp is_summary (after.inner number.0) above → ClimbsUnderflow cmp is_summary after path number above
       merged_climbs above sums = record {
-        climb = record {
-          old = c.climb.old;
-          edit = c.climb.edit;
-          k = c.climb.k;
-          leaf = left;
-          turn = Loses right;
-          kept = length jb.keys;
-          held_inner = c.climb.held_inner;
-          held_leaf = λ n. cond (eqb right.0 n) true (c.climb.held_leaf n);
-          top = c.climb.top;
-          root = c.climb.root;
-          height = suc c.climb.height;
-          id = kind.Inner number;
-          shape = c.climb.shape;
-          few = c.climb.few;
-          local = c.climb.local;
-          way = step.way;
-          edits = j_edits;
-          free = j_held;
-        };
+        climb = climb_on c.climb (suc c.climb.height) (kind.Inner number) (length j.transfers.bare.keys) step.way j_edits j_held;
         here = refl;
-        enough = omega (arith, seat_size cmp c.climb.old c.climb.k (least_at c.climb.top path) c.climb.height number node step.is (spot.seat total' is_summary now path number i c), ap (λ (n : Inner K A). length n.keys) je.is, length-insert jb.keys slot joint.separator je.place.within);
-        told = told_above (length jb.keys) left (Loses right) j_edits above sums;
+        enough = omega (arith, seat_size cmp c.climb.old c.climb.k (least_at c.climb.top path) c.climb.height number node step.is (spot.seat total' is_summary now path number i c), ap (λ (n : Inner K A). length n.keys) je.is, length-insert j.transfers.bare.keys slot joint.separator je.place.within);
+        told = told_above (length j.transfers.bare.keys) left (Loses right) j_edits above sums;
       }
 
       -- the number of the leaf that is gone is let go, and the links are relinked
@@ -284,7 +263,7 @@ module _ {K V A : Type 0} {cmp : K → K → Ordering} (total' : IsTotalOrder cm
 
             linked : AreLinked final None (first ++ left ∷ later) None
             linked =
-                linked_closed c.climb.old mid final first left right later untouched (rw (frees.leaf.others left.0 j.apart) edits.links) unique present
+                linked_closed c.climb.old mid final first left right later untouched (rw (frees.leaf.others left.0 j.three.apart) edits.links) unique present
                 (subst (λ o. RelinksNext mid final o left) next_first rebalances) links
 
             pub trims_merged : Trims c.climb final top
@@ -303,37 +282,31 @@ module _ {K V A : Type 0} {cmp : K → K → Ordering} (total' : IsTotalOrder cm
             }
 
     -- the one rotated a pair to the other
-    module _ (giver : Sibling) (l : RotatesLeavesAt cmp is_summary slot now after number giver left right joint) (least : (16 ≤ length l.one'.pairs) × (16 ≤ length l.other'.pairs)) where
-      abbrev pub lb : Inner K A
-      lb = l.transfers.bare
-
-      abbrev pub lg : NodeId
-      lg = l.transfers.child
-
+    module _ (giver : Sibling) (l : RotatesLeavesAt cmp is_summary slot now after number giver left right joint) (least : (16 ≤ length l.three.one'.pairs) × (16 ≤ length l.other'.pairs)) where
       abbrev up : K
       up = l.transfers.rotates.separator
 
-      pub le : HasEntry node lb slot joint.separator lg joint.right
-      le = subst (λ n. HasEntry n lb slot joint.separator lg joint.right) (sym (same_node (now.inner number.0) node l.node (spot.here total' is_summary now path number i c) l.at_node)) l.transfers.entry
+      pub le : HasEntry node l.transfers.bare slot joint.separator l.transfers.child joint.right
+      le = entry_of (now.inner number.0) node l.three.node (spot.here total' is_summary now path number i c) l.three.at_node l.transfers.entry
 
-      left_rebalances : RebalancesPair cmp is_summary now after c.climb.height number.0 (get_or lb.children slot c.climb.id) joint.separator (kind.Leaf right) (Split up (kind.Leaf right))
+      left_rebalances : RebalancesPair cmp is_summary now after c.climb.height number.0 (get_or l.transfers.bare.children slot c.climb.id) joint.separator (kind.Leaf right) (Split up (kind.Leaf right))
       left_rebalances =
-          from_low lb lg le (λ m x. RebalancesPair cmp is_summary now after m number.0 x joint.separator (kind.Leaf right) (Split up (kind.Leaf right)))
-          (relink_next.leaves_rotated total' is_summary now after number.0 left right l.one l.other l.one' joint.separator l.at_left l.at_right l.is_left l.inners l.leaves l.apart giver l.other' up l.is_right l.transfers.moves l.transfers.rotates.separates least
-          (most_so giver (length l.one.pairs) (length l.other.pairs) (length l.one'.pairs) (length l.other'.pairs) l.can l.transfers.moves.sizes))
+          from_low l.transfers.bare l.transfers.child le (λ m x. RebalancesPair cmp is_summary now after m number.0 x joint.separator (kind.Leaf right) (Split up (kind.Leaf right)))
+          (relink_next.leaves_rotated total' is_summary now after number.0 left right l.three.one l.three.other l.three.one' joint.separator l.three.at_left l.three.at_right l.three.is_left l.inners l.leaves l.three.apart giver l.other' up l.three.is_right l.transfers.moves l.transfers.rotates.separates least
+          (most_so giver (length l.three.one.pairs) (length l.three.other.pairs) (length l.three.one'.pairs) (length l.other'.pairs) l.can l.transfers.moves.sizes))
 
       sums_leaf : (x : LeafNodeId) (node' : Leaf K V) (lo hi : Option K) (b : A) → after.leaf x.0 ≡ Present node' → IsTree cmp after 16 0 (kind.Leaf x) lo hi → SumsUpLeaf cmp is_summary node'.pairs b → is_summary b (keys_of (pairs_at after 0 (kind.Leaf x)))
       sums_leaf x node' lo hi b is t sums =
           let so : (16 ≤ length node'.pairs) × IsAscending cmp node'.pairs = subst (λ (y : Slot (Leaf K V)). (16 ≤ length (leaf_pairs y)) × IsAscending cmp (leaf_pairs y)) is (t.3, t.2) in
           subst (λ (y : Slot (Leaf K V)). is_summary b (keys_of (leaf_pairs y))) (sym is) (sums (omega (arith, so.0)) so.1)
 
-      l_told : is_summary l.transfers.rotates.left (keys_of (pairs_at after c.climb.height (get_or lb.children slot c.climb.id))) × is_summary l.transfers.rotates.right (keys_of (pairs_at after c.climb.height (kind.Leaf right)))
+      l_told : is_summary l.transfers.rotates.left (keys_of (pairs_at after c.climb.height (get_or l.transfers.bare.children slot c.climb.id))) × is_summary l.transfers.rotates.right (keys_of (pairs_at after c.climb.height (kind.Leaf right)))
       l_told =
-          let t = pair.pair_tree total' is_summary c.climb.edit c.climb.kept c.climb.old now after c.climb.height number c.climb.k node i c.climb.id c.climb.leaf c.climb.turn c.climb.local at step.is step.leads step.read c.enough c.climb.edits lb slot joint.separator (kind.Leaf right) joint.right (entry lb lg le) beside (Split up (kind.Leaf right)) left_rebalances in
-          let left_tree = to_low lb lg le (λ m x. IsTree cmp after 16 m x t.0 (Some up)) t.2.0 in
+          let t = pair.pair_tree total' is_summary c.climb.edit c.climb.kept c.climb.old now after c.climb.height number c.climb.k node i c.climb.id c.climb.leaf c.climb.turn c.climb.local at step.is step.leads step.read c.enough c.climb.edits l.transfers.bare slot joint.separator (kind.Leaf right) joint.right (entry l.transfers.bare l.transfers.child le) beside (Split up (kind.Leaf right)) left_rebalances in
+          let left_tree = to_low l.transfers.bare l.transfers.child le (λ m x. IsTree cmp after 16 m x t.0 (Some up)) t.2.0 in
           let right_tree = subst (λ m. IsTree cmp after 16 m (kind.Leaf right) (Some up) t.1) c.low t.2.2 in (
-            from_low lb lg le (λ m x. is_summary l.transfers.rotates.left (keys_of (pairs_at after m x))) (sums_leaf left l.one' t.0 (Some up) l.transfers.rotates.left l.is_left left_tree l.transfers.rotates.told_left),
-            subst (λ m. is_summary l.transfers.rotates.right (keys_of (pairs_at after m (kind.Leaf right)))) (sym c.low) (sums_leaf right l.other' (Some up) t.1 l.transfers.rotates.right l.is_right right_tree l.transfers.rotates.told_right),
+            from_low l.transfers.bare l.transfers.child le (λ m x. is_summary l.transfers.rotates.left (keys_of (pairs_at after m x))) (sums_leaf left l.three.one' t.0 (Some up) l.transfers.rotates.left l.three.is_left left_tree l.transfers.rotates.told_left),
+            subst (λ m. is_summary l.transfers.rotates.right (keys_of (pairs_at after m (kind.Leaf right)))) (sym c.low) (sums_leaf right l.other' (Some up) t.1 l.transfers.rotates.right l.three.is_right right_tree l.transfers.rotates.told_right),
           )
 
       links_after : (x : LeafNodeId) → IsPresent (c.climb.old.leaf x.0) → SameLinks c.climb.old after x × IsPresent (after.leaf x.0)
@@ -341,18 +314,18 @@ module _ {K V A : Type 0} {cmp : K → K → Ordering} (total' : IsTotalOrder cm
           elim (cases_eq x.0 left.0) [
             | inl q ↦ (rw q (
               (
-                ap leaf_prev l.is_left ∙ (ap (λ (y : Leaf K V). y.prev) l.transfers.moves.left_links ∙ (ap leaf_prev (sym l.at_left) ∙ links_left.0)),
-                ap leaf_next l.is_left ∙ (ap (λ (y : Leaf K V). y.next) l.transfers.moves.left_links ∙ (ap leaf_next (sym l.at_left) ∙ links_left.1)),
+                ap leaf_prev l.three.is_left ∙ (ap (λ (y : Leaf K V). y.prev) l.transfers.moves.left_links ∙ (ap leaf_prev (sym l.three.at_left) ∙ links_left.0)),
+                ap leaf_next l.three.is_left ∙ (ap (λ (y : Leaf K V). y.next) l.transfers.moves.left_links ∙ (ap leaf_next (sym l.three.at_left) ∙ links_left.1)),
               ),
-              rw l.is_left tt,
+              rw l.three.is_left tt,
             ))
             | inr far ↦ elim (cases_eq x.0 right.0) [
               | inl q ↦ (rw q (
                 (
-                  ap leaf_prev l.is_right ∙ (ap (λ (y : Leaf K V). y.prev) l.transfers.moves.right_links ∙ (ap leaf_prev (sym l.at_right) ∙ links_right.0)),
-                  ap leaf_next l.is_right ∙ (ap (λ (y : Leaf K V). y.next) l.transfers.moves.right_links ∙ (ap leaf_next (sym l.at_right) ∙ links_right.1)),
+                  ap leaf_prev l.three.is_right ∙ (ap (λ (y : Leaf K V). y.prev) l.transfers.moves.right_links ∙ (ap leaf_prev (sym l.three.at_right) ∙ links_right.0)),
+                  ap leaf_next l.three.is_right ∙ (ap (λ (y : Leaf K V). y.next) l.transfers.moves.right_links ∙ (ap leaf_next (sym l.three.at_right) ∙ links_right.1)),
                 ),
-                rw l.is_right tt,
+                rw l.three.is_right tt,
               ))
               | inr r ↦ (rw (l.leaves x.0 far r) (spot.links_now total' is_summary now path number i c x some, spot.there_now total' is_summary now path number i c x some))
             ]
@@ -360,15 +333,15 @@ module _ {K V A : Type 0} {cmp : K → K → Ordering} (total' : IsTotalOrder cm
 
       pub l_edits : Edits cmp is_summary c.climb.edit 16 c.climb.old after (suc c.climb.height) (kind.Inner number) c.climb.k left Stays Done
       l_edits =
-          pair.node_rotated total' is_summary c.climb.edit c.climb.kept c.climb.old now after c.climb.height number c.climb.k node i c.climb.id c.climb.leaf c.climb.turn c.climb.local at step.is step.leads step.read c.enough c.climb.edits lb slot joint.separator (kind.Leaf right) joint.right (entry lb lg le) beside l.transfers.rotates.left l.transfers.rotates.right up left_rebalances
-          (l.is_node ∙ ap Present (l.transfers.rotates.is ∙ ap (λ x. with_split lb slot l.transfers.rotates.left up x l.transfers.rotates.right) (given_is lb lg le))) l_told.0 l_told.1 16 left Stays
+          pair.node_rotated total' is_summary c.climb.edit c.climb.kept c.climb.old now after c.climb.height number c.climb.k node i c.climb.id c.climb.leaf c.climb.turn c.climb.local at step.is step.leads step.read c.enough c.climb.edits l.transfers.bare slot joint.separator (kind.Leaf right) joint.right (entry l.transfers.bare l.transfers.child le) beside l.transfers.rotates.left l.transfers.rotates.right up left_rebalances
+          (l.three.is_node ∙ ap Present (l.transfers.rotates.is ∙ ap (λ x. with_split l.transfers.bare slot l.transfers.rotates.left up x l.transfers.rotates.right) (given_is l.transfers.bare l.transfers.child le))) l_told.0 l_told.1 16 left Stays
           (record {
             order = record {
-              before = before lb lg le;
-              after = right ∷ behind lb lg le;
-              was = was_order lb lg le;
-              is = pair.order_after_two total' is_summary c.climb.edit c.climb.kept c.climb.old now after c.climb.height number c.climb.k node i c.climb.id c.climb.leaf c.climb.turn c.climb.local at step.is step.leads step.read c.enough c.climb.edits lb slot joint.separator (kind.Leaf right) joint.right (entry lb lg le) beside (Split up (kind.Leaf right)) left_rebalances
-                  ∙ ap (λ x. before lb lg le ++ (x ++ behind lb lg le)) (from_low lb lg le (λ m x. leaves_at after m x ++ leaves_at after m (kind.Leaf right) ≡ left ∷ right ∷ []) refl);
+              before = before l.transfers.bare l.transfers.child le;
+              after = right ∷ behind l.transfers.bare l.transfers.child le;
+              was = was_order l.transfers.bare l.transfers.child le;
+              is = pair.order_after_two total' is_summary c.climb.edit c.climb.kept c.climb.old now after c.climb.height number c.climb.k node i c.climb.id c.climb.leaf c.climb.turn c.climb.local at step.is step.leads step.read c.enough c.climb.edits l.transfers.bare slot joint.separator (kind.Leaf right) joint.right (entry l.transfers.bare l.transfers.child le) beside (Split up (kind.Leaf right)) left_rebalances
+                  ∙ ap (λ x. before l.transfers.bare l.transfers.child le ++ (x ++ behind l.transfers.bare l.transfers.child le)) (from_low l.transfers.bare l.transfers.child le (λ m x. leaves_at after m x ++ leaves_at after m (kind.Leaf right) ≡ left ∷ right ∷ []) refl);
             };
             links = (links_after left left_was).0;
             untouched = λ x far spares some. links_after x some;
@@ -376,16 +349,12 @@ module _ {K V A : Type 0} {cmp : K → K → Ordering} (total' : IsTotalOrder cm
 
       pub l_held : HeldAre c.climb.held_inner c.climb.held_leaf after
       l_held = record {
-        inners = λ n.
-            elim (cases_eq n number.0) [
-              | inl q ↦ (rw q (ap is_held l.is_node ∙ (sym (ap is_held l.at_node) ∙ c.climb.free.inners number.0)))
-              | inr far ↦ ap is_held (l.inners n far) ∙ c.climb.free.inners n
-            ];
+        inners = held_inners l.three.is_node l.inners;
         leaves = λ n.
             elim (cases_eq n left.0) [
-              | inl q ↦ (rw q (ap is_held l.is_left ∙ (sym (ap is_held l.at_left) ∙ c.climb.free.leaves left.0)))
+              | inl q ↦ (rw q (ap is_held l.three.is_left ∙ (sym (ap is_held l.three.at_left) ∙ c.climb.free.leaves left.0)))
               | inr x ↦ elim (cases_eq n right.0) [
-                | inl q ↦ (rw q (ap is_held l.is_right ∙ (sym (ap is_held l.at_right) ∙ c.climb.free.leaves right.0)))
+                | inl q ↦ (rw q (ap is_held l.three.is_right ∙ (sym (ap is_held l.three.at_right) ∙ c.climb.free.leaves right.0)))
                 | inr y ↦ ap is_held (l.leaves n x y) ∙ c.climb.free.leaves n
               ]
             ];
@@ -393,26 +362,7 @@ module _ {K V A : Type 0} {cmp : K → K → Ordering} (total' : IsTotalOrder cm
 
       abbrev pub rotated_climbs : (above : A) → SumsUpAt cmp is_summary (after.inner number.0) above → Climbs cmp is_summary after path above
       rotated_climbs above sums = record {
-        climb = record {
-          old = c.climb.old;
-          edit = c.climb.edit;
-          k = c.climb.k;
-          leaf = left;
-          turn = Stays;
-          kept = 16;
-          held_inner = c.climb.held_inner;
-          held_leaf = c.climb.held_leaf;
-          top = c.climb.top;
-          root = c.climb.root;
-          height = suc c.climb.height;
-          id = kind.Inner number;
-          shape = c.climb.shape;
-          few = c.climb.few;
-          local = c.climb.local;
-          way = step.way;
-          edits = l_edits;
-          free = l_held;
-        };
+        climb = climb_on c.climb (suc c.climb.height) (kind.Inner number) 16 step.way l_edits l_held;
         enough = least_most c.climb.top path;
         told = told_above 16 left Stays l_edits above sums;
       }
@@ -460,10 +410,10 @@ module _ {K V A : Type 0} {cmp : K → K → Ordering} (total' : IsTotalOrder cm
 
   -- where the one rotated a pair to the other
   module _ {after : Slots (Inner K A) (Leaf K V)} (joint : Joint K A) (giver : Sibling) (same : choose_sibling ≡ Some giver) (l : RotatesLeavesAt cmp is_summary slot now after number giver left right joint) (above : A) (sums : SumsUpAt cmp is_summary (after.inner number.0) above) where
-    pub least_so : (16 ≤ length l.one'.pairs) × (16 ≤ length l.other'.pairs)
+    pub least_so : (16 ≤ length l.three.one'.pairs) × (16 ≤ length l.other'.pairs)
     least_so =
-        spot.enough_there total' c slot left right read_left read_right giver (length l.one'.pairs) (length l.other'.pairs) (subst (λ x. ChoosesSibling (child_size now (inner_children (now.inner number.0))) i slot x) same chosen)
-        (rw (l.at_left, l.at_right) l.transfers.moves.sizes)
+        spot.enough_there total' c slot left right read_left read_right giver (length l.three.one'.pairs) (length l.other'.pairs) (subst (λ x. ChoosesSibling (child_size now (inner_children (now.inner number.0))) i slot x) same chosen)
+        (rw (l.three.at_left, l.three.at_right) l.transfers.moves.sizes)
 
     abbrev pub rotated : Climbs cmp is_summary after path above
     rotated = rotated_climbs total' is_summary now after path number i c slot left right beside_so left_so right_so joint giver l least_so above sums

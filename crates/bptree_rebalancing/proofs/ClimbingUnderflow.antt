@@ -21,7 +21,7 @@ use Rattle.bptree_shape.specs.Shape.{pairs_at, leaves_at, inner_count, stands, I
 use Rattle.bptree_rebalancing.specs.Transfer.{HasEntry}
 use Rattle.bptree_ascent.specs.Sums.{SumsUpAt, with_summary, with_split}
 use Rattle.bptree_rebalancing.specs.Trim.{ClimbsUnderflow}
-use Rattle.bptree_ascent.proofs.Climbing.{told_up, last, can, summed_there, stays, few_there, least_most, least_some}
+use Rattle.bptree_ascent.proofs.Climbing.{climb_on, told_up, last, can, summed_there, few_there, least_most, least_some}
 use Rattle.bptree_ascent.proofs.Lift.{links_moved}
 use Rattle.bptree_rebalancing.proofs.Pair as pair
 use Rattle.bptree_rebalancing.proofs.Seated.{Seat, seat_of, seat_size, inner_high}
@@ -42,9 +42,6 @@ module _ {K V A : Type 0} {cmp : K → K → Ordering} (total : IsTotalOrder cmp
   pub at : CanReach cmp c.climb.old (suc c.climb.height) (kind.Inner number) c.climb.k
   at = can total is_summary now path Done c.climb rest number i child e
 
-  pub node_stands : now.inner number.0 ≡ Present step.node
-  node_stands = stays total is_summary now path Done c.climb rest number i child e
-
   pub summed : IsSummed c.climb.old is_summary (suc c.climb.height) (kind.Inner number)
   summed = summed_there total is_summary now path Done c.climb rest number i child e
 
@@ -60,6 +57,13 @@ module _ {K V A : Type 0} {cmp : K → K → Ordering} (total : IsTotalOrder cmp
   -- the node that may have underflowed is an inner one
   pub high : (m : ℕ) × (c.climb.height ≡ suc m)
   high = inner_high cmp c.climb.old c.climb.k (least_at c.climb.top path) c.climb.height nid (subst (λ x. Seat cmp c.climb.old c.climb.k (least_at c.climb.top path) c.climb.height x) c.here (seat_of cmp c.climb.old c.climb.k path c.climb.top c.climb.root c.climb.height c.climb.id c.climb.way c.climb.shape))
+
+  -- what the parent is then told
+  pub told_above : (kept : ℕ) → Edits cmp is_summary c.climb.edit kept c.climb.old after (suc c.climb.height) (kind.Inner number) c.climb.k c.climb.leaf c.climb.turn Done → (above : A) → SumsUpAt cmp is_summary (after.inner number.0) above
+      → is_summary above (keys_of (pairs_at after (suc c.climb.height) (kind.Inner number)))
+  told_above kept edits above sums =
+      told_up total is_summary after 0 c.climb.height number at.low at.high above (edits.tree 0 at.low at.high (omega arith) (tree_less cmp c.climb.old at.least 0 (suc c.climb.height) (kind.Inner number) at.low at.high (omega arith) at.tree) at.fits)
+      (edits.summed summed) (subst (λ l. length l < 2 ^ 64) (sym edits.pairs) few) sums
 
   -- the two siblings, in a parent with an entry between them
   module _ (slot : ℕ) (left right : InnerNodeId) (bare : Inner K A) (given : NodeId) (s : K) (old_r : A) (entry' : HasEntry step.node bare slot s given old_r) (beside : (i ≡ slot) ⊎ (i ≡ suc slot))
@@ -154,26 +158,7 @@ module _ {K V A : Type 0} {cmp : K → K → Ordering} (total : IsTotalOrder cmp
 
         module _ (held_after : HeldAre (λ n. cond (eqb right.0 n) true (c.climb.held_inner n)) c.climb.held_leaf after) where
           abbrev pub climb_merged : Climb cmp is_summary after rest Done
-          climb_merged = record {
-            old = c.climb.old;
-            edit = c.climb.edit;
-            k = c.climb.k;
-            leaf = c.climb.leaf;
-            turn = c.climb.turn;
-            kept = length bare.keys;
-            held_inner = λ n. cond (eqb right.0 n) true (c.climb.held_inner n);
-            held_leaf = c.climb.held_leaf;
-            top = c.climb.top;
-            root = c.climb.root;
-            height = suc c.climb.height;
-            id = kind.Inner number;
-            shape = c.climb.shape;
-            few = c.climb.few;
-            local = c.climb.local;
-            way = step.way;
-            edits = edits_merged;
-            free = held_after;
-          }
+          climb_merged = climb_on c.climb (suc c.climb.height) (kind.Inner number) (length bare.keys) step.way edits_merged held_after
 
           pub long : length step.node.keys ≡ length bare.keys + 1
           long = ap (λ (n : Inner K A). length n.keys) entry.is ∙ length-insert bare.keys slot s entry.place.within
@@ -183,8 +168,7 @@ module _ {K V A : Type 0} {cmp : K → K → Ordering} (total : IsTotalOrder cmp
             climb = climb_merged;
             here = refl;
             enough = omega (arith, seat_size cmp c.climb.old c.climb.k (least_at c.climb.top rest) c.climb.height number step.node step.is seat, long);
-            told = told_up total is_summary after 0 c.climb.height number at.low at.high above (edits_merged.tree 0 at.low at.high (omega arith) (tree_less cmp c.climb.old at.least 0 (suc c.climb.height) (kind.Inner number) at.low at.high (omega arith) at.tree) at.fits)
-                (edits_merged.summed summed) (subst (λ l. length l < 2 ^ 64) (sym edits_merged.pairs) few) sums;
+            told = told_above (length bare.keys) edits_merged above sums;
           }
 
       -- the one rotated a child to the other
@@ -213,31 +197,11 @@ module _ {K V A : Type 0} {cmp : K → K → Ordering} (total : IsTotalOrder cmp
             })
 
         abbrev pub climb_rotated : Climb cmp is_summary after rest Done
-        climb_rotated = record {
-          old = c.climb.old;
-          edit = c.climb.edit;
-          k = c.climb.k;
-          leaf = c.climb.leaf;
-          turn = c.climb.turn;
-          kept = 16;
-          held_inner = c.climb.held_inner;
-          held_leaf = c.climb.held_leaf;
-          top = c.climb.top;
-          root = c.climb.root;
-          height = suc c.climb.height;
-          id = kind.Inner number;
-          shape = c.climb.shape;
-          few = c.climb.few;
-          local = c.climb.local;
-          way = step.way;
-          edits = edits_rotated;
-          free = held_after;
-        }
+        climb_rotated = climb_on c.climb (suc c.climb.height) (kind.Inner number) 16 step.way edits_rotated held_after
 
         abbrev pub climbs_rotated : (above : A) → SumsUpAt cmp is_summary (after.inner number.0) above → Climbs cmp is_summary after rest above
         climbs_rotated above sums = record {
           climb = climb_rotated;
           enough = least_most c.climb.top rest;
-          told = told_up total is_summary after 0 c.climb.height number at.low at.high above (edits_rotated.tree 0 at.low at.high (omega arith) (tree_less cmp c.climb.old at.least 0 (suc c.climb.height) (kind.Inner number) at.low at.high (omega arith) at.tree) at.fits)
-              (edits_rotated.summed summed) (subst (λ l. length l < 2 ^ 64) (sym edits_rotated.pairs) few) sums;
+          told = told_above 16 edits_rotated above sums;
         }

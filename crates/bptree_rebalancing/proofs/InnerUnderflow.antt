@@ -1,5 +1,5 @@
 -- The children of a node one of which may have underflowed, and the sibling that is chosen for it.
-use Rattle.std.proofs.Common.{◌≡◌, ℕ, suc, ◌+◌, ◌<◌, ◌≤◌, ◌⊎◌, cond, List, [], ◌∷◌, ◌++◌, length, refl, sym, ap, subst, ◌∙◌, arith, Option, Some, None, eqb, slice_get}
+use Rattle.std.proofs.Common.{◌≡◌, ℕ, suc, ◌+◌, ◌<◌, ◌≤◌, ◌⊎◌, cond, List, [], ◌∷◌, ◌++◌, length, refl, sym, ap, subst, ◌∙◌, arith, Option, Some, None, Result, IfOk, eqb, slice_get}
 use Rattle.std.specs.declared.cmp.Ordering.{Ordering}
 use Rattle.std.specs.Cmp.{IsTotalOrder}
 use Rattle.std.specs.List.{AllByRecursion}
@@ -15,21 +15,23 @@ use Rattle.bptree_keys.proofs.PieceLemmas.{AllByRecursion-weaker}
 use Rattle.bptree_ascent.specs.Climb.{least_at, Climbs, Risen}
 use Rattle.bptree_shape.specs.Edit.{Edits}
 use Rattle.bptree_shape.specs.Outcome.{Done}
-use Rattle.bptree_rebalancing.specs.ChooseSibling.{ChoosesSibling, node_size, child_size, IsInnerAt, AllInner}
+use Rattle.bptree_rebalancing.specs.ChooseSibling.{ChoosesSibling, node_size, child_size, IsInnerAt, AllInner, NodesBelow}
 use Rattle.bptree_shape.specs.Order.{Chain}
 use Rattle.bptree_shape.specs.Path.{Way}
 use Rattle.bptree_shape.specs.Shape.{inner_keys, inner_children, pairs_at, inner_count, stands, root_least, IsTree}
 use Rattle.bptree_rebalancing.specs.Transfer.{CanGive, Moves, HasEntry}
+use Rattle.bptree_rebalancing.specs.RotateMerge.{AreInnersBeside}
 use Rattle.bptree_ascent.specs.Sums.{HasPlace, PlaceAt}
 use Rattle.bptree_rebalancing.specs.Trim.{ClimbsUnderflow, Sunk}
 use Rattle.bptree_rebalancing.specs.declared.rotate_merge.Sibling.{Sibling}
 use Rattle.bptree_shape.proofs.Agreeing.{stands_le}
-use Rattle.bptree_ascent.proofs.Climbing.{has_place, most, least_most, edits_less}
+use Rattle.bptree_ascent.proofs.Climbing.{climb_on, has_place, stays, most, least_most, edits_less}
 use Rattle.bptree_rebalancing.proofs.ClimbingUnderflow as short
 use Rattle.bptree_rebalancing.proofs.Choosing as choosing
-use Rattle.bptree_rebalancing.proofs.Choosing.{size_read, chain_all, key_of, rotates_so, enough_so, fits_so}
+use Rattle.bptree_rebalancing.proofs.Choosing.{nodes_of_inners, size_read, chain_all, key_of, rotates_so, enough_so, fits_so}
 use Rattle.bptree_rebalancing.proofs.Seated.{Seat, seat_of, seat_size, inner_high}
 use Rattle.bptree_rebalancing.proofs.Transfers.{entry_out}
+use Rattle.bptree_rebalancing.proofs.Triples.{ok_so}
 use Rattle.bptree_shape.proofs.Walk.{chain_length}
 use Rattle.bptree_shape.proofs.Widen.{tree_less, grown_done}
 use Rattle.bptree_shape.proofs.ListReads.{all_read, read_some}
@@ -87,36 +89,20 @@ module _ {K V A : Type 0} {cmp : K → K → Ordering} (total : IsTotalOrder cmp
 
     abbrev pub filled_climbs : Climbs cmp is_summary now path a
     filled_climbs = record {
-      climb = record {
-        old = c.climb.old;
-        edit = c.climb.edit;
-        k = c.climb.k;
-        leaf = c.climb.leaf;
-        turn = c.climb.turn;
-        kept = 16;
-        held_inner = c.climb.held_inner;
-        held_leaf = c.climb.held_leaf;
-        top = c.climb.top;
-        root = c.climb.root;
-        height = c.climb.height;
-        id = c.climb.id;
-        shape = c.climb.shape;
-        few = c.climb.few;
-        local = c.climb.local;
-        way = c.climb.way;
-        edits = filled_edits;
-        free = c.climb.free;
-      };
+      climb = climb_on c.climb c.climb.height c.climb.id 16 c.climb.way filled_edits c.climb.free;
       enough = least_most c.climb.top path;
       told = c.told;
     }
 
-    pub sunk_filled : (new : Slots (Inner K A) (Leaf K V)) (top : A) → Risen filled_climbs.climb new top → Sunk c.climb new top
+    sunk_filled : (new : Slots (Inner K A) (Leaf K V)) (top : A) → Risen filled_climbs.climb new top → Sunk c.climb new top
     sunk_filled new top r = record {
       edits = edits_less is_summary c.climb.edit (root_least c.climb.top) 0 c.climb.old new c.climb.top c.climb.root c.climb.k c.climb.leaf c.climb.turn Done (omega arith) r.edits;
       free = r.free;
       told = r.told;
     }
+
+    pub filled_sinks : {E : Type 0} (new : Slots (Inner K A) (Leaf K V)) (r : Result A E) → IfOk r (λ top. Risen filled_climbs.climb new top) → IfOk r (λ top. Sunk c.climb new top)
+    filled_sinks new r rises = ok_so r (λ top. Risen filled_climbs.climb new top) (λ top. Sunk c.climb new top) rises (sunk_filled new)
 
   -- with no node above, it is the root
   pub sunk_here : path ≡ [] → Sunk c.climb now a
@@ -135,7 +121,7 @@ module _ {K V A : Type 0} {cmp : K → K → Ordering} (total : IsTotalOrder cmp
     node = (short.step total is_summary now now path nid a c rest number i child e).node
 
     pub here : now.inner number.0 ≡ Present node
-    here = short.node_stands total is_summary now now path nid a c rest number i child e
+    here = stays total is_summary now path _ c.climb rest number i child e
 
     pub place : HasPlace node i
     place = has_place total is_summary now path _ c.climb rest number i child e
@@ -234,10 +220,13 @@ module _ {K V A : Type 0} {cmp : K → K → Ordering} (total : IsTotalOrder cmp
   pub inners_there : AllInner now (inner_children (now.inner number.0))
   inners_there = rw at_number (all_inner total is_summary now path nid a c rest number i child e)
 
+  pub nodes_there : NodesBelow now number
+  nodes_there = nodes_of_inners now (inner_children (now.inner number.0)) inners_there
+
   pub long_there : length (inner_children (now.inner number.0)) ≡ length (inner_keys (now.inner number.0)) + 1
   long_there = rw at_number (place total is_summary now path nid a c rest number i child e).children
 
-  pub most_there : length (inner_keys (now.inner number.0)) ≤ 64
+  most_there : length (inner_keys (now.inner number.0)) ≤ 64
   most_there = rw at_number (low total is_summary now path nid a c rest number i child e)
 
   pub fits_there : length (inner_children (now.inner number.0)) ≤ 65
@@ -256,7 +245,7 @@ module _ {K V A : Type 0} {cmp : K → K → Ordering} (total : IsTotalOrder cmp
     pub slot_there : slot + 1 < length (inner_children (now.inner number.0))
     slot_there = rw at_number (omega (arith, within_so, (place total is_summary now path nid a c rest number i child e).children))
 
-    pub entry_at : PlaceAt (now.inner number.0) (slot + 1)
+    entry_at : PlaceAt (now.inner number.0) (slot + 1)
     entry_at = let p = place total is_summary now path nid a c rest number i child e in rw at_number (record { within = omega (arith, within_so); children = p.children; arguments = p.arguments })
 
     pub beside_there : (i ≡ slot) ⊎ (i ≡ suc slot)
@@ -272,11 +261,15 @@ module _ {K V A : Type 0} {cmp : K → K → Ordering} (total : IsTotalOrder cmp
       pub left_there : IsFull now (kind.Inner left)
       left_there = full_at total is_summary now path nid a c rest number i child e slot left left_so
 
-      pub right_there : IsFull now (kind.Inner right)
+      right_there : IsFull now (kind.Inner right)
       right_there = full_at total is_summary now path nid a c rest number i child e (slot + 1) right right_so
 
-      pub apart_there : (left.0 ≡ right.0 → ⊥) × (left.0 ≡ number.0 → ⊥) × (right.0 ≡ number.0 → ⊥)
+      apart_there : (left.0 ≡ right.0 → ⊥) × (left.0 ≡ number.0 → ⊥) × (right.0 ≡ number.0 → ⊥)
       apart_there = apart total is_summary now path nid a c rest number i child e slot left right beside_there within_so left_so right_so
+
+      -- all that a change of the two asks but for their sizes
+      pub siblings_there : AreInnersBeside now slot number left right
+      siblings_there = record { place = entry_at; most = most_there; left_some = omega (arith, left_there.3); right_some = omega (arith, right_there.3); apart = apart_there }
 
       module _ (lacks : length (inner_keys (now.inner nid.0)) < 16) where
         pub rotates_there : (giver : Sibling) → choose_sibling ≡ Some giver → CanGive giver (length (inner_keys (now.inner left.0))) (length (inner_keys (now.inner right.0)))

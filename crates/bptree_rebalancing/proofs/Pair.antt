@@ -17,7 +17,7 @@ use Rattle.bptree_keys.specs.declared.node_id.InnerNodeId.{InnerNodeId}
 use Rattle.bptree_keys.specs.declared.node_id.LeafNodeId.{LeafNodeId}
 use Rattle.bptree_keys.specs.declared.node_id.NodeId.{NodeId}
 use Rattle.bptree_keys.specs.declared.node_id.NodeId.TheVariants as kind
-use Rattle.bptree_shape.specs.Edit.{IsLocal, CanReach, Turn, Spares, SameLinks, Extends, LinksAt, pairs_after, TreeAfter, SummedAfter, Edits}
+use Rattle.bptree_shape.specs.Edit.{IsLocal, CanReach, Turn, Spares, SameLinks, Extends, LinksAt, pairs_after, leaf_count_after, inner_count_after, TreeAfter, SummedAfter, Edits}
 use Rattle.bptree_rebalancing.specs.Rebalance.{RebalancesPair}
 use Rattle.bptree_shape.specs.Order.{flat, total, Within, Between, Chain, Leads}
 use Rattle.bptree_shape.specs.Outcome.{Outcome, Done, Split}
@@ -400,6 +400,32 @@ module _ {K V A : Type 0} {cmp : K → K → Ordering} (total' : IsTotalOrder cm
     pub order_after_two : flat (leaves_at after m) (insert bare.children (suc slot) right) ≡ flat (leaves_at old m) (take slot bare.children) ++ ((leaves_at after m left ++ leaves_at after m right) ++ flat (leaves_at old m) (drop (suc slot) bare.children))
     order_after_two = flat_around_two (leaves_at old m) (leaves_at after m) bare.children slot child right below (but_so _ _ (λ c x. x.order) bare.children slot (others_after outcome rebalances))
 
+    -- what all children count then, by what the others do and what came of the two
+    leaves_so : (x there : ℕ) → there + leaf_count old m left x ≡ total (λ c. leaf_count old m c x) bare.children + leaf_count_after after m left outcome x → there + stands (old.leaf x) ≡ total (λ c. leaf_count old m c x) node.children + stands (after.leaf x)
+    leaves_so x there e = omega (arith, e, leaves_now outcome rebalances x, grown outcome rebalances x, count_leaves_now x, rebalances.leaves x)
+
+    inners_so : (x there : ℕ) → (x ≡ id.0 → ⊥) → there + inner_count old m left x ≡ total (λ c. inner_count old m c x) bare.children + inner_count_after after m left outcome x → there + stands (old.inner x) ≡ total (λ c. inner_count old m c x) node.children + stands (after.inner x)
+    inners_so x there far e = omega (arith, e, inners_now outcome rebalances x, grown_inners outcome rebalances x, count_inners_now x, rebalances.inners x far)
+
+    none_above : (there : ℕ) → there + inner_count old m left id.0 ≡ total (λ c. inner_count old m c id.0) bare.children + inner_count_after after m left outcome id.0 → there ≡ 0
+    none_above there e =
+        let own_one = rw (eq-eqb id.0 id.0 refl) at (own_inner id.0) in
+        omega (arith, e, own_one, stands_le (old.inner id.0), in_total (λ c. inner_count old m c id.0) bare.children slot child below, rebalances.above)
+
+  -- and with the node itself, which stands as before
+  with_own : (at : Inner K A) → after.inner id.0 ≡ Present at → (there : ℕ → ℕ) → there id.0 ≡ 0 → ((x : ℕ) → (x ≡ id.0 → ⊥) → there x + stands (old.inner x) ≡ total (λ c. inner_count old m c x) node.children + stands (after.inner x))
+      → (x : ℕ) → (cond (eqb id.0 x) 1 0 + there x) + stands (old.inner x) ≡ (cond (eqb id.0 x) 1 0 + total (λ c. inner_count old m c x) node.children) + stands (after.inner x)
+  with_own at here there none so x =
+      elim (eqb_tells id.0 x) [
+        | inl h ↦ (rw h.0 (let own_one = rw (eq-eqb id.0 id.0 refl) at (own_inner id.0) in
+            let z : stands (after.inner x) ≡ 1 = ap (λ n. stands (after.inner n)) (sym h.1) ∙ ap stands here in
+            let y : stands (old.inner x) ≡ 1 = ap (λ n. stands (old.inner n)) (sym h.1) ∙ ap stands is in
+            let gone : there x ≡ 0 = subst (λ n. there n ≡ 0) h.1 none in
+            let none_old : total (λ c. inner_count old m c x) node.children ≡ 0 = subst (λ n. total (λ c. inner_count old m c n) node.children ≡ 0) h.1 (omega (arith, own_one, stands_le (old.inner id.0), count_inners_old id.0)) in
+            omega arith))
+        | inr h ↦ (rw h.0 (omega (arith, so x (λ q. h.1 (sym q)))))
+      ]
+
   -- the two merged
   module _ (both : A) (rebalances : RebalancesPair cmp is_summary now after m id.0 left s right Done) (here : after.inner id.0 ≡ Present (with_summary bare slot both)) (told : is_summary both (keys_of (pairs_at after m left)))
       (most : ℕ) (low : most ≤ length bare.keys) (leaf' : LeafNodeId) (turn' : Turn) (ordered : Ordered Done rebalances leaf' turn' bare.children) where
@@ -409,37 +435,13 @@ module _ {K V A : Type 0} {cmp : K → K → Ordering} (total' : IsTotalOrder cm
         (but_so _ _ (λ c x a b. x.tree 16 a b) bare.children slot (others_after Done rebalances)) (leads_here Done rebalances) beside w (pair_after Done rebalances)
 
     merged_leaves : (x : ℕ) → total (λ c. leaf_count after m c x) bare.children + stands (old.leaf x) ≡ total (λ c. leaf_count old m c x) node.children + stands (after.leaf x)
-    merged_leaves x = omega (
-      arith,
-      total_around (λ c. leaf_count old m c x) (λ c. leaf_count after m c x) bare.children slot child below (but_so _ _ (λ c y. y.leaves x) bare.children slot (others_after Done rebalances)),
-      leaves_now Done rebalances x,
-      grown Done rebalances x,
-      count_leaves_now x,
-      rebalances.leaves x,
-    )
+    merged_leaves x = leaves_so Done rebalances x _ (total_around (λ c. leaf_count old m c x) (λ c. leaf_count after m c x) bare.children slot child below (but_so _ _ (λ c y. y.leaves x) bare.children slot (others_after Done rebalances)))
 
     merged_inners : (x : ℕ) → (x ≡ id.0 → ⊥) → total (λ c. inner_count after m c x) bare.children + stands (old.inner x) ≡ total (λ c. inner_count old m c x) node.children + stands (after.inner x)
-    merged_inners x far = omega (
-      arith,
-      total_around (λ c. inner_count old m c x) (λ c. inner_count after m c x) bare.children slot child below (but_so _ _ (λ c y. y.inners x) bare.children slot (others_after Done rebalances)),
-      inners_now Done rebalances x,
-      grown_inners Done rebalances x,
-      count_inners_now x,
-      rebalances.inners x far,
-    )
+    merged_inners x far = inners_so Done rebalances x _ far (total_around (λ c. inner_count old m c x) (λ c. inner_count after m c x) bare.children slot child below (but_so _ _ (λ c y. y.inners x) bare.children slot (others_after Done rebalances)))
 
     merged_above : total (λ c. inner_count after m c id.0) bare.children ≡ 0
-    merged_above =
-        let o = own_inner id.0 in
-        let own_one = rw (eq-eqb id.0 id.0 refl) at o in
-        omega (
-          arith,
-          own_one,
-          stands_le (old.inner id.0),
-          total_around (λ c. inner_count old m c id.0) (λ c. inner_count after m c id.0) bare.children slot child below (but_so _ _ (λ c y. y.inners id.0) bare.children slot (others_after Done rebalances)),
-          in_total (λ c. inner_count old m c id.0) bare.children slot child below,
-          rebalances.above,
-        )
+    merged_above = none_above Done rebalances _ (total_around (λ c. inner_count old m c id.0) (λ c. inner_count after m c id.0) bare.children slot child below (but_so _ _ (λ c y. y.inners id.0) bare.children slot (others_after Done rebalances)))
 
     pub node_merged : Edits cmp is_summary edit most old after (suc m) (kind.Inner id) k leaf' turn' Done
     node_merged = record {
@@ -451,16 +453,7 @@ module _ {K V A : Type 0} {cmp : K → K → Ordering} (total' : IsTotalOrder cm
           ∙ (ap (λ l. flat (pairs_at old m) (take slot bare.children) ++ (l ++ flat (pairs_at old m) (drop (suc slot) bare.children))) rebalances.pairs
           ∙ (sym (pairs_unmerged Done rebalances) ∙ pairs_now Done rebalances)));
       leaves = λ x. rw (here, is) (merged_leaves x);
-      inners = λ x. rw (here, is)
-          (elim (eqb_tells id.0 x) [
-            | inl h ↦ (rw h.0 (let o = own_inner id.0 in let own_one = rw (eq-eqb id.0 id.0 refl) at o in
-                let z : stands (after.inner x) ≡ 1 = ap (λ n. stands (after.inner n)) (sym h.1) ∙ ap stands here in
-                let y : stands (old.inner x) ≡ 1 = ap (λ n. stands (old.inner n)) (sym h.1) ∙ ap stands is in
-                let none : total (λ c. inner_count after m c x) bare.children ≡ 0 = subst (λ n. total (λ c. inner_count after m c n) bare.children ≡ 0) h.1 merged_above in
-                let none_old : total (λ c. inner_count old m c x) node.children ≡ 0 = subst (λ n. total (λ c. inner_count old m c n) node.children ≡ 0) h.1 (omega (arith, own_one, stands_le (old.inner id.0), count_inners_old id.0)) in
-                omega arith))
-            | inr h ↦ (rw h.0 (omega (arith, merged_inners x (λ q. h.1 (sym q)))))
-          ]);
+      inners = λ x. rw (here, is) (with_own (with_summary bare slot both) here (λ n. total (λ c. inner_count after m c n) bare.children) merged_above merged_inners x);
       other_leaves = kept_leaf Done rebalances;
       other_inners = kept_inner Done rebalances;
       order = rw (here, is) ordered.order;
@@ -487,37 +480,13 @@ module _ {K V A : Type 0} {cmp : K → K → Ordering} (total' : IsTotalOrder cm
         (but_so _ _ (λ c x a b. x.tree 16 a b) bare.children slot (others_after (Split up right) rebalances)) (leads_here (Split up right) rebalances) beside w (pair_after (Split up right) rebalances)
 
     rotated_leaves : (x : ℕ) → total (λ c. leaf_count after m c x) (insert bare.children (suc slot) right) + stands (old.leaf x) ≡ total (λ c. leaf_count old m c x) node.children + stands (after.leaf x)
-    rotated_leaves x = omega (
-      arith,
-      total_around_two (λ c. leaf_count old m c x) (λ c. leaf_count after m c x) bare.children slot child right below (but_so _ _ (λ c y. y.leaves x) bare.children slot (others_after (Split up right) rebalances)),
-      leaves_now (Split up right) rebalances x,
-      grown (Split up right) rebalances x,
-      count_leaves_now x,
-      rebalances.leaves x,
-    )
+    rotated_leaves x = leaves_so (Split up right) rebalances x _ (total_around_two (λ c. leaf_count old m c x) (λ c. leaf_count after m c x) bare.children slot child right below (but_so _ _ (λ c y. y.leaves x) bare.children slot (others_after (Split up right) rebalances)))
 
     rotated_inners : (x : ℕ) → (x ≡ id.0 → ⊥) → total (λ c. inner_count after m c x) (insert bare.children (suc slot) right) + stands (old.inner x) ≡ total (λ c. inner_count old m c x) node.children + stands (after.inner x)
-    rotated_inners x far = omega (
-      arith,
-      total_around_two (λ c. inner_count old m c x) (λ c. inner_count after m c x) bare.children slot child right below (but_so _ _ (λ c y. y.inners x) bare.children slot (others_after (Split up right) rebalances)),
-      inners_now (Split up right) rebalances x,
-      grown_inners (Split up right) rebalances x,
-      count_inners_now x,
-      rebalances.inners x far,
-    )
+    rotated_inners x far = inners_so (Split up right) rebalances x _ far (total_around_two (λ c. inner_count old m c x) (λ c. inner_count after m c x) bare.children slot child right below (but_so _ _ (λ c y. y.inners x) bare.children slot (others_after (Split up right) rebalances)))
 
     rotated_above : total (λ c. inner_count after m c id.0) (insert bare.children (suc slot) right) ≡ 0
-    rotated_above =
-        let o = own_inner id.0 in
-        let own_one = rw (eq-eqb id.0 id.0 refl) at o in
-        omega (
-          arith,
-          own_one,
-          stands_le (old.inner id.0),
-          total_around_two (λ c. inner_count old m c id.0) (λ c. inner_count after m c id.0) bare.children slot child right below (but_so _ _ (λ c y. y.inners id.0) bare.children slot (others_after (Split up right) rebalances)),
-          in_total (λ c. inner_count old m c id.0) bare.children slot child below,
-          rebalances.above,
-        )
+    rotated_above = none_above (Split up right) rebalances _ (total_around_two (λ c. inner_count old m c id.0) (λ c. inner_count after m c id.0) bare.children slot child right below (but_so _ _ (λ c y. y.inners id.0) bare.children slot (others_after (Split up right) rebalances)))
 
     pub node_rotated : Edits cmp is_summary edit most old after (suc m) (kind.Inner id) k leaf' turn' Done
     node_rotated = record {
@@ -530,16 +499,7 @@ module _ {K V A : Type 0} {cmp : K → K → Ordering} (total' : IsTotalOrder cm
           ∙ (ap (λ l. flat (pairs_at old m) (take slot bare.children) ++ (l ++ flat (pairs_at old m) (drop (suc slot) bare.children))) rebalances.pairs
           ∙ (sym (pairs_unmerged (Split up right) rebalances) ∙ pairs_now (Split up right) rebalances)));
       leaves = λ x. rw (here_is, is) (rotated_leaves x);
-      inners = λ x. rw (here_is, is)
-          (elim (eqb_tells id.0 x) [
-            | inl h ↦ (rw h.0 (let o = own_inner id.0 in let own_one = rw (eq-eqb id.0 id.0 refl) at o in
-                let z : stands (after.inner x) ≡ 1 = ap (λ n. stands (after.inner n)) (sym h.1) ∙ ap stands here in
-                let y : stands (old.inner x) ≡ 1 = ap (λ n. stands (old.inner n)) (sym h.1) ∙ ap stands is in
-                let none : total (λ c. inner_count after m c x) (insert bare.children (suc slot) right) ≡ 0 = subst (λ n. total (λ c. inner_count after m c n) (insert bare.children (suc slot) right) ≡ 0) h.1 rotated_above in
-                let none_old : total (λ c. inner_count old m c x) node.children ≡ 0 = subst (λ n. total (λ c. inner_count old m c n) node.children ≡ 0) h.1 (omega (arith, own_one, stands_le (old.inner id.0), count_inners_old id.0)) in
-                omega arith))
-            | inr h ↦ (rw h.0 (omega (arith, rotated_inners x (λ q. h.1 (sym q)))))
-          ]);
+      inners = λ x. rw (here_is, is) (with_own (with_split bare slot l up right r) here (λ n. total (λ c. inner_count after m c n) (insert bare.children (suc slot) right)) rotated_above rotated_inners x);
       other_leaves = kept_leaf (Split up right) rebalances;
       other_inners = kept_inner (Split up right) rebalances;
       order = rw (here_is, is) ordered.order;

@@ -30,7 +30,7 @@ use Rattle.bptree_shape.proofs.Frame.{Same, same}
 use Rattle.bptree_ascent.proofs.Lift.{links_moved}
 use Rattle.bptree_rebalancing.proofs.RebalanceInner as relink_next
 use Rattle.bptree_rebalancing.proofs.InnerUnderflow as spot
-use Rattle.bptree_ascent.proofs.Undone.{same_node}
+use Rattle.bptree_rebalancing.proofs.Transfers.{entry_of}
 
 -- an edit is what it was once a held number that it does not reach is let go
 pub edits_released : {K V A : Type 0} {cmp : K → K → Ordering} (is_summary : A → List K → Type 0) (edit : List (K × V) → List (K × V)) (kept : ℕ) (old new final : Slots (Inner K A) (Leaf K V)) (h : ℕ) (root : NodeId) (k : K) (leaf : LeafNodeId) (turn : Turn) (right : InnerNodeId)
@@ -72,39 +72,36 @@ module _ {K V A : Type 0} {cmp : K → K → Ordering} (total : IsTotalOrder cmp
   abbrev pub node : Inner K A
   node = (short.step total is_summary now after path nid a c rest number i child e).node
 
+  abbrev pub high : (m : ℕ) × (c.climb.height ≡ suc m)
+  high = short.high total is_summary now after path nid a c rest number i child e
+
   module _ (read_left : slice_get node.children slot ≡ Some (kind.Inner left)) (read_right : slice_get node.children (slot + 1) ≡ Some (kind.Inner right)) (sides : Sides A) where
     -- two that merged
     module _ (emptied : Inner K A) (j : MergesInnersAt cmp is_summary slot now after number left right sides emptied) where
-      pub j_same : node ≡ j.node
-      j_same = same_node (now.inner number.0) node j.node (short.node_stands total is_summary now after path nid a c rest number i child e) j.at_node
-
       pub j_entry : HasEntry node j.transfers.bare slot j.transfers.separator j.transfers.child sides.right
-      j_entry = subst (λ n. HasEntry n j.transfers.bare slot j.transfers.separator j.transfers.child sides.right) (sym j_same) j.transfers.entry
-
-      abbrev pub j_high : (m : ℕ) × (c.climb.height ≡ suc m)
-      j_high = short.high total is_summary now after path nid a c rest number i child e
+      j_entry = entry_of (now.inner number.0) node j.three.node (spot.here total is_summary now path nid a c rest number i child e) j.three.at_node j.transfers.entry
 
       pub merge_rebalances : RebalancesPair cmp is_summary now after c.climb.height number.0 (kind.Inner left) j.transfers.separator (kind.Inner right) Done
       merge_rebalances =
-          subst (λ n. RebalancesPair cmp is_summary now after n number.0 (kind.Inner left) j.transfers.separator (kind.Inner right) Done) (sym j_high.1)
-          (relink_next.inners_merged total is_summary now after j_high.0 number left right j.one j.other j.one' j.transfers.separator j.at_left j.at_right j.is_left j.inners j.leaf j.apart
-          (short.own_high total is_summary now after path nid a c rest number i child e slot left right j.transfers.bare j.transfers.child j.transfers.separator sides.right j_entry beside read_left read_right) emptied j.is_right j.transfers.nodes j.fits)
+          subst (λ n. RebalancesPair cmp is_summary now after n number.0 (kind.Inner left) j.transfers.separator (kind.Inner right) Done) (sym high.1)
+          (relink_next.inners_merged total is_summary now after high.0 number left right j.three.one j.three.other j.three.one' j.transfers.separator j.three.at_left j.three.at_right j.three.is_left j.inners j.leaf (j.three.apart, j.far.0, j.far.1)
+          (short.own_high total is_summary now after path nid a c rest number i child e slot left right j.transfers.bare j.transfers.child j.transfers.separator sides.right j_entry beside read_left read_right) emptied j.three.is_right j.transfers.nodes j.fits)
 
       pub j_order : leaves_at after c.climb.height (kind.Inner left) ≡ leaves_at now c.climb.height (kind.Inner left) ++ leaves_at now c.climb.height (kind.Inner right)
       j_order =
-          subst (λ n. leaves_at after n (kind.Inner left) ≡ leaves_at now n (kind.Inner left) ++ leaves_at now n (kind.Inner right)) (sym j_high.1)
-          (relink_next.order_merged total is_summary now after j_high.0 number left right j.one j.other j.one' j.transfers.separator j.at_left j.at_right j.is_left j.inners j.leaf j.apart
-          (short.own_high total is_summary now after path nid a c rest number i child e slot left right j.transfers.bare j.transfers.child j.transfers.separator sides.right j_entry beside read_left read_right) emptied j.is_right j.transfers.nodes j.fits)
+          subst (λ n. leaves_at after n (kind.Inner left) ≡ leaves_at now n (kind.Inner left) ++ leaves_at now n (kind.Inner right)) (sym high.1)
+          (relink_next.order_merged total is_summary now after high.0 number left right j.three.one j.three.other j.three.one' j.transfers.separator j.three.at_left j.three.at_right j.three.is_left j.inners j.leaf (j.three.apart, j.far.0, j.far.1)
+          (short.own_high total is_summary now after path nid a c rest number i child e slot left right j.transfers.bare j.transfers.child j.transfers.separator sides.right j_entry beside read_left read_right) emptied j.three.is_right j.transfers.nodes j.fits)
 
       pub j_held : HeldAre (λ n. cond (eqb right.0 n) true (c.climb.held_inner n)) c.climb.held_leaf after
       j_held = record {
         inners = λ n.
             elim (eqb_tells right.0 n) [
-              | inl q ↦ (rw q.0 (ap (λ m. is_held (after.inner m)) (sym q.1) ∙ ap is_held j.is_right))
+              | inl q ↦ (rw q.0 (ap (λ m. is_held (after.inner m)) (sym q.1) ∙ ap is_held j.three.is_right))
               | inr far ↦ (rw far.0 (elim (cases_eq n number.0) [
-                | inl q ↦ (rw q (ap is_held j.is_node ∙ (sym (ap is_held j.at_node) ∙ c.climb.free.inners number.0)))
+                | inl q ↦ (rw q (ap is_held j.three.is_node ∙ (sym (ap is_held j.three.at_node) ∙ c.climb.free.inners number.0)))
                 | inr apart ↦ elim (cases_eq n left.0) [
-                  | inl q ↦ (rw q (ap is_held j.is_left ∙ (sym (ap is_held j.at_left) ∙ c.climb.free.inners left.0)))
+                  | inl q ↦ (rw q (ap is_held j.three.is_left ∙ (sym (ap is_held j.three.at_left) ∙ c.climb.free.inners left.0)))
                   | inr l ↦ ap is_held (j.inners n apart l (λ z. far.1 (sym z))) ∙ c.climb.free.inners n
                 ]
               ]))
@@ -115,8 +112,8 @@ module _ {K V A : Type 0} {cmp : K → K → Ordering} (total : IsTotalOrder cmp
       abbrev pub merged_climbs : (above : A) → SumsUpAt cmp is_summary (after.inner number.0) above → ClimbsUnderflow cmp is_summary after rest number above
       merged_climbs above sums =
           short.climbs_merged total is_summary now after path nid a c rest number i child e slot left right j.transfers.bare j.transfers.child j.transfers.separator sides.right j_entry beside read_left read_right j.leaf
-          j.transfers.merges.both merge_rebalances j_order (j.is_node ∙ ap Present j.transfers.merges.is)
-          (short.told_merged total is_summary now after path nid a c rest number i child e slot left right j.transfers.bare j.transfers.child j.transfers.separator sides.right j_entry beside read_left read_right j.leaf j.transfers.merges.both merge_rebalances (rw j.is_left j.transfers.merges.told_both)) j_held above sums
+          j.transfers.merges.both merge_rebalances j_order (j.three.is_node ∙ ap Present j.transfers.merges.is)
+          (short.told_merged total is_summary now after path nid a c rest number i child e slot left right j.transfers.bare j.transfers.child j.transfers.separator sides.right j_entry beside read_left read_right j.leaf j.transfers.merges.both merge_rebalances (rw j.three.is_left j.transfers.merges.told_both)) j_held above sums
 
       -- and the number of the one that is gone is let go
       module _ (above : A) (sums : SumsUpAt cmp is_summary (after.inner number.0) above) (new : Slots (Inner K A) (Leaf K V)) (top : A) (sunk : Sunk (merged_climbs above sums).climb new top) where
@@ -140,43 +137,37 @@ module _ {K V A : Type 0} {cmp : K → K → Ordering} (total : IsTotalOrder cmp
             }
 
         pub right_was_not : c.climb.held_inner right.0 ≡ false
-        right_was_not = sym (c.climb.free.inners right.0) ∙ ap is_held j.at_right
+        right_was_not = sym (c.climb.free.inners right.0) ∙ ap is_held j.three.at_right
 
     -- two of which one rotated to the other
-    module _ (giver : Sibling) (l : RotatesInnersAt cmp is_summary slot now after number giver left right sides) (least : (16 ≤ length l.one'.keys) × (16 ≤ length l.other'.keys)) where
-      pub l_same : node ≡ l.node
-      l_same = same_node (now.inner number.0) node l.node (short.node_stands total is_summary now after path nid a c rest number i child e) l.at_node
-
+    module _ (giver : Sibling) (l : RotatesInnersAt cmp is_summary slot now after number giver left right sides) (least : (16 ≤ length l.three.one'.keys) × (16 ≤ length l.other'.keys)) where
       pub l_entry : HasEntry node l.transfers.bare slot l.transfers.separator l.transfers.child sides.right
-      l_entry = subst (λ n. HasEntry n l.transfers.bare slot l.transfers.separator l.transfers.child sides.right) (sym l_same) l.transfers.entry
-
-      abbrev pub l_high : (m : ℕ) × (c.climb.height ≡ suc m)
-      l_high = short.high total is_summary now after path nid a c rest number i child e
+      l_entry = entry_of (now.inner number.0) node l.three.node (spot.here total is_summary now path nid a c rest number i child e) l.three.at_node l.transfers.entry
 
       pub l_given : l.transfers.child ≡ kind.Inner right
       l_given = short.given_is total is_summary now after path nid a c rest number i child e slot left right l.transfers.bare l.transfers.child l.transfers.separator sides.right l_entry beside read_left read_right
 
       pub left_rebalances : RebalancesPair cmp is_summary now after c.climb.height number.0 (kind.Inner left) l.transfers.separator (kind.Inner right) (Split l.transfers.up (kind.Inner right))
       left_rebalances =
-          subst (λ n. RebalancesPair cmp is_summary now after n number.0 (kind.Inner left) l.transfers.separator (kind.Inner right) (Split l.transfers.up (kind.Inner right))) (sym l_high.1)
-          (relink_next.inners_rotated total is_summary now after l_high.0 number left right l.one l.other l.one' l.transfers.separator l.at_left l.at_right l.is_left l.inners l.leaf l.apart
-          (short.own_high total is_summary now after path nid a c rest number i child e slot left right l.transfers.bare l.transfers.child l.transfers.separator sides.right l_entry beside read_left read_right) giver l.other' l.transfers.up l.is_right l.transfers.moves least)
+          subst (λ n. RebalancesPair cmp is_summary now after n number.0 (kind.Inner left) l.transfers.separator (kind.Inner right) (Split l.transfers.up (kind.Inner right))) (sym high.1)
+          (relink_next.inners_rotated total is_summary now after high.0 number left right l.three.one l.three.other l.three.one' l.transfers.separator l.three.at_left l.three.at_right l.three.is_left l.inners l.leaf (l.three.apart, l.far.0, l.far.1)
+          (short.own_high total is_summary now after path nid a c rest number i child e slot left right l.transfers.bare l.transfers.child l.transfers.separator sides.right l_entry beside read_left read_right) giver l.other' l.transfers.up l.three.is_right l.transfers.moves least)
 
       pub l_order : leaves_at after c.climb.height (kind.Inner left) ++ leaves_at after c.climb.height (kind.Inner right) ≡ leaves_at now c.climb.height (kind.Inner left) ++ leaves_at now c.climb.height (kind.Inner right)
       l_order =
-          subst (λ n. leaves_at after n (kind.Inner left) ++ leaves_at after n (kind.Inner right) ≡ leaves_at now n (kind.Inner left) ++ leaves_at now n (kind.Inner right)) (sym l_high.1)
-          (relink_next.order_rotated total is_summary now after l_high.0 number left right l.one l.other l.one' l.transfers.separator l.at_left l.at_right l.is_left l.inners l.leaf l.apart
-          (short.own_high total is_summary now after path nid a c rest number i child e slot left right l.transfers.bare l.transfers.child l.transfers.separator sides.right l_entry beside read_left read_right) giver l.other' l.transfers.up l.is_right l.transfers.moves least)
+          subst (λ n. leaves_at after n (kind.Inner left) ++ leaves_at after n (kind.Inner right) ≡ leaves_at now n (kind.Inner left) ++ leaves_at now n (kind.Inner right)) (sym high.1)
+          (relink_next.order_rotated total is_summary now after high.0 number left right l.three.one l.three.other l.three.one' l.transfers.separator l.three.at_left l.three.at_right l.three.is_left l.inners l.leaf (l.three.apart, l.far.0, l.far.1)
+          (short.own_high total is_summary now after path nid a c rest number i child e slot left right l.transfers.bare l.transfers.child l.transfers.separator sides.right l_entry beside read_left read_right) giver l.other' l.transfers.up l.three.is_right l.transfers.moves least)
 
       pub l_held : HeldAre c.climb.held_inner c.climb.held_leaf after
       l_held = record {
         inners = λ n.
             elim (cases_eq n number.0) [
-              | inl q ↦ (rw q (ap is_held l.is_node ∙ (sym (ap is_held l.at_node) ∙ c.climb.free.inners number.0)))
+              | inl q ↦ (rw q (ap is_held l.three.is_node ∙ (sym (ap is_held l.three.at_node) ∙ c.climb.free.inners number.0)))
               | inr far ↦ elim (cases_eq n left.0) [
-                | inl q ↦ (rw q (ap is_held l.is_left ∙ (sym (ap is_held l.at_left) ∙ c.climb.free.inners left.0)))
+                | inl q ↦ (rw q (ap is_held l.three.is_left ∙ (sym (ap is_held l.three.at_left) ∙ c.climb.free.inners left.0)))
                 | inr x ↦ elim (cases_eq n right.0) [
-                  | inl q ↦ (rw q (ap is_held l.is_right ∙ (sym (ap is_held l.at_right) ∙ c.climb.free.inners right.0)))
+                  | inl q ↦ (rw q (ap is_held l.three.is_right ∙ (sym (ap is_held l.three.at_right) ∙ c.climb.free.inners right.0)))
                   | inr y ↦ ap is_held (l.inners n far x y) ∙ c.climb.free.inners n
                 ]
               ]
@@ -187,13 +178,13 @@ module _ {K V A : Type 0} {cmp : K → K → Ordering} (total : IsTotalOrder cmp
       pub l_told : is_summary l.transfers.rotates.left (keys_of (pairs_at after c.climb.height (kind.Inner left))) × is_summary l.transfers.rotates.right (keys_of (pairs_at after c.climb.height (kind.Inner right)))
       l_told =
           short.told_rotated total is_summary now after path nid a c rest number i child e slot left right l.transfers.bare l.transfers.child l.transfers.separator sides.right l_entry beside read_left read_right l.leaf
-          l.transfers.rotates.left l.transfers.rotates.right l.transfers.up left_rebalances (rw l.is_left l.transfers.rotates.told_left) (rw l.is_right l.transfers.rotates.told_right)
+          l.transfers.rotates.left l.transfers.rotates.right l.transfers.up left_rebalances (rw l.three.is_left l.transfers.rotates.told_left) (rw l.three.is_right l.transfers.rotates.told_right)
 
       abbrev pub rotated_climbs : (above : A) → SumsUpAt cmp is_summary (after.inner number.0) above → Climbs cmp is_summary after rest above
       rotated_climbs above sums =
           short.climbs_rotated total is_summary now after path nid a c rest number i child e slot left right l.transfers.bare l.transfers.child l.transfers.separator sides.right l_entry beside read_left read_right l.leaf
           l.transfers.rotates.left l.transfers.rotates.right l.transfers.up left_rebalances l_order
-          (l.is_node ∙ ap Present (l.transfers.rotates.is ∙ (ap (λ x. with_split l.transfers.bare slot l.transfers.rotates.left x l.transfers.child l.transfers.rotates.right) l.transfers.rotates.separates ∙ ap (λ x. with_split l.transfers.bare slot l.transfers.rotates.left l.transfers.up x l.transfers.rotates.right) l_given))) l_told.0 l_told.1 l_held above sums
+          (l.three.is_node ∙ ap Present (l.transfers.rotates.is ∙ (ap (λ x. with_split l.transfers.bare slot l.transfers.rotates.left x l.transfers.child l.transfers.rotates.right) l.transfers.rotates.separates ∙ ap (λ x. with_split l.transfers.bare slot l.transfers.rotates.left l.transfers.up x l.transfers.rotates.right) l_given))) l_told.0 l_told.1 l_held above sums
 
       pub sunk_rotated : (above : A) (sums : SumsUpAt cmp is_summary (after.inner number.0) above) (new : Slots (Inner K A) (Leaf K V)) (top : A) → Risen (rotated_climbs above sums).climb new top → Sunk c.climb new top
       sunk_rotated above sums new top r = record {
@@ -233,8 +224,8 @@ module _ {K V A : Type 0} {cmp : K → K → Ordering} (total : IsTotalOrder cmp
 
     -- where the one rotated a child to the other
     module _ (lacks : length (inner_keys (now.inner nid.0)) < 16) (giver : Sibling) (same : choose_sibling ≡ Some giver) (l : RotatesInnersAt cmp is_summary slot now after number giver left right sides) (above : A) (sums : SumsUpAt cmp is_summary (after.inner number.0) above) where
-      pub least_so : (16 ≤ length l.one'.keys) × (16 ≤ length l.other'.keys)
-      least_so = spot.enough_there total c rest number i child e slot choose_sibling chosen left right read_left read_right lacks giver (length l.one'.keys) (length l.other'.keys) same (rw (l.at_left, l.at_right) l.transfers.moves.sizes)
+      pub least_so : (16 ≤ length l.three.one'.keys) × (16 ≤ length l.other'.keys)
+      least_so = spot.enough_there total c rest number i child e slot choose_sibling chosen left right read_left read_right lacks giver (length l.three.one'.keys) (length l.other'.keys) same (rw (l.three.at_left, l.three.at_right) l.transfers.moves.sizes)
 
       abbrev pub rotated : Climbs cmp is_summary after rest above
       rotated = rotated_climbs total is_summary now after path nid a c rest number i child e slot left right beside_so left_so right_so sides giver l least_so above sums

@@ -1,12 +1,14 @@
 -- Two siblings rotate or merge, and what undoes that.
-use Rattle.std.proofs.Common.{◌≡◌, ℕ, zero, suc, ◌+◌, ◌-◌, ◌<◌, ◌≤◌, List, [], ◌∷◌, ◌++◌, length, take, drop, refl, sym, ap, ◌∙◌, arith, Some, slice_get, slice_set, length-append}
+use Rattle.std.proofs.Common.{◌≡◌, ℕ, zero, suc, ◌+◌, ◌-◌, ◌<◌, ◌≤◌, List, [], ◌∷◌, ◌++◌, length, take, drop, refl, sym, ap, subst, ◌∙◌, arith, Option, Some, slice_get, slice_set, length-append}
 use Rattle.std.specs.declared.cmp.Ordering.{Ordering}
 use Rattle.std.specs.List.{insert, remove}
 use Rattle.std.proofs.lemmas.List.{take_at, drop_at}
 use Rattle.std.proofs.lemmas.List.Edits.{length-remove}
+use Rattle.bptree_keys.specs.declared.node_id.LeafNodeId.{LeafNodeId}
 use Rattle.bptree_keys.specs.declared.node_id.NodeId.{NodeId}
 use Rattle.bptree_nodes.specs.Inner.{Inner, with_entry, without_entry, first_children, later_children}
 use Rattle.bptree_nodes.specs.Leaf.{Leaf}
+use Rattle.bptree_nodes.specs.Slot.{Slot, Present}
 use Rattle.bptree_rebalancing.specs.Transfer.{other_of, CanGive, Moves, MovesPair, MovesChild, MergesLeaf, MergesInner, HasEntry, Rotates, Merges}
 use Rattle.bptree_ascent.specs.Sums.{HasPlace}
 use Rattle.bptree_ascent.specs.declared.node_changes.Division.{Division}
@@ -14,6 +16,7 @@ use Rattle.bptree_rebalancing.specs.declared.rotate_merge.Sibling.{Sibling}
 use Rattle.bptree_rebalancing.specs.declared.rotate_merge.Sibling.TheVariants.{Left, Right}
 use Rattle.bptree_rebalancing.proofs.Choosing.{inserted_is}
 use Rattle.bptree_shape.proofs.ListReads.{read_below}
+use Rattle.bptree_ascent.proofs.Undone.{same_node}
 use Rattle.bptree_ascent.proofs.NodeChanges.{entry_back, sum_back, place_below}
 
 module _ {X : Type 0} where
@@ -59,6 +62,10 @@ module _ {K V : Type 0} where
         leaf_same e a parts.0 (ap (λ (l : Leaf K V). l.prev) back.left_links ∙ ap (λ (l : Leaf K V). l.prev) there.left_links) (ap (λ (l : Leaf K V). l.next) back.left_links ∙ ap (λ (l : Leaf K V). l.next) there.left_links),
         leaf_same f b parts.1 (ap (λ (l : Leaf K V). l.prev) back.right_links ∙ ap (λ (l : Leaf K V). l.prev) there.right_links) (ap (λ (l : Leaf K V). l.next) back.right_links ∙ ap (λ (l : Leaf K V). l.next) there.right_links),
       )
+
+  -- a leaf that is cut back, and relinked
+  pub leaf_cut : (c given back : Leaf K V) (kept : ℕ) (next was : Option LeafNodeId) → given ≡ record c { pairs = take kept c.pairs } → back ≡ record given { next = next } → next ≡ was → back ≡ record c { pairs = take kept c.pairs; next = was }
+  leaf_cut c given back kept next was cut linked same = linked ∙ rw (cut, same) refl
 
   -- the undo of two leaves that merged
   pub leaves_unmerged : (a b c d e f : Leaf K V) (kept : ℕ) → MergesLeaf a b c d → kept ≡ length a.pairs → e ≡ record c { pairs = take kept c.pairs; next = a.next } → f ≡ record d { pairs = drop kept c.pairs } → (e ≡ a) × (f ≡ b)
@@ -120,9 +127,15 @@ module _ {K A : Type 0} where
         is = node_same node (with_entry (without_entry node slot) slot s child a) (sym (insert_removed node.keys slot s key)) (sym (insert_removed node.children (slot + 1) child at)) (sym (insert_removed node.arguments (slot + 1) a told));
       })
 
+  -- an entry of the node that stands somewhere
+  pub entry_of : {bare : Inner K A} {slot : ℕ} {s : K} {child : NodeId} {a : A} (there : Slot (Inner K A)) (node was : Inner K A) → there ≡ Present node → there ≡ Present was → HasEntry was bare slot s child a → HasEntry node bare slot s child a
+  entry_of {bare} {slot} {s} {child} {a} there node was here is entry = subst (λ n. HasEntry n bare slot s child a) (sym (same_node there node was here is)) entry
+
   -- it is put in again
-  pub entry_in : (node bare now back : Inner K A) (slot : ℕ) (s : K) (child : NodeId) (a : A) → HasEntry node bare slot s child a → now ≡ bare → back ≡ with_entry now slot s child a → back ≡ node
-  entry_in node bare now back slot s child a entry same is = is ∙ (ap (λ n. with_entry n slot s child a) same ∙ sym entry.is)
+  pub entry_returned : (node bare now back : Inner K A) (slot : ℕ) (s : K) (child : NodeId) (a : A) → HasPlace node (slot + 1) → slice_get node.keys slot ≡ Some s → slice_get node.children (slot + 1) ≡ Some child → slice_get node.arguments (slot + 1) ≡ Some a
+      → bare ≡ without_entry node slot → now ≡ bare → back ≡ with_entry now slot s child a → back ≡ node
+  entry_returned node bare now back slot s child a h key at told out same is =
+      is ∙ (ap (λ n. with_entry n slot s child a) same ∙ sym (entry_out node bare slot s child a h key at told out).is)
 
   -- a node that took another entry has the old one again
   module _ (cmp : K → K → Ordering) (node bare now taken set back : Inner K A) (slot : ℕ) (s : K) (child out_child : NodeId) (a before out_a out : A) (out_s : K) (left_told : A → Type 0) (parts : K → Type 0) (right_told : A → Type 0)

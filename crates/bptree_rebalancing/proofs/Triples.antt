@@ -1,58 +1,93 @@
 -- A parent and two of its children are taken out of a store, changed, and put back.
-use Rattle.std.proofs.Common.{◌≡◌, ℕ, inl, inr, sym, ap, ◌∙◌, Result, Ok, Err, IfOk}
+use Rattle.std.proofs.Common.{◌≡◌, ℕ, ◌+◌, ◌≤◌, List, length, slice_get, Some, inl, inr, sym, ap, ◌∙◌, Result, Ok, Err, IfOk}
+use Rattle.std.specs.declared.cmp.Ordering.{Ordering}
 use Rattle.std.proofs.lemmas.Bool.{cases_eq}
 use Rattle.bptree_nodes.specs.Inner.{Inner}
 use Rattle.bptree_nodes.specs.Leaf.{Leaf}
-use Rattle.bptree_nodes.specs.Slot.{Slot, Slots, Held, Present, UpdatesInner, UpdatesLeaf}
+use Rattle.bptree_nodes.specs.Slot.{Slot, Slots, Held, Present, IsPresent, UpdatesInner, UpdatesLeaf}
 use Rattle.bptree_keys.specs.declared.node_id.InnerNodeId.{InnerNodeId}
 use Rattle.bptree_keys.specs.declared.node_id.LeafNodeId.{LeafNodeId}
+use Rattle.bptree_keys.specs.declared.node_id.NodeId.TheVariants as kind
+use Rattle.bptree_shape.specs.Shape.{leaf_pairs, leaf_next, inner_keys, inner_children}
+use Rattle.bptree_ascent.proofs.Undone.{same_node}
+use Rattle.bptree_rebalancing.specs.ChooseSibling.{CanGivePair, CanGiveChild, FitInOneLeaf, FitInOneNode}
+use Rattle.bptree_rebalancing.specs.RotateMerge.{RotatesLeaves, MergesLeaves, RotatesInners, MergesInners, UndoesRotateLeaves, UndoesRotateInners, UndoesMergeLeaves, UndoesMergeInners, ThreeAt, RotatesLeavesAt, MergesLeavesAt, RotatesInnersAt, MergesInnersAt}
+use Rattle.bptree_rebalancing.specs.declared.rotate_merge.Joint.{Joint}
+use Rattle.bptree_rebalancing.specs.declared.rotate_merge.Sibling.{Sibling}
+use Rattle.bptree_rebalancing.specs.declared.rotate_merge.Sides.{Sides}
 
 pub slots_same : {I L : Type 0} (x y : Slots I L) → ((n : ℕ) → x.inner n ≡ y.inner n) → ((n : ℕ) → x.leaf n ≡ y.leaf n) → x ≡ y
 slots_same x y inner leaf = λ i. record { inner = λ n. inner n i; leaf = λ n. leaf n i }
 
-module _ {K V A : Type 0} (old s1 s2 s3 s4 s5 : Slots (Inner K A) (Leaf K V)) (id : InnerNodeId) (left right : LeafNodeId) (node' : Inner K A) (one other one' : Leaf K V) (apart : left.0 ≡ right.0 → ⊥)
+abbrev three_at : {K A C : Type 0} {above above' : ℕ → Slot (Inner K A)} {below below' : ℕ → Slot C} {id left right : ℕ} {behind : Slot C} {node node' : Inner K A} {one other one' : C} → above id ≡ Present node → below left ≡ Present one → below right ≡ Present other
+    → above' id ≡ Present node' → below' left ≡ Present one' → below' right ≡ behind → (left ≡ right → ⊥) → length (inner_keys (above id)) ≤ 64 → ThreeAt above above' below below' id left right behind
+three_at {node = node} {node' = node'} {one = one} {other = other} {one' = one'} at_node at_left at_right is_node is_left is_right apart most = record {
+  node = node;
+  one = one;
+  other = other;
+  node' = node';
+  one' = one';
+  at_node = at_node;
+  at_left = at_left;
+  at_right = at_right;
+  is_node = is_node;
+  is_left = is_left;
+  is_right = is_right;
+  apart = apart;
+  most = rw at_node at most;
+}
+
+-- what undoes a change of the three leaves them as they were
+three_back : {K A C : Type 0} {above above' : ℕ → Slot (Inner K A)} {below below' : ℕ → Slot C} {id left right : ℕ} {last : C} {node back : Inner K A} {one other one' other' : C} (t : ThreeAt above above' below below' id left right (Present last)) (R : Inner K A → C → C → Type 0)
+    → above' id ≡ Present node → below' left ≡ Present one → below' right ≡ Present other → R t.node' t.one' last → (R node one other → (back ≡ t.node) × (one' ≡ t.one) × (other' ≡ t.other))
+    → (above id ≡ Present back) × (below left ≡ Present one') × (below right ≡ Present other')
+three_back {above' = above'} {below' = below'} {id = id} {left = left} {right = right} {last = last} {node = node} {one = one} {other = other} t R here at_left at_right changed undoes =
+    let undone = undoes (rw (same_node (above' id) node t.node' here t.is_node, same_node (below' left) one t.one' at_left t.is_left, same_node (below' right) other last at_right t.is_right) changed) in
+    (t.at_node ∙ ap Present (sym undone.0), t.at_left ∙ ap Present (sym undone.1), t.at_right ∙ ap Present (sym undone.2))
+
+module _ {K V A : Type 0} {old s1 s2 s3 s4 s5 : Slots (Inner K A) (Leaf K V)} (id : InnerNodeId) (left right : LeafNodeId) {node' : Inner K A} {one other one' : Leaf K V} (apart : left.0 ≡ right.0 → ⊥)
     (t1 : UpdatesInner old s1 id.0 Held) (v2 : s1.leaf left.0 ≡ Present one) (t2 : UpdatesLeaf s1 s2 left.0 Held) (v3 : s2.leaf right.0 ≡ Present other) (t3 : UpdatesLeaf s2 s3 right.0 Held)
     (p1 : UpdatesInner s3 s4 id.0 (Present node')) (p2 : UpdatesLeaf s4 s5 left.0 (Present one')) where
-  pub left_was : old.leaf left.0 ≡ Present one
+  left_was : old.leaf left.0 ≡ Present one
   left_was = sym (ap (λ (f : ℕ → Slot (Leaf K V)). f left.0) t1.leaf) ∙ v2
 
-  pub right_was : old.leaf right.0 ≡ Present other
+  right_was : old.leaf right.0 ≡ Present other
   right_was = sym (t2.leaf.others right.0 (λ e. apart (sym e)) ∙ ap (λ (f : ℕ → Slot (Leaf K V)). f right.0) t1.leaf) ∙ v3
 
-  pub node_is : s5.inner id.0 ≡ Present node'
+  node_is : s5.inner id.0 ≡ Present node'
   node_is = ap (λ (f : ℕ → Slot (Inner K A)). f id.0) p2.inner ∙ p1.inner.changed
 
-  pub left_is : s5.leaf left.0 ≡ Present one'
+  left_is : s5.leaf left.0 ≡ Present one'
   left_is = p2.leaf.changed
 
-  pub right_held : s5.leaf right.0 ≡ Held
+  right_held : s5.leaf right.0 ≡ Held
   right_held = p2.leaf.others right.0 (λ e. apart (sym e)) ∙ (ap (λ (f : ℕ → Slot (Leaf K V)). f right.0) p1.leaf ∙ t3.leaf.changed)
 
-  pub inners_stay : (n : ℕ) → (n ≡ id.0 → ⊥) → s5.inner n ≡ old.inner n
+  inners_stay : (n : ℕ) → (n ≡ id.0 → ⊥) → s5.inner n ≡ old.inner n
   inners_stay n far =
       ap (λ (f : ℕ → Slot (Inner K A)). f n) p2.inner ∙ (p1.inner.others n far ∙ (ap (λ (f : ℕ → Slot (Inner K A)). f n) t3.inner ∙ (ap (λ (f : ℕ → Slot (Inner K A)). f n) t2.inner ∙ t1.inner.others n far)))
 
-  pub leaves_stay : (n : ℕ) → (n ≡ left.0 → ⊥) → (n ≡ right.0 → ⊥) → s5.leaf n ≡ old.leaf n
+  leaves_stay : (n : ℕ) → (n ≡ left.0 → ⊥) → (n ≡ right.0 → ⊥) → s5.leaf n ≡ old.leaf n
   leaves_stay n l r =
       p2.leaf.others n l ∙ (ap (λ (f : ℕ → Slot (Leaf K V)). f n) p1.leaf ∙ (t3.leaf.others n r ∙ (t2.leaf.others n l ∙ ap (λ (f : ℕ → Slot (Leaf K V)). f n) t1.leaf)))
 
   module _ (s6 : Slots (Inner K A) (Leaf K V)) (slot : Slot (Leaf K V)) (p3 : UpdatesLeaf s5 s6 right.0 slot) where
-    pub node_is_then : s6.inner id.0 ≡ Present node'
+    node_is_then : s6.inner id.0 ≡ Present node'
     node_is_then = ap (λ (f : ℕ → Slot (Inner K A)). f id.0) p3.inner ∙ node_is
 
-    pub left_is_then : s6.leaf left.0 ≡ Present one'
+    left_is_then : s6.leaf left.0 ≡ Present one'
     left_is_then = p3.leaf.others left.0 apart ∙ left_is
 
-    pub inners_stay_then : (n : ℕ) → (n ≡ id.0 → ⊥) → s6.inner n ≡ old.inner n
+    inners_stay_then : (n : ℕ) → (n ≡ id.0 → ⊥) → s6.inner n ≡ old.inner n
     inners_stay_then n far = ap (λ (f : ℕ → Slot (Inner K A)). f n) p3.inner ∙ inners_stay n far
 
-    pub leaves_stay_then : (n : ℕ) → (n ≡ left.0 → ⊥) → (n ≡ right.0 → ⊥) → s6.leaf n ≡ old.leaf n
+    leaves_stay_then : (n : ℕ) → (n ≡ left.0 → ⊥) → (n ≡ right.0 → ⊥) → s6.leaf n ≡ old.leaf n
     leaves_stay_then n l r = p3.leaf.others n r ∙ leaves_stay n l r
 
     -- all is as it was in another store
-    pub all_back : (was : Slots (Inner K A) (Leaf K V)) → ((n : ℕ) → (n ≡ id.0 → ⊥) → old.inner n ≡ was.inner n) → ((n : ℕ) → (n ≡ left.0 → ⊥) → (n ≡ right.0 → ⊥) → old.leaf n ≡ was.leaf n)
-        → was.inner id.0 ≡ Present node' → was.leaf left.0 ≡ Present one' → was.leaf right.0 ≡ slot → s6 ≡ was
-    all_back was inners leaves here at_left at_right =
+    all_back : (was : Slots (Inner K A) (Leaf K V)) → ((n : ℕ) → (n ≡ id.0 → ⊥) → old.inner n ≡ was.inner n) → ((n : ℕ) → (n ≡ left.0 → ⊥) → (n ≡ right.0 → ⊥) → old.leaf n ≡ was.leaf n)
+        → (was.inner id.0 ≡ Present node') × (was.leaf left.0 ≡ Present one') × (was.leaf right.0 ≡ slot) → s6 ≡ was
+    all_back was inners leaves (here, at_left, at_right) =
         slots_same s6 was
         (λ n. elim (cases_eq n id.0) [ inl e ↦ (rw e (node_is_then ∙ sym here)) | inr far ↦ inners_stay_then n far ∙ inners n far ])
         (λ n. elim (cases_eq n left.0) [
@@ -60,47 +95,73 @@ module _ {K V A : Type 0} (old s1 s2 s3 s4 s5 : Slots (Inner K A) (Leaf K V)) (i
           | inr l ↦ elim (cases_eq n right.0) [ inl e ↦ (rw e (p3.leaf.changed ∙ sym at_right)) | inr r ↦ leaves_stay_then n l r ∙ leaves n l r ]
         ])
 
+  -- so the two merged, or rotated, or a rotation was undone
+  module _ {cmp : K → K → Ordering} {is_summary : A → List K → Type 0} {slot : ℕ} {joint : Joint K A} {node : Inner K A} (here : old.inner id.0 ≡ Present node) where
+    pub leaves_merged : {emptied : Leaf K V} → length (inner_keys (old.inner id.0)) ≤ 64 → FitInOneLeaf old left right → MergesLeaves cmp is_summary slot node one other node' one' emptied joint → MergesLeavesAt cmp is_summary slot old s5 id left right joint emptied
+    leaves_merged most fits merges = record {
+      three = three_at here left_was right_was node_is left_is right_held apart most;
+      inners = inners_stay;
+      leaves = leaves_stay;
+      fits = rw (left_was, right_was) at fits;
+      transfers = merges;
+    }
+
+    module _ {giver : Sibling} {s6 : Slots (Inner K A) (Leaf K V)} {other' : Leaf K V} (p3 : UpdatesLeaf s5 s6 right.0 (Present other')) where
+      pub leaves_rotated : length (inner_keys (old.inner id.0)) ≤ 64 → CanGivePair old giver left right → RotatesLeaves cmp is_summary giver slot node one other node' one' other' joint → RotatesLeavesAt cmp is_summary slot old s6 id giver left right joint
+      leaves_rotated most can rotates = record {
+        other' = other';
+        three = three_at here left_was right_was (node_is_then s6 (Present other') p3) (left_is_then s6 (Present other') p3) p3.leaf.changed apart most;
+        inners = inners_stay_then s6 (Present other') p3;
+        leaves = leaves_stay_then s6 (Present other') p3;
+        can = rw (left_was, right_was) at can;
+        transfers = rotates;
+      }
+
+      pub leaves_unrotated : (was : Slots (Inner K A) (Leaf K V)) → RotatesLeavesAt cmp is_summary slot was old id giver left right joint → UndoesRotateLeaves cmp is_summary slot joint node one other node' one' other' giver → s6 ≡ was
+      leaves_unrotated was r undoes =
+          all_back s6 (Present other') p3 was r.inners r.leaves (three_back r.three (λ x y z. RotatesLeaves cmp is_summary giver slot r.three.node r.three.one r.three.other x y z joint) here left_was right_was r.transfers (undoes r.three.node r.three.one r.three.other))
+
 -- the same where the children are inner nodes
-module _ {K V A : Type 0} (old s1 s2 s3 s4 s5 : Slots (Inner K A) (Leaf K V)) (id left right : InnerNodeId) (node' one other one' : Inner K A) (apart : (left.0 ≡ right.0 → ⊥) × (left.0 ≡ id.0 → ⊥) × (right.0 ≡ id.0 → ⊥))
+module _ {K V A : Type 0} {old s1 s2 s3 s4 s5 : Slots (Inner K A) (Leaf K V)} (id left right : InnerNodeId) {node' one other one' : Inner K A} (apart : (left.0 ≡ right.0 → ⊥) × (left.0 ≡ id.0 → ⊥) × (right.0 ≡ id.0 → ⊥))
     (t1 : UpdatesInner old s1 id.0 Held) (v2 : s1.inner left.0 ≡ Present one) (t2 : UpdatesInner s1 s2 left.0 Held) (v3 : s2.inner right.0 ≡ Present other) (t3 : UpdatesInner s2 s3 right.0 Held)
     (p1 : UpdatesInner s3 s4 id.0 (Present node')) (p2 : UpdatesInner s4 s5 left.0 (Present one')) where
-  pub one_was : old.inner left.0 ≡ Present one
+  one_was : old.inner left.0 ≡ Present one
   one_was = sym (t1.inner.others left.0 apart.1) ∙ v2
 
-  pub other_was : old.inner right.0 ≡ Present other
+  other_was : old.inner right.0 ≡ Present other
   other_was = sym (t2.inner.others right.0 (λ e. apart.0 (sym e)) ∙ t1.inner.others right.0 apart.2) ∙ v3
 
-  pub above_is : s5.inner id.0 ≡ Present node'
+  above_is : s5.inner id.0 ≡ Present node'
   above_is = p2.inner.others id.0 (λ e. apart.1 (sym e)) ∙ p1.inner.changed
 
-  pub one_is : s5.inner left.0 ≡ Present one'
+  one_is : s5.inner left.0 ≡ Present one'
   one_is = p2.inner.changed
 
-  pub other_held : s5.inner right.0 ≡ Held
+  other_held : s5.inner right.0 ≡ Held
   other_held = p2.inner.others right.0 (λ e. apart.0 (sym e)) ∙ (p1.inner.others right.0 apart.2 ∙ t3.inner.changed)
 
-  pub rest_stay : (n : ℕ) → (n ≡ id.0 → ⊥) → (n ≡ left.0 → ⊥) → (n ≡ right.0 → ⊥) → s5.inner n ≡ old.inner n
+  rest_stay : (n : ℕ) → (n ≡ id.0 → ⊥) → (n ≡ left.0 → ⊥) → (n ≡ right.0 → ⊥) → s5.inner n ≡ old.inner n
   rest_stay n far l r = p2.inner.others n l ∙ (p1.inner.others n far ∙ (t3.inner.others n r ∙ (t2.inner.others n l ∙ t1.inner.others n far)))
 
-  pub leaf_stays : s5.leaf ≡ old.leaf
+  leaf_stays : s5.leaf ≡ old.leaf
   leaf_stays = p2.leaf ∙ (p1.leaf ∙ (t3.leaf ∙ (t2.leaf ∙ t1.leaf)))
 
   module _ (s6 : Slots (Inner K A) (Leaf K V)) (slot : Slot (Inner K A)) (p3 : UpdatesInner s5 s6 right.0 slot) where
-    pub above_is_then : s6.inner id.0 ≡ Present node'
+    above_is_then : s6.inner id.0 ≡ Present node'
     above_is_then = p3.inner.others id.0 (λ e. apart.2 (sym e)) ∙ above_is
 
-    pub one_is_then : s6.inner left.0 ≡ Present one'
+    one_is_then : s6.inner left.0 ≡ Present one'
     one_is_then = p3.inner.others left.0 apart.0 ∙ one_is
 
-    pub rest_stay_then : (n : ℕ) → (n ≡ id.0 → ⊥) → (n ≡ left.0 → ⊥) → (n ≡ right.0 → ⊥) → s6.inner n ≡ old.inner n
+    rest_stay_then : (n : ℕ) → (n ≡ id.0 → ⊥) → (n ≡ left.0 → ⊥) → (n ≡ right.0 → ⊥) → s6.inner n ≡ old.inner n
     rest_stay_then n far l r = p3.inner.others n r ∙ rest_stay n far l r
 
-    pub leaf_stays_then : s6.leaf ≡ old.leaf
+    leaf_stays_then : s6.leaf ≡ old.leaf
     leaf_stays_then = p3.leaf ∙ leaf_stays
 
-    pub all_inners_back : (was : Slots (Inner K A) (Leaf K V)) → ((n : ℕ) → (n ≡ id.0 → ⊥) → (n ≡ left.0 → ⊥) → (n ≡ right.0 → ⊥) → old.inner n ≡ was.inner n) → old.leaf ≡ was.leaf
-        → was.inner id.0 ≡ Present node' → was.inner left.0 ≡ Present one' → was.inner right.0 ≡ slot → s6 ≡ was
-    all_inners_back was inners leaf here at_left at_right =
+    all_inners_back : (was : Slots (Inner K A) (Leaf K V)) → ((n : ℕ) → (n ≡ id.0 → ⊥) → (n ≡ left.0 → ⊥) → (n ≡ right.0 → ⊥) → old.inner n ≡ was.inner n) → old.leaf ≡ was.leaf
+        → (was.inner id.0 ≡ Present node') × (was.inner left.0 ≡ Present one') × (was.inner right.0 ≡ slot) → s6 ≡ was
+    all_inners_back was inners leaf (here, at_left, at_right) =
         slots_same s6 was
         (λ n. elim (cases_eq n id.0) [
           | inl e ↦ (rw e (above_is_then ∙ sym here))
@@ -111,12 +172,39 @@ module _ {K V A : Type 0} (old s1 s2 s3 s4 s5 : Slots (Inner K A) (Leaf K V)) (i
         ])
         (λ n. ap (λ (f : ℕ → Slot (Leaf K V)). f n) (leaf_stays_then ∙ leaf))
 
+  module _ {cmp : K → K → Ordering} {is_summary : A → List K → Type 0} {slot : ℕ} {sides : Sides A} {node : Inner K A} (here : old.inner id.0 ≡ Present node) where
+    pub inners_merged : {emptied : Inner K A} → length (inner_keys (old.inner id.0)) ≤ 64 → FitInOneNode old left right → MergesInners cmp is_summary slot node one other node' one' emptied sides → MergesInnersAt cmp is_summary slot old s5 id left right sides emptied
+    inners_merged most fits merges = record {
+      three = three_at here one_was other_was above_is one_is other_held apart.0 most;
+      inners = rest_stay;
+      leaf = leaf_stays;
+      far = (apart.1, apart.2);
+      fits = rw (one_was, other_was) at fits;
+      transfers = merges;
+    }
+
+    module _ {giver : Sibling} {s6 : Slots (Inner K A) (Leaf K V)} {other' : Inner K A} (p3 : UpdatesInner s5 s6 right.0 (Present other')) where
+      pub inners_rotated : length (inner_keys (old.inner id.0)) ≤ 64 → CanGiveChild old giver left right → RotatesInners cmp is_summary giver slot node one other node' one' other' sides → RotatesInnersAt cmp is_summary slot old s6 id giver left right sides
+      inners_rotated most can rotates = record {
+        other' = other';
+        three = three_at here one_was other_was (above_is_then s6 (Present other') p3) (one_is_then s6 (Present other') p3) p3.inner.changed apart.0 most;
+        inners = rest_stay_then s6 (Present other') p3;
+        leaf = leaf_stays_then s6 (Present other') p3;
+        far = (apart.1, apart.2);
+        can = rw (one_was, other_was) at can;
+        transfers = rotates;
+      }
+
+      pub inners_unrotated : (was : Slots (Inner K A) (Leaf K V)) → RotatesInnersAt cmp is_summary slot was old id giver left right sides → UndoesRotateInners cmp is_summary slot sides node one other node' one' other' giver → s6 ≡ was
+      inners_unrotated was r undoes =
+          all_inners_back s6 (Present other') p3 was r.inners r.leaf (three_back r.three (λ x y z. RotatesInners cmp is_summary giver slot r.three.node r.three.one r.three.other x y z sides) here one_was other_was r.transfers (undoes r.three.node r.three.one r.three.other))
+
 pub ok_so : {T E : Type 0} (r : Result T E) (P R : T → Type 0) → IfOk r P → ((x : T) → P x → R x) → IfOk r R
 ok_so (Ok x) P R given turns = turns x given
 ok_so (Err e) P R given turns = tt
 
 -- a parent and the left child are taken out and put back, and the right one is put in anew
-pub leaf_put_back : {K V A : Type 0} (old s1 s2 s4 s5 s6 was : Slots (Inner K A) (Leaf K V)) (id : InnerNodeId) (left right : LeafNodeId) (node' : Inner K A) (one' : Leaf K V) (slot : Slot (Leaf K V)) → (left.0 ≡ right.0 → ⊥)
+leaf_put_back : {K V A : Type 0} (old s1 s2 s4 s5 s6 was : Slots (Inner K A) (Leaf K V)) (id : InnerNodeId) (left right : LeafNodeId) (node' : Inner K A) (one' : Leaf K V) (slot : Slot (Leaf K V)) → (left.0 ≡ right.0 → ⊥)
     → UpdatesInner old s1 id.0 Held → UpdatesLeaf s1 s2 left.0 Held → UpdatesInner s2 s4 id.0 (Present node') → UpdatesLeaf s4 s5 left.0 (Present one') → UpdatesLeaf s5 s6 right.0 slot
     → ((n : ℕ) → (n ≡ id.0 → ⊥) → old.inner n ≡ was.inner n) → ((n : ℕ) → (n ≡ left.0 → ⊥) → (n ≡ right.0 → ⊥) → old.leaf n ≡ was.leaf n)
     → was.inner id.0 ≡ Present node' → was.leaf left.0 ≡ Present one' → was.leaf right.0 ≡ slot → s6 ≡ was
@@ -134,7 +222,7 @@ leaf_put_back {K} {V} {A} old s1 s2 s4 s5 s6 was id left right node' one' slot a
       ]
     ])
 
-pub inner_put_back : {K V A : Type 0} (old s1 s2 s4 s5 s6 was : Slots (Inner K A) (Leaf K V)) (id left right : InnerNodeId) (node' one' : Inner K A) (slot : Slot (Inner K A)) → (left.0 ≡ right.0 → ⊥) × (left.0 ≡ id.0 → ⊥) × (right.0 ≡ id.0 → ⊥)
+inner_put_back : {K V A : Type 0} (old s1 s2 s4 s5 s6 was : Slots (Inner K A) (Leaf K V)) (id left right : InnerNodeId) (node' one' : Inner K A) (slot : Slot (Inner K A)) → (left.0 ≡ right.0 → ⊥) × (left.0 ≡ id.0 → ⊥) × (right.0 ≡ id.0 → ⊥)
     → UpdatesInner old s1 id.0 Held → UpdatesInner s1 s2 left.0 Held → UpdatesInner s2 s4 id.0 (Present node') → UpdatesInner s4 s5 left.0 (Present one') → UpdatesInner s5 s6 right.0 slot
     → ((n : ℕ) → (n ≡ id.0 → ⊥) → (n ≡ left.0 → ⊥) → (n ≡ right.0 → ⊥) → old.inner n ≡ was.inner n) → old.leaf ≡ was.leaf
     → was.inner id.0 ≡ Present node' → was.inner left.0 ≡ Present one' → was.inner right.0 ≡ slot → s6 ≡ was
@@ -151,3 +239,42 @@ inner_put_back {K} {V} {A} old s1 s2 s4 s5 s6 was id left right node' one' slot 
   where
     back : (n : ℕ) → (n ≡ right.0 → ⊥) → (n ≡ left.0 → ⊥) → s4.inner n ≡ was.inner n
     back n r l = elim (cases_eq n id.0) [ inl e ↦ (rw e (p1.inner.changed ∙ sym here)) | inr far ↦ (p1.inner.others n far ∙ (t2.inner.others n l ∙ (t1.inner.others n far ∙ inners n far l r))) ]
+
+-- so a merge was undone
+module _ {K V A : Type 0} {cmp : K → K → Ordering} {is_summary : A → List K → Type 0} {slot kept : ℕ} {old s1 s2 s4 s5 s6 : Slots (Inner K A) (Leaf K V)} {node node' : Inner K A} (was : Slots (Inner K A) (Leaf K V)) (id : InnerNodeId) (here : old.inner id.0 ≡ Present node) (t1 : UpdatesInner old s1 id.0 Held) where
+  pub leaves_unmerged_at : {joint : Joint K A} {one one' emptied back : Leaf K V} (left right : LeafNodeId) → s1.leaf left.0 ≡ Present one → UpdatesLeaf s1 s2 left.0 Held → UpdatesInner s2 s4 id.0 (Present node') → UpdatesLeaf s4 s5 left.0 (Present one') → UpdatesLeaf s5 s6 right.0 (Present back)
+      → MergesLeavesAt cmp is_summary slot was old id left right joint emptied → UndoesMergeLeaves cmp is_summary slot joint node one emptied node' one' back (kind.Leaf right) kept (Some right)
+      → kept ≡ length (leaf_pairs (was.leaf left.0)) → slice_get (inner_children (was.inner id.0)) (slot + 1) ≡ Some (kind.Leaf right) → leaf_next (was.leaf left.0) ≡ Some right → s6 ≡ was
+  leaves_unmerged_at {one = one} {one' = one'} {back = back} left right v2 t2 p1 p2 p3 m undoes long read next =
+      let t = m.three in
+      let there = sym (ap (λ (f : ℕ → Slot (Leaf K V)). f left.0) t1.leaf) ∙ v2 in
+      let undone = undoes t.node t.one t.other (rw (same_node (old.inner id.0) node t.node' here t.is_node, same_node (old.leaf left.0) one t.one' there t.is_left) m.transfers) (rw t.at_node at read) (rw t.at_left at long) (sym (rw t.at_left at next)) in
+      leaf_put_back old s1 s2 s4 s5 s6 was id left right node' one' (Present back) t.apart t1 t2 p1 p2 p3 m.inners m.leaves (t.at_node ∙ ap Present (sym undone.0)) (t.at_left ∙ ap Present (sym undone.1)) (t.at_right ∙ ap Present (sym undone.2))
+
+  pub inners_unmerged_at : {sides : Sides A} {one one' emptied back : Inner K A} (left right : InnerNodeId) → s1.inner left.0 ≡ Present one → UpdatesInner s1 s2 left.0 Held → UpdatesInner s2 s4 id.0 (Present node') → UpdatesInner s4 s5 left.0 (Present one') → UpdatesInner s5 s6 right.0 (Present back)
+      → MergesInnersAt cmp is_summary slot was old id left right sides emptied → UndoesMergeInners cmp is_summary slot sides node one emptied node' one' back (kind.Inner right) kept
+      → kept ≡ length (inner_keys (was.inner left.0)) → slice_get (inner_children (was.inner id.0)) (slot + 1) ≡ Some (kind.Inner right) → s6 ≡ was
+  inners_unmerged_at {one = one} {one' = one'} {back = back} left right v2 t2 p1 p2 p3 m undoes long read =
+      let t = m.three in
+      let there = sym (t1.inner.others left.0 m.far.0) ∙ v2 in
+      let undone = undoes t.node t.one t.other (rw (same_node (old.inner id.0) node t.node' here t.is_node, same_node (old.inner left.0) one t.one' there t.is_left) m.transfers) (rw t.at_node at read) (rw t.at_left at long) in
+      inner_put_back old s1 s2 s4 s5 s6 was id left right node' one' (Present back) (t.apart, m.far.0, m.far.1) t1 t2 p1 p2 p3 m.inners m.leaf (t.at_node ∙ ap Present (sym undone.0)) (t.at_left ∙ ap Present (sym undone.1)) (t.at_right ∙ ap Present (sym undone.2))
+
+-- two inner nodes that changed with the node above are there to be taken out, and their numbers are held then
+module _ {K V A : Type 0} {now s1 : Slots (Inner K A) (Leaf K V)} {behind : Inner K A} (was : Slots (Inner K A) (Leaf K V)) (id left right : InnerNodeId) (t : ThreeAt was.inner now.inner was.inner now.inner id.0 left.0 right.0 (Present behind)) (far : (left.0 ≡ id.0 → ⊥) × (right.0 ≡ id.0 → ⊥)) (t1 : UpdatesInner now s1 id.0 Held) where
+  pub one_there : IsPresent (s1.inner left.0)
+  one_there = rw (t1.inner.others left.0 far.0, t.is_left) tt
+
+  module _ {s2 : Slots (Inner K A) (Leaf K V)} (t2 : UpdatesInner s1 s2 left.0 Held) where
+    pub other_there : IsPresent (s2.inner right.0)
+    other_there = rw (t2.inner.others right.0 (λ e. t.apart (sym e)), t1.inner.others right.0 far.1, t.is_right) tt
+
+    module _ {s3 : Slots (Inner K A) (Leaf K V)} (t3 : UpdatesInner s2 s3 right.0 Held) where
+      pub node_held : s3.inner id.0 ≡ Held
+      node_held = t3.inner.others id.0 (λ e. far.1 (sym e)) ∙ (t2.inner.others id.0 (λ e. far.0 (sym e)) ∙ t1.inner.changed)
+
+      pub one_held : {x : Slot (Inner K A)} {s4 : Slots (Inner K A) (Leaf K V)} → UpdatesInner s3 s4 id.0 x → s4.inner left.0 ≡ Held
+      one_held p1 = p1.inner.others left.0 far.0 ∙ (t3.inner.others left.0 t.apart ∙ t2.inner.changed)
+
+      pub other_held_then : {x y : Slot (Inner K A)} {s4 s5 : Slots (Inner K A) (Leaf K V)} → UpdatesInner s3 s4 id.0 x → UpdatesInner s4 s5 left.0 y → s5.inner right.0 ≡ Held
+      other_held_then p1 p2 = p2.inner.others right.0 (λ e. t.apart (sym e)) ∙ (p1.inner.others right.0 far.1 ∙ t3.inner.changed)

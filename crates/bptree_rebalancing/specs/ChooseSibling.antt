@@ -45,6 +45,10 @@ module _ {K V A : Type 0} (slots : Slots (Inner K A) (Leaf K V)) where
   IsLeafAt (kind.Leaf id) = IsPresent (slots.leaf id.0)
   IsLeafAt (kind.Inner id) = ⊥
 
+  abbrev pub IsNodeAt : NodeId → Type 0
+  IsNodeAt (kind.Leaf id) = IsPresent (slots.leaf id.0)
+  IsNodeAt (kind.Inner id) = IsPresent (slots.inner id.0)
+
   -- inner nodes stand there, or leaves
   abbrev pub AllInner : List NodeId → Type 0
   AllInner cs = AllByRecursion IsInnerAt cs
@@ -52,12 +56,15 @@ module _ {K V A : Type 0} (slots : Slots (Inner K A) (Leaf K V)) where
   abbrev pub AllLeaves : List NodeId → Type 0
   AllLeaves cs = AllByRecursion IsLeafAt cs
 
-  -- of a node: only inner nodes stand below it, or only leaves, and it has one child more than keys
+  -- of a node: only inner nodes stand below it, or only leaves, or either, and it has one child more than keys
   abbrev pub InnersBelow : InnerNodeId → Type 0
   InnersBelow id = AllInner (inner_children (slots.inner id.0))
 
   abbrev pub LeavesBelow : InnerNodeId → Type 0
   LeavesBelow id = AllLeaves (inner_children (slots.inner id.0))
+
+  abbrev pub NodesBelow : InnerNodeId → Type 0
+  NodesBelow id = AllByRecursion IsNodeAt (inner_children (slots.inner id.0))
 
   abbrev pub HasOneChildMore : InnerNodeId → Type 0
   HasOneChildMore id = length (inner_children (slots.inner id.0)) ≡ length (inner_keys (slots.inner id.0)) + 1

@@ -3,7 +3,7 @@ use Rattle.std.specs.Prelude.{◌≡◌, ℕ, ◌+◌, ◌<◌, ◌≤◌, List,
 use Rattle.std.specs.declared.cmp.Ordering.{Ordering}
 use Rattle.bptree_nodes.specs.Inner.{Inner}
 use Rattle.bptree_nodes.specs.Leaf.{Leaf}
-use Rattle.bptree_nodes.specs.Slot.{Slots, Held, Present}
+use Rattle.bptree_nodes.specs.Slot.{Slot, Slots, Held, Present}
 use Rattle.bptree_keys.specs.declared.node_id.InnerNodeId.{InnerNodeId}
 use Rattle.bptree_keys.specs.declared.node_id.LeafNodeId.{LeafNodeId}
 use Rattle.bptree_keys.specs.declared.node_id.NodeId.{NodeId}
@@ -11,7 +11,7 @@ use Rattle.bptree_keys.specs.declared.node_id.NodeId.TheVariants as kind
 use Rattle.bptree_ascent.specs.Change.{StartsAt}
 use Rattle.bptree_ascent.specs.LeafChange.{SumsUpLeaf}
 use Rattle.bptree_rebalancing.specs.Transfer.{CanGive, MovesPair, MergesLeaf, MovesChild, MergesInner, HasEntry, Rotates, Merges}
-use Rattle.bptree_ascent.specs.Sums.{SumsUp}
+use Rattle.bptree_ascent.specs.Sums.{SumsUp, PlaceAt}
 use Rattle.bptree_ascent.specs.declared.node_changes.Resummed.{Resummed}
 use Rattle.bptree_shape.specs.Shape.{leaf_pairs, leaf_next, inner_keys, inner_children}
 use Rattle.bptree_rebalancing.specs.declared.rotate_merge.Joint.{Joint}
@@ -92,87 +92,65 @@ module _ {K A : Type 0} (cmp : K → K → Ordering) (is_summary : A → List K 
   UndoesMergeInners child kept =
       (was one other : Inner K A) → MergesInners cmp is_summary slot was one other node left right sides → slice_get was.children (slot + 1) ≡ Some child → kept ≡ length one.keys → (node' ≡ was) × (left' ≡ one) × (right' ≡ other)
 
+-- two inner nodes stand apart from the node above them, which has an entry between the two
+pub record AreInnersBeside {K V A : Type 0} (slots : Slots (Inner K A) (Leaf K V)) (slot : ℕ) (id left right : InnerNodeId) : Type 0 where
+  pub place : PlaceAt (slots.inner id.0) (slot + 1)
+  pub most : length (inner_keys (slots.inner id.0)) ≤ 64
+  pub left_some : 0 < length (inner_children (slots.inner left.0))
+  pub right_some : 0 < length (inner_children (slots.inner right.0))
+  pub apart : (left.0 ≡ right.0 → ⊥) × (left.0 ≡ id.0 → ⊥) × (right.0 ≡ id.0 → ⊥)
+
+-- what stood under the numbers of a node and of two children of it, and what stands there then, `behind` under that of the right one
+pub record ThreeAt {K A C : Type 0} (above above' : ℕ → Slot (Inner K A)) (below below' : ℕ → Slot C) (id left right : ℕ) (behind : Slot C) : Type 0 where
+  pub node : Inner K A
+  pub one : C
+  pub other : C
+  pub node' : Inner K A
+  pub one' : C
+  pub at_node : above id ≡ Present node
+  pub at_left : below left ≡ Present one
+  pub at_right : below right ≡ Present other
+  pub is_node : above' id ≡ Present node'
+  pub is_left : below' left ≡ Present one'
+  pub is_right : below' right ≡ behind
+  pub apart : left ≡ right → ⊥
+  pub most : length node.keys ≤ 64
+
 module _ {K V A : Type 0} (cmp : K → K → Ordering) (is_summary : A → List K → Type 0) (slot : ℕ) (old new : Slots (Inner K A) (Leaf K V)) (id : InnerNodeId) where
   -- what stands under the numbers of a node and of two leaves below it changed so
   pub record RotatesLeavesAt (giver : Sibling) (left right : LeafNodeId) (joint : Joint K A) : Type 0 where
-    pub node : Inner K A
-    pub one : Leaf K V
-    pub other : Leaf K V
-    pub node' : Inner K A
-    pub one' : Leaf K V
     pub other' : Leaf K V
-    pub at_node : old.inner id.0 ≡ Present node
-    pub at_left : old.leaf left.0 ≡ Present one
-    pub at_right : old.leaf right.0 ≡ Present other
-    pub is_node : new.inner id.0 ≡ Present node'
-    pub is_left : new.leaf left.0 ≡ Present one'
-    pub is_right : new.leaf right.0 ≡ Present other'
+    pub three : ThreeAt old.inner new.inner old.leaf new.leaf id.0 left.0 right.0 (Present other')
     pub inners : (n : ℕ) → (n ≡ id.0 → ⊥) → new.inner n ≡ old.inner n
     pub leaves : (n : ℕ) → (n ≡ left.0 → ⊥) → (n ≡ right.0 → ⊥) → new.leaf n ≡ old.leaf n
-    pub apart : left.0 ≡ right.0 → ⊥
-    pub most : length node.keys ≤ 64
-    pub can : CanGive giver (length one.pairs) (length other.pairs)
-    pub transfers : RotatesLeaves cmp is_summary giver slot node one other node' one' other' joint
+    pub can : CanGive giver (length three.one.pairs) (length three.other.pairs)
+    pub transfers : RotatesLeaves cmp is_summary giver slot three.node three.one three.other three.node' three.one' other' joint
 
   -- the right leaf is taken out, and its number stays reserved
   pub record MergesLeavesAt (left right : LeafNodeId) (joint : Joint K A) (emptied : Leaf K V) : Type 0 where
-    pub node : Inner K A
-    pub one : Leaf K V
-    pub other : Leaf K V
-    pub node' : Inner K A
-    pub one' : Leaf K V
-    pub at_node : old.inner id.0 ≡ Present node
-    pub at_left : old.leaf left.0 ≡ Present one
-    pub at_right : old.leaf right.0 ≡ Present other
-    pub is_node : new.inner id.0 ≡ Present node'
-    pub is_left : new.leaf left.0 ≡ Present one'
-    pub is_right : new.leaf right.0 ≡ Held
+    pub three : ThreeAt old.inner new.inner old.leaf new.leaf id.0 left.0 right.0 Held
     pub inners : (n : ℕ) → (n ≡ id.0 → ⊥) → new.inner n ≡ old.inner n
     pub leaves : (n : ℕ) → (n ≡ left.0 → ⊥) → (n ≡ right.0 → ⊥) → new.leaf n ≡ old.leaf n
-    pub apart : left.0 ≡ right.0 → ⊥
-    pub most : length node.keys ≤ 64
-    pub fits : length one.pairs + length other.pairs ≤ 64
-    pub transfers : MergesLeaves cmp is_summary slot node one other node' one' emptied joint
+    pub fits : length three.one.pairs + length three.other.pairs ≤ 64
+    pub transfers : MergesLeaves cmp is_summary slot three.node three.one three.other three.node' three.one' emptied joint
 
   -- the same of a node and of two inner nodes below it
   pub record RotatesInnersAt (giver : Sibling) (left right : InnerNodeId) (sides : Sides A) : Type 0 where
-    pub node : Inner K A
-    pub one : Inner K A
-    pub other : Inner K A
-    pub node' : Inner K A
-    pub one' : Inner K A
     pub other' : Inner K A
-    pub at_node : old.inner id.0 ≡ Present node
-    pub at_left : old.inner left.0 ≡ Present one
-    pub at_right : old.inner right.0 ≡ Present other
-    pub is_node : new.inner id.0 ≡ Present node'
-    pub is_left : new.inner left.0 ≡ Present one'
-    pub is_right : new.inner right.0 ≡ Present other'
+    pub three : ThreeAt old.inner new.inner old.inner new.inner id.0 left.0 right.0 (Present other')
     pub inners : (n : ℕ) → (n ≡ id.0 → ⊥) → (n ≡ left.0 → ⊥) → (n ≡ right.0 → ⊥) → new.inner n ≡ old.inner n
     pub leaf : new.leaf ≡ old.leaf
-    pub apart : (left.0 ≡ right.0 → ⊥) × (left.0 ≡ id.0 → ⊥) × (right.0 ≡ id.0 → ⊥)
-    pub most : length node.keys ≤ 64
-    pub can : CanGive giver (length one.keys) (length other.keys)
-    pub transfers : RotatesInners cmp is_summary giver slot node one other node' one' other' sides
+    pub far : (left.0 ≡ id.0 → ⊥) × (right.0 ≡ id.0 → ⊥)
+    pub can : CanGive giver (length three.one.keys) (length three.other.keys)
+    pub transfers : RotatesInners cmp is_summary giver slot three.node three.one three.other three.node' three.one' other' sides
 
   pub record MergesInnersAt (left right : InnerNodeId) (sides : Sides A) (emptied : Inner K A) : Type 0 where
-    pub node : Inner K A
-    pub one : Inner K A
-    pub other : Inner K A
-    pub node' : Inner K A
-    pub one' : Inner K A
-    pub at_node : old.inner id.0 ≡ Present node
-    pub at_left : old.inner left.0 ≡ Present one
-    pub at_right : old.inner right.0 ≡ Present other
-    pub is_node : new.inner id.0 ≡ Present node'
-    pub is_left : new.inner left.0 ≡ Present one'
-    pub is_right : new.inner right.0 ≡ Held
+    pub three : ThreeAt old.inner new.inner old.inner new.inner id.0 left.0 right.0 Held
     pub inners : (n : ℕ) → (n ≡ id.0 → ⊥) → (n ≡ left.0 → ⊥) → (n ≡ right.0 → ⊥) → new.inner n ≡ old.inner n
     pub leaf : new.leaf ≡ old.leaf
-    pub apart : (left.0 ≡ right.0 → ⊥) × (left.0 ≡ id.0 → ⊥) × (right.0 ≡ id.0 → ⊥)
-    pub most : length node.keys ≤ 64
-    pub fits : length one.keys + length other.keys < 64
-    pub transfers : MergesInners cmp is_summary slot node one other node' one' emptied sides
+    pub far : (left.0 ≡ id.0 → ⊥) × (right.0 ≡ id.0 → ⊥)
+    pub fits : length three.one.keys + length three.other.keys < 64
+    pub transfers : MergesInners cmp is_summary slot three.node three.one three.other three.node' three.one' emptied sides
 
 -- The children left and right rotated or merged, and nothing else changed. The left one had `kept` pairs or keys before a
 -- merge.

@@ -2,9 +2,9 @@
 //! and a refused one leaves every slot as it was.
 ghost use Rattle.std.specs.Prelude.{◌≡◌, ◌<◌, ◌≤◌, ◌+◌, length, IfOk, OnErr};
 ghost use Rattle.bptree_nodes.specs.Slot.{IsPresent};
-ghost use Rattle.bptree_shape.specs.Shape.{leaf_pairs, inner_keys, inner_children};
+ghost use Rattle.bptree_shape.specs.Shape.{leaf_pairs, inner_keys};
 ghost use Rattle.bptree_keys.specs.declared.node_id.NodeId.TheVariants as kind;
-ghost use Rattle.bptree_rebalancing.specs.RotateMerge.{RotatesLeavesAt, MergesLeavesAt, RotatesInnersAt, MergesInnersAt, HaveMergedInners, HaveMergedLeaves, HaveRotatedInners, HaveRotatedLeaves, UndoesMergeInnersAt, UndoesMergeLeavesAt, UndoesRotateInnersAt, UndoesRotateLeavesAt};
+ghost use Rattle.bptree_rebalancing.specs.RotateMerge.{AreInnersBeside, RotatesLeavesAt, MergesLeavesAt, RotatesInnersAt, MergesInnersAt, HaveMergedInners, HaveMergedLeaves, HaveRotatedInners, HaveRotatedLeaves, UndoesMergeInnersAt, UndoesMergeLeavesAt, UndoesRotateInnersAt, UndoesRotateLeavesAt};
 ghost use Rattle.bptree_ascent.specs.Sums.{PlaceAt, SumsUpAt, SumsUpFirst};
 ghost use Rattle.bptree_rebalancing.specs.ChooseSibling.{CanGiveChild, CanGivePair, FitInOneLeaf, FitInOneNode};
 
@@ -152,12 +152,8 @@ pub fn rotate_inners_at<S: NodeStore>(
     left: InnerNodeId,
     right: InnerNodeId,
 ) -> Result<(S::Argument, Sides<S::Argument>), AllocError>
-    requires place { PlaceAt ((S.slots store.old).inner id.0) (slot + 1) }
-    requires most { length (inner_keys ((S.slots store.old).inner id.0)) ≤ 64 }
-    requires left { 0 < length (inner_children ((S.slots store.old).inner left.0)) }
-    requires right { 0 < length (inner_children ((S.slots store.old).inner right.0)) }
+    requires siblings { AreInnersBeside (S.slots store.old) slot id left right }
     requires rotates { CanGiveChild (S.slots store.old) giver left right }
-    requires apart { (left.0 ≡ right.0 → ⊥) × (left.0 ≡ id.0 → ⊥) × (right.0 ≡ id.0 → ⊥) }
     ensures rotates { IfOk result (λ done. RotatesInnersAt S.K.cmp S.Argument.is_summary slot (S.slots store.old) (S.slots store.new) id giver left right done.1) }
     ensures sums { IfOk result (SumsUpFirst S.K.cmp S.Argument.is_summary (S.slots store.new) id) }
     ensures refused { OnErr result (S.slots store.new ≡ S.slots store.old) }
@@ -210,12 +206,8 @@ pub fn merge_inners_at<S: NodeStore>(
     ),
     AllocError,
 >
-    requires place { PlaceAt ((S.slots store.old).inner id.0) (slot + 1) }
-    requires most { length (inner_keys ((S.slots store.old).inner id.0)) ≤ 64 }
-    requires left { 0 < length (inner_children ((S.slots store.old).inner left.0)) }
-    requires right { 0 < length (inner_children ((S.slots store.old).inner right.0)) }
+    requires siblings { AreInnersBeside (S.slots store.old) slot id left right }
     requires fits { FitInOneNode (S.slots store.old) left right }
-    requires apart { (left.0 ≡ right.0 → ⊥) × (left.0 ≡ id.0 → ⊥) × (right.0 ≡ id.0 → ⊥) }
     ensures merges { IfOk result (λ done. MergesInnersAt S.K.cmp S.Argument.is_summary slot (S.slots store.old) (S.slots store.new) id left right done.1 done.2.value) }
     ensures sums { IfOk result (λ done. SumsUpAt S.K.cmp S.Argument.is_summary ((S.slots store.new).inner id.0) done.0) }
     ensures refused { OnErr result (S.slots store.new ≡ S.slots store.old) }

@@ -4,7 +4,7 @@ ghost use Rattle.std.specs.Prelude.{◌≡◌, ◌<◌, ◌≤◌, ◌+◌, IfOk
 ghost use Rattle.bptree_keys.specs.declared.node_id.NodeId.TheVariants as kind;
 ghost use Rattle.bptree_nodes.specs.Slot.{IsPresent};
 ghost use Rattle.bptree_ascent.specs.Climb.{Climbs, Risen};
-ghost use Rattle.bptree_rebalancing.specs.ChooseSibling.{ChosenSibling, ChoosesSibling, HasChild, HasOneChildMore, InnersBelow, LeavesBelow, size_below};
+ghost use Rattle.bptree_rebalancing.specs.ChooseSibling.{ChosenSibling, ChoosesSibling, HasChild, HasOneChildMore, InnersBelow, LeavesBelow, NodesBelow, size_below};
 ghost use Rattle.bptree_shape.specs.Shape.{inner_children};
 ghost use Rattle.bptree_rebalancing.specs.Trim.{ClimbsUnderflow, Sunk};
 
@@ -40,10 +40,10 @@ fn choose_sibling(place: usize, gives: bool, after: usize) -> (usize, Option<Sib
     (0, None)
 }
 
-// How many pairs the leaf at a place has, where one stands there.
-fn leaf_len<S: NodeStore>(store: &S, id: InnerNodeId, place: usize) -> usize
+// How many pairs or keys the child at a place has, where one stands there.
+fn child_len<S: NodeStore>(store: &S, id: InnerNodeId, place: usize) -> usize
     requires present { IsPresent ((S.slots store.now).inner id.0) }
-    requires children { LeavesBelow (S.slots store.now) id }
+    requires children { NodesBelow (S.slots store.now) id }
     requires long { HasOneChildMore (S.slots store.now) id }
     ensures { result ≡ size_below (S.slots store.now) id place }
 {
@@ -53,25 +53,37 @@ fn leaf_len<S: NodeStore>(store: &S, id: InnerNodeId, place: usize) -> usize
     }
     match node.child_id(place) {
         NodeId::Leaf(leaf) => store.get_leaf(leaf).len(),
-        NodeId::Inner(_) => 0,
+        NodeId::Inner(inner) => store.get_inner(inner).len(),
     }
 }
 
-// How many keys the inner node at a place has, where one stands there.
-fn inner_len<S: NodeStore>(store: &S, id: InnerNodeId, place: usize) -> usize
+// Which sibling the child at a place of a node rotates or merges with, and the slot of the
+// separator between the two. The one before it gives where it can, and of leaves also has more than
+// the one behind.
+fn sibling<S: NodeStore>(
+    store: &S,
+    id: InnerNodeId,
+    place: usize,
+    leaves: bool,
+) -> (usize, Option<Sibling>)
     requires present { IsPresent ((S.slots store.now).inner id.0) }
-    requires children { InnersBelow (S.slots store.now) id }
+    requires children { NodesBelow (S.slots store.now) id }
     requires long { HasOneChildMore (S.slots store.now) id }
-    ensures { result ≡ size_below (S.slots store.now) id place }
+    requires place { place < length (inner_children ((S.slots store.now).inner id.0)) }
+    requires fits { length (inner_children ((S.slots store.now).inner id.0)) ≤ 65 }
+    ensures { ChoosesSibling (size_below (S.slots store.now) id) place result.0 result.1 }
 {
-    let node = store.get_inner(id);
-    if place > node.len() {
-        return 0;
+    let after = child_len(store, id, place + 1);
+    if place == 0 {
+        return choose_sibling(place, false, after);
     }
-    match node.child_id(place) {
-        NodeId::Inner(inner) => store.get_inner(inner).len(),
-        NodeId::Leaf(_) => 0,
-    }
+    let before = child_len(store, id, place - 1);
+    let gives = if leaves {
+        before > LEAF_MINIMUM && before > after
+    } else {
+        before > INNER_MINIMUM
+    };
+    choose_sibling(place, gives, after)
 }
 
 /// Which sibling the leaf at a place of a node rotates or merges with, and the slot of the
@@ -88,29 +100,7 @@ pub fn leaf_sibling<S: NodeStore>(
     requires fits { length (inner_children ((S.slots store.now).inner id.0)) ≤ 65 }
     ensures { ChoosesSibling (size_below (S.slots store.now) id) place result.0 result.1 }
 {
-    let after = leaf_len(store, id, place + 1);
-    if place == 0 {
-        return choose_sibling(place, false, after);
-    }
-    let before = leaf_len(store, id, place - 1);
-    choose_sibling(place, before > LEAF_MINIMUM && before > after, after)
-}
-
-// The same of an inner node.
-fn inner_sibling<S: NodeStore>(store: &S, id: InnerNodeId, place: usize) -> (usize, Option<Sibling>)
-    requires present { IsPresent ((S.slots store.now).inner id.0) }
-    requires children { InnersBelow (S.slots store.now) id }
-    requires long { HasOneChildMore (S.slots store.now) id }
-    requires place { place < length (inner_children ((S.slots store.now).inner id.0)) }
-    requires fits { length (inner_children ((S.slots store.now).inner id.0)) ≤ 65 }
-    ensures { ChoosesSibling (size_below (S.slots store.now) id) place result.0 result.1 }
-{
-    let after = inner_len(store, id, place + 1);
-    if place == 0 {
-        return choose_sibling(place, false, after);
-    }
-    let before = inner_len(store, id, place - 1);
-    choose_sibling(place, before > INNER_MINIMUM, after)
+    sibling(store, id, place, true)
 }
 
 // Carries a node's new summary up the path above it.
@@ -149,7 +139,7 @@ pub fn ascend_underflow<S: NodeStore>(
     let Some((parent, place, _)) = path.pop() else {
         return Ok(summary);
     };
-    let (slot, giver) = inner_sibling(store, parent, place);
+    let (slot, giver) = sibling(store, parent, place, false);
     let (left, right) = inners_at(store, parent, slot);
     match giver {
         Some(giver) => {

@@ -10,7 +10,7 @@ pub returns-clause-kept : goal.returns-clause-kept
 returns-clause-kept g c =
     let xs = c.arguments.result.now in
     let there = (c.requires c.pop.new.self c.in_ok-id.id c.in_ok-id.place c.in_ok-id.child c.in_ok-id.ensures.some).1 in
-    let same : inner_arguments ((g.S.NodeStore.slots c.args.store.now).inner c.in_ok-id.id.0) ≡ xs = ap inner_arguments c.get_inner.ensures ∙ sym c.arguments.ensures.value in
+    let same : inner_arguments ((g.S.NodeStore.slots c.args.store.now).inner c.in_ok-id.id.0) ≡ xs = ap inner_arguments {x = (g.S.NodeStore.slots c.args.store.now).inner c.in_ok-id.id.0} c.get_inner.ensures ∙ sym c.arguments.ensures.value in
     record {
       rest = c.pop.new.self;
       id = c.in_ok-id.id;

@@ -1,11 +1,10 @@
-use Rattle.bptree_rebalancing.proofs.Transfers.{entry_out, entry_in, pair_moved_back, can_give_back}
+use Rattle.bptree_rebalancing.proofs.Transfers.{entry_out, entry_returned, pair_moved_back, can_give_back}
 use Rattle.std.proofs.Common.{length}
 use Rattle.bptree_rebalancing.proofs.rotate_merge.rotate_leaves.Goals as goal
 
 pub ask_leaves-requires-clause-place : goal.ask_leaves-requires-clause-place
 ask_leaves-requires-clause-place g c =
-    let taken = c.remove_at-separator in
-    (entry_out c.args.node.now taken.new.self c.args.slot taken.result.0 taken.result.1 taken.result.2 c.requires.place taken.ensures.key taken.ensures.child taken.ensures.argument taken.ensures.after).place
+    (entry_out c.args.node.now c.remove_at-separator.new.self c.args.slot c.remove_at-separator.result.0 c.remove_at-separator.result.1 c.remove_at-separator.result.2 c.requires.place c.remove_at-separator.ensures.key c.remove_at-separator.ensures.child c.remove_at-separator.ensures.argument c.remove_at-separator.ensures.after).place
 
 pub move_pair-requires-in-Err : goal.move_pair-requires-in-Err
 move_pair-requires-in-Err g c =
@@ -14,20 +13,17 @@ move_pair-requires-in-Err g c =
 
 pub returns-in-Ok-clause-rotates : goal.returns-in-Ok-clause-rotates
 returns-in-Ok-clause-rotates g c =
-    let taken = c.remove_at-separator in
     record {
-      bare = taken.new.self;
-      child = taken.result.1;
-      entry = entry_out c.args.node.now taken.new.self c.args.slot taken.result.0 taken.result.1 taken.result.2 c.requires.place taken.ensures.key taken.ensures.child taken.ensures.argument taken.ensures.after;
+      bare = c.remove_at-separator.new.self;
       moves = c.move_pair.ensures;
+      child = c.remove_at-separator.result.1;
+      entry = entry_out c.args.node.now c.remove_at-separator.new.self c.args.slot c.remove_at-separator.result.0 c.remove_at-separator.result.1 c.remove_at-separator.result.2 c.requires.place c.remove_at-separator.ensures.key c.remove_at-separator.ensures.child c.remove_at-separator.ensures.argument c.remove_at-separator.ensures.after;
       rotates = c.in-Ok.ensures.rotates;
     }
 
 pub returns-in-Err-clause-node : goal.returns-in-Err-clause-node
 returns-in-Err-clause-node g c =
-    let taken = c.remove_at-separator in
-    entry_in c.args.node.now taken.new.self c.ask_leaves.new.node c.insert_at.new.self c.args.slot taken.result.0 taken.result.1 taken.result.2
-    (entry_out c.args.node.now taken.new.self c.args.slot taken.result.0 taken.result.1 taken.result.2 c.requires.place taken.ensures.key taken.ensures.child taken.ensures.argument taken.ensures.after) c.in-Err.ensures.refused c.insert_at.ensures
+    entry_returned c.args.node.now c.remove_at-separator.new.self c.ask_leaves.new.node c.insert_at.new.self c.args.slot c.remove_at-separator.result.0 c.remove_at-separator.result.1 c.remove_at-separator.result.2 c.requires.place c.remove_at-separator.ensures.key c.remove_at-separator.ensures.child c.remove_at-separator.ensures.argument c.remove_at-separator.ensures.after c.in-Err.ensures.refused c.insert_at.ensures
 
 pub returns-in-Err-clause-left : goal.returns-in-Err-clause-left
 returns-in-Err-clause-left g c =

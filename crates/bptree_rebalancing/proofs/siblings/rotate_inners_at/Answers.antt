@@ -1,36 +1,8 @@
-use Rattle.bptree_rebalancing.proofs.Triples.{one_was, other_was, above_is_then, one_is_then, rest_stay_then, leaf_stays_then, ok_so}
+use Rattle.bptree_rebalancing.proofs.Triples.{inners_rotated, ok_so}
 use Rattle.bptree_rebalancing.proofs.siblings.rotate_inners_at.Goals as goal
 
 pub returns-clause-rotates : goal.returns-clause-rotates
 returns-clause-rotates g c =
-    let slots = g.S.NodeStore.slots in
-    let old = slots c.args.store.now in
-    let t1 = c.take_inner-node in
-    let t2 = c.take_inner-one in
-    let t3 = c.take_inner-other in
-    let p1 = c.put_back_inner in
-    let p2 = c.put_back_inner-2 in
-    let p3 = c.put_back_inner-3 in
-    let asked = c.rotate_inners-asked in
-    let at_left = one_was old (slots t1.new.self) (slots t2.new.self) (slots t3.new.self) (slots p1.new.self) (slots p2.new.self) c.args.id c.args.left c.args.right asked.new.node t2.result.value t3.result.value asked.new.left c.requires.apart t1.ensures.updates t2.ensures.value t2.ensures.updates t3.ensures.value t3.ensures.updates p1.ensures p2.ensures in
-    let at_right = other_was old (slots t1.new.self) (slots t2.new.self) (slots t3.new.self) (slots p1.new.self) (slots p2.new.self) c.args.id c.args.left c.args.right asked.new.node t2.result.value t3.result.value asked.new.left c.requires.apart t1.ensures.updates t2.ensures.value t2.ensures.updates t3.ensures.value t3.ensures.updates p1.ensures p2.ensures in
-    ok_so asked.result _ _ asked.ensures.rotates (λ done rotates. record {
-      node = t1.result.value;
-      one = t2.result.value;
-      other = t3.result.value;
-      node' = asked.new.node;
-      one' = asked.new.left;
-      other' = asked.new.right;
-      at_node = t1.ensures.value;
-      at_left = at_left;
-      at_right = at_right;
-      is_node = above_is_then old (slots t1.new.self) (slots t2.new.self) (slots t3.new.self) (slots p1.new.self) (slots p2.new.self) c.args.id c.args.left c.args.right asked.new.node t2.result.value t3.result.value asked.new.left c.requires.apart t1.ensures.updates t2.ensures.value t2.ensures.updates t3.ensures.value t3.ensures.updates p1.ensures p2.ensures (slots p3.new.self) _ p3.ensures;
-      is_left = one_is_then old (slots t1.new.self) (slots t2.new.self) (slots t3.new.self) (slots p1.new.self) (slots p2.new.self) c.args.id c.args.left c.args.right asked.new.node t2.result.value t3.result.value asked.new.left c.requires.apart t1.ensures.updates t2.ensures.value t2.ensures.updates t3.ensures.value t3.ensures.updates p1.ensures p2.ensures (slots p3.new.self) _ p3.ensures;
-      is_right = p3.ensures.inner.changed;
-      inners = rest_stay_then old (slots t1.new.self) (slots t2.new.self) (slots t3.new.self) (slots p1.new.self) (slots p2.new.self) c.args.id c.args.left c.args.right asked.new.node t2.result.value t3.result.value asked.new.left c.requires.apart t1.ensures.updates t2.ensures.value t2.ensures.updates t3.ensures.value t3.ensures.updates p1.ensures p2.ensures (slots p3.new.self) _ p3.ensures;
-      leaf = leaf_stays_then old (slots t1.new.self) (slots t2.new.self) (slots t3.new.self) (slots p1.new.self) (slots p2.new.self) c.args.id c.args.left c.args.right asked.new.node t2.result.value t3.result.value asked.new.left c.requires.apart t1.ensures.updates t2.ensures.value t2.ensures.updates t3.ensures.value t3.ensures.updates p1.ensures p2.ensures (slots p3.new.self) _ p3.ensures;
-      apart = c.requires.apart;
-      most = rw t1.ensures.value at c.requires.most;
-      can = rw (at_left, at_right) at c.requires.rotates;
-      transfers = rw (c.deref_mut.ensures.value, c.deref_mut-2.ensures.value, c.deref_mut-3.ensures.value) at rotates;
-    })
+    ok_so c.rotate_inners-asked.result _ _ c.rotate_inners-asked.ensures.rotates
+    (λ done rotates. inners_rotated c.args.id c.args.left c.args.right c.requires.siblings.apart c.take_inner-node.ensures.updates c.take_inner-one.ensures.value c.take_inner-one.ensures.updates c.take_inner-other.ensures.value c.take_inner-other.ensures.updates c.put_back_inner.ensures c.put_back_inner-2.ensures
+    c.take_inner-node.ensures.value c.put_back_inner-3.ensures c.requires.siblings.most c.requires.rotates (rw (c.deref_mut.ensures.value, c.deref_mut-2.ensures.value, c.deref_mut-3.ensures.value) at rotates))

@@ -1,23 +1,22 @@
-use Rattle.std.proofs.Common.{sym, ap, ◌∙◌}
-use Rattle.bptree_rebalancing.proofs.Triples.{one_was, other_was, all_inners_back}
-use Rattle.bptree_ascent.proofs.Undone.{same_node}
-use Rattle.bptree_nodes.specs.Slot.{Present}
+use Rattle.bptree_rebalancing.proofs.Triples.{one_there, other_there, node_held, one_held, other_held_then, inners_unrotated}
 use Rattle.bptree_rebalancing.proofs.siblings.undo_rotate_inners_at.Goals as goal
+
+pub take_inner-one-requires : goal.take_inner-one-requires
+take_inner-one-requires g c = one_there c.requires.0 c.args.id c.args.left c.args.right c.requires.1.three c.requires.1.far c.take_inner-node.ensures.updates
+
+pub take_inner-other-requires : goal.take_inner-other-requires
+take_inner-other-requires g c = other_there c.requires.0 c.args.id c.args.left c.args.right c.requires.1.three c.requires.1.far c.take_inner-node.ensures.updates c.take_inner-one.ensures.updates
+
+pub put_back_inner-requires : goal.put_back_inner-requires
+put_back_inner-requires g c = node_held c.requires.0 c.args.id c.args.left c.args.right c.requires.1.three c.requires.1.far c.take_inner-node.ensures.updates c.take_inner-one.ensures.updates c.take_inner-other.ensures.updates
+
+pub put_back_inner-requires-2 : goal.put_back_inner-requires-2
+put_back_inner-requires-2 g c = one_held c.requires.0 c.args.id c.args.left c.args.right c.requires.1.three c.requires.1.far c.take_inner-node.ensures.updates c.take_inner-one.ensures.updates c.take_inner-other.ensures.updates c.put_back_inner.ensures
+
+pub put_back_inner-requires-3 : goal.put_back_inner-requires-3
+put_back_inner-requires-3 g c = other_held_then c.requires.0 c.args.id c.args.left c.args.right c.requires.1.three c.requires.1.far c.take_inner-node.ensures.updates c.take_inner-one.ensures.updates c.take_inner-other.ensures.updates c.put_back_inner.ensures c.put_back_inner-2.ensures
 
 pub returns : goal.returns
 returns g c was rotated =
-    let slots = g.S.NodeStore.slots in
-    let old = slots c.args.store.now in
-    let t1 = c.take_inner-node in
-    let t2 = c.take_inner-one in
-    let t3 = c.take_inner-other in
-    let p1 = c.put_back_inner in
-    let p2 = c.put_back_inner-2 in
-    let p3 = c.put_back_inner-3 in
-    let asked = c.undo_rotate_inners in
-    let node = same_node (old.inner c.args.id.0) t1.result.value rotated.node' t1.ensures.value rotated.is_node in
-    let one = same_node (old.inner c.args.left.0) t2.result.value rotated.one' (one_was old (slots t1.new.self) (slots t2.new.self) (slots t3.new.self) (slots p1.new.self) (slots p2.new.self) c.args.id c.args.left c.args.right asked.new.node t2.result.value t3.result.value asked.new.left rotated.apart t1.ensures.updates t2.ensures.value t2.ensures.updates t3.ensures.value t3.ensures.updates p1.ensures p2.ensures) rotated.is_left in
-    let other = same_node (old.inner c.args.right.0) t3.result.value rotated.other' (other_was old (slots t1.new.self) (slots t2.new.self) (slots t3.new.self) (slots p1.new.self) (slots p2.new.self) c.args.id c.args.left c.args.right asked.new.node t2.result.value t3.result.value asked.new.left rotated.apart t1.ensures.updates t2.ensures.value t2.ensures.updates t3.ensures.value t3.ensures.updates p1.ensures p2.ensures) rotated.is_right in
-    let undone = (rw (c.deref_mut.ensures.value, c.deref_mut-2.ensures.value, c.deref_mut-3.ensures.value) at asked.ensures).undoes rotated.node rotated.one rotated.other (rw (node, one, other) rotated.transfers) in
-    all_inners_back old (slots t1.new.self) (slots t2.new.self) (slots t3.new.self) (slots p1.new.self) (slots p2.new.self) c.args.id c.args.left c.args.right asked.new.node t2.result.value t3.result.value asked.new.left rotated.apart t1.ensures.updates t2.ensures.value t2.ensures.updates t3.ensures.value t3.ensures.updates p1.ensures p2.ensures (slots p3.new.self) _ p3.ensures was rotated.inners rotated.leaf
-    (rotated.at_node ∙ ap Present (sym undone.0)) (rotated.at_left ∙ ap Present (sym undone.1)) (rotated.at_right ∙ ap Present (sym undone.2))
+    inners_unrotated c.args.id c.args.left c.args.right (rotated.three.apart, rotated.far.0, rotated.far.1) c.take_inner-node.ensures.updates c.take_inner-one.ensures.value c.take_inner-one.ensures.updates c.take_inner-other.ensures.value c.take_inner-other.ensures.updates c.put_back_inner.ensures c.put_back_inner-2.ensures
+    c.take_inner-node.ensures.value c.put_back_inner-3.ensures was rotated ((rw (c.deref_mut.ensures.value, c.deref_mut-2.ensures.value, c.deref_mut-3.ensures.value) at c.undo_rotate_inners.ensures).undoes)

@@ -4,7 +4,6 @@ use Rattle.bptree_shape.specs.Shape.{inner_keys}
 use Rattle.bptree_ascent.proofs.Climbing.{empty_path}
 use Rattle.bptree_rebalancing.proofs.InnerUnderflow as sn
 use Rattle.bptree_rebalancing.proofs.Shortened as sh
-use Rattle.bptree_rebalancing.proofs.Triples.{ok_so}
 use Rattle.bptree_rebalancing.proofs.underflow.+ascend_underflow.Goals as goal
 
 pub get_inner-requires : goal.get_inner-requires
@@ -18,32 +17,30 @@ rise-requires g t c =
 
 pub returns-then-len-ge-INNER_MINIMUM-clause-rises : goal.returns-then-len-ge-INNER_MINIMUM-clause-rises
 returns-then-len-ge-INNER_MINIMUM-clause-rises g t c climbs =
-    let total = g.met.S.K.Ord.total in
-    let sum = g.S.Argument.Argument.is_summary in
     let now = g.S.NodeStore.slots c.args.store.now in
     let filled : 16 ≤ length (inner_keys (now.inner c.args.id.0)) = rw c.get_inner.ensures (omega (arith, c.len.ensures.value, c.if-len-ge-INNER_MINIMUM.true)) in
-    ok_so c.rise.result _ _ (c.rise.ensures.rises (sn.filled_climbs total sum now c.args.path.now c.args.id c.args.summary climbs filled))
-    (λ top risen. sn.sunk_filled total sum now c.args.path.now c.args.id c.args.summary climbs filled (g.S.NodeStore.slots c.rise.new.store) top risen)
+    sn.filled_sinks g.met.S.K.Ord.total g.S.Argument.Argument.is_summary now c.args.path.now c.args.id c.args.summary climbs filled (g.S.NodeStore.slots c.rise.new.store) c.rise.result
+    (c.rise.ensures.rises (sn.filled_climbs g.met.S.K.Ord.total g.S.Argument.Argument.is_summary now c.args.path.now c.args.id c.args.summary climbs filled))
 
 pub returns-in_default-clause-rises : goal.returns-in_default-clause-rises
 returns-in_default-clause-rises g t c climbs =
     let none = empty_path c.args.path.now (λ some. true≢false (sym (c.in_default.ensures.variant.1 some))) in
     sn.sunk_here g.met.S.K.Ord.total g.S.Argument.Argument.is_summary (g.S.NodeStore.slots c.args.store.now) c.args.path.now c.args.id c.args.summary climbs none
 
-pub inner_sibling-slot-requires-clause-present : goal.inner_sibling-slot-requires-clause-present
-inner_sibling-slot-requires-clause-present g t c = sn.node_there g.met.S.K.Ord.total c.requires c.pop.new.self c.in-Some.parent c.in-Some.place c.in-Some.field-0-2 c.in-Some.ensures.some
+pub sibling-slot-requires-clause-present : goal.sibling-slot-requires-clause-present
+sibling-slot-requires-clause-present g t c = sn.node_there g.met.S.K.Ord.total c.requires c.pop.new.self c.in-Some.parent c.in-Some.place c.in-Some.field-0-2 c.in-Some.ensures.some
 
-pub inner_sibling-slot-requires-clause-children : goal.inner_sibling-slot-requires-clause-children
-inner_sibling-slot-requires-clause-children g t c = sn.inners_there g.met.S.K.Ord.total c.requires c.pop.new.self c.in-Some.parent c.in-Some.place c.in-Some.field-0-2 c.in-Some.ensures.some
+pub sibling-slot-requires-clause-children : goal.sibling-slot-requires-clause-children
+sibling-slot-requires-clause-children g t c = sn.nodes_there g.met.S.K.Ord.total c.requires c.pop.new.self c.in-Some.parent c.in-Some.place c.in-Some.field-0-2 c.in-Some.ensures.some
 
-pub inner_sibling-slot-requires-clause-long : goal.inner_sibling-slot-requires-clause-long
-inner_sibling-slot-requires-clause-long g t c = sn.long_there g.met.S.K.Ord.total c.requires c.pop.new.self c.in-Some.parent c.in-Some.place c.in-Some.field-0-2 c.in-Some.ensures.some
+pub sibling-slot-requires-clause-long : goal.sibling-slot-requires-clause-long
+sibling-slot-requires-clause-long g t c = sn.long_there g.met.S.K.Ord.total c.requires c.pop.new.self c.in-Some.parent c.in-Some.place c.in-Some.field-0-2 c.in-Some.ensures.some
 
-pub inner_sibling-slot-requires-clause-place : goal.inner_sibling-slot-requires-clause-place
-inner_sibling-slot-requires-clause-place g t c = sn.place_there g.met.S.K.Ord.total c.requires c.pop.new.self c.in-Some.parent c.in-Some.place c.in-Some.field-0-2 c.in-Some.ensures.some
+pub sibling-slot-requires-clause-place : goal.sibling-slot-requires-clause-place
+sibling-slot-requires-clause-place g t c = sn.place_there g.met.S.K.Ord.total c.requires c.pop.new.self c.in-Some.parent c.in-Some.place c.in-Some.field-0-2 c.in-Some.ensures.some
 
-pub inner_sibling-slot-requires-clause-fits : goal.inner_sibling-slot-requires-clause-fits
-inner_sibling-slot-requires-clause-fits g t c = sn.fits_there g.met.S.K.Ord.total c.requires c.pop.new.self c.in-Some.parent c.in-Some.place c.in-Some.field-0-2 c.in-Some.ensures.some
+pub sibling-slot-requires-clause-fits : goal.sibling-slot-requires-clause-fits
+sibling-slot-requires-clause-fits g t c = sn.fits_there g.met.S.K.Ord.total c.requires c.pop.new.self c.in-Some.parent c.in-Some.place c.in-Some.field-0-2 c.in-Some.ensures.some
 
 pub inners_at-requires-clause-present : goal.inners_at-requires-clause-present
 inners_at-requires-clause-present g t c = sn.node_there g.met.S.K.Ord.total c.requires c.pop.new.self c.in-Some.parent c.in-Some.place c.in-Some.field-0-2 c.in-Some.ensures.some
@@ -55,79 +52,55 @@ pub inners_at-requires-clause-fits : goal.inners_at-requires-clause-fits
 inners_at-requires-clause-fits g t c = sn.fits_there g.met.S.K.Ord.total c.requires c.pop.new.self c.in-Some.parent c.in-Some.place c.in-Some.field-0-2 c.in-Some.ensures.some
 
 pub inners_at-requires-clause-slot : goal.inners_at-requires-clause-slot
-inners_at-requires-clause-slot g t c = sn.slot_there g.met.S.K.Ord.total c.requires c.pop.new.self c.in-Some.parent c.in-Some.place c.in-Some.field-0-2 c.in-Some.ensures.some c.inner_sibling-slot.result.0 c.inner_sibling-slot.result.1 c.inner_sibling-slot.ensures
+inners_at-requires-clause-slot g t c = sn.slot_there g.met.S.K.Ord.total c.requires c.pop.new.self c.in-Some.parent c.in-Some.place c.in-Some.field-0-2 c.in-Some.ensures.some c.sibling-slot.result.0 c.sibling-slot.result.1 c.sibling-slot.ensures
 
-pub rotate_inners_at-requires-clause-place : goal.rotate_inners_at-requires-clause-place
-rotate_inners_at-requires-clause-place g t c = sn.entry_at g.met.S.K.Ord.total c.requires c.pop.new.self c.in-Some.parent c.in-Some.place c.in-Some.field-0-2 c.in-Some.ensures.some c.inner_sibling-slot.result.0 c.inner_sibling-slot.result.1 c.inner_sibling-slot.ensures
-
-pub rotate_inners_at-requires-clause-most : goal.rotate_inners_at-requires-clause-most
-rotate_inners_at-requires-clause-most g t c = sn.most_there g.met.S.K.Ord.total c.requires c.pop.new.self c.in-Some.parent c.in-Some.place c.in-Some.field-0-2 c.in-Some.ensures.some
-
-pub rotate_inners_at-requires-clause-left : goal.rotate_inners_at-requires-clause-left
-rotate_inners_at-requires-clause-left g t c = omega (arith, (sn.left_there g.met.S.K.Ord.total c.requires c.pop.new.self c.in-Some.parent c.in-Some.place c.in-Some.field-0-2 c.in-Some.ensures.some c.inner_sibling-slot.result.0 c.inner_sibling-slot.result.1 c.inner_sibling-slot.ensures c.inners_at.result.0 c.inners_at.result.1 c.inners_at.ensures.left c.inners_at.ensures.right).3)
-
-pub rotate_inners_at-requires-clause-right : goal.rotate_inners_at-requires-clause-right
-rotate_inners_at-requires-clause-right g t c = omega (arith, (sn.right_there g.met.S.K.Ord.total c.requires c.pop.new.self c.in-Some.parent c.in-Some.place c.in-Some.field-0-2 c.in-Some.ensures.some c.inner_sibling-slot.result.0 c.inner_sibling-slot.result.1 c.inner_sibling-slot.ensures c.inners_at.result.0 c.inners_at.result.1 c.inners_at.ensures.left c.inners_at.ensures.right).3)
-
-pub rotate_inners_at-requires-clause-apart : goal.rotate_inners_at-requires-clause-apart
-rotate_inners_at-requires-clause-apart g t c = sn.apart_there g.met.S.K.Ord.total c.requires c.pop.new.self c.in-Some.parent c.in-Some.place c.in-Some.field-0-2 c.in-Some.ensures.some c.inner_sibling-slot.result.0 c.inner_sibling-slot.result.1 c.inner_sibling-slot.ensures c.inners_at.result.0 c.inners_at.result.1 c.inners_at.ensures.left c.inners_at.ensures.right
-
-pub merge_inners_at-requires-clause-place : goal.merge_inners_at-requires-clause-place
-merge_inners_at-requires-clause-place g t c = sn.entry_at g.met.S.K.Ord.total c.requires c.pop.new.self c.in-Some.parent c.in-Some.place c.in-Some.field-0-2 c.in-Some.ensures.some c.inner_sibling-slot.result.0 c.inner_sibling-slot.result.1 c.inner_sibling-slot.ensures
-
-pub merge_inners_at-requires-clause-most : goal.merge_inners_at-requires-clause-most
-merge_inners_at-requires-clause-most g t c = sn.most_there g.met.S.K.Ord.total c.requires c.pop.new.self c.in-Some.parent c.in-Some.place c.in-Some.field-0-2 c.in-Some.ensures.some
-
-pub merge_inners_at-requires-clause-left : goal.merge_inners_at-requires-clause-left
-merge_inners_at-requires-clause-left g t c = omega (arith, (sn.left_there g.met.S.K.Ord.total c.requires c.pop.new.self c.in-Some.parent c.in-Some.place c.in-Some.field-0-2 c.in-Some.ensures.some c.inner_sibling-slot.result.0 c.inner_sibling-slot.result.1 c.inner_sibling-slot.ensures c.inners_at.result.0 c.inners_at.result.1 c.inners_at.ensures.left c.inners_at.ensures.right).3)
-
-pub merge_inners_at-requires-clause-right : goal.merge_inners_at-requires-clause-right
-merge_inners_at-requires-clause-right g t c = omega (arith, (sn.right_there g.met.S.K.Ord.total c.requires c.pop.new.self c.in-Some.parent c.in-Some.place c.in-Some.field-0-2 c.in-Some.ensures.some c.inner_sibling-slot.result.0 c.inner_sibling-slot.result.1 c.inner_sibling-slot.ensures c.inners_at.result.0 c.inners_at.result.1 c.inners_at.ensures.left c.inners_at.ensures.right).3)
-
-pub merge_inners_at-requires-clause-apart : goal.merge_inners_at-requires-clause-apart
-merge_inners_at-requires-clause-apart g t c = sn.apart_there g.met.S.K.Ord.total c.requires c.pop.new.self c.in-Some.parent c.in-Some.place c.in-Some.field-0-2 c.in-Some.ensures.some c.inner_sibling-slot.result.0 c.inner_sibling-slot.result.1 c.inner_sibling-slot.ensures c.inners_at.result.0 c.inners_at.result.1 c.inners_at.ensures.left c.inners_at.ensures.right
+pub rotate_inners_at-requires-clause-siblings : goal.rotate_inners_at-requires-clause-siblings
+rotate_inners_at-requires-clause-siblings g t c = sn.siblings_there g.met.S.K.Ord.total c.requires c.pop.new.self c.in-Some.parent c.in-Some.place c.in-Some.field-0-2 c.in-Some.ensures.some c.sibling-slot.result.0 c.sibling-slot.result.1 c.sibling-slot.ensures c.inners_at.result.0 c.inners_at.result.1 c.inners_at.ensures.left c.inners_at.ensures.right
 
 pub rotate_inners_at-requires-clause-rotates : goal.rotate_inners_at-requires-clause-rotates
 rotate_inners_at-requires-clause-rotates g t c =
     let lacks : length (inner_keys ((g.S.NodeStore.slots c.args.store.now).inner c.args.id.0)) < 16 = rw c.get_inner.ensures (omega (arith, c.len.ensures.value, c.if-len-ge-INNER_MINIMUM.false)) in
-    sn.rotates_there g.met.S.K.Ord.total c.requires c.pop.new.self c.in-Some.parent c.in-Some.place c.in-Some.field-0-2 c.in-Some.ensures.some c.inner_sibling-slot.result.0 c.inner_sibling-slot.result.1 c.inner_sibling-slot.ensures c.inners_at.result.0 c.inners_at.result.1 c.inners_at.ensures.left c.inners_at.ensures.right lacks c.in-Some-giver.giver c.in-Some-giver.is
+    sn.rotates_there g.met.S.K.Ord.total c.requires c.pop.new.self c.in-Some.parent c.in-Some.place c.in-Some.field-0-2 c.in-Some.ensures.some c.sibling-slot.result.0 c.sibling-slot.result.1 c.sibling-slot.ensures c.inners_at.result.0 c.inners_at.result.1 c.inners_at.ensures.left c.inners_at.ensures.right lacks c.in-Some-giver.giver c.in-Some-giver.is
+
+pub merge_inners_at-requires-clause-siblings : goal.merge_inners_at-requires-clause-siblings
+merge_inners_at-requires-clause-siblings g t c = sn.siblings_there g.met.S.K.Ord.total c.requires c.pop.new.self c.in-Some.parent c.in-Some.place c.in-Some.field-0-2 c.in-Some.ensures.some c.sibling-slot.result.0 c.sibling-slot.result.1 c.sibling-slot.ensures c.inners_at.result.0 c.inners_at.result.1 c.inners_at.ensures.left c.inners_at.ensures.right
 
 pub merge_inners_at-requires-clause-fits : goal.merge_inners_at-requires-clause-fits
 merge_inners_at-requires-clause-fits g t c =
     let lacks : length (inner_keys ((g.S.NodeStore.slots c.args.store.now).inner c.args.id.0)) < 16 = rw c.get_inner.ensures (omega (arith, c.len.ensures.value, c.if-len-ge-INNER_MINIMUM.false)) in
-    sn.merges_there g.met.S.K.Ord.total c.requires c.pop.new.self c.in-Some.parent c.in-Some.place c.in-Some.field-0-2 c.in-Some.ensures.some c.inner_sibling-slot.result.0 c.inner_sibling-slot.result.1 c.inner_sibling-slot.ensures c.inners_at.result.0 c.inners_at.result.1 c.inners_at.ensures.left c.inners_at.ensures.right lacks c.in-None.is
+    sn.merges_there g.met.S.K.Ord.total c.requires c.pop.new.self c.in-Some.parent c.in-Some.place c.in-Some.field-0-2 c.in-Some.ensures.some c.sibling-slot.result.0 c.sibling-slot.result.1 c.sibling-slot.ensures c.inners_at.result.0 c.inners_at.result.1 c.inners_at.ensures.left c.inners_at.ensures.right lacks c.in-None.is
 
 pub rise-requires-in-Some-giver : goal.rise-requires-in-Some-giver
 rise-requires-in-Some-giver g t c =
     let lacks : length (inner_keys ((g.S.NodeStore.slots c.args.store.now).inner c.args.id.0)) < 16 = rw c.get_inner.ensures (omega (arith, c.len.ensures.value, c.if-len-ge-INNER_MINIMUM.false)) in
     let done = c.in_ok-above-in-Some-giver in
-    sh.rotated g.met.S.K.Ord.total c.requires c.pop.new.self c.in-Some.parent c.in-Some.place c.in-Some.field-0-2 c.in-Some.ensures.some c.inner_sibling-slot.result.0 c.inner_sibling-slot.result.1 c.inner_sibling-slot.ensures c.inners_at.result.0 c.inners_at.result.1 c.inners_at.ensures.left c.inners_at.ensures.right done.sides lacks c.in-Some-giver.giver c.in-Some-giver.is done.ensures.rotates done.above done.ensures.sums
+    sh.rotated g.met.S.K.Ord.total c.requires c.pop.new.self c.in-Some.parent c.in-Some.place c.in-Some.field-0-2 c.in-Some.ensures.some c.sibling-slot.result.0 c.sibling-slot.result.1 c.sibling-slot.ensures c.inners_at.result.0 c.inners_at.result.1 c.inners_at.ensures.left c.inners_at.ensures.right done.sides lacks c.in-Some-giver.giver c.in-Some-giver.is done.ensures.rotates done.above done.ensures.sums
 
 pub returns-in-Ok-clause-rises : goal.returns-in-Ok-clause-rises
 returns-in-Ok-clause-rises g t c short =
     let lacks : length (inner_keys ((g.S.NodeStore.slots c.args.store.now).inner c.args.id.0)) < 16 = rw c.get_inner.ensures (omega (arith, c.len.ensures.value, c.if-len-ge-INNER_MINIMUM.false)) in
     let done = c.in_ok-above-in-Some-giver in
-    sh.rotated_sinks g.met.S.K.Ord.total short c.pop.new.self c.in-Some.parent c.in-Some.place c.in-Some.field-0-2 c.in-Some.ensures.some c.inner_sibling-slot.result.0 c.inner_sibling-slot.result.1 c.inner_sibling-slot.ensures c.inners_at.result.0 c.inners_at.result.1 c.inners_at.ensures.left c.inners_at.ensures.right done.sides lacks c.in-Some-giver.giver c.in-Some-giver.is done.ensures.rotates done.above done.ensures.sums (g.S.NodeStore.slots c.rise-in-Some-giver.new.store) c.in-Ok.top
-    (c.in-Ok.ensures.rises (sh.rotated g.met.S.K.Ord.total short c.pop.new.self c.in-Some.parent c.in-Some.place c.in-Some.field-0-2 c.in-Some.ensures.some c.inner_sibling-slot.result.0 c.inner_sibling-slot.result.1 c.inner_sibling-slot.ensures c.inners_at.result.0 c.inners_at.result.1 c.inners_at.ensures.left c.inners_at.ensures.right done.sides lacks c.in-Some-giver.giver c.in-Some-giver.is done.ensures.rotates done.above done.ensures.sums))
+    sh.rotated_sinks g.met.S.K.Ord.total short c.pop.new.self c.in-Some.parent c.in-Some.place c.in-Some.field-0-2 c.in-Some.ensures.some c.sibling-slot.result.0 c.sibling-slot.result.1 c.sibling-slot.ensures c.inners_at.result.0 c.inners_at.result.1 c.inners_at.ensures.left c.inners_at.ensures.right done.sides lacks c.in-Some-giver.giver c.in-Some-giver.is done.ensures.rotates done.above done.ensures.sums (g.S.NodeStore.slots c.rise-in-Some-giver.new.store) c.in-Ok.top
+    (c.in-Ok.ensures.rises (sh.rotated g.met.S.K.Ord.total short c.pop.new.self c.in-Some.parent c.in-Some.place c.in-Some.field-0-2 c.in-Some.ensures.some c.sibling-slot.result.0 c.sibling-slot.result.1 c.sibling-slot.ensures c.inners_at.result.0 c.inners_at.result.1 c.inners_at.ensures.left c.inners_at.ensures.right done.sides lacks c.in-Some-giver.giver c.in-Some-giver.is done.ensures.rotates done.above done.ensures.sums))
 
 pub get_inner-requires-in-None : goal.get_inner-requires-in-None
-get_inner-requires-in-None g t c = (sn.left_there g.met.S.K.Ord.total c.requires c.pop.new.self c.in-Some.parent c.in-Some.place c.in-Some.field-0-2 c.in-Some.ensures.some c.inner_sibling-slot.result.0 c.inner_sibling-slot.result.1 c.inner_sibling-slot.ensures c.inners_at.result.0 c.inners_at.result.1 c.inners_at.ensures.left c.inners_at.ensures.right).0
+get_inner-requires-in-None g t c = (sn.left_there g.met.S.K.Ord.total c.requires c.pop.new.self c.in-Some.parent c.in-Some.place c.in-Some.field-0-2 c.in-Some.ensures.some c.sibling-slot.result.0 c.sibling-slot.result.1 c.sibling-slot.ensures c.inners_at.result.0 c.inners_at.result.1 c.inners_at.ensures.left c.inners_at.ensures.right).0
 
 pub ascend_underflow-requires : goal.ascend_underflow-requires
 ascend_underflow-requires g t c κs within =
     let done = c.in_ok-above-in-None in (
       omega (arith, ap length c.in-Some.ensures.some, length-append c.pop.new.self ((c.in-Some.parent, c.in-Some.place, c.in-Some.field-0-2) ∷ [])),
-      (within.0, (within.1.0, (within.1.1.0, (within.1.1.1, sh.merged g.met.S.K.Ord.total c.requires c.pop.new.self c.in-Some.parent c.in-Some.place c.in-Some.field-0-2 c.in-Some.ensures.some c.inner_sibling-slot.result.0 c.inner_sibling-slot.result.1 c.inner_sibling-slot.ensures c.inners_at.result.0 c.inners_at.result.1 c.inners_at.ensures.left c.inners_at.ensures.right done.sides done.emptied.value done.ensures.merges done.above done.ensures.sums)))),
+      (within.0, (within.1.0, (within.1.1.0, (within.1.1.1, sh.merged g.met.S.K.Ord.total c.requires c.pop.new.self c.in-Some.parent c.in-Some.place c.in-Some.field-0-2 c.in-Some.ensures.some c.sibling-slot.result.0 c.sibling-slot.result.1 c.sibling-slot.ensures c.inners_at.result.0 c.inners_at.result.1 c.inners_at.ensures.left c.inners_at.ensures.right done.sides done.emptied.value done.ensures.merges done.above done.ensures.sums)))),
     )
 
 pub release_inner-requires : goal.release_inner-requires
 release_inner-requires g t c =
     let done = c.in_ok-above-in-None in
-    sh.held_so g.met.S.K.Ord.total c.requires c.pop.new.self c.in-Some.parent c.in-Some.place c.in-Some.field-0-2 c.in-Some.ensures.some c.inner_sibling-slot.result.0 c.inner_sibling-slot.result.1 c.inner_sibling-slot.ensures c.inners_at.result.0 c.inners_at.result.1 c.inners_at.ensures.left c.inners_at.ensures.right done.sides done.emptied.value done.ensures.merges done.above done.ensures.sums (g.S.NodeStore.slots c.ascend_underflow.new.store) c.in-Ok-ascend_underflow.top
-    (c.in-Ok-ascend_underflow.ensures.rises (sh.merged g.met.S.K.Ord.total c.requires c.pop.new.self c.in-Some.parent c.in-Some.place c.in-Some.field-0-2 c.in-Some.ensures.some c.inner_sibling-slot.result.0 c.inner_sibling-slot.result.1 c.inner_sibling-slot.ensures c.inners_at.result.0 c.inners_at.result.1 c.inners_at.ensures.left c.inners_at.ensures.right done.sides done.emptied.value done.ensures.merges done.above done.ensures.sums))
+    sh.held_so g.met.S.K.Ord.total c.requires c.pop.new.self c.in-Some.parent c.in-Some.place c.in-Some.field-0-2 c.in-Some.ensures.some c.sibling-slot.result.0 c.sibling-slot.result.1 c.sibling-slot.ensures c.inners_at.result.0 c.inners_at.result.1 c.inners_at.ensures.left c.inners_at.ensures.right done.sides done.emptied.value done.ensures.merges done.above done.ensures.sums (g.S.NodeStore.slots c.ascend_underflow.new.store) c.in-Ok-ascend_underflow.top
+    (c.in-Ok-ascend_underflow.ensures.rises (sh.merged g.met.S.K.Ord.total c.requires c.pop.new.self c.in-Some.parent c.in-Some.place c.in-Some.field-0-2 c.in-Some.ensures.some c.sibling-slot.result.0 c.sibling-slot.result.1 c.sibling-slot.ensures c.inners_at.result.0 c.inners_at.result.1 c.inners_at.ensures.left c.inners_at.ensures.right done.sides done.emptied.value done.ensures.merges done.above done.ensures.sums))
 
 pub returns-in-Ok-ascend_underflow-clause-rises : goal.returns-in-Ok-ascend_underflow-clause-rises
 returns-in-Ok-ascend_underflow-clause-rises g t c short =
     let done = c.in_ok-above-in-None in
-    sh.merged_sinks g.met.S.K.Ord.total short c.pop.new.self c.in-Some.parent c.in-Some.place c.in-Some.field-0-2 c.in-Some.ensures.some c.inner_sibling-slot.result.0 c.inner_sibling-slot.result.1 c.inner_sibling-slot.ensures c.inners_at.result.0 c.inners_at.result.1 c.inners_at.ensures.left c.inners_at.ensures.right done.sides done.emptied.value done.ensures.merges done.above done.ensures.sums (g.S.NodeStore.slots c.ascend_underflow.new.store) c.in-Ok-ascend_underflow.top
-    (c.in-Ok-ascend_underflow.ensures.rises (sh.merged g.met.S.K.Ord.total short c.pop.new.self c.in-Some.parent c.in-Some.place c.in-Some.field-0-2 c.in-Some.ensures.some c.inner_sibling-slot.result.0 c.inner_sibling-slot.result.1 c.inner_sibling-slot.ensures c.inners_at.result.0 c.inners_at.result.1 c.inners_at.ensures.left c.inners_at.ensures.right done.sides done.emptied.value done.ensures.merges done.above done.ensures.sums)) (g.S.NodeStore.slots c.release_inner.new.self) c.release_inner.ensures
+    sh.merged_sinks g.met.S.K.Ord.total short c.pop.new.self c.in-Some.parent c.in-Some.place c.in-Some.field-0-2 c.in-Some.ensures.some c.sibling-slot.result.0 c.sibling-slot.result.1 c.sibling-slot.ensures c.inners_at.result.0 c.inners_at.result.1 c.inners_at.ensures.left c.inners_at.ensures.right done.sides done.emptied.value done.ensures.merges done.above done.ensures.sums (g.S.NodeStore.slots c.ascend_underflow.new.store) c.in-Ok-ascend_underflow.top
+    (c.in-Ok-ascend_underflow.ensures.rises (sh.merged g.met.S.K.Ord.total short c.pop.new.self c.in-Some.parent c.in-Some.place c.in-Some.field-0-2 c.in-Some.ensures.some c.sibling-slot.result.0 c.sibling-slot.result.1 c.sibling-slot.ensures c.inners_at.result.0 c.inners_at.result.1 c.inners_at.ensures.left c.inners_at.ensures.right done.sides done.emptied.value done.ensures.merges done.above done.ensures.sums)) (g.S.NodeStore.slots c.release_inner.new.self) c.release_inner.ensures
