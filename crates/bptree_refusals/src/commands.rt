@@ -203,21 +203,52 @@ where
 {
     let word = drawn(turn, 0) % 64;
     if word < 42 || base == Base::Short && word < 56 {
-        let key = S::K::sample(alloc, base.number_of(turn))?;
-        return Ok(match word {
-            _ if base.grows(turn) => Command::Insert(key, turn),
-            _ if base != Base::Low => Command::Remove(key),
-            _ => Command::RemoveAt(query_of::<S::K, S::Argument>(alloc, base, turn)?),
-        });
+        return near_change_of::<S>(alloc, base, turn);
     }
-    Ok(match word % 16 {
-        0..=4 => Command::Remove(key_of(alloc, base, turn)?),
-        5..=9 => Command::RemoveAt(query_of::<S::K, S::Argument>(alloc, base, turn)?),
-        10 | 11 => Command::Set(key_of(alloc, base, turn)?, turn),
-        12 | 13 => Command::SetAt(query_of::<S::K, S::Argument>(alloc, base, turn)?, turn),
-        15 if word == 63 && base == Base::Empty => Command::Clear,
-        _ => Command::Insert(key_of(alloc, base, turn)?, turn),
-    })
+    if word == 63 && base == Base::Empty {
+        return Ok(Command::Clear);
+    }
+    match word % 16 {
+        5..=9 | 12 | 13 => {
+            let query = query_of::<S::K, S::Argument>(alloc, base, turn)?;
+            Ok(if word % 16 < 10 {
+                Command::RemoveAt(query)
+            } else {
+                Command::SetAt(query, turn)
+            })
+        }
+        kind => {
+            let key = key_of(alloc, base, turn)?;
+            Ok(match kind {
+                0..=4 => Command::Remove(key),
+                10 | 11 => Command::Set(key, turn),
+                _ => Command::Insert(key, turn),
+            })
+        }
+    }
+}
+
+// One at a key that most changes of the turn put or remove.
+fn near_change_of<S: NodeStore<V = u64>>(
+    alloc: Global,
+    base: Base,
+    turn: u64,
+) -> Result<CommandOn<S>, AllocError>
+where
+    S::K: Sample,
+    S::Argument: Asked<S::K>,
+{
+    let key = S::K::sample(alloc, base.number_of(turn))?;
+    if base.grows(turn) {
+        return Ok(Command::Insert(key, turn));
+    }
+    if base != Base::Low {
+        return Ok(Command::Remove(key));
+    }
+    match query_of::<S::K, S::Argument>(alloc, base, turn) {
+        Ok(query) => Ok(Command::RemoveAt(query)),
+        Err(_) => Err(AllocError),
+    }
 }
 
 // A command that changes no tree.
@@ -292,17 +323,41 @@ where
     S::Argument: Asked<S::K>,
 {
     let mut commands = Vec::new(alloc);
-    if base.is_change(turn) {
-        commands.push(change_of::<S>(alloc, base, turn)?)?;
-        return Ok(commands);
+    match lists::<S>(alloc, &mut commands, base, turn) {
+        Ok(()) => Ok(commands),
+        Err(_) => Err(AllocError),
     }
-    commands.push(hold_of::<S>(alloc, base, turn)?)?;
+}
+
+// Adds them to a list.
+fn lists<S: NodeStore<V = u64>>(
+    alloc: Global,
+    commands: &mut Vec<CommandOn<S>>,
+    base: Base,
+    turn: u64,
+) -> Result<(), AllocError>
+where
+    S::K: Sample,
+    S::Argument: Asked<S::K>,
+{
+    if base.is_change(turn) {
+        return adds(commands, change_of::<S>(alloc, base, turn));
+    }
+    adds(commands, hold_of::<S>(alloc, base, turn))?;
     for more in 1..3u64 {
         let seed = turn.wrapping_add(more.wrapping_mul(400));
-        commands.push(read_of::<S>(alloc, base, seed)?)?;
-        commands.push(move_of::<S>(seed))?;
+        adds(commands, read_of::<S>(alloc, base, seed))?;
+        adds(commands, Ok(move_of::<S>(seed)))?;
     }
-    Ok(commands)
+    Ok(())
+}
+
+// Adds what was made to a list.
+fn adds<T: Drop>(list: &mut Vec<T>, made: Result<T, AllocError>) -> Result<(), AllocError> {
+    match list.push(made?) {
+        Ok(()) => Ok(()),
+        Err(_) => Err(AllocError),
+    }
 }
 
 // Runs the commands of a turn, and tells their replies. An error stands for any refusal among
