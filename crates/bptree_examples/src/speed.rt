@@ -17,11 +17,6 @@ use sweep_bptree::tree::{
 
 type Pair = (u64, u64);
 
-// Stores of numbers, without summaries and with counts.
-type Plain = NodeStoreVec<u64, u64>;
-
-type Counted = NodeStoreVec<u64, u64, Count>;
-
 // Numbers in no order: each is made of the one before by shifts.
 fn next_number(state: u64) -> u64 {
     let mut next = state;
@@ -42,18 +37,23 @@ fn odd_numbers(alloc: Global, many: usize) -> Result<Vec<u64>, AllocError> {
     Ok(numbers)
 }
 
-// The same numbers in another order.
-fn shuffled(alloc: Global, numbers: &[u64]) -> Result<Vec<u64>, AllocError> {
-    let mut others = numbers.to_vec(alloc)?;
+// Brings numbers into another order.
+fn shuffle(numbers: &mut [u64]) {
     let mut state = 0x2545_f491_4f6c_dd1d;
-    let many = others.len();
+    let many = numbers.len();
     for i in 1..many {
         state = next_number(state);
         let place = (state % (i as u64 + 1)) as usize;
-        if place < others.len() && i < others.len() {
-            others.swap(i, place);
+        if place < numbers.len() && i < numbers.len() {
+            numbers.swap(i, place);
         }
     }
+}
+
+// The same numbers in another order.
+fn shuffled(alloc: Global, numbers: &[u64]) -> Result<Vec<u64>, AllocError> {
+    let mut others = numbers.to_vec(alloc)?;
+    shuffle(&mut others);
     Ok(others)
 }
 
@@ -79,25 +79,25 @@ pub(crate) fn now(rt: &HostRuntime) -> Option<Instant> {
     Instant::now(rt).ok()
 }
 
-// Each key with itself as its value.
+// Each key with itself as its value. Answers whether none was refused, as what follows does.
 fn insert_all<S: NodeStore<K = u64, V = u64>>(
     rt: &HostRuntime,
     kind: &str,
     call: &str,
     tree: &mut BPlusTree<S>,
     keys: &[u64],
-) -> Result<(), AllocError> {
+) -> bool {
     let start = now(rt);
     let mut found = 0u64;
     for key in keys {
         match tree.insert(*key, *key) {
             Ok(None) => {}
             Ok(Some(_)) => found = found.wrapping_add(1),
-            Err(_) => return Err(AllocError),
+            Err(_) => return false,
         }
     }
     tell(rt, kind, call, start, keys.len(), found);
-    Ok(())
+    true
 }
 
 fn get_all<S: NodeStore<K = u64, V = u64>>(
@@ -144,16 +144,18 @@ fn remove_all<S: NodeStore<K = u64, V = u64>>(
     kind: &str,
     tree: &mut BPlusTree<S>,
     keys: &[u64],
-) -> Result<(), AllocError> {
+) -> bool {
     let start = now(rt);
     let mut sum = 0u64;
     for key in keys {
-        if let Some(value) = tree.remove(key)? {
-            sum = sum.wrapping_add(value);
+        match tree.remove(key) {
+            Ok(Some(value)) => sum = sum.wrapping_add(value),
+            Ok(None) => {}
+            Err(_) => return false,
         }
     }
     tell(rt, kind, "remove", start, keys.len(), sum);
-    Ok(())
+    true
 }
 
 // A cursor goes from the first key to the last.
@@ -161,19 +163,24 @@ fn walk_through<S: NodeStore<K = u64, V = u64>>(
     rt: &HostRuntime,
     kind: &str,
     tree: &BPlusTree<S>,
-) -> Result<(), AllocError> {
+) -> bool {
     let start = now(rt);
     let mut sum = 0u64;
-    let mut at = tree.cursor_first()?;
+    let Ok(mut at) = tree.cursor_first() else {
+        return false;
+    };
     for _ in 0..tree.len() {
         let Some(cursor) = at else {
             break;
         };
         sum = sum.wrapping_add(*cursor.key());
-        at = cursor.next(tree)?;
+        let Ok(next) = cursor.next(tree) else {
+            return false;
+        };
+        at = next;
     }
     tell(rt, kind, "cursor", start, tree.len(), sum);
-    Ok(())
+    true
 }
 
 fn drain<S: NodeStore<K = u64, V = u64>>(rt: &HostRuntime, kind: &str, tree: BPlusTree<S>) {
@@ -186,23 +193,12 @@ fn drain<S: NodeStore<K = u64, V = u64>>(rt: &HostRuntime, kind: &str, tree: BPl
     tell(rt, kind, "drain", start, many, sum);
 }
 
-fn pairs_of(alloc: Global, keys: &[u64]) -> Result<Vec<Pair>, AllocError> {
+pub(crate) fn pairs_of(alloc: Global, keys: &[u64]) -> Result<Vec<Pair>, AllocError> {
     let mut pairs = Vec::with_capacity(alloc, keys.len())?;
     for key in keys {
         pairs.push((*key, *key))?;
     }
     Ok(pairs)
-}
-
-fn inserted<S: NodeStore<K = u64, V = u64>>(
-    rt: &HostRuntime,
-    kind: &str,
-    call: &str,
-    keys: &[u64],
-) -> Result<BPlusTree<S>, AllocError> {
-    let mut tree = BPlusTree::new(S::empty(rt.alloc()))?;
-    insert_all(rt, kind, call, &mut tree, keys)?;
-    Ok(tree)
 }
 
 fn load_all<S: NodeStore<K = u64, V = u64>>(
@@ -220,45 +216,30 @@ fn load_all<S: NodeStore<K = u64, V = u64>>(
     Ok(tree)
 }
 
-fn walked<S: CloneStore<K = u64, V = u64>>(
-    rt: &HostRuntime,
-    kind: &str,
-    tree: &BPlusTree<S>,
-) -> Result<(), AllocError>
-where
-    S::Argument: CloneArgument<u64>,
-{
-    walk_through(rt, kind, tree)?;
-    step_through(rt, kind, "full", tree);
-    whole::clone_all(rt, kind, tree)
-}
-
 // A tree that is loaded at once, walked and drained.
-fn drained<S: CloneStore<K = u64, V = u64>>(
-    rt: &HostRuntime,
-    kind: &str,
-    sorted: &[u64],
-) -> Result<(), AllocError>
+fn drained<S: CloneStore<K = u64, V = u64>>(rt: &HostRuntime, kind: &str, sorted: &[u64]) -> bool
 where
     S::Argument: CloneArgument<u64>,
 {
-    let tree: BPlusTree<S> = load_all(rt, kind, sorted)?;
-    walked(rt, kind, &tree)?;
+    let Ok(tree) = load_all::<S>(rt, kind, sorted) else {
+        return false;
+    };
+    let walked = walk_through(rt, kind, &tree);
+    step_through(rt, kind, "full", &tree);
+    let cloned = whole::clone_all(rt, kind, &tree);
     drain(rt, kind, tree);
-    Ok(())
+    walked && cloned
 }
 
 // One tree of ascending keys, filled by insertions, and another that is loaded at once.
-fn loaded<S: CloneStore<K = u64, V = u64>>(
-    rt: &HostRuntime,
-    kind: &str,
-    sorted: &[u64],
-) -> Result<(), AllocError>
+fn loaded<S: CloneStore<K = u64, V = u64>>(rt: &HostRuntime, kind: &str, sorted: &[u64]) -> bool
 where
     S::Argument: CloneArgument<u64>,
 {
-    let _upward: BPlusTree<S> = inserted(rt, kind, "upward", sorted)?;
-    drained::<S>(rt, kind, sorted)
+    let Ok(mut upward) = BPlusTree::<S>::new(S::empty(rt.alloc())) else {
+        return false;
+    };
+    insert_all(rt, kind, "upward", &mut upward, sorted) && drained::<S>(rt, kind, sorted)
 }
 
 // The keys name places, and are ranked.
@@ -266,7 +247,7 @@ fn place_all<S: NodeStore<K = u64, V = u64>>(
     rt: &HostRuntime,
     tree: &BPlusTree<S>,
     keys: &[u64],
-) -> Result<(), AllocError>
+) -> bool
 where
     S::Argument: SearchArgument<u64, Query = usize>,
 {
@@ -274,31 +255,35 @@ where
     let mut sum = 0u64;
     let many = keys.len() as u64 + 1;
     for key in keys {
-        if let Some((found, _)) = tree.get_by_argument((*key % many) as usize)? {
-            sum = sum.wrapping_add(*found);
+        match tree.get_by_argument((*key % many) as usize) {
+            Ok(Some((found, _))) => sum = sum.wrapping_add(*found),
+            Ok(None) => {}
+            Err(_) => return false,
         }
     }
     tell(rt, "count", "at", start, keys.len(), sum);
-    Ok(())
+    true
 }
 
 fn rank_all<S: NodeStore<K = u64, V = u64>>(
     rt: &HostRuntime,
     tree: &BPlusTree<S>,
     keys: &[u64],
-) -> Result<(), AllocError>
+) -> bool
 where
     S::Argument: RankArgument<u64, Rank = usize>,
 {
     let start = now(rt);
     let mut sum = 0u64;
     for key in keys {
-        if let Ok(rank) = tree.rank_by_argument(key)? {
-            sum = sum.wrapping_add(rank as u64);
+        match tree.rank_by_argument(key) {
+            Ok(Ok(rank)) => sum = sum.wrapping_add(rank as u64),
+            Ok(Err(_)) => {}
+            Err(_) => return false,
         }
     }
     tell(rt, "count", "rank", start, keys.len(), sum);
-    Ok(())
+    true
 }
 
 // The first pair that is not below each key, whose lowest bit is left out.
@@ -344,17 +329,20 @@ fn page_all<S: NodeStore<K = u64, V = u64>>(
     rt: &HostRuntime,
     tree: &BPlusTree<S>,
     places: &[u64],
-) -> Result<(), AllocError>
+) -> bool
 where
     S::Argument: SearchArgument<u64, Query = usize>,
 {
     let start = now(rt);
     let mut sum = 0u64;
     for place in places {
-        sum = add_keys(sum, tree.range_by_argument(*place as usize, 20)?);
+        let Ok(page) = tree.range_by_argument(*place as usize, 20) else {
+            return false;
+        };
+        sum = add_keys(sum, page);
     }
     tell(rt, "count", "page", start, places.len(), sum);
-    Ok(())
+    true
 }
 
 /// A summary that can be told as a number.
@@ -374,7 +362,7 @@ fn sum_all<S: NodeStore<K = u64, V = u64>>(
     tree: &BPlusTree<S>,
     sorted: &[u64],
     places: &[u64],
-) -> Result<(), AllocError>
+) -> bool
 where
     S::Argument: Tells,
 {
@@ -385,42 +373,36 @@ where
         let from = *place as usize / 2;
         let lo = sorted.get(from);
         let hi = sorted.get(from.saturating_add(half));
-        sum = sum.wrapping_add(tree.range_argument(lo, hi)?.number());
+        let Ok(summary) = tree.range_argument(lo, hi) else {
+            return false;
+        };
+        sum = sum.wrapping_add(summary.number());
     }
     tell(rt, "count", "sum", start, places.len(), sum);
-    Ok(())
+    true
 }
 
 // The same keys in three orders, and all numbers below their number.
 #[derive(Clone, Copy)]
-struct Numbers<'a> {
-    keys: &'a [u64],
-    others: &'a [u64],
-    sorted: &'a [u64],
+pub(crate) struct Numbers<'a> {
+    pub(crate) keys: &'a [u64],
+    pub(crate) others: &'a [u64],
+    pub(crate) sorted: &'a [u64],
     places: &'a [u64],
 }
 
-// A tree that is filled and read.
-fn filled<S: NodeStore<K = u64, V = u64>>(
+// A tree is read that has the keys.
+fn read_all<S: NodeStore<K = u64, V = u64>>(
     rt: &HostRuntime,
     kind: &str,
+    tree: &BPlusTree<S>,
     numbers: &Numbers<'_>,
-) -> Result<BPlusTree<S>, AllocError> {
-    let tree = inserted(rt, kind, "insert", numbers.keys)?;
-    get_all(rt, kind, "get", &tree, numbers.others, u64::MAX);
-    get_all(rt, kind, "absent", &tree, numbers.others, u64::MAX - 1);
-    get_all(rt, kind, "inorder", &tree, numbers.sorted, u64::MAX);
-    step_through(rt, kind, "step", &tree);
-    lower_all(rt, kind, &tree, numbers.others);
-    Ok(tree)
-}
-
-fn plain<S: NodeStore<K = u64, V = u64>>(
-    rt: &HostRuntime,
-    numbers: &Numbers<'_>,
-) -> Result<(), AllocError> {
-    let mut tree: BPlusTree<S> = filled(rt, "plain", numbers)?;
-    remove_all(rt, "plain", &mut tree, numbers.others)
+) {
+    get_all(rt, kind, "get", tree, numbers.others, u64::MAX);
+    get_all(rt, kind, "absent", tree, numbers.others, u64::MAX - 1);
+    get_all(rt, kind, "inorder", tree, numbers.sorted, u64::MAX);
+    step_through(rt, kind, "step", tree);
+    lower_all(rt, kind, tree, numbers.others);
 }
 
 // Places and ranks, and parts of a tree, each of ten or of twenty pairs.
@@ -428,49 +410,60 @@ fn placed<S: NodeStore<K = u64, V = u64>>(
     rt: &HostRuntime,
     tree: &BPlusTree<S>,
     numbers: &Numbers<'_>,
-) -> Result<(), AllocError>
+) -> bool
 where
     S::Argument: SearchArgument<u64, Query = usize> + RankArgument<u64, Rank = usize> + Tells,
 {
-    place_all(rt, tree, numbers.others)?;
-    rank_all(rt, tree, numbers.others)?;
-    range_all(rt, tree, numbers.sorted, numbers.places);
-    page_all(rt, tree, numbers.places)?;
-    sum_all(rt, tree, numbers.sorted, numbers.places)
-}
-
-fn counted<S: NodeStore<K = u64, V = u64>>(
-    rt: &HostRuntime,
-    numbers: &Numbers<'_>,
-) -> Result<(), AllocError>
-where
-    S::Argument: SearchArgument<u64, Query = usize> + RankArgument<u64, Rank = usize> + Tells,
-{
-    let mut tree: BPlusTree<S> = filled(rt, "count", numbers)?;
-    placed(rt, &tree, numbers)?;
-    remove_all(rt, "count", &mut tree, numbers.others)
-}
-
-pub(crate) fn put<S: NodeStore>(
-    tree: &mut BPlusTree<S>,
-    key: S::K,
-    value: S::V,
-) -> Result<(), AllocError> {
-    match tree.insert(key, value) {
-        Ok(_) => Ok(()),
-        Err(_) => Err(AllocError),
+    if !place_all(rt, tree, numbers.others) || !rank_all(rt, tree, numbers.others) {
+        return false;
     }
+    range_all(rt, tree, numbers.sorted, numbers.places);
+    page_all(rt, tree, numbers.places) && sum_all(rt, tree, numbers.sorted, numbers.places)
+}
+
+// Fills a tree without summaries, reads it and empties it.
+fn plain<S: NodeStore<K = u64, V = u64>>(rt: &HostRuntime, numbers: &Numbers<'_>) -> bool {
+    let Ok(mut tree) = BPlusTree::<S>::new(S::empty(rt.alloc())) else {
+        return false;
+    };
+    if !insert_all(rt, "plain", "insert", &mut tree, numbers.keys) {
+        return false;
+    }
+    read_all(rt, "plain", &tree, numbers);
+    remove_all(rt, "plain", &mut tree, numbers.others)
+}
+
+// The same of one with counts.
+fn counted<S: NodeStore<K = u64, V = u64>>(rt: &HostRuntime, numbers: &Numbers<'_>) -> bool
+where
+    S::Argument: SearchArgument<u64, Query = usize> + RankArgument<u64, Rank = usize> + Tells,
+{
+    let Ok(mut tree) = BPlusTree::<S>::new(S::empty(rt.alloc())) else {
+        return false;
+    };
+    if !insert_all(rt, "count", "insert", &mut tree, numbers.keys) {
+        return false;
+    }
+    read_all(rt, "count", &tree, numbers);
+    placed(rt, &tree, numbers) && remove_all(rt, "count", &mut tree, numbers.others)
+}
+
+// Puts a pair. Answers whether it was not refused.
+pub(crate) fn put<S: NodeStore>(tree: &mut BPlusTree<S>, key: S::K, value: S::V) -> bool {
+    tree.insert(key, value).is_ok()
 }
 
 // Keys in groups of 500.
 fn insert_in_groups<S: NodeStore<K = Pair, V = u64>>(
     tree: &mut BPlusTree<S>,
     numbers: &[u64],
-) -> Result<(), AllocError> {
+) -> bool {
     for number in numbers {
-        put(tree, (*number / 500, *number % 500), *number)?;
+        if !put(tree, (*number / 500, *number % 500), *number) {
+            return false;
+        }
     }
-    Ok(())
+    true
 }
 
 fn get_in_groups<S: NodeStore<K = Pair, V = u64>>(
@@ -492,7 +485,7 @@ fn place_in_groups<S: NodeStore<K = Pair, V = u64>>(
     rt: &HostRuntime,
     tree: &BPlusTree<S>,
     numbers: &[u64],
-) -> Result<(), AllocError>
+) -> bool
 where
     S::Argument: SearchArgument<Pair, Query = (Tuple2<u64>, usize)>,
 {
@@ -500,31 +493,35 @@ where
     let mut sum = 0u64;
     for number in numbers {
         let place = (*number % 500) as usize;
-        if let Some((_, value)) = tree.get_by_argument((Tuple2(*number / 500), place))? {
-            sum = sum.wrapping_add(*value);
+        match tree.get_by_argument((Tuple2(*number / 500), place)) {
+            Ok(Some((_, value))) => sum = sum.wrapping_add(*value),
+            Ok(None) => {}
+            Err(_) => return false,
         }
     }
     tell(rt, "groups", "at", start, numbers.len(), sum);
-    Ok(())
+    true
 }
 
 fn rank_in_groups<S: NodeStore<K = Pair, V = u64>>(
     rt: &HostRuntime,
     tree: &BPlusTree<S>,
     numbers: &[u64],
-) -> Result<(), AllocError>
+) -> bool
 where
     S::Argument: RankArgument<Pair, Rank = Option<(Tuple2<u64>, usize)>>,
 {
     let start = now(rt);
     let mut sum = 0u64;
     for number in numbers {
-        if let Ok(Some((_, rank))) = tree.rank_by_argument(&(*number / 500, *number % 500))? {
-            sum = sum.wrapping_add(rank as u64);
+        match tree.rank_by_argument(&(*number / 500, *number % 500)) {
+            Ok(Ok(Some((_, rank)))) => sum = sum.wrapping_add(rank as u64),
+            Ok(_) => {}
+            Err(_) => return false,
         }
     }
     tell(rt, "groups", "rank", start, numbers.len(), sum);
-    Ok(())
+    true
 }
 
 // The first pair of a page of twenty, from each place of each group on.
@@ -532,33 +529,35 @@ fn page_in_groups<S: NodeStore<K = Pair, V = u64>>(
     rt: &HostRuntime,
     tree: &BPlusTree<S>,
     numbers: &[u64],
-) -> Result<(), AllocError> {
+) -> bool {
     let start = now(rt);
     let mut sum = 0u64;
     for number in numbers {
         let group = Tuple2(*number / 500);
-        let place = (*number % 500) as usize;
-        if let Some((_, value)) = tree.group_part(&group, place, 20)?.next() {
+        let Ok(mut page) = tree.group_part(&group, (*number % 500) as usize, 20) else {
+            return false;
+        };
+        if let Some((_, value)) = page.next() {
             sum = sum.wrapping_add(*value);
         }
     }
     tell(rt, "groups", "page", start, numbers.len(), sum);
-    Ok(())
+    true
 }
 
 fn read_in_groups<S: NodeStore<K = Pair, V = u64>>(
     rt: &HostRuntime,
     tree: &BPlusTree<S>,
     numbers: &[u64],
-) -> Result<(), AllocError>
+) -> bool
 where
     S::Argument: SearchArgument<Pair, Query = (Tuple2<u64>, usize)>,
     S::Argument: RankArgument<Pair, Rank = Option<(Tuple2<u64>, usize)>>,
 {
     get_in_groups(rt, tree, numbers);
-    place_in_groups(rt, tree, numbers)?;
-    rank_in_groups(rt, tree, numbers)?;
-    page_in_groups(rt, tree, numbers)
+    place_in_groups(rt, tree, numbers)
+        && rank_in_groups(rt, tree, numbers)
+        && page_in_groups(rt, tree, numbers)
 }
 
 // The numbers are all those below their number, in two orders.
@@ -566,14 +565,15 @@ fn grouped<S: NodeStore<K = Pair, V = u64>>(
     rt: &HostRuntime,
     numbers: &[u64],
     others: &[u64],
-) -> Result<(), AllocError>
+) -> bool
 where
     S::Argument: SearchArgument<Pair, Query = (Tuple2<u64>, usize)>,
     S::Argument: RankArgument<Pair, Rank = Option<(Tuple2<u64>, usize)>>,
 {
-    let mut tree: BPlusTree<S> = BPlusTree::new(S::empty(rt.alloc()))?;
-    insert_in_groups(&mut tree, numbers)?;
-    read_in_groups(rt, &tree, others)
+    let Ok(mut tree) = BPlusTree::<S>::new(S::empty(rt.alloc())) else {
+        return false;
+    };
+    insert_in_groups(&mut tree, numbers) && read_in_groups(rt, &tree, others)
 }
 
 fn numbers_below(alloc: Global, many: usize) -> Result<Vec<u64>, AllocError> {
@@ -584,75 +584,117 @@ fn numbers_below(alloc: Global, many: usize) -> Result<Vec<u64>, AllocError> {
     Ok(numbers)
 }
 
-// All calls on trees without summaries.
-fn take_plain<S: CloneStore<K = u64, V = u64>>(
+// All calls on trees without summaries. Where there are no numbers, so many pairs are put alone.
+fn take_plain_in<S: CloneStore<K = u64, V = u64>>(
     rt: &HostRuntime,
-    numbers: &Numbers<'_>,
-) -> Result<(), AllocError>
+    many: usize,
+    numbers: Option<&Numbers<'_>>,
+) -> bool
 where
     S::Argument: CloneArgument<u64>,
 {
-    plain::<S>(rt, numbers)?;
-    loaded::<S>(rt, "plain", numbers.sorted)
+    let Some(numbers) = numbers else {
+        return fill::<S>(rt, many);
+    };
+    plain::<S>(rt, numbers) && loaded::<S>(rt, "plain", numbers.sorted)
+}
+
+fn take_plain(rt: &HostRuntime, many: usize, numbers: Option<&Numbers<'_>>) -> bool {
+    take_plain_in::<NodeStoreVec<u64, u64>>(rt, many, numbers)
 }
 
 // All calls on trees with counts.
-fn take_counted<S: CloneStore<K = u64, V = u64>>(
-    rt: &HostRuntime,
-    numbers: &Numbers<'_>,
-) -> Result<(), AllocError>
+fn take_counted<S: CloneStore<K = u64, V = u64>>(rt: &HostRuntime, numbers: &Numbers<'_>) -> bool
 where
     S::Argument: SearchArgument<u64, Query = usize> + RankArgument<u64, Rank = usize>,
     S::Argument: CloneArgument<u64> + Tells,
 {
-    counted::<S>(rt, numbers)?;
-    loaded::<S>(rt, "count", numbers.sorted)
+    counted::<S>(rt, numbers) && loaded::<S>(rt, "count", numbers.sorted)
 }
 
 // All calls on each of the trees.
-fn round(rt: &HostRuntime, numbers: &Numbers<'_>, again: &[u64]) -> Result<(), AllocError> {
-    grouped::<NodeStoreVec<Pair, u64, GroupCount<Tuple2<u64>>>>(rt, numbers.places, again)?;
-    take_plain::<Plain>(rt, numbers)?;
-    take_counted::<Counted>(rt, numbers)?;
-    kit::take(rt, numbers.keys, numbers.others, numbers.sorted)?;
-    strings::take(rt, numbers.keys, numbers.others)?;
-    maps::take(rt, numbers.keys, numbers.others, numbers.sorted)?;
-    whole::union_all(rt, numbers.sorted)
+fn round(rt: &HostRuntime, numbers: &Numbers<'_>, again: &[u64]) -> bool {
+    grouped::<NodeStoreVec<Pair, u64, GroupCount<Tuple2<u64>>>>(rt, numbers.places, again)
+        && take_plain(rt, 0, Some(numbers))
+        && take_counted::<NodeStoreVec<u64, u64, Count>>(rt, numbers)
+        && kit::take(rt, numbers)
+        && strings::take(rt, numbers.keys, numbers.others)
+        && maps::take(rt, numbers)
+        && whole::union_all(rt, numbers.sorted)
 }
 
-fn rounds(rt: &HostRuntime, pairs: usize, rounds: usize) -> Result<(), AllocError> {
-    let keys = odd_numbers(rt.alloc(), pairs)?;
-    let others = shuffled(rt.alloc(), &keys)?;
-    let mut sorted = keys.to_vec(rt.alloc())?;
-    sorted.sort_unstable();
-    let places = shuffled(rt.alloc(), &numbers_below(rt.alloc(), pairs)?)?;
-    let again = shuffled(rt.alloc(), &places)?;
-    let numbers = Numbers {
-        keys: &keys,
-        others: &others,
-        sorted: &sorted,
-        places: &places,
-    };
+fn all_rounds(rt: &HostRuntime, numbers: &Numbers<'_>, again: &[u64], rounds: usize) -> bool {
     for _ in 0..rounds {
-        round(rt, &numbers, &again)?;
+        if !round(rt, numbers, again) {
+            return false;
+        }
     }
-    Ok(())
+    true
 }
 
-// A tree of so many pairs in no order, with summaries, and nothing else.
-fn fill<S: NodeStore<K = u64, V = u64>>(
+// Rounds over keys in two orders, and over the places below their number in a mixed order.
+fn rounds_over(
     rt: &HostRuntime,
-    kind: &str,
-    many: usize,
-) -> Result<(), AllocError> {
-    let mut tree: BPlusTree<S> = BPlusTree::new(S::empty(rt.alloc()))?;
+    keys: &[u64],
+    sorted: &[u64],
+    places: &[u64],
+    rounds: usize,
+) -> bool {
+    let Ok(others) = shuffled(rt.alloc(), keys) else {
+        return false;
+    };
+    let Ok(again) = shuffled(rt.alloc(), places) else {
+        return false;
+    };
+    let numbers = Numbers {
+        keys,
+        others: &others,
+        sorted,
+        places,
+    };
+    all_rounds(rt, &numbers, &again, rounds)
+}
+
+fn rounds_of(rt: &HostRuntime, keys: &[u64], rounds: usize) -> bool {
+    let Ok(mut sorted) = keys.to_vec(rt.alloc()) else {
+        return false;
+    };
+    sorted.sort_unstable();
+    let Ok(mut places) = numbers_below(rt.alloc(), keys.len()) else {
+        return false;
+    };
+    shuffle(&mut places);
+    rounds_over(rt, keys, &sorted, &places, rounds)
+}
+
+fn rounds(rt: &HostRuntime, pairs: usize, rounds: usize) -> bool {
+    match odd_numbers(rt.alloc(), pairs) {
+        Ok(keys) => rounds_of(rt, &keys, rounds),
+        Err(_) => false,
+    }
+}
+
+fn put_numbers<S: NodeStore<K = u64, V = u64>>(tree: &mut BPlusTree<S>, many: usize) -> bool {
     let mut state = 0x9e37_79b9_7f4a_7c15;
     for _ in 0..many {
         state = next_number(state);
-        put(&mut tree, state | 1, state | 1)?;
+        if !put(tree, state | 1, state | 1) {
+            return false;
+        }
     }
-    let _ = println!(rt; "{many} {kind} fill 0 {}", tree.len());
-    Ok(())
+    true
+}
+
+// A tree of so many pairs in no order, with no summaries, and nothing else.
+fn fill<S: NodeStore<K = u64, V = u64>>(rt: &HostRuntime, many: usize) -> bool {
+    let Ok(mut tree) = BPlusTree::<S>::new(S::empty(rt.alloc())) else {
+        return false;
+    };
+    if !put_numbers(&mut tree, many) {
+        return false;
+    }
+    let _ = println!(rt; "{many} plain fill 0 {}", tree.len());
+    true
 }
 
 /// Takes the times of so many pairs in so many rounds, as a line has them, and answers whether that
@@ -661,12 +703,12 @@ fn fill<S: NodeStore<K = u64, V = u64>>(
 pub fn run(rt: &HostRuntime, line: &str) -> bool {
     let Some((pairs, times)) = line.split_once(' ') else {
         return match line.parse::<usize>() {
-            Ok(pairs) => fill::<Plain>(rt, "plain", pairs).is_ok(),
+            Ok(pairs) => take_plain(rt, pairs, None),
             Err(_) => false,
         };
     };
     let (Ok(pairs), Ok(times)) = (pairs.parse::<usize>(), times.parse::<usize>()) else {
         return false;
     };
-    rounds(rt, pairs, times).is_ok()
+    rounds(rt, pairs, times)
 }

@@ -1,17 +1,13 @@
 //! Calls of a map: what it has, its ends, and pairs that come or leave at once.
 
-use crate::speed::{now, tell};
+use crate::speed::{Numbers, now, pairs_of, tell};
 use std::alloc::AllocError;
 use sweep_bptree::BPlusTreeMap;
 
 type Plain = BPlusTreeMap<u64, u64>;
 
 fn made(rt: &HostRuntime, keys: &[u64]) -> Result<Plain, AllocError> {
-    let mut pairs = Vec::with_capacity(rt.alloc(), keys.len())?;
-    for key in keys {
-        pairs.push((*key, *key))?;
-    }
-    BPlusTreeMap::from_iter(rt.alloc(), pairs)
+    BPlusTreeMap::from_iter(rt.alloc(), pairs_of(rt.alloc(), keys)?)
 }
 
 // Whether keys are there, and then all keys and all values.
@@ -36,84 +32,104 @@ fn read_all(rt: &HostRuntime, map: &Plain, others: &[u64]) {
     tell(rt, "plain", "values", start, others.len(), sum);
 }
 
-// The pairs leave from the front, and those of another map from the back.
-fn pop_all(rt: &HostRuntime, map: &mut Plain, other: &mut Plain) -> Result<(), AllocError> {
+// The pairs leave from the front. Answers whether none was refused, as what follows does.
+fn pop_front(rt: &HostRuntime, map: &mut Plain) -> bool {
     let many = map.len();
     let start = now(rt);
     let mut sum = 0u64;
     for _ in 0..many {
-        if let Some((key, _)) = map.pop_first()? {
-            sum = sum.wrapping_add(key);
+        match map.pop_first() {
+            Ok(Some((key, _))) => sum = sum.wrapping_add(key),
+            Ok(None) => {}
+            Err(_) => return false,
         }
     }
     tell(rt, "plain", "popfirst", start, many, sum);
+    true
+}
+
+// And those of another map from the back.
+fn pop_back(rt: &HostRuntime, map: &mut Plain) -> bool {
+    let many = map.len();
     let start = now(rt);
     let mut sum = 0u64;
     for _ in 0..many {
-        if let Some((key, _)) = other.pop_last()? {
-            sum = sum.wrapping_add(key);
+        match map.pop_last() {
+            Ok(Some((key, _))) => sum = sum.wrapping_add(key),
+            Ok(None) => {}
+            Err(_) => return false,
         }
     }
     tell(rt, "plain", "poplast", start, many, sum);
-    Ok(())
+    true
 }
 
 // The upper half of the pairs leaves, for each pair that moves.
-fn split_off(rt: &HostRuntime, map: &mut Plain, middle: u64) -> Result<Plain, AllocError> {
+fn split_off(rt: &HostRuntime, map: &mut Plain, middle: u64) -> Option<Plain> {
     let start = now(rt);
     let Ok(half) = map.split_off(&middle) else {
-        return Err(AllocError);
+        return None;
     };
     tell(rt, "plain", "splitoff", start, half.len(), map.len() as u64);
-    Ok(half)
+    Some(half)
 }
 
 // It comes back.
-fn append(rt: &HostRuntime, map: &mut Plain, half: &mut Plain) -> Result<(), AllocError> {
+fn append(rt: &HostRuntime, map: &mut Plain, half: &mut Plain) -> bool {
     let moved = half.len();
     let start = now(rt);
     if map.append(half).is_err() {
-        return Err(AllocError);
+        return false;
     }
     tell(rt, "plain", "append", start, moved, map.len() as u64);
-    Ok(())
+    true
 }
 
 // Every second pair leaves, for each pair.
-fn retain(rt: &HostRuntime, map: &mut Plain) -> Result<(), AllocError> {
+fn retain(rt: &HostRuntime, map: &mut Plain) -> bool {
     let many = map.len();
     let start = now(rt);
     if map.retain(|key: &u64, _: &mut u64| *key % 4 == 1).is_err() {
-        return Err(AllocError);
+        return false;
     }
     tell(rt, "plain", "retain", start, many, map.len() as u64);
-    Ok(())
+    true
+}
+
+// The upper half of a map's pairs leaves and comes back.
+fn move_half(rt: &HostRuntime, map: &mut Plain, middle: u64) -> bool {
+    match split_off(rt, map, middle) {
+        Some(mut half) => append(rt, map, &mut half),
+        None => false,
+    }
 }
 
 // Pairs of a map of the keys move, and leave.
-fn move_half(rt: &HostRuntime, keys: &[u64], middle: u64) -> Result<(), AllocError> {
-    let mut map = made(rt, keys)?;
-    let mut half = split_off(rt, &mut map, middle)?;
-    append(rt, &mut map, &mut half)?;
-    retain(rt, &mut map)
+fn move_and_leave(rt: &HostRuntime, numbers: &Numbers<'_>) -> bool {
+    let middle = numbers
+        .sorted
+        .get(numbers.sorted.len() / 2)
+        .copied()
+        .unwrap_or(0);
+    let Ok(mut map) = made(rt, numbers.keys) else {
+        return false;
+    };
+    move_half(rt, &mut map, middle) && retain(rt, &mut map)
 }
 
-// Two maps of the keys are read and emptied.
-fn read_and_pop(rt: &HostRuntime, keys: &[u64], others: &[u64]) -> Result<(), AllocError> {
-    let mut map = made(rt, keys)?;
-    let mut other = made(rt, keys)?;
-    read_all(rt, &map, others);
-    pop_all(rt, &mut map, &mut other)
+// Two maps of the keys: one is read, and both are emptied.
+fn read_and_pop(rt: &HostRuntime, numbers: &Numbers<'_>) -> bool {
+    let Ok(mut map) = made(rt, numbers.keys) else {
+        return false;
+    };
+    let Ok(mut other) = made(rt, numbers.keys) else {
+        return false;
+    };
+    read_all(rt, &map, numbers.others);
+    pop_front(rt, &mut map) && pop_back(rt, &mut other)
 }
 
 /// The calls of maps that have the keys, for each key.
-pub fn take(
-    rt: &HostRuntime,
-    keys: &[u64],
-    others: &[u64],
-    sorted: &[u64],
-) -> Result<(), AllocError> {
-    let middle = sorted.get(sorted.len() / 2).copied().unwrap_or(0);
-    move_half(rt, keys, middle)?;
-    read_and_pop(rt, keys, others)
+pub(crate) fn take(rt: &HostRuntime, numbers: &Numbers<'_>) -> bool {
+    move_and_leave(rt, numbers) && read_and_pop(rt, numbers)
 }

@@ -5,8 +5,6 @@ use std::alloc::{AllocError, Global};
 use std::collections::BTreeMap;
 use sweep_bptree::tree::{BPlusTree, NodeStore, NodeStoreVec};
 
-type Texts = NodeStoreVec<String, u64>;
-
 const DIGITS: [char; 16] = [
     '0', '1', '2', '3', '4', '5', '6', '7', '8', '9', 'a', 'b', 'c', 'd', 'e', 'f',
 ];
@@ -34,14 +32,16 @@ fn insert_texts<S: NodeStore<K = String, V = u64>>(
     rt: &HostRuntime,
     tree: &mut BPlusTree<S>,
     texts: Vec<String>,
-) -> Result<(), AllocError> {
+) -> bool {
     let many = texts.len();
     let start = now(rt);
     for text in texts {
-        put(tree, text, 1)?;
+        if !put(tree, text, 1) {
+            return false;
+        }
     }
     tell(rt, "plain", "text-insert", start, many, tree.len() as u64);
-    Ok(())
+    true
 }
 
 fn get_texts<S: NodeStore<K = String, V = u64>>(
@@ -63,16 +63,16 @@ fn insert_into_other(
     rt: &HostRuntime,
     map: &mut BTreeMap<String, u64>,
     texts: Vec<String>,
-) -> Result<(), AllocError> {
+) -> bool {
     let many = texts.len();
     let start = now(rt);
     for text in texts {
         if map.insert(text, 1).is_err() {
-            return Err(AllocError);
+            return false;
         }
     }
     tell(rt, "kit", "text-insert", start, many, map.len() as u64);
-    Ok(())
+    true
 }
 
 fn get_from_other(rt: &HostRuntime, map: &BTreeMap<String, u64>, texts: &[String]) {
@@ -90,27 +90,40 @@ fn put_and_get<S: NodeStore<K = String, V = u64>>(
     rt: &HostRuntime,
     texts: Vec<String>,
     wanted: &[String],
-) -> Result<(), AllocError> {
-    let mut tree: BPlusTree<S> = BPlusTree::new(S::empty(rt.alloc()))?;
-    insert_texts(rt, &mut tree, texts)?;
+) -> bool {
+    let Ok(mut tree) = BPlusTree::<S>::new(S::empty(rt.alloc())) else {
+        return false;
+    };
+    let good = insert_texts(rt, &mut tree, texts);
     get_texts(rt, &tree, wanted);
-    Ok(())
+    good
 }
 
-fn put_and_get_in_other(
-    rt: &HostRuntime,
-    texts: Vec<String>,
-    wanted: &[String],
-) -> Result<(), AllocError> {
+fn put_and_get_in_other(rt: &HostRuntime, texts: Vec<String>, wanted: &[String]) -> bool {
     let mut map = BTreeMap::new(rt.alloc());
-    insert_into_other(rt, &mut map, texts)?;
+    let good = insert_into_other(rt, &mut map, texts);
     get_from_other(rt, &map, wanted);
-    Ok(())
+    good
+}
+
+fn take_tree(rt: &HostRuntime, keys: &[u64], wanted: &[String]) -> bool {
+    match texts_of(rt.alloc(), keys) {
+        Ok(texts) => put_and_get::<NodeStoreVec<String, u64>>(rt, texts, wanted),
+        Err(_) => false,
+    }
+}
+
+fn take_other(rt: &HostRuntime, keys: &[u64], wanted: &[String]) -> bool {
+    match texts_of(rt.alloc(), keys) {
+        Ok(texts) => put_and_get_in_other(rt, texts, wanted),
+        Err(_) => false,
+    }
 }
 
 /// Texts of the keys are put, and looked up in another order.
-pub fn take(rt: &HostRuntime, keys: &[u64], others: &[u64]) -> Result<(), AllocError> {
-    let wanted = texts_of(rt.alloc(), others)?;
-    put_and_get::<Texts>(rt, texts_of(rt.alloc(), keys)?, &wanted)?;
-    put_and_get_in_other(rt, texts_of(rt.alloc(), keys)?, &wanted)
+pub fn take(rt: &HostRuntime, keys: &[u64], others: &[u64]) -> bool {
+    match texts_of(rt.alloc(), others) {
+        Ok(wanted) => take_tree(rt, keys, &wanted) && take_other(rt, keys, &wanted),
+        Err(_) => false,
+    }
 }

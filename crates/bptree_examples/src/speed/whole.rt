@@ -10,14 +10,16 @@ pub fn clone_all<S: CloneStore<K = u64, V = u64>>(
     rt: &HostRuntime,
     kind: &str,
     tree: &BPlusTree<S>,
-) -> Result<(), AllocError>
+) -> bool
 where
     S::Argument: CloneArgument<u64>,
 {
     let start = now(rt);
-    let other = tree.clone()?;
+    let Ok(other) = tree.clone() else {
+        return false;
+    };
     tell(rt, kind, "clone", start, tree.len(), other.len() as u64);
-    Ok(())
+    true
 }
 
 // Every second key, from a place on.
@@ -46,12 +48,20 @@ fn sum_of_union(first: &BPlusTreeSet<u64>, second: &BPlusTreeSet<u64>) -> (u64, 
     (sum, many)
 }
 
-/// The union of two sets that have a quarter of all keys in common, for each key of the union.
-pub fn union_all(rt: &HostRuntime, sorted: &[u64]) -> Result<(), AllocError> {
-    let first = every_second(rt.alloc(), sorted, 0)?;
-    let second = every_second(rt.alloc(), sorted, 1)?;
+fn tell_union(rt: &HostRuntime, first: &BPlusTreeSet<u64>, second: &BPlusTreeSet<u64>) {
     let start = now(rt);
-    let (sum, many) = sum_of_union(&first, &second);
+    let (sum, many) = sum_of_union(first, second);
     tell(rt, "plain", "union", start, many, sum);
-    Ok(())
+}
+
+/// The union of two sets that have a quarter of all keys in common, for each key of the union.
+pub fn union_all(rt: &HostRuntime, sorted: &[u64]) -> bool {
+    let Ok(first) = every_second(rt.alloc(), sorted, 0) else {
+        return false;
+    };
+    let Ok(second) = every_second(rt.alloc(), sorted, 1) else {
+        return false;
+    };
+    tell_union(rt, &first, &second);
+    true
 }

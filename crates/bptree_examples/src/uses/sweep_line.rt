@@ -7,7 +7,7 @@ ghost use Rattle.bptree_keys.specs.Contents.{next, previous};
 use crate::filling::filled;
 use std::alloc::{AllocError, Global};
 use sweep_bptree::BPlusTreeMap;
-use sweep_bptree::tree::Cursor;
+use sweep_bptree::tree::{BPlusTree, Cursor, NodeStore};
 
 /// The number of a segment at each height.
 pub type Line = BPlusTreeMap<u64, u32>;
@@ -26,10 +26,20 @@ pub fn new_line(alloc: Global, segments: &[(u64, u32)]) -> Result<Line, AllocErr
 pub fn beside(line: &Line, height: u64) -> Result<(Option<u32>, Option<u32>), AllocError>
     ensures { IfOk result (λ both. both ≡ (option_map (λ pair. pair.1) (previous nat_cmp line.now height), option_map (λ pair. pair.1) (next nat_cmp line.now height))) }
 {
-    match line.tree().get_cursor(&height)? {
+    beside_in(line.tree(), height)
+}
+
+// The same in the tree of a map, whatever stores its nodes.
+fn beside_in<S: NodeStore<K = u64, V = u32>>(
+    tree: &BPlusTree<S>,
+    height: u64,
+) -> Result<(Option<u32>, Option<u32>), AllocError>
+    ensures { IfOk result (λ both. both ≡ (option_map (λ pair. pair.1) (previous nat_cmp tree.now.contents height), option_map (λ pair. pair.1) (next nat_cmp tree.now.contents height))) }
+{
+    match tree.get_cursor(&height)? {
         Some((cursor, _)) => Ok((
-            segment_of(cursor.prev_with_value(line.tree())?),
-            segment_of(cursor.next_with_value(line.tree())?),
+            segment_of(cursor.prev_with_value(tree)?),
+            segment_of(cursor.next_with_value(tree)?),
         )),
         None => unreachable!(),
     }

@@ -110,10 +110,14 @@ pub fn taken(ledger: &Ledger, from: u32, to: u32) -> Result<u64, AllocError>
 /// last day on.
 pub fn run(alloc: Global) -> Result<[u64; 4], AllocError> {
     let ledger = new_ledger(alloc, 365, 10)?;
+    answers(&ledger)
+}
+
+fn answers(ledger: &Ledger) -> Result<[u64; 4], AllocError> {
     Ok([
-        taken(&ledger, 1, 366)?,
-        taken(&ledger, 32, 60)?,
-        taken(&ledger, 100, 100)?,
-        taken(&ledger, 365, 1000)?,
+        taken(ledger, 1, 366)?,
+        taken(ledger, 32, 60)?,
+        taken(ledger, 100, 100)?,
+        taken(ledger, 365, 1000)?,
     ])
 }
