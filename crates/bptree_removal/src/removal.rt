@@ -258,7 +258,7 @@ pub fn take_entry<S: NodeStore>(
 
 /// Removes the pair with a key equal to `k` from a whole tree, where there is one, and hands it out
 /// with the key that stood there. It takes no memory where there is none; a refusal changes no
-/// slot. What the path held before plays no part: it is rotated, so that none need be made.
+/// slot. What the path held before plays no part: it is lent, so that none need be made.
 pub fn remove_entry<S: NodeStore>(
     store: &mut S,
     path: &mut VisitStack,
@@ -284,7 +284,7 @@ pub fn remove_entry<S: NodeStore>(
 
 /// Removes the pair with the least key from a whole tree, or the one with the greatest, where there
 /// is one, and hands it out. No key is compared or cloned on the way down. It takes no memory where
-/// there is none; a refusal changes no slot. The path is rotated as to `remove_entry`.
+/// there is none; a refusal changes no slot. The path is lent as to `remove_entry`.
 pub fn remove_end<S: NodeStore>(
     store: &mut S,
     path: &mut VisitStack,
@@ -311,7 +311,7 @@ pub fn remove_end<S: NodeStore>(
 }
 
 /// Removes the pair at a place that is allowed for the query from a whole tree, where one is found;
-/// a refusal changes no slot. The path is lent as to `remove`.
+/// a refusal changes no slot. The path is lent as to `remove_entry`.
 pub fn remove_by_argument<S: NodeStore>(
     store: &mut S,
     path: &mut VisitStack,
