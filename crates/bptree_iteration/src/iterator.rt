@@ -236,6 +236,7 @@ impl<'a, S: NodeStore> Iterator for Iter<'a, S> {
 
     ghost remaining = { item_count (λ left. left) };
 
+    #[inline]
     fn next(&mut self) -> Option<(&'a S::K, &'a S::V)> {
         if self.limit == 0 {
             return None;
@@ -277,6 +278,7 @@ impl<'a, S: NodeStore> Iterator for Iter<'a, S> {
 impl<'a, S: NodeStore> DoubleEndedIterator for Iter<'a, S> {
     ghost next_back_gives = { TakesLast deref_pair };
 
+    #[inline]
     fn next_back(&mut self) -> Option<(&'a S::K, &'a S::V)> {
         if self.limit == 0 {
             return None;

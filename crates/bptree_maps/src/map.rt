@@ -663,6 +663,7 @@ impl<'a, K: Key, V: Drop, A: Argument<K>> Iterator for Iter<'a, K, V, A> {
 
     ghost remaining = { item_count (λ left. left) };
 
+    #[inline]
     fn next(&mut self) -> Option<(&'a K, &'a V)> {
         self.inner.next()
     }
@@ -679,6 +680,7 @@ impl<'a, K: Key, V: Drop, A: Argument<K>> Iterator for Iter<'a, K, V, A> {
 impl<'a, K: Key, V: Drop, A: Argument<K>> DoubleEndedIterator for Iter<'a, K, V, A> {
     ghost next_back_gives = { TakesLast deref_pair };
 
+    #[inline]
     fn next_back(&mut self) -> Option<(&'a K, &'a V)> {
         self.inner.next_back()
     }

@@ -43,6 +43,7 @@ impl<'a, K: Key, V: Drop, A: Argument<K>> Iterator for Keys<'a, K, V, A> {
 
     ghost remaining = { item_count (λ left. left) };
 
+    #[inline]
     fn next(&mut self) -> Option<&'a K> {
         let (key, _) = self.pairs.next()?;
         Some(key)
@@ -60,6 +61,7 @@ impl<'a, K: Key, V: Drop, A: Argument<K>> Iterator for Keys<'a, K, V, A> {
 impl<'a, K: Key, V: Drop, A: Argument<K>> DoubleEndedIterator for Keys<'a, K, V, A> {
     ghost next_back_gives = { TakesLast deref };
 
+    #[inline]
     fn next_back(&mut self) -> Option<&'a K> {
         let (key, _) = self.pairs.next_back()?;
         Some(key)
@@ -118,6 +120,7 @@ impl<K: Key, V: Drop, A: Argument<K>> Iterator for IntoKeys<K, V, A> {
 
     ghost remaining = { item_count (λ left. left) };
 
+    #[inline]
     fn next(&mut self) -> Option<K> {
         let (key, _) = self.pairs.next()?;
         Some(key)
@@ -135,6 +138,7 @@ impl<K: Key, V: Drop, A: Argument<K>> Iterator for IntoKeys<K, V, A> {
 impl<K: Key, V: Drop, A: Argument<K>> DoubleEndedIterator for IntoKeys<K, V, A> {
     ghost next_back_gives = { TakesLast (λ key. key) };
 
+    #[inline]
     fn next_back(&mut self) -> Option<K> {
         let (key, _) = self.pairs.next_back()?;
         Some(key)

@@ -41,6 +41,7 @@ impl<K: Key, V: Drop, A: Argument<K>> Iterator for IntoIter<K, V, A> {
 
     ghost remaining = { item_count (λ left. left) };
 
+    #[inline]
     fn next(&mut self) -> Option<(K, V)> {
         self.inner.next()
     }
@@ -57,6 +58,7 @@ impl<K: Key, V: Drop, A: Argument<K>> Iterator for IntoIter<K, V, A> {
 impl<K: Key, V: Drop, A: Argument<K>> DoubleEndedIterator for IntoIter<K, V, A> {
     ghost next_back_gives = { TakesLast (λ pair. pair) };
 
+    #[inline]
     fn next_back(&mut self) -> Option<(K, V)> {
         self.inner.next_back()
     }

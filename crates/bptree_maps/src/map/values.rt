@@ -43,6 +43,7 @@ impl<'a, K: Key, V: Drop, A: Argument<K>> Iterator for Values<'a, K, V, A> {
 
     ghost remaining = { item_count (λ left. left) };
 
+    #[inline]
     fn next(&mut self) -> Option<&'a V> {
         let (_, value) = self.pairs.next()?;
         Some(value)
@@ -60,6 +61,7 @@ impl<'a, K: Key, V: Drop, A: Argument<K>> Iterator for Values<'a, K, V, A> {
 impl<'a, K: Key, V: Drop, A: Argument<K>> DoubleEndedIterator for Values<'a, K, V, A> {
     ghost next_back_gives = { TakesLast deref };
 
+    #[inline]
     fn next_back(&mut self) -> Option<&'a V> {
         let (_, value) = self.pairs.next_back()?;
         Some(value)
@@ -117,6 +119,7 @@ impl<K: Key, V: Drop, A: Argument<K>> Iterator for IntoValues<K, V, A> {
 
     ghost remaining = { item_count (λ left. left) };
 
+    #[inline]
     fn next(&mut self) -> Option<V> {
         let (_, value) = self.pairs.next()?;
         Some(value)
@@ -134,6 +137,7 @@ impl<K: Key, V: Drop, A: Argument<K>> Iterator for IntoValues<K, V, A> {
 impl<K: Key, V: Drop, A: Argument<K>> DoubleEndedIterator for IntoValues<K, V, A> {
     ghost next_back_gives = { TakesLast (λ value. value) };
 
+    #[inline]
     fn next_back(&mut self) -> Option<V> {
         let (_, value) = self.pairs.next_back()?;
         Some(value)
