@@ -11,8 +11,8 @@ ghost use Rattle.std.specs.Map.Iter.{deref_pair};
 
 use crate::handle::{Handle, Map};
 use crate::pair::Pair;
-use bptree_tree::Cursor;
 use std::alloc::Global;
+use std::ops::Bound;
 
 /// The number of pairs.
 #[unsafe(no_mangle)]
@@ -146,22 +146,11 @@ pub extern "C" fn bptree_next(alloc: Global, map: &mut Handle, key: u64, pair: &
 fn next_in(map: &Map, key: u64) -> Option<(u64, u64)>
     ensures { result ≡ next nat_cmp map.now key }
 {
-    match cursor_on(map, key).next_with_value(map.pairs.tree()) {
-        Ok(Some((beside, value))) => Some((*beside.key(), *value)),
-        Ok(None) => None,
-        Err(_) => unreachable!(),
-    }
-}
-
-// A cursor on a key, which need not be there.
-fn cursor_on(map: &Map, key: u64) -> Cursor<u64>
-    ensures { result.key ≡ key }
-{
-    match map.pairs.tree().get_cursor(&key) {
-        Ok(Some((cursor, _))) => cursor,
-        Ok(None) => unreachable!(),
-        Err(_) => unreachable!(),
-    }
+    owned(
+        map.pairs
+            .range_bounds(Bound::Excluded(&key), Bound::Unbounded)
+            .next(),
+    )
 }
 
 /// The pair with the greatest smaller key, in `pair`. It is false where there is none.
@@ -182,11 +171,7 @@ pub extern "C" fn bptree_prev(alloc: Global, map: &mut Handle, key: u64, pair: &
 fn prev_in(map: &Map, key: u64) -> Option<(u64, u64)>
     ensures { result ≡ previous nat_cmp map.now key }
 {
-    match cursor_on(map, key).prev_with_value(map.pairs.tree()) {
-        Ok(Some((beside, value))) => Some((*beside.key(), *value)),
-        Ok(None) => None,
-        Err(_) => unreachable!(),
-    }
+    owned(map.pairs.range(None, Some(&key)).next_back())
 }
 
 /// The pair at a place in the order of the keys, from 0 on, in `pair`. It is false past the end.
