@@ -1,5 +1,5 @@
 -- What a step gives, by the heads of both lists.
-use Rattle.std.proofs.Common.{◌≡◌, ℕ, ◌<◌, ◌-◌, ◌^◌, length, min, arith, ◌∙◌, sym, ap, List, [], ◌∷◌, Option, Some, None, refl}
+use Rattle.std.proofs.Common.{◌≡◌, List, [], ◌∷◌, Option, Some, None, refl}
 use Rattle.std.specs.declared.cmp.Ordering.{Ordering}
 use Rattle.std.specs.declared.cmp.Ordering.TheVariants.{Less, Equal, Greater}
 use Rattle.std.specs.Option.{option_map}
@@ -29,17 +29,3 @@ module _ {T A : Type 0} (shows : T → A) where
 
     pub step_end : old ≡ ([], []) → (r ≡ None) × (q ≡ None) × (left ≡ ([], []))
     step_end start = let given = rw start at ran in (none_from_shown r given.0, none_from_shown q given.1, given.2)
-
--- the head that waits is counted
-pub waiting_counted : {A : Type 0} (a b u v xs ys : List A) (x y : A) (made left : List A × List A) (result : ℕ × ℕ) → u ≡ a → v ≡ b → made ≡ (u, v) → a ≡ x ∷ xs → b ≡ y ∷ ys → (made ≡ (x ∷ xs, y ∷ ys) → left ≡ (xs, y ∷ ys)) → length u < 2 ^ 64 → length v < 2 ^ 64 → result.0 ≡ min (length left.0) (2 ^ 64 - 1) → result.1 ≡ min (length left.1) (2 ^ 64 - 1) → result ≡ (length xs, length b)
-waiting_counted a b u v xs ys x y made left result is_a is_b is_made first second goes below below_too one two =
-    let is_first : u ≡ x ∷ xs = is_a ∙ first in
-    let is_second : v ≡ y ∷ ys = is_b ∙ second in
-    let is_left = goes (is_made ∙ ap (λ us. (us, v)) is_first ∙ ap (λ vs. (x ∷ xs, vs)) is_second) in
-    let fits = rw is_first at below in
-    let fits_too = rw is_second at below_too in
-    let one_left = rw is_left at one in
-    let two_left = rw is_left at two in
-    let count_first : result.0 ≡ length xs = omega (arith, fits, one_left) in
-    let count_second : result.1 ≡ length (y ∷ ys) = omega (arith, fits_too, two_left) in
-    ap (λ m. (m, result.1)) count_first ∙ ap (λ n. (length xs, n)) (count_second ∙ ap length (sym second))

@@ -60,18 +60,16 @@ fn node_of_tens(alloc: Global) -> Result<Box<Node>, AllocError>
 // Whether the node has 32 of the keys, and 33 of the leaves as children and as arguments, both from
 // a place on.
 fn shows_part(node: &Node, from: usize, keys: Sequence, leaves: Sequence) -> bool {
+    let mut well = node.keys().len() == 32 && node.arguments().len() == 33;
     for (place, found) in node.keys().iter().enumerate() {
-        if *found != keys.at(from.saturating_add(place)) {
-            return false;
-        }
+        well &= *found == keys.at(from.saturating_add(place));
     }
     for (place, found) in node.arguments().iter().enumerate() {
         let number = leaves.at(from.saturating_add(place));
-        if *found != number || node.child_id(place) != leaf(number) {
-            return false;
-        }
+        well &= *found == number;
+        well &= node.child_id(place) == leaf(number);
     }
-    node.keys().len() == 32 && node.arguments().len() == 33
+    well
 }
 
 // Whether another key, put into that node at a slot with the leaf 100, splits it around a key.
@@ -121,15 +119,11 @@ fn splits_behind_the_middle(rt: HostRuntime) -> Result<(), Fail> {
 
 // Whether the node has these keys, and these leaves as children and as arguments.
 fn shows(node: &Node, keys: &[usize], leaves: &[usize]) -> bool {
-    if node.keys() != keys || node.arguments() != leaves {
-        return false;
-    }
+    let mut well = node.keys() == keys && node.arguments() == leaves;
     for (place, number) in node.arguments().iter().enumerate() {
-        if node.child_id(place) != leaf(*number) {
-            return false;
-        }
+        well &= node.child_id(place) == leaf(*number);
     }
-    true
+    well
 }
 
 // A parent of three keys loses the second, which goes between the two children that it parted.

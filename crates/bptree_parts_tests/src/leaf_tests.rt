@@ -34,13 +34,12 @@ fn is_linked(leaf: &Leaf, prev: Option<usize>, next: Option<usize>) -> bool {
 
 // Whether the leaf has so many keys, which are those from a place on, each with the value 0.
 fn has_keys(leaf: &Leaf, len: usize, from: usize, keys: Sequence) -> bool {
+    let mut well = leaf.len() == len;
     for slot in 0..len {
         let key = keys.at(from.saturating_add(slot));
-        if leaf.try_data_at(slot) != Some((&key, &0)) {
-            return false;
-        }
+        well &= leaf.try_data_at(slot) == Some((&key, &0));
     }
-    leaf.len() == len
+    well
 }
 
 // Whether a key that is put at a slot into the leaf of 2, 4, .. 128 before the leaf 3 leaves so
@@ -78,7 +77,12 @@ fn splits_a_full_leaf_before_and_in_the_middle(rt: HostRuntime) -> Result<(), Fa
 
 // Which of these keys are in the leaf's range.
 fn ranges(leaf: &Leaf) -> [bool; 4] {
-    [0, 2, 128, 129].map(|key| leaf.in_range(&key))
+    [
+        leaf.in_range(&0),
+        leaf.in_range(&2),
+        leaf.in_range(&128),
+        leaf.in_range(&129),
+    ]
 }
 
 // The ranges of a leaf of 2, 4, .. 128 without links, with one before it, and with one on each

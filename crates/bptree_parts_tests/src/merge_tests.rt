@@ -35,16 +35,13 @@ const NONE: [u64; 0] = [];
 // The steps of a merge are those of the rows.
 fn goes_as(a: &[u64], b: &[u64], rows: &[Row]) -> bool {
     let mut merge = MergeIterInner::new(a.iter(), b.iter());
+    let mut well = true;
     for row in rows {
-        if merge.lens() != row.0 {
-            return false;
-        }
+        well &= merge.lens() == row.0;
         let (first, second) = merge.nexts(|x, y| x.cmp(y));
-        if (first.copied(), second.copied()) != row.1 {
-            return false;
-        }
+        well &= (first.copied(), second.copied()) == row.1;
     }
-    true
+    well
 }
 
 #[test]

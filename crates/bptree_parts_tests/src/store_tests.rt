@@ -9,10 +9,7 @@ use std::test::Fail;
 
 // Whether the next two numbers for leaves are these.
 fn gives_leaves<S: NodeStore>(store: &mut S, first: LeafNodeId, second: LeafNodeId) -> bool {
-    let Ok(ids) = holds_two_leaves(store) else {
-        return false;
-    };
-    ids == (first, second)
+    holds_two_leaves(store) == Some((first, second))
 }
 
 // Of two numbers of leaves that are held the first is released and is given out again. Then both
@@ -22,7 +19,7 @@ fn leaf_numbers_come_back<S: CloneStore>(store: &mut S) -> bool
 where
     S::V: Clone,
 {
-    let Ok((first, second)) = holds_two_leaves(store) else {
+    let Some((first, second)) = holds_two_leaves(store) else {
         return false;
     };
     store.release_leaf(first);
@@ -38,7 +35,7 @@ where
 }
 
 fn inner_numbers_come_back<S: NodeStore>(store: &mut S) -> bool {
-    let Ok((first, second)) = holds_two_inner_nodes(store) else {
+    let Some((first, second)) = holds_two_inner_nodes(store) else {
         return false;
     };
     store.release_inner(first);
@@ -47,10 +44,7 @@ fn inner_numbers_come_back<S: NodeStore>(store: &mut S) -> bool {
     };
     store.release_inner(again);
     store.release_inner(second);
-    let Ok(ids) = holds_two_inner_nodes(store) else {
-        return false;
-    };
-    again == first && ids == (second, first)
+    again == first && holds_two_inner_nodes(store) == Some((second, first))
 }
 
 fn numbers_come_back<S: CloneStore>(mut store: S) -> bool

@@ -1,5 +1,5 @@
 //! Callers that put and remove pairs, and write values.
-ghost use Rattle.std.specs.Prelude.{◌≡◌, ◌<◌, ◌-◌, ◌^◌, length, true, false, IfOk, OnErr, IfSome, OnOk, IsTrue, Some, None};
+ghost use Rattle.std.specs.Prelude.{◌≡◌, ◌<◌, ◌-◌, ◌^◌, [], length, true, false, IfOk, OnErr, IfSome, OnOk, IsTrue, Some, None, Ok};
 ghost use Rattle.std.specs.declared.cmp.Ordering.TheVariants.{Equal};
 ghost use Rattle.bptree_keys.specs.Contents.{has, value as value_of, put, del};
 ghost use Rattle.bptree_ascent.specs.Lending.{written};
@@ -66,41 +66,26 @@ fn has_room<S: NodeStore>(tree: &mut BPlusTree<S>, k: S::K, v: S::V) -> Option<(
     }
 }
 
-// A key that is not there leaves nothing to do, and nothing is refused.
-fn removes_nothing<S: NodeStore>(tree: &mut BPlusTree<S>, k: &S::K)
-    requires { has S.K.cmp tree.old.contents k.now ≡ false }
-    ensures contents { tree.new.contents ≡ del S.K.cmp tree.old.contents k.now }
-    ensures slots { S.slots tree.new.store ≡ S.slots tree.old.store }
+// A key that is there leaves with its value, or nothing changes. One that is not leaves nothing to
+// do, and nothing is refused.
+fn removes<S: NodeStore>(tree: &mut BPlusTree<S>, k: &S::K) -> Result<Option<S::V>, AllocError>
+    ensures value { IfOk result (λ gone. gone ≡ value_of S.K.cmp tree.old.contents k.now) }
+    ensures rest { OnOk result (tree.new.contents ≡ del S.K.cmp tree.old.contents k.now) }
+    ensures absent { has S.K.cmp tree.old.contents k.now ≡ false → (result ≡ Ok None) × (tree.new.contents ≡ del S.K.cmp tree.old.contents k.now) }
+    ensures slots { has S.K.cmp tree.old.contents k.now ≡ false → S.slots tree.new.store ≡ S.slots tree.old.store }
+    ensures refused { OnErr result (StaysWhole S.slots tree.new tree.old) }
 {
-    match tree.remove(k) {
-        Ok(None) => {}
-        _ => unreachable!(),
-    }
-}
-
-// One that is there leaves with its value, or nothing changes.
-fn removes<S: NodeStore>(tree: &mut BPlusTree<S>, k: &S::K) -> Option<S::V>
-    requires { has S.K.cmp tree.old.contents k.now ≡ true }
-    ensures value { IfSome result (λ value. value_of S.K.cmp tree.old.contents k.now ≡ Some value) }
-    ensures rest { IfSome result (λ _. tree.new.contents ≡ del S.K.cmp tree.old.contents k.now) }
-    ensures refused { result ≡ None → StaysWhole S.slots tree.new tree.old }
-{
-    match tree.remove(k) {
-        Ok(Some(value)) => Some(value),
-        Ok(None) => unreachable!(),
-        Err(_) => None,
-    }
+    tree.remove(k)
 }
 
 // A tree that was cleared has no pairs. A refusal changes nothing.
-fn clears<S: NodeStore>(tree: &mut BPlusTree<S>) -> Result<(bool, usize), AllocError>
-    ensures empty { IfOk result (λ says. says ≡ (true, 0)) }
+fn clears<S: NodeStore>(tree: &mut BPlusTree<S>) -> Result<(), AllocError>
+    ensures empty { OnOk result (tree.new.contents ≡ []) }
     ensures contents { OnErr result (tree.new.contents ≡ tree.old.contents) }
     ensures slots { OnErr result (S.slots tree.new.store ≡ S.slots tree.old.store) }
     ensures root { OnErr result (HasSameTop tree.new tree.old) }
 {
-    tree.clear()?;
-    Ok((tree.is_empty(), tree.len()))
+    tree.clear()
 }
 
 // A value is written just where the key is, and nothing else is changed.

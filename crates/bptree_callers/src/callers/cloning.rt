@@ -10,35 +10,15 @@ use bptree_stores::node_stores::CloneStore;
 use bptree_tree::BPlusTree;
 use std::alloc::AllocError;
 
-// A clone has a key exactly where the original does.
+// A clone has a key exactly where the original does, and as many pairs. Under each number it has a
+// leaf of as many pairs.
 fn has_the_same_keys<S: CloneStore>(tree: &BPlusTree<S>) -> Result<BPlusTree<S>, AllocError>
 where
     S::V: Clone,
     S::Argument: CloneArgument<S::K>,
-    ensures { IfOk result (λ copy. (k : S.K) → has S.K.cmp copy.contents k ≡ has S.K.cmp tree.now.contents k) }
-{
-    let copy = tree.clone()?;
-    Ok(copy)
-}
-
-// It has as many pairs.
-fn counts_the_same<S: CloneStore>(tree: &BPlusTree<S>) -> Result<usize, AllocError>
-where
-    S::V: Clone,
-    S::Argument: CloneArgument<S::K>,
-    ensures { IfOk result (λ len. len ≡ length tree.now.contents) }
-{
-    Ok(tree.clone()?.len())
-}
-
-// Under each number it has a leaf of as many pairs.
-fn has_leaves_of_the_same_sizes<S: CloneStore>(
-    tree: &BPlusTree<S>,
-) -> Result<BPlusTree<S>, AllocError>
-where
-    S::V: Clone,
-    S::Argument: CloneArgument<S::K>,
-    ensures { IfOk result (HasLeavesAsLong S.slots tree.now) }
+    ensures keys { IfOk result (λ copy. (k : S.K) → has S.K.cmp copy.contents k ≡ has S.K.cmp tree.now.contents k) }
+    ensures len { IfOk result (λ copy. length copy.contents ≡ length tree.now.contents) }
+    ensures leaves { IfOk result (HasLeavesAsLong S.slots tree.now) }
 {
     let copy = tree.clone()?;
     Ok(copy)

@@ -27,34 +27,17 @@ fn stands_on_its_key<S: NodeStore<K = u64>>(
 }
 
 // Over no pairs nothing is first and nothing last, and nothing is refused.
-fn has_no_first<S: NodeStore>(tree: &BPlusTree<S>) -> bool
+fn has_no_ends<S: NodeStore>(
+    tree: &BPlusTree<S>,
+) -> (
+    Result<Option<(Cursor<S::K>, &S::V)>, AllocError>,
+    Result<Option<(Cursor<S::K>, &S::V)>, AllocError>,
+    Result<Option<Cursor<S::K>>, AllocError>,
+)
     requires { tree.now.contents ≡ [] }
-    ensures { result ≡ true }
+    ensures { result ≡ (Ok None, Ok None, Ok None) }
 {
-    match Cursor::first(tree) {
-        Ok(found) => found.is_none(),
-        Err(_) => false,
-    }
-}
-
-fn has_no_last<S: NodeStore>(tree: &BPlusTree<S>) -> bool
-    requires { tree.now.contents ≡ [] }
-    ensures { result ≡ true }
-{
-    match Cursor::last(tree) {
-        Ok(found) => found.is_none(),
-        Err(_) => false,
-    }
-}
-
-fn begins_nowhere<S: NodeStore>(tree: &BPlusTree<S>) -> bool
-    requires { tree.now.contents ≡ [] }
-    ensures { result ≡ true }
-{
-    match tree.cursor_first() {
-        Ok(found) => found.is_none(),
-        Err(_) => false,
-    }
+    (Cursor::first(tree), Cursor::last(tree), tree.cursor_first())
 }
 
 // Where a cursor stands, if anywhere.
@@ -120,14 +103,19 @@ fn goes_back<S: NodeStore<K = u64>>(cursor: &Cursor<u64>, tree: &BPlusTree<S>) -
 
 // Nor is a step over keys of any kind whose clones are never refused, nor a copy of a cursor on
 // such a key.
-fn steps_without_memory<S: NodeStore>(cursor: &Cursor<S::K>, tree: &BPlusTree<S>) -> bool
+fn steps_without_memory<S: NodeStore>(
+    cursor: &Cursor<S::K>,
+    tree: &BPlusTree<S>,
+) -> (bool, bool, bool, bool)
     requires { (key : S.K) → S.K.is_infallible key }
-    ensures { result ≡ true }
+    ensures { result ≡ (true, true, true, true) }
 {
-    cursor.next(tree).is_ok()
-        && cursor.prev(tree).is_ok()
-        && Cursor::first(tree).is_ok()
-        && Cursor::last(tree).is_ok()
+    (
+        cursor.next(tree).is_ok(),
+        cursor.prev(tree).is_ok(),
+        Cursor::first(tree).is_ok(),
+        Cursor::last(tree).is_ok(),
+    )
 }
 
 fn copies_without_memory(cursor: &Cursor<u64>) -> Cursor<u64>
@@ -163,30 +151,6 @@ fn goes_back_with_the_value<S: NodeStore<K = u64, V = u64>>(
     }
 }
 
-// From the first of three keys a cursor goes to the second, and from there to the last.
-fn goes_along_three<S: NodeStore<K = u64, V = u64>>(
-    tree: &BPlusTree<S>,
-) -> Result<(Option<u64>, Option<(u64, u64)>), AllocError>
-    requires { tree.now.contents ≡ (1, 10) ∷ (2, 20) ∷ (3, 30) ∷ [] }
-    ensures { IfOk result (λ it. it ≡ (Some 2, Some (2, 20))) }
-{
-    match tree.get_cursor(&1)? {
-        Some((first, _)) => Ok((goes_on(&first, tree), goes_on_with_the_value(&first, tree)?)),
-        None => unreachable!(),
-    }
-}
-
-// Before the first of three keys, and after the last, there is nothing, and nothing is refused.
-fn stops_at_the_ends<S: NodeStore<K = u64>>(cursor: &Cursor<u64>, tree: &BPlusTree<S>) -> bool
-    requires { pair_after nat_cmp tree.now.contents cursor.now ≡ None }
-    ensures { result ≡ true }
-{
-    match cursor.next(tree) {
-        Ok(found) => found.is_none(),
-        Err(_) => false,
-    }
-}
-
 // A cursor whose key has left has no value, and the same neighbours.
 fn keeps_its_neighbours<S: NodeStore<K = u64, V = u64>>(
     tree: &mut BPlusTree<S>,
@@ -214,14 +178,11 @@ fn reads_as_a_look_up<S: NodeStore<V = u64>>(cursor: &Cursor<S::K>, tree: &BPlus
     cursor.value(tree).copied() == tree.get(cursor.key()).copied()
 }
 
-// A cursor for a key is there where the key is.
-fn is_there<S: NodeStore<K = u64>>(tree: &BPlusTree<S>, k: u64) -> Result<bool, AllocError>
-    ensures { IfOk result (λ it. it ≡ has nat_cmp tree.now.contents k) }
+// A cursor is there where its key is.
+fn is_there<S: NodeStore>(cursor: &Cursor<S::K>, tree: &BPlusTree<S>) -> bool
+    ensures { result ≡ has S.K.cmp tree.now.contents (cursor_key cursor.now) }
 {
-    match tree.get_cursor(&k)? {
-        Some((cursor, _)) => Ok(cursor.exists(tree)),
-        None => unreachable!(),
-    }
+    cursor.exists(tree)
 }
 
 // The next key of ascending pairs is the least greater one, and the previous one the greatest

@@ -1,5 +1,5 @@
 //! Callers of an iterator.
-ghost use Rattle.std.specs.Prelude.{◌≡◌, ◌∷◌, [], length, true, slice_get, IfOk, Some};
+ghost use Rattle.std.specs.Prelude.{◌≡◌, ◌∷◌, [], length, true, slice_get, Some, Ok};
 ghost use Rattle.std.specs.Option.{option_map};
 ghost use Rattle.std.specs.Map.Iter.{deref_pair};
 
@@ -66,22 +66,9 @@ fn counts_what_is_left<S: NodeStore>(pairs: &mut Iter<'_, S>) -> (usize, (usize,
     (before, (*pairs).size_hint())
 }
 
-// A clone has the same pairs left, is never refused, and goes on alone.
-fn clones_what_is_left<'a, S: NodeStore>(pairs: &Iter<'a, S>) -> Iter<'a, S>
-    ensures { result ≡ pairs.now }
+// A clone has the same pairs left, and is never refused.
+fn clones_what_is_left<'a, S: NodeStore>(pairs: &Iter<'a, S>) -> Result<Iter<'a, S>, AllocError>
+    ensures { result ≡ Ok pairs.now }
 {
-    match pairs.clone() {
-        Ok(copy) => copy,
-        Err(_) => unreachable!(),
-    }
-}
-
-fn leaves_the_clone_behind<'a, S: NodeStore>(
-    pairs: &mut Iter<'a, S>,
-) -> Result<Iter<'a, S>, AllocError>
-    ensures { IfOk result (λ copy. copy ≡ pairs.old) }
-{
-    let copy = pairs.clone()?;
-    pairs.next();
-    Ok(copy)
+    pairs.clone()
 }

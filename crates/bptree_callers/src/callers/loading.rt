@@ -1,15 +1,14 @@
 //! Callers of loading, and of how a layer of nodes is cut.
-ghost use Rattle.std.specs.Prelude.{◌≡◌, [], IfOk};
+ghost use Rattle.std.specs.Prelude.{◌≡◌, IfOk};
 ghost use Rattle.std.specs.Map.{keys_of};
 ghost use Rattle.bptree_keys.specs.Contents.{IsAscending, value, load};
 ghost use Rattle.bptree_loading.specs.Loading.{IsInLoadOrder, last_value};
 
-use bptree_keys::key::Key;
 use bptree_loading::cuts::first_of_layer;
 use bptree_loading::loading::laws_of_load;
 use bptree_stores::node_stores::NodeStore;
 use bptree_tree::BPlusTree;
-use std::alloc::{AllocError, Global};
+use std::alloc::AllocError;
 
 // As many as a leaf holds are one leaf, and one more is shared between two. So of 4161 pairs the
 // last two leaves share the 65 behind 64 full ones.
@@ -50,14 +49,6 @@ fn children() -> (usize, usize, usize, usize, usize)
     )
 }
 
-// No pairs are loaded as no pairs.
-fn loads_none<S: NodeStore>(pairs: Vec<(S::K, S::V)>) -> Result<BPlusTree<S>, AllocError>
-    requires { pairs.items ≡ [] }
-    ensures { IfOk result (λ tree. tree.contents ≡ []) }
-{
-    BPlusTree::bulk_load(pairs)
-}
-
 // Pairs that ascend are loaded as they come.
 fn loads_all<S: NodeStore>(pairs: Vec<(S::K, S::V)>) -> Result<BPlusTree<S>, AllocError>
     requires { IsAscending S.K.cmp pairs.items }
@@ -65,17 +56,6 @@ fn loads_all<S: NodeStore>(pairs: Vec<(S::K, S::V)>) -> Result<BPlusTree<S>, All
 {
     laws_of_load::<S::K, S::V>();
     BPlusTree::bulk_load(pairs)
-}
-
-// What an owned tree gives out is loaded again: the list is the same.
-fn loads_what_was_given_out<S: NodeStore>(
-    alloc: Global,
-    tree: BPlusTree<S>,
-) -> Result<BPlusTree<S>, AllocError>
-    ensures { IfOk result (λ again. again.contents ≡ tree.contents) }
-{
-    let pairs: Vec<(S::K, S::V)> = tree.into_iter().collect(alloc)?;
-    loads_all(pairs)
 }
 
 // At each key stands the value of the last pair with an equal key.

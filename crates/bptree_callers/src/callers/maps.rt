@@ -1,5 +1,5 @@
 //! Callers of maps.
-ghost use Rattle.std.specs.Prelude.{◌≡◌, ◌<◌, ◌≤◌, ◌-◌, ◌^◌, ◌∷◌, ◌↔◌, [], length, min, true, false, slice_get, remove, IfOk, IfErr, OnErr, OnOk, IfSome, IsTrue, Some, None};
+ghost use Rattle.std.specs.Prelude.{◌≡◌, ◌<◌, ◌≤◌, ◌-◌, ◌^◌, ◌∷◌, ◌↔◌, [], length, min, true, false, slice_get, remove, IfOk, IfErr, OnErr, OnOk, IfSome, IsTrue, Some, None, Ok};
 ghost use Rattle.std.specs.declared.cmp.Ordering.TheVariants.{Equal, Greater};
 ghost use Rattle.std.specs.Map.{keys_of, values_of};
 ghost use Rattle.std.specs.Option.{option_copied, option_map, IsSomeAnd};
@@ -15,7 +15,7 @@ ghost use Rattle.bptree_tree.specs.Entries.{entry};
 ghost use Rattle.bptree_maps.specs.Gathering.{AreFewFor};
 ghost use Rattle.bptree_tree.specs.Selected.{SelectsNone};
 ghost use Rattle.std.specs.Map.Iter.{deref_pair};
-ghost use Rattle.bptree_callers.specs.Words.{IsOneOf, PopsFirstOfTwo, PopsLastOfTwo, ShowsEndsOfTwo, TakesMiddleOfThree, WritesSome, told_value, between_keys, keys_from};
+ghost use Rattle.bptree_callers.specs.Words.{IsOneOf, PopsFirstOfTwo, PopsLastOfTwo, ShowsEndsOfTwo, TakesMiddleOfThree, WritesSome, told_value, between_keys};
 
 use bptree_arguments::argument::{Argument, CloneArgument, RankArgument, SearchArgument};
 use bptree_arguments::count::Count;
@@ -26,23 +26,32 @@ use bptree_stores::node_store_vec::NodeStoreVec;
 use bptree_tree::{BPlusTree, Cursor, InsertError, SelectError};
 use std::alloc::{AllocError, Global};
 
-// A new map has no pairs, and says so, whichever way it is made.
+// A new map has no pairs, whichever way it is made.
 fn starts_empty<K: Key, V: Drop, A: Argument<K>>(
     alloc: Global,
-    k: &K,
-) -> Result<(bool, usize, bool), AllocError>
-    ensures { IfOk result (λ says. says ≡ (true, 0, false)) }
+) -> Result<BPlusTreeMap<K, V, A>, AllocError>
+    ensures { IfOk result (λ map. length map ≡ 0) }
 {
-    let map = BPlusTreeMap::<K, V, A>::new(alloc)?;
-    Ok((map.is_empty(), map.len(), map.get(k).is_some()))
+    BPlusTreeMap::new(alloc)
 }
 
 fn starts_empty_by_default<K: Key, V: Drop, A: Argument<K>>(
     alloc: Global,
-) -> Result<bool, AllocError>
-    ensures { IfOk result (λ says. says ≡ true) }
+) -> Result<BPlusTreeMap<K, V, A>, AllocError>
+    ensures { IfOk result (λ map. length map ≡ 0) }
 {
-    Ok(BPlusTreeMap::<K, V, A>::default(alloc)?.is_empty())
+    BPlusTreeMap::default(alloc)
+}
+
+// A map of no pairs says so, and finds no key.
+fn says_that_it_is_empty<K: Key, V: Drop, A: Argument<K>>(
+    map: &BPlusTreeMap<K, V, A>,
+    k: &K,
+) -> (bool, usize, bool)
+    requires { length map.now ≡ 0 }
+    ensures { result ≡ (true, 0, false) }
+{
+    (map.is_empty(), map.len(), map.get(k).is_some())
 }
 
 // A look-up makes at most seven comparisons on each level, of which there are few, and two of the
@@ -68,20 +77,6 @@ fn gathers<K: Key, V: Drop, A: Argument<K>>(
     BPlusTreeMap::from_iter(alloc, pairs)
 }
 
-// What is given out by a map is taken in again: the list is the same.
-fn is_gathered_again<K: Key, V: Copy + Drop, A: Argument<K>>(
-    alloc: Global,
-    map: &BPlusTreeMap<K, V, A>,
-) -> Result<BPlusTreeMap<K, V, A>, AllocError>
-where
-    K: Copy,
-    ensures { IfOk result (λ copy. copy ≡ map.now) }
-{
-    law_of_from_iter::<K, V>();
-    let _len = map.len();
-    BPlusTreeMap::from_iter(alloc, map.iter().map(|(k, v)| (*k, *v)))
-}
-
 // And so is a map that is handed over.
 fn is_the_same_again<K: Key, V: Drop, A: Argument<K>>(
     alloc: Global,
@@ -98,16 +93,6 @@ fn counts_ascending_pairs<K: Key, V: Drop, A: Argument<K>>(map: &BPlusTreeMap<K,
     ensures { IsAscending K.cmp map.now × (length map.now ≡ result) }
 {
     map.len()
-}
-
-// A key is found just where one equals it.
-fn finds_just_what_is_there<K: Key, V: Drop, A: Argument<K>>(
-    map: &BPlusTreeMap<K, V, A>,
-    k: &K,
-) -> bool
-    ensures { result ≡ has K.cmp map.now k.now }
-{
-    map.get(k).is_some()
 }
 
 // A key that is there is never refused: it takes the value, and the one before comes back.
@@ -170,59 +155,39 @@ fn writes<K: Key, V: Drop, A: Argument<K>>(map: &mut BPlusTreeMap<K, V, A>, k: &
     }
 }
 
-// A key that is not there leaves nothing to do, and nothing is refused.
-fn removes_nothing<K: Key, V: Drop, A: Argument<K>>(map: &mut BPlusTreeMap<K, V, A>, k: &K)
-    requires { has K.cmp map.old k.now ≡ false }
-    ensures { map.new ≡ del K.cmp map.old k.now }
+// A key that is there leaves with its value, or nothing changes. One that is not leaves nothing to
+// do, and nothing is refused.
+fn removes<K: Key, V: Drop, A: Argument<K>>(
+    map: &mut BPlusTreeMap<K, V, A>,
+    k: &K,
+) -> Result<Option<V>, AllocError>
+    ensures value { IfOk result (λ gone. gone ≡ value_of K.cmp map.old k.now) }
+    ensures pairs { OnOk result (map.new ≡ del K.cmp map.old k.now) }
+    ensures absent { has K.cmp map.old k.now ≡ false → (result ≡ Ok None) × (map.new ≡ del K.cmp map.old k.now) }
+    ensures refused { OnErr result (map.new ≡ map.old) }
 {
-    match map.remove(k) {
-        Ok(None) => {}
-        _ => unreachable!(),
-    }
-}
-
-// One that is there leaves with its value, or nothing changes.
-fn removes<K: Key, V: Drop, A: Argument<K>>(map: &mut BPlusTreeMap<K, V, A>, k: &K) -> Option<V>
-    requires { has K.cmp map.old k.now ≡ true }
-    ensures value { IfSome result (λ value. value_of K.cmp map.old k.now ≡ Some value) }
-    ensures pairs { IfSome result (λ _. map.new ≡ del K.cmp map.old k.now) }
-    ensures refused { result ≡ None → map.new ≡ map.old }
-{
-    match map.remove(k) {
-        Ok(Some(value)) => Some(value),
-        Ok(None) => unreachable!(),
-        Err(_) => None,
-    }
+    map.remove(k)
 }
 
 // A map that was cleared has no pairs. A refusal changes nothing.
 fn clears<K: Key, V: Drop, A: Argument<K>>(
     map: &mut BPlusTreeMap<K, V, A>,
-) -> Result<(bool, usize), AllocError>
-    ensures empty { IfOk result (λ says. says ≡ (true, 0)) }
+) -> Result<(), AllocError>
+    ensures empty { OnOk result (length map.new ≡ 0) }
     ensures refused { OnErr result (map.new ≡ map.old) }
 {
-    map.clear()?;
-    Ok((map.is_empty(), map.len()))
+    map.clear()
 }
 
-// A clone has a key exactly where the original does.
+// A clone has a key exactly where the original does, and as many pairs.
 fn has_the_same_keys<K: Key, V: Clone + Drop, A: CloneArgument<K>>(
     map: &BPlusTreeMap<K, V, A>,
 ) -> Result<BPlusTreeMap<K, V, A>, AllocError>
-    ensures { IfOk result (λ copy. (k : K) → has K.cmp copy k ≡ has K.cmp map.now k) }
+    ensures keys { IfOk result (λ copy. (k : K) → has K.cmp copy k ≡ has K.cmp map.now k) }
+    ensures len { IfOk result (λ copy. length copy ≡ length map.now) }
 {
     let copy = map.clone()?;
     Ok(copy)
-}
-
-// It has as many pairs.
-fn counts_the_same<K: Key, V: Clone + Drop, A: CloneArgument<K>>(
-    map: &BPlusTreeMap<K, V, A>,
-) -> Result<usize, AllocError>
-    ensures { IfOk result (λ len. len ≡ length map.now) }
-{
-    Ok(map.clone()?.len())
 }
 
 // The pairs of an owned map, from both ends.
@@ -326,24 +291,6 @@ fn ranks_by_the_smaller_keys<K: Key, V: Drop>(
     }
 }
 
-// By a count a value is written at each place that there is. No memory is asked for.
-fn writes_at_a_place<K: Key, V: Drop>(
-    map: &mut BPlusTreeMap<K, V, Count>,
-    place: usize,
-    v: V,
-) -> bool
-    ensures { result ≡ false → length map.old ≤ place }
-{
-    match map.get_mut_by_argument(place) {
-        Ok(lent) => {
-            *lent = v;
-            true
-        }
-        Err(SelectError::NotFound) => false,
-        Err(SelectError::OutOfMemory) => unreachable!(),
-    }
-}
-
 // The pair at a place that there is leaves, and those behind it move up.
 fn takes_the_pair_at_a_place(
     map: &mut BPlusTreeMap<u64, u64, Count>,
@@ -361,7 +308,7 @@ fn takes_the_pair_at_a_place(
 }
 
 // A value is written at an allowed place, and no key changes. Where the query is refused, nothing
-// does.
+// does. An argument that needs no memory is refused none.
 fn writes_by_a_query<K: Key, V: Drop, A: SearchArgument<K>>(
     map: &mut BPlusTreeMap<K, V, A>,
     query: A::Query,
@@ -370,6 +317,7 @@ fn writes_by_a_query<K: Key, V: Drop, A: SearchArgument<K>>(
     ensures written { OnOk result (WritesSome A.selects query v map.old map.new) }
     ensures refused { OnErr result (map.new ≡ map.old) }
     ensures absent { IfErr result (SelectsNone A.selects query map.old) }
+    ensures sure { A.needs_no_memory → IfErr result (λ error. error ≡ SelectError.NotFound) }
 {
     match map.get_mut_by_argument(query) {
         Ok(there) => {
@@ -388,16 +336,6 @@ fn is_visited<K: Key, V: Drop, A: Argument<K>, W: DescendVisit<K, V, A>>(
     ensures { IfOk result (λ answer. W.answers visitor map.now (answered answer)) }
 {
     map.descend_visit(visitor)
-}
-
-// The tree inside has as many pairs, and finds what the map finds.
-fn has_the_pairs_of_its_tree<K: Key, V: Copy + Drop, A: Argument<K>>(
-    map: &BPlusTreeMap<K, V, A>,
-    k: &K,
-) -> (Option<V>, Option<V>)
-    ensures { result.0 ≡ result.1 }
-{
-    (map.get(k).copied(), map.tree().get(k).copied())
 }
 
 fn change<K: Key, V: Drop, A: Argument<K>>(
@@ -422,52 +360,20 @@ fn puts_into_its_tree<K: Key, V: Drop, A: Argument<K>>(
     change(map.tree_mut(), k, v)
 }
 
-// The first of two pairs, and the last.
+// The first of two pairs, and the last, under either name.
 fn gives_both_ends<K: Key, V: Drop, A: Argument<K>>(
     map: &BPlusTreeMap<K, V, A>,
-) -> (Option<(&K, &V)>, Option<(&K, &V)>)
-    ensures { ShowsEndsOfTwo map.now result }
+) -> (
+    (Option<(&K, &V)>, Option<(&K, &V)>),
+    (Option<(&K, &V)>, Option<(&K, &V)>),
+)
+    ensures ends { ShowsEndsOfTwo map.now result.0 }
+    ensures named { ShowsEndsOfTwo map.now result.1 }
 {
-    (map.first(), map.last())
-}
-
-// The first pair leaves with its value, and the others stay. Where that is refused, nothing
-// changes.
-fn pops_the_first<K: Key, V: Drop, A: Argument<K>>(
-    map: &mut BPlusTreeMap<K, V, A>,
-) -> Result<V, AllocError>
-    requires { 0 < length map.old }
-    ensures popped { IfOk result (λ v. (k : K) × (map.old ≡ (k, v) ∷ map.new)) }
-    ensures refused { OnErr result (map.new ≡ map.old) }
-{
-    match map.pop_first()? {
-        Some((_, v)) => Ok(v),
-        None => unreachable!(),
-    }
-}
-
-// Where there is no pair, none leaves.
-fn pops_none<K: Key, V: Drop, A: Argument<K>>(
-    map: &mut BPlusTreeMap<K, V, A>,
-) -> Result<bool, AllocError>
-    requires { map.old ≡ [] }
-    ensures none { IfOk result (λ none. none ≡ true) }
-    ensures pairs { map.new ≡ [] }
-{
-    Ok(map.pop_first()?.is_none())
-}
-
-// The keys below a key are summed up, and those from it on.
-fn sums_up_both_sides<K: Key, V: Drop, A: Argument<K>>(
-    map: &BPlusTreeMap<K, V, A>,
-    k: &K,
-) -> Result<(A, A), AllocError>
-    ensures below { IfOk result (λ sums. A.is_summary sums.0 (below K.cmp map.now k.now)) }
-    ensures from { IfOk result (λ sums. A.is_summary sums.1 (keys_from K.cmp map.now k.now)) }
-{
-    let below = map.range_argument(None, Some(k))?;
-    let from = map.range_argument(Some(k), None)?;
-    Ok((below, from))
+    (
+        (map.first(), map.last()),
+        (map.first_key_value(), map.last_key_value()),
+    )
 }
 
 // By a count the summary is how many pairs are between two keys.
@@ -492,24 +398,24 @@ fn counts_the_pairs_of_a_part<K: Key, V: Drop>(
     Ok(map.part_argument(from, to)?.count())
 }
 
-// As many pairs are told as an iterator over them gives, and no call is refused.
-fn tells_how_many_it_gives<K: Key, V: Drop>(
+// As many pairs are told as are between two keys, and no call is refused.
+fn tells_how_many_are_between<K: Key, V: Drop>(
     map: &BPlusTreeMap<K, V, Count>,
     lo: &K,
     hi: &K,
-) -> (usize, usize)
-    ensures { result.0 ≡ result.1 }
+) -> usize
+    ensures { result ≡ length (between_keys K.cmp map.now lo.now hi.now) }
 {
-    let told = map.range_len(Some(lo), Some(hi));
-    (told, map.range(Some(lo), Some(hi)).len())
+    map.range_len(Some(lo), Some(hi))
 }
 
-// A key is contained just where a value is found.
-fn contains_what_it_finds<K: Key, V: Drop, A: Argument<K>>(
+// A key is contained, and a value found, just where a key equals it.
+fn finds_just_what_is_there<K: Key, V: Drop, A: Argument<K>>(
     map: &BPlusTreeMap<K, V, A>,
     k: &K,
 ) -> (bool, bool)
-    ensures { result.0 ≡ result.1 }
+    ensures contained { result.0 ≡ has K.cmp map.now k.now }
+    ensures found { result.1 ≡ has K.cmp map.now k.now }
 {
     (map.contains_key(k), map.get(k).is_some())
 }
@@ -527,42 +433,17 @@ fn finds_the_pair_of_a_key<'a, K: Key, V: Drop, A: Argument<K>>(
     map.get_key_value(k)
 }
 
-// Both ends of a list of two pairs.
-fn names_both_ends<K: Key, V: Drop, A: Argument<K>>(
-    map: &BPlusTreeMap<K, V, A>,
-) -> (Option<(&K, &V)>, Option<(&K, &V)>)
-    ensures { ShowsEndsOfTwo map.now result }
-{
-    (map.first_key_value(), map.last_key_value())
-}
-
-// A key that is there is the least that is not below it.
-fn begins_at_its_key<K: Key, V: Drop, A: Argument<K>>(
-    map: &BPlusTreeMap<K, V, A>,
+// A lower bound is not below its key, and a key that is there is its own.
+fn begins_at_its_key<'a, K: Key, V: Drop, A: Argument<K>>(
+    map: &'a BPlusTreeMap<K, V, A>,
     k: &K,
-) -> Result<Option<Cursor<K>>, AllocError>
-    requires { has K.cmp map.now k.now ≡ true }
-    ensures { IfOk result (λ found. IsSomeAnd found (λ c. K.cmp (cursor_key c) k.now ≡ Equal)) }
+) -> Result<Option<(Cursor<K>, &'a V)>, AllocError>
+    ensures least { IfOk result (λ found. IfSome found (λ it. is_lt (K.cmp (cursor_key it.0) k.now) ≡ false)) }
+    ensures there { has K.cmp map.now k.now ≡ true → IfOk result (λ found. IsSomeAnd found (λ it. K.cmp (cursor_key it.0) k.now ≡ Equal)) }
 {
     // Read, so that the keys are known to ascend.
     let _len = map.len();
-    match map.lower_bound(k)? {
-        Some((cursor, _)) => Ok(Some(cursor)),
-        None => Ok(None),
-    }
-}
-
-// A lower bound is not below its key.
-fn finds_no_smaller_key<K: Key, V: Drop, A: Argument<K>>(
-    map: &BPlusTreeMap<K, V, A>,
-    k: &K,
-) -> Result<Option<Cursor<K>>, AllocError>
-    ensures { IfOk result (λ it. IfSome it (λ c. is_lt (K.cmp (cursor_key c) k.now) ≡ false)) }
-{
-    match map.lower_bound(k)? {
-        Some((cursor, _)) => Ok(Some(cursor)),
-        None => Ok(None),
-    }
+    map.lower_bound(k)
 }
 
 // An upper bound is above it.
@@ -666,25 +547,18 @@ fn writes_at_its_place<K: Key, V: Drop>(
     }
 }
 
-// The second of three pairs leaves, and the third takes its place.
-fn takes_the_second<K: Key, V: Drop>(
+// The second of three pairs leaves, and the third takes its place. Past the end nothing leaves, and
+// nothing is refused.
+fn takes_the_pair_at<K: Key, V: Drop>(
     map: &mut BPlusTreeMap<K, V, Count>,
+    place: usize,
 ) -> Result<Option<(K, V)>, AllocError>
-    ensures taken { IfOk result (TakesMiddleOfThree map.old map.new) }
+    ensures taken { place ≡ 1 → IfOk result (TakesMiddleOfThree map.old map.new) }
+    ensures past { length map.old ≤ place → result ≡ Ok None }
+    ensures stays { length map.old ≤ place → map.new ≡ map.old }
     ensures refused { OnErr result (map.new ≡ map.old) }
 {
-    map.remove_at(1)
-}
-
-// Past the end nothing leaves, and nothing is refused.
-fn takes_none_past_the_end<K: Key, V: Drop>(map: &mut BPlusTreeMap<K, V, Count>, place: usize)
-    requires { length map.old ≤ place }
-    ensures { map.new ≡ map.old }
-{
-    match map.remove_at(place) {
-        Ok(None) => {}
-        _ => unreachable!(),
-    }
+    map.remove_at(place)
 }
 
 // A pair leaves with the key that was stored, which equals the one asked for.
@@ -706,6 +580,7 @@ fn pops_the_first_of_two<K: Key, V: Drop, A: Argument<K>>(
     map: &mut BPlusTreeMap<K, V, A>,
 ) -> Result<Option<(K, V)>, AllocError>
     ensures popped { IfOk result (PopsFirstOfTwo map.old map.new) }
+    ensures others { 0 < length map.old → IfOk result (λ gone. IsSomeAnd gone (λ pair. map.old ≡ pair ∷ map.new)) }
     ensures refused { OnErr result (map.new ≡ map.old) }
 {
     map.pop_first()
@@ -721,16 +596,16 @@ fn pops_the_last_of_two<K: Key, V: Drop, A: Argument<K>>(
 }
 
 // Of an empty map none leaves, and nothing is refused.
-fn pops_none_at_either_end<K: Key, V: Drop, A: Argument<K>>(map: &mut BPlusTreeMap<K, V, A>)
+fn pops_none_at_either_end<K: Key, V: Drop, A: Argument<K>>(
+    map: &mut BPlusTreeMap<K, V, A>,
+) -> (
+    Result<Option<(K, V)>, AllocError>,
+    Result<Option<(K, V)>, AllocError>,
+)
     requires { map.old ≡ [] }
-    ensures { map.new ≡ [] }
+    ensures none { result ≡ (Ok None, Ok None) }
+    ensures pairs { map.new ≡ [] }
 {
-    match map.pop_first() {
-        Ok(None) => {}
-        _ => unreachable!(),
-    }
-    match map.pop_last() {
-        Ok(None) => {}
-        _ => unreachable!(),
-    }
+    let first = map.pop_first();
+    (first, map.pop_last())
 }

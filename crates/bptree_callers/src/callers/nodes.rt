@@ -1,25 +1,24 @@
 //! Callers of the nodes that are lent: whatever changed the list before, they hold it, and none is
 //! idle beside it.
-ghost use Rattle.std.specs.Prelude.{◌≡◌, IfOk, IsTrue, OnOk, Some, false};
+ghost use Rattle.std.specs.Prelude.{◌≡◌, IfOk, IsTrue, Some, false};
 ghost use Rattle.std.specs.Map.{keys_of};
 ghost use Rattle.bptree_ascent.specs.Lending.{written};
 ghost use Rattle.bptree_keys.specs.Contents.{put};
 ghost use Rattle.bptree_shape.specs.Shape.{pairs_at};
 ghost use Rattle.bptree_stores.specs.StoreSlabs.{slots};
 ghost use Rattle.bptree_tree.specs.Whole.{IsUntouched, pairs_of_nodes};
-ghost use Rattle.bptree_callers.specs.Words.{EachInnerStandsOnce, EachLeafStandsOnce, WritesSome, count_in};
+ghost use Rattle.bptree_callers.specs.Words.{EachInnerStandsOnce, EachLeafStandsOnce, count_in};
 
 use crate::callers::changes::writes;
-use crate::callers::queries::writes_by_a_query;
 use crate::callers::reads::shows_its_nodes;
-use bptree_arguments::argument::{Argument, SearchArgument};
+use bptree_arguments::argument::Argument;
 use bptree_keys::key::Key;
 use bptree_keys::node_id::{LeafNodeId, NodeId};
 use bptree_maps::map::BPlusTreeMap;
 use bptree_sets::set::BPlusTreeSet;
 use bptree_stores::node_store_vec::NodeStoreVec;
 use bptree_stores::node_stores::NodeStore;
-use bptree_tree::{BPlusTree, InsertError, SelectError};
+use bptree_tree::{BPlusTree, InsertError};
 
 // The nodes below the root, of its height, have the pairs of the list.
 fn lends_the_list<S: NodeStore>(tree: &BPlusTree<S>) -> (&S, NodeId, usize)
@@ -35,24 +34,6 @@ fn lends_what_was_written<S: NodeStore>(tree: &mut BPlusTree<S>, k: &S::K, v: S:
     let there = writes(tree, k, v);
     tree.node_store();
     there
-}
-
-// And after one is written where a query selects it.
-fn lends_what_was_selected<S: NodeStore>(
-    tree: &mut BPlusTree<S>,
-    query: <S::Argument as SearchArgument<S::K>>::Query,
-    v: S::V,
-) -> Result<(), SelectError>
-where
-    S::Argument: SearchArgument<S::K>,
-    ensures { OnOk result (WritesSome S.Argument.selects query v tree.old.contents (pairs_of_nodes S.slots tree.new)) }
-{
-    let answer = writes_by_a_query(tree, query, v);
-    tree.node_store();
-    match answer {
-        Ok(()) => Ok(()),
-        Err(error) => Err(error),
-    }
 }
 
 // The nodes of a map's tree have the pairs of the map.
@@ -121,18 +102,6 @@ fn shows_the_same_unless_put<S: NodeStore>(
     (done, before, shows(tree, leaf))
 }
 
-// And so it does in the tree of a map.
-fn keeps_the_nodes_of_a_map_unless_put<K: Key, V: Drop, A: Argument<K>>(
-    map: &mut BPlusTreeMap<K, V, A>,
-    k: K,
-    v: V,
-    leaf: LeafNodeId,
-) -> (bool, Shown, Shown)
-    ensures { result.0 ≡ false → result.1 ≡ result.2 }
-{
-    shows_the_same_unless_put(map.tree_mut(), k, v, leaf)
-}
-
 fn is_taken<S: NodeStore>(tree: &mut BPlusTree<S>, k: &S::K) -> bool
     ensures { result ≡ false → IsUntouched S.slots tree.new tree.old }
 {
@@ -150,16 +119,6 @@ fn shows_the_same_unless_taken<S: NodeStore>(
     let before = shows(tree, leaf);
     let done = is_taken(tree, k);
     (done, before, shows(tree, leaf))
-}
-
-fn keeps_the_nodes_of_a_map_unless_taken<K: Key, V: Drop, A: Argument<K>>(
-    map: &mut BPlusTreeMap<K, V, A>,
-    k: &K,
-    leaf: LeafNodeId,
-) -> (bool, Shown, Shown)
-    ensures { result.0 ≡ false → result.1 ≡ result.2 }
-{
-    shows_the_same_unless_taken(map.tree_mut(), k, leaf)
 }
 
 // The nodes of a set's tree have its keys.

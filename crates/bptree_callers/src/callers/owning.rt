@@ -15,11 +15,11 @@ fn starts_with_all<S: NodeStore>(tree: BPlusTree<S>) -> (IntoIter<S>, usize)
     (pairs, len)
 }
 
-// The first pair from the front.
-fn gives_the_first<S: NodeStore>(tree: BPlusTree<S>) -> Option<(S::K, S::V)>
-    ensures { result ≡ slice_get tree.contents 0 }
+// A step gives the first pair that is left.
+fn gives_the_first<S: NodeStore>(pairs: &mut IntoIter<S>) -> Option<(S::K, S::V)>
+    ensures { result ≡ slice_get pairs.old 0 }
 {
-    tree.into_iter().next()
+    pairs.next()
 }
 
 // Of three pairs each comes once: the first, the last, the one between, and then none from either

@@ -3,7 +3,6 @@ ghost use Rattle.std.specs.Prelude.{◌≡◌, ◌<◌, ◌≤◌, ◌-◌, leng
 ghost use Rattle.std.specs.declared.cmp.Ordering.TheVariants.{Equal};
 ghost use Rattle.std.specs.Map.{keys_of};
 ghost use Rattle.std.specs.Option.{option_map};
-ghost use Rattle.std.specs.Ordering.{nat_cmp};
 ghost use Rattle.bptree_arguments.specs.Groups.{group};
 ghost use Rattle.bptree_keys.specs.Contents.{below};
 ghost use Rattle.bptree_keys.specs.Ranges.{between, part};
@@ -34,7 +33,8 @@ fn gives_the_first_between<'a, S: NodeStore>(
     (len, pairs.next())
 }
 
-// From an allowed place on it tells no more pairs than were asked for.
+// From an allowed place on it tells no more pairs than were asked for. Where some are asked for, it
+// gives none only where no place is allowed for the query: each place begins a part.
 fn gives_no_more_than_asked<S: NodeStore>(
     tree: &BPlusTree<S>,
     query: <S::Argument as SearchArgument<S::K>>::Query,
@@ -42,22 +42,8 @@ fn gives_no_more_than_asked<S: NodeStore>(
 ) -> Result<usize, AllocError>
 where
     S::Argument: SearchArgument<S::K>,
-    ensures { IfOk result (λ len. len ≤ n) }
-{
-    Ok(tree.range_by_argument(query, n)?.len())
-}
-
-// Where pairs are asked for, it gives none only where no place is allowed for the query: each place
-// begins a part.
-fn gives_none_only_where_none_is_allowed<S: NodeStore>(
-    tree: &BPlusTree<S>,
-    query: <S::Argument as SearchArgument<S::K>>::Query,
-    n: usize,
-) -> Result<usize, AllocError>
-where
-    S::Argument: SearchArgument<S::K>,
-    requires { 0 < n }
-    ensures { IfOk result (λ n. n ≡ 0 → S.Argument.selects query (keys_of tree.now.contents) None) }
+    ensures most { IfOk result (λ len. len ≤ n) }
+    ensures none { 0 < n → IfOk result (λ len. len ≡ 0 → S.Argument.selects query (keys_of tree.now.contents) None) }
 {
     Ok(tree.range_by_argument(query, n)?.len())
 }
@@ -99,18 +85,7 @@ fn sums_up_both_sides<S: NodeStore>(
     Ok((below, from))
 }
 
-// By a count the summary is how many pairs are between two keys.
-fn counts_the_pairs_between<S: NodeStore<K = u64, V = u64, Argument = Count>>(
-    tree: &BPlusTree<S>,
-    lo: &u64,
-    hi: &u64,
-) -> Result<usize, AllocError>
-    ensures { IfOk result (λ n. n ≡ length (between_keys nat_cmp tree.now.contents lo.now hi.now)) }
-{
-    Ok(tree.range_argument(Some(lo), Some(hi))?.count())
-}
-
-// And how many there are from one place up to another.
+// By a count the summary of a part is how many pairs there are from one place up to another.
 fn counts_the_pairs_of_a_part<S: NodeStore<K = u64, V = u64, Argument = Count>>(
     tree: &BPlusTree<S>,
     from: usize,
@@ -121,14 +96,13 @@ fn counts_the_pairs_of_a_part<S: NodeStore<K = u64, V = u64, Argument = Count>>(
     Ok(tree.part_argument(from, to)?.count())
 }
 
-// As many pairs are told as an iterator over them gives, and no call is refused.
-fn tells_how_many_it_gives<K: Key, V: Drop>(
+// It tells how many pairs are between two keys, and is never refused.
+fn tells_how_many_are_between<K: Key, V: Drop>(
     tree: &BPlusTree<NodeStoreVec<K, V, Count>>,
     lo: &K,
     hi: &K,
-) -> (usize, usize)
-    ensures { result.0 ≡ result.1 }
+) -> usize
+    ensures { result ≡ length (between_keys K.cmp tree.now.contents lo.now hi.now) }
 {
-    let told = tree.range_len(Some(lo), Some(hi));
-    (told, tree.range(Some(lo), Some(hi)).len())
+    tree.range_len(Some(lo), Some(hi))
 }

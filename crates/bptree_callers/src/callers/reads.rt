@@ -1,36 +1,31 @@
 //! Callers of a new tree, and of what is read of any tree.
-ghost use Rattle.std.specs.Prelude.{◌≡◌, ◌≢◌, ◌<◌, ◌≤◌, ◌+◌, ◌*◌, ◌^◌, ◌-◌, [], length, true, false, slice_get, IfOk, IfSome, Some, None};
+ghost use Rattle.std.specs.Prelude.{◌≡◌, ◌≢◌, ◌<◌, ◌≤◌, ◌+◌, ◌*◌, ◌^◌, ◌-◌, [], length, true, false, slice_get, IfOk, IfSome};
 ghost use Rattle.std.specs.declared.cmp.Ordering.TheVariants.{Equal};
 ghost use Rattle.std.specs.Map.{keys_of};
+ghost use Rattle.std.specs.Map.Iter.{deref_pair};
 ghost use Rattle.std.specs.Option.{option_copied, option_map};
 ghost use Rattle.bptree_keys.specs.Contents.{IsAscending, has, value as value_of, last_member};
 ghost use Rattle.bptree_nodes.specs.Slot.{IsEmpty};
 ghost use Rattle.bptree_shape.specs.Shape.{IsWellShaped};
+ghost use Rattle.bptree_callers.specs.Words.{ShowsEndsOfTwo};
 
-use bptree_arguments::count::Count;
 use bptree_keys::node_id::NodeId;
 use bptree_stores::node_stores::NodeStore;
 use bptree_tree::BPlusTree;
 use std::alloc::AllocError;
 
-// A new tree over an empty store has no pairs, and says so.
-fn starts_empty<S: NodeStore>(store: S) -> Result<(bool, usize, bool, bool), AllocError>
+// A new tree over an empty store has no pairs.
+fn starts_empty<S: NodeStore>(store: S) -> Result<BPlusTree<S>, AllocError>
     requires { IsEmpty (S.slots store) }
-    ensures { IfOk result (λ says. says ≡ (true, 0, true, true)) }
+    ensures { IfOk result (λ tree. tree.contents ≡ []) }
 {
-    let tree = BPlusTree::new(store)?;
-    Ok((
-        tree.is_empty(),
-        tree.len(),
-        tree.first().is_none(),
-        tree.last().is_none(),
-    ))
+    BPlusTree::new(store)
 }
 
-// A tree without pairs says so, and has no ends.
+// A tree without pairs says so, and has no ends. One with a pair doesn't.
 fn says_that_it_is_empty<S: NodeStore>(tree: &BPlusTree<S>) -> (bool, usize, bool, bool)
-    requires { tree.now.contents ≡ [] }
-    ensures { result ≡ (true, 0, true, true) }
+    ensures empty { tree.now.contents ≡ [] → result ≡ (true, 0, true, true) }
+    ensures some { tree.now.contents ≢ [] → result.0 ≡ false }
 {
     (
         tree.is_empty(),
@@ -40,33 +35,22 @@ fn says_that_it_is_empty<S: NodeStore>(tree: &BPlusTree<S>) -> (bool, usize, boo
     )
 }
 
-// One with a pair doesn't.
-fn says_that_it_is_not_empty<S: NodeStore>(tree: &BPlusTree<S>) -> bool
-    requires { tree.now.contents ≢ [] }
-    ensures { result ≡ false }
+// The first pair and the last, under either name: none where there is no pair, and of two both.
+fn gives_both_ends<S: NodeStore>(
+    tree: &BPlusTree<S>,
+) -> (
+    (Option<(&S::K, &S::V)>, Option<(&S::K, &S::V)>),
+    (Option<(&S::K, &S::V)>, Option<(&S::K, &S::V)>),
+)
+    ensures first { slice_get tree.now.contents 0 ≡ option_map deref_pair result.0.0 }
+    ensures last { last_member tree.now.contents ≡ option_map deref_pair result.0.1 }
+    ensures ends { ShowsEndsOfTwo tree.now.contents result.0 }
+    ensures same { (option_map deref_pair result.1.0 ≡ option_map deref_pair result.0.0) × (option_map deref_pair result.1.1 ≡ option_map deref_pair result.0.1) }
 {
-    tree.is_empty()
-}
-
-// A tree that is not empty has both ends.
-fn has_a_first<S: NodeStore>(tree: &BPlusTree<S>) -> (&S::K, &S::V)
-    requires { 0 < length tree.now.contents }
-    ensures { slice_get tree.now.contents 0 ≡ Some (result.0.now, result.1.now) }
-{
-    match tree.first() {
-        Some(first) => first,
-        None => unreachable!(),
-    }
-}
-
-fn has_a_last<S: NodeStore>(tree: &BPlusTree<S>) -> (&S::K, &S::V)
-    requires { 0 < length tree.now.contents }
-    ensures { last_member tree.now.contents ≡ Some (result.0.now, result.1.now) }
-{
-    match tree.last() {
-        Some(last) => last,
-        None => unreachable!(),
-    }
+    (
+        (tree.first(), tree.last()),
+        (tree.first_key_value(), tree.last_key_value()),
+    )
 }
 
 // The number of pairs, whose keys ascend.
@@ -76,14 +60,7 @@ fn counts_ascending_pairs<S: NodeStore>(tree: &BPlusTree<S>) -> usize
     tree.len()
 }
 
-// A key is found just where one equals it.
-fn finds_just_what_is_there<S: NodeStore>(tree: &BPlusTree<S>, k: &S::K) -> bool
-    ensures { result ≡ has S.K.cmp tree.now.contents k.now }
-{
-    tree.get(k).is_some()
-}
-
-// And with its value.
+// The value at a key, or none.
 fn finds_the_value<S: NodeStore>(tree: &BPlusTree<S>, k: &S::K) -> Option<S::V>
 where
     S::V: Copy,
@@ -97,12 +74,6 @@ fn summarizes_all_keys<S: NodeStore>(tree: &BPlusTree<S>) -> &S::Argument
     ensures { S.Argument.is_summary result.now (keys_of tree.now.contents) }
 {
     tree.root_argument()
-}
-
-fn counts_all_keys<S: NodeStore<K = u64, V = u64, Argument = Count>>(tree: &BPlusTree<S>) -> usize
-    ensures { result ≡ length tree.now.contents }
-{
-    tree.root_argument().count()
 }
 
 // The nodes that the root and the height name are a whole tree.
@@ -149,9 +120,10 @@ fn reads_the_root<S: NodeStore>(tree: &BPlusTree<S>) -> bool
     }
 }
 
-// A key is contained just where a value is found.
-fn contains_what_it_finds<S: NodeStore>(tree: &BPlusTree<S>, k: &S::K) -> (bool, bool)
-    ensures { result.0 ≡ result.1 }
+// A key is contained, and a value found, just where a key equals it.
+fn finds_just_what_is_there<S: NodeStore>(tree: &BPlusTree<S>, k: &S::K) -> (bool, bool)
+    ensures contained { result.0 ≡ has S.K.cmp tree.now.contents k.now }
+    ensures found { result.1 ≡ has S.K.cmp tree.now.contents k.now }
 {
     (tree.contains_key(k), tree.get(k).is_some())
 }
@@ -166,16 +138,4 @@ fn finds_the_pair_of_a_key<'a, S: NodeStore>(
     ensures value { option_map (λ p. p.1.now) result ≡ value_of S.K.cmp tree.now.contents k.now }
 {
     tree.get_key_value(k)
-}
-
-// A tree that is not empty has both ends, under either name.
-fn names_both_ends<S: NodeStore>(tree: &BPlusTree<S>) -> ((&S::K, &S::V), (&S::K, &S::V))
-    requires { 0 < length tree.now.contents }
-    ensures first { slice_get tree.now.contents 0 ≡ Some (result.0.0.now, result.0.1.now) }
-    ensures last { last_member tree.now.contents ≡ Some (result.1.0.now, result.1.1.now) }
-{
-    match (tree.first_key_value(), tree.last_key_value()) {
-        (Some(first), Some(last)) => (first, last),
-        _ => unreachable!(),
-    }
 }

@@ -1,5 +1,5 @@
 //! Callers of sets, of their iterators and of unions.
-ghost use Rattle.std.specs.Prelude.{◌≡◌, ◌∷◌, ◌≤◌, [], ◌||◌, ◌&&◌, length, not, true, false, slice_get, is_some, Contains, IfOk, IfSome, IsTrue, OnErr, Err, Ok, Some, None};
+ghost use Rattle.std.specs.Prelude.{◌≡◌, ◌∷◌, ◌≤◌, [], ◌||◌, ◌&&◌, length, not, true, false, slice_get, is_some, Contains, IfOk, IfErr, IfSome, IsTrue, OnErr, Ok, Some, None};
 ghost use Rattle.std.specs.declared.cmp.Ordering.TheVariants.{Equal};
 ghost use Rattle.std.specs.Map.Iter.{TakesFirst, deref};
 ghost use Rattle.std.specs.Option.{option_copied};
@@ -39,10 +39,13 @@ fn gathers<K: Key>(alloc: Global, keys: Vec<K>) -> Result<BPlusTreeSet<K>, Alloc
     BPlusTreeSet::from_iter(alloc, keys)
 }
 
-// The answer says whether the key is new, and a key that is there is never refused.
+// The answer says whether the key is new, and a key that is there is never refused. In a set of
+// fewer keys than there can be, the one refusal is for want of memory, and hands the key back.
 fn puts_in<K: Key>(set: &mut BPlusTreeSet<K>, k: K) -> Result<bool, InsertError<K, ()>>
     ensures fresh { holds K.cmp set.old k ≡ false → IfOk result (λ is_new. is_new ≡ true) }
     ensures there { holds K.cmp set.old k ≡ true → (result ≡ Ok false) × (set.new ≡ set.old) }
+    ensures back { length set.old ≡ 2 → IfErr result (λ error. error ≡ InsertError.OutOfMemory k tt) }
+    ensures stays { OnErr result (set.new ≡ set.old) }
 {
     set.insert(k)
 }
@@ -59,19 +62,6 @@ fn holds_what_was_put_in<K: Key>(
     let _len = set.len();
     set.insert(k)?;
     Ok(set.contains(other))
-}
-
-// In a set of fewer keys than there can be, the one refusal is for want of memory, and hands the
-// key back.
-fn hands_back<K: Key>(set: &mut BPlusTreeSet<K>, k: K) -> Result<bool, K>
-    requires { length set.old ≡ 2 }
-    ensures { (key : K) → result ≡ Err key → (key ≡ k) × (set.new ≡ set.old) }
-{
-    match set.insert(k) {
-        Ok(is_new) => Ok(is_new),
-        Err(InsertError::OutOfMemory(key, ())) => Err(key),
-        Err(InsertError::Full(_, ())) => unreachable!(),
-    }
 }
 
 // The answer says whether there was a key, and where there was none nothing is refused.
@@ -155,13 +145,10 @@ fn counts_what_is_left<K: Key>(keys: &mut Iter<'_, K>) -> (usize, Option<usize>)
 }
 
 // A clone has the same keys left, and is never refused.
-fn clones_what_is_left<'a, K: Key>(keys: &Iter<'a, K>) -> Iter<'a, K>
-    ensures { result ≡ keys.now }
+fn clones_what_is_left<'a, K: Key>(keys: &Iter<'a, K>) -> Result<Iter<'a, K>, AllocError>
+    ensures { result ≡ Ok keys.now }
 {
-    match keys.clone() {
-        Ok(copy) => copy,
-        Err(_) => unreachable!(),
-    }
+    keys.clone()
 }
 
 // The keys of an owned set, from both ends.
@@ -201,13 +188,10 @@ fn counts_both<K: Key>(keys: &Union<'_, K>) -> (usize, Option<usize>)
 }
 
 // A clone of a union has the same keys left, and is never refused.
-fn clones_a_union<'a, K: Key>(keys: &Union<'a, K>) -> Union<'a, K>
-    ensures { result ≡ keys.now }
+fn clones_a_union<'a, K: Key>(keys: &Union<'a, K>) -> Result<Union<'a, K>, AllocError>
+    ensures { result ≡ Ok keys.now }
 {
-    match keys.clone() {
-        Ok(copy) => copy,
-        Err(_) => unreachable!(),
-    }
+    keys.clone()
 }
 
 // The keys that the first set alone holds come in its order.
@@ -288,33 +272,28 @@ fn gives_the_first_of_either<'a, K: Key>(keys: &mut SymmetricDifference<'a, K>) 
 }
 
 // Clones have the same keys left, and are never refused.
-fn clones_a_difference<'a, K: Key>(keys: &Difference<'a, K>) -> Difference<'a, K>
-    ensures { result ≡ keys.now }
+fn clones_a_difference<'a, K: Key>(
+    keys: &Difference<'a, K>,
+) -> Result<Difference<'a, K>, AllocError>
+    ensures { result ≡ Ok keys.now }
 {
-    match keys.clone() {
-        Ok(copy) => copy,
-        Err(_) => unreachable!(),
-    }
+    keys.clone()
 }
 
-fn clones_an_intersection<'a, K: Key>(keys: &Intersection<'a, K>) -> Intersection<'a, K>
-    ensures { result ≡ keys.now }
+fn clones_an_intersection<'a, K: Key>(
+    keys: &Intersection<'a, K>,
+) -> Result<Intersection<'a, K>, AllocError>
+    ensures { result ≡ Ok keys.now }
 {
-    match keys.clone() {
-        Ok(copy) => copy,
-        Err(_) => unreachable!(),
-    }
+    keys.clone()
 }
 
 fn clones_a_symmetric_difference<'a, K: Key>(
     keys: &SymmetricDifference<'a, K>,
-) -> SymmetricDifference<'a, K>
-    ensures { result ≡ keys.now }
+) -> Result<SymmetricDifference<'a, K>, AllocError>
+    ensures { result ≡ Ok keys.now }
 {
-    match keys.clone() {
-        Ok(copy) => copy,
-        Err(_) => unreachable!(),
-    }
+    keys.clone()
 }
 
 // A key is found exactly where the set holds it: one of the set's own, and equal.

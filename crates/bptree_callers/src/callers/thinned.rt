@@ -51,28 +51,6 @@ fn empties_a_part_of_a_set<K: Key>(
     set.remove_range(Some(lo), Some(hi))
 }
 
-// A map with no pairs keeps none.
-fn keeps_none<K: Key, V: Drop, A: Argument<K>, F: FnMut(&K, &mut V) -> bool>(
-    map: &mut BPlusTreeMap<K, V, A>,
-    f: F,
-) -> Result<(), RetainError<(K, V), IntoIter<K, V, A>>>
-    requires { F.IsAlwaysCallable f }
-    ensures { OnOk result (map.old ≡ [] → map.new ≡ []) }
-{
-    map.retain(f)
-}
-
-// A set with no keys keeps none.
-fn keeps_no_key<K: Key, F: FnMut(&K) -> bool>(
-    set: &mut BPlusTreeSet<K>,
-    f: F,
-) -> Result<(), RetainError<K, set::IntoIter<K>>>
-    requires { F.IsAlwaysCallable f }
-    ensures { OnOk result (set.old ≡ [] → set.new ≡ []) }
-{
-    set.retain(f)
-}
-
 // All values are halved, and the pairs whose values become 0 leave.
 fn halves<K: Key, A: Argument<K>>(
     map: &mut BPlusTreeMap<K, u64, A>,

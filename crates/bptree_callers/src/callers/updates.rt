@@ -94,14 +94,6 @@ fn keeps_all_keys_from<S: NodeStore, F: FnMut(&S::K, &mut S::V)>(
     tree.update_range(Some(lo), None, f);
 }
 
-// Behind a key and before it there is no pair.
-fn has_none_beside_itself<S: NodeStore>(tree: &BPlusTree<S>, k: &S::K) -> bool
-    ensures { result ≡ true }
-{
-    let mut pairs = tree.range_bounds(Bound::Excluded(k), Bound::Excluded(k));
-    pairs.next().is_none()
-}
-
 // From a key up to itself, with both taken in, stands the pair of that key, where there is one.
 fn finds_itself<S: NodeStore>(tree: &BPlusTree<S>, k: &S::K) -> bool
     ensures { result ≡ has S.K.cmp tree.now.contents k.now }
@@ -110,7 +102,7 @@ fn finds_itself<S: NodeStore>(tree: &BPlusTree<S>, k: &S::K) -> bool
     pairs.next().is_some()
 }
 
-// The same of a map.
+// Behind a key of a map and before it there is no pair.
 fn has_no_pair_beside_itself<K: Key, V: Drop, A: Argument<K>>(
     map: &BPlusTreeMap<K, V, A>,
     k: &K,

@@ -12,23 +12,14 @@ use bptree_arguments::visit::{DescendError, DescendVisit};
 use bptree_stores::node_stores::NodeStore;
 use bptree_tree::BPlusTree;
 
-// What is answered is allowed for the visitor on the pairs of the tree.
+// What is answered is allowed for the visitor on the pairs of the tree. A visitor to which no other
+// child is ever allowed gets no error but a refusal.
 fn visits<S: NodeStore, W: DescendVisit<S::K, S::V, S::Argument>>(
     tree: &BPlusTree<S>,
     visitor: W,
 ) -> Result<Option<W::Result>, DescendError>
-    ensures { IfOk result (λ answer. W.answers visitor tree.now.contents (answered answer)) }
-{
-    tree.descend_visit(visitor)
-}
-
-// A visitor to which no other child is ever allowed gets no error but a refusal.
-fn visits_children<S: NodeStore, W: DescendVisit<S::K, S::V, S::Argument>>(
-    tree: &BPlusTree<S>,
-    visitor: W,
-) -> Result<Option<W::Result>, DescendError>
-    requires { W.answers visitor tree.now.contents invalid_child → ⊥ }
-    ensures { IfErr result (λ error. error ≡ OutOfMemory) }
+    ensures allowed { IfOk result (λ answer. W.answers visitor tree.now.contents (answered answer)) }
+    ensures children { (W.answers visitor tree.now.contents invalid_child → ⊥) → IfErr result (λ error. error ≡ OutOfMemory) }
 {
     tree.descend_visit(visitor)
 }

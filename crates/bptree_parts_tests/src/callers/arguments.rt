@@ -65,16 +65,11 @@ fn replaces_the_first<K: Key, A: Argument<K>>(
     A::from_replaced(node, old, new)
 }
 
-// Before any key there is the default, which is a summary of no keys.
-fn summarizes_no_keys<K: Key, A: Argument<K>>() -> A
-    ensures { A.is_summary result [] }
-{
-    A::default()
-}
-
-// Where any summary serves, the default does for every list.
-fn needs_no_upkeep<K: Key, A: Argument<K>>() -> (bool, A)
-    ensures { IsTrue result.0 → (keys : List K) → A.is_summary result.1 keys }
+// Before any key there is the default, which is a summary of no keys. Where any summary serves, it
+// is one of every list.
+fn summarizes_no_keys<K: Key, A: Argument<K>>() -> (bool, A)
+    ensures none { A.is_summary result.1 [] }
+    ensures all { IsTrue result.0 → (keys : List K) → A.is_summary result.1 keys }
 {
     (A::is_zst(), A::default())
 }

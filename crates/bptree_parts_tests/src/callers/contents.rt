@@ -9,16 +9,11 @@ use bptree_keys::contents::{law_of_gather, laws_of_del, laws_of_put};
 use bptree_keys::key::Key;
 use bptree_keys::pieces::piece_laws;
 
-// A value that is put is found at each equal key, and nowhere else.
+// A value that is put is found at each equal key, and nowhere else. There is one key more where it
+// is new, and as many where it is not.
 fn finds_what_is_put<K: Key, V>()
     ensures there { (l : List (K × V)) → (k j : K) → (v : V) → IsAscending K.cmp l → K.cmp k j ≡ Equal → value K.cmp (put K.cmp l k v) j ≡ Some v }
     ensures elsewhere { (l : List (K × V)) → (k j : K) → (v : V) → IsAscending K.cmp l → K.cmp k j ≡ Less → value K.cmp (put K.cmp l k v) j ≡ value K.cmp l j }
-{
-    laws_of_put::<K, V>();
-}
-
-// One key more where it is new, and as many where it is not.
-fn counts_what_is_put<K: Key, V>()
     ensures is_new { (l : List (K × V)) → (k : K) → (v : V) → IsAscending K.cmp l → has K.cmp l k ≡ false → length (put K.cmp l k v) ≡ length l + 1 }
     ensures was_there { (l : List (K × V)) → (k : K) → (v : V) → IsAscending K.cmp l → has K.cmp l k ≡ true → length (put K.cmp l k v) ≡ length l }
 {

@@ -1,5 +1,5 @@
 //! Callers of the count of keys.
-ghost use Rattle.std.specs.Prelude.{◌≡◌, ◌<◌, ◌≤◌, ◌+◌, ◌-◌, ◌^◌, ◌∷◌, [], Some, None, length, IfOk, IfErr};
+ghost use Rattle.std.specs.Prelude.{◌≡◌, ◌<◌, ◌≤◌, ◌+◌, ◌-◌, ◌^◌, ◌∷◌, [], Some, None, true, length, IfOk, IfErr};
 ghost use Rattle.std.specs.List.{AllZip};
 ghost use Rattle.std.specs.List.Sorted.{IsStrictlySortedBy};
 ghost use Rattle.bptree_arguments.specs.Ranks.{IsSlotIn};
@@ -20,26 +20,22 @@ fn counts_a_leaf<K: Key>(keys: &[K]) -> Result<usize, AllocError>
 }
 
 // No call of a count is refused memory.
-fn counts_for_sure<K: Key>(k: &K, keys: &[K], query: usize) -> (usize, Option<usize>, usize)
+fn counts_for_sure<K: Key>(
+    k: &K,
+    keys: &[K],
+    query: usize,
+    counts: &[Count],
+) -> (bool, bool, bool, bool)
     requires few { length keys.now ≤ 64 }
     requires ascending { IsStrictlySortedBy K.cmp keys.now }
-    ensures count { result.0 ≡ length keys.now }
-    ensures place { query < length keys.now → result.1 ≡ Some query }
-    ensures rank { result.2 ≡ length keys.now }
+    ensures { result ≡ (true, true, true, true) }
 {
-    let Ok(count) = <Count as Argument<K>>::from_leaf(keys) else {
-        unreachable!()
-    };
-    let Ok(place) = <Count as SearchArgument<K>>::locate_in_leaf(query, keys) else {
-        unreachable!()
-    };
-    let Ok(above) = <Count as Argument<K>>::from_inner(keys, &[count]) else {
-        unreachable!()
-    };
-    let Ok(rank) = <Count as RankArgument<K>>::fold_inner(k, 0, &[above]) else {
-        unreachable!()
-    };
-    (count.count(), place, rank)
+    (
+        <Count as Argument<K>>::from_leaf(keys).is_ok(),
+        <Count as Argument<K>>::from_inner(keys, counts).is_ok(),
+        <Count as SearchArgument<K>>::locate_in_leaf(query, keys).is_ok(),
+        <Count as RankArgument<K>>::fold_inner(k, 0, counts).is_ok(),
+    )
 }
 
 fn counts_nothing() -> usize

@@ -3,12 +3,9 @@ ghost use Rattle.std.specs.Prelude.{◌≡◌, ◌==◌, Bool, List, IfOk, IsTru
 ghost use Rattle.std.specs.Iterator.{IsFinite};
 ghost use Rattle.std.specs.Iterator.Order.{ActsAsAtTwo};
 ghost use Rattle.std.specs.Ordering.{is_eq};
-ghost use Rattle.bptree_keys.specs.Contents.{load};
 ghost use Rattle.bptree_loading.specs.Dedup.{GivesAll, last_of_each_run};
 
-use bptree_keys::key::Key;
 use bptree_loading::dedup::{DeDupKeepLast, DedupByExt};
-use bptree_loading::loading::laws_of_load;
 use std::alloc::{AllocError, Global};
 
 /// The last number of each run of equal numbers.
@@ -18,20 +15,6 @@ pub fn collects_the_last_numbers(alloc: Global, numbers: Vec<u64>) -> Result<Vec
     numbers
         .into_iter()
         .dedup_keep_last(|number, after| *number == *after)
-        .collect(alloc)
-}
-
-// The last pair of each run of pairs with equal keys: what `load` says.
-fn collects_the_last_pairs<K: Key, V: Drop>(
-    alloc: Global,
-    pairs: Vec<(K, V)>,
-) -> Result<Vec<(K, V)>, AllocError>
-    ensures { IfOk result (λ v. v.items ≡ load K.cmp pairs.items) }
-{
-    laws_of_load::<K, V>();
-    pairs
-        .into_iter()
-        .dedup_keep_last(|pair, after| pair.0.cmp(&after.0).is_eq())
         .collect(alloc)
 }
 

@@ -15,7 +15,8 @@ use bptree_keys::key::Key;
 use std::alloc::AllocError;
 
 // The key at the place is of the group, and as many keys of the group stand before it as the place
-// in the group says. Past the last key of the group there is no place.
+// in the group says: it is the item of the group's keys. Past the last key of the group there is no
+// place.
 fn finds_a_key_of_the_group<K: Key, G: FromRef<K> + Key>(
     group: G,
     place: usize,
@@ -27,20 +28,7 @@ fn finds_a_key_of_the_group<K: Key, G: FromRef<K> + Key>(
     ensures of_group { IfOk result (λ found. IfSome found (HoldsAt (λ x. G.cmp (G.group_of x) group ≡ Equal) keys.now)) }
     ensures before { IfOk result (λ found. IfSome found (λ i. length (filter (λ x. is_eq (G.cmp (G.group_of x) group)) (take i keys.now)) ≡ place)) }
     ensures past { length (filter (λ x. is_eq (G.cmp (G.group_of x) group)) keys.now) ≤ place → IfOk result (λ found. found ≡ None) }
-{
-    let found = <GroupCount<G> as SearchArgument<K>>::locate_in_leaf((group, place), keys)?;
-    Ok(found)
-}
-
-// The place that is selected is that of the item of the group's keys.
-fn finds_the_item_of_the_group<K: Key, G: FromRef<K> + Key>(
-    group: G,
-    place: usize,
-    keys: &[K],
-) -> Result<Option<usize>, AllocError>
-    requires few { length keys.now ≤ 64 }
-    requires ascending { IsStrictlySortedBy K.cmp keys.now }
-    ensures { IfOk result (λ found. MatchOption found (slice_get (filter (λ x. is_eq (G.cmp (G.group_of x) group)) keys.now) place ≡ None) (λ i. slice_get keys.now i ≡ slice_get (filter (λ x. is_eq (G.cmp (G.group_of x) group)) keys.now) place)) }
+    ensures item { IfOk result (λ found. MatchOption found (slice_get (filter (λ x. is_eq (G.cmp (G.group_of x) group)) keys.now) place ≡ None) (λ i. slice_get keys.now i ≡ slice_get (filter (λ x. is_eq (G.cmp (G.group_of x) group)) keys.now) place)) }
 {
     let found = <GroupCount<G> as SearchArgument<K>>::locate_in_leaf((group, place), keys)?;
     Ok(found)

@@ -1,5 +1,5 @@
 //! Callers of groups and of what counts the keys of one.
-ghost use Rattle.std.specs.Prelude.{◌≡◌, ◌<◌, ◌≤◌, ◌+◌, ◌-◌, ◌^◌, min, ◌∷◌, ◌++◌, [], List, Some, length, map, true, false, IfOk, MatchResult};
+ghost use Rattle.std.specs.Prelude.{◌≡◌, ◌<◌, ◌≤◌, ◌+◌, ◌-◌, ◌^◌, ℕ, min, ◌∷◌, ◌++◌, [], List, Some, length, map, true, false, IfOk, MatchResult};
 ghost use Rattle.std.specs.declared.cmp.Ordering.TheVariants.{Equal};
 ghost use Rattle.std.specs.List.{AllByRecursion, AllZip};
 ghost use Rattle.std.specs.List.Sorted.{IsStrictlySortedBy};
@@ -23,37 +23,29 @@ fn first_of_a_pair<A: Key, B: Key>(pair: &(A, B)) -> Result<A, AllocError>
     Ok(group.0)
 }
 
-// The summary of a leaf has as many groups as its keys have, and some.
+// The summary of a leaf has as many groups as its keys have: some where there are keys, and else
+// none.
 fn counts_the_groups_of_a_leaf<K: Key, G: FromRef<K> + Key>(
     keys: &[K],
 ) -> Result<(bool, usize), AllocError>
-    requires some { 0 < length keys.now }
     requires ascending { IsStrictlySortedBy K.cmp keys.now }
-    ensures some { IfOk result (λ told. told.0 ≡ false) }
-    ensures groups { IfOk result (λ told. told.1 ≡ different G.cmp (map G.group_of keys.now)) }
+    ensures some { 0 < length keys.now → IfOk result (λ told. told.0 ≡ false) }
+    ensures groups { 0 < length keys.now → IfOk result (λ told. told.1 ≡ different G.cmp (map G.group_of keys.now)) }
+    ensures none { keys.now ≡ [] → IfOk result (λ told. told ≡ (true, 0)) }
 {
     let summary = <GroupCount<G> as Argument<K>>::from_leaf(keys)?;
     Ok((summary.is_zero(), summary.group_count()))
 }
 
-// Without keys, without children and by default there is no group.
-fn has_no_group<K: Key, G: FromRef<K> + Key>(
-    keys: &[K],
-    arguments: &[GroupCount<G>],
-) -> Result<(bool, usize, bool, bool), AllocError>
-    requires no_keys { keys.now ≡ [] }
-    requires no_children { arguments.now ≡ [] }
-    ensures { IfOk result (λ told. told ≡ (true, 0, true, true)) }
+// Without children there is no group, nor is there one by default.
+fn has_no_group<K: Key, G: FromRef<K> + Key>(keys: &[K], arguments: &[GroupCount<G>]) -> bool
+    requires { arguments.now ≡ [] }
+    ensures { result ≡ true }
 {
-    let none = <GroupCount<G> as Argument<K>>::from_leaf(keys)?;
-    let below_none = <GroupCount<G> as Argument<K>>::from_inner(keys, arguments)?;
-    let first = GroupCount::<G>::default();
-    Ok((
-        none.is_zero(),
-        none.group_count(),
-        below_none.is_zero(),
-        first.is_zero(),
-    ))
+    match <GroupCount<G> as Argument<K>>::from_inner(keys, arguments) {
+        Ok(below_none) => below_none.is_zero(),
+        Err(_) => GroupCount::<G>::default().is_zero(),
+    }
 }
 
 // Over two leaves the groups of all keys are counted, whatever the separators are.
@@ -71,10 +63,11 @@ fn counts_the_groups_of_two_leaves<K: Key, G: FromRef<K> + Key>(
     Ok(both.group_count())
 }
 
-// The size of the greatest group, and 0 where there is none.
+// The size of the greatest group, be it the only one, and 0 where there is none.
 fn size_of_the_greatest_group<G: Key>(summary: &GroupCount<G>) -> usize
     ensures none { IsGroupSummary G.cmp summary.now [] → result ≡ 0 }
     ensures size { (groups : List G) (g : G) → IsGroupSummary G.cmp summary.now groups → AllByRecursion (λ x. is_gt (G.cmp x g) ≡ false) groups → 0 < group_size G.cmp g groups → result ≡ group_size G.cmp g groups }
+    ensures only { (g : G) (size : ℕ) → summary.now ≡ GroupCount.One g size → result ≡ size }
 {
     match summary.max_group() {
         None => 0,
@@ -83,43 +76,12 @@ fn size_of_the_greatest_group<G: Key>(summary: &GroupCount<G>) -> usize
 }
 
 // Of each kind of summary is told what it has, whatever its groups and numbers are.
-fn tells_what_it_has<G: Key>(
-    group: G,
-    least: (G, usize),
-    greatest: (G, usize),
-    count: usize,
-) -> ([bool; 3], [usize; 3])
-    ensures none { result.0 ≡ true ∷ false ∷ false ∷ [] }
-    ensures groups { result.1 ≡ 0 ∷ 1 ∷ count ∷ [] }
+fn tells_what_it_has<G: Key>(summary: &GroupCount<G>) -> (bool, usize)
+    ensures none { summary.now ≡ GroupCount.Zero → result ≡ (true, 0) }
+    ensures one { (g : G) (size : ℕ) → summary.now ≡ GroupCount.One g size → result ≡ (false, 1) }
+    ensures several { (least greatest : G × ℕ) (count : ℕ) → summary.now ≡ GroupCount.Multiple least greatest count → result ≡ (false, count) }
 {
-    let of_several = {
-        let several = GroupCount::Multiple {
-            min_group: least,
-            max_group: greatest,
-            group_count: count,
-        };
-        (several.is_zero(), several.group_count())
-    };
-    let of_one = {
-        let one = GroupCount::One(group, count);
-        (one.is_zero(), one.group_count())
-    };
-    let none = GroupCount::<G>::Zero;
-    (
-        [none.is_zero(), of_one.0, of_several.0],
-        [none.group_count(), of_one.1, of_several.1],
-    )
-}
-
-// The size of one group is told, whatever it is.
-fn tells_the_size<G: Key>(group: G, size: usize) -> usize
-    ensures { result ≡ size }
-{
-    let one = GroupCount::One(group, size);
-    match one.max_group() {
-        None => 0,
-        Some((_, told)) => told,
-    }
+    (summary.is_zero(), summary.group_count())
 }
 
 // The sizes of a group in two children are added, up to the greatest number, and the separators

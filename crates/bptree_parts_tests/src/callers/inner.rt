@@ -64,20 +64,16 @@ fn shows_what_was_given<
 }
 
 // Whether a key can leave, and whether there is no room for another: around 16 keys and around 64.
-fn tells_its_bounds<K: Drop, A: Drop>(node: &InnerNode<K, A>) -> (bool, bool)
-    ensures minimum { length node.now.keys ≡ 16 → result ≡ (false, false) }
-    ensures above_minimum { length node.now.keys ≡ 17 → result ≡ (true, false) }
-    ensures one_free { length node.now.keys ≡ 63 → result ≡ (true, false) }
-    ensures full { length node.now.keys ≡ 64 → result ≡ (true, true) }
+// And how many keys more there is room for.
+fn tells_its_bounds<K: Drop, A: Drop>(node: &InnerNode<K, A>) -> ((bool, bool), usize)
+    ensures minimum { length node.now.keys ≡ 16 → result.0 ≡ (false, false) }
+    ensures above_minimum { length node.now.keys ≡ 17 → result.0 ≡ (true, false) }
+    ensures one_free { length node.now.keys ≡ 63 → result.0 ≡ (true, false) }
+    ensures full { length node.now.keys ≡ 64 → result.0 ≡ (true, true) }
+    ensures room { result.1 + length node.now.keys ≡ 64 }
 {
-    (node.able_to_lend(), node.is_full())
-}
-
-// How many keys more there is room for.
-fn counts_free_places<K: Drop, A: Drop>(node: &InnerNode<K, A>) -> usize
-    ensures { result + length node.now.keys ≡ 64 }
-{
-    usize::from(InnerNode::<K, A>::max_capacity()) - node.len()
+    let room = usize::from(InnerNode::<K, A>::max_capacity()) - node.len();
+    ((node.able_to_lend(), node.is_full()), room)
 }
 
 // The parts of a split and the key that goes up are all keys of a full node and the new one.
@@ -325,31 +321,24 @@ fn hands_over_what_it_took<K: Drop, A: Drop>(
     node.hand_over(kept + 1, right)
 }
 
-// The child for a key among two separators: behind an equal one, and before a greater one.
+// The child for a key among two separators: behind an equal one, and before a greater one. With its
+// comparisons counted the same child is found.
 fn goes_behind_an_equal_key<K: Ord + Drop, A: Drop>(
     node: &InnerNode<K, A>,
     key: &K,
-) -> (usize, NodeId)
+) -> ((usize, NodeId), NodeId, usize)
     requires node { 0 < length node.now.children }
     requires ascending { IsStrictlySortedBy K.cmp node.now.keys }
-    ensures before { (x y : K) → node.now.keys ≡ x ∷ y ∷ [] → K.cmp x key.now ≡ Greater → K.cmp y key.now ≡ Greater → result.0 ≡ 0 }
-    ensures equal { (x y : K) → node.now.keys ≡ x ∷ y ∷ [] → K.cmp x key.now ≡ Equal → K.cmp y key.now ≡ Greater → result.0 ≡ 1 }
-    ensures behind { (x y : K) → node.now.keys ≡ x ∷ y ∷ [] → K.cmp x key.now ≡ Less → K.cmp y key.now ≡ Less → result.0 ≡ 2 }
-    ensures child { slice_get node.now.children result.0 ≡ Some result.1 }
-{
-    node.locate_child(key)
-}
-
-// The same child, with the comparisons counted.
-fn goes_on_in_seven<K: Ord + Drop, A: Drop>(node: &InnerNode<K, A>, key: &K) -> (NodeId, usize)
-    requires node { 0 < length node.now.children }
-    requires ascending { IsStrictlySortedBy K.cmp node.now.keys }
-    ensures equal { (x y : K) → node.now.keys ≡ x ∷ y ∷ [] → K.cmp x key.now ≡ Equal → K.cmp y key.now ≡ Greater → slice_get node.now.children 1 ≡ Some result.0 }
-    ensures count { result.1 ≤ 7 }
+    ensures before { (x y : K) → node.now.keys ≡ x ∷ y ∷ [] → K.cmp x key.now ≡ Greater → K.cmp y key.now ≡ Greater → result.0.0 ≡ 0 }
+    ensures equal { (x y : K) → node.now.keys ≡ x ∷ y ∷ [] → K.cmp x key.now ≡ Equal → K.cmp y key.now ≡ Greater → result.0.0 ≡ 1 }
+    ensures behind { (x y : K) → node.now.keys ≡ x ∷ y ∷ [] → K.cmp x key.now ≡ Less → K.cmp y key.now ≡ Less → result.0.0 ≡ 2 }
+    ensures child { slice_get node.now.children result.0.0 ≡ Some result.0.1 }
+    ensures counted { (x y : K) → node.now.keys ≡ x ∷ y ∷ [] → K.cmp x key.now ≡ Equal → K.cmp y key.now ≡ Greater → slice_get node.now.children 1 ≡ Some result.1 }
+    ensures count { result.2 ≤ 7 }
 {
     let mut compares = Compares::new();
-    let child = node.locate_child_counted(key, &mut compares).1;
-    (child, compares.count())
+    let counted = node.locate_child_counted(key, &mut compares).1;
+    (node.locate_child(key), counted, compares.count())
 }
 
 // A clone has the same children, and clones of the keys and summaries in their order.

@@ -22,22 +22,21 @@ fn starts_empty<K: Drop, V: Drop>(
     Ok((leaf.len(), leaf.prev(), leaf.next()))
 }
 
-// Whether a leaf is at its minimum, can lend a pair, and is full: around 16 pairs and around 64.
-fn tells_its_bounds<K: Drop, V: Drop>(leaf: &LeafNode<K, V>) -> (bool, bool, bool)
-    ensures below_minimum { length leaf.now.pairs ≡ 15 → result ≡ (false, false, false) }
-    ensures minimum { length leaf.now.pairs ≡ 16 → result ≡ (true, false, false) }
-    ensures above_minimum { length leaf.now.pairs ≡ 17 → result ≡ (false, true, false) }
-    ensures one_free { length leaf.now.pairs ≡ 63 → result ≡ (false, true, false) }
-    ensures full { length leaf.now.pairs ≡ 64 → result ≡ (false, true, true) }
+// Whether a leaf is at its minimum, can lend a pair, and is full: around 16 pairs and around 64. And
+// how many pairs more there is room for.
+fn tells_its_bounds<K: Drop, V: Drop>(leaf: &LeafNode<K, V>) -> ((bool, bool, bool), usize)
+    ensures below_minimum { length leaf.now.pairs ≡ 15 → result.0 ≡ (false, false, false) }
+    ensures minimum { length leaf.now.pairs ≡ 16 → result.0 ≡ (true, false, false) }
+    ensures above_minimum { length leaf.now.pairs ≡ 17 → result.0 ≡ (false, true, false) }
+    ensures one_free { length leaf.now.pairs ≡ 63 → result.0 ≡ (false, true, false) }
+    ensures full { length leaf.now.pairs ≡ 64 → result.0 ≡ (false, true, true) }
+    ensures room { result.1 + length leaf.now.pairs ≡ 64 }
 {
-    (leaf.is_size_minimum(), leaf.able_to_lend(), leaf.is_full())
-}
-
-// How many pairs more there is room for.
-fn counts_free_places<K: Drop, V: Drop>(leaf: &LeafNode<K, V>) -> usize
-    ensures { result + length leaf.now.pairs ≡ 64 }
-{
-    usize::from(LeafNode::<K, V>::max_capacity()) - leaf.len()
+    let room = usize::from(LeafNode::<K, V>::max_capacity()) - leaf.len();
+    (
+        (leaf.is_size_minimum(), leaf.able_to_lend(), leaf.is_full()),
+        room,
+    )
 }
 
 // Each link is set without the other, and the pairs stay.
@@ -67,25 +66,15 @@ fn is_in_range_of<K: Ord + Drop, V: Drop>(leaf: &LeafNode<K, V>, key: &K) -> boo
     leaf.in_range(key)
 }
 
-// Of a leaf of two pairs with a leaf before it and none after it: a clone of the first key, and
-// none.
-fn shows_its_first_key<K: Clone + Drop, V: Drop>(
+// Of a leaf of two pairs: a clone of the key at each end that has a leaf beside it, and else none.
+fn shows_its_ends<K: Clone + Drop, V: Drop>(
     leaf: &LeafNode<K, V>,
 ) -> Result<(Option<K>, Option<K>), AllocError>
     requires { 0 < length leaf.now.pairs }
     ensures first { (before : LeafNodeId) → (first last : K × V) → leaf.now.prev ≡ Some before → leaf.now.pairs ≡ first ∷ last ∷ [] → IfOk result (λ ends. IsSomeAnd ends.0 (λ key. K.is_clone first.0 key)) }
-    ensures last { leaf.now.next ≡ None → IfOk result (λ ends. ends.1 ≡ None) }
-{
-    leaf.key_range()
-}
-
-// And with a leaf after it: a clone of the last key.
-fn shows_its_last_key<K: Clone + Drop, V: Drop>(
-    leaf: &LeafNode<K, V>,
-) -> Result<(Option<K>, Option<K>), AllocError>
-    requires { 0 < length leaf.now.pairs }
-    ensures first { leaf.now.prev ≡ None → IfOk result (λ ends. ends.0 ≡ None) }
     ensures last { (after : LeafNodeId) → (first last : K × V) → leaf.now.next ≡ Some after → leaf.now.pairs ≡ first ∷ last ∷ [] → IfOk result (λ ends. IsSomeAnd ends.1 (λ key. K.is_clone last.0 key)) }
+    ensures no_first { leaf.now.prev ≡ None → IfOk result (λ ends. ends.0 ≡ None) }
+    ensures no_last { leaf.now.next ≡ None → IfOk result (λ ends. ends.1 ≡ None) }
 {
     leaf.key_range()
 }
@@ -175,51 +164,39 @@ fn finds_an_equal_key<K: Ord + Drop, V: Drop>(leaf: &LeafNode<K, V>, key: &K) ->
 }
 
 // Where it finds none in an ascending leaf, the key is not there, and the place is the number of
-// smaller keys.
-fn counts_smaller_keys<K: Ord + Drop, V: Drop>(leaf: &LeafNode<K, V>, key: &K) -> Option<usize>
-    requires { IsAscending K.cmp leaf.now.pairs }
-    ensures absent { IfSome result (λ _. has K.cmp leaf.now.pairs key.now ≡ false) }
-    ensures place { IfSome result (λ place. place ≡ length (below K.cmp leaf.now.pairs key.now)) }
-{
-    leaf.locate_slot(key).err()
-}
-
-// The value of a key, or none.
-fn reads_the_value<'a, K: Ord + Drop, V: Drop>(leaf: &'a LeafNode<K, V>, key: &K) -> Option<&'a V>
-    requires { IsAscending K.cmp leaf.now.pairs }
-    ensures { option_copied result ≡ value_of K.cmp leaf.now.pairs key.now }
-{
-    leaf.locate_slot_with_value(key).1
-}
-
-// The same searches, with their comparisons counted: at most seven for the slot, as many for the
-// value, and two for the range.
-fn counts_a_value_in_seven<'a, K: Ord + Drop, V: Drop>(
-    leaf: &'a LeafNode<K, V>,
-    key: &K,
-) -> (Option<&'a V>, usize)
-    requires { IsAscending K.cmp leaf.now.pairs }
-    ensures value { option_copied result.0 ≡ value_of K.cmp leaf.now.pairs key.now }
-    ensures count { result.1 ≤ 7 }
-{
-    let mut compares = Compares::new();
-    let value = leaf.locate_slot_with_value_counted(key, &mut compares).1;
-    (value, compares.count())
-}
-
-fn counts_smaller_keys_in_seven<K: Ord + Drop, V: Drop>(
+// smaller keys. With its comparisons counted it is the same, after at most seven.
+fn counts_smaller_keys<K: Ord + Drop, V: Drop>(
     leaf: &LeafNode<K, V>,
     key: &K,
-) -> (Option<usize>, usize)
+) -> (Option<usize>, Option<usize>, usize)
     requires { IsAscending K.cmp leaf.now.pairs }
+    ensures absent { IfSome result.0 (λ _. has K.cmp leaf.now.pairs key.now ≡ false) }
     ensures place { IfSome result.0 (λ place. place ≡ length (below K.cmp leaf.now.pairs key.now)) }
-    ensures count { result.1 ≤ 7 }
+    ensures counted { IfSome result.1 (λ place. place ≡ length (below K.cmp leaf.now.pairs key.now)) }
+    ensures count { result.2 ≤ 7 }
 {
     let mut compares = Compares::new();
-    let place = leaf.locate_slot_counted(key, &mut compares).err();
-    (place, compares.count())
+    let counted = leaf.locate_slot_counted(key, &mut compares).err();
+    (leaf.locate_slot(key).err(), counted, compares.count())
 }
 
+// The value of a key, or none, and the same with the comparisons counted.
+fn reads_the_value<'a, K: Ord + Drop, V: Drop>(
+    leaf: &'a LeafNode<K, V>,
+    key: &K,
+) -> (Option<&'a V>, Option<&'a V>, usize)
+    requires { IsAscending K.cmp leaf.now.pairs }
+    ensures value { option_copied result.0 ≡ value_of K.cmp leaf.now.pairs key.now }
+    ensures counted { option_copied result.1 ≡ value_of K.cmp leaf.now.pairs key.now }
+    ensures count { result.2 ≤ 7 }
+{
+    let mut compares = Compares::new();
+    let counted = leaf.locate_slot_with_value_counted(key, &mut compares).1;
+    let value = leaf.locate_slot_with_value(key).1;
+    (value, counted, compares.count())
+}
+
+// Whether a key is in range is told after two comparisons at most.
 fn tells_its_range_in_two<K: Ord + Drop, V: Drop>(leaf: &LeafNode<K, V>, key: &K) -> (bool, usize)
     ensures same { result.0 ≡ true }
     ensures count { result.1 ≤ 2 }

@@ -16,22 +16,16 @@ fn tells_the_order_of_few<K: Key, V>(pairs: &[(K, V)]) -> bool
     in_load_order(pairs)
 }
 
-// Pairs that ascend are in order.
-fn finds_ascending_pairs_in_order<K: Key, V>(pairs: &[(K, V)]) -> bool
-    requires { IsAscending K.cmp pairs.now }
-    ensures { IsTrue result }
-{
-    laws_of_load::<K, V>();
-    in_load_order(pairs)
-}
-
-// And of them all stay.
-fn keeps_ascending_pairs<K: Key, V: Drop>(pairs: &mut Vec<(K, V)>)
+// Pairs that ascend are in order, and of them all stay.
+fn keeps_ascending_pairs<K: Key, V: Drop>(pairs: &mut Vec<(K, V)>) -> bool
     requires { IsAscending K.cmp pairs.old.items }
-    ensures { pairs.new.items ≡ pairs.old.items }
+    ensures ordered { IsTrue result }
+    ensures pairs { pairs.new.items ≡ pairs.old.items }
 {
     laws_of_load::<K, V>();
+    let ordered = in_load_order(pairs);
     keep_last_of_each_run(pairs);
+    ordered
 }
 
 // Of two pairs with equal keys the second stays, and at the key is its value.

@@ -1,9 +1,9 @@
 //! Callers of merges.
-ghost use Rattle.std.specs.Prelude.{◌≡◌, ◌<◌, ◌+◌, [], ◌∷◌, Some, None, List, IfOk, IsOk, IsTrue, drop, length, slice_get};
+ghost use Rattle.std.specs.Prelude.{◌≡◌, ◌<◌, ◌+◌, ◌^◌, [], ◌∷◌, Some, None, List, IfOk, IsOk, drop, length, slice_get};
 ghost use Rattle.std.specs.declared.cmp.Ordering.TheVariants.{Less, Equal, Greater};
 ghost use Rattle.std.specs.Map.Iter.{TakesFirst, deref};
 ghost use Rattle.std.specs.Option.{option_map};
-ghost use Rattle.bptree_merging.specs.Merge.{keys_given, merged};
+ghost use Rattle.bptree_merging.specs.Merge.{keys_given, merged, merge_step};
 
 use bptree_keys::key::Key;
 use bptree_merging::merge_iter::{Listed, MergeIterInner, laws_of_merge};
@@ -18,6 +18,14 @@ fn counts_both_sides<K: Key>(a: &[K], b: &[K]) -> (usize, usize)
     MergeIterInner::new(a.iter(), b.iter()).lens()
 }
 
+// And at any step it has what is left of both, with a head that waits.
+fn counts_what_is_left<K: Key>(merge: &MergeIterInner<slice::Iter<'_, K>>) -> (usize, usize)
+    ensures first { length merge.now.0 < 2 ^ 64 → result.0 ≡ length merge.now.0 }
+    ensures second { length merge.now.1 < 2 ^ 64 → result.1 ≡ length merge.now.1 }
+{
+    merge.lens()
+}
+
 // One step, with the order of the keys.
 fn step<'a, K: Key>(
     merge: &mut MergeIterInner<slice::Iter<'a, K>>,
@@ -28,18 +36,9 @@ fn step<'a, K: Key>(
     ensures first { (x : K) → (xs : List K) → merge.old ≡ (x ∷ xs, []) → (option_map deref result.0 ≡ Some x) × (result.1 ≡ None) × (merge.new ≡ (xs, [])) }
     ensures second { (y : K) → (ys : List K) → merge.old ≡ ([], y ∷ ys) → (result.0 ≡ None) × (option_map deref result.1 ≡ Some y) × (merge.new ≡ ([], ys)) }
     ensures end { merge.old ≡ ([], []) → (result.0 ≡ None) × (result.1 ≡ None) × (merge.new ≡ ([], [])) }
+    ensures whole { (option_map deref result.0 ≡ (merge_step K.cmp merge.old.0 merge.old.1).first) × (option_map deref result.1 ≡ (merge_step K.cmp merge.old.0 merge.old.1).second) × (merge.new ≡ (merge_step K.cmp merge.old.0 merge.old.1).left) }
 {
     merge.nexts(|a, b| a.cmp(b))
-}
-
-// At the end of both there is nothing for good.
-fn ends_for_good<'a, K: Key>(merge: &mut MergeIterInner<slice::Iter<'a, K>>) -> bool
-    requires { merge.old ≡ ([], []) }
-    ensures { IsTrue result }
-{
-    let (first, second) = step(merge);
-    let (third, fourth) = step(merge);
-    first.is_none() && second.is_none() && third.is_none() && fourth.is_none()
 }
 
 // Where the first side has ended, the second's items come alone, whatever the closure answers.
@@ -66,7 +65,7 @@ fn gives_the_first_of_all_steps<'a, K: Key>(
     ensures { merged K.cmp merge.old.0 merge.old.1 ≡ (option_map deref result.0, option_map deref result.1) ∷ merged K.cmp merge.new.0 merge.new.1 }
 {
     laws_of_merge::<K>();
-    merge.nexts(|a, b| a.cmp(b))
+    step(merge)
 }
 
 // The one item, or the first of the two, is the next key of both lists, and the keys behind it are
@@ -74,17 +73,8 @@ fn gives_the_first_of_all_steps<'a, K: Key>(
 fn gives_the_next_key<'a, K: Key>(merge: &mut MergeIterInner<slice::Iter<'a, K>>) -> Option<&'a K>
     ensures { TakesFirst deref (keys_given (merged K.cmp merge.old.0 merge.old.1)) result (keys_given (merged K.cmp merge.new.0 merge.new.1)) }
 {
-    let (first, second) = merge.nexts(|a, b| a.cmp(b));
+    let (first, second) = step(merge);
     first.or(second)
-}
-
-// After the smaller head the other one waits, and is counted.
-fn counts_the_one_that_waits<K: Key>(a: &[K], b: &[K]) -> (usize, usize)
-    ensures { (x y : K) → (xs ys : List K) → a.now ≡ x ∷ xs → b.now ≡ y ∷ ys → K.cmp x y ≡ Less → result ≡ (length xs, length b.now) }
-{
-    let mut merge = MergeIterInner::new(a.iter(), b.iter());
-    step(&mut merge);
-    merge.lens()
 }
 
 // A clone of a merge of slices is made without fail, and has the same left.

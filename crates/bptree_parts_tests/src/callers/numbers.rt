@@ -1,5 +1,5 @@
 //! Callers of the numbers of nodes.
-ghost use Rattle.std.specs.Prelude.{◌≡◌, ◌<◌, true};
+ghost use Rattle.std.specs.Prelude.{◌≡◌, ◌<◌, Some, None, true};
 ghost use Rattle.std.specs.declared.cmp.Ordering.TheVariants.{Less, Equal, Greater};
 
 use bptree_keys::node_id::{InnerNodeId, LeafNodeId, NodeId, order_of};
@@ -15,21 +15,23 @@ fn keeps_numbers(number: usize) -> (usize, usize)
     )
 }
 
-// An inner node's number is found as one of an inner node, and as none of a leaf.
-fn tells_an_inner_node(number: usize) -> (Option<InnerNodeId>, Option<LeafNodeId>)
-    ensures inner { result.0 ≡ Some (record { 0 = number }) }
-    ensures leaf { result.1 ≡ None }
+// An inner node's number is found as one of an inner node, and as none of a leaf; a leaf's is found
+// the other way round.
+fn tells_the_kind(
+    number: usize,
+) -> (
+    (Option<InnerNodeId>, Option<LeafNodeId>),
+    (Option<InnerNodeId>, Option<LeafNodeId>),
+)
+    ensures inner { result.0 ≡ (Some (record { 0 = number }), None) }
+    ensures leaf { result.1 ≡ (None, Some (record { 0 = number })) }
 {
-    let node = NodeId::from(InnerNodeId::from_usize(number));
-    (node.inner_id(), node.leaf_id())
-}
-
-fn tells_a_leaf(number: usize) -> (Option<InnerNodeId>, Option<LeafNodeId>)
-    ensures inner { result.0 ≡ None }
-    ensures leaf { result.1 ≡ Some (record { 0 = number }) }
-{
-    let node = NodeId::from(LeafNodeId::from_usize(number));
-    (node.inner_id(), node.leaf_id())
+    let inner = NodeId::from(InnerNodeId::from_usize(number));
+    let leaf = NodeId::from(LeafNodeId::from_usize(number));
+    (
+        (inner.inner_id(), inner.leaf_id()),
+        (leaf.inner_id(), leaf.leaf_id()),
+    )
 }
 
 // Where the kind is known, the number is found without a test.
@@ -51,12 +53,14 @@ fn orders_one_kind(low: usize, high: usize) -> (Ordering, Ordering, Ordering)
     ensures leaves { result.1 ≡ Greater }
     ensures same { result.2 ≡ Equal }
 {
-    let inner = |number| NodeId::Inner(InnerNodeId::from_usize(number));
-    let leaf = |number| NodeId::Leaf(LeafNodeId::from_usize(number));
+    let low_inner = NodeId::Inner(InnerNodeId::from_usize(low));
+    let high_inner = NodeId::Inner(InnerNodeId::from_usize(high));
+    let low_leaf = NodeId::Leaf(LeafNodeId::from_usize(low));
+    let high_leaf = NodeId::Leaf(LeafNodeId::from_usize(high));
     (
-        order_of(inner(low), inner(high)),
-        order_of(leaf(high), leaf(low)),
-        order_of(leaf(low), leaf(low)),
+        order_of(low_inner, high_inner),
+        order_of(high_leaf, low_leaf),
+        order_of(low_leaf, low_leaf),
     )
 }
 

@@ -1,5 +1,5 @@
 //! Callers of keys and of the searches among them.
-ghost use Rattle.std.specs.Prelude.{◌≡◌, ◌≤◌, ◌∷◌, [], length, IfOk};
+ghost use Rattle.std.specs.Prelude.{◌≡◌, ◌≤◌, ◌∷◌, [], length, IfOk, IfErr};
 ghost use Rattle.std.specs.declared.cmp.Ordering.TheVariants.{Less, Equal, Greater};
 ghost use Rattle.std.specs.List.Sorted.{IsStrictlySortedBy};
 
@@ -45,17 +45,15 @@ fn finds_in_seven<K: Ord>(keys: &[K], key: &K) -> (Result<usize, usize>, usize)
 }
 
 // Whatever the order of the keys is, the place is one among them or the end.
-fn stays_among_the_keys<K: Ord>(keys: &[K], key: &K) -> (usize, usize)
+fn stays_among_the_keys<K: Ord>(keys: &[K], key: &K) -> (usize, Result<usize, usize>)
     requires { length keys.now ≤ 64 }
     ensures child { result.0 ≤ length keys.now }
-    ensures place { result.1 ≤ length keys.now }
+    ensures there { IfOk result.1 (λ place. place ≤ length keys.now) }
+    ensures absent { IfErr result.1 (λ place. place ≤ length keys.now) }
 {
-    let child = count_upto_counted(keys, key, &mut Compares::new());
-    let place = match locate_counted(keys, key, &mut Compares::new()) {
-        Ok(slot) => slot,
-        Err(slot) => slot,
-    };
-    (child, place)
+    let mut compares = Compares::new();
+    let child = count_upto_counted(keys, key, &mut compares);
+    (child, locate_counted(keys, key, &mut compares))
 }
 
 // The child to go on in stands behind an equal key, and else behind the smaller ones.

@@ -28,27 +28,22 @@ fn starts_empty<S: NodeStore>(alloc: Global) -> (S, bool)
     (store, says)
 }
 
-// So has one over slabs, with or without room.
-fn says_that_it_is_empty<K: Key, V: Drop, A: Argument<K>>(
-    alloc: Global,
-    capacity: usize,
-) -> Result<(bool, bool), AllocError>
-    ensures { IfOk result (λ says. says ≡ (true, true)) }
+// So has one over slabs, with room or, where that is refused, without.
+fn says_that_it_is_empty<K: Key, V: Drop, A: Argument<K>>(alloc: Global, capacity: usize) -> bool
+    ensures { result ≡ true }
 {
-    let plain = NodeStoreVec::<K, V, A>::new(alloc).is_empty();
-    let roomy = NodeStoreVec::<K, V, A>::with_capacity(alloc, capacity)?;
-    Ok((plain, roomy.is_empty()))
+    match NodeStoreVec::<K, V, A>::with_capacity(alloc, capacity) {
+        Ok(roomy) => roomy.is_empty(),
+        Err(_) => NodeStoreVec::<K, V, A>::new(alloc).is_empty(),
+    }
 }
 
 // A number of either kind that is held is enough for a store not to be empty.
-fn is_not_empty_with_a_held_number<S: NodeStore>(store: &mut S) -> Result<(bool, bool), AllocError>
-    ensures { IfOk result (λ says. says ≡ (false, false)) }
+fn is_not_empty_with_a_held_number<S: NodeStore>(store: &S) -> bool
+    ensures inner { (number : ℕ) → (S.slots store.now).inner number ≡ Held → result ≡ false }
+    ensures leaf { (number : ℕ) → (S.slots store.now).leaf number ≡ Held → result ≡ false }
 {
-    let id = store.reserve_inner()?;
-    let inner = store.is_empty();
-    store.release_inner(id);
-    let _leaf = store.reserve_leaf()?;
-    Ok((inner, store.is_empty()))
+    store.is_empty()
 }
 
 // The greatest sizes of the nodes.
@@ -75,26 +70,32 @@ fn adds_beside_a_held_number<S: NodeStore>(
     store.add_inner(node)
 }
 
-/// Two numbers that are held are two.
-pub fn holds_two_inner_nodes<S: NodeStore>(
-    store: &mut S,
-) -> Result<(InnerNodeId, InnerNodeId), AllocError>
-    ensures apart { IfOk result (λ ids. ids.0.0 ≢ ids.1.0) }
-    ensures held { IfOk result (λ ids. ((S.slots store.new).inner ids.0.0 ≡ Held) × ((S.slots store.new).inner ids.1.0 ≡ Held)) }
+/// Two numbers that are held are two. There are none where memory is refused.
+pub fn holds_two_inner_nodes<S: NodeStore>(store: &mut S) -> Option<(InnerNodeId, InnerNodeId)>
+    ensures apart { IfSome result (λ ids. ids.0.0 ≢ ids.1.0) }
+    ensures held { IfSome result (λ ids. ((S.slots store.new).inner ids.0.0 ≡ Held) × ((S.slots store.new).inner ids.1.0 ≡ Held)) }
 {
-    let first = store.reserve_inner()?;
-    let second = store.reserve_inner()?;
-    Ok((first, second))
+    let Ok(first) = store.reserve_inner() else {
+        return None;
+    };
+    let Ok(second) = store.reserve_inner() else {
+        return None;
+    };
+    Some((first, second))
 }
 
 /// Two numbers that are held for leaves differ.
-pub fn holds_two_leaves<S: NodeStore>(store: &mut S) -> Result<(LeafNodeId, LeafNodeId), AllocError>
-    ensures apart { IfOk result (λ ids. ids.0.0 ≢ ids.1.0) }
-    ensures held { IfOk result (λ ids. ((S.slots store.new).leaf ids.0.0 ≡ Held) × ((S.slots store.new).leaf ids.1.0 ≡ Held)) }
+pub fn holds_two_leaves<S: NodeStore>(store: &mut S) -> Option<(LeafNodeId, LeafNodeId)>
+    ensures apart { IfSome result (λ ids. ids.0.0 ≢ ids.1.0) }
+    ensures held { IfSome result (λ ids. ((S.slots store.new).leaf ids.0.0 ≡ Held) × ((S.slots store.new).leaf ids.1.0 ≡ Held)) }
 {
-    let first = store.reserve_leaf()?;
-    let second = store.reserve_leaf()?;
-    Ok((first, second))
+    let Ok(first) = store.reserve_leaf() else {
+        return None;
+    };
+    let Ok(second) = store.reserve_leaf() else {
+        return None;
+    };
+    Some((first, second))
 }
 
 /// A number that goes through all its states: the node comes back, the number is free as before,

@@ -20,3 +20,6 @@ returns-clause-second g c = step_second deref g.K.Ord.cmp _ _ _ _ (c.nexts.ensur
 
 pub returns-clause-end : goal.returns-clause-end
 returns-clause-end g c = step_end deref g.K.Ord.cmp _ _ _ _ (c.nexts.ensures.order g.K.Ord.cmp (λ x y o h. search rules))
+
+pub returns-clause-whole : goal.returns-clause-whole
+returns-clause-whole g c = c.nexts.ensures.order g.K.Ord.cmp (λ x y o h. search rules)

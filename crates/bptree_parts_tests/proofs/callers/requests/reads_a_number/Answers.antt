@@ -1,7 +1,10 @@
-use Rattle.std.proofs.Common.{ap, ◌∙◌}
+use Rattle.std.proofs.Common.{ap, sym, ◌∙◌}
 use Rattle.bptree_requests.specs.Number.{number_of}
-use Rattle.bptree_requests.proofs.Law.{number_of-decimal}
+use Rattle.bptree_requests.proofs.Law.{number_of-decimal, number_of-some}
 use Rattle.bptree_parts_tests.proofs.callers.requests.reads_a_number.Goals as goal
 
 pub returns : goal.returns
-returns c = c.number.ensures ∙ ap number_of c.requires ∙ number_of-decimal c.args.value c.ranges.value.fits
+returns c = record {
+  there = λ value fits is. c.number.ensures ∙ ap number_of is ∙ number_of-decimal value fits;
+  no_other = λ value is. (number_of-some c.args.word.now value (sym c.number.ensures ∙ is)).0;
+}
