@@ -34,11 +34,15 @@ fn remove_one(map: &mut Map) -> Result<(), AllocError> {
     Ok(())
 }
 
+fn drawn(alloc: Global, map: &mut Map) -> Result<String, AllocError> {
+    put_pairs(alloc, map)?;
+    remove_one(map)?;
+    text_of(alloc, map)
+}
+
 /// The text of the tree that lines make: of two leaves, into which 65 pairs are put, and of which
 /// one is removed. Lines that ask for no change, or for nothing, change nothing.
 pub fn run(alloc: Global) -> Result<String, AllocError> {
     let mut map = Map::new(alloc)?;
-    put_pairs(alloc, &mut map)?;
-    remove_one(&mut map)?;
-    text_of(alloc, &map)
+    drawn(alloc, &mut map)
 }

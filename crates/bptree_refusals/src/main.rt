@@ -116,13 +116,18 @@ fn on_numbers(trial: &mut Trial, letter: u8, plan: &Plan) {
     }
 }
 
-// A scenario on pairs in groups.
-fn on_groups(trial: &mut Trial, letter: u8, plan: &Plan) {
+// A scenario on keys in groups, and summaries of theirs.
+fn on_groups<K: Sample, G: Group<K>, A: Asked<K>>(trial: &mut Trial, letter: u8, plan: &Plan) {
     match letter {
-        b'a'..=b'p' => on_trees::<Pair, GroupCount<Tuple2<String>>>(trial, letter, plan),
-        b'x' | b'y' => on_asked::<Pair, Tuple2<String>>(trial, letter, plan),
-        _ => on_keys::<Pair>(trial, letter, plan),
+        b'a'..=b'p' => on_trees::<K, A>(trial, letter, plan),
+        b'x' | b'y' => on_asked::<K, G>(trial, letter, plan),
+        _ => on_keys::<K>(trial, letter, plan),
     }
+}
+
+// A scenario on pairs, of which the first part is the group.
+fn on_pairs(trial: &mut Trial, letter: u8, plan: &Plan) {
+    on_groups::<Pair, Tuple2<String>, GroupCount<Tuple2<String>>>(trial, letter, plan);
 }
 
 // A byte that names no scenario is not as it should be.
@@ -130,7 +135,7 @@ fn carry_out(trial: &mut Trial, byte: u8, size: u8) {
     let letter = byte.to_ascii_lowercase();
     match (plan_of(letter, size, byte != letter), byte) {
         (Some(plan), b'a'..=b'z') => on_numbers(trial, letter, &plan),
-        (Some(plan), _) => on_groups(trial, letter, &plan),
+        (Some(plan), _) => on_pairs(trial, letter, &plan),
         (None, b'z') => serving::few_lines(trial),
         (None, b'Z') => serving::many_lines(trial),
         (None, _) => trial.check(false),

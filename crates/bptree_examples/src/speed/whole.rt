@@ -54,14 +54,21 @@ fn tell_union(rt: &HostRuntime, first: &BPlusTreeSet<u64>, second: &BPlusTreeSet
     tell(rt, "plain", "union", start, many, sum);
 }
 
+// The union of a set with every second key.
+fn union_with(rt: &HostRuntime, sorted: &[u64], first: &BPlusTreeSet<u64>) -> bool {
+    match every_second(rt.alloc(), sorted, 1) {
+        Ok(second) => {
+            tell_union(rt, first, &second);
+            true
+        }
+        Err(_) => false,
+    }
+}
+
 /// The union of two sets that have a quarter of all keys in common, for each key of the union.
 pub fn union_all(rt: &HostRuntime, sorted: &[u64]) -> bool {
-    let Ok(first) = every_second(rt.alloc(), sorted, 0) else {
-        return false;
-    };
-    let Ok(second) = every_second(rt.alloc(), sorted, 1) else {
-        return false;
-    };
-    tell_union(rt, &first, &second);
-    true
+    match every_second(rt.alloc(), sorted, 0) {
+        Ok(first) => union_with(rt, sorted, &first),
+        Err(_) => false,
+    }
 }
