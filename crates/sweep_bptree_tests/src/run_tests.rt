@@ -472,14 +472,15 @@ fn are_answered<S: NodeStore<K = Numbered, V = i32, Argument = Count>>(
     are_printed(alloc, &replies, rows)
 }
 
-// New keys are put, and the length is asked for after each.
-fn many_commands(alloc: Global) -> Result<Vec<Asked>, AllocError> {
-    let mut commands = Vec::new(alloc);
+// New keys are put, and the length is asked for after each. It is false where memory is refused.
+fn are_added(commands: &mut Vec<Asked>) -> bool {
+    let mut all = true;
     for turn in 0..5_000u64 {
-        commands.push(Command::Insert(key_of(turn * 7 % 5_000, 'a'), 1))?;
-        commands.push(Command::Len)?;
+        let key = key_of(turn * 7 % 5_000, 'a');
+        all &= commands.push(Command::Insert(key, 1)).is_ok();
+        all &= commands.push(Command::Len).is_ok();
     }
-    Ok(commands)
+    all
 }
 
 fn are_many(replies: &[Answered]) -> bool {
@@ -496,13 +497,14 @@ fn are_many(replies: &[Answered]) -> bool {
 
 // Whether each of many commands is answered.
 fn runs_many<S: NodeStore<K = Numbered, V = i32, Argument = Count>>(alloc: Global) -> bool {
-    let Ok(commands) = many_commands(alloc) else {
+    let mut commands = Vec::new(alloc);
+    if !are_added(&mut commands) {
         return false;
-    };
-    let Ok(replies) = replies_to::<S>(alloc, commands) else {
-        return false;
-    };
-    are_many(&replies)
+    }
+    match replies_to::<S>(alloc, commands) {
+        Ok(replies) => are_many(&replies),
+        Err(_) => false,
+    }
 }
 
 // What is asked of a tree.
@@ -569,22 +571,23 @@ fn strings_have_order(alloc: Global) -> bool {
 }
 
 fn have_order() -> bool {
-    has_order(1u8, 2)
-        && has_order(1u16, 2)
-        && has_order(1u32, 2)
-        && has_order(1u64, 2)
-        && has_order(1u128, 2)
-        && has_order(1usize, 2)
-        && has_order(-2i8, -1)
-        && has_order(-2i16, -1)
-        && has_order(-2i32, -1)
-        && has_order(-2i64, -1)
-        && has_order(-2i128, -1)
-        && has_order(-2isize, -1)
-        && has_order(false, true)
-        && has_order('a', 'b')
-        && has_order((1u8, 'b'), (2, 'a'))
-        && has_order(Tuple2(1u64), Tuple2(2))
+    let mut all = has_order(1u8, 2);
+    all &= has_order(1u16, 2);
+    all &= has_order(1u32, 2);
+    all &= has_order(1u64, 2);
+    all &= has_order(1u128, 2);
+    all &= has_order(1usize, 2);
+    all &= has_order(-2i8, -1);
+    all &= has_order(-2i16, -1);
+    all &= has_order(-2i32, -1);
+    all &= has_order(-2i64, -1);
+    all &= has_order(-2i128, -1);
+    all &= has_order(-2isize, -1);
+    all &= has_order(false, true);
+    all &= has_order('a', 'b');
+    all &= has_order((1u8, 'b'), (2, 'a'));
+    all &= has_order(Tuple2(1u64), Tuple2(2));
+    all
 }
 
 #[test]

@@ -164,12 +164,17 @@ const EXAMPLES: [(&str, &str); 18] = [
     ),
 ];
 
+fn examples_are_answered(alloc: Global) -> bool {
+    let mut all = true;
+    for (input, output) in &EXAMPLES {
+        all &= answers(alloc, input.as_bytes(), output.as_bytes());
+    }
+    all
+}
+
 #[test]
 fn inputs(rt: HostRuntime) {
-    for (input, output) in &EXAMPLES {
-        let holds = answers(rt.alloc(), input.as_bytes(), output.as_bytes());
-        assert!(rt; holds, "{input:?}");
-    }
+    assert!(rt; examples_are_answered(rt.alloc()));
 }
 
 // Whether the line is bad, and nothing was changed by it.

@@ -14,21 +14,25 @@ fn set_of(alloc: Global, keys: &[u64]) -> Result<Set, AllocError> {
 // there are two at least and three at most.
 fn gives_both(first: &Set, second: &Set) -> bool {
     let mut keys = first.union(second);
-    keys.size_hint() == (2, Some(3))
-        && keys.next() == Some(&1)
-        && keys.next() == Some(&2)
-        && keys.next().is_none()
-        && keys.next().is_none()
+    let mut all = keys.size_hint() == (2, Some(3));
+    for wanted in [Some(1), Some(2), None, None] {
+        all &= keys.next().copied() == wanted;
+    }
+    all
+}
+
+fn is_joined(alloc: Global, first: &Set) -> bool {
+    match set_of(alloc, &[1, 2]) {
+        Ok(second) => gives_both(first, &second),
+        Err(_) => false,
+    }
 }
 
 fn joins_two_sets(alloc: Global) -> bool {
-    let Ok(first) = set_of(alloc, &[1]) else {
-        return false;
-    };
-    let Ok(second) = set_of(alloc, &[1, 2]) else {
-        return false;
-    };
-    gives_both(&first, &second)
+    match set_of(alloc, &[1]) {
+        Ok(first) => is_joined(alloc, &first),
+        Err(_) => false,
+    }
 }
 
 fn takes(set: &mut Set, key: u64) -> bool {
