@@ -1,40 +1,51 @@
 //! Maps and sets that are changed.
 
-use crate::digest::{Digest, Told, digest_of};
-use crate::plans::Call;
-use crate::sample::{Sample, keys_of, pairs_of};
-use crate::shapes::{Nodes, nodes_of};
-use crate::trees::{is_put, is_sample};
-use crate::trial::Subject;
+use crate::bounds::has_bounds;
+use crate::commands::Asked;
+use crate::digest::{Digest, Told};
+use crate::places::has_place;
+use crate::plans::{Call, Plan};
+use crate::sample::{Order, Sample, keys_of, pairs_of};
+use crate::shapes::{State, state_of};
+use crate::trees::{is_put, is_sample, is_value};
+use crate::trial::{Subject, refusal};
 use std::alloc::{AllocError, Global};
 use sweep_bptree::tree::{Argument, InsertError};
 use sweep_bptree::{BPlusTreeMap, BPlusTreeSet};
 
-/// A map of so many pairs, which come in the order of their keys, or each of 100 again and again.
+/// A map of so many pairs.
 pub fn map_of<K: Sample, A: Argument<K>>(
     alloc: Global,
     many: u64,
-    in_order: bool,
+    order: Order,
 ) -> Result<BPlusTreeMap<K, u64, A>, AllocError> {
-    BPlusTreeMap::from_iter(alloc, pairs_of(alloc, many, in_order)?)
+    BPlusTreeMap::from_iter(alloc, pairs_of(alloc, 0, many, order)?)
 }
 
-/// A set of so many keys, which come in the same way.
+/// What is told of a map.
+pub fn map_state<K: Sample, A: Argument<K> + Told>(
+    map: &BPlusTreeMap<K, u64, A>,
+    looks: bool,
+) -> State {
+    state_of(map.tree(), looks)
+}
+
+/// A set of so many keys.
 pub fn set_of<K: Sample>(
     alloc: Global,
     many: u64,
-    in_order: bool,
+    order: Order,
 ) -> Result<BPlusTreeSet<K>, AllocError> {
-    BPlusTreeSet::from_iter(alloc, keys_of(alloc, many, in_order)?)
+    BPlusTreeSet::from_iter(alloc, keys_of(alloc, many, order)?)
 }
 
 // Pairs and keys of items come in no order, and each key comes twice.
-impl<K: Sample, A: Argument<K> + Told> Subject for BPlusTreeMap<K, u64, A> {
-    fn made(alloc: Global, many: u64) -> Result<BPlusTreeMap<K, u64, A>, AllocError> {
-        if many == 0 {
+impl<K: Sample, A: Asked<K>> Subject for BPlusTreeMap<K, u64, A> {
+    fn made(alloc: Global, plan: &Plan) -> Result<BPlusTreeMap<K, u64, A>, AllocError> {
+        if plan.many == 0 {
             BPlusTreeMap::new(alloc)
         } else {
-            map_of(alloc, many, false)
+            map_of(alloc, plan.many, plan.order())
         }
     }
 
@@ -46,19 +57,16 @@ impl<K: Sample, A: Argument<K> + Told> Subject for BPlusTreeMap<K, u64, A> {
             }
             Call::Remove(number, old) => {
                 let key = K::sample(alloc, number)?;
-                Ok(self.remove(&key)? == old)
+                is_value(self.remove(&key), old)
             }
+            Call::Bounds(turn) => has_bounds(alloc, self, turn),
+            Call::Own(turn) => has_place(alloc, self, turn),
             _ => Ok(false),
         }
     }
 
-    fn told(&self) -> (u64, usize) {
-        let tree = self.tree();
-        (digest_of(tree), tree.len())
-    }
-
-    fn nodes(&self) -> Nodes {
-        nodes_of(self.tree())
+    fn state(&self, looks: bool) -> State {
+        map_state(self, looks)
     }
 }
 
@@ -70,31 +78,26 @@ fn is_put_key<K: Sample>(
 ) -> Result<bool, AllocError> {
     match answer {
         Ok(found) => Ok(found == is_new),
-        Err(InsertError::OutOfMemory(key, ())) => {
-            if is_sample(&key, number) {
-                Err(AllocError)
-            } else {
-                Ok(false)
-            }
-        }
+        Err(InsertError::OutOfMemory(key, ())) => refusal(is_sample(&key, number)),
         Err(InsertError::Full(_key, ())) => Ok(false),
     }
 }
 
 // Whether a key that has left is that of a number.
-fn is_key<K: Sample>(gone: Option<K>, number: u64) -> bool {
+fn is_key<K: Sample>(gone: Result<Option<K>, AllocError>, number: u64) -> Result<bool, AllocError> {
     match gone {
-        Some(key) => is_sample(&key, number),
-        None => false,
+        Ok(Some(key)) => Ok(is_sample(&key, number)),
+        Ok(None) => Ok(false),
+        Err(_) => Err(AllocError),
     }
 }
 
 impl<K: Sample> Subject for BPlusTreeSet<K> {
-    fn made(alloc: Global, many: u64) -> Result<BPlusTreeSet<K>, AllocError> {
-        if many == 0 {
+    fn made(alloc: Global, plan: &Plan) -> Result<BPlusTreeSet<K>, AllocError> {
+        if plan.many == 0 {
             BPlusTreeSet::new(alloc)
         } else {
-            set_of(alloc, many, false)
+            set_of(alloc, plan.many, Order::Again)
         }
     }
 
@@ -108,19 +111,19 @@ impl<K: Sample> Subject for BPlusTreeSet<K> {
                 let key = K::sample(alloc, number)?;
                 Ok(self.remove(&key)? == old.is_some())
             }
-            Call::Clear => {
-                self.clear()?;
-                Ok(self.is_empty())
-            }
-            Call::Own(0) => Ok(is_key(self.pop_first()?, 0)),
-            Call::Own(1) => Ok(is_key(self.pop_last()?, 64)),
+            Call::Clear => match self.clear() {
+                Ok(()) => Ok(self.is_empty()),
+                Err(_) => Err(AllocError),
+            },
+            Call::Own(0) => is_key(self.pop_first(), 0),
+            Call::Own(1) => is_key(self.pop_last(), 64),
             _ => Ok(false),
         }
     }
 
     // The keys, and how many are compared to find each of them: that tells the places of a key in
     // its nodes. All are looked up once before, so that the same leaf is remembered.
-    fn told(&self) -> (u64, usize) {
+    fn state(&self, _looks: bool) -> State {
         let mut digest = Digest::new();
         for key in self.iter() {
             self.contains(key);
@@ -131,10 +134,6 @@ impl<K: Sample> Subject for BPlusTreeSet<K> {
             digest.add(is_there as u64);
             digest.add(compares as u64);
         }
-        (digest.value(), self.len())
-    }
-
-    fn nodes(&self) -> Nodes {
-        Nodes::untold()
+        State::of(digest.value(), self.len())
     }
 }

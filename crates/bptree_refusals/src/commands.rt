@@ -2,9 +2,10 @@
 //! refused.
 
 use crate::digest::{Digest, Told};
-use crate::plans::{Call, lists_of};
-use crate::sample::{Group, Sample};
-use crate::shapes::Nodes;
+use crate::plans::{Call, Plan, lists_of};
+use crate::sample::{Group, Order, Sample};
+use crate::shapes::{State, state_of};
+use crate::trees::tree_of;
 use crate::trial::Subject;
 use std::alloc::{AllocError, Global};
 use sweep_bptree::script::{Command, CommandOn, End, Reply, run};
@@ -46,11 +47,11 @@ impl Asked<(String, u64)> for GroupCount<Tuple2<String>> {
     }
 }
 
-// A reply, told. One that was refused is an error.
+// Tells a reply, and answers whether it is none that was refused.
 fn tell_reply<K: Sample, A: Asked<K>>(
     reply: &Reply<K, u64, <A as RankArgument<K>>::Rank>,
     digest: &mut Digest,
-) -> Result<(), AllocError> {
+) -> bool {
     match reply {
         Reply::Value(value) => {
             digest.add(1);
@@ -88,10 +89,10 @@ fn tell_reply<K: Sample, A: Asked<K>>(
             }
         }
         Reply::NoCursor => digest.add(9),
-        Reply::OutOfMemory => return Err(AllocError),
+        Reply::OutOfMemory => return false,
         Reply::Full => digest.add(10),
     }
-    Ok(())
+    true
 }
 
 // A word that is drawn for a command: of its kind, of the number of a key, or of a place.
@@ -124,11 +125,6 @@ impl Base {
             4161 => Base::Full,
             _ => Base::Short,
         }
-    }
-
-    // The number of the key that is loaded at a place. Between two of them three others have room.
-    fn number_at(self, place: u64) -> u64 {
-        place.wrapping_mul(4)
     }
 
     // Keys that are drawn are below it.
@@ -172,8 +168,13 @@ impl Base {
         } else {
             0
         };
-        self.number_at(place).wrapping_add(more)
+        number_at(place).wrapping_add(more)
     }
+}
+
+// The number of the key that is loaded at a place. Between two of them three others have room.
+fn number_at(place: u64) -> u64 {
+    place.wrapping_mul(4)
 }
 
 // A key that is drawn.
@@ -372,63 +373,61 @@ where
     S::K: Sample,
     S::Argument: Asked<S::K>,
 {
-    let (replies, error) = run(alloc, tree, listed::<S>(alloc, base, turn)?);
-    if error.is_some() {
-        return Err(AllocError);
+    let commands = listed::<S>(alloc, base, turn)?;
+    let (replies, error) = run(alloc, tree, commands);
+    if error.is_none() {
+        told_of::<S::K, S::Argument>(&replies)
+    } else {
+        Err(AllocError)
     }
-    let mut digest = Digest::new();
-    for reply in &replies {
-        tell_reply::<S::K, S::Argument>(reply, &mut digest)?;
-    }
-    Ok(digest.value())
 }
 
-// A tree of so many pairs. Where its leaves are to be short, three of four pairs leave again.
-fn tree_of<S: NodeStore<V = u64>>(alloc: Global, many: u64) -> Result<BPlusTree<S>, AllocError>
-where
-    S::K: Sample,
-{
-    let base = Base::of(many);
-    if base == Base::Empty {
-        return BPlusTree::new(S::empty(alloc));
+// What replies tell, where none of them was refused.
+fn told_of<K: Sample, A: Asked<K>>(
+    replies: &[Reply<K, u64, <A as RankArgument<K>>::Rank>],
+) -> Result<u64, AllocError> {
+    let mut digest = Digest::new();
+    let mut is_whole = true;
+    for reply in replies {
+        is_whole &= tell_reply::<K, A>(reply, &mut digest);
     }
-    let mut pairs = Vec::new(alloc);
-    for place in 0..many {
-        pairs.push((S::K::sample(alloc, base.number_at(place))?, place))?;
+    if is_whole {
+        Ok(digest.value())
+    } else {
+        Err(AllocError)
     }
-    if !in_load_order(&pairs) {
-        return Err(AllocError);
-    }
-    let mut tree = BPlusTree::bulk_load(pairs)?;
-    if base == Base::Short {
-        shorten(alloc, &mut tree, base, many)?;
-    }
-    Ok(tree)
 }
 
 // Of each leaf 16 pairs are kept; and then each second leaf is emptied, up to three of the 33 below
-// each node.
-fn shorten<S: NodeStore<V = u64>>(
-    alloc: Global,
-    tree: &mut BPlusTree<S>,
-    base: Base,
-    many: u64,
-) -> Result<(), AllocError>
+// each node. It answers whether nothing was refused.
+fn shorten<S: NodeStore<V = u64>>(alloc: Global, tree: &mut BPlusTree<S>, many: u64) -> bool
 where
     S::K: Sample,
 {
+    let mut is_well = true;
     for place in 0..many {
         if place % 64 >= 16 {
-            tree.remove(&S::K::sample(alloc, base.number_at(place))?)?;
+            is_well &= removes(alloc, tree, place);
         }
     }
     for place in 0..many {
         let leaf = place / 64 % 33;
         if place % 64 < 16 && leaf < 30 && leaf % 2 == 0 {
-            tree.remove(&S::K::sample(alloc, base.number_at(place))?)?;
+            is_well &= removes(alloc, tree, place);
         }
     }
-    Ok(())
+    is_well
+}
+
+// Removes the pair that was loaded at a place.
+fn removes<S: NodeStore<V = u64>>(alloc: Global, tree: &mut BPlusTree<S>, place: u64) -> bool
+where
+    S::K: Sample,
+{
+    match S::K::sample(alloc, number_at(place)) {
+        Ok(key) => tree.remove(&key).is_ok(),
+        Err(_) => false,
+    }
 }
 
 /// A tree that is given lists of commands, with what was replied.
@@ -445,10 +444,14 @@ where
     S::K: Sample,
     S::Argument: Asked<S::K>,
 {
-    fn made(alloc: Global, many: u64) -> Result<Commanded<S>, AllocError> {
+    fn made(alloc: Global, plan: &Plan) -> Result<Commanded<S>, AllocError> {
+        let mut tree = tree_of(alloc, plan.many, Order::Fourth)?;
+        if Base::of(plan.many) == Base::Short && !shorten(alloc, &mut tree, plan.many) {
+            return Err(AllocError);
+        }
         Ok(Commanded {
-            many,
-            tree: tree_of(alloc, many)?,
+            many: plan.many,
+            tree,
             replied: Digest::new(),
         })
     }
@@ -463,15 +466,13 @@ where
     }
 
     // The replies, too.
-    fn told(&self) -> (u64, usize) {
+    fn state(&self, looks: bool) -> State {
+        let mut state = state_of(&self.tree, looks);
+        let (told, len) = state.told;
         let mut digest = Digest::new();
-        let (told, len) = self.tree.told();
         digest.add(told);
         digest.add(self.replied.value());
-        (digest.value(), len)
-    }
-
-    fn nodes(&self) -> Nodes {
-        self.tree.nodes()
+        state.told = (digest.value(), len);
+        state
     }
 }

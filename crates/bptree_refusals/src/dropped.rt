@@ -6,11 +6,9 @@ ghost use Rattle.std.specs.Cmp.{partial_order_from_own_ties};
 ghost use Rattle.std.specs.Cmp.Rules.{comparing};
 ghost use Rattle.std.specs.Ordering.{nat_cmp, on, as_partial_cmp};
 
-use crate::parts::Part;
 use std::alloc::{AllocError, Global};
 use std::cell::Cell;
 use std::cmp::Ordering;
-use std::marker::PhantomData;
 use std::rc::Rc;
 use sweep_bptree::tree::in_load_order;
 use sweep_bptree::{BPlusTree, BPlusTreeMap, BPlusTreeSet, Key, NodeStore, NodeStoreVec};
@@ -104,104 +102,100 @@ impl Key for Tallied {
     ghost clone_is_equal = { Prim.search rules };
 }
 
-/// What can be made of pairs, and has so many then.
-pub trait Taken: Drop {
-    /// The number of the key at a place of those that are given: those below 100 come three times.
-    fn number_at(place: u64) -> u64;
-
-    fn taken(alloc: Global, pairs: Vec<(Tallied, Tallied)>) -> Result<usize, AllocError>;
-}
-
-/// A tree that is loaded of them.
-#[derive(Drop)]
-pub struct LoadedTree<S>(PhantomData<S>);
-
-impl<S: NodeStore<K = Tallied, V = Tallied>> Taken for LoadedTree<S> {
-    fn number_at(place: u64) -> u64 {
+// The number of the key at a place of those that are given: those below 100 come three times. A tree
+// is given them in their order, and the others in three runs, so that they take memory as they are
+// sorted.
+fn number_at(letter: u8, place: u64) -> u64 {
+    if letter == b'g' {
         place / 3
-    }
-
-    fn taken(_alloc: Global, pairs: Vec<(Tallied, Tallied)>) -> Result<usize, AllocError> {
-        if !in_load_order(&pairs) {
-            return Ok(0);
-        }
-        let tree: BPlusTree<S> = BPlusTree::bulk_load(pairs)?;
-        Ok(tree.len())
+    } else {
+        place % 100
     }
 }
 
-// They come in three runs, so that they take memory as they are sorted.
-impl Taken for BPlusTreeMap<Tallied, Tallied> {
-    fn number_at(place: u64) -> u64 {
-        place % 100
+// How many pairs a tree has that is loaded of them.
+fn loaded<S: NodeStore<K = Tallied, V = Tallied>>(
+    pairs: Vec<(Tallied, Tallied)>,
+) -> Result<usize, AllocError> {
+    if !in_load_order(&pairs) {
+        return Ok(0);
     }
-
-    fn taken(alloc: Global, pairs: Vec<(Tallied, Tallied)>) -> Result<usize, AllocError> {
-        let map: Self = BPlusTreeMap::from_iter(alloc, pairs)?;
-        Ok(map.len())
-    }
+    let tree: BPlusTree<S> = BPlusTree::bulk_load(pairs)?;
+    Ok(tree.len())
 }
 
-// The first value is a key again, and so equal to one that is there.
-impl Taken for BPlusTreeSet<Tallied> {
-    fn number_at(place: u64) -> u64 {
-        place % 100
-    }
+// How many a map has that is made of them.
+fn gathered(alloc: Global, pairs: Vec<(Tallied, Tallied)>) -> Result<usize, AllocError> {
+    let map: BPlusTreeMap<Tallied, Tallied> = BPlusTreeMap::from_iter(alloc, pairs)?;
+    Ok(map.len())
+}
 
-    fn taken(alloc: Global, pairs: Vec<(Tallied, Tallied)>) -> Result<usize, AllocError> {
-        let mut keys = Vec::new(alloc);
-        let mut again = None;
-        for (key, value) in pairs {
-            keys.push(key)?;
-            if again.is_none() {
-                again = Some(value);
-            }
+// How many keys a set has that is made of theirs. The first value is a key again, and so equal to
+// one that is there.
+fn gathered_keys(alloc: Global, pairs: Vec<(Tallied, Tallied)>) -> Result<usize, AllocError> {
+    let mut keys = Vec::new(alloc);
+    let again = take_keys(&mut keys, pairs)?;
+    let mut set: BPlusTreeSet<Tallied> = BPlusTreeSet::from_iter(alloc, keys)?;
+    let is_held = match again {
+        Some(key) => set.insert(key).ok() == Some(false),
+        None => false,
+    };
+    Ok(if is_held { set.len() } else { 0 })
+}
+
+// Adds the keys of pairs to a list, and answers the first value.
+fn take_keys(
+    keys: &mut Vec<Tallied>,
+    pairs: Vec<(Tallied, Tallied)>,
+) -> Result<Option<Tallied>, AllocError> {
+    let mut first = None;
+    for (key, value) in pairs {
+        keys.push(key)?;
+        if first.is_none() {
+            first = Some(value);
         }
-        let mut set: Self = BPlusTreeSet::from_iter(alloc, keys)?;
-        if let Some(key) = again {
-            if set.insert(key).ok() != Some(false) {
-                return Ok(0);
-            }
-        }
-        Ok(set.len())
     }
+    Ok(first)
 }
 
 // 300 pairs, whose values are numbered by their places.
-fn pairs_of<T: Taken>(
+fn pairs_of(
     alloc: Global,
     tally: &Rc<Tally>,
+    letter: u8,
 ) -> Result<Vec<(Tallied, Tallied)>, AllocError> {
     let mut pairs = Vec::new(alloc);
     for place in 0..300 {
-        let key = tallied_of(tally, T::number_at(place))?;
+        let key = tallied_of(tally, number_at(letter, place))?;
         let value = tallied_of(tally, place)?;
         pairs.push((key, value))?;
     }
     Ok(pairs)
 }
 
-/// What is made of pairs and dropped.
-#[derive(Drop)]
-pub struct Dropped<T>(PhantomData<T>);
+// How many pairs or keys there are in what the scenario of a letter makes of them.
+fn taken(alloc: Global, tally: &Rc<Tally>, letter: u8) -> Result<usize, AllocError> {
+    let pairs = pairs_of(alloc, tally, letter)?;
+    match letter {
+        b'g' => loaded::<NodeStoreVec<Tallied, Tallied>>(pairs),
+        b'n' => gathered(alloc, pairs),
+        _ => gathered_keys(alloc, pairs),
+    }
+}
 
-// A refusal that left one that was made, or dropped one twice, is told by another number.
-impl<T: Taken> Part for Dropped<T> {
-    fn made(alloc: Global) -> Result<u64, AllocError> {
-        let tally = Tally {
-            made: Cell::new(0),
-            dropped: Cell::new(0),
-        };
-        let tally = Rc::new(alloc, tally)?;
-        let answer = match pairs_of::<T>(alloc, &tally) {
-            Ok(pairs) => T::taken(alloc, pairs),
-            Err(_) => Err(AllocError),
-        };
-        let is_even = tally.made.get() == tally.dropped.get() && Rc::strong_count(&tally) == 1;
-        match answer {
-            Ok(100) if is_even && tally.made.get() >= 600 => Ok(100),
-            Err(_) if is_even => Err(AllocError),
-            _ => Ok(0),
-        }
+/// What is made of pairs and dropped. A refusal that left one that was made, or dropped one twice,
+/// is told by another number.
+pub fn dropped(alloc: Global, letter: u8) -> Result<u64, AllocError> {
+    let tally = Tally {
+        made: Cell::new(0),
+        dropped: Cell::new(0),
+    };
+    let tally = Rc::new(alloc, tally)?;
+    let answer = taken(alloc, &tally, letter);
+    let is_even = tally.made.get() == tally.dropped.get() && Rc::strong_count(&tally) == 1;
+    match answer {
+        Ok(100) if is_even && tally.made.get() >= 600 => Ok(100),
+        Err(_) if is_even => Err(AllocError),
+        _ => Ok(0),
     }
 }

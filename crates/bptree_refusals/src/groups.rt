@@ -1,9 +1,9 @@
 //! Maps that are asked for groups, and pages of these.
 
-use crate::collections::map_of;
-use crate::plans::Call;
-use crate::sample::{Group, Sample};
-use crate::shapes::Nodes;
+use crate::collections::{map_of, map_state};
+use crate::plans::{Call, Plan};
+use crate::sample::{Group, Order, Sample};
+use crate::shapes::State;
 use crate::trial::Subject;
 use std::alloc::{AllocError, Global};
 use sweep_bptree::BPlusTreeMap;
@@ -25,28 +25,38 @@ fn is_sized<K: Sample, G: Group<K>>(
     }
 }
 
+// Whether the group, a part of it or a page has so many pairs.
+fn has_part<K: Sample, G: Group<K>>(
+    map: &BPlusTreeMap<K, u64, GroupCount<G>>,
+    group: &G,
+    turn: u64,
+) -> Result<bool, AllocError> {
+    let (pairs, many) = match turn {
+        1 => (map.group_range(group), 170),
+        2 => (map.group_part(group, 20, 30), 30),
+        _ => (group_page(map, group, 8, 20), 10),
+    };
+    match pairs {
+        Ok(pairs) => Ok(pairs.len() == many),
+        Err(_) => Err(AllocError),
+    }
+}
+
 impl<K: Sample, G: Group<K>> Subject for Grouped<K, G> {
-    fn made(alloc: Global, many: u64) -> Result<Grouped<K, G>, AllocError> {
-        let map = map_of(alloc, many, true)?;
-        Ok(Grouped(map))
+    fn made(alloc: Global, plan: &Plan) -> Result<Grouped<K, G>, AllocError> {
+        Ok(Grouped(map_of(alloc, plan.many, Order::Ascending)?))
     }
 
     fn answers(&mut self, alloc: Global, call: Call) -> Result<bool, AllocError> {
         let group = G::group(alloc, 200)?;
-        let map = &self.0;
         match call {
-            Call::Own(0) => is_sized(map, group),
-            Call::Own(1) => Ok(map.group_range(&group)?.len() == 170),
-            Call::Own(2) => Ok(map.group_part(&group, 20, 30)?.len() == 30),
-            _ => Ok(group_page(map, &group, 8, 20)?.len() == 10),
+            Call::Own(0) => is_sized(&self.0, group),
+            Call::Own(turn) => has_part(&self.0, &group, turn),
+            _ => Ok(false),
         }
     }
 
-    fn told(&self) -> (u64, usize) {
-        self.0.told()
-    }
-
-    fn nodes(&self) -> Nodes {
-        Nodes::untold()
+    fn state(&self, _looks: bool) -> State {
+        map_state(&self.0, false)
     }
 }

@@ -24,18 +24,15 @@ mod summed;
 mod trees;
 mod trial;
 
-use crate::bounds::Bounded;
 use crate::commands::{Asked, Commanded};
-use crate::dropped::{Dropped, LoadedTree, Tallied};
 use crate::groups::Grouped;
 use crate::moved::{Moved, MovedKeys};
-use crate::parts::{InnerGiven, InnerParts, LeafParts, Made, Numbered, Reserved, Roomy};
-use crate::places::Placed;
+use crate::parts::{Made, Numbered, Reserved};
 use crate::plans::{Plan, plan_of};
 use crate::pointed::Pointed;
 use crate::quiet::{Readings, SetReadings};
 use crate::sample::{Group, Sample};
-use crate::sharded::Sharded;
+use crate::sharded::{Map, Sharded};
 use crate::summed::{Counted, Summed};
 use crate::trial::Trial;
 use std::io::Read;
@@ -63,12 +60,9 @@ where
 // A scenario on trees.
 fn on_trees<K: Sample, A: Asked<K>>(trial: &mut Trial, letter: u8, plan: &Plan) {
     match letter {
-        b'm' if plan.size > 0 => trial.carry_out::<Reserved<K, A>>(plan),
-        b'o' if plan.size > 4 => trial.carry_out::<Bounded<K, A>>(plan),
-        b'o' if plan.size > 1 => trial.carry_out::<Moved<K, A>>(plan),
-        b'o' if plan.size > 0 => trial.carry_out::<Placed<K, A>>(plan),
+        b'm' | b'p' if plan.many > 0 => trial.carry_out::<Reserved<K, A>>(plan),
+        b'o' if plan.size > 1 && plan.size < 5 => trial.carry_out::<Moved<K, A>>(plan),
         b'n' | b'o' => trial.carry_out::<BPlusTreeMap<K, u64, A>>(plan),
-        b'p' => trial.carry_out::<Made<Roomy<K, A>>>(plan),
         _ => on_store::<NodeStoreVec<K, u64, A>>(trial, letter, plan),
     }
 }
@@ -76,12 +70,11 @@ fn on_trees<K: Sample, A: Asked<K>>(trial: &mut Trial, letter: u8, plan: &Plan) 
 // A scenario on keys with no summaries.
 fn on_keys<K: Sample>(trial: &mut Trial, letter: u8, plan: &Plan) {
     match letter {
-        b'q' => trial.carry_out::<Made<LeafParts<K>>>(plan),
-        b'r' => trial.carry_out::<Made<InnerParts<K>>>(plan),
+        _ if plan.is_part() => trial.carry_out::<Made<K>>(plan),
         b's' => trial.carry_out::<BPlusTree<NodeStoreVec<K, u64>>>(plan),
         b'u' if plan.size > 0 => trial.carry_out::<MovedKeys<K>>(plan),
         b't' | b'u' => trial.carry_out::<BPlusTreeSet<K>>(plan),
-        b'w' => trial.carry_out::<Sharded<K>>(plan),
+        b'w' => trial.carry_out::<Sharded<Map<K>>>(plan),
         _ => trial.carry_out::<SetReadings<K>>(plan),
     }
 }
@@ -95,23 +88,12 @@ fn on_asked<K: Sample, G: Group<K>>(trial: &mut Trial, letter: u8, plan: &Plan) 
     }
 }
 
-// A scenario on keys and values whose drops are counted.
-fn on_counted(trial: &mut Trial, letter: u8, plan: &Plan) {
-    match letter {
-        b'g' => trial.carry_out::<Made<Dropped<LoadedTree<NodeStoreVec<Tallied, Tallied>>>>>(plan),
-        b'n' => trial.carry_out::<Made<Dropped<BPlusTreeMap<Tallied, Tallied>>>>(plan),
-        _ => trial.carry_out::<Made<Dropped<BPlusTreeSet<Tallied>>>>(plan),
-    }
-}
-
 // A scenario on numbers.
 fn on_numbers(trial: &mut Trial, letter: u8, plan: &Plan) {
     match letter {
-        b'g' | b'n' | b't' if plan.size > 0 => on_counted(trial, letter, plan),
-        b'a'..=b'p' => on_trees::<u64, Count>(trial, letter, plan),
-        b'w' if plan.size == 0 => trial.carry_out::<Made<InnerGiven>>(plan),
+        b'a'..=b'p' if !plan.is_part() => on_trees::<u64, Count>(trial, letter, plan),
         b'y' if plan.size > 0 => trial.carry_out::<Pointed<u64>>(plan),
-        b'y' => trial.carry_out::<Counted<u64>>(plan),
+        b'y' => trial.carry_out::<Counted>(plan),
         _ => on_keys::<u64>(trial, letter, plan),
     }
 }

@@ -1,12 +1,12 @@
 //! Maps and sets from which many pairs or keys leave, and come back.
 
-use crate::collections::{map_of, set_of};
+use crate::collections::{map_of, map_state, set_of};
 use crate::digest::{Digest, Told};
-use crate::plans::Call;
-use crate::sample::{Sample, keys_of};
-use crate::shapes::{Nodes, nodes_of};
-use crate::trees::is_sample;
-use crate::trial::Subject;
+use crate::plans::{Call, Plan};
+use crate::sample::{Order, Sample, keys_of, pairs_of};
+use crate::shapes::{State, state_of};
+use crate::trees::{is_handed_back, is_sample};
+use crate::trial::{Subject, refusal};
 use std::alloc::{AllocError, Global};
 use sweep_bptree::map::{MoveError, RetainError, SplitError};
 use sweep_bptree::set::ReplaceError;
@@ -37,15 +37,14 @@ pub fn handed_back<K: Drop, V: Drop>(refusal: InsertError<K, V>) -> (K, V) {
 // Puts the pair in hand into a map again, where there is one.
 fn comes_back<K: Sample, A: Argument<K>>(
     map: &mut BPlusTreeMap<K, u64, A>,
-    refusal: MoveError<K, u64>,
-) -> Result<(), AllocError> {
-    let MoveError::NotStored(refusal) = refusal else {
-        return Ok(());
-    };
-    let (key, value) = handed_back(refusal);
-    match map.insert(key, value) {
-        Ok(_) => Ok(()),
-        Err(_) => Err(AllocError),
+    in_hand: MoveError<K, u64>,
+) -> bool {
+    match in_hand {
+        MoveError::NotStored(back) => {
+            let (key, value) = handed_back(back);
+            map.insert(key, value).is_ok()
+        }
+        MoveError::NotTaken => true,
     }
 }
 
@@ -92,20 +91,11 @@ impl<K: Sample, A: Argument<K> + Told> Moved<K, A> {
                 Ok(self.here.len() == first as usize && self.there.len() == left)
             }
             Err(SplitError::NotMade) => Err(AllocError),
-            Err(SplitError::NotAll(there, refusal)) => {
+            Err(SplitError::NotAll(there, in_hand)) => {
                 self.there = there;
-                self.comes_again(refusal)
+                let is_back = comes_back(&mut self.here, in_hand);
+                refusal(self.here.append(&mut self.there).is_ok() && is_back)
             }
-        }
-    }
-
-    // Those that left come back, after a refusal.
-    fn comes_again(&mut self, refusal: MoveError<K, u64>) -> Result<bool, AllocError> {
-        comes_back(&mut self.here, refusal)?;
-        if self.here.append(&mut self.there).is_ok() {
-            Err(AllocError)
-        } else {
-            Ok(false)
         }
     }
 
@@ -113,28 +103,30 @@ impl<K: Sample, A: Argument<K> + Told> Moved<K, A> {
     fn joins(&mut self) -> Result<bool, AllocError> {
         match self.here.append(&mut self.there) {
             Ok(()) => Ok(self.there.is_empty() && self.here.len() == self.many as usize),
-            Err(refusal) => {
-                comes_back(&mut self.there, refusal)?;
-                Err(AllocError)
-            }
+            Err(in_hand) => refusal(comes_back(&mut self.there, in_hand)),
         }
     }
 
     // Three more pairs come, behind all others. Where one is refused, those that came leave again.
     fn grows(&mut self, alloc: Global) -> Result<bool, AllocError> {
-        let mut pairs = Vec::new(alloc);
-        for more in 0..3 {
-            let number = self.many.saturating_add(more);
-            pairs.push((K::sample(alloc, number)?, number))?;
-        }
+        let end = self.many.saturating_add(3);
+        let pairs = pairs_of(alloc, self.many, end, Order::Ascending)?;
         if self.here.extend(pairs).is_ok() {
-            return Ok(self.here.len() == self.many.saturating_add(3) as usize);
+            return Ok(self.here.len() == end as usize);
         }
-        for more in 0..3 {
-            let key = K::sample(alloc, self.many.saturating_add(more))?;
-            self.here.remove(&key)?;
+        let mut is_well = true;
+        for number in self.many..end {
+            is_well &= self.loses(alloc, number);
         }
-        Err(AllocError)
+        refusal(is_well)
+    }
+
+    // The pair of a number leaves, where it is there.
+    fn loses(&mut self, alloc: Global, number: u64) -> bool {
+        match K::sample(alloc, number) {
+            Ok(key) => self.here.remove(&key).is_ok(),
+            Err(_) => false,
+        }
     }
 
     // Closures change all values and change them back, without a request. Then one keeps all pairs.
@@ -148,9 +140,8 @@ impl<K: Sample, A: Argument<K> + Told> Moved<K, A> {
             Err(RetainError::NotMade) => Err(AllocError),
             Err(RetainError::NotStored(pair, rest)) => {
                 let (key, value) = pair;
-                let mut is_back = self.here.insert(key, value).is_ok();
-                is_back &= takes_in(&mut self.here, rest);
-                if is_back { Err(AllocError) } else { Ok(false) }
+                let is_back = self.here.insert(key, value).is_ok();
+                refusal(takes_in(&mut self.here, rest) && is_back)
             }
         }
     }
@@ -158,64 +149,67 @@ impl<K: Sample, A: Argument<K> + Told> Moved<K, A> {
     // The last pairs but those that came are removed, and put again. Where a removal is refused,
     // the first of them have gone.
     fn empties(&mut self, alloc: Global) -> Result<bool, AllocError> {
-        let first = first_to_leave(self.many);
-        let (lo, hi) = (K::sample(alloc, first)?, K::sample(alloc, self.many)?);
-        let many = self.many.saturating_sub(first) as usize;
-        let len = self.here.len();
-        add_between(&mut self.here, &lo, &hi, 1);
-        add_between(&mut self.here, &lo, &hi, u64::MAX);
-        let answer = self.here.remove_range(Some(&lo), Some(&hi));
-        let gone = len.saturating_sub(self.here.len());
-        let is_right = match answer {
-            Ok(count) => count == many && gone == many,
-            Err(_) => gone < many,
-        };
-        let is_refused = self.fills(alloc, first)? || answer.is_err();
-        if is_right && is_refused {
-            Err(AllocError)
-        } else {
+        let lo = K::sample(alloc, first_to_leave(self.many))?;
+        let hi = K::sample(alloc, self.many)?;
+        let (is_right, is_refused) = self.loses_between(&lo, &hi);
+        if self.fills(alloc) && !is_refused {
             Ok(is_right)
+        } else {
+            refusal(is_right)
         }
     }
 
-    // Puts the pairs from a number on again, and answers whether one was refused at first.
-    fn fills(&mut self, alloc: Global, first: u64) -> Result<bool, AllocError> {
-        let mut is_refused = false;
-        for number in first..self.many {
-            if self.puts(alloc, number).is_err() {
-                is_refused = true;
-                self.puts(alloc, number)?;
+    // Whether as many are gone as are to be, and whether a removal was refused.
+    fn loses_between(&mut self, lo: &K, hi: &K) -> (bool, bool) {
+        let many = self.many.saturating_sub(first_to_leave(self.many)) as usize;
+        let len = self.here.len();
+        add_between(&mut self.here, lo, hi, 1);
+        add_between(&mut self.here, lo, hi, u64::MAX);
+        let answer = self.here.remove_range(Some(lo), Some(hi));
+        let gone = len.saturating_sub(self.here.len());
+        match answer {
+            Ok(count) => (count == many && gone == many, false),
+            Err(_) => (gone < many, true),
+        }
+    }
+
+    // Puts the last pairs again, and answers whether none was refused at first. That one is put
+    // then.
+    fn fills(&mut self, alloc: Global) -> bool {
+        let mut is_well = true;
+        for number in first_to_leave(self.many)..self.many {
+            if !self.puts(alloc, number) {
+                is_well = false;
+                self.puts(alloc, number);
             }
         }
-        Ok(is_refused)
+        is_well
     }
 
     // Puts the pair of a number, which may be there.
-    fn puts(&mut self, alloc: Global, number: u64) -> Result<(), AllocError> {
-        match self.here.insert(K::sample(alloc, number)?, number) {
-            Ok(_) => Ok(()),
-            Err(_) => Err(AllocError),
+    fn puts(&mut self, alloc: Global, number: u64) -> bool {
+        match K::sample(alloc, number) {
+            Ok(key) => self.here.insert(key, number).is_ok(),
+            Err(_) => false,
         }
     }
 
     // A value is changed where the key of a number is, or else put there. It is to be answered
     // whether it was put.
-    fn updates(&mut self, alloc: Global, number: u64, is_new: bool) -> Result<bool, AllocError> {
+    fn updates(&mut self, alloc: Global, is_new: bool) -> Result<bool, AllocError> {
+        let number = self.many.saturating_add(3);
         let key = K::sample(alloc, number)?;
         let more = |value: &mut u64| *value = value.wrapping_add(1);
         match self.here.upsert_with(key, number, more) {
             Ok(added) => Ok(added == is_new),
-            Err(refusal) => {
-                let (key, value) = handed_back(refusal);
-                let is_its = value == number && is_sample(&key, number);
-                if is_its { Err(AllocError) } else { Ok(false) }
-            }
+            Err(back) => is_handed_back(back, number, number),
         }
     }
 
     // The value at the key of a number is lent. Where the key is not there, it is put first, with
     // the number as its value.
-    fn lends(&mut self, alloc: Global, number: u64, is_new: bool) -> Result<bool, AllocError> {
+    fn lends(&mut self, alloc: Global, is_new: bool) -> Result<bool, AllocError> {
+        let number = self.many.saturating_add(4);
         let key = K::sample(alloc, number)?;
         match self.here.get_or_insert_with(key, || number) {
             Ok(value) => {
@@ -223,21 +217,17 @@ impl<K: Sample, A: Argument<K> + Told> Moved<K, A> {
                 *value = value.wrapping_add(1);
                 Ok(is_its)
             }
-            Err(refusal) => {
-                let (key, value) = handed_back(refusal);
-                let is_its = value == number && is_sample(&key, number);
-                if is_its { Err(AllocError) } else { Ok(false) }
-            }
+            Err(back) => is_handed_back(back, number, number),
         }
     }
 }
 
 impl<K: Sample, A: Argument<K> + Told> Subject for Moved<K, A> {
-    fn made(alloc: Global, many: u64) -> Result<Moved<K, A>, AllocError> {
+    fn made(alloc: Global, plan: &Plan) -> Result<Moved<K, A>, AllocError> {
         Ok(Moved {
-            here: map_of(alloc, many, true)?,
+            here: map_of(alloc, plan.many, Order::Ascending)?,
             there: BPlusTreeMap::new(alloc)?,
-            many,
+            many: plan.many,
         })
     }
 
@@ -246,10 +236,8 @@ impl<K: Sample, A: Argument<K> + Told> Subject for Moved<K, A> {
             Call::Own(0) => self.splits(alloc),
             Call::Own(1) => self.joins(),
             Call::Own(2) => self.grows(alloc),
-            Call::Own(3) => self.updates(alloc, self.many.saturating_add(3), true),
-            Call::Own(4) => self.updates(alloc, self.many.saturating_add(3), false),
-            Call::Own(5) => self.lends(alloc, self.many.saturating_add(4), true),
-            Call::Own(6) => self.lends(alloc, self.many.saturating_add(4), false),
+            Call::Own(turn) if turn < 5 => self.updates(alloc, turn == 3),
+            Call::Own(turn) if turn < 7 => self.lends(alloc, turn == 5),
             Call::Own(7) => self.keeps(),
             Call::Own(_) => self.empties(alloc),
             _ => Ok(false),
@@ -257,24 +245,23 @@ impl<K: Sample, A: Argument<K> + Told> Subject for Moved<K, A> {
     }
 
     // The pairs of both, since what is refused may leave some of them in other nodes.
-    fn told(&self) -> (u64, usize) {
+    fn state(&self, looks: bool) -> State {
         let mut digest = Digest::new();
-        for (key, value) in self.here.iter() {
-            key.tell(&mut digest);
-            digest.add(*value);
-        }
-        for (key, value) in self.there.iter() {
-            key.tell(&mut digest);
-            digest.add(*value);
-        }
-        (
-            digest.value(),
-            self.here.len().saturating_add(self.there.len()),
-        )
+        tell_pairs(&self.here, &mut digest);
+        tell_pairs(&self.there, &mut digest);
+        let len = self.here.len().saturating_add(self.there.len());
+        let mut state = map_state(&self.here, looks);
+        state.told = (digest.value(), len);
+        state.is_tidy &= map_state(&self.there, looks).is_tidy;
+        state
     }
+}
 
-    fn nodes(&self) -> Nodes {
-        self.here.nodes().beside(self.there.nodes())
+// Tells the pairs of a map.
+fn tell_pairs<K: Sample, A: Argument<K>>(map: &BPlusTreeMap<K, u64, A>, digest: &mut Digest) {
+    for (key, value) in map.iter() {
+        key.tell(digest);
+        digest.add(*value);
     }
 }
 
@@ -287,24 +274,13 @@ pub struct MovedKeys<K: Sample> {
 }
 
 // Puts a key into a set again, where there is one.
-fn key_comes_back<K: Sample>(set: &mut BPlusTreeSet<K>, key: Option<K>) -> Result<(), AllocError> {
-    match key {
-        Some(key) => match set.insert(key) {
-            Ok(_) => Ok(()),
-            Err(_) => Err(AllocError),
-        },
-        None => Ok(()),
-    }
-}
-
-// The key in hand after a move that was refused.
-fn key_in_hand<K: Drop>(refusal: MoveError<K, ()>) -> Option<K> {
-    match refusal {
-        MoveError::NotStored(refusal) => {
-            let (key, ()) = handed_back(refusal);
-            Some(key)
+fn key_comes_back<K: Sample>(set: &mut BPlusTreeSet<K>, in_hand: MoveError<K, ()>) -> bool {
+    match in_hand {
+        MoveError::NotStored(back) => {
+            let (key, ()) = handed_back(back);
+            set.insert(key).is_ok()
         }
-        MoveError::NotTaken => None,
+        MoveError::NotTaken => true,
     }
 }
 
@@ -329,20 +305,11 @@ impl<K: Sample> MovedKeys<K> {
                 Ok(self.here.len() == first as usize && self.there.len() == left)
             }
             Err(SplitError::NotMade) => Err(AllocError),
-            Err(SplitError::NotAll(there, refusal)) => {
+            Err(SplitError::NotAll(there, in_hand)) => {
                 self.there = there;
-                self.comes_again(refusal)
+                let is_back = key_comes_back(&mut self.here, in_hand);
+                refusal(self.here.append(&mut self.there).is_ok() && is_back)
             }
-        }
-    }
-
-    // Those that left come back, after a refusal.
-    fn comes_again(&mut self, refusal: MoveError<K, ()>) -> Result<bool, AllocError> {
-        key_comes_back(&mut self.here, key_in_hand(refusal))?;
-        if self.here.append(&mut self.there).is_ok() {
-            Err(AllocError)
-        } else {
-            Ok(false)
         }
     }
 
@@ -350,24 +317,38 @@ impl<K: Sample> MovedKeys<K> {
     fn joins(&mut self) -> Result<bool, AllocError> {
         match self.here.append(&mut self.there) {
             Ok(()) => Ok(self.there.is_empty() && self.here.len() == self.many as usize),
-            Err(refusal) => {
-                key_comes_back(&mut self.there, key_in_hand(refusal))?;
-                Err(AllocError)
-            }
+            Err(in_hand) => refusal(key_comes_back(&mut self.there, in_hand)),
         }
     }
 
     // All keys come again, and so do three more. Where one is refused, those leave again that came.
     fn grows(&mut self, alloc: Global) -> Result<bool, AllocError> {
         let many = self.many.saturating_add(3);
-        if self.here.extend(keys_of(alloc, many, true)?).is_ok() {
+        let keys = keys_of(alloc, many, Order::Ascending)?;
+        if self.here.extend(keys).is_ok() {
             return Ok(self.here.len() == many as usize);
         }
+        let mut is_well = true;
         for number in self.many..many {
-            let key = K::sample(alloc, number)?;
-            self.here.remove(&key)?;
+            is_well &= self.loses(alloc, number);
         }
-        Err(AllocError)
+        refusal(is_well)
+    }
+
+    // The key of a number leaves, where it is there.
+    fn loses(&mut self, alloc: Global, number: u64) -> bool {
+        match K::sample(alloc, number) {
+            Ok(key) => self.here.remove(&key).is_ok(),
+            Err(_) => false,
+        }
+    }
+
+    // The key of a number comes.
+    fn puts(&mut self, alloc: Global, number: u64) -> bool {
+        match K::sample(alloc, number) {
+            Ok(key) => self.here.insert(key).is_ok(),
+            Err(_) => false,
+        }
     }
 
     // A closure keeps all keys. Where that is refused, the key in hand comes back, and those that
@@ -378,30 +359,27 @@ impl<K: Sample> MovedKeys<K> {
             Ok(()) => Ok(self.here.len() == len),
             Err(RetainError::NotMade) => Err(AllocError),
             Err(RetainError::NotStored(key, rest)) => {
-                let mut is_back = self.here.insert(key).is_ok();
-                is_back &= takes_keys_in(&mut self.here, rest);
-                if is_back { Err(AllocError) } else { Ok(false) }
+                let is_back = self.here.insert(key).is_ok();
+                refusal(takes_keys_in(&mut self.here, rest) && is_back)
             }
         }
     }
 
     // The first keys leave at once. Where that is refused, those that have gone come back.
     fn removes(&mut self, alloc: Global) -> Result<bool, AllocError> {
-        let (lo, hi) = (K::sample(alloc, 0)?, K::sample(alloc, 20)?);
+        let lo = K::sample(alloc, 0)?;
+        let hi = K::sample(alloc, 20)?;
         let len = self.here.len();
         let answer = self.here.remove_range(Some(&lo), Some(&hi));
         let gone = len.saturating_sub(self.here.len());
         if answer.is_ok() {
             return Ok(answer == Ok(20) && gone == 20);
         }
+        let mut is_well = gone < 20;
         for number in 0..gone as u64 {
-            key_comes_back(&mut self.here, Some(K::sample(alloc, number)?))?;
+            is_well &= self.puts(alloc, number);
         }
-        if gone < 20 {
-            Err(AllocError)
-        } else {
-            Ok(false)
-        }
+        refusal(is_well)
     }
 
     // The key of a number leaves, and comes back.
@@ -413,10 +391,9 @@ impl<K: Sample> MovedKeys<K> {
         let is_its = is_sample(&gone, number);
         match self.here.insert(gone) {
             Ok(is_new) => Ok(is_new && is_its),
-            Err(refusal) => {
-                let (gone, ()) = handed_back(refusal);
-                key_comes_back(&mut self.here, Some(gone))?;
-                Err(AllocError)
+            Err(back) => {
+                let (gone, ()) = handed_back(back);
+                refusal(self.here.insert(gone).is_ok())
             }
         }
     }
@@ -427,27 +404,21 @@ impl<K: Sample> MovedKeys<K> {
         match self.here.replace(K::sample(alloc, number)?) {
             Ok(Some(gone)) => Ok(is_sample(&gone, number)),
             Ok(None) => Ok(false),
-            Err(ReplaceError::NotTaken(key)) => {
-                if is_sample(&key, number) {
-                    Err(AllocError)
-                } else {
-                    Ok(false)
-                }
-            }
-            Err(ReplaceError::NotStored(_refusal, gone)) => {
-                key_comes_back(&mut self.here, gone)?;
-                Err(AllocError)
-            }
+            Err(ReplaceError::NotTaken(key)) => refusal(is_sample(&key, number)),
+            Err(ReplaceError::NotStored(_back, gone)) => match gone {
+                Some(gone) => refusal(self.here.insert(gone).is_ok()),
+                None => refusal(true),
+            },
         }
     }
 }
 
 impl<K: Sample> Subject for MovedKeys<K> {
-    fn made(alloc: Global, many: u64) -> Result<MovedKeys<K>, AllocError> {
+    fn made(alloc: Global, plan: &Plan) -> Result<MovedKeys<K>, AllocError> {
         Ok(MovedKeys {
-            here: set_of(alloc, many, true)?,
+            here: set_of(alloc, plan.many, Order::Ascending)?,
             there: BPlusTreeSet::new(alloc)?,
-            many,
+            many: plan.many,
         })
     }
 
@@ -465,21 +436,20 @@ impl<K: Sample> Subject for MovedKeys<K> {
     }
 
     // The keys of both, since what is refused may leave some of them in other nodes.
-    fn told(&self) -> (u64, usize) {
+    fn state(&self, looks: bool) -> State {
         let mut digest = Digest::new();
-        for key in self.here.iter() {
-            key.tell(&mut digest);
-        }
-        for key in self.there.iter() {
-            key.tell(&mut digest);
-        }
-        (
-            digest.value(),
-            self.here.len().saturating_add(self.there.len()),
-        )
+        tell_keys(&self.here, &mut digest);
+        tell_keys(&self.there, &mut digest);
+        let len = self.here.len().saturating_add(self.there.len());
+        let mut state = state_of(self.here.tree(), looks);
+        state.told = (digest.value(), len);
+        state
     }
+}
 
-    fn nodes(&self) -> Nodes {
-        nodes_of(self.here.tree())
+// Tells the keys of a set.
+fn tell_keys<K: Sample>(set: &BPlusTreeSet<K>, digest: &mut Digest) {
+    for key in set.iter() {
+        key.tell(digest);
     }
 }

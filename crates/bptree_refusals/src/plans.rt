@@ -1,5 +1,7 @@
 //! The scenarios: what each makes and calls.
 
+use crate::sample::Order;
+
 /// A call, with what it is to be answered.
 #[derive(Clone, Copy)]
 pub enum Call {
@@ -13,6 +15,8 @@ pub enum Call {
     Clear,
     /// Tells the height.
     Height(usize),
+    /// Of a map, asks for the bounds of a turn.
+    Bounds(u64),
     /// Of the calls that its kind alone has, the one of a turn.
     Own(u64),
 }
@@ -20,7 +24,7 @@ pub enum Call {
 /// How a scenario goes.
 #[derive(Clone, Copy)]
 pub struct Plan {
-    letter: u8,
+    pub letter: u8,
     pub size: u8,
     pub name: &'static str,
     /// How many pairs or keys it begins with.
@@ -151,13 +155,33 @@ impl Plan {
             b'e' => high(turn, self.last_turn(), 3),
             b'k' => own(turn, lists_of(self.many)),
             b'm' => own(turn, 8),
-            b'o' if self.size > 4 => own(turn, 6),
+            b'o' if self.size > 4 && turn < 6 => Some(Call::Bounds(turn)),
+            b'o' if self.size > 4 => None,
             b'o' if self.size > 1 => own(turn, 9),
             b'o' => own(turn, 24),
             b'u' => own(turn, 7),
             b'w' => own(turn, 8),
             b'y' => own(turn, 14),
             _ => None,
+        }
+    }
+
+    /// How the keys of the map come that it begins with.
+    pub fn order(&self) -> Order {
+        match (self.letter, self.size) {
+            (b'n', _) => Order::Again,
+            (b'o', 5..=9) => Order::Even,
+            _ => Order::Ascending,
+        }
+    }
+
+    /// Whether it makes a part, and calls nothing.
+    pub fn is_part(&self) -> bool {
+        match self.letter {
+            b'q' | b'r' => true,
+            b'g' | b'n' | b't' => self.size > 0,
+            b'w' => self.size == 0,
+            _ => false,
         }
     }
 
@@ -253,7 +277,7 @@ const ROWS: [Row; 25] = [
     (0, Some(0), 0, 0),
     (200, None, 100, 100),
     (0, None, 32, 32),
-    (8, None, 0, 0),
+    (8, None, 8, 8),
     (0, None, 0, 0),
     (0, None, 0, 0),
     (200, Some(0), 200, 200),

@@ -1,11 +1,12 @@
 //! Maps with counts that are asked for cursors on places, and lose their first pairs by a place, one
 //! by its key, and the last one.
 
-use crate::collections::map_of;
-use crate::plans::Call;
-use crate::sample::Sample;
-use crate::shapes::Nodes;
-use crate::trees::is_sample;
+use crate::bounds::stands_on;
+use crate::collections::{map_of, map_state};
+use crate::plans::{Call, Plan};
+use crate::sample::{Order, Sample};
+use crate::shapes::State;
+use crate::trees::is_entry;
 use crate::trial::Subject;
 use std::alloc::{AllocError, Global};
 use sweep_bptree::BPlusTreeMap;
@@ -19,31 +20,12 @@ pub struct Pointed<K: Sample> {
     gone: u64,
 }
 
-// Whether a cursor on the sixth pair stands on that of a number.
-fn points_at<K: Sample>(
-    map: &BPlusTreeMap<K, u64, Count>,
-    number: u64,
-) -> Result<bool, AllocError> {
-    let Some((cursor, value)) = map.cursor_at(5)? else {
-        return Ok(false);
-    };
-    Ok(*value == number && is_sample(cursor.key(), number))
-}
-
-// Whether a pair that has left is that of a number.
-fn is_of<K: Sample>(gone: Option<(K, u64)>, number: u64) -> bool {
-    match gone {
-        Some((key, value)) => value == number && is_sample(&key, number),
-        None => false,
-    }
-}
-
 impl<K: Sample> Subject for Pointed<K> {
-    fn made(alloc: Global, many: u64) -> Result<Pointed<K>, AllocError> {
-        let mut map = map_of(alloc, many, true)?;
+    fn made(alloc: Global, plan: &Plan) -> Result<Pointed<K>, AllocError> {
+        let mut map = map_of(alloc, plan.many, Order::Ascending)?;
         let mut gone = 0u64;
         // No leaf has more than 64 pairs, and of several each has at least 16.
-        if many > 64 {
+        if plan.many > 64 {
             for _ in 0..48 {
                 map.remove_at(0)?;
                 gone = gone.wrapping_add(1);
@@ -60,22 +42,21 @@ impl<K: Sample> Subject for Pointed<K> {
         match turn {
             12 => {
                 let key = K::sample(alloc, first)?;
-                Ok(is_of(self.map.remove_entry(&key)?, first))
+                is_entry(self.map.remove_entry(&key), first, Some(first))
             }
             13 => {
                 let last = first.wrapping_add(self.map.len() as u64);
-                Ok(is_of(self.map.pop_last()?, last))
+                is_entry(self.map.pop_last(), last, Some(last))
             }
-            _ if turn % 2 == 0 => points_at(&self.map, first.wrapping_add(5)),
-            _ => Ok(is_of(self.map.remove_at(0)?, first)),
+            _ if turn % 2 == 0 => {
+                let sixth = first.wrapping_add(5);
+                stands_on(self.map.cursor_at(5), Some(sixth))
+            }
+            _ => is_entry(self.map.remove_at(0), first, Some(first)),
         }
     }
 
-    fn told(&self) -> (u64, usize) {
-        self.map.told()
-    }
-
-    fn nodes(&self) -> Nodes {
-        self.map.nodes()
+    fn state(&self, looks: bool) -> State {
+        map_state(&self.map, looks)
     }
 }

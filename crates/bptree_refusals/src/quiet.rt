@@ -2,13 +2,14 @@
 
 use crate::collections::set_of;
 use crate::digest::{Told, digest_of};
-use crate::plans::Call;
-use crate::sample::Sample;
-use crate::shapes::Nodes;
-use crate::trees::last_of;
+use crate::plans::{Call, Plan};
+use crate::sample::{Order, Sample};
+use crate::shapes::{State, state_of};
+use crate::trees::{end_of, tree_of};
 use crate::trial::Subject;
 use std::alloc::{AllocError, Global};
 use sweep_bptree::BPlusTreeSet;
+use sweep_bptree::script::End;
 use sweep_bptree::tree::{BPlusTree, CloneArgument, CloneStore, Cursor, NodeStore};
 
 /// A tree that is read, an empty one, and one that is handed over; with its last key, that key once
@@ -38,8 +39,12 @@ fn last_keys<K: Sample>(alloc: Global, many: u64) -> Result<(K, K, K), AllocErro
 // Reads of a tree, by a key that is there and one that is not.
 fn is_read<S: NodeStore<V = u64>>(tree: &BPlusTree<S>, here: &S::K, gone: &S::K) -> bool {
     let (value, compares) = tree.get_counted(here);
-    let is_there = value.is_some() && compares > 0 && tree.get(here).is_some();
-    is_there && tree.get(gone).is_none() && tree.first().is_some() && tree.last().is_some()
+    let mut is_well = value.is_some() && compares > 0;
+    is_well &= tree.get(here).is_some();
+    is_well &= tree.get(gone).is_none();
+    is_well &= tree.first().is_some();
+    is_well &= tree.last().is_some();
+    is_well
 }
 
 // Whether the iterator over a tree gives all pairs from both ends, with one pair between two keys.
@@ -53,33 +58,49 @@ fn is_gone_through<S: NodeStore<V = u64>>(tree: &BPlusTree<S>, here: &S::K, gone
     count == tree.len() && tree.range(Some(here), Some(gone)).len() == 1
 }
 
+// Whether nothing was found, without a refusal.
+fn is_nowhere<T: Drop>(found: Result<Option<T>, AllocError>) -> bool {
+    match found {
+        Ok(found) => found.is_none(),
+        Err(_) => false,
+    }
+}
+
 // A cursor on the last key has no key behind it.
 fn is_last<S: NodeStore<V = u64>>(
     tree: &BPlusTree<S>,
-    cursor: &Cursor<S::K>,
+    cursor: &Option<Cursor<S::K>>,
     last: u64,
-) -> Result<bool, AllocError> {
-    let end = cursor.next(tree)?;
-    Ok(end.is_none() && cursor.exists(tree) && cursor.value(tree) == Some(&last))
+) -> bool {
+    match cursor {
+        Some(cursor) => {
+            let is_end = is_nowhere(cursor.next(tree)) && cursor.exists(tree);
+            is_end && cursor.value(tree) == Some(&last)
+        }
+        None => false,
+    }
 }
 
 // An empty tree has no pair to stand on.
-fn has_no_place<S: NodeStore<V = u64>>(tree: &BPlusTree<S>) -> Result<bool, AllocError> {
-    Ok(
-        tree.cursor_first()?.is_none()
-            && Cursor::first(tree)?.is_none()
-            && Cursor::last(tree)?.is_none(),
-    )
+fn has_no_place<S: NodeStore<V = u64>>(tree: &BPlusTree<S>) -> bool {
+    let mut is_well = is_nowhere(tree.cursor_first());
+    is_well &= is_nowhere(Cursor::first(tree));
+    is_well &= is_nowhere(Cursor::last(tree));
+    is_well
 }
 
 // Changes that put no new key and take none away.
 fn is_kept<S: NodeStore<V = u64>>(
     tree: &mut BPlusTree<S>,
-    equal: S::K,
+    equal: Option<S::K>,
     gone: &S::K,
     last: u64,
 ) -> bool {
-    tree.insert(equal, 7).ok() == Some(Some(last)) && tree.remove(gone) == Ok(None)
+    let is_put = match equal {
+        Some(equal) => tree.insert(equal, 7).ok() == Some(Some(last)),
+        None => false,
+    };
+    is_put && tree.remove(gone) == Ok(None)
 }
 
 // Writes the last value anew.
@@ -93,9 +114,9 @@ fn is_mended<S: NodeStore<V = u64>>(tree: &mut BPlusTree<S>, here: &S::K, last: 
 }
 
 // How many pairs a tree hands over.
-fn handed_over<S: NodeStore<V = u64>>(tree: BPlusTree<S>) -> usize {
+fn handed_over<S: NodeStore<V = u64>>(tree: Option<BPlusTree<S>>, many: usize) -> usize {
+    let Some(tree) = tree else { return 0 };
     let mut count: usize = 0;
-    let many = tree.len();
     let mut pairs = tree.into_iter();
     for _turn in 0..many {
         count = count.saturating_add(pairs.next().is_some() as usize);
@@ -104,18 +125,46 @@ fn handed_over<S: NodeStore<V = u64>>(tree: BPlusTree<S>) -> usize {
     count
 }
 
+impl<S: NodeStore<V = u64>> Readings<S>
+where
+    S::K: Sample,
+    S::Argument: Told,
+{
+    // Whether the tree is the same after changes that change nothing, and one that is undone.
+    fn is_same(&mut self) -> bool {
+        let before = digest_of(&self.tree);
+        let equal = self.equal.take();
+        let is_kept = is_kept(&mut self.tree, equal, &self.gone, self.last);
+        let is_mended = is_mended(&mut self.tree, &self.here, self.last);
+        is_kept && is_mended && digest_of(&self.tree) == before
+    }
+}
+
+// Three trees: one without pairs, and two with so many.
+fn three_of<S: NodeStore<V = u64>>(
+    alloc: Global,
+    many: u64,
+) -> Result<(BPlusTree<S>, BPlusTree<S>, BPlusTree<S>), AllocError>
+where
+    S::K: Sample,
+{
+    Ok((
+        tree_of(alloc, 0, Order::Ascending)?,
+        tree_of(alloc, many, Order::Ascending)?,
+        tree_of(alloc, many, Order::Ascending)?,
+    ))
+}
+
 impl<S: CloneStore<V = u64>> Subject for Readings<S>
 where
     S::K: Sample,
     S::Argument: CloneArgument<S::K> + Told,
 {
-    fn made(alloc: Global, many: u64) -> Result<Readings<S>, AllocError> {
-        let last = many.saturating_sub(1);
-        let (here, equal, gone) = last_keys(alloc, many)?;
-        let empty = <BPlusTree<S> as Subject>::made(alloc, 0)?;
-        let tree = <BPlusTree<S> as Subject>::made(alloc, many)?;
-        let given = <BPlusTree<S> as Subject>::made(alloc, many)?;
-        let cursor = last_of(&tree)?;
+    fn made(alloc: Global, plan: &Plan) -> Result<Readings<S>, AllocError> {
+        let last = plan.many.saturating_sub(1);
+        let (empty, tree, given) = three_of(alloc, plan.many)?;
+        let (here, equal, gone) = last_keys(alloc, plan.many)?;
+        let cursor = end_of(&tree, End::Back)?;
         Ok(Readings {
             tree,
             empty,
@@ -132,35 +181,18 @@ where
         match call {
             Call::Own(0) => Ok(is_read(&self.tree, &self.here, &self.gone)),
             Call::Own(1) => Ok(is_gone_through(&self.tree, &self.here, &self.gone)),
-            Call::Own(2) => match &self.cursor {
-                Some(cursor) => is_last(&self.tree, cursor, self.last),
-                None => Ok(false),
-            },
-            Call::Own(3) => has_no_place(&self.empty),
-            Call::Own(4) => match self.equal.take() {
-                Some(equal) => {
-                    let before = digest_of(&self.tree);
-                    Ok(
-                        is_kept(&mut self.tree, equal, &self.gone, self.last)
-                            && is_mended(&mut self.tree, &self.here, self.last)
-                            && digest_of(&self.tree) == before,
-                    )
-                }
-                None => Ok(false),
-            },
-            _ => match self.given.take() {
-                Some(given) => Ok(handed_over(given) == self.tree.len()),
-                None => Ok(false),
-            },
+            Call::Own(2) => Ok(is_last(&self.tree, &self.cursor, self.last)),
+            Call::Own(3) => Ok(has_no_place(&self.empty)),
+            Call::Own(4) => Ok(self.is_same()),
+            _ => {
+                let many = self.tree.len();
+                Ok(handed_over(self.given.take(), many) == many)
+            }
         }
     }
 
-    fn told(&self) -> (u64, usize) {
-        self.tree.told()
-    }
-
-    fn nodes(&self) -> Nodes {
-        self.tree.nodes()
+    fn state(&self, looks: bool) -> State {
+        state_of(&self.tree, looks)
     }
 }
 
@@ -175,16 +207,6 @@ pub struct SetReadings<K: Sample> {
     gone: K,
 }
 
-// How many keys of two equal sets there are together, with those that one has alone and those that
-// both have, and how many the second hands over.
-fn counted<K: Sample>(one: &BPlusTreeSet<K>, other: BPlusTreeSet<K>) -> usize {
-    if !are_alike(one, &other) {
-        return 0;
-    }
-    let count = together(one, &other).saturating_add(apart(one, &other));
-    count.saturating_add(given_out(other))
-}
-
 // How many keys a set hands over.
 fn given_out<K: Sample>(set: BPlusTreeSet<K>) -> usize {
     let mut count: usize = 0;
@@ -194,11 +216,13 @@ fn given_out<K: Sample>(set: BPlusTreeSet<K>) -> usize {
     count
 }
 
+// Whether each of two sets is within the other one.
 fn are_alike<K: Sample>(one: &BPlusTreeSet<K>, other: &BPlusTreeSet<K>) -> bool {
     let is_within = one.is_subset(other) && one.is_superset(other);
     is_within && !one.is_disjoint(other)
 }
 
+// How many keys are in one of them, and in both.
 fn together<K: Sample>(one: &BPlusTreeSet<K>, other: &BPlusTreeSet<K>) -> usize {
     let mut count: usize = 0;
     for _key in one.union(other) {
@@ -210,6 +234,7 @@ fn together<K: Sample>(one: &BPlusTreeSet<K>, other: &BPlusTreeSet<K>) -> usize 
     count
 }
 
+// How many keys one of them has alone.
 fn apart<K: Sample>(one: &BPlusTreeSet<K>, other: &BPlusTreeSet<K>) -> usize {
     let mut count: usize = 0;
     for _key in one.difference(other) {
@@ -236,19 +261,19 @@ fn is_held<K: Sample>(set: &mut BPlusTreeSet<K>, equal: Option<K>) -> bool {
     }
 }
 
-// Whether an equal set has as many keys alone, together and in all.
-fn is_counted<K: Sample>(set: &BPlusTreeSet<K>, other: Option<BPlusTreeSet<K>>) -> bool {
-    match other {
-        Some(other) => counted(set, other) == set.len().saturating_mul(3),
-        None => false,
-    }
+// Whether an equal set has the same keys, and hands them over.
+fn is_counted<K: Sample>(set: &BPlusTreeSet<K>, other: BPlusTreeSet<K>) -> bool {
+    let is_equal = are_alike(set, &other)
+        && apart(set, &other) == 0
+        && together(set, &other) == set.len().saturating_mul(2);
+    given_out(other) == set.len() && is_equal
 }
 
 impl<K: Sample> Subject for SetReadings<K> {
-    fn made(alloc: Global, many: u64) -> Result<SetReadings<K>, AllocError> {
-        let (here, equal, gone) = last_keys(alloc, many)?;
-        let one = set_of(alloc, many, true)?;
-        let other = set_of(alloc, many, true)?;
+    fn made(alloc: Global, plan: &Plan) -> Result<SetReadings<K>, AllocError> {
+        let one = set_of(alloc, plan.many, Order::Ascending)?;
+        let other = set_of(alloc, plan.many, Order::Ascending)?;
+        let (here, equal, gone) = last_keys(alloc, plan.many)?;
         Ok(SetReadings {
             one,
             other: Some(other),
@@ -266,18 +291,14 @@ impl<K: Sample> Subject for SetReadings<K> {
                 Ok(is_held(&mut self.one, equal))
             }
             Call::Own(2) => Ok(!self.one.remove(&self.gone)?),
-            _ => {
-                let other = self.other.take();
-                Ok(is_counted(&self.one, other))
-            }
+            _ => match self.other.take() {
+                Some(other) => Ok(is_counted(&self.one, other)),
+                None => Ok(false),
+            },
         }
     }
 
-    fn told(&self) -> (u64, usize) {
-        (0, self.one.len())
-    }
-
-    fn nodes(&self) -> Nodes {
-        Nodes::untold()
+    fn state(&self, _looks: bool) -> State {
+        State::of(0, self.one.len())
     }
 }

@@ -56,34 +56,52 @@ fn group_name(number: u64) -> &'static str {
     GROUPS[(number / 170).min(25) as usize]
 }
 
-/// Pairs of the keys of so many numbers, in their order; or else in no order, each of 100 again and
-/// again.
+/// How the keys of numbers come.
+#[derive(Clone, Copy)]
+pub enum Order {
+    /// In their order.
+    Ascending,
+    /// In no order, each of 100 again and again.
+    Again,
+    /// Those of even numbers, in their order.
+    Even,
+    /// Those of each fourth number, in their order.
+    Fourth,
+}
+
+impl Order {
+    // The number whose key comes in a turn, and its value.
+    fn pair_of(self, turn: u64) -> (u64, u64) {
+        match self {
+            Order::Ascending => (turn, turn),
+            Order::Again => (turn.wrapping_mul(37) % 100, turn),
+            Order::Even => (turn.wrapping_mul(2), turn.wrapping_mul(2)),
+            Order::Fourth => (turn.wrapping_mul(4), turn),
+        }
+    }
+}
+
+/// Pairs that come in the turns from one on up to another one.
 pub fn pairs_of<K: Sample>(
     alloc: Global,
-    many: u64,
-    in_order: bool,
+    first: u64,
+    end: u64,
+    order: Order,
 ) -> Result<Vec<(K, u64)>, AllocError> {
     let mut pairs = Vec::new(alloc);
-    for turn in 0..many {
-        let key = K::sample(alloc, number_of(turn, in_order))?;
-        pairs.push((key, turn))?;
+    for turn in first..end {
+        let (number, value) = order.pair_of(turn);
+        pairs.push((K::sample(alloc, number)?, value))?;
     }
     Ok(pairs)
 }
 
-/// The keys alone.
-pub fn keys_of<K: Sample>(alloc: Global, many: u64, in_order: bool) -> Result<Vec<K>, AllocError> {
+/// The keys alone, of the first turns.
+pub fn keys_of<K: Sample>(alloc: Global, many: u64, order: Order) -> Result<Vec<K>, AllocError> {
     let mut keys = Vec::new(alloc);
     for turn in 0..many {
-        keys.push(K::sample(alloc, number_of(turn, in_order))?)?;
+        let (number, _) = order.pair_of(turn);
+        keys.push(K::sample(alloc, number)?)?;
     }
     Ok(keys)
-}
-
-fn number_of(turn: u64, in_order: bool) -> u64 {
-    if in_order {
-        turn
-    } else {
-        turn.wrapping_mul(37) % 100
-    }
 }

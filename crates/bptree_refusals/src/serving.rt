@@ -105,10 +105,10 @@ fn answers(trial: &mut Trial, input: &[u8], output: &[u8]) -> bool {
 
 /// Ten lines.
 pub fn few_lines(trial: &mut Trial) {
-    trial.begin("lines of each kind");
+    trial.say("lines of each kind");
     let is_well = answers(trial, INPUT.as_bytes(), OUTPUT.as_bytes());
     trial.check(is_well);
-    trial.end();
+    trial.say(":");
 }
 
 // The line at a place of many, which puts a pair.
@@ -129,8 +129,8 @@ pub fn many_lines(trial: &mut Trial) {
         input[place * LINE..place * LINE + 10].copy_from_slice(&line);
         output[place * 4..place * 4 + 3].copy_from_slice(b"new");
     }
-    trial.begin("lines that put");
+    trial.say("lines that put");
     let is_well = answers(trial, &input, &output);
     trial.check(is_well);
-    trial.end();
+    trial.say(":");
 }

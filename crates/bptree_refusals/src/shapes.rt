@@ -1,6 +1,6 @@
 //! How the nodes of a tree stand, and what a call does to them.
 
-use crate::digest::{NUMBERS, holds_none};
+use crate::digest::{NUMBERS, Told, digest_of, holds_none};
 use sweep_bptree::tree::{BPlusTree, CloneStore, InnerNodeId, LeafNodeId, NodeStore};
 
 /// The height of a tree, the number of its nodes, and how often it was rebalanced by rotations and
@@ -49,28 +49,25 @@ fn shape_of<S: NodeStore>(tree: &BPlusTree<S>) -> Shape {
     }
 }
 
-/// What is told of the nodes of a tree, where it is.
+/// What is told of a subject.
 #[derive(Clone, Copy)]
-pub struct Nodes {
-    /// Whether its store holds no number but theirs.
+pub struct State {
+    /// The whole of it as one number, and how many pairs or keys it has.
+    pub told: (u64, usize),
+    /// Whether the stores of its trees hold no number but those of their nodes, as far as they were
+    /// looked at.
     pub is_tidy: bool,
+    /// How the nodes of its tree stand, where it was looked at.
     pub shape: Option<Shape>,
 }
 
-impl Nodes {
-    /// Of no tree.
-    pub fn untold() -> Nodes {
-        Nodes {
+impl State {
+    /// Of one whose nodes are not looked at.
+    pub fn of(digest: u64, len: usize) -> State {
+        State {
+            told: (digest, len),
             is_tidy: true,
             shape: None,
-        }
-    }
-
-    /// Of this tree, which is tidy only where another one is, too.
-    pub fn beside(self, other: Nodes) -> Nodes {
-        Nodes {
-            is_tidy: self.is_tidy && other.is_tidy,
-            shape: self.shape,
         }
     }
 }
@@ -86,15 +83,19 @@ where
     }
 }
 
-/// The nodes of a tree.
-pub fn nodes_of<S: CloneStore>(tree: &BPlusTree<S>) -> Nodes
+/// What is told of a tree, with its nodes where they are looked at.
+pub fn state_of<S: CloneStore>(tree: &BPlusTree<S>, looks: bool) -> State
 where
-    S::V: Clone,
+    S::K: Told,
+    S::V: Told + Clone,
+    S::Argument: Told,
 {
-    Nodes {
-        is_tidy: is_tidy(tree.node_store()),
-        shape: Some(shape_of(tree)),
+    let mut state = State::of(digest_of(tree), tree.len());
+    if looks {
+        state.is_tidy = is_tidy(tree.node_store());
+        state.shape = Some(shape_of(tree));
     }
+    state
 }
 
 /// A call that was refused, and then was made again: how the nodes stood before and behind it.

@@ -1,9 +1,9 @@
 //! Maps of three heights that are asked for summaries and lengths of their parts.
 
-use crate::collections::map_of;
-use crate::plans::Call;
-use crate::sample::{Group, Sample};
-use crate::shapes::Nodes;
+use crate::collections::{map_of, map_state};
+use crate::plans::{Call, Plan};
+use crate::sample::{Group, Order, Sample};
+use crate::shapes::State;
 use crate::trial::Subject;
 use std::alloc::{AllocError, Global};
 use sweep_bptree::BPlusTreeMap;
@@ -23,9 +23,9 @@ struct Heights<K: Sample, A: Argument<K>> {
 impl<K: Sample, A: Argument<K>> Heights<K, A> {
     fn made(alloc: Global, many: u64) -> Result<Heights<K, A>, AllocError> {
         Ok(Heights {
-            low: map_of(alloc, 40, true)?,
-            middle: map_of(alloc, 400, true)?,
-            high: map_of(alloc, many, true)?,
+            low: map_of(alloc, 40, Order::Ascending)?,
+            middle: map_of(alloc, 400, Order::Ascending)?,
+            high: map_of(alloc, many, Order::Ascending)?,
         })
     }
 
@@ -73,15 +73,17 @@ fn groups_between<K: Sample, G: Group<K>>(
     lo: Option<u64>,
     hi: Option<u64>,
 ) -> Result<usize, AllocError> {
-    let lo = match lo {
-        Some(number) => Some(K::sample(alloc, number)?),
-        None => None,
-    };
-    let hi = match hi {
-        Some(number) => Some(K::sample(alloc, number)?),
-        None => None,
-    };
+    let lo = bound_of::<K>(alloc, lo)?;
+    let hi = bound_of(alloc, hi)?;
     Ok(map.range_argument(lo.as_ref(), hi.as_ref())?.group_count())
+}
+
+// The key of a number, where there is one.
+fn bound_of<K: Sample>(alloc: Global, number: Option<u64>) -> Result<Option<K>, AllocError> {
+    match number {
+        Some(number) => Ok(Some(K::sample(alloc, number)?)),
+        None => Ok(None),
+    }
 }
 
 // The groups from a place in the first one up to a place in the last one.
@@ -95,8 +97,8 @@ fn groups_of_part<K: Sample, G: Group<K>>(
 }
 
 impl<K: Sample, G: Group<K>> Subject for Summed<K, G> {
-    fn made(alloc: Global, many: u64) -> Result<Summed<K, G>, AllocError> {
-        Ok(Summed(Heights::made(alloc, many)?))
+    fn made(alloc: Global, plan: &Plan) -> Result<Summed<K, G>, AllocError> {
+        Ok(Summed(Heights::made(alloc, plan.many)?))
     }
 
     fn answers(&mut self, alloc: Global, call: Call) -> Result<bool, AllocError> {
@@ -104,89 +106,72 @@ impl<K: Sample, G: Group<K>> Subject for Summed<K, G> {
             return Ok(false);
         };
         let map = self.0.of(turn);
-        let count = match turn / 3 {
-            0 => groups_between(alloc, map, None, None)?,
-            1 => groups_between(alloc, map, Some(20), None)?,
-            2 => groups_between(alloc, map, None, Some(399))?,
-            3 => groups_between(alloc, map, Some(150), Some(200))?,
-            4 => groups_between(alloc, map, Some(20), Some(4900))?,
-            5 => groups_between(alloc, map, Some(200), Some(150))?,
-            _ => groups_of_part(alloc, map)?,
+        let (lo, hi) = match turn / 3 {
+            0 => (None, None),
+            1 => (Some(20), None),
+            2 => (None, Some(399)),
+            3 => (Some(150), Some(200)),
+            4 => (Some(20), Some(4900)),
+            _ => (Some(200), Some(150)),
         };
-        Ok(self.0.are_three() && is_wanted(&GROUPS, turn, count))
+        let count = if turn < 18 {
+            groups_between(alloc, map, lo, hi)
+        } else {
+            groups_of_part(alloc, map)
+        };
+        Ok(is_wanted(&GROUPS, turn, count?) && self.0.are_three())
     }
 
-    fn told(&self) -> (u64, usize) {
-        self.0.high.told()
-    }
-
-    fn nodes(&self) -> Nodes {
-        Nodes::untold()
+    fn state(&self, _looks: bool) -> State {
+        map_state(&self.0.high, false)
     }
 }
 
 /// Maps of 40, 400 and so many pairs, that are asked how many keys a part has.
 #[derive(Drop)]
-pub struct Counted<K: Sample>(Heights<K, Count>);
+pub struct Counted(Heights<u64, Count>);
 
-// The pairs from one key up to another one.
-fn pairs_between<'a, K: Sample>(
-    map: &'a BPlusTreeMap<K, u64, Count>,
-    lo: Option<&'a K>,
-    hi: Option<&'a K>,
-) -> usize {
-    map.range_len(lo, hi)
+// The pairs of a part, from one key up to another one.
+fn pairs_of_part(map: &BPlusTreeMap<u64, u64, Count>, part: u64) -> usize {
+    let (lo, hi) = match part {
+        0 => (None, None),
+        1 => (Some(20), None),
+        2 => (None, Some(20)),
+        3 => (Some(20), Some(4900)),
+        _ => (Some(4900), Some(20)),
+    };
+    map.range_len(lo.as_ref(), hi.as_ref())
 }
 
-// What is asked in a turn, with two keys.
-fn counted_in<'a, K: Sample>(
-    map: &'a BPlusTreeMap<K, u64, Count>,
-    turn: u64,
-    lo: &'a K,
-    hi: &'a K,
-) -> Result<usize, AllocError> {
+// What is asked in a turn.
+fn counted_in(map: &BPlusTreeMap<u64, u64, Count>, turn: u64) -> Result<usize, AllocError> {
     match turn / 3 {
-        0 => Ok(pairs_between(map, None, None)),
-        1 => Ok(pairs_between(map, Some(lo), None)),
-        2 => Ok(pairs_between(map, None, Some(lo))),
-        3 => Ok(pairs_between(map, Some(lo), Some(hi))),
-        4 => Ok(pairs_between(map, Some(hi), Some(lo))),
         5 => pairs_of_page(map),
         6 => Ok(pages(map, 20)),
-        _ => page_of_key(map, lo),
+        7 => Ok(page_of(map, &20, 20)?.unwrap_or(usize::MAX)),
+        part => Ok(pairs_of_part(map, part)),
     }
 }
 
 // How many pairs the fourth page of 20 has.
-fn pairs_of_page<K: Sample>(map: &BPlusTreeMap<K, u64, Count>) -> Result<usize, AllocError> {
+fn pairs_of_page(map: &BPlusTreeMap<u64, u64, Count>) -> Result<usize, AllocError> {
     Ok(page(map, 3, 20)?.len())
 }
 
-// The page of 20 on which a key stands.
-fn page_of_key<K: Sample>(map: &BPlusTreeMap<K, u64, Count>, key: &K) -> Result<usize, AllocError> {
-    Ok(page_of(map, key, 20)?.unwrap_or(usize::MAX))
-}
-
-impl<K: Sample> Subject for Counted<K> {
-    fn made(alloc: Global, many: u64) -> Result<Counted<K>, AllocError> {
-        Ok(Counted(Heights::made(alloc, many)?))
+impl Subject for Counted {
+    fn made(alloc: Global, plan: &Plan) -> Result<Counted, AllocError> {
+        Ok(Counted(Heights::made(alloc, plan.many)?))
     }
 
-    fn answers(&mut self, alloc: Global, call: Call) -> Result<bool, AllocError> {
+    fn answers(&mut self, _alloc: Global, call: Call) -> Result<bool, AllocError> {
         let Call::Own(turn) = call else {
             return Ok(false);
         };
-        let lo = K::sample(alloc, 20)?;
-        let hi = K::sample(alloc, 4900)?;
-        let count = counted_in(self.0.of(turn), turn, &lo, &hi)?;
+        let count = counted_in(self.0.of(turn), turn)?;
         Ok(self.0.are_three() && is_wanted(&KEYS, turn, count))
     }
 
-    fn told(&self) -> (u64, usize) {
-        self.0.high.told()
-    }
-
-    fn nodes(&self) -> Nodes {
-        Nodes::untold()
+    fn state(&self, _looks: bool) -> State {
+        map_state(&self.0.high, false)
     }
 }

@@ -1,10 +1,10 @@
 //! Trees that are loaded, changed and walked.
 
 use crate::digest::{Digest, Told, digest_of, holds_none, told_store, word_of};
-use crate::plans::Call;
-use crate::sample::{Sample, pairs_of};
-use crate::shapes::{Nodes, nodes_of};
-use crate::trial::Subject;
+use crate::plans::{Call, Plan};
+use crate::sample::{Order, Sample, pairs_of};
+use crate::shapes::{State, state_of};
+use crate::trial::{Subject, refusal};
 use std::alloc::{AllocError, Global};
 use sweep_bptree::script::End;
 use sweep_bptree::tree::{
@@ -19,14 +19,19 @@ pub fn is_put<K: Sample>(
 ) -> Result<bool, AllocError> {
     match answer {
         Ok(found) => Ok(found == old),
-        Err(InsertError::OutOfMemory(key, back)) => {
-            if is_sample(&key, number) && back == value {
-                Err(AllocError)
-            } else {
-                Ok(false)
-            }
-        }
-        Err(InsertError::Full(_key, _value)) => Ok(false),
+        Err(back) => is_handed_back(back, number, value),
+    }
+}
+
+/// What is to be answered where an insertion was refused. It hands the pair back.
+pub fn is_handed_back<K: Sample>(
+    back: InsertError<K, u64>,
+    number: u64,
+    value: u64,
+) -> Result<bool, AllocError> {
+    match back {
+        InsertError::OutOfMemory(key, it) => refusal(it == value && is_sample(&key, number)),
+        InsertError::Full(_key, _value) => Ok(false),
     }
 }
 
@@ -37,12 +42,28 @@ pub fn is_sample<K: Sample>(key: &K, number: u64) -> bool {
     word_of(key) == digest.value()
 }
 
-// Whether a pair that has left is that of a number, where it had that value, with its key as it was
-// put; or none has left.
-fn is_entry<K: Sample>(gone: Option<(K, u64)>, number: u64, old: Option<u64>) -> bool {
+/// Whether a pair that has left is that of a number, where it had that value, with its key as it
+/// was put; or none has left.
+pub fn is_entry<K: Sample>(
+    gone: Result<Option<(K, u64)>, AllocError>,
+    number: u64,
+    old: Option<u64>,
+) -> Result<bool, AllocError> {
     match gone {
-        Some((key, value)) => is_sample(&key, number) && old == Some(value),
-        None => old.is_none(),
+        Ok(Some((key, value))) => Ok(is_sample(&key, number) && old == Some(value)),
+        Ok(None) => Ok(old.is_none()),
+        Err(_) => Err(AllocError),
+    }
+}
+
+/// Whether a value that has left is that one, or none has left.
+pub fn is_value(
+    gone: Result<Option<u64>, AllocError>,
+    old: Option<u64>,
+) -> Result<bool, AllocError> {
+    match gone {
+        Ok(gone) => Ok(gone == old),
+        Err(_) => Err(AllocError),
     }
 }
 
@@ -60,45 +81,62 @@ where
 // The pair of a number leaves: by its key, by its key with the key that was stored, or from the
 // end, in turn.
 fn leaves<S: NodeStore<V = u64>>(
+    alloc: Global,
     tree: &mut BPlusTree<S>,
-    key: &S::K,
     number: u64,
     old: Option<u64>,
 ) -> Result<bool, AllocError>
 where
     S::K: Sample,
 {
-    match number % 3 {
-        0 => Ok(tree.remove(key)? == old),
-        1 if is_last(tree, number) => Ok(is_entry(tree.pop_last()?, number, old)),
-        _ => Ok(is_entry(tree.remove_entry(key)?, number, old)),
+    let key = S::K::sample(alloc, number)?;
+    if number % 3 == 0 {
+        return is_value(tree.remove(&key), old);
     }
+    let gone = if number % 3 == 1 && is_last(tree, number) {
+        tree.pop_last()
+    } else {
+        tree.remove_entry(&key)
+    };
+    is_entry(gone, number, old)
 }
 
-// How many keys there are on a cursor's way from one end to the other.
-fn steps<S: NodeStore>(tree: &BPlusTree<S>, from: End) -> Result<usize, AllocError> {
+// Whether a cursor's way from one end to the other has as many keys as the tree.
+fn goes_over<S: NodeStore>(tree: &BPlusTree<S>, from: End) -> Result<bool, AllocError> {
     let mut count: usize = 0;
-    let mut cursor = match from {
-        End::Front => tree.cursor_first()?,
-        End::Back => last_of(tree)?,
-    };
+    let mut cursor = end_of(tree, from)?;
     for _turn in 0..tree.len() {
         let Some(here) = &cursor else { break };
         count = count.saturating_add(1);
-        let copy = here.clone()?;
-        cursor = match from {
-            End::Front => copy.next(tree)?,
-            End::Back => copy.prev(tree)?,
-        };
+        cursor = step(tree, here, from)?;
     }
-    Ok(if cursor.is_none() { count } else { 0 })
+    Ok(cursor.is_none() && count == tree.len())
 }
 
-/// A cursor on the last key.
-pub fn last_of<S: NodeStore>(tree: &BPlusTree<S>) -> Result<Option<Cursor<S::K>>, AllocError> {
-    match Cursor::last(tree)? {
-        Some((cursor, _)) => Ok(Some(cursor)),
-        None => Ok(None),
+// A cursor on the next key, away from an end.
+fn step<S: NodeStore>(
+    tree: &BPlusTree<S>,
+    here: &Cursor<S::K>,
+    from: End,
+) -> Result<Option<Cursor<S::K>>, AllocError> {
+    let copy = here.clone()?;
+    match from {
+        End::Front => copy.next(tree),
+        End::Back => copy.prev(tree),
+    }
+}
+
+/// A cursor on the key at an end.
+pub fn end_of<S: NodeStore>(
+    tree: &BPlusTree<S>,
+    end: End,
+) -> Result<Option<Cursor<S::K>>, AllocError> {
+    match end {
+        End::Front => tree.cursor_first(),
+        End::Back => match Cursor::last(tree)? {
+            Some((cursor, _)) => Ok(Some(cursor)),
+            None => Ok(None),
+        },
     }
 }
 
@@ -118,13 +156,38 @@ where
     S::Argument: CloneArgument<S::K> + Told,
 {
     match turn {
-        0 => Ok(steps(tree, End::Front)? == tree.len()),
-        1 => Ok(steps(tree, End::Back)? == tree.len()),
-        2 => Ok(digest_of(&tree.clone()?) == digest_of(tree)),
-        _ => {
-            let store = tree.node_store().clone()?;
-            Ok(told_store(&store) == told_store(tree.node_store()) && holds_none(store))
-        }
+        0 => goes_over(tree, End::Front),
+        1 => goes_over(tree, End::Back),
+        2 => match tree.clone() {
+            Ok(copy) => Ok(digest_of(&copy) == digest_of(tree)),
+            Err(_) => Err(AllocError),
+        },
+        _ => match tree.node_store().clone() {
+            Ok(store) => Ok(
+                told_store(&store) == told_store(tree.node_store()) && holds_none(store),
+            ),
+            Err(_) => Err(AllocError),
+        },
+    }
+}
+
+/// A tree that is loaded of so many pairs, which come in the order of their keys.
+pub fn tree_of<S: NodeStore<V = u64>>(
+    alloc: Global,
+    many: u64,
+    order: Order,
+) -> Result<BPlusTree<S>, AllocError>
+where
+    S::K: Sample,
+{
+    if many == 0 {
+        return BPlusTree::new(S::empty(alloc));
+    }
+    let pairs = pairs_of(alloc, 0, many, order)?;
+    if in_load_order(&pairs) {
+        BPlusTree::bulk_load(pairs)
+    } else {
+        Err(AllocError)
     }
 }
 
@@ -133,16 +196,8 @@ where
     S::K: Sample,
     S::Argument: CloneArgument<S::K> + Told,
 {
-    fn made(alloc: Global, many: u64) -> Result<BPlusTree<S>, AllocError> {
-        if many == 0 {
-            return BPlusTree::new(S::empty(alloc));
-        }
-        let pairs = pairs_of(alloc, many, true)?;
-        if in_load_order(&pairs) {
-            BPlusTree::bulk_load(pairs)
-        } else {
-            Err(AllocError)
-        }
+    fn made(alloc: Global, plan: &Plan) -> Result<BPlusTree<S>, AllocError> {
+        tree_of(alloc, plan.many, Order::Ascending)
     }
 
     fn answers(&mut self, alloc: Global, call: Call) -> Result<bool, AllocError> {
@@ -151,31 +206,20 @@ where
                 let key = S::K::sample(alloc, number)?;
                 is_put(self.insert(key, value), (number, value), old)
             }
-            Call::Remove(number, old) => {
-                let key = S::K::sample(alloc, number)?;
-                leaves(self, &key, number, old)
-            }
-            Call::Lower(number) => {
-                if self.height() < 2 {
-                    return Ok(true);
-                }
-                let key = S::K::sample(alloc, number)?;
-                leaves(self, &key, number, Some(number))
-            }
-            Call::Clear => {
-                self.clear()?;
-                Ok(self.is_empty())
-            }
+            Call::Remove(number, old) => leaves(alloc, self, number, old),
+            Call::Lower(_) if self.height() < 2 => Ok(true),
+            Call::Lower(number) => leaves(alloc, self, number, Some(number)),
+            Call::Clear => match self.clear() {
+                Ok(()) => Ok(self.is_empty()),
+                Err(_) => Err(AllocError),
+            },
             Call::Height(height) => Ok(self.height() == height && has_summary(self)),
             Call::Own(turn) => is_gone_over(self, turn),
+            Call::Bounds(_) => Ok(false),
         }
     }
 
-    fn told(&self) -> (u64, usize) {
-        (digest_of(self), self.len())
-    }
-
-    fn nodes(&self) -> Nodes {
-        nodes_of(self)
+    fn state(&self, looks: bool) -> State {
+        state_of(self, looks)
     }
 }

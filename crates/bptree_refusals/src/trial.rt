@@ -1,22 +1,19 @@
 //! Scenarios: something is made and called, and what is refused is made or called again.
 
 use crate::plans::{Call, Plan, TURNS};
-use crate::shapes::{Nodes, Seen};
+use crate::shapes::{Seen, Shape, State};
 use std::alloc::{AllocError, Global};
 
 /// What a scenario is about.
 pub trait Subject: Drop + Sized {
-    /// One with so many pairs or keys.
-    fn made(alloc: Global, many: u64) -> Result<Self, AllocError>;
+    /// One that a plan begins with.
+    fn made(alloc: Global, plan: &Plan) -> Result<Self, AllocError>;
 
     /// Whether a call is answered as it is to be. An error stands for a refusal.
     fn answers(&mut self, alloc: Global, call: Call) -> Result<bool, AllocError>;
 
-    /// The whole of it as one number, and how many pairs or keys it has.
-    fn told(&self) -> (u64, usize);
-
-    /// How the nodes of its tree stand, where it has one that is told of.
-    fn nodes(&self) -> Nodes;
+    /// What is told of it. Only where its nodes are looked at, too, that takes memory.
+    fn state(&self, looks: bool) -> State;
 }
 
 /// How a scenario went.
@@ -54,17 +51,11 @@ impl<'a> Trial<'a> {
         self.is_well = self.is_well && is_well;
     }
 
-    /// Prints the name of a scenario. The first line that is written is the sign from which on
-    /// requests are refused: so what a scenario makes ready before it is never refused.
-    pub fn begin(&mut self, name: &str) {
-        let is_said = print!(self.rt; "{name}").is_ok();
-        self.check(is_said);
-    }
-
-    /// Prints a colon. The second line that is written is the sign from which on nothing is
-    /// refused.
-    pub fn end(&mut self) {
-        let is_said = print!(self.rt; ":").is_ok();
+    /// Prints the name of a scenario, and later a colon. The first line that is written is the
+    /// sign from which on requests are refused: so what a scenario makes ready before it is never
+    /// refused. From the second one on nothing is refused.
+    pub fn say(&mut self, text: &str) {
+        let is_said = print!(self.rt; "{text}").is_ok();
         self.check(is_said);
     }
 
@@ -87,12 +78,12 @@ impl<'a> Trial<'a> {
         is_said.is_ok() && self.is_well
     }
 
-    fn make<T: Subject>(&mut self, many: u64) -> Result<T, AllocError> {
-        match T::made(self.allocator(), many) {
+    fn make<T: Subject>(&mut self, plan: &Plan) -> Result<T, AllocError> {
+        match T::made(self.allocator(), plan) {
             Ok(subject) => Ok(subject),
             Err(_) => {
                 self.count();
-                T::made(self.allocator(), many)
+                T::made(self.allocator(), plan)
             }
         }
     }
@@ -105,18 +96,23 @@ impl<'a> Trial<'a> {
             Err(_) => {
                 self.count();
                 let before = told_before::<T>(self.allocator(), plan, turn);
-                let is_kept = Ok(subject.told()) == before && subject.nodes().is_tidy;
-                is_kept && self.call_again(subject, call)
+                let state = subject.state(true);
+                let is_kept = Ok(state.told) == before && state.is_tidy;
+                is_kept && self.call_again(subject, call, state.shape)
             }
         };
         self.check(is_well);
     }
 
     // Whether a call that was refused is answered as it is to be when it is made again.
-    fn call_again<T: Subject>(&mut self, subject: &mut T, call: Call) -> bool {
-        let before = subject.nodes().shape;
+    fn call_again<T: Subject>(
+        &mut self,
+        subject: &mut T,
+        call: Call,
+        before: Option<Shape>,
+    ) -> bool {
         let is_well = subject.answers(self.allocator(), call) == Ok(true);
-        if let (Some(before), Some(after)) = (before, subject.nodes().shape) {
+        if let (Some(before), Some(after)) = (before, subject.state(true).shape) {
             self.seen = Some(Seen { before, after });
         }
         is_well
@@ -124,12 +120,13 @@ impl<'a> Trial<'a> {
 
     // Looks at what a scenario ends with. One that is replied to ends as where nothing is refused.
     fn close<T: Subject>(&mut self, subject: &T, plan: &Plan) {
-        let (told, len) = subject.told();
+        let state = subject.state(true);
+        let (_, len) = state.told;
         let is_long = plan.least <= len && len <= plan.most;
-        self.check(is_long && subject.nodes().is_tidy);
+        self.check(is_long && state.is_tidy);
         if plan.is_replied() {
             let wanted = told_before::<T>(self.allocator(), plan, TURNS);
-            self.check(Ok((told, len)) == wanted);
+            self.check(Ok(state.told) == wanted);
         }
     }
 
@@ -138,27 +135,27 @@ impl<'a> Trial<'a> {
     pub fn carry_out<T: Subject>(&mut self, plan: &Plan) {
         let name = plan.name;
         if plan.begins.is_none() {
-            self.begin(name);
+            self.say(name);
         }
-        let Ok(mut subject) = self.make::<T>(plan.many) else {
+        let Ok(mut subject) = self.make::<T>(plan) else {
             self.check(false);
             return;
         };
-        let made = subject.told();
+        let made = subject.state(false).told;
         for turn in 0..TURNS {
             if plan.begins == Some(turn) {
-                self.begin(name);
+                self.say(name);
             }
             let Some(call) = plan.call_at(turn) else {
                 break;
             };
             self.call(&mut subject, plan, turn, call);
         }
-        self.end();
+        self.say(":");
         self.close(&subject, plan);
         if plan.begins.is_none() {
-            let is_same = match T::made(self.allocator(), plan.many) {
-                Ok(again) => again.told() == made,
+            let is_same = match T::made(self.allocator(), plan) {
+                Ok(again) => again.state(false).told == made,
                 Err(_) => false,
             };
             self.check(is_same);
@@ -172,11 +169,16 @@ fn told_before<T: Subject>(
     plan: &Plan,
     end: u64,
 ) -> Result<(u64, usize), AllocError> {
-    let mut subject = T::made(alloc, plan.many)?;
+    let mut subject = T::made(alloc, plan)?;
     for turn in 0..end {
         if let Some(call) = plan.call_at(turn) {
             subject.answers(alloc, call)?;
         }
     }
-    Ok(subject.told())
+    Ok(subject.state(false).told)
+}
+
+/// What stands for a call that was refused: an error where all is as it is to be then.
+pub fn refusal(is_well: bool) -> Result<bool, AllocError> {
+    if is_well { Err(AllocError) } else { Ok(false) }
 }
