@@ -4,7 +4,6 @@ pub mod Equal
 pub mod Found
 pub mod Laws
 pub mod Locating
-pub mod Narrowing
 pub mod Neighbours
 pub mod Parted
 pub mod PieceLemmas

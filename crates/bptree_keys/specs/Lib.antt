@@ -7,4 +7,3 @@ pub mod Numbers
 pub mod Pieces
 pub mod Places
 pub mod Ranges
-pub mod Windows

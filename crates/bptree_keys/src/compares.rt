@@ -1,9 +1,8 @@
 //! Comparisons of keys, counted.
-ghost use Rattle.std.specs.Prelude.{◌≡◌, ◌+◌, ◌-◌, ◌<◌, ◌≤◌, min, length, IfOk, IsTrue, false};
+ghost use Rattle.std.specs.Prelude.{◌≡◌, ◌+◌, ◌≤◌, min, length, IfOk};
 ghost use Rattle.std.specs.List.{HoldsAt};
 ghost use Rattle.std.specs.List.Sorted.{IsBinarySearchResult, IsSearchInRange, IsStrictlySortedBy};
 ghost use Rattle.bptree_keys.specs.Locate.{locate, CountsUpTo};
-ghost use Rattle.bptree_keys.specs.Windows.{Asked, IsWindow};
 
 use std::cmp::Ordering;
 use std::marker::Model;
@@ -116,94 +115,9 @@ fn search_by_branches<K: Ord>(keys: &[K], key: &K, compares: &mut Compares) -> R
     }
 }
 
-// Whether a key is below the one that is sought, and whether it equals it.
-#[derive(Drop)]
-struct Said {
-    lower: bool,
-    equal: bool,
-}
-
-// The place that is sought is `base` or one of those behind it, as many as the window is wide. An
-// equal key that was seen stands right before `after`, which is 0 where none was.
-#[derive(Drop)]
-struct Window {
-    base: usize,
-    after: usize,
-}
-
-// Compares the key at `at`. Behind the last one it makes no comparison.
+/// The place of `key` among ascending `keys`, or how many are smaller.
 #[inline]
-fn ask<K: Ord>(keys: &[K], at: usize, key: &K, compares: &mut Compares) -> Said
-    ensures asked { Asked (λ y. K.cmp y key.now) keys.now at result.lower result.equal }
-    ensures counts_on { compares.old ≤ compares.new }
-    ensures count { compares.new ≤ compares.old + 1 }
-{
-    if at < keys.len() {
-        let ordering = compares.compare(&keys[at], key);
-        Said {
-            lower: ordering.is_lt(),
-            equal: ordering.is_eq(),
-        }
-    } else {
-        Said {
-            lower: false,
-            equal: false,
-        }
-    }
-}
-
-// Narrows a window to one half, by what its key before `base + half` said. It has no branch.
-#[inline]
-fn narrow<K: Ord>(keys: &[K], key: &K, half: usize, said: Said, window: Window) -> Window
-    requires few { length keys.now < 64 }
-    requires wide { 0 < half }
-    requires halves { half ≤ 32 }
-    requires asked { Asked (λ y. K.cmp y key.now) keys.now (window.base + half - 1) said.lower said.equal }
-    requires is { IsWindow (λ y. K.cmp y key.now) keys.now window.base (half + half) window.after }
-    ensures is { IsWindow (λ y. K.cmp y key.now) keys.now result.base half result.after }
-    ensures past { IsTrue said.lower → result.base ≡ window.base + half }
-    ensures stays { said.lower ≡ false → result.base ≡ window.base }
-{
-    let after = window
-        .after
-        .max(usize::from(said.equal) * (window.base + half));
-    let base = window.base + usize::from(said.lower) * half;
-    Window { base, after }
-}
-
-/// Finds `key` in ascending `keys`, or the place where it belongs. The first three comparisons do
-/// not wait for each other, so the memory of their keys can be fetched at once.
-#[inline]
-fn search_by_quarters<K: Ord>(keys: &[K], key: &K, compares: &mut Compares) -> Result<usize, usize>
-    requires { length keys.now < 64 }
-    ensures in_range { IsSearchInRange result (length keys.now) }
-    ensures position { IsBinarySearchResult (λ y. K.cmp y key.now) keys.now result }
-    ensures counts_on { compares.old ≤ compares.new }
-    ensures count { compares.new ≤ compares.old + 7 }
-{
-    let middle = ask(keys, 31, key, compares);
-    let low = ask(keys, 15, key, compares);
-    let high = ask(keys, 47, key, compares);
-    let said = if middle.lower { high } else { low };
-    let half = narrow(keys, key, 32, middle, Window { base: 0, after: 0 });
-    let mut window = narrow(keys, key, 16, said, half);
-    let mut width = 16usize;
-    'halves: while width > 1 {
-        let half = width / 2;
-        let said = ask(keys, window.base + half - 1, key, compares);
-        window = narrow(keys, key, half, said, window);
-        width -= half;
-    }
-    if window.after > 0 {
-        Ok(window.after - 1)
-    } else {
-        Err(window.base)
-    }
-}
-
-/// The same by one of the two searches above, as the size of a key asks for.
-#[inline]
-fn locate_by_halves<K: Ord>(keys: &[K], key: &K, compares: &mut Compares) -> Result<usize, usize>
+pub fn locate_counted<K: Ord>(keys: &[K], key: &K, compares: &mut Compares) -> Result<usize, usize>
     requires { length keys.now ≤ 64 }
     ensures in_range { IsSearchInRange result (length keys.now) }
     ensures found { IfOk result (HoldsAt (λ y. K.cmp y key.now ≡ Ordering.Equal) keys.now) }
@@ -217,25 +131,7 @@ fn locate_by_halves<K: Ord>(keys: &[K], key: &K, compares: &mut Compares) -> Res
     search(keys, key, compares)
 }
 
-/// The place of `key` among ascending `keys`, or how many are smaller. Fewer than 64 short keys are
-/// searched by quarters: most leaves have that few.
-#[inline]
-pub fn locate_counted<K: Ord>(keys: &[K], key: &K, compares: &mut Compares) -> Result<usize, usize>
-    requires { length keys.now ≤ 64 }
-    ensures in_range { IsSearchInRange result (length keys.now) }
-    ensures found { IfOk result (HoldsAt (λ y. K.cmp y key.now ≡ Ordering.Equal) keys.now) }
-    ensures ascending { IsStrictlySortedBy K.cmp keys.now → result ≡ locate K.cmp keys.now key.now }
-    ensures counts_on { compares.old ≤ compares.new }
-    ensures count { compares.new ≤ compares.old + 7 }
-{
-    if size_of_val(key) > LONG || keys.len() == 64 {
-        return locate_by_halves(keys, key, compares);
-    }
-    search_by_quarters(keys, key, compares)
-}
-
-/// How many of ascending `keys` are not greater than `key`. It searches by halves: the keys of inner
-/// nodes are mostly at hand.
+/// How many of ascending `keys` are not greater than `key`.
 #[inline]
 pub fn count_upto_counted<K: Ord>(keys: &[K], key: &K, compares: &mut Compares) -> usize
     requires { length keys.now ≤ 64 }
@@ -244,7 +140,7 @@ pub fn count_upto_counted<K: Ord>(keys: &[K], key: &K, compares: &mut Compares) 
     ensures counts_on { compares.old ≤ compares.new }
     ensures count { compares.new ≤ compares.old + 7 }
 {
-    match locate_by_halves(keys, key, compares) {
+    match locate_counted(keys, key, compares) {
         Ok(slot) => slot + 1,
         Err(slot) => slot,
     }
