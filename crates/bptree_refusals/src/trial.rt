@@ -12,7 +12,7 @@ pub trait Subject: Drop + Sized {
     /// Whether a call is answered as it is to be. An error stands for a refusal.
     fn answers(&mut self, alloc: Global, call: Call) -> Result<bool, AllocError>;
 
-    /// What is told of it. Only where its nodes are looked at, too, that takes memory.
+    /// What is told of it. Where `looks` is true its nodes are looked at, too, which takes memory.
     fn state(&self, looks: bool) -> State;
 }
 
@@ -178,7 +178,7 @@ fn told_before<T: Subject>(
     Ok(subject.state(false).told)
 }
 
-/// What stands for a call that was refused: an error where all is as it is to be then.
+/// What stands for a call that was refused: an error where it left all as it is to be, else false.
 pub fn refusal(is_well: bool) -> Result<bool, AllocError> {
     if is_well { Err(AllocError) } else { Ok(false) }
 }
