@@ -188,7 +188,7 @@ pub extern "C" fn bptree_bytes_remove(alloc: Global, set: &mut ByteHandle, key: 
     ghost keys: { List (List ℕ) }
     requires open { set.old.held ≡ Some keys }
     ensures codes { result ≤ 2 }
-    ensures absent { result ≡ 0 →
+    ensures none { result ≡ 0 →
         (holds by_bytes keys key.now ≡ false) × (set.new.held ≡ Some keys) }
     ensures removed { result ≡ 1 →
         IsHeldWithout keys key.now true set.new.held }

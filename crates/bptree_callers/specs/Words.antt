@@ -1,20 +1,41 @@
 -- What callers say of lists, trees and what a call told.
-use Rattle.std.specs.Prelude.{◌≡◌, ◌<◌, ◌||◌, ℕ, false, List, [], ◌∷◌, ◌++◌, Option, Some, None, length, slice_get}
+use Rattle.std.specs.Prelude.{◌≡◌, ◌<◌, ◌||◌, ℕ, Bool, true, false, List, [], ◌∷◌, ◌++◌, Option, Some, None, Result, IfOk, IfSome, length, slice_get}
 use Rattle.std.specs.Borrow.{Bor}
 use Rattle.std.specs.declared.cmp.Ordering.{Ordering}
 use Rattle.std.specs.Map.{keys_of}
 use Rattle.std.specs.Map.Iter.{deref_pair}
-use Rattle.std.specs.Option.{option_map}
+use Rattle.std.specs.Option.{option_map, IsSomeAnd}
 use Rattle.bptree_ascent.specs.NodeTree.{NodeTree}
-use Rattle.bptree_keys.specs.Contents.{has, value, put, pairs_below, pairs_above}
+use Rattle.bptree_keys.specs.Contents.{has, value, put, pairs_below, pairs_above, previous}
+use Rattle.bptree_keys.specs.Neighbours.{IsBefore}
 use Rattle.bptree_keys.specs.Ranges.{between}
 use Rattle.bptree_keys.specs.declared.node_id.NodeId.{NodeId}
 use Rattle.bptree_maps.specs.Keys.{holds, with_key}
+use Rattle.bptree_sets.specs.Union.{union}
 use Rattle.bptree_nodes.specs.Inner.{Inner}
 use Rattle.bptree_nodes.specs.Leaf.{Leaf, set_value_at}
 use Rattle.bptree_nodes.specs.Slot.{Slots, IsPresent}
 use Rattle.bptree_shape.specs.Shape.{leaf_count, inner_count, leaf_pairs}
 use Rattle.bptree_tree.specs.Whole.{HasSameNodes}
+
+-- ---- what a call answered
+
+module _ {X E : Type 0} where
+  -- if it found something, that is so
+  abbrev pub IfFound : Result (Option X) E → (X → Type 0) → Type 0
+  IfFound result P = IfOk result (λ found. IfSome found P)
+
+  -- unless it was refused it found something, and that is so
+  abbrev pub FindsOne : Result (Option X) E → (X → Type 0) → Type 0
+  FindsOne result P = IfOk result (λ found. IsSomeAnd found P)
+
+module _ {E : Type 0} where
+  -- if it answered true, or false, that is so
+  abbrev pub OnTrue : Result Bool E → Type 0 → Type 0
+  OnTrue result P = IfOk result (λ it. it ≡ true → P)
+
+  abbrev pub OnFalse : Result Bool E → Type 0 → Type 0
+  OnFalse result P = IfOk result (λ it. it ≡ false → P)
 
 -- ---- short lists
 
@@ -77,6 +98,14 @@ module _ {K V : Type 0} where
     PutsLastOfEach pairs new =
         (before after : List (K × V)) → (pair : K × V) → pairs ≡ before ++ pair ∷ after → has cmp after pair.0 ≡ false → value cmp new pair.0 ≡ Some pair.1
 
+    -- the previous of a key is the nearest below it
+    abbrev pub StepsBackTo : List (K × V) → K → Type 0
+    StepsBackTo l k = IsBefore cmp l k (previous cmp l k)
+
+    -- a key is there or not as it was
+    abbrev pub AgreesOn : List (K × V) → List (K × V) → K → Type 0
+    AgreesOn old new k = has cmp new k ≡ has cmp old k
+
     -- keys that no pair has keep their values
     abbrev pub KeepsOthers : List (K × V) → List (K × V) → List (K × V) → Type 0
     KeepsOthers pairs old new = (k : K) → has cmp pairs k ≡ false → value cmp new k ≡ value cmp old k
@@ -91,6 +120,10 @@ module _ {K : Type 0} (cmp : K → K → Ordering) where
   -- a key is held where either list holds it
   abbrev pub HoldsEither : List K → List K → List K → Type 0
   HoldsEither first second keys = (k : K) → holds cmp keys k ≡ holds cmp first k || holds cmp second k
+
+  -- the union of two sets side by side
+  abbrev pub union_of : List K × List K → List K
+  union_of sets = union cmp sets.0 sets.1
 
   -- the one key of another set was put in
   abbrev pub MovesOneKey : List K → List K → List K → List K → Type 0

@@ -6,6 +6,7 @@ ghost use Rattle.bptree_descents.specs.Neighbours.{beside, IsPlaceAt, leaf_pairs
 ghost use Rattle.bptree_shape.specs.Shape.{pairs_at, IsWellShaped, value_in};
 ghost use Rattle.bptree_nodes.specs.LeafResults.{place_of, IsPlaceInLeaf};
 
+use bptree_keys::compares::Compares;
 use bptree_keys::node_id::{LeafNodeId, NodeId};
 use bptree_nodes::leaf_node::LeafNode;
 use bptree_shape::descent::{first_leaf, last_leaf};
@@ -36,7 +37,8 @@ fn place_of<'a, S: NodeStore>(
     }
     let id = leaf_for(store, root, height, key);
     let leaf = store.get_leaf(id);
-    (id, leaf, leaf.locate_slot(key))
+    let mut compares = Compares::below(height);
+    (id, leaf, leaf.locate_slot_counted(key, &mut compares))
 }
 
 // The place of a key in a leaf, without a search where the key stands at the place that is tried

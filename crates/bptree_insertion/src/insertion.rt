@@ -11,6 +11,7 @@ use bptree_arguments::argument::Argument;
 use bptree_ascent::ascent::{ascend, ascend_split};
 use bptree_ascent::links::relink_next;
 use bptree_ascent::node_changes::Division;
+use bptree_keys::compares::Compares;
 use bptree_keys::entry_ref::VisitStack;
 use bptree_keys::key::Key;
 use bptree_keys::node_id::{InnerNodeId, LeafNodeId, NodeId};
@@ -352,7 +353,8 @@ pub fn upsert<S: NodeStore>(
     if S::Argument::is_zst() {
         store.cache_leaf(leaf);
     }
-    let found = store.get_leaf(leaf).locate_slot(&k);
+    let mut compares = Compares::below(height);
+    let found = store.get_leaf(leaf).locate_slot_counted(&k, &mut compares);
     match found {
         Ok(slot) => Ok(Put::Replaced(replace_at(store, leaf, slot, v))),
         Err(slot) => match put_new(store, path, root, leaf, slot, k, v) {

@@ -1,5 +1,5 @@
 //! Comparisons of keys, counted.
-ghost use Rattle.std.specs.Prelude.{◌≡◌, ◌+◌, ◌≤◌, min, length, IfOk};
+ghost use Rattle.std.specs.Prelude.{◌≡◌, ◌+◌, ◌<◌, ◌≤◌, min, length, IfOk};
 ghost use Rattle.std.specs.List.{HoldsAt};
 ghost use Rattle.std.specs.List.Sorted.{IsBinarySearchResult, IsSearchInRange, IsStrictlySortedBy};
 ghost use Rattle.bptree_keys.specs.Locate.{locate, CountsUpTo};
@@ -8,13 +8,28 @@ use std::cmp::Ordering;
 use std::marker::Model;
 use std::mem::size_of_val;
 
-// The most bytes of a key that is searched for without branches.
+// The most bytes of a key that likely holds all that a comparison reads.
 const LONG: usize = 16;
 
-/// How many comparisons were made. The count stops at the greatest `usize`.
+// With so many keys left a search goes on without branches: with all of a node's, where they likely
+// stand in a cache of the processor,
+const NEAR: usize = 64;
+
+// with a quarter of them, where they don't,
+const FAR: usize = 16;
+
+// and with one, where keys are long or point elsewhere.
+const ONE: usize = 1;
+
+// Below so many levels of inner nodes a leaf likely stands in no cache.
+const FAR_LEVELS: usize = 3;
+
+/// How many comparisons were made, and whether the keys of the next search are taken to stand in no
+/// cache of the processor. The count stops at the greatest `usize`.
 #[derive(Drop)]
 pub struct Compares {
     count: usize,
+    is_far: bool,
 }
 
 impl Model for Compares {
@@ -30,7 +45,25 @@ impl Compares {
     pub fn new() -> Self
         ensures { result ≡ 0 }
     {
-        Compares { count: 0 }
+        Compares::below(0)
+    }
+
+    /// No comparison yet, for a search in a leaf below so many levels of inner nodes. From three on
+    /// it begins with branches, so that it need not wait for one key to fetch the next.
+    pub fn below(levels: usize) -> Self
+        ensures { result ≡ 0 }
+    {
+        Compares {
+            count: 0,
+            is_far: levels >= FAR_LEVELS,
+        }
+    }
+
+    /// Goes on with a search in such a leaf.
+    pub fn go_below(&mut self, levels: usize)
+        ensures { self.new ≡ self.old }
+    {
+        self.is_far = levels >= FAR_LEVELS;
     }
 
     /// How many there were.
@@ -52,10 +85,18 @@ impl Compares {
 }
 
 /// Finds `key` in ascending `keys`, or the place where it belongs. The widths of the steps are
-/// fixed, and each step moves by a product, so that the compiler makes no branch on a comparison.
-#[inline]
-fn search<K: Ord>(keys: &[K], key: &K, compares: &mut Compares) -> Result<usize, usize>
-    requires { length keys.now ≤ 64 }
+/// fixed. While more keys are left than `straight`, a step branches on its comparison, so that the
+/// next key can be fetched before it is done. The other steps move by a product, so that the
+/// compiler makes no branch, which would be foreseen wrongly each second time.
+#[inline(always)]
+fn search<K: Ord>(
+    keys: &[K],
+    key: &K,
+    straight: usize,
+    compares: &mut Compares,
+) -> Result<usize, usize>
+    requires few { length keys.now ≤ 64 }
+    requires ends { 0 < straight }
     ensures in_range { IsSearchInRange result (length keys.now) }
     ensures position { IsBinarySearchResult (λ y. K.cmp y key.now) keys.now result }
     ensures counts_on { compares.old ≤ compares.new }
@@ -66,7 +107,18 @@ fn search<K: Ord>(keys: &[K], key: &K, compares: &mut Compares) -> Result<usize,
     }
     let mut base = 0usize;
     let mut width = 64usize;
-    'widths: while width > 1 {
+    'branches: while width > straight {
+        let half = width / 2;
+        if half < keys.len() - base {
+            match compares.compare(&keys[base + half], key) {
+                Ordering::Less => base += half,
+                Ordering::Equal => return Ok(base + half),
+                Ordering::Greater => {}
+            }
+        }
+        width -= half;
+    }
+    'products: while width > 1 {
         let half = width / 2;
         if half < keys.len() - base {
             let is_past = compares.compare(&keys[base + half], key).is_le();
@@ -82,36 +134,27 @@ fn search<K: Ord>(keys: &[K], key: &K, compares: &mut Compares) -> Result<usize,
     }
 }
 
-/// The same, with a branch on each comparison, so that the next key can be fetched before a
-/// comparison is done. It is for keys that are long, or whose bytes stand elsewhere, as a string's.
-#[inline]
-fn search_by_branches<K: Ord>(keys: &[K], key: &K, compares: &mut Compares) -> Result<usize, usize>
-    requires { length keys.now ≤ 64 }
+// The place of `key` among ascending `keys`, or how many are smaller. Keys that are short are
+// searched for without branches once no more are left than `straight`.
+#[inline(always)]
+fn locate_from<K: Ord>(
+    keys: &[K],
+    key: &K,
+    straight: usize,
+    compares: &mut Compares,
+) -> Result<usize, usize>
+    requires few { length keys.now ≤ 64 }
+    requires ends { 0 < straight }
     ensures in_range { IsSearchInRange result (length keys.now) }
-    ensures position { IsBinarySearchResult (λ y. K.cmp y key.now) keys.now result }
+    ensures found { IfOk result (HoldsAt (λ y. K.cmp y key.now ≡ Ordering.Equal) keys.now) }
+    ensures ascending { IsStrictlySortedBy K.cmp keys.now → result ≡ locate K.cmp keys.now key.now }
     ensures counts_on { compares.old ≤ compares.new }
     ensures count { compares.new ≤ compares.old + 7 }
 {
-    if keys.is_empty() {
-        return Err(0);
-    }
-    let mut base = 0usize;
-    let mut width = 64usize;
-    'widths: while width > 1 {
-        let half = width / 2;
-        if half < keys.len() - base {
-            match compares.compare(&keys[base + half], key) {
-                Ordering::Less => base += half,
-                Ordering::Equal => return Ok(base + half),
-                Ordering::Greater => {}
-            }
-        }
-        width -= half;
-    }
-    match compares.compare(&keys[base], key) {
-        Ordering::Less => Err(base + 1),
-        Ordering::Equal => Ok(base),
-        Ordering::Greater => Err(base),
+    if size_of_val(key) > LONG {
+        search(keys, key, ONE, compares)
+    } else {
+        search(keys, key, straight, compares)
     }
 }
 
@@ -125,10 +168,40 @@ pub fn locate_counted<K: Ord>(keys: &[K], key: &K, compares: &mut Compares) -> R
     ensures counts_on { compares.old ≤ compares.new }
     ensures count { compares.new ≤ compares.old + 7 }
 {
-    if size_of_val(key) > LONG {
-        return search_by_branches(keys, key, compares);
+    locate_from(keys, key, NEAR, compares)
+}
+
+// The same of keys that likely stand in no cache of the processor.
+#[inline(never)]
+fn locate_far<K: Ord>(keys: &[K], key: &K, compares: &mut Compares) -> Result<usize, usize>
+    requires { length keys.now ≤ 64 }
+    ensures in_range { IsSearchInRange result (length keys.now) }
+    ensures found { IfOk result (HoldsAt (λ y. K.cmp y key.now ≡ Ordering.Equal) keys.now) }
+    ensures ascending { IsStrictlySortedBy K.cmp keys.now → result ≡ locate K.cmp keys.now key.now }
+    ensures counts_on { compares.old ≤ compares.new }
+    ensures count { compares.new ≤ compares.old + 7 }
+{
+    locate_from(keys, key, FAR, compares)
+}
+
+/// The same in a leaf, below as many levels as `compares` was told.
+#[inline]
+pub fn locate_below_counted<K: Ord>(
+    keys: &[K],
+    key: &K,
+    compares: &mut Compares,
+) -> Result<usize, usize>
+    requires { length keys.now ≤ 64 }
+    ensures in_range { IsSearchInRange result (length keys.now) }
+    ensures found { IfOk result (HoldsAt (λ y. K.cmp y key.now ≡ Ordering.Equal) keys.now) }
+    ensures ascending { IsStrictlySortedBy K.cmp keys.now → result ≡ locate K.cmp keys.now key.now }
+    ensures counts_on { compares.old ≤ compares.new }
+    ensures count { compares.new ≤ compares.old + 7 }
+{
+    if compares.is_far {
+        return locate_far(keys, key, compares);
     }
-    search(keys, key, compares)
+    locate_counted(keys, key, compares)
 }
 
 /// How many of ascending `keys` are not greater than `key`.

@@ -23,6 +23,8 @@ mod number_tests;
 #[cfg(test)]
 mod samples;
 #[cfg(test)]
+mod search_tests;
+#[cfg(test)]
 mod shard_tests;
 #[cfg(test)]
 mod store_tests;

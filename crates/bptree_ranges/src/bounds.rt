@@ -8,6 +8,7 @@ ghost use Rattle.bptree_shape.specs.Shape.{pairs_at, IsWellShaped};
 use crate::ranges::{end_of_all, no_part, part_of_places};
 use bptree_descents::neighbours::slot_beside;
 use bptree_iteration::part::{Extent, Part};
+use bptree_keys::compares::Compares;
 use bptree_keys::node_id::{LeafNodeId, NodeId};
 use bptree_shape::descent::first_leaf;
 use bptree_shape::reading::leaf_for;
@@ -99,6 +100,7 @@ fn place_beside<S: NodeStore>(
     ensures before { IsPlaceBeside S.K.cmp (S.slots store.now) height root key.now behind result }
 {
     let leaf = leaf_for(store, root, height, key);
-    let place = store.get_leaf(leaf).locate_slot(key);
+    let mut compares = Compares::below(height);
+    let place = store.get_leaf(leaf).locate_slot_counted(key, &mut compares);
     (leaf, slot_beside(place, behind))
 }

@@ -13,6 +13,7 @@ use bptree_arguments::argument::{Argument, SearchArgument};
 use bptree_ascent::ascent::ascend;
 use bptree_ascent::links::relink_next;
 use bptree_descents::by_argument::find_path_by_argument;
+use bptree_keys::compares::Compares;
 use bptree_keys::entry_ref::VisitStack;
 use bptree_keys::node_id::{InnerNodeId, LeafNodeId, NodeId};
 use bptree_rebalancing::siblings::{
@@ -232,7 +233,8 @@ pub fn find_entry<S: NodeStore>(
 {
     path.clear();
     let leaf = find_path(store, root, height, k, path);
-    match store.get_leaf(leaf).locate_slot(k) {
+    let mut compares = Compares::below(height);
+    match store.get_leaf(leaf).locate_slot_counted(k, &mut compares) {
         Ok(slot) => Some((leaf, slot)),
         Err(_) => None,
     }

@@ -199,11 +199,11 @@ fn cursor_on<S: NodeStore<K = u64, V = u64, Argument = Count>>(
 fn send_next<S: NodeStore<K = u64, V = u64, Argument = Count>, W: Write>(
     out: &mut Output<W>,
     tree: &BPlusTree<S>,
-    key: u64,
+    k: u64,
 ) -> Result<(), ServeError>
-    ensures { SendsOrFails out.old out.new (found_text (next nat_cmp tree.now.contents key)) result }
+    ensures { SendsOrFails out.old out.new (found_text (next nat_cmp tree.now.contents k)) result }
 {
-    let cursor = cursor_on(tree, key);
+    let cursor = cursor_on(tree, k);
     match cursor.next_with_value(tree) {
         Ok(found) => send_beside(out, found),
         Err(_) => unreachable!(),

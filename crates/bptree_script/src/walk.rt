@@ -42,7 +42,7 @@ fn taken<S: NodeStore>(
 ) -> Result<Vec<Option<(S::K, S::V)>>, AllocError>
 where
     S::V: Copy,
-    ensures { IfOk result (λ answers. AllZip (IsCopyOf S.K.cmp) (walked word.now pairs.entry) answers.items) }
+    ensures { IfOk result (λ it. AllZip (IsCopyOf S.K.cmp) (walked word.now pairs.entry) it.items) }
 {
     let mut answers = Vec::with_capacity(alloc, word.len())?;
     let mut pairs = pairs;

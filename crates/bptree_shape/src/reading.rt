@@ -23,7 +23,8 @@ pub fn leaf_for<S: NodeStore>(store: &S, root: NodeId, height: usize, key: &S::K
     leaf_for_counted(store, root, height, key, &mut Compares::new())
 }
 
-/// The same as `leaf_for`, with its comparisons counted.
+/// The same as `leaf_for`, with its comparisons counted. Where the leaf was searched for, the next
+/// search is taken to be one in it.
 #[inline(always)]
 pub fn leaf_for_counted<S: NodeStore>(
     store: &S,
@@ -41,6 +42,7 @@ pub fn leaf_for_counted<S: NodeStore>(
         return leaf;
     }
     let leaf = find_leaf_counted(store, root, height, key, compares);
+    compares.go_below(height);
     store.cache_leaf(leaf);
     leaf
 }

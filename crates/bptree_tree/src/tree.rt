@@ -269,7 +269,12 @@ impl<S: NodeStore> BPlusTree<S> {
         ensures value { option_copied_mut result ≡ value S.K.cmp self.old.contents k.now }
     {
         let leaf = reading::leaf_for(&self.store, self.root, self.height, k);
-        match self.store.get_leaf(leaf).locate_slot(k) {
+        let mut compares = Compares::below(self.height);
+        match self
+            .store
+            .get_leaf(leaf)
+            .locate_slot_counted(k, &mut compares)
+        {
             Ok(slot) => Some(self.store.get_mut_leaf(leaf).value_at_mut(slot)),
             Err(_) => None,
         }

@@ -1,8 +1,7 @@
 //! Callers of a clone.
 ghost use Rattle.std.specs.Prelude.{◌≡◌, length, IfOk};
-ghost use Rattle.bptree_keys.specs.Contents.{has};
 ghost use Rattle.bptree_shape.specs.Shape.{IsWellShaped};
-ghost use Rattle.bptree_callers.specs.Words.{HasLeavesAsLong};
+ghost use Rattle.bptree_callers.specs.Words.{AgreesOn, HasLeavesAsLong};
 
 use bptree_arguments::argument::CloneArgument;
 use bptree_keys::node_id::NodeId;
@@ -16,7 +15,7 @@ fn has_the_same_keys<S: CloneStore>(tree: &BPlusTree<S>) -> Result<BPlusTree<S>,
 where
     S::V: Clone,
     S::Argument: CloneArgument<S::K>,
-    ensures keys { IfOk result (λ copy. (k : S.K) → has S.K.cmp copy.contents k ≡ has S.K.cmp tree.now.contents k) }
+    ensures keys { IfOk result (λ it. (k : S.K) → AgreesOn S.K.cmp tree.now.contents it.contents k) }
     ensures len { IfOk result (λ copy. length copy.contents ≡ length tree.now.contents) }
     ensures leaves { IfOk result (HasLeavesAsLong S.slots tree.now) }
 {

@@ -2,10 +2,10 @@
 ghost use Rattle.std.specs.Prelude.{◌≡◌, ◌∷◌, [], true, false, slice_get, IfOk, Ok, Some, None};
 ghost use Rattle.std.specs.Ordering.{nat_cmp};
 ghost use Rattle.std.specs.Option.{option_copied, option_map};
-ghost use Rattle.bptree_keys.specs.Contents.{has, next, previous, value as value_of, last_member};
-ghost use Rattle.bptree_keys.specs.Neighbours.{IsAfter, IsBefore};
+ghost use Rattle.bptree_keys.specs.Contents.{has, next, value as value_of, last_member};
+ghost use Rattle.bptree_keys.specs.Neighbours.{IsAfter};
 ghost use Rattle.bptree_tree.specs.Cursor.{cursor_key, pair_after, pair_before};
-ghost use Rattle.bptree_callers.specs.Words.{told_key};
+ghost use Rattle.bptree_callers.specs.Words.{StepsBackTo, told_key};
 
 use bptree_keys::contents::laws_of_neighbours;
 use bptree_keys::key::Key;
@@ -189,7 +189,7 @@ fn is_there<S: NodeStore>(cursor: &Cursor<S::K>, tree: &BPlusTree<S>) -> bool
 // smaller one.
 fn steps_to_the_nearest<S: NodeStore>(tree: &BPlusTree<S>, k: &S::K) -> usize
     ensures after { IsAfter S.K.cmp tree.now.contents k.now (next S.K.cmp tree.now.contents k.now) }
-    ensures before { IsBefore S.K.cmp tree.now.contents k.now (previous S.K.cmp tree.now.contents k.now) }
+    ensures before { StepsBackTo S.K.cmp tree.now.contents k.now }
 {
     laws_of_neighbours::<S::K, S::V>();
     tree.len()

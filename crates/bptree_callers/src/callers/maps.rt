@@ -2,7 +2,7 @@
 ghost use Rattle.std.specs.Prelude.{◌≡◌, ◌<◌, ◌≤◌, ◌-◌, ◌^◌, ◌∷◌, ◌↔◌, [], length, min, true, false, slice_get, remove, IfOk, IfErr, OnErr, OnOk, IfSome, IsTrue, Some, None, Ok};
 ghost use Rattle.std.specs.declared.cmp.Ordering.TheVariants.{Equal, Greater};
 ghost use Rattle.std.specs.Map.{keys_of, values_of};
-ghost use Rattle.std.specs.Option.{option_copied, option_map, IsSomeAnd};
+ghost use Rattle.std.specs.Option.{option_copied, option_map};
 ghost use Rattle.std.specs.Ordering.{is_lt};
 ghost use Rattle.bptree_arguments.specs.CountLaws.{count_below};
 ghost use Rattle.bptree_arguments.specs.Visits.{answered};
@@ -15,7 +15,7 @@ ghost use Rattle.bptree_tree.specs.Entries.{entry};
 ghost use Rattle.bptree_maps.specs.Gathering.{AreFewFor};
 ghost use Rattle.bptree_tree.specs.Selected.{SelectsNone};
 ghost use Rattle.std.specs.Map.Iter.{deref_pair};
-ghost use Rattle.bptree_callers.specs.Words.{IsOneOf, PopsFirstOfTwo, PopsLastOfTwo, ShowsEndsOfTwo, TakesMiddleOfThree, WritesSome, told_value, between_keys};
+ghost use Rattle.bptree_callers.specs.Words.{FindsOne, IfFound, IsOneOf, PopsFirstOfTwo, PopsLastOfTwo, ShowsEndsOfTwo, TakesMiddleOfThree, WritesSome, told_value, between_keys};
 
 use bptree_arguments::argument::{Argument, CloneArgument, RankArgument, SearchArgument};
 use bptree_arguments::count::Count;
@@ -438,8 +438,8 @@ fn begins_at_its_key<'a, K: Key, V: Drop, A: Argument<K>>(
     map: &'a BPlusTreeMap<K, V, A>,
     k: &K,
 ) -> Result<Option<(Cursor<K>, &'a V)>, AllocError>
-    ensures least { IfOk result (λ found. IfSome found (λ it. is_lt (K.cmp (cursor_key it.0) k.now) ≡ false)) }
-    ensures there { has K.cmp map.now k.now ≡ true → IfOk result (λ found. IsSomeAnd found (λ it. K.cmp (cursor_key it.0) k.now ≡ Equal)) }
+    ensures least { IfFound result (λ it. is_lt (K.cmp (cursor_key it.0) k.now) ≡ false) }
+    ensures there { has K.cmp map.now k.now ≡ true → FindsOne result (λ it. K.cmp (cursor_key it.0) k.now ≡ Equal) }
 {
     // Read, so that the keys are known to ascend.
     let _len = map.len();
@@ -580,7 +580,7 @@ fn pops_the_first_of_two<K: Key, V: Drop, A: Argument<K>>(
     map: &mut BPlusTreeMap<K, V, A>,
 ) -> Result<Option<(K, V)>, AllocError>
     ensures popped { IfOk result (PopsFirstOfTwo map.old map.new) }
-    ensures others { 0 < length map.old → IfOk result (λ gone. IsSomeAnd gone (λ pair. map.old ≡ pair ∷ map.new)) }
+    ensures others { 0 < length map.old → FindsOne result (λ pair. map.old ≡ pair ∷ map.new) }
     ensures refused { OnErr result (map.new ≡ map.old) }
 {
     map.pop_first()

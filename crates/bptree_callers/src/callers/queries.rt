@@ -1,10 +1,10 @@
 //! Callers that read, write and remove by summaries: of any argument, and of counts.
-ghost use Rattle.std.specs.Prelude.{◌≡◌, ◌<◌, ◌≤◌, length, true, false, remove, IfOk, IfErr, OnErr, OnOk, Some, None, IfSome, IsSome};
+ghost use Rattle.std.specs.Prelude.{◌≡◌, ◌<◌, ◌≤◌, length, remove, IfOk, IfErr, OnErr, OnOk, Some, None, IfSome, IsSome};
 ghost use Rattle.std.specs.Map.{keys_of};
 ghost use Rattle.bptree_keys.specs.Contents.{del};
 ghost use Rattle.bptree_tree.specs.Whole.{IsUntouched};
 ghost use Rattle.bptree_tree.specs.Selected.{SelectsNone};
-ghost use Rattle.bptree_callers.specs.Words.{AllowsSome, StaysWhole, WritesSome};
+ghost use Rattle.bptree_callers.specs.Words.{AllowsSome, OnFalse, OnTrue, StaysWhole, WritesSome};
 
 use bptree_arguments::argument::{RankArgument, SearchArgument};
 use bptree_arguments::count::Count;
@@ -19,8 +19,8 @@ fn finds_an_allowed_place<S: NodeStore>(
 ) -> Result<bool, AllocError>
 where
     S::Argument: SearchArgument<S::K>,
-    ensures found { IfOk result (λ it. it ≡ true → AllowsSome S.Argument.selects query tree.now.contents) }
-    ensures absent { IfOk result (λ it. it ≡ false → S.Argument.selects query (keys_of tree.now.contents) None) }
+    ensures found { OnTrue result (AllowsSome S.Argument.selects query tree.now.contents) }
+    ensures absent { OnFalse result (S.Argument.selects query (keys_of tree.now.contents) None) }
 {
     Ok(tree.get_by_argument(query)?.is_some())
 }
@@ -33,7 +33,7 @@ fn ranks_as_allowed<S: NodeStore>(
 ) -> Option<<S::Argument as RankArgument<S::K>>::Rank>
 where
     S::Argument: RankArgument<S::K>,
-    ensures allowed { IfSome result (λ rank. S.Argument.ranks k.now (keys_of tree.now.contents) rank) }
+    ensures allowed { IfSome result (λ it. S.Argument.ranks k.now (keys_of tree.now.contents) it) }
     ensures sure { S.Argument.needs_no_memory → IsSome result }
 {
     match tree.rank_by_argument(k) {
@@ -90,7 +90,7 @@ where
     ensures refused { OnErr result (tree.new ≡ tree.old) }
     ensures unchanged { OnErr result (IsUntouched S.slots tree.new tree.old) }
     ensures absent { IfErr result (SelectsNone S.Argument.selects query tree.old.contents) }
-    ensures sure { S.Argument.needs_no_memory → IfErr result (λ error. error ≡ SelectError.NotFound) }
+    ensures sure { S.Argument.needs_no_memory → IfErr result (λ it. it ≡ SelectError.NotFound) }
 {
     match tree.get_mut_by_argument(query) {
         Ok(there) => {

@@ -8,7 +8,7 @@ ghost use Rattle.bptree_maps.specs.Keys.{holds, gathered, keys_between, keys_wit
 ghost use Rattle.bptree_sets.specs.Symmetric.{symmetric};
 ghost use Rattle.bptree_sets.specs.TwoSets.{IsDifference, IsIntersection, IsSymmetricDifference};
 ghost use Rattle.bptree_sets.specs.Union.{union};
-ghost use Rattle.bptree_callers.specs.Words.{AreEndsOfTwo, HoldsEither, PopsFirstOfTwo, PopsLastOfTwo};
+ghost use Rattle.bptree_callers.specs.Words.{AreEndsOfTwo, HoldsEither, PopsFirstOfTwo, PopsLastOfTwo, union_of};
 
 use bptree_keys::key::Key;
 use bptree_sets::set::{
@@ -44,7 +44,7 @@ fn gathers<K: Key>(alloc: Global, keys: Vec<K>) -> Result<BPlusTreeSet<K>, Alloc
 fn puts_in<K: Key>(set: &mut BPlusTreeSet<K>, k: K) -> Result<bool, InsertError<K, ()>>
     ensures fresh { holds K.cmp set.old k ≡ false → IfOk result (λ is_new. is_new ≡ true) }
     ensures there { holds K.cmp set.old k ≡ true → (result ≡ Ok false) × (set.new ≡ set.old) }
-    ensures back { length set.old ≡ 2 → IfErr result (λ error. error ≡ InsertError.OutOfMemory k tt) }
+    ensures back { length set.old ≡ 2 → IfErr result (λ it. it ≡ InsertError.OutOfMemory k tt) }
     ensures stays { OnErr result (set.new ≡ set.old) }
 {
     set.insert(k)
@@ -174,7 +174,7 @@ fn joins<'a, K: Key>(first: &'a BPlusTreeSet<K>, second: &'a BPlusTreeSet<K>) ->
 
 // A step gives the first key of the union.
 fn gives_the_first_of_both<'a, K: Key>(keys: &mut Union<'a, K>) -> Option<&'a K>
-    ensures { TakesFirst deref (union K.cmp keys.old.0 keys.old.1) result (union K.cmp keys.new.0 keys.new.1) }
+    ensures { TakesFirst deref (union_of K.cmp keys.old) result (union_of K.cmp keys.new) }
 {
     keys.next()
 }

@@ -4,7 +4,7 @@ ghost use Rattle.bptree_callers.specs.Numbers.{halved};
 ghost use Rattle.bptree_keys.specs.Contents.{has};
 ghost use Rattle.bptree_keys.specs.Ranges.{between};
 ghost use Rattle.bptree_maps.specs.Keys.{holds, keys_between};
-ghost use Rattle.bptree_callers.specs.Words.{between_keys};
+ghost use Rattle.bptree_callers.specs.Words.{AgreesOn, between_keys};
 
 use bptree_arguments::argument::Argument;
 use bptree_keys::key::Key;
@@ -22,7 +22,7 @@ fn empties_a_part_of_a_tree<S: NodeStore>(
     hi: &S::K,
 ) -> Result<usize, AllocError>
     ensures between { OnOk result (between_keys S.K.cmp tree.new.contents lo.now hi.now ≡ []) }
-    ensures end { OnOk result (has S.K.cmp tree.new.contents hi.now ≡ has S.K.cmp tree.old.contents hi.now) }
+    ensures end { OnOk result (AgreesOn S.K.cmp tree.old.contents tree.new.contents hi.now) }
 {
     tree.remove_range(Some(lo), Some(hi))
 }

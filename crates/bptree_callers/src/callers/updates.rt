@@ -35,7 +35,7 @@ fn counts_at<K: Key, A: Argument<K>>(
     map: &mut BPlusTreeMap<K, u64, A>,
     k: K,
 ) -> Result<(), InsertError<K, u64>>
-    ensures counted { OnOk result (map.new ≡ put K.cmp map.old k (one_more (value_of K.cmp map.old k))) }
+    ensures sum { OnOk result (map.new ≡ put K.cmp map.old k (one_more (value_of K.cmp map.old k))) }
     ensures refused { IfErr result (HandsBack (k, 0) map.old map.new) }
 {
     let count = map.get_or_insert_with(k, || 0)?;

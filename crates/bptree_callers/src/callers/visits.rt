@@ -18,7 +18,7 @@ fn visits<S: NodeStore, W: DescendVisit<S::K, S::V, S::Argument>>(
     tree: &BPlusTree<S>,
     visitor: W,
 ) -> Result<Option<W::Result>, DescendError>
-    ensures allowed { IfOk result (λ answer. W.answers visitor tree.now.contents (answered answer)) }
+    ensures allowed { IfOk result (λ it. W.answers visitor tree.now.contents (answered it)) }
     ensures children { (W.answers visitor tree.now.contents invalid_child → ⊥) → IfErr result (λ error. error ≡ OutOfMemory) }
 {
     tree.descend_visit(visitor)

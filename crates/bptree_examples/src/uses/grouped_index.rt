@@ -65,7 +65,7 @@ pub fn new_items(alloc: Global, all: &[(u32, u32)]) -> Result<Items, AllocError>
 /// compares at most two groups a child and goes down one way. It is refused only where a group that
 /// is made of a key is refused memory, here never.
 pub fn group_len(items: &Items, group: u32) -> Result<Option<usize>, DescendError>
-    ensures counted { IfOk result (λ size. size ≡ Some (length (items_of group (keys_of items.now)))) }
+    ensures counted { IfOk result (λ it. it ≡ Some (length (items_of group (keys_of items.now)))) }
     ensures refused { IfErr result (λ error. error ≡ OutOfMemory) }
 {
     // Read, so that it is known to fit.

@@ -3,7 +3,7 @@ ghost use Rattle.std.specs.Prelude.{◌≡◌, ◌≤◌, ◌∷◌, [], length,
 ghost use Rattle.std.specs.declared.cmp.Ordering.TheVariants.{Less, Equal, Greater};
 ghost use Rattle.std.specs.List.Sorted.{IsStrictlySortedBy};
 
-use bptree_keys::compares::{Compares, count_upto_counted, locate_counted};
+use bptree_keys::compares::{Compares, count_upto_counted, locate_below_counted, locate_counted};
 use bptree_keys::key::Key;
 use std::alloc::AllocError;
 use std::cmp::Ordering;
@@ -23,13 +23,14 @@ fn counts_two<K: Ord>(a: &K, b: &K) -> (Ordering, Ordering, usize)
 {
     let mut compares = Compares::new();
     let first = compares.compare(a, b);
+    compares.go_below(3);
     let second = compares.compare(b, a);
     (first, second, compares.count())
 }
 
-// A search of ascending keys: the place of the key or how many are smaller, after at most seven
-// comparisons.
-fn finds_in_seven<K: Ord>(keys: &[K], key: &K) -> (Result<usize, usize>, usize)
+// A search of ascending keys, in a leaf below however many levels: the place of the key or how many
+// are smaller, after at most seven comparisons.
+fn finds_in_seven<K: Ord>(keys: &[K], key: &K, levels: usize) -> (Result<usize, usize>, usize)
     requires few { length keys.now ≤ 64 }
     requires ascending { IsStrictlySortedBy K.cmp keys.now }
     ensures no_key { keys.now ≡ [] → result.0 ≡ Err 0 }
@@ -39,8 +40,8 @@ fn finds_in_seven<K: Ord>(keys: &[K], key: &K) -> (Result<usize, usize>, usize)
     ensures past { (x y : K) → keys.now ≡ x ∷ y ∷ [] → K.cmp x key.now ≡ Less → K.cmp y key.now ≡ Less → result.0 ≡ Err 2 }
     ensures count { result.1 ≤ 7 }
 {
-    let mut compares = Compares::new();
-    let place = locate_counted(keys, key, &mut compares);
+    let mut compares = Compares::below(levels);
+    let place = locate_below_counted(keys, key, &mut compares);
     (place, compares.count())
 }
 

@@ -8,6 +8,7 @@ ghost use Rattle.bptree_tree.specs.Entries.{at_least};
 use crate::cursor::Cursor;
 use crate::tree::BPlusTree;
 use bptree_descents::neighbours;
+use bptree_keys::compares::Compares;
 use bptree_keys::node_id::LeafNodeId;
 use bptree_shape::reading;
 use bptree_stores::node_stores::NodeStore;
@@ -34,7 +35,11 @@ impl<S: NodeStore> BPlusTree<S> {
         ensures sure { S.K.is_infallible k.now → IsOk result }
     {
         let leaf = reading::leaf_for(&self.store, self.root, self.height, k);
-        let (offset, value) = self.store.get_leaf(leaf).locate_slot_with_value(k);
+        let mut compares = Compares::below(self.height);
+        let (offset, value) = self
+            .store
+            .get_leaf(leaf)
+            .locate_slot_with_value_counted(k, &mut compares);
         Ok(Some((Cursor::at((leaf, offset), k)?, value)))
     }
 
@@ -164,7 +169,7 @@ impl<S: NodeStore> BPlusTree<S> {
     {
         let id = reading::leaf_for(&self.store, self.root, self.height, k);
         let leaf = self.store.get_leaf(id);
-        match leaf.locate_slot(k) {
+        match leaf.locate_slot_counted(k, &mut Compares::below(self.height)) {
             Ok(slot) => Some(((id, slot), leaf.data_at(slot))),
             Err(slot) => self.place_after(id, slot, k),
         }

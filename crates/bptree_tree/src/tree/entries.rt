@@ -6,6 +6,7 @@ ghost use Rattle.bptree_tree.specs.Entries.{entry};
 ghost use Rattle.std.specs.Map.Iter.{deref_pair};
 
 use crate::tree::BPlusTree;
+use bptree_keys::compares::Compares;
 use bptree_shape::reading;
 use bptree_stores::node_stores::NodeStore;
 
@@ -23,7 +24,7 @@ impl<S: NodeStore> BPlusTree<S> {
     {
         let id = reading::leaf_for(&self.store, self.root, self.height, k);
         let leaf = self.store.get_leaf(id);
-        match leaf.locate_slot(k) {
+        match leaf.locate_slot_counted(k, &mut Compares::below(self.height)) {
             Ok(slot) => Some(leaf.data_at(slot)),
             Err(_) => None,
         }

@@ -16,7 +16,7 @@ returns-clause-cursor g c =
     let ascending = tree_ascends total slots (root_least tree.height) tree.height tree.root None None c.self.invariant.0.tree in
     let sorted = leaf_ascends total slots tree.height tree.root leaf node c.leaf_for-leaf.ensures.stands ascending c.get_leaf.ensures in (
       c.in_ok-at.ensures.cursor,
-      (c.locate_slot_with_value-offset.ensures.contents sorted).1
+      (c.locate_slot_with_value_counted-offset.ensures.contents sorted).1
           ∙ (sym (value_in_leaf total slots tree.height tree.root c.args.k.now leaf node c.leaf_for-leaf.ensures c.get_leaf.ensures)
           ∙ ap (λ (t : NodeTree _ _ _ _). value g.S.K.Ord.cmp t.contents c.args.k.now) c.self.view_is),
     )
