@@ -1,6 +1,8 @@
 //! Insertion into a tree that stands in a store.
 ghost use Rattle.std.specs.Prelude.{◌≡◌, ◌≤◌, ◌<◌, ◌^◌, ◌≢◌, IfOk, IfErr, OnErr, IfSome, false, true, length};
+ghost use Rattle.std.specs.List.Sorted.{IsSearchInRange};
 ghost use Rattle.bptree_keys.specs.declared.node_id.NodeId.TheVariants as kind;
+ghost use Rattle.bptree_nodes.specs.LeafResults.{HasEqualAt, IsPlaceInLeaf};
 ghost use Rattle.bptree_nodes.specs.Slot.{IsPresent};
 ghost use Rattle.bptree_ascent.specs.LeafChange.{SumsUpLeaf, HasSlotAt, AreHalves, SumsUpLeafAt};
 ghost use Rattle.bptree_insertion.specs.Puts.{IsDue, IsPut, risen, AddsPair, Divides, HasRoomFor, HasValueAt, IsDueBelow, LeftSumsUp, PlacesDue, PlacesDueUpTo, Rejoins, RightSumsUp, SaysNothing, SeparatesHalves, SetsValue, UndoesAdd};
@@ -274,6 +276,26 @@ pub fn is_full(len: usize) -> bool
     len == usize::MAX
 }
 
+// The place of a key in a leaf below so many levels, or how many of its keys are smaller. In the last
+// of several leaves a key that is to be put likely stands behind all others.
+#[inline(always)]
+fn slot_for<K: Key, V: Drop>(
+    leaf: &LeafNode<K, V>,
+    levels: usize,
+    key: &K,
+) -> Result<usize, usize>
+    ensures in_range { IsSearchInRange result (length leaf.now.pairs) }
+    ensures found { IfOk result (HasEqualAt K.cmp leaf.now.pairs key.now) }
+    ensures place { IsPlaceInLeaf K.cmp leaf.now key.now result }
+{
+    let mut compares = if leaf.next().is_none() && leaf.prev().is_some() {
+        Compares::at_end()
+    } else {
+        Compares::below(levels)
+    };
+    leaf.locate_slot_counted(key, &mut compares)
+}
+
 // The remembered leaf, where it holds the key and has room, and where no node above it is told of a
 // change: every value is a summary of every list.
 #[inline(always)]
@@ -312,7 +334,7 @@ fn put_at_hand<S: NodeStore>(
     ensures handed_back { IfErr result (λ pair. pair ≡ (k, v)) }
     ensures absent { OnErr result (LacksKey S.K.cmp (S.slots store.old) height root k) }
 {
-    let found = store.get_leaf(leaf).locate_slot(&k);
+    let found = slot_for(store.get_leaf(leaf), 0, &k);
     match found {
         Ok(place) => Ok(Put::Replaced(replace_at(store, leaf, place, v))),
         Err(slot) => match add_at(store, leaf, slot, k, v) {
@@ -353,8 +375,7 @@ pub fn upsert<S: NodeStore>(
     if S::Argument::is_zst() {
         store.cache_leaf(leaf);
     }
-    let mut compares = Compares::below(height);
-    let found = store.get_leaf(leaf).locate_slot_counted(&k, &mut compares);
+    let found = slot_for(store.get_leaf(leaf), height, &k);
     match found {
         Ok(slot) => Ok(Put::Replaced(replace_at(store, leaf, slot, v))),
         Err(slot) => match put_new(store, path, root, leaf, slot, k, v) {

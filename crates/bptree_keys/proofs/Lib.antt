@@ -1,5 +1,6 @@
 pub mod Around
 pub mod Ascending
+pub mod Counting
 pub mod Equal
 pub mod Found
 pub mod Laws

@@ -7,3 +7,4 @@ pub mod Numbers
 pub mod Pieces
 pub mod Places
 pub mod Ranges
+pub mod Searches

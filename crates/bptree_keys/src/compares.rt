@@ -1,8 +1,9 @@
 //! Comparisons of keys, counted.
-ghost use Rattle.std.specs.Prelude.{◌≡◌, ◌+◌, ◌<◌, ◌≤◌, min, length, IfOk};
+ghost use Rattle.std.specs.Prelude.{◌≡◌, ◌+◌, ◌^◌, ◌<◌, ◌≤◌, ℕ, min, length, IfOk};
 ghost use Rattle.std.specs.List.{HoldsAt};
 ghost use Rattle.std.specs.List.Sorted.{IsBinarySearchResult, IsSearchInRange, IsStrictlySortedBy};
 ghost use Rattle.bptree_keys.specs.Locate.{locate, CountsUpTo};
+ghost use Rattle.bptree_keys.specs.Searches.{IsAmong, IsAbove, CountsAmong};
 
 use std::cmp::Ordering;
 use std::marker::Model;
@@ -11,25 +12,35 @@ use std::mem::size_of_val;
 // The most bytes of a key that likely holds all that a comparison reads.
 const LONG: usize = 16;
 
-// With so many keys left a search goes on without branches: with all of a node's, where they likely
-// stand in a cache of the processor,
-const NEAR: usize = 64;
-
-// with a quarter of them, where they don't,
-const FAR: usize = 16;
-
-// and with one, where keys are long or point elsewhere.
-const ONE: usize = 1;
-
 // Below so many levels of inner nodes a leaf likely stands in no cache.
 const FAR_LEVELS: usize = 3;
 
-/// How many comparisons were made, and whether the keys of the next search are taken to stand in no
-/// cache of the processor. The count stops at the greatest `usize`.
+/// What a search in a leaf is told of its keys.
+#[derive(Clone, Copy)]
+enum Leaning {
+    /// They likely stand in a cache of the processor.
+    Near,
+    /// They likely don't.
+    Far,
+    /// All of them are likely smaller.
+    End,
+}
+
+// What is likely of a leaf below so many levels.
+fn leaning_below(levels: usize) -> Leaning {
+    if levels >= FAR_LEVELS {
+        Leaning::Far
+    } else {
+        Leaning::Near
+    }
+}
+
+/// How many comparisons were made, and what the next search in a leaf is told of its keys. The
+/// count stops at the greatest `usize`.
 #[derive(Drop)]
 pub struct Compares {
     count: usize,
-    is_far: bool,
+    leaning: Leaning,
 }
 
 impl Model for Compares {
@@ -55,15 +66,26 @@ impl Compares {
     {
         Compares {
             count: 0,
-            is_far: levels >= FAR_LEVELS,
+            leaning: leaning_below(levels),
         }
     }
 
-    /// Goes on with a search in such a leaf.
+    /// No comparison yet, for a key that likely stands behind all others of its leaf. The last of
+    /// them is compared first.
+    pub fn at_end() -> Self
+        ensures { result ≡ 0 }
+    {
+        Compares {
+            count: 0,
+            leaning: Leaning::End,
+        }
+    }
+
+    /// Goes on with a search in a leaf below so many levels.
     pub fn go_below(&mut self, levels: usize)
         ensures { self.new ≡ self.old }
     {
-        self.is_far = levels >= FAR_LEVELS;
+        self.leaning = leaning_below(levels);
     }
 
     /// How many there were.
@@ -84,77 +106,176 @@ impl Compares {
     }
 }
 
-/// Finds `key` in ascending `keys`, or the place where it belongs. The widths of the steps are
-/// fixed. While more keys are left than `straight`, a step branches on its comparison, so that the
-/// next key can be fetched before it is done. The other steps move by a product, so that the
-/// compiler makes no branch, which would be foreseen wrongly each second time.
+// Finds `key` where its place is among the `width` keys from `base` on. It halves them, and each step
+// moves by a product, so that the compiler makes no branch on a comparison, which would be foreseen
+// wrongly each second time.
 #[inline(always)]
-fn search<K: Ord>(
+fn search_among<K: Ord>(
     keys: &[K],
     key: &K,
-    straight: usize,
+    base: usize,
+    width: usize,
     compares: &mut Compares,
 ) -> Result<usize, usize>
-    requires few { length keys.now ≤ 64 }
-    requires ends { 0 < straight }
+    requires some { 0 < width }
+    requires within { base + width ≤ length keys.now }
+    requires among { IsAmong (λ y. K.cmp y key.now) keys.now base width }
+    ensures in_range { IsSearchInRange result (length keys.now) }
+    ensures position { IsBinarySearchResult (λ y. K.cmp y key.now) keys.now result }
+    ensures counts_on { compares.old ≤ compares.new }
+    ensures count { (steps : ℕ) → width ≤ 2 ^ steps → compares.new ≤ compares.old + steps + 1 }
+{
+    let mut first = base;
+    let mut left = width;
+    'halves: while left > 1 {
+        let half = left / 2;
+        let is_past = compares.compare(&keys[first + half], key).is_le();
+        first += usize::from(is_past) * half;
+        left -= half;
+    }
+    let ordering = compares.compare(&keys[first], key);
+    if ordering.is_eq() {
+        Ok(first)
+    } else {
+        Err(first + usize::from(ordering.is_lt()))
+    }
+}
+
+// Finds `key` among so many keys, or up to twice as many: in the first ones or in the last, which may
+// have some in common. So each step's width is known when the search is compiled.
+#[inline(always)]
+fn search_ends<K: Ord>(
+    keys: &[K],
+    key: &K,
+    width: usize,
+    compares: &mut Compares,
+) -> Result<usize, usize>
+    requires some { 0 < width }
+    requires within { (width ≤ length keys.now) × (length keys.now ≤ width + width) }
+    ensures in_range { IsSearchInRange result (length keys.now) }
+    ensures position { IsBinarySearchResult (λ y. K.cmp y key.now) keys.now result }
+    ensures counts_on { compares.old ≤ compares.new }
+    ensures count { (steps : ℕ) → width ≤ 2 ^ steps → compares.new ≤ compares.old + steps + 2 }
+{
+    let rest = keys.len() - width;
+    let is_past = compares.compare(&keys[rest], key).is_le();
+    search_among(keys, key, usize::from(is_past) * rest, width, compares)
+}
+
+// Finds `key` among few keys. It is not inlined, so that the search in a node with more of them is.
+#[inline(never)]
+fn search_few<K: Ord>(keys: &[K], key: &K, compares: &mut Compares) -> Result<usize, usize>
+    requires few { length keys.now ≤ 32 }
     ensures in_range { IsSearchInRange result (length keys.now) }
     ensures position { IsBinarySearchResult (λ y. K.cmp y key.now) keys.now result }
     ensures counts_on { compares.old ≤ compares.new }
     ensures count { compares.new ≤ compares.old + 7 }
 {
-    if keys.is_empty() {
-        return Err(0);
-    }
-    let mut base = 0usize;
-    let mut width = 64usize;
-    'branches: while width > straight {
-        let half = width / 2;
-        if half < keys.len() - base {
-            match compares.compare(&keys[base + half], key) {
-                Ordering::Less => base += half,
-                Ordering::Equal => return Ok(base + half),
-                Ordering::Greater => {}
-            }
-        }
-        width -= half;
-    }
-    'products: while width > 1 {
-        let half = width / 2;
-        if half < keys.len() - base {
-            let is_past = compares.compare(&keys[base + half], key).is_le();
-            base += usize::from(is_past) * half;
-        }
-        width -= half;
-    }
-    let ordering = compares.compare(&keys[base], key);
-    if ordering.is_eq() {
-        Ok(base)
+    let count = keys.len();
+    if count >= 16 {
+        search_ends(keys, key, 16, compares)
+    } else if count >= 8 {
+        search_ends(keys, key, 8, compares)
+    } else if count >= 4 {
+        search_ends(keys, key, 4, compares)
+    } else if count >= 2 {
+        search_ends(keys, key, 2, compares)
+    } else if count == 1 {
+        search_ends(keys, key, 1, compares)
     } else {
-        Err(base + usize::from(ordering.is_lt()))
+        Err(0)
     }
 }
 
-// The place of `key` among ascending `keys`, or how many are smaller. Keys that are short are
-// searched for without branches once no more are left than `straight`.
+// Finds `key` where its place is among the 32 keys from `base` on. The first step branches, and each
+// way goes on by itself, so that the next key can be fetched before a comparison is done.
 #[inline(always)]
-fn locate_from<K: Ord>(
+fn search_by_branch<K: Ord>(
     keys: &[K],
     key: &K,
-    straight: usize,
+    base: usize,
     compares: &mut Compares,
 ) -> Result<usize, usize>
-    requires few { length keys.now ≤ 64 }
-    requires ends { 0 < straight }
+    requires within { base + 32 ≤ length keys.now }
+    requires among { IsAmong (λ y. K.cmp y key.now) keys.now base 32 }
     ensures in_range { IsSearchInRange result (length keys.now) }
-    ensures found { IfOk result (HoldsAt (λ y. K.cmp y key.now ≡ Ordering.Equal) keys.now) }
-    ensures ascending { IsStrictlySortedBy K.cmp keys.now → result ≡ locate K.cmp keys.now key.now }
+    ensures position { IsBinarySearchResult (λ y. K.cmp y key.now) keys.now result }
+    ensures counts_on { compares.old ≤ compares.new }
+    ensures count { compares.new ≤ compares.old + 6 }
+{
+    match compares.compare(&keys[base + 16], key) {
+        Ordering::Less => search_among(keys, key, base + 16, 16, compares),
+        Ordering::Equal => Ok(base + 16),
+        Ordering::Greater => search_among(keys, key, base, 16, compares),
+    }
+}
+
+// Finds `key` among keys that likely stand in no cache of the processor, with two branches first.
+#[inline(never)]
+fn search_far<K: Ord>(keys: &[K], key: &K, compares: &mut Compares) -> Result<usize, usize>
+    requires few { length keys.now ≤ 64 }
+    ensures in_range { IsSearchInRange result (length keys.now) }
+    ensures position { IsBinarySearchResult (λ y. K.cmp y key.now) keys.now result }
     ensures counts_on { compares.old ≤ compares.new }
     ensures count { compares.new ≤ compares.old + 7 }
 {
-    if size_of_val(key) > LONG {
-        search(keys, key, ONE, compares)
-    } else {
-        search(keys, key, straight, compares)
+    if keys.len() <= 32 {
+        return search_few(keys, key, compares);
+    }
+    let rest = keys.len() - 32;
+    match compares.compare(&keys[rest], key) {
+        Ordering::Less => search_by_branch(keys, key, rest, compares),
+        Ordering::Equal => Ok(rest),
+        Ordering::Greater => search_by_branch(keys, key, 0, compares),
+    }
+}
+
+// Finds `key` among the first `end` keys, behind which all are greater. Each step leaves the key out
+// that it looked at, and an equal one ends the search. So it makes the fewest comparisons, for keys
+// that are long or point elsewhere.
+fn search_halves<K: Ord>(
+    keys: &[K],
+    key: &K,
+    end: usize,
+    compares: &mut Compares,
+) -> Result<usize, usize>
+    requires within { end ≤ length keys.now }
+    requires above { IsAbove (λ y. K.cmp y key.now) keys.now end }
+    ensures in_range { IsSearchInRange result (length keys.now) }
+    ensures position { IsBinarySearchResult (λ y. K.cmp y key.now) keys.now result }
+    ensures counts_on { compares.old ≤ compares.new }
+    ensures count { (steps : ℕ) → end < 2 ^ steps → compares.new ≤ compares.old + steps }
+{
+    let mut low = 0usize;
+    let mut high = end;
+    'halves: while low < high {
+        let middle = low + (high - low) / 2;
+        match compares.compare(&keys[middle], key) {
+            Ordering::Less => low = middle + 1,
+            Ordering::Equal => return Ok(middle),
+            Ordering::Greater => high = middle,
+        }
+    }
+    Err(low)
+}
+
+// Finds `key` among keys all of which are likely smaller: the last one is compared first.
+fn search_from_end<K: Ord>(keys: &[K], key: &K, compares: &mut Compares) -> Result<usize, usize>
+    requires few { length keys.now ≤ 64 }
+    ensures in_range { IsSearchInRange result (length keys.now) }
+    ensures position { IsBinarySearchResult (λ y. K.cmp y key.now) keys.now result }
+    ensures counts_on { compares.old ≤ compares.new }
+    ensures count { compares.new ≤ compares.old + 7 }
+{
+    let count = keys.len();
+    if count == 0 {
+        return Err(0);
+    }
+    let last = count - 1;
+    match compares.compare(&keys[last], key) {
+        Ordering::Less => Err(count),
+        Ordering::Equal => Ok(last),
+        Ordering::Greater => search_halves(keys, key, last, compares),
     }
 }
 
@@ -168,23 +289,16 @@ pub fn locate_counted<K: Ord>(keys: &[K], key: &K, compares: &mut Compares) -> R
     ensures counts_on { compares.old ≤ compares.new }
     ensures count { compares.new ≤ compares.old + 7 }
 {
-    locate_from(keys, key, NEAR, compares)
+    if size_of_val(key) > LONG {
+        search_halves(keys, key, keys.len(), compares)
+    } else if keys.len() <= 32 {
+        search_few(keys, key, compares)
+    } else {
+        search_ends(keys, key, 32, compares)
+    }
 }
 
-// The same of keys that likely stand in no cache of the processor.
-#[inline(never)]
-fn locate_far<K: Ord>(keys: &[K], key: &K, compares: &mut Compares) -> Result<usize, usize>
-    requires { length keys.now ≤ 64 }
-    ensures in_range { IsSearchInRange result (length keys.now) }
-    ensures found { IfOk result (HoldsAt (λ y. K.cmp y key.now ≡ Ordering.Equal) keys.now) }
-    ensures ascending { IsStrictlySortedBy K.cmp keys.now → result ≡ locate K.cmp keys.now key.now }
-    ensures counts_on { compares.old ≤ compares.new }
-    ensures count { compares.new ≤ compares.old + 7 }
-{
-    locate_from(keys, key, FAR, compares)
-}
-
-/// The same in a leaf, below as many levels as `compares` was told.
+/// The same in a leaf, as `compares` was told of it.
 #[inline]
 pub fn locate_below_counted<K: Ord>(
     keys: &[K],
@@ -198,10 +312,59 @@ pub fn locate_below_counted<K: Ord>(
     ensures counts_on { compares.old ≤ compares.new }
     ensures count { compares.new ≤ compares.old + 7 }
 {
-    if compares.is_far {
-        return locate_far(keys, key, compares);
+    match compares.leaning {
+        Leaning::Far if size_of_val(key) <= LONG => search_far(keys, key, compares),
+        Leaning::End => search_from_end(keys, key, compares),
+        _ => locate_counted(keys, key, compares),
     }
-    locate_counted(keys, key, compares)
+}
+
+// How many of ascending `keys` are not greater than `key`, where that is one of the `width` numbers
+// from `base` on.
+#[inline(always)]
+fn count_among<K: Ord>(
+    keys: &[K],
+    key: &K,
+    base: usize,
+    width: usize,
+    compares: &mut Compares,
+) -> usize
+    requires some { 0 < width }
+    requires within { base + width ≤ length keys.now + 1 }
+    requires among { CountsAmong (λ y. K.cmp y key.now) keys.now base width }
+    ensures in_range { result ≤ length keys.now }
+    ensures ascending { CountsUpTo K.cmp key.now keys.now result }
+    ensures counts_on { compares.old ≤ compares.new }
+    ensures count { (steps : ℕ) → width ≤ 2 ^ steps → compares.new ≤ compares.old + steps }
+{
+    let mut first = base;
+    let mut left = width;
+    'halves: while left > 1 {
+        let half = left / 2;
+        let is_past = compares.compare(&keys[first + half - 1], key).is_le();
+        first += usize::from(is_past) * half;
+        left -= half;
+    }
+    first
+}
+
+// How many of many ascending `keys` are not greater than `key`. The last one is compared first, so a
+// key behind all others needs no further comparison.
+#[inline(always)]
+fn count_upto_many<K: Ord>(keys: &[K], key: &K, compares: &mut Compares) -> usize
+    requires { (32 < length keys.now) × (length keys.now ≤ 64) }
+    ensures in_range { result ≤ length keys.now }
+    ensures ascending { CountsUpTo K.cmp key.now keys.now result }
+    ensures counts_on { compares.old ≤ compares.new }
+    ensures count { compares.new ≤ compares.old + 7 }
+{
+    let count = keys.len();
+    if compares.compare(&keys[count - 1], key).is_le() {
+        return count;
+    }
+    let rest = count - 32;
+    let is_past = compares.compare(&keys[rest - 1], key).is_le();
+    count_among(keys, key, usize::from(is_past) * rest, 32, compares)
 }
 
 /// How many of ascending `keys` are not greater than `key`.
@@ -213,6 +376,9 @@ pub fn count_upto_counted<K: Ord>(keys: &[K], key: &K, compares: &mut Compares) 
     ensures counts_on { compares.old ≤ compares.new }
     ensures count { compares.new ≤ compares.old + 7 }
 {
+    if size_of_val(key) <= LONG && keys.len() > 32 {
+        return count_upto_many(keys, key, compares);
+    }
     match locate_counted(keys, key, compares) {
         Ok(slot) => slot + 1,
         Err(slot) => slot,
