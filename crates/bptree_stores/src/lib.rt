@@ -5,3 +5,4 @@ mod emptied;
 pub mod node_store_vec;
 pub mod node_stores;
 mod place;
+mod seat;
