@@ -1,18 +1,13 @@
--- What is known of the places of a slab.
+-- What a write to a place of a slab changes.
 use Rattle.std.specs.Prelude.{◌≡◌, ℕ, Option, Some, None, IsSome, refl}
 use Rattle.std.proofs.Common.{ap}
 use Rattle.slab.specs.Slab.{Slab, get, with_value}
 use Rattle.slab.proofs.SlabLemmas.{Updates-with_value}
-use Rattle.bptree_nodes.specs.Slot.{Held, IsPresent, Updates}
+use Rattle.bptree_nodes.specs.Slot.{Held, Updates}
 use Rattle.bptree_stores.specs.declared.place.Place.{Place}
-use Rattle.bptree_stores.specs.declared.place.Place.TheVariants.{Reserved, Occupied}
-use Rattle.bptree_stores.specs.Place.{IsOccupied, slot_of, slot_of_entry, slot_at}
+use Rattle.bptree_stores.specs.Place.{slot_of, slot_of_entry, slot_at}
 
 module _ {H N : Type 0} (node_of : H → N) where
-  pub occupied : (place : Place H) → IsPresent (slot_of node_of place) → IsOccupied place
-  occupied Reserved h = h
-  occupied (Occupied holder) h = h
-
   -- a number that is held has a place
   held_there : (entry : Option (Place H)) → slot_of_entry node_of entry ≡ Held → IsSome entry
   held_there None held = absurd (cc)
