@@ -18,7 +18,7 @@ use contract.Monad.{fact, fact_i}
 use contract.BorrowLft.{◌⊑◌, meet_⊑_right}
 use contract.Running.{tables}
 use denote.Exit.{no}
-use denote.RattleType.{RattleType, owns}
+use denote.RattleType.{owns}
 use denote.Signature.{types_at, plain}
 use denote.Steps.{nothing, heard}
 use denote.Param.{bounded}
