@@ -1,6 +1,6 @@
 //! A store over two slabs.
 ghost use Rattle.std.specs.Prelude.{◌↔◌, IsTrue, IfOk};
-ghost use Rattle.bptree_nodes.specs.Slot.{Free, IsEmpty};
+ghost use Rattle.bptree_nodes.specs.Slot.{IsEmpty};
 ghost use Rattle.bptree_stores.specs.Place.{IsVacant};
 
 use crate::node_stores::{CloneStore, NodeStore};
