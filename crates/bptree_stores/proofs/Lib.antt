@@ -1,1 +1,2 @@
+pub mod EmptiedValues
 pub mod Places

@@ -7,14 +7,14 @@ use Rattle.bptree_nodes.specs.Slot.{Held, Updates}
 use Rattle.bptree_stores.specs.declared.place.Place.{Place}
 use Rattle.bptree_stores.specs.Place.{slot_of, slot_of_entry, slot_at}
 
-module _ {N : Type 0} where
+module _ {H N : Type 0} (node_of : H → N) where
   -- a number that is held has a place
-  held_there : (entry : Option (Place N)) → slot_of_entry entry ≡ Held → IsSome entry
+  held_there : (entry : Option (Place H)) → slot_of_entry node_of entry ≡ Held → IsSome entry
   held_there None held = absurd (cc)
   held_there (Some place) held = refl
 
   -- what stands under a held number after a write
-  pub Updates-held : (places : Slab (Place N)) (i : ℕ) (p : Place N) → slot_at places i ≡ Held → Updates (slot_at places) (slot_at (with_value places i p)) i (slot_of p)
+  pub Updates-held : (places : Slab (Place H)) (i : ℕ) (p : Place H) → slot_at node_of places i ≡ Held → Updates (slot_at node_of places) (slot_at node_of (with_value places i p)) i (slot_of node_of p)
   Updates-held places i p held =
       let updates = Updates-with_value places i p (held_there (get places i) held) in
-      record { changed = ap slot_of_entry updates.changed; others = λ j ne. ap slot_of_entry (updates.others j ne) }
+      record { changed = ap (slot_of_entry node_of) updates.changed; others = λ j ne. ap (slot_of_entry node_of) (updates.others j ne) }

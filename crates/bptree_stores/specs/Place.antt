@@ -2,7 +2,6 @@
 use Rattle.std.specs.Prelude.{◌≡◌, ℕ, zero, suc, Option, Some, None, is_some, IsSome, List, [], ◌∷◌, count_by, slice_index_or, refl}
 use Rattle.std.proofs.Common.{ap, arith, cond}
 use Rattle.std.proofs.lemmas.List.Sums.{sum_by-cons}
-use Rattle.std.specs.Box.{with_value as with_boxed}
 use Rattle.slab.specs.Slab.{Slab, get, with_value, slab_len}
 use Rattle.slab.proofs.SlabLemmas.{Updates-with_value}
 use Rattle.bptree_nodes.specs.Slot.{Slot, Free, Held, Present, IsPresent, Updates}
@@ -18,62 +17,76 @@ none_there (None ∷ rest) none (suc number) =
 none_there (Some x ∷ rest) none number =
     absurd (let counted = sum_by-cons (λ entry. cond (is_some entry) 1 0) (Some x) rest in omega arith)
 
-module _ {N : Type 0} where
-  abbrev pub slot_of : Place N → Slot N
+none_counted : {X : Type 0} (entries : List (Option X)) → ((number : ℕ) → slice_index_or entries number None ≡ None) → count_by is_some entries ≡ 0
+none_counted [] none = refl
+none_counted (None ∷ rest) none =
+    let counted = sum_by-cons (λ entry. cond (is_some entry) 1 0) None rest in
+    let later = none_counted rest (λ number. none (suc number)) in
+    omega arith
+none_counted (Some x ∷ rest) none = absurd (let e : Some x ≡ None = none zero in cc)
+
+module _ {H : Type 0} where
+  -- a node stands at the place
+  abbrev pub IsOccupied : Place H → Type 0
+  IsOccupied Reserved = ⊥
+  IsOccupied (Occupied _) = Unit {0}
+
+  -- no number has a place
+  abbrev pub IsVacant : Slab (Place H) → Type 0
+  IsVacant places = (number : ℕ) → get places number ≡ None
+
+  pub vacant_where_empty : (places : Slab (Place H)) → slab_len places ≡ 0 → IsVacant places
+  vacant_where_empty places empty = none_there places.slots empty
+
+  pub empty_where_vacant : (places : Slab (Place H)) → IsVacant places → slab_len places ≡ 0
+  empty_where_vacant places vacant = none_counted places.slots vacant
+
+-- places that hold their nodes in an H, which holds this node
+module _ {H N : Type 0} (node_of : H → N) where
+  abbrev pub slot_of : Place H → Slot N
   slot_of Reserved = Held
-  slot_of (Occupied node) = Present node.value
+  slot_of (Occupied holder) = Present (node_of holder)
 
   -- what stands under a number that has a place, or none
-  abbrev pub slot_of_entry : Option (Place N) → Slot N
+  abbrev pub slot_of_entry : Option (Place H) → Slot N
   slot_of_entry None = Free
   slot_of_entry (Some place) = slot_of place
 
   -- what stands under a number of the slab
-  abbrev pub slot_at : Slab (Place N) → ℕ → Slot N
+  abbrev pub slot_at : Slab (Place H) → ℕ → Slot N
   slot_at places number = slot_of_entry (get places number)
 
-  -- the place with its node changed
-  abbrev pub with_node : Place N → N → Place N
-  with_node Reserved _ = Reserved
-  with_node (Occupied node) new = Occupied (with_boxed node new)
-
-  -- the place of a number with its node changed
-  abbrev pub with_entry_node : Option (Place N) → N → Place N
-  with_entry_node None _ = Reserved
-  with_entry_node (Some place) new = with_node place new
-
-  pub slot_of-with_entry_node : (entry : Option (Place N)) (new : N) → IsPresent (slot_of_entry entry) → slot_of (with_entry_node entry new) ≡ Present new
-  slot_of-with_entry_node None new h = elim h [ ]
-  slot_of-with_entry_node (Some Reserved) new h = elim h [ ]
-  slot_of-with_entry_node (Some (Occupied node)) new _ = refl
-
   -- a node stands at a place
-  IsPresent-some : (entry : Option (Place N)) → IsPresent (slot_of_entry entry) → IsSome entry
+  IsPresent-some : (entry : Option (Place H)) → IsPresent (slot_of_entry entry) → IsSome entry
   IsPresent-some None h = elim h [ ]
   IsPresent-some (Some place) _ = refl
 
-  pub Updates-with_place : (places : Slab (Place N)) (i : ℕ) (p : Place N) → IsPresent (slot_at places i) → Updates (slot_at places) (slot_at (with_value places i p)) i (slot_of p)
+  pub Updates-with_place : (places : Slab (Place H)) (i : ℕ) (p : Place H) → IsPresent (slot_at places i) → Updates (slot_at places) (slot_at (with_value places i p)) i (slot_of p)
   Updates-with_place places i p present =
       let updates = Updates-with_value places i p (IsPresent-some (get places i) present) in
       record { changed = ap slot_of_entry updates.changed; others = λ j ne. ap slot_of_entry (updates.others j ne) }
 
-  free_entry : (entry : Option (Place N)) → slot_of_entry entry ≡ Free → entry ≡ None
+  free_entry : (entry : Option (Place H)) → slot_of_entry entry ≡ Free → entry ≡ None
   free_entry None _ = refl
   free_entry (Some Reserved) free = absurd (cc)
-  free_entry (Some (Occupied node)) free = absurd (cc)
+  free_entry (Some (Occupied holder)) free = absurd (cc)
 
-  none_counted : (entries : List (Option (Place N))) → ((number : ℕ) → slot_of_entry (slice_index_or entries number None) ≡ Free) → count_by is_some entries ≡ 0
-  none_counted [] free = refl
-  none_counted (None ∷ rest) free =
-      let counted = sum_by-cons (λ entry. cond (is_some entry) 1 0) None rest in
-      let later = none_counted rest (λ number. free (suc number)) in
-      omega arith
-  none_counted (Some place ∷ rest) free = absurd (let e : Some place ≡ None = free_entry (Some place) (free zero) in cc)
+  -- under each number nothing stands, where no number has a place
+  pub free_where_vacant : (places : Slab (Place H)) → IsVacant places → (number : ℕ) → slot_at places number ≡ Free
+  free_where_vacant places vacant number = ap slot_of_entry (vacant number)
 
-  -- under each number of an empty slab nothing stands
-  pub free_where_empty : (places : Slab (Place N)) → slab_len places ≡ 0 → (number : ℕ) → slot_at places number ≡ Free
-  free_where_empty places empty number = ap slot_of_entry (none_there places.slots empty number)
+  pub vacant_where_free : (places : Slab (Place H)) → ((number : ℕ) → slot_at places number ≡ Free) → IsVacant places
+  vacant_where_free places free number = free_entry (get places number) (free number)
 
-  -- a slab is empty where under each number nothing stands
-  pub empty_where_free : (places : Slab (Place N)) → ((number : ℕ) → slot_at places number ≡ Free) → slab_len places ≡ 0
-  empty_where_free places free = none_counted places.slots free
+  -- with_held writes the node
+  module _ (with_held : H → N → H) where
+    -- the place of a number with its node changed
+    abbrev pub with_entry_node : Option (Place H) → N → Place H
+    with_entry_node None _ = Reserved
+    with_entry_node (Some Reserved) _ = Reserved
+    with_entry_node (Some (Occupied holder)) new = Occupied (with_held holder new)
+
+    pub slot_of-with_entry_node : ((holder : H) (new : N) → node_of (with_held holder new) ≡ new) → (entry : Option (Place H)) (new : N) → IsPresent (slot_of_entry entry) → slot_of (with_entry_node entry new) ≡ Present new
+    slot_of-with_entry_node writes None new h = elim h [ ]
+    slot_of-with_entry_node writes (Some Reserved) new h = elim h [ ]
+    slot_of-with_entry_node writes (Some (Occupied holder)) new _ = ap Present (writes holder new)

@@ -1,10 +1,11 @@
 //! A store over two slabs.
-ghost use Rattle.std.specs.Prelude.{◌≡◌, ◌↔◌, ℕ, IsTrue, IfOk};
-ghost use Rattle.bptree_nodes.specs.Slot.{Free, IsEmpty};
-ghost use Rattle.bptree_stores.specs.Place.{slot_at};
+ghost use Rattle.std.specs.Prelude.{◌↔◌, IsTrue, IfOk};
+ghost use Rattle.bptree_nodes.specs.Slot.{IsEmpty};
+ghost use Rattle.bptree_stores.specs.Place.{IsVacant};
 
 use crate::node_stores::{CloneStore, NodeStore};
 use crate::place::Place;
+use crate::seat::Seat;
 use bptree_arguments::argument::Argument;
 use bptree_keys::compares::Compares;
 use bptree_keys::key::Key;
@@ -17,8 +18,8 @@ use std::cell::Cell;
 use std::mem;
 
 // Whether no number is present or held.
-fn is_vacant<N>(places: &Slab<Place<N>>) -> bool
-    ensures { IsTrue result ↔ ((id : ℕ) → slot_at places.now id ≡ Free) }
+fn is_vacant<H>(places: &Slab<Place<H>>) -> bool
+    ensures { IsTrue result ↔ IsVacant places.now }
 {
     places.is_empty()
 }
@@ -33,8 +34,8 @@ fn is_vacant<N>(places: &Slab<Place<N>>) -> bool
 /// Each other call takes constant time. A store that is dropped drops each node that is present.
 #[derive(Drop)]
 pub struct NodeStoreVec<K: Key, V, A: Argument<K> = ()> {
-    inner_nodes: Slab<Place<InnerNode<K, A>>>,
-    leaf_nodes: Slab<Place<LeafNode<K, V>>>,
+    inner_nodes: Slab<Place<Box<InnerNode<K, A>>>>,
+    leaf_nodes: Slab<Place<Seat<LeafNode<K, V>>>>,
     alloc: Global,
     cached_leaf: Cell<usize>,
     // The number that was given last to be remembered. It is remembered once it is given twice in
@@ -127,19 +128,19 @@ impl<K: Key, V: Drop, A: Argument<K>> NodeStore for NodeStoreVec<K, V, A> {
     }
 
     fn get_inner(&self, id: InnerNodeId) -> &InnerNode<K, A> {
-        self.inner_nodes[id.as_usize()].node()
+        self.inner_nodes[id.as_usize()].holder()
     }
 
     fn get_mut_inner(&mut self, id: InnerNodeId) -> &mut InnerNode<K, A> {
-        self.inner_nodes[id.as_usize()].node_mut()
+        self.inner_nodes[id.as_usize()].holder_mut().as_mut()
     }
 
     fn get_leaf(&self, id: LeafNodeId) -> &LeafNode<K, V> {
-        self.leaf_nodes[id.as_usize()].node()
+        &self.leaf_nodes[id.as_usize()].holder().node
     }
 
     fn get_mut_leaf(&mut self, id: LeafNodeId) -> &mut LeafNode<K, V> {
-        self.leaf_nodes[id.as_usize()].node_mut()
+        &mut self.leaf_nodes[id.as_usize()].holder_mut().node
     }
 
     fn try_get_inner(&self, id: InnerNodeId) -> Option<&InnerNode<K, A>> {
@@ -151,7 +152,7 @@ impl<K: Key, V: Drop, A: Argument<K>> NodeStore for NodeStoreVec<K, V, A> {
 
     fn try_get_leaf(&self, id: LeafNodeId) -> Option<&LeafNode<K, V>> {
         match self.leaf_nodes.get(id.as_usize()) {
-            Some(Place::Occupied(leaf)) => Some(leaf),
+            Some(Place::Occupied(seat)) => Some(&seat.node),
             _ => None,
         }
     }
@@ -165,7 +166,7 @@ impl<K: Key, V: Drop, A: Argument<K>> NodeStore for NodeStoreVec<K, V, A> {
 
     fn take_leaf(&mut self, id: LeafNodeId) -> Box<LeafNode<K, V>> {
         match mem::replace(&mut self.leaf_nodes[id.as_usize()], Place::Reserved) {
-            Place::Occupied(leaf) => leaf,
+            Place::Occupied(seat) => seat.into_box(),
             Place::Reserved => unreachable!(),
         }
     }
@@ -181,7 +182,7 @@ impl<K: Key, V: Drop, A: Argument<K>> NodeStore for NodeStoreVec<K, V, A> {
         requires { (slots self.old).leaf id.0 ≡ Held }
         ensures { UpdatesLeaf (slots self.old) (slots self.new) id.0 (Present leaf.value) }
     {
-        self.leaf_nodes[id.as_usize()] = Place::Occupied(leaf);
+        self.leaf_nodes[id.as_usize()] = Place::Occupied(Seat::of(leaf));
     }
 
     fn release_inner(&mut self, id: InnerNodeId) {

@@ -1,55 +1,55 @@
 //! What stands under a number of a slab.
 ghost use Rattle.std.specs.Prelude.{◌≡◌};
 ghost use Rattle.std.specs.Borrow.{Lends, sem};
-ghost use Rattle.bptree_nodes.specs.Slot.{Slot, Present, IsPresent};
-ghost use Rattle.bptree_stores.specs.Place.{slot_of, with_node};
+ghost use Rattle.bptree_stores.specs.Place.{IsOccupied};
 ghost use Rattle.bptree_stores.specs.contracts.place.Place.{the_row};
+ghost use Rattle.bptree_stores.specs.declared.place.Place.TheVariants.{Occupied};
 
 use std::alloc::AllocError;
 
-/// What stands under a number that is taken.
+/// What stands under a number that is taken. `H` is what holds the node there.
 #[derive(Drop)]
-pub enum Place<N> {
+pub enum Place<H> {
     /// Nothing yet, or nothing for a while.
     Reserved,
     /// A node.
-    Occupied(Box<N>),
+    Occupied(H),
 }
 
-impl<N> Place<N> {
-    /// The node that stands here.
-    pub fn node(&self) -> &N
-        requires { IsPresent (slot_of self.now) }
-        ensures { slot_of self.now ≡ Present result.now }
+impl<H> Place<H> {
+    /// What holds the node that stands here.
+    pub fn holder(&self) -> &H
+        requires { IsOccupied self.now }
+        ensures { self.now ≡ Occupied result.now }
     {
         match self {
-            Place::Occupied(node) => node,
+            Place::Occupied(holder) => holder,
             Place::Reserved => unreachable!(),
         }
     }
 
-    /// The node that stands here, for writing.
-    pub fn node_mut(&mut self) -> &mut N
-        requires { IsPresent (slot_of self.old) }
-        ensures* writes_back { sem 𝓛 (Lends (the_row N.row) N.row self.entry result (with_node self.old)) }
-        ensures value { slot_of self.old ≡ Present result.now }
+    /// The same, for writing.
+    pub fn holder_mut(&mut self) -> &mut H
+        requires { IsOccupied self.old }
+        ensures* writes_back { sem 𝓛 (Lends (the_row H.row) H.row self.entry result Occupied) }
+        ensures value { self.old ≡ Occupied result.now }
     {
         match self {
-            Place::Occupied(node) => node.as_mut(),
+            Place::Occupied(holder) => holder,
             Place::Reserved => unreachable!(),
         }
     }
 }
 
-impl<N: Clone> Clone for Place<N> {
+impl<H: Clone> Clone for Place<H> {
     ghost use Rattle.bptree_stores.specs.PlaceClones.{IsPlaceClone};
 
-    ghost is_clone = { IsPlaceClone N.is_clone };
+    ghost is_clone = { IsPlaceClone H.is_clone };
 
     fn clone(&self) -> Result<Self, AllocError> {
         match self {
             Place::Reserved => Ok(Place::Reserved),
-            Place::Occupied(node) => Ok(Place::Occupied(node.clone()?)),
+            Place::Occupied(holder) => Ok(Place::Occupied(holder.clone()?)),
         }
     }
 }

@@ -1,13 +1,14 @@
 use Rattle.std.proofs.Common.{refl, sym, ap, ◌∙◌, Some}
 use Rattle.bptree_stores.specs.Place.{slot_of_entry, Updates-with_place}
+use Rattle.bptree_stores.specs.StoreSlabs.{boxed}
 use Rattle.bptree_stores.specs.declared.place.Place.TheVariants.{Reserved}
 use Rattle.bptree_stores.proofs.node_store_vec.NodeStoreVecNodeStore.take_inner.Goals as goal
 
 pub returns-clause-value : goal.returns-clause-value
 returns-clause-value g c =
     let there = rw c.as_usize.ensures at c.index_mut.ensures.value in
-    ap slot_of_entry (there ∙ ap Some (sym c.replace.ensures.value ∙ c.in-Occupied.is))
+    ap (slot_of_entry boxed) (there ∙ ap Some (sym c.replace.ensures.value ∙ c.in-Occupied.is))
 
 pub returns-clause-updates : goal.returns-clause-updates
 returns-clause-updates g c =
-    rw (c.as_usize.ensures, c.replace.ensures.after) (record { inner = Updates-with_place c.args.self.now.inner_nodes c.args.id.0 Reserved c.requires; leaf = refl })
+    rw (c.as_usize.ensures, c.replace.ensures.after) (record { inner = Updates-with_place boxed c.args.self.now.inner_nodes c.args.id.0 Reserved c.requires; leaf = refl })
