@@ -45,6 +45,19 @@ fn finds_in_seven<K: Ord>(keys: &[K], key: &K, levels: usize) -> (Result<usize, 
     (place, compares.count())
 }
 
+// A key that likely stands behind all others has the same place when it does, and when it doesn't.
+fn finds_from_the_end<K: Ord>(keys: &[K], key: &K) -> (Result<usize, usize>, usize)
+    requires few { length keys.now ≤ 64 }
+    requires ascending { IsStrictlySortedBy K.cmp keys.now }
+    ensures past { (x y : K) → keys.now ≡ x ∷ y ∷ [] → K.cmp x key.now ≡ Less → K.cmp y key.now ≡ Less → result.0 ≡ Err 2 }
+    ensures first { (x y : K) → keys.now ≡ x ∷ y ∷ [] → K.cmp x key.now ≡ Equal → result.0 ≡ Ok 0 }
+    ensures count { result.1 ≤ 7 }
+{
+    let mut compares = Compares::at_end();
+    let place = locate_below_counted(keys, key, &mut compares);
+    (place, compares.count())
+}
+
 // Whatever the order of the keys is, the place is one among them or the end.
 fn stays_among_the_keys<K: Ord>(keys: &[K], key: &K) -> (usize, Result<usize, usize>)
     requires { length keys.now ≤ 64 }
