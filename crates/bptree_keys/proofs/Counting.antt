@@ -39,13 +39,13 @@ module _ {X : Type 0} (ord : X → Ordering) (xs : List X) where
       (λ k d a b. absurd (omega arith))
 
   -- the last key is above: after a comparison the number is one of those from rest on, or of the first ones
-  pub count_ends : (rest width bit : ℕ) (x y : X) (o : Ordering) (is_past : Bool) → 0 < rest → rest < length xs → y ≡ get_or xs (length xs - 1) y → is_le (ord y) ≡ false → x ≡ get_or xs (rest - 1) x → o ≡ ord x → is_past ≡ is_le o → bit ≡ bool_byte is_past
+  pub count_ends : (rest width bit : ℕ) (x y : X) (o : Ordering) (is_past : Bool) → rest < length xs → y ≡ get_or xs (length xs - 1) y → is_le (ord y) ≡ false → x ≡ get_or xs (rest - 1) x → o ≡ ord x → is_past ≡ is_le o → bit ≡ bool_byte is_past
       → length xs ≤ rest + width → rest ≤ width → CountsAmong ord xs (bit * rest) width
-  count_ends rest width bit x y o true s h ey f e p q b w l = subst (λ (m : ℕ). CountsAmong ord xs m width) {x = rest} {y = bit * rest} (omega (arith, ap (λ m. m * rest) b)) (record {
+  count_ends rest width bit x y o true h ey f e p q b w l = subst (λ (m : ℕ). CountsAmong ord xs m width) {x = rest} {y = bit * rest} (omega (arith, ap (λ m. m * rest) b)) (record {
     low = λ _. at_x ord xs (λ z. ordering_index (ord z) ≤ 1) (rest - 1) x (omega arith) e (not_Greater _ (ap is_le (sym p) ∙ sym q));
     high = λ up k d i j. all_after ord xs (length xs - 1) y (omega arith) ey (is_Greater _ f) up k d (omega arith) j;
   })
-  count_ends rest width bit x y o false s h ey f e p q b w l = subst (λ (m : ℕ). CountsAmong ord xs m width) {x = 0} {y = bit * rest} (omega (arith, ap (λ m. m * rest) b)) (record {
+  count_ends rest width bit x y o false h ey f e p q b w l = subst (λ (m : ℕ). CountsAmong ord xs m width) {x = 0} {y = bit * rest} (omega (arith, ap (λ m. m * rest) b)) (record {
     low = λ i. absurd (omega arith);
     high = λ up k d i j. all_after ord xs (rest - 1) x (omega arith) e (is_Greater _ (ap is_le (sym p) ∙ sym q)) up k d (omega arith) j;
   })

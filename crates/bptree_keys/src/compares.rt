@@ -162,19 +162,56 @@ fn search_ends<K: Ord>(
     search_among(keys, key, usize::from(is_past) * rest, width, compares)
 }
 
-// Finds `key` among few keys. It is not inlined, so that the search in a node with more of them is.
-#[inline(never)]
-fn search_few<K: Ord>(keys: &[K], key: &K, compares: &mut Compares) -> Result<usize, usize>
-    requires few { length keys.now ≤ 32 }
+// Finds `key` among 16 keys or more: in the first 32 of them or the last, and of those in the first 16
+// or the last, which may have some in common. So each later step's width is known when the search is
+// compiled, and nothing branches on how many keys there are.
+#[inline(always)]
+fn search_many<K: Ord>(keys: &[K], key: &K, compares: &mut Compares) -> Result<usize, usize>
+    requires { (16 ≤ length keys.now) × (length keys.now ≤ 64) }
     ensures in_range { IsSearchInRange result (length keys.now) }
     ensures position { IsBinarySearchResult (λ y. K.cmp y key.now) keys.now result }
     ensures counts_on { compares.old ≤ compares.new }
     ensures count { compares.new ≤ compares.old + 7 }
 {
     let count = keys.len();
-    if count >= 16 {
-        search_ends(keys, key, 16, compares)
-    } else if count >= 8 {
+    let rest = count.saturating_sub(32);
+    let is_past = compares.compare(&keys[rest], key).is_le();
+    let step = count - rest - 16;
+    search_later(keys, key, usize::from(is_past) * rest, step, compares)
+}
+
+// Finds `key` where its place is among 16 keys and `step` more from `base` on.
+#[inline(always)]
+fn search_later<K: Ord>(
+    keys: &[K],
+    key: &K,
+    base: usize,
+    step: usize,
+    compares: &mut Compares,
+) -> Result<usize, usize>
+    requires step { step ≤ 16 }
+    requires within { base + (step + 16) ≤ length keys.now }
+    requires among { IsAmong (λ y. K.cmp y key.now) keys.now base (step + 16) }
+    ensures in_range { IsSearchInRange result (length keys.now) }
+    ensures position { IsBinarySearchResult (λ y. K.cmp y key.now) keys.now result }
+    ensures counts_on { compares.old ≤ compares.new }
+    ensures count { compares.new ≤ compares.old + 6 }
+{
+    let is_past = compares.compare(&keys[base + step], key).is_le();
+    search_among(keys, key, base + usize::from(is_past) * step, 16, compares)
+}
+
+// Finds `key` among few keys. It is not inlined, so that the search in a node with more of them is.
+#[inline(never)]
+fn search_few<K: Ord>(keys: &[K], key: &K, compares: &mut Compares) -> Result<usize, usize>
+    requires few { length keys.now < 16 }
+    ensures in_range { IsSearchInRange result (length keys.now) }
+    ensures position { IsBinarySearchResult (λ y. K.cmp y key.now) keys.now result }
+    ensures counts_on { compares.old ≤ compares.new }
+    ensures count { compares.new ≤ compares.old + 7 }
+{
+    let count = keys.len();
+    if count >= 8 {
         search_ends(keys, key, 8, compares)
     } else if count >= 4 {
         search_ends(keys, key, 4, compares)
@@ -187,25 +224,27 @@ fn search_few<K: Ord>(keys: &[K], key: &K, compares: &mut Compares) -> Result<us
     }
 }
 
-// Finds `key` where its place is among the 32 keys from `base` on. The first step branches, and each
-// way goes on by itself, so that the next key can be fetched before a comparison is done.
+// The same as `search_later`, but the step branches, and each way goes on by itself: so the next key
+// can be fetched before the comparison is done.
 #[inline(always)]
 fn search_by_branch<K: Ord>(
     keys: &[K],
     key: &K,
     base: usize,
+    step: usize,
     compares: &mut Compares,
 ) -> Result<usize, usize>
-    requires within { base + 32 ≤ length keys.now }
-    requires among { IsAmong (λ y. K.cmp y key.now) keys.now base 32 }
+    requires step { step ≤ 16 }
+    requires within { base + (step + 16) ≤ length keys.now }
+    requires among { IsAmong (λ y. K.cmp y key.now) keys.now base (step + 16) }
     ensures in_range { IsSearchInRange result (length keys.now) }
     ensures position { IsBinarySearchResult (λ y. K.cmp y key.now) keys.now result }
     ensures counts_on { compares.old ≤ compares.new }
     ensures count { compares.new ≤ compares.old + 6 }
 {
-    match compares.compare(&keys[base + 16], key) {
-        Ordering::Less => search_among(keys, key, base + 16, 16, compares),
-        Ordering::Equal => Ok(base + 16),
+    match compares.compare(&keys[base + step], key) {
+        Ordering::Less => search_among(keys, key, base + step, 16, compares),
+        Ordering::Equal => Ok(base + step),
         Ordering::Greater => search_among(keys, key, base, 16, compares),
     }
 }
@@ -219,20 +258,23 @@ fn search_far<K: Ord>(keys: &[K], key: &K, compares: &mut Compares) -> Result<us
     ensures counts_on { compares.old ≤ compares.new }
     ensures count { compares.new ≤ compares.old + 7 }
 {
-    if keys.len() <= 32 {
+    let count = keys.len();
+    if count < 16 {
         return search_few(keys, key, compares);
     }
-    let rest = keys.len() - 32;
+    let rest = count.saturating_sub(32);
+    let step = count - rest - 16;
     match compares.compare(&keys[rest], key) {
-        Ordering::Less => search_by_branch(keys, key, rest, compares),
+        Ordering::Less => search_by_branch(keys, key, rest, step, compares),
         Ordering::Equal => Ok(rest),
-        Ordering::Greater => search_by_branch(keys, key, 0, compares),
+        Ordering::Greater => search_by_branch(keys, key, 0, step, compares),
     }
 }
 
 // Finds `key` among the first `end` keys, behind which all are greater. Each step leaves the key out
 // that it looked at, and an equal one ends the search. So it makes the fewest comparisons, for keys
 // that are long or point elsewhere.
+#[inline(never)]
 fn search_halves<K: Ord>(
     keys: &[K],
     key: &K,
@@ -260,6 +302,7 @@ fn search_halves<K: Ord>(
 }
 
 // Finds `key` among keys all of which are likely smaller: the last one is compared first.
+#[inline(never)]
 fn search_from_end<K: Ord>(keys: &[K], key: &K, compares: &mut Compares) -> Result<usize, usize>
     requires few { length keys.now ≤ 64 }
     ensures in_range { IsSearchInRange result (length keys.now) }
@@ -291,10 +334,10 @@ pub fn locate_counted<K: Ord>(keys: &[K], key: &K, compares: &mut Compares) -> R
 {
     if size_of_val(key) > LONG {
         search_halves(keys, key, keys.len(), compares)
-    } else if keys.len() <= 32 {
+    } else if keys.len() < 16 {
         search_few(keys, key, compares)
     } else {
-        search_ends(keys, key, 32, compares)
+        search_many(keys, key, compares)
     }
 }
 
@@ -352,7 +395,7 @@ fn count_among<K: Ord>(
 // key behind all others needs no further comparison.
 #[inline(always)]
 fn count_upto_many<K: Ord>(keys: &[K], key: &K, compares: &mut Compares) -> usize
-    requires { (32 < length keys.now) × (length keys.now ≤ 64) }
+    requires { (16 < length keys.now) × (length keys.now ≤ 64) }
     ensures in_range { result ≤ length keys.now }
     ensures ascending { CountsUpTo K.cmp key.now keys.now result }
     ensures counts_on { compares.old ≤ compares.new }
@@ -362,9 +405,32 @@ fn count_upto_many<K: Ord>(keys: &[K], key: &K, compares: &mut Compares) -> usiz
     if compares.compare(&keys[count - 1], key).is_le() {
         return count;
     }
-    let rest = count - 32;
-    let is_past = compares.compare(&keys[rest - 1], key).is_le();
-    count_among(keys, key, usize::from(is_past) * rest, 32, compares)
+    let rest = count.saturating_sub(32);
+    let is_past = compares.compare(&keys[rest.saturating_sub(1)], key).is_le();
+    let step = count - rest - 16;
+    count_later(keys, key, usize::from(is_past) * rest, step, compares)
+}
+
+// How many of ascending `keys` are not greater than `key`, where that is one of 16 numbers and `step`
+// more from `base` on.
+#[inline(always)]
+fn count_later<K: Ord>(
+    keys: &[K],
+    key: &K,
+    base: usize,
+    step: usize,
+    compares: &mut Compares,
+) -> usize
+    requires step { (0 < step) × (step ≤ 16) }
+    requires within { base + (step + 16) ≤ length keys.now }
+    requires among { CountsAmong (λ y. K.cmp y key.now) keys.now base (step + 16) }
+    ensures in_range { result ≤ length keys.now }
+    ensures ascending { CountsUpTo K.cmp key.now keys.now result }
+    ensures counts_on { compares.old ≤ compares.new }
+    ensures count { compares.new ≤ compares.old + 5 }
+{
+    let is_past = compares.compare(&keys[base + step - 1], key).is_le();
+    count_among(keys, key, base + usize::from(is_past) * step, 16, compares)
 }
 
 /// How many of ascending `keys` are not greater than `key`.
@@ -376,7 +442,7 @@ pub fn count_upto_counted<K: Ord>(keys: &[K], key: &K, compares: &mut Compares) 
     ensures counts_on { compares.old ≤ compares.new }
     ensures count { compares.new ≤ compares.old + 7 }
 {
-    if size_of_val(key) <= LONG && keys.len() > 32 {
+    if size_of_val(key) <= LONG && keys.len() > 16 {
         return count_upto_many(keys, key, compares);
     }
     match locate_counted(keys, key, compares) {

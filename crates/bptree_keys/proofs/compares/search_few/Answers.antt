@@ -1,11 +1,8 @@
 use Rattle.std.proofs.Common.{arith}
 use Rattle.bptree_keys.proofs.compares.search_few.Goals as goal
 
-pub returns-then-count-ge16-clause-count : goal.returns-then-count-ge16-clause-count
-returns-then-count-ge16-clause-count g c = omega (arith, c.search_ends.ensures.count 4 (omega arith))
-
 pub returns-then-count-ge8-clause-count : goal.returns-then-count-ge8-clause-count
-returns-then-count-ge8-clause-count g c = omega (arith, c.search_ends-then-count-ge8.ensures.count 3 (omega arith))
+returns-then-count-ge8-clause-count g c = omega (arith, c.search_ends.ensures.count 3 (omega arith))
 
 pub returns-then-count-ge4-clause-count : goal.returns-then-count-ge4-clause-count
 returns-then-count-ge4-clause-count g c = omega (arith, c.search_ends-then-count-ge4.ensures.count 2 (omega arith))
