@@ -323,7 +323,7 @@ fn search_from_end<K: Ord>(keys: &[K], key: &K, compares: &mut Compares) -> Resu
 }
 
 /// The place of `key` among ascending `keys`, or how many are smaller.
-#[inline]
+#[inline(always)]
 pub fn locate_counted<K: Ord>(keys: &[K], key: &K, compares: &mut Compares) -> Result<usize, usize>
     requires { length keys.now ≤ 64 }
     ensures in_range { IsSearchInRange result (length keys.now) }
@@ -342,7 +342,7 @@ pub fn locate_counted<K: Ord>(keys: &[K], key: &K, compares: &mut Compares) -> R
 }
 
 /// The same in a leaf, as `compares` was told of it.
-#[inline]
+#[inline(always)]
 pub fn locate_below_counted<K: Ord>(
     keys: &[K],
     key: &K,
@@ -434,7 +434,7 @@ fn count_later<K: Ord>(
 }
 
 /// How many of ascending `keys` are not greater than `key`.
-#[inline]
+#[inline(always)]
 pub fn count_upto_counted<K: Ord>(keys: &[K], key: &K, compares: &mut Compares) -> usize
     requires { length keys.now ≤ 64 }
     ensures in_range { result ≤ length keys.now }
