@@ -1,16 +1,23 @@
-use Rattle.std.proofs.Common.{◌≡◌, ℕ, suc, ◌+◌, ◌-◌, ◌^◌, ◌<◌, min, List, length, map, take, drop, get_or, Some, None, false, sym, ap, ◌∙◌, arith}
+use Rattle.std.proofs.Common.{◌≡◌, ℕ, suc, ◌+◌, ◌-◌, ◌^◌, ◌<◌, ◌≤◌, min, List, length, map, take, drop, get_or, Some, None, false, sym, ap, ◌∙◌, arith}
 use Rattle.std.specs.declared.cmp.Ordering.{Ordering}
 use Rattle.std.specs.declared.cmp.Ordering.TheVariants.{Less, Equal, Greater}
 use Rattle.std.specs.Ordering.{is_gt, ordering_reverse}
 use Rattle.std.specs.Cmp.{IsTotalOrder}
 use Rattle.std.specs.List.{AllZip}
+use Rattle.std.proofs.lemmas.List.{take_all}
 use Rattle.bptree_arguments.specs.declared.group.GroupCount.{GroupCount}
 use Rattle.bptree_keys.specs.Pieces.{flatten, piece_at, ArePieces}
 use Rattle.bptree_arguments.specs.declared.group.Ends.{Ends}
 use Rattle.bptree_arguments.specs.Groups.{group_size, AreEnds, IsGroupSummary, TellsEnds}
-use Rattle.bptree_keys.proofs.PieceLemmas.{AllByRecursion-weaker}
+use Rattle.bptree_keys.proofs.PieceLemmas.{AllByRecursion-weaker, AllZip-length}
 use Rattle.bptree_arguments.proofs.GroupLemmas.{child_within, summary_here, size_above, size_greatest_below, size_greatest_same, size_after_greatest, piece_ascends, size_parts, size_more}
 use Rattle.bptree_arguments.specs.GroupClones.{less_le, size_alike}
+
+-- what was counted up to the last piece was counted of all
+pub count_all : {K G : Type 0} (R : G → G → Ordering) (group_of : K → G) (g : G) (pieces : List (List K)) (arguments : List (GroupCount G)) → AllZip (λ a keys. IsGroupSummary R a (map group_of keys)) arguments pieces → (i : ℕ) → length arguments ≤ i → (start count : ℕ) → count ≡ min (start + group_size R g (map group_of (flatten (take i pieces)))) (2 ^ 64 - 1) → count ≡ min (start + group_size R g (map group_of (flatten pieces))) (2 ^ 64 - 1)
+count_all R group_of g pieces arguments summaries i past start count counted =
+    let whole = take_all i pieces (omega (arith, past, AllZip-length (λ a keys. IsGroupSummary R a (map group_of keys)) arguments pieces summaries)) in
+    rw whole at counted
 
 module _ {K G : Type 0} (cmp : K → K → Ordering) (R : G → G → Ordering) (group_of : K → G) (keeps : (x y : K) → is_gt (cmp x y) ≡ false → is_gt (R (group_of x) (group_of y)) ≡ false) (o : IsTotalOrder R) (g : G) (pieces : List (List K)) (are : ArePieces cmp pieces) (arguments : List (GroupCount G)) (summaries : AllZip (λ a keys. IsGroupSummary R a (map group_of keys)) arguments pieces) (i : ℕ) (l : i < length arguments) where
   inside : i < length pieces

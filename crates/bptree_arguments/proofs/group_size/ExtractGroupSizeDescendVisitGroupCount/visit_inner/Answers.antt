@@ -1,10 +1,10 @@
 use Rattle.std.proofs.Common.{Some, arith, ap, ◌∙◌}
-use Rattle.std.proofs.lemmas.List.{length-map, take_all}
+use Rattle.std.proofs.lemmas.List.{length-map}
 use Rattle.std.specs.Map.{keys_of}
 use Rattle.bptree_arguments.specs.Visits.{answered, key_pieces}
 use Rattle.bptree_keys.proofs.PieceLemmas.{AllZip-length}
 use Rattle.bptree_arguments.proofs.VisitLemmas.{keys_of-flatten, piece_at-keys}
-use Rattle.bptree_arguments.proofs.GroupSizeLemmas.{count_none, count_below, count_same, count_down, count_begun, count_over}
+use Rattle.bptree_arguments.proofs.GroupSizeLemmas.{count_all, count_none, count_below, count_same, count_down, count_begun, count_over}
 use Rattle.bptree_arguments.proofs.group_size.ExtractGroupSizeDescendVisitGroupCount.visit_inner.Goals as goal
 use Rattle.bptree_arguments.proofs.group_size.ExtractGroupSizeDescendVisitGroupCount.visit_inner.Goals.{in-None, in-Some+in-Less, in-Some+in-Equal}
 
@@ -49,7 +49,5 @@ loop-i-preserved g c = record {
 pub returns : goal.returns
 returns g c = record {
   step = λ pieces are summaries wide.
-      let parts = key_pieces pieces in
-      let whole = take_all c.loop-i.i parts (omega (arith, c.loop-i-test.false, AllZip-length _ c.args.arguments.now parts summaries)) in
-      rw keys_of-flatten (ap (λ n. answered (Some n)) (rw whole at (c.loop-i.invariant.sum parts are summaries)));
+      rw keys_of-flatten (ap (λ n. answered (Some n)) (count_all g.G.Ord.cmp g.G.FromRef.group_of c.args.self.now.group (key_pieces pieces) c.args.arguments.now summaries c.loop-i.i c.loop-i-test.false c.args.self.now.counted c.loop-i.counted (c.loop-i.invariant.sum (key_pieces pieces) are summaries)));
 }
