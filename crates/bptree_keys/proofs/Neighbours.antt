@@ -61,7 +61,7 @@ module _ {K V : Type 0} (cmp : K → K → Ordering) (total : IsTotalOrder cmp) 
   above_by Equal is later = rw is (later_above (ap is_gt is) (next cmp l k) later)
   above_by Greater is later = rw is (first_above is)
 
-  -- the greatest below behind the first is it with the first, where that is not greater
+  -- the greatest smaller pair of the rest is that of all, where the first pair is no greater one
   behind : {pair : K × V} (at : IsGreatestBelow cmp l k pair) → (cmp x.0 k ≡ Less → is_gt (cmp x.0 pair.0) ≡ false) → IsGreatestBelow cmp (x ∷ l) k pair
   behind {pair} at first = record { place = suc at.place; here = at.here; below = at.below; greatest = each_more (λ other. cmp other.0 k ≡ Less → is_gt (cmp other.0 pair.0) ≡ false) x l first at.greatest }
 
