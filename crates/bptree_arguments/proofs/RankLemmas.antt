@@ -1,5 +1,5 @@
 -- How many keys are smaller than one that is searched for.
-use Rattle.std.proofs.Common.{◌≡◌, ℕ, ◌+◌, ◌≤◌, List, [], ◌∷◌, ◌++◌, length, Result, Ok, Err, Bool, true, false, refl, ap, ◌∙◌, arith, length-append, append_assoc}
+use Rattle.std.proofs.Common.{◌≡◌, ℕ, ◌+◌, ◌-◌, ◌^◌, ◌<◌, ◌≤◌, min, List, [], ◌∷◌, ◌++◌, length, Result, Ok, Err, Bool, true, false, refl, ap, ◌∙◌, arith, length-append, append_assoc}
 use Rattle.std.specs.declared.cmp.Ordering.{Ordering}
 use Rattle.std.specs.declared.cmp.Ordering.TheVariants.{Less, Equal, Greater}
 use Rattle.std.specs.Ordering.{is_lt}
@@ -58,3 +58,8 @@ module _ {K : Type 0} (cmp : K → K → Ordering) (k : K) where
   -- a count of keys fits where the list's length does
   pub count_below-le : (keys : List K) → count_below cmp k keys ≤ length keys
   count_below-le keys = omega (arith, length-filter (λ x. is_lt (cmp x k)) keys, count_by-le-length (λ x. is_lt (cmp x k)) keys)
+
+  -- a rank that counts the keys before a leaf counts those below k once k's slot is added
+  pub counted_at_slot : (rank : ℕ) (keys : List K) (slot : Result ℕ ℕ) (answer : ℕ) → answer ≡ min (rank + slot_index slot) (2 ^ 64 - 1) → IsSlotOf cmp k keys slot → (before after : List K) → AllBelow cmp k before → AllAbove cmp k after → length (before ++ (keys ++ after)) < 2 ^ 64 → rank ≡ length before → answer ≡ count_below cmp k (before ++ (keys ++ after))
+  counted_at_slot rank keys slot answer is placed before after low high fits stands =
+      omega (arith, is, count_below-slot keys before after slot placed low high, fits, stands, count_below-le (before ++ (keys ++ after)))

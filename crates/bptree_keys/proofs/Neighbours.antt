@@ -19,11 +19,15 @@ read_of_all P [] i pair all read = cc
 read_of_all P (x ∷ l) zero pair all read = let e : x ≡ pair = cc in rw (← e) all.0
 read_of_all P (x ∷ l) (suc i) pair all read = read_of_all P l i pair all.1 read
 
+-- what holds of the first pair and of each one behind it holds of all
+each_more : {X : Type 0} (P : X → Type 0) (x : X) (l : List X) → P x → ((i : ℕ) (y : X) → slice_get l i ≡ Some y → P y) → (i : ℕ) (y : X) → slice_get (x ∷ l) i ≡ Some y → P y
+each_more P x l first later zero y read = let e : x ≡ y = cc in rw (← e) first
+each_more P x l first later (suc i) y read = later i y read
+
 -- no pair that passes the test is read where none is kept
 none_by : {X : Type 0} (test : X → Bool) (y : X) (l : List X) → (filter test l ≡ [] → (i : ℕ) (x : X) → slice_get l i ≡ Some x → test x ≡ false) → (b : Bool) → test y ≡ b → filter test (y ∷ l) ≡ [] → (i : ℕ) (x : X) → slice_get (y ∷ l) i ≡ Some x → test x ≡ false
 none_by test y l later true is none i x read = let kept : y ∷ filter test l ≡ [] = rw is at none in cc
-none_by test y l later false is none zero x read = let e : y ≡ x = cc in rw (← e) is
-none_by test y l later false is none (suc i) x read = later (rw is at none) i x read
+none_by test y l later false is none i x read = each_more (λ z. test z ≡ false) y l is (later (rw is at none)) i x read
 
 none_kept : {X : Type 0} (test : X → Bool) (l : List X) → filter test l ≡ [] → (i : ℕ) (x : X) → slice_get l i ≡ Some x → test x ≡ false
 none_kept test [] none i x read = cc
@@ -36,8 +40,7 @@ last_later x (y ∷ xs) some = let far : length (x ∷ y ∷ xs) - 1 ≡ suc (le
 module _ {K V : Type 0} (cmp : K → K → Ordering) (total : IsTotalOrder cmp) (k : K) (x : K × V) (l : List (K × V)) (ascending : IsAscending cmp (x ∷ l)) where
   -- the keys behind the first are greater
   not_below_first : (i : ℕ) (other : K × V) → slice_get (x ∷ l) i ≡ Some other → is_lt (cmp other.0 x.0) ≡ false
-  not_below_first zero other read = let e : x ≡ other = cc in rw (← e) (ap is_lt (tied_itself total x.0))
-  not_below_first (suc i) other read = ap is_lt (greater_turned cmp total x.0 other.0 (read_of_all (λ key. cmp x.0 key ≡ Less) l i other (sorted_head cmp x.0 (keys_of l) ascending) read))
+  not_below_first = each_more (λ other. is_lt (cmp other.0 x.0) ≡ false) x l (ap is_lt (tied_itself total x.0)) (λ i other read. ap is_lt (greater_turned cmp total x.0 other.0 (read_of_all (λ key. cmp x.0 key ≡ Less) l i other (sorted_head cmp x.0 (keys_of l) ascending) read)))
 
   -- a first pair that is above is the one
   first_above : cmp x.0 k ≡ Greater → IsLeastAbove cmp (x ∷ l) k x
@@ -45,64 +48,42 @@ module _ {K V : Type 0} (cmp : K → K → Ordering) (total : IsTotalOrder cmp) 
 
   -- one that is not is passed over
   later_above : is_gt (cmp x.0 k) ≡ false → (o : Option (K × V)) → IsAfter cmp l k o → IsAfter cmp (x ∷ l) k o
-  later_above not_above None none = all
-    where
-      all : (i : ℕ) (other : K × V) → slice_get (x ∷ l) i ≡ Some other → is_gt (cmp other.0 k) ≡ false
-      all zero other read = let e : x ≡ other = cc in rw (← e) not_above
-      all (suc i) other read = none i other read
-  later_above not_above (Some pair) at = record { place = suc at.place; here = at.here; above = at.above; least = least }
-    where
-      least : (i : ℕ) (other : K × V) → slice_get (x ∷ l) i ≡ Some other → cmp other.0 k ≡ Greater → is_lt (cmp other.0 pair.0) ≡ false
-      least zero other read up =
-          let e : x ≡ other = cc in
-          let here : cmp x.0 k ≡ Greater = ap (λ (p : K × V). cmp p.0 k) e ∙ up in
-          let there : is_gt (cmp x.0 k) ≡ true = ap is_gt here in
-          absurd (true≢false (sym there ∙ not_above))
-      least (suc i) other read up = at.least i other read up
+  later_above not_above None none = each_more (λ other. is_gt (cmp other.0 k) ≡ false) x l not_above none
+  later_above not_above (Some pair) at = record {
+    place = suc at.place;
+    here = at.here;
+    above = at.above;
+    least = each_more (λ other. cmp other.0 k ≡ Greater → is_lt (cmp other.0 pair.0) ≡ false) x l (λ up. absurd (true≢false (sym (ap is_gt up) ∙ not_above))) at.least;
+  }
 
   above_by : (o : Ordering) → cmp x.0 k ≡ o → IsAfter cmp l k (next cmp l k) → IsAfter cmp (x ∷ l) k (next cmp (x ∷ l) k)
   above_by Less is later = rw is (later_above (ap is_gt is) (next cmp l k) later)
   above_by Equal is later = rw is (later_above (ap is_gt is) (next cmp l k) later)
   above_by Greater is later = rw is (first_above is)
 
+  -- the greatest smaller pair of the rest is that of all, where the first pair is no greater one
+  behind : {pair : K × V} (at : IsGreatestBelow cmp l k pair) → (cmp x.0 k ≡ Less → is_gt (cmp x.0 pair.0) ≡ false) → IsGreatestBelow cmp (x ∷ l) k pair
+  behind {pair} at first = record { place = suc at.place; here = at.here; below = at.below; greatest = each_more (λ other. cmp other.0 k ≡ Less → is_gt (cmp other.0 pair.0) ≡ false) x l first at.greatest }
+
   -- a first pair that is not below is passed over
   later_below : is_lt (cmp x.0 k) ≡ false → (o : Option (K × V)) → IsBefore cmp l k o → IsBefore cmp (x ∷ l) k o
-  later_below not_below None none = all
-    where
-      all : (i : ℕ) (other : K × V) → slice_get (x ∷ l) i ≡ Some other → is_lt (cmp other.0 k) ≡ false
-      all zero other read = let e : x ≡ other = cc in rw (← e) not_below
-      all (suc i) other read = none i other read
-  later_below not_below (Some pair) at = record { place = suc at.place; here = at.here; below = at.below; greatest = greatest }
-    where
-      greatest : (i : ℕ) (other : K × V) → slice_get (x ∷ l) i ≡ Some other → cmp other.0 k ≡ Less → is_gt (cmp other.0 pair.0) ≡ false
-      greatest zero other read down =
-          let e : x ≡ other = cc in
-          let here : cmp x.0 k ≡ Less = ap (λ (p : K × V). cmp p.0 k) e ∙ down in
-          let there : is_lt (cmp x.0 k) ≡ true = ap is_lt here in
-          absurd (true≢false (sym there ∙ not_below))
-      greatest (suc i) other read down = at.greatest i other read down
+  later_below not_below None none = each_more (λ other. is_lt (cmp other.0 k) ≡ false) x l not_below none
+  later_below not_below (Some pair) at = behind at (λ down. absurd (true≢false (sym (ap is_lt down) ∙ not_below)))
 
   -- it is the one where no other is below
   first_below : cmp x.0 k ≡ Less → pairs_below cmp l k ≡ [] → IsGreatestBelow cmp (x ∷ l) k x
-  first_below below none = record { place = 0; here = refl; below = below; greatest = greatest }
-    where
-      greatest : (i : ℕ) (other : K × V) → slice_get (x ∷ l) i ≡ Some other → cmp other.0 k ≡ Less → is_gt (cmp other.0 x.0) ≡ false
-      greatest zero other read down = let e : x ≡ other = cc in rw (← e) (ap is_gt (tied_itself total x.0))
-      greatest (suc i) other read down =
-          let there : is_lt (cmp other.0 k) ≡ true = ap is_lt down in
-          absurd (true≢false (sym there ∙ none_kept (λ (p : K × V). is_lt (cmp p.0 k)) l none i other read))
+  first_below below none = record {
+    place = 0;
+    here = refl;
+    below = below;
+    greatest = each_more (λ other. cmp other.0 k ≡ Less → is_gt (cmp other.0 x.0) ≡ false) x l (λ down. ap is_gt (tied_itself total x.0)) (λ i other read down. absurd (true≢false (sym (ap is_lt down) ∙ none_kept (λ (p : K × V). is_lt (cmp p.0 k)) l none i other read)));
+  }
 
   -- and a later one is greater than it
   first_passed : (o : Option (K × V)) → IsBefore cmp l k o → (none : o ≡ None → ⊥) → IsBefore cmp (x ∷ l) k o
   first_passed None before some = absurd (some refl)
-  first_passed (Some pair) at some = record { place = suc at.place; here = at.here; below = at.below; greatest = greatest }
-    where
-      greatest : (i : ℕ) (other : K × V) → slice_get (x ∷ l) i ≡ Some other → cmp other.0 k ≡ Less → is_gt (cmp other.0 pair.0) ≡ false
-      greatest zero other read down =
-          let e : x ≡ other = cc in
-          let less : cmp x.0 pair.0 ≡ Less = read_of_all (λ key. cmp x.0 key ≡ Less) l at.place pair (sorted_head cmp x.0 (keys_of l) ascending) at.here in
-          rw (← e) (ap is_gt less)
-      greatest (suc i) other read down = at.greatest i other read down
+  first_passed (Some pair) at some =
+      behind at (λ down. ap is_gt (read_of_all (λ key. cmp x.0 key ≡ Less) l at.place pair (sorted_head cmp x.0 (keys_of l) ascending) at.here))
 
   some_last : (p : K × V) (ps : List (K × V)) → slice_get (p ∷ ps) (length (p ∷ ps) - 1) ≡ None → ⊥
   some_last p [] none = cc

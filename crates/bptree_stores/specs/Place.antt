@@ -1,6 +1,6 @@
 -- How a store in slabs keeps what stands under a number.
 use Rattle.std.specs.Prelude.{◌≡◌, ℕ, zero, suc, Option, Some, None, is_some, IsSome, List, [], ◌∷◌, count_by, slice_index_or, refl}
-use Rattle.std.proofs.Common.{ap, arith, cond}
+use Rattle.std.proofs.Common.{ap, arith, cond, sym}
 use Rattle.std.proofs.lemmas.List.Sums.{sum_by-cons}
 use Rattle.slab.specs.Slab.{Slab, get, with_value, slab_len}
 use Rattle.slab.proofs.SlabLemmas.{Updates-with_value}
@@ -90,3 +90,9 @@ module _ {H N : Type 0} (node_of : H → N) where
     slot_of-with_entry_node writes None new h = elim h [ ]
     slot_of-with_entry_node writes (Some Reserved) new h = elim h [ ]
     slot_of-with_entry_node writes (Some (Occupied holder)) new _ = ap Present (writes holder new)
+
+    -- the node under a number was changed, and nothing else
+    pub Updates-with_node : ((holder : H) (new : N) → node_of (with_held holder new) ≡ new) → (places : Slab (Place H)) (number : ℕ) (new : N) → IsPresent (slot_at places number) → Updates (slot_at places) (slot_at (with_value places number (with_entry_node (get places number) new))) number (Present new)
+    Updates-with_node writes places number new present =
+        let entry = get places number in
+        rw (sym (slot_of-with_entry_node writes entry new present)) (Updates-with_place places number (with_entry_node entry new) present)

@@ -3,12 +3,11 @@ use Rattle.std.specs.Prelude.{ℕ, refl}
 use Rattle.std.specs.Box.{with_value as with_boxed}
 use Rattle.std.specs.declared.alloc.Global.{Global}
 use Rattle.std.specs.declared.boxed.Box.{Box}
-use Rattle.std.proofs.Common.{sym}
 use Rattle.slab.specs.Slab.{get, with_value}
 use Rattle.bptree_nodes.specs.Inner.{Inner}
 use Rattle.bptree_nodes.specs.Leaf.{Leaf}
 use Rattle.bptree_nodes.specs.Slot.{Slots, Present, IsPresent, UpdatesLeaf, UpdatesInner}
-use Rattle.bptree_stores.specs.Place.{slot_at, with_entry_node, slot_of-with_entry_node, Updates-with_place}
+use Rattle.bptree_stores.specs.Place.{slot_at, with_entry_node, Updates-with_node}
 use Rattle.bptree_stores.specs.declared.node_store_vec.NodeStoreVec.{NodeStoreVec}
 use Rattle.bptree_stores.specs.declared.seat.Seat.{Seat}
 
@@ -30,20 +29,10 @@ module _ {K V A : Type 0} where
   store_with_leaf s id leaf = record s { leaf_nodes = with_value s.leaf_nodes id (with_entry_node seated with_seated (get s.leaf_nodes id) leaf) }
 
   pub store_with_leaf_updates : (s : NodeStoreVec K V A) (id : ℕ) (leaf : Leaf K V) → IsPresent ((slots s).leaf id) → UpdatesLeaf (slots s) (slots (store_with_leaf s id leaf)) id (Present leaf)
-  store_with_leaf_updates s id leaf present =
-      let entry = get s.leaf_nodes id in
-      record {
-        leaf = rw (sym (slot_of-with_entry_node seated with_seated (λ _ _. refl) entry leaf present)) (Updates-with_place seated s.leaf_nodes id (with_entry_node seated with_seated entry leaf) present);
-        inner = refl;
-      }
+  store_with_leaf_updates s id leaf present = record { leaf = Updates-with_node seated with_seated (λ _ _. refl) s.leaf_nodes id leaf present; inner = refl }
 
   abbrev pub store_with_inner : NodeStoreVec K V A → ℕ → Inner K A → NodeStoreVec K V A
   store_with_inner s id node = record s { inner_nodes = with_value s.inner_nodes id (with_entry_node boxed with_boxed (get s.inner_nodes id) node) }
 
   pub store_with_inner_updates : (s : NodeStoreVec K V A) (id : ℕ) (node : Inner K A) → IsPresent ((slots s).inner id) → UpdatesInner (slots s) (slots (store_with_inner s id node)) id (Present node)
-  store_with_inner_updates s id node present =
-      let entry = get s.inner_nodes id in
-      record {
-        inner = rw (sym (slot_of-with_entry_node boxed with_boxed (λ _ _. refl) entry node present)) (Updates-with_place boxed s.inner_nodes id (with_entry_node boxed with_boxed entry node) present);
-        leaf = refl;
-      }
+  store_with_inner_updates s id node present = record { inner = Updates-with_node boxed with_boxed (λ _ _. refl) s.inner_nodes id node present; leaf = refl }

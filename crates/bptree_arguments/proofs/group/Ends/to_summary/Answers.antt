@@ -1,4 +1,3 @@
-use Rattle.std.proofs.lemmas.Result.{IfOk-from_err}
 use Rattle.bptree_arguments.proofs.GroupEndsLemmas.{one_kept, several_kept}
 use Rattle.bptree_arguments.proofs.group.Ends.to_summary.Goals as goal
 
@@ -9,15 +8,3 @@ returns-then-self-eq1-clause-summary g c = λ groups a.
 pub returns-in_ok-greatest-clause-summary : goal.returns-in_ok-greatest-clause-summary
 returns-in_ok-greatest-clause-summary g c = λ groups a.
     several_kept g.met.G.Ord.total groups (c.args.self.least.now, c.args.self.least_size) (c.args.self.greatest.now, c.args.self.greatest_size) c.args.self.group_count c.in_ok-least.least c.in_ok-greatest.greatest c.if-self-eq1.false (g.met.G.Key.clone_is_equal _ _ c.in_ok-least.ensures.cases) (g.met.G.Key.clone_is_equal _ _ c.in_ok-greatest.ensures.cases) a
-
-pub returns-in_err-least-clause-summary : goal.returns-in_err-least-clause-summary
-returns-in_err-least-clause-summary g c = IfOk-from_err c.from_residual.result _ c.from_residual.ensures.0
-
-pub returns-in_err-least-clause-told : goal.returns-in_err-least-clause-told
-returns-in_err-least-clause-told g c = IfOk-from_err c.from_residual.result _ c.from_residual.ensures.0
-
-pub returns-in_err-greatest-clause-summary : goal.returns-in_err-greatest-clause-summary
-returns-in_err-greatest-clause-summary g c = IfOk-from_err c.from_residual-in_err-greatest.result _ c.from_residual-in_err-greatest.ensures.0
-
-pub returns-in_err-greatest-clause-told : goal.returns-in_err-greatest-clause-told
-returns-in_err-greatest-clause-told g c = IfOk-from_err c.from_residual-in_err-greatest.result _ c.from_residual-in_err-greatest.ensures.0

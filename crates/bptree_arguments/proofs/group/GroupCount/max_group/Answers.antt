@@ -1,24 +1,11 @@
-use Rattle.std.proofs.Common.{refl}
 use Rattle.bptree_arguments.proofs.group.GroupCount.max_group.Goals as goal
-
-pub returns-in-Zero-clause-greatest : goal.returns-in-Zero-clause-greatest
-returns-in-Zero-clause-greatest g c = λ groups summary. rw c.in-Zero.is at summary
-
-pub returns-in-Zero-clause-exact : goal.returns-in-Zero-clause-exact
-returns-in-Zero-clause-exact g c = rw c.in-Zero.is refl
 
 pub returns-in-One-clause-greatest : goal.returns-in-One-clause-greatest
 returns-in-One-clause-greatest g c = λ groups summary.
     let only = rw c.in-One.is at summary in
     (only.greatest_bound, only.greatest_size, only.greatest_there)
 
-pub returns-in-One-clause-exact : goal.returns-in-One-clause-exact
-returns-in-One-clause-exact g c = rw c.in-One.is refl
-
 pub returns-in-Multiple-clause-greatest : goal.returns-in-Multiple-clause-greatest
 returns-in-Multiple-clause-greatest g c = λ groups summary.
     let several = rw c.in-Multiple.is at summary in
     (several.0.greatest_bound, several.0.greatest_size, several.0.greatest_there)
-
-pub returns-in-Multiple-clause-exact : goal.returns-in-Multiple-clause-exact
-returns-in-Multiple-clause-exact g c = rw c.in-Multiple.is refl

@@ -1,48 +1,7 @@
-use Rattle.std.proofs.Common.{◌-◌, refl, arith, ap, length, ◌∙◌}
+use Rattle.std.proofs.Common.{◌-◌, refl, arith}
 use Rattle.std.proofs.lemmas.List.{take-take}
 use Rattle.bptree_nodes.proofs.Pairs.{slice_get-take}
 use Rattle.bptree_nodes.proofs.inner_node.InnerNode.hand_over.Goals as goal
-
-pub move_tail-requires-clause-within : goal.move_tail-requires-clause-within
-move_tail-requires-clause-within g c =
-    let within = rw (← c.self.view_is) at c.requires.within in
-    omega (arith, within.0, within.1)
-
-pub move_tail-requires-clause-empty : goal.move_tail-requires-clause-empty
-move_tail-requires-clause-empty g c =
-    let none = ap (λ node. length node.children) c.right.view_is ∙ ap length c.requires.shell in
-    omega (arith, none)
-
-pub move_tail-requires-clause-fits : goal.move_tail-requires-clause-fits
-move_tail-requires-clause-fits g c = omega arith
-
-pub take_last-promoted-requires : goal.take_last-promoted-requires
-take_last-promoted-requires g c =
-    let within = rw (← c.self.view_is) at c.requires.within in
-    omega (arith, within.0, c.move_tail.ensures.len)
-
-pub move_children-requires-clause-within : goal.move_children-requires-clause-within
-move_children-requires-clause-within g c =
-    let within = rw (← c.self.view_is) at c.requires.within in
-    omega (arith, within.0, within.1)
-
-pub move_children-requires-clause-empty : goal.move_children-requires-clause-empty
-move_children-requires-clause-empty g c =
-    let none = ap (λ node. length node.children) c.right.view_is ∙ ap length c.requires.shell in
-    omega (arith, none)
-
-pub move_tail-requires-2-clause-within : goal.move_tail-requires-2-clause-within
-move_tail-requires-2-clause-within g c =
-    let within = rw (← c.self.view_is) at c.requires.within in
-    omega (arith, within.0, within.1)
-
-pub move_tail-requires-2-clause-empty : goal.move_tail-requires-2-clause-empty
-move_tail-requires-2-clause-empty g c =
-    let none = ap (λ node. length node.children) c.right.view_is ∙ ap length c.requires.shell in
-    omega (arith, none)
-
-pub move_tail-requires-2-clause-fits : goal.move_tail-requires-2-clause-fits
-move_tail-requires-2-clause-fits g c = omega arith
 
 pub invariant_of-self : goal.invariant_of-self
 invariant_of-self g c =

@@ -2,15 +2,6 @@ use Rattle.std.proofs.Common.{ap, arith, length, [], ◌∷◌, ◌∙◌, appen
 use Rattle.std.proofs.lemmas.List.{length_push}
 use Rattle.bptree_nodes.proofs.inner_node.InnerNode.rotate_left.Goals as goal
 
-pub pop_front-up-requires : goal.pop_front-up-requires
-pop_front-up-requires g c = c.requires.some
-
-pub push-requires-clause-node : goal.push-requires-clause-node
-push-requires-clause-node g c = c.requires.node
-
-pub push-requires-clause-room : goal.push-requires-clause-room
-push-requires-clause-room g c = c.requires.room
-
 pub returns-clause-keys : goal.returns-clause-keys
 returns-clause-keys g c = rw (c.push.ensures, c.pop_front-up.ensures.key) (append_assoc _ (c.args.key ∷ []) _)
 

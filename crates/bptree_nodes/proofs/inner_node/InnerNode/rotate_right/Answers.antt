@@ -5,15 +5,6 @@ use Rattle.bptree_nodes.proofs.inner_node.InnerNode.rotate_right.Goals as goal
 pub returns-clause-keys : goal.returns-clause-keys
 returns-clause-keys g c = rw (c.pop-up.ensures.key, c.push_front.ensures) (sym (append_assoc _ (c.pop-up.result.0 ∷ []) _))
 
-pub pop-up-requires : goal.pop-up-requires
-pop-up-requires g c = c.requires.some
-
-pub push_front-requires-clause-node : goal.push_front-requires-clause-node
-push_front-requires-clause-node g c = c.requires.node
-
-pub push_front-requires-clause-room : goal.push_front-requires-clause-room
-push_front-requires-clause-room g c = c.requires.room
-
 pub returns-clause-children : goal.returns-clause-children
 returns-clause-children g c = rw (c.pop-up.ensures.child, c.push_front.ensures) (sym (append_assoc _ (c.pop-up.result.1 ∷ []) _))
 

@@ -14,16 +14,6 @@ pub returns-clause-after : goal.returns-clause-after
 returns-clause-after g c =
     rw (← c.self.view_is, c.remove-key.ensures.items, c.remove-value.ensures.items, remove_pair c.self.inside.keys.items c.self.inside.values.items c.args.slot (omega arith)) refl
 
-pub remove-key-requires : goal.remove-key-requires
-remove-key-requires g c =
-    let within = rw (← c.self.view_is) at c.requires in
-    omega (arith, within, length_pairs c.self.inside.keys.items c.self.inside.values.items (omega arith))
-
-pub remove-value-requires : goal.remove-value-requires
-remove-value-requires g c =
-    let within = rw (← c.self.view_is) at c.requires in
-    omega (arith, within, length_pairs c.self.inside.keys.items c.self.inside.values.items (omega arith))
-
 pub invariant_of-self : goal.invariant_of-self
 invariant_of-self g c = (omega arith, omega arith, omega arith, omega arith)
 

@@ -7,26 +7,6 @@ pub returns-clause-after : goal.returns-clause-after
 returns-clause-after g c =
     rw (← c.self.view_is, c.insert_reserved.ensures.items, c.insert_reserved-2.ensures.items, insert_pair c.self.inside.keys.items c.self.inside.values.items c.args.slot c.args.key c.args.value (omega arith)) refl
 
-pub insert_reserved-requires-clause-within : goal.insert_reserved-requires-clause-within
-insert_reserved-requires-clause-within g c =
-    let within = rw (← c.self.view_is) at c.requires.within in
-    omega (arith, within, length_pairs c.self.inside.keys.items c.self.inside.values.items (omega arith))
-
-pub insert_reserved-requires-clause-fits : goal.insert_reserved-requires-clause-fits
-insert_reserved-requires-clause-fits g c =
-    let room = rw (← c.self.view_is) at c.requires.room in
-    omega (arith, room, length_pairs c.self.inside.keys.items c.self.inside.values.items (omega arith))
-
-pub insert_reserved-requires-2-clause-within : goal.insert_reserved-requires-2-clause-within
-insert_reserved-requires-2-clause-within g c =
-    let within = rw (← c.self.view_is) at c.requires.within in
-    omega (arith, within, length_pairs c.self.inside.keys.items c.self.inside.values.items (omega arith))
-
-pub insert_reserved-requires-2-clause-fits : goal.insert_reserved-requires-2-clause-fits
-insert_reserved-requires-2-clause-fits g c =
-    let room = rw (← c.self.view_is) at c.requires.room in
-    omega (arith, room, length_pairs c.self.inside.keys.items c.self.inside.values.items (omega arith))
-
 pub invariant_of-self : goal.invariant_of-self
 invariant_of-self g c =
     let room = rw (← c.self.view_is) at c.requires.room in

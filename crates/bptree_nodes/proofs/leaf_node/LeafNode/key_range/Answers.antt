@@ -1,36 +1,8 @@
 use Rattle.std.proofs.Common.{◌≡◌, ◌-◌, length, refl, arith}
 use Rattle.std.proofs.lemmas.Option.{slice_get_read}
-use Rattle.std.proofs.lemmas.Result.{IfOk-from_err}
 use Rattle.std.proofs.lemmas.Slice.Zip.{firsts-zip}
 use Rattle.bptree_nodes.proofs.Pairs.{length_pairs}
 use Rattle.bptree_nodes.proofs.leaf_node.LeafNode.key_range.Goals as goal
-
-pub index-requires : goal.index-requires
-index-requires g c =
-    let some = rw (← c.self.view_is) at c.requires in
-    omega (arith, some, length_pairs c.self.inside.keys.items c.self.inside.values.items (omega arith))
-
-pub overflow_sub-len : goal.overflow_sub-len
-overflow_sub-len g c =
-    let some = rw (← c.self.view_is) at c.requires in
-    omega (arith, some, length_pairs c.self.inside.keys.items c.self.inside.values.items (omega arith))
-
-pub index-requires-2 : goal.index-requires-2
-index-requires-2 g c =
-    let some = rw (← c.self.view_is) at c.requires in
-    omega (arith, some, length_pairs c.self.inside.keys.items c.self.inside.values.items (omega arith))
-
-pub returns-in_err-first-clause-first : goal.returns-in_err-first-clause-first
-returns-in_err-first-clause-first g c = IfOk-from_err c.from_residual.result _ c.from_residual.ensures.0
-
-pub returns-in_err-first-clause-last : goal.returns-in_err-first-clause-last
-returns-in_err-first-clause-last g c = IfOk-from_err c.from_residual.result _ c.from_residual.ensures.0
-
-pub returns-in_err-last-clause-first : goal.returns-in_err-last-clause-first
-returns-in_err-last-clause-first g c = IfOk-from_err c.from_residual-in_err-last.result _ c.from_residual-in_err-last.ensures.0
-
-pub returns-in_err-last-clause-last : goal.returns-in_err-last-clause-last
-returns-in_err-last-clause-last g c = IfOk-from_err c.from_residual-in_err-last.result _ c.from_residual-in_err-last.ensures.0
 
 pub returns-clause-first : goal.returns-clause-first
 returns-clause-first g c =

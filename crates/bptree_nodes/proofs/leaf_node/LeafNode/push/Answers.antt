@@ -6,16 +6,6 @@ pub returns : goal.returns
 returns g c =
     rw (← c.self.view_is, c.push_reserved.ensures.items, c.push_reserved-2.ensures.items, append_pairs c.self.inside.keys.items (c.args.key ∷ []) c.self.inside.values.items (c.args.value ∷ []) (omega arith)) refl
 
-pub push_reserved-requires : goal.push_reserved-requires
-push_reserved-requires g c =
-    let room = rw (← c.self.view_is) at c.requires in
-    omega (arith, room, length_pairs c.self.inside.keys.items c.self.inside.values.items (omega arith))
-
-pub push_reserved-requires-2 : goal.push_reserved-requires-2
-push_reserved-requires-2 g c =
-    let room = rw (← c.self.view_is) at c.requires in
-    omega (arith, room, length_pairs c.self.inside.keys.items c.self.inside.values.items (omega arith))
-
 pub invariant_of-self : goal.invariant_of-self
 invariant_of-self g c =
     let room = rw (← c.self.view_is) at c.requires in

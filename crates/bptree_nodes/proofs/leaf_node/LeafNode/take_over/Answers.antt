@@ -1,22 +1,12 @@
 use Rattle.std.proofs.Common.{refl, arith, ap, length}
-use Rattle.bptree_nodes.proofs.Pairs.{length_pairs, append_pairs}
+use Rattle.bptree_nodes.proofs.Pairs.{pairs_in, length_pairs, append_pairs}
 use Rattle.bptree_nodes.proofs.leaf_node.LeafNode.take_over.Goals as goal
 
 pub append_all-requires : goal.append_all-requires
-append_all-requires g c =
-    let whole = ap (λ leaf. length leaf.pairs) c.self.view_is in
-    let other = ap (λ leaf. length leaf.pairs) c.right.view_is in
-    let long = length_pairs c.self.inside.keys.items c.self.inside.values.items (omega arith) in
-    let short = length_pairs c.right.inside.keys.items c.right.inside.values.items (omega arith) in
-    omega (arith, whole, other, long, short, c.requires)
+append_all-requires g c = grind (arith, pairs_in, length_pairs)
 
 pub append_all-requires-2 : goal.append_all-requires-2
-append_all-requires-2 g c =
-    let whole = ap (λ leaf. length leaf.pairs) c.self.view_is in
-    let other = ap (λ leaf. length leaf.pairs) c.right.view_is in
-    let long = length_pairs c.self.inside.keys.items c.self.inside.values.items (omega arith) in
-    let short = length_pairs c.right.inside.keys.items c.right.inside.values.items (omega arith) in
-    omega (arith, whole, other, long, short, c.requires)
+append_all-requires-2 g c = grind (arith, pairs_in, length_pairs)
 
 pub invariant_of-self : goal.invariant_of-self
 invariant_of-self g c =
