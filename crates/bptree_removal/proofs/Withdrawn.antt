@@ -11,7 +11,7 @@ use Rattle.bptree_keys.specs.declared.node_id.NodeId.{NodeId}
 use Rattle.bptree_descents.specs.ByArgument.{IsSelectedAt, IsWithdrawn, GoesOn}
 use Rattle.bptree_shape.specs.Leaves.{pairs_of}
 use Rattle.bptree_shape.specs.Shape.{pairs_at, IsWellShaped}
-use Rattle.bptree_removal.specs.Removal.{IsFound, IsTakenFrom}
+use Rattle.bptree_removal.specs.Removal.{IsFound, IsTakenAt, IsTakenFrom}
 use Rattle.bptree_removal.proofs.EndPaths.{found_there, pair_there, taken_there}
 use Rattle.bptree_descents.proofs.Selected.{place_read}
 
@@ -37,3 +37,8 @@ module _ {K V A Q : Type 0} {cmp : K → K → Ordering} (total : IsTotalOrder c
       let there = pair_there total is_summary slots h root shape few leaf slot selected_here.1 path longer none goes_here in
       let taken = taken_there total is_summary slots h root shape few leaf slot selected_here.1 path longer none goes_here new pair top top_height a place (there.1 ∙ sym (place_read slots h root leaf selected_here.0 slot there.0 there.1)) (takes found_key.0 found_key.1) in
       record { place = place; was = taken.was; selected = selected_here.2; shape = taken.shape; pairs = taken.pairs; told = taken.told }
+
+-- the same pair as one that left from a place
+pub withdrawn_at : {K V A Q : Type 0} {selects : Q → List K → Option ℕ → Type 0} {query : Q} {cmp : K → K → Ordering} {is_summary : A → List K → Type 0} {old new : Slots (Inner K A) (Leaf K V)} {h : ℕ} {root : NodeId} {pair : K × V} {top : NodeId} {top_height : ℕ} {a : A}
+    → (r : IsWithdrawn selects query cmp is_summary old new h root pair top top_height a) → IsTakenAt cmp is_summary old new h root r.place pair top top_height a
+withdrawn_at r = record { was = r.was; shape = r.shape; pairs = r.pairs; told = r.told }
