@@ -77,7 +77,7 @@ module _ {K V A : Type 0} (cmp : K → K → Ordering) (is_summary : A → List 
   stands_stay n = elim (eqb_tells n leaf.0) [ inl same ↦ rw (same.1, here, updates.leaf.changed) refl | inr other ↦ ap stands (sym (updates.leaf.others n other.1)) ]
 
   pub leaf_changed : ((least : ℕ) (lo hi : Option K) → least ≤ kept → IsTree cmp old least 0 (kind.Leaf leaf) lo hi → Within cmp lo hi k
-          → AllByRecursion (λ p. Within cmp lo hi p.0) (edit node.pairs) × IsAscending cmp (edit node.pairs) × (least ≤ length (edit node.pairs)) × (length (edit node.pairs) ≤ 64))
+      → AllByRecursion (λ p. Within cmp lo hi p.0) (edit node.pairs) × IsAscending cmp (edit node.pairs) × (least ≤ length (edit node.pairs)) × (length (edit node.pairs) ≤ 64))
       → Edits cmp is_summary edit kept old new 0 (kind.Leaf leaf) k leaf Stays Done
   leaf_changed right = record {
     tree = λ least lo hi low tree fits. let r = right least lo hi low tree fits in rw updates.leaf.changed (tt, r.0, r.1, r.2, r.3);
