@@ -1,9 +1,8 @@
 -- A pair leaves a leaf.
-use Rattle.std.proofs.Common.{◌≡◌, ℕ, ◌≤◌, ◌+◌, inl, inr, List, [], length, refl, sym, ap, subst, arith}
+use Rattle.std.proofs.Common.{◌≡◌, ℕ, ◌≤◌, List, length, subst, arith}
 use Rattle.std.specs.declared.cmp.Ordering.{Ordering}
 use Rattle.std.specs.Cmp.{IsTotalOrder}
 use Rattle.std.specs.List.{AllByRecursion}
-use Rattle.std.proofs.lemmas.Bool.Decides.{eqb_tells}
 use Rattle.bptree_keys.specs.Contents.{IsAscending, del}
 use Rattle.bptree_keys.proofs.Around.{del_around}
 use Rattle.bptree_keys.proofs.Updates.{del_ascending}
@@ -15,7 +14,7 @@ use Rattle.bptree_keys.specs.declared.node_id.NodeId.TheVariants as kind
 use Rattle.bptree_shape.specs.Edit.{IsLocal, Stays, Edits}
 use Rattle.bptree_shape.specs.Order.{Within}
 use Rattle.bptree_shape.specs.Outcome.{Done}
-use Rattle.bptree_shape.specs.Shape.{leaf_pairs, leaf_count, stands}
+use Rattle.bptree_shape.specs.Shape.{leaf_pairs}
 use Rattle.bptree_keys.proofs.KeptKeys.{all_kept}
 use Rattle.bptree_ascent.proofs.LeafEdit.{leaf_changed}
 

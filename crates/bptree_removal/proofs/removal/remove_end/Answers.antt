@@ -1,4 +1,4 @@
-use Rattle.std.proofs.Common.{◌≡◌, ◌<◌, ◌-◌, ◌∙◌, Some, ap, arith, cond, length, refl, slice_get, sym}
+use Rattle.std.proofs.Common.{◌≡◌, ◌<◌, ◌-◌, ◌∙◌, ap, arith, cond, length, refl, slice_get, sym}
 use Rattle.bptree_ascent.proofs.Rooted.{low_tree}
 use Rattle.bptree_shape.specs.Shape.{leaf_pairs, pairs_at}
 use Rattle.bptree_shape.proofs.Ends.{end_pair, end_within}
