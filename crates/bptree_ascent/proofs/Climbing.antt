@@ -25,7 +25,7 @@ use Rattle.bptree_shape.specs.Outcome.{Outcome, Done}
 use Rattle.bptree_shape.specs.Order.{flat}
 use Rattle.bptree_shape.specs.Path.{Way}
 use Rattle.bptree_shape.specs.Shape.{inner_children, inner_arguments, pairs_at, root_least, IsSummed, IsTree}
-use Rattle.bptree_ascent.specs.Sums.{SumsUpAt, HasPlace, with_summary, HasPlaceAbove, IsKeptAbove, ReplacesSum, SumsUpChanged}
+use Rattle.bptree_ascent.specs.Sums.{SumsUpAt, HasPlace, with_summary, HasPlaceAbove, SumsUpChanged}
 use Rattle.bptree_ascent.proofs.Lift.{node_keeps}
 use Rattle.bptree_ascent.proofs.NodeChanges.{set_long, get_set, some_same}
 use Rattle.bptree_shape.proofs.NodePieces.{child_keys, node_keys_flat, node_pieces, node_summaries}

@@ -1,22 +1,23 @@
 -- A pair is put in a leaf, which may be split.
-use Rattle.std.proofs.Common.{◌≡◌, ℕ, ◌+◌, ◌≤◌, inl, inr, Bool, true, false, cond, List, [], ◌∷◌, ◌++◌, length, filter, refl, sym, ap, subst, ◌∙◌, arith, Option, Some, None, eqb}
+use Rattle.std.proofs.Common.{◌≡◌, ℕ, ◌+◌, ◌≤◌, inl, inr, Bool, true, false, cond, List, [], ◌∷◌, ◌++◌, length, refl, sym, ap, subst, ◌∙◌, arith, Option, Some, None, eqb}
 use Rattle.std.specs.declared.cmp.Ordering.{Ordering}
 use Rattle.std.specs.declared.cmp.Ordering.TheVariants.{Less}
-use Rattle.std.specs.Ordering.{is_lt, is_eq, is_gt}
+use Rattle.std.specs.Ordering.{is_lt}
 use Rattle.std.specs.Cmp.{IsTotalOrder}
 use Rattle.std.specs.List.{AllByRecursion}
-use Rattle.std.specs.Map.{keys_of, set_value}
+use Rattle.std.specs.Map.{keys_of}
 use Rattle.std.proofs.lemmas.Bool.Decides.{eqb_tells}
 use Rattle.std.proofs.lemmas.Cmp.{alike_right, tied_itself}
 use Rattle.std.proofs.lemmas.Map.Keys.{sorted_head}
-use Rattle.bptree_keys.specs.Contents.{IsAscending, pairs_below, pairs_above, has, put}
+use Rattle.bptree_keys.specs.Contents.{IsAscending, has, put}
 use Rattle.bptree_nodes.specs.Inner.{Inner}
 use Rattle.bptree_nodes.specs.Leaf.{Leaf}
 use Rattle.bptree_nodes.specs.Slot.{Slot, Slots, Present, IsPresent, UpdatesLeaf}
 use Rattle.bptree_keys.specs.declared.node_id.LeafNodeId.{LeafNodeId}
 use Rattle.bptree_keys.specs.declared.node_id.NodeId.TheVariants as kind
 use Rattle.bptree_keys.proofs.Around.{put_around}
-use Rattle.bptree_keys.proofs.PieceLemmas.{AllByRecursion-append, AllByRecursion-left, AllByRecursion-right, AllByRecursion-weaker}
+use Rattle.bptree_keys.proofs.KeptKeys.{all_put}
+use Rattle.bptree_keys.proofs.PieceLemmas.{AllByRecursion-left, AllByRecursion-right, AllByRecursion-weaker}
 use Rattle.bptree_keys.proofs.Laws.{put_ascending}
 use Rattle.bptree_keys.proofs.Updates.{length_put}
 use Rattle.bptree_keys.proofs.Ascending.{all_pairs, greater_turned}
@@ -28,33 +29,6 @@ use Rattle.bptree_shape.specs.Outcome.{Done, Split}
 use Rattle.bptree_shape.proofs.Agreeing.{stands_if_absent}
 use Rattle.bptree_shape.proofs.Ordered.{not_less_back, smaller_before, ascending_after}
 use Rattle.bptree_shape.proofs.Spot.{ascending_before}
-
-module _ {K V : Type 0} (P : K → Type 0) where
-  all_set : (test : K → Bool) (l : List (K × V)) (v : V) → AllByRecursion (λ p. P p.0) l → AllByRecursion (λ p. P p.0) (set_value test l v)
-  all_set test [] v all = tt
-  all_set test (p ∷ l) v all =
-      elim (test p.0) as (λ b. AllByRecursion (λ q. P q.0) (cond b ((p.0, v) ∷ l) (p ∷ set_value test l v))) [
-        | true ↦ all
-        | false ↦ (all.0, all_set test l v all.1)
-      ]
-
-  pub all_kept : (test : K × V → Bool) (l : List (K × V)) → AllByRecursion (λ p. P p.0) l → AllByRecursion (λ p. P p.0) (filter test l)
-  all_kept test [] all = tt
-  all_kept test (p ∷ l) all =
-      elim (test p) as (λ b. AllByRecursion (λ q. P q.0) (cond b (p ∷ filter test l) (filter test l))) [
-        | true ↦ (all.0, all_kept test l all.1)
-        | false ↦ all_kept test l all.1
-      ]
-
-  -- what holds of each key, and of the new one, holds of each key after
-  pub all_put : (cmp : K → K → Ordering) (l : List (K × V)) (k : K) (v : V) → P k → AllByRecursion (λ p. P p.0) l → AllByRecursion (λ p. P p.0) (put cmp l k v)
-  all_put cmp l k v here all =
-      elim (has cmp l k) as (λ b. AllByRecursion (λ q. P q.0) (cond b (set_value (λ key. is_eq (cmp key k)) l v) (pairs_below cmp l k ++ (k, v) ∷ pairs_above cmp l k))) [
-        | true ↦ all_set (λ key. is_eq (cmp key k)) l v all
-        | false ↦
-            AllByRecursion-append (λ p. P p.0) (pairs_below cmp l k) ((k, v) ∷ pairs_above cmp l k) (all_kept (λ pair. is_lt (cmp pair.0 k)) l all)
-            (here, all_kept (λ pair. is_gt (cmp pair.0 k)) l all)
-      ]
 
 -- a pair that is put looks no further than between the smaller and the greater keys
 pub put_is_local : {K V : Type 0} (cmp : K → K → Ordering) (k : K) (v : V) → IsLocal cmp k (λ l. put cmp l k v)
@@ -96,6 +70,28 @@ module _ {K V : Type 0} {cmp : K → K → Ordering} (total : IsTotalOrder cmp) 
       at_most None h = tt
       at_most (Some b) h = not_less_back total s b (total.congr s y.0 b start ∙ h)
 
+-- the pairs of a leaf are edited, and it stays where it is
+module _ {K V A : Type 0} (cmp : K → K → Ordering) (is_summary : A → List K → Type 0) (edit : List (K × V) → List (K × V)) (kept : ℕ) (old new : Slots (Inner K A) (Leaf K V)) (leaf : LeafNodeId) (k : K) (node : Leaf K V) (here : old.leaf leaf.0 ≡ Present node)
+    (updates : UpdatesLeaf old new leaf.0 (Present (record node { pairs = edit node.pairs }))) where
+  stands_stay : (n : ℕ) → stands (old.leaf n) ≡ stands (new.leaf n)
+  stands_stay n = elim (eqb_tells n leaf.0) [ inl same ↦ rw (same.1, here, updates.leaf.changed) refl | inr other ↦ ap stands (sym (updates.leaf.others n other.1)) ]
+
+  pub leaf_changed : ((least : ℕ) (lo hi : Option K) → least ≤ kept → IsTree cmp old least 0 (kind.Leaf leaf) lo hi → Within cmp lo hi k
+      → AllByRecursion (λ p. Within cmp lo hi p.0) (edit node.pairs) × IsAscending cmp (edit node.pairs) × (least ≤ length (edit node.pairs)) × (length (edit node.pairs) ≤ 64))
+      → Edits cmp is_summary edit kept old new 0 (kind.Leaf leaf) k leaf Stays Done
+  leaf_changed right = record {
+    tree = λ least lo hi low tree fits. let r = right least lo hi low tree fits in rw updates.leaf.changed (tt, r.0, r.1, r.2, r.3);
+    pairs = rw (updates.leaf.changed, here) refl;
+    leaves = λ n. ap (λ m. leaf_count old 0 (kind.Leaf leaf) n + m) (stands_stay n);
+    inners = λ n. ap (λ (f : ℕ → Slot (Inner K A)). 0 + stands (f n)) (sym updates.inner);
+    other_leaves = λ n none there. elim (eqb_tells leaf.0 n) [ inl same ↦ absurd (let z : 1 ≡ 0 = rw same.0 at none in omega arith) | inr other ↦ updates.leaf.others n (λ q. other.1 (sym q)) ];
+    other_inners = λ n none there. ap (λ (f : ℕ → Slot (Inner K A)). f n) updates.inner;
+    order = record { before = []; after = []; was = refl; is = refl };
+    links = rw (updates.leaf.changed, here) (refl, refl);
+    untouched = λ x other spares there. rw (updates.leaf.others x.0 other) ((refl, refl), there);
+    summed = λ old_sums. tt;
+  }
+
 module _ {K V A : Type 0} {cmp : K → K → Ordering} (total : IsTotalOrder cmp) (is_summary : A → List K → Type 0) (old new : Slots (Inner K A) (Leaf K V)) (leaf : LeafNodeId) (k : K) (v : V) (node : Leaf K V) (here : old.leaf leaf.0 ≡ Present node) where
   abbrev now : List (K × V)
   now = put cmp node.pairs k v
@@ -117,21 +113,8 @@ module _ {K V A : Type 0} {cmp : K → K → Ordering} (total : IsTotalOrder cmp
 
   -- a pair put in a leaf that has room for it
   pub leaf_edited : UpdatesLeaf old new leaf.0 (Present (record node { pairs = put cmp node.pairs k v })) → length (put cmp node.pairs k v) ≤ 64 → Edits cmp is_summary (λ l. put cmp l k v) 16 old new 0 (kind.Leaf leaf) k leaf Stays Done
-  leaf_edited updates room = record {
-    tree = λ least lo hi low tree fits. rw updates.leaf.changed (tt, within_now least lo hi tree fits, ascends_now least lo hi tree, long_now least lo hi tree, room);
-    pairs = rw (updates.leaf.changed, here) refl;
-    leaves = λ n. ap (λ m. leaf_count old 0 (kind.Leaf leaf) n + m) (stands_stay n);
-    inners = λ n. ap (λ (f : ℕ → Slot (Inner K A)). 0 + stands (f n)) (sym updates.inner);
-    other_leaves = λ n none there. elim (eqb_tells leaf.0 n) [ inl same ↦ absurd (let z : 1 ≡ 0 = rw same.0 at none in omega arith) | inr other ↦ updates.leaf.others n (λ q. other.1 (sym q)) ];
-    other_inners = λ n none there. ap (λ (f : ℕ → Slot (Inner K A)). f n) updates.inner;
-    order = record { before = []; after = []; was = refl; is = refl };
-    links = rw (updates.leaf.changed, here) (refl, refl);
-    untouched = λ x other spares there. rw (updates.leaf.others x.0 other) ((refl, refl), there);
-    summed = λ old_sums. tt;
-  }
-    where
-      stands_stay : (n : ℕ) → stands (old.leaf n) ≡ stands (new.leaf n)
-      stands_stay n = elim (eqb_tells n leaf.0) [ inl same ↦ rw (same.1, here, updates.leaf.changed) refl | inr other ↦ ap stands (sym (updates.leaf.others n other.1)) ]
+  leaf_edited updates room =
+      leaf_changed cmp is_summary (λ l. put cmp l k v) 16 old new leaf k node here updates (λ least lo hi low tree fits. (within_now least lo hi tree fits, ascends_now least lo hi tree, long_now least lo hi tree, room))
 
   module _ (fresh : LeafNodeId) (left right : List (K × V)) (s : K) (splits : SplitsLeaf old new leaf fresh node now left right) (start : StartsAt cmp s right) where
     apart : leaf.0 ≡ fresh.0 → ⊥

@@ -2,6 +2,7 @@ pub mod Alike
 pub mod AnySummary
 pub mod Climbing
 pub mod ClimbingTwo
+pub mod LeafClimb
 pub mod LeafEdit
 pub mod LeafPlaces
 pub mod Lent

@@ -26,6 +26,10 @@ pub record IsFilled {K V A : Type 0} (cmp : K → K → Ordering) (is_summary : 
   pub told : IsAscending cmp leaf.pairs → is_summary summary (keys_of leaf.pairs)
 
 module _ {K A : Type 0} where
+  -- the tree of one leaf, in a layer
+  abbrev pub leaf_tree : LeafNodeId → K → A → Subtree K A
+  leaf_tree id first summary = record { root = kind.Leaf id; first = first; summary = summary }
+
   -- a node above the first trees, with the keys that all but one of them start at as separators
   pub record IsAbove (all : List (Subtree K A)) (count : ℕ) (node : Inner K A) (first : K) (rest : List (Subtree K A)) : Type 0 where
     pub head : Subtree K A

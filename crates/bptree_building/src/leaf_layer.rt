@@ -1,12 +1,12 @@
 //! The leaves of a tree that is built, each with a number of its own and the numbers of the leaves
 //! beside it.
-ghost use Rattle.std.specs.Prelude.{◌≡◌, ◌+◌, ◌<◌, ◌≤◌, ◌++◌, [], length, IfOk};
+ghost use Rattle.std.specs.Prelude.{◌≡◌, ◌+◌, ◌<◌, ◌≤◌, ◌++◌, ◌∷◌, [], length, IfOk};
 ghost use Rattle.std.specs.Vec.Iter.{into_iter_items, into_iter_len};
 ghost use Rattle.bptree_keys.specs.Contents.{IsAscending};
-ghost use Rattle.bptree_nodes.specs.Slot.{Held, IsEmpty};
+ghost use Rattle.bptree_nodes.specs.Slot.{Held, IsEmpty, Present, UpdatesLeaf};
 ghost use Rattle.bptree_ascent.specs.Change.{StartsAt};
 ghost use Rattle.bptree_building.specs.Layer.{IsLayer};
-ghost use Rattle.bptree_building.specs.Steps.{EndsSpreading, SpreadsOn, TakesPairs};
+ghost use Rattle.bptree_building.specs.Steps.{leaf_tree, EndsSpreading, SpreadsOn, TakesPairs};
 
 use crate::subtree::{Subtree, append};
 use bptree_arguments::argument::Argument;
@@ -79,6 +79,26 @@ fn fill<K: Key, V: Drop, A: Argument<K>>(
     })
 }
 
+// Puts a leaf under the held number `id`, and its tree behind those of a layer.
+fn stand_leaf<S: NodeStore>(
+    store: &mut S,
+    layer: &mut Vec<Subtree<S::K, S::Argument>>,
+    filled: Filled<S::K, S::V, S::Argument>,
+    id: LeafNodeId,
+) -> Result<(), AllocError>
+    requires { (S.slots store.old).leaf id.0 ≡ Held }
+    ensures stands { UpdatesLeaf (S.slots store.old) (S.slots store.new) id.0 (Present filled.leaf.value) }
+    ensures appended { IfOk result (λ _. layer.new.items ≡ layer.old.items ++ leaf_tree id filled.first filled.summary ∷ []) }
+{
+    store.assign_leaf(id, filled.leaf);
+    let tree = Subtree {
+        root: NodeId::Leaf(id),
+        first: filled.first,
+        summary: filled.summary,
+    };
+    append(layer, tree)
+}
+
 // Puts a leaf of the first `count` of the items under the held number `id`, and holds a number for
 // the leaf behind it.
 fn add_leaf<S: NodeStore>(
@@ -95,20 +115,10 @@ fn add_leaf<S: NodeStore>(
     requires held { (S.slots store.old).leaf id.0 ≡ Held }
     ensures { IfOk result (SpreadsOn S.K.cmp S.Argument.is_summary (S.slots store.old) (S.slots store.new) layer.old.items layer.new.items items.old items.new count id prev) }
 {
-    let Filled {
-        mut leaf,
-        first,
-        summary,
-    } = fill(store.allocator(), items, count, prev)?;
+    let mut filled = fill(store.allocator(), items, count, prev)?;
     let next = store.reserve_leaf()?;
-    leaf.set_next(Some(next));
-    store.assign_leaf(id, leaf);
-    let tree = Subtree {
-        root: NodeId::Leaf(id),
-        first,
-        summary,
-    };
-    append(layer, tree)?;
+    filled.leaf.set_next(Some(next));
+    stand_leaf(store, layer, filled, id)?;
     Ok(next)
 }
 
@@ -127,18 +137,8 @@ fn add_last_leaf<S: NodeStore>(
     requires held { (S.slots store.old).leaf id.0 ≡ Held }
     ensures { IfOk result (λ _. EndsSpreading S.K.cmp S.Argument.is_summary (S.slots store.old) (S.slots store.new) layer.old.items layer.new.items items.old count id prev) }
 {
-    let Filled {
-        leaf,
-        first,
-        summary,
-    } = fill(store.allocator(), items, count, prev)?;
-    store.assign_leaf(id, leaf);
-    let tree = Subtree {
-        root: NodeId::Leaf(id),
-        first,
-        summary,
-    };
-    append(layer, tree)?;
+    let filled = fill(store.allocator(), items, count, prev)?;
+    stand_leaf(store, layer, filled, id)?;
     Ok(())
 }
 

@@ -26,13 +26,13 @@ use Rattle.bptree_shape.specs.Shape.{leaf_pairs, leaf_next, pairs_at, leaves_at,
 use Rattle.bptree_ascent.specs.declared.node_changes.Division.{Division}
 use Rattle.bptree_ascent.proofs.Climbing.{least_most, not_held}
 use Rattle.bptree_shape.proofs.Hinted.{total-append, count_of, first_or, linked_next}
+use Rattle.bptree_ascent.proofs.LeafClimb.{none_held, leaf_reached, climb_from}
 use Rattle.bptree_ascent.proofs.LeafEdit.{put_is_local, leaf_edited, leaf_split}
 use Rattle.bptree_ascent.proofs.Relinked.{one_at}
-use Rattle.bptree_ascent.proofs.SlotFacts.{node_of, none_is, next_seen}
+use Rattle.bptree_ascent.proofs.SlotFacts.{node_of, next_seen}
 use Rattle.bptree_shape.proofs.Ordered.{ascending_after}
 use Rattle.bptree_shape.proofs.Spot.{ascending_before}
-use Rattle.bptree_ascent.proofs.Rooted.{reach_of, present_leaf, whole_done, split_unlinked_pairs, whole_grown, grown_pairs, whole_split, split_pairs}
-use Rattle.bptree_shape.proofs.Ways.{way_can}
+use Rattle.bptree_ascent.proofs.Rooted.{present_leaf, whole_done, split_unlinked_pairs, whole_grown, grown_pairs, whole_split, split_pairs}
 
 slot_of : {K V : Type 0} (s : Slot (Leaf K V)) (slot : ℕ) → IsPresent s → slot ≤ length (leaf_pairs s) → HasSlotAt s slot
 slot_of Free slot there within = absurd there
@@ -82,7 +82,7 @@ module _ {K V A : Type 0} (cmp : K → K → Ordering) (is_summary : A → List 
 module _ {K V A : Type 0} {cmp : K → K → Ordering} (total : IsTotalOrder cmp) (is_summary : A → List K → Type 0) (old : Slots (Inner K A) (Leaf K V)) (path : List (InnerNodeId × ℕ × NodeId)) (leaf : LeafNodeId) (slot : ℕ) (k : K)
     (due : IsDue cmp is_summary old path leaf slot k) where
   can : CanReach cmp old 0 (kind.Leaf leaf) k
-  can = way_can cmp old k path due.top due.root 0 (kind.Leaf leaf) due.way (reach_of cmp is_summary old due.top due.root k due.shape)
+  can = leaf_reached is_summary old path leaf k due.top due.root due.shape due.way
 
   pub leaf_there : IsPresent (old.leaf leaf.0)
   leaf_there = can.tree.0
@@ -124,26 +124,7 @@ module _ {K V A : Type 0} {cmp : K → K → Ordering} (total : IsTotalOrder cmp
 
     -- the edit of the leaf, at the beginning of its way up
     abbrev pub climb_put : {mid : Slots (Inner K A) (Leaf K V)} {turn : Turn} {outcome : Outcome K} → Edits cmp is_summary (λ l. put cmp l k v) 16 old mid 0 (kind.Leaf leaf) k leaf turn outcome → mid.inner ≡ old.inner → ((n : ℕ) → mid.leaf n ≡ Held → ⊥) → Climb cmp is_summary mid path outcome
-    climb_put {mid} {turn} {outcome} edits inner none = record {
-      old = old;
-      edit = λ l. put cmp l k v;
-      k = k;
-      leaf = leaf;
-      turn = turn;
-      kept = 16;
-      held_inner = λ n. false;
-      held_leaf = λ n. false;
-      top = due.top;
-      root = due.root;
-      height = 0;
-      id = kind.Leaf leaf;
-      shape = due.shape;
-      few = put_few total k v (length (pairs_at old due.top due.root)) due.few;
-      local = put_is_local cmp k v;
-      way = due.way;
-      edits = edits;
-      free = record { inners = λ n. none_is (mid.inner n) (λ h. due.shape.no_inner_held n (ap (λ (f : ℕ → Slot (Inner K A)). f n) (sym inner) ∙ h)); leaves = λ n. none_is (mid.leaf n) (none n) };
-    }
+    climb_put edits = climb_from is_summary old path leaf k due.top due.root due.shape due.way (λ l. put cmp l k v) 16 (put_few total k v (length (pairs_at old due.top due.root)) due.few) (put_is_local cmp k v) edits
 
     -- in a leaf with room
     module _ (mid : Slots (Inner K A) (Leaf K V)) (add : (was : Leaf K V) → old.leaf leaf.0 ≡ Present was → Adds old mid leaf slot (k, v) was) (few : length (leaf_pairs (old.leaf leaf.0)) < 64) where
@@ -163,7 +144,7 @@ module _ {K V A : Type 0} {cmp : K → K → Ordering} (total : IsTotalOrder cmp
           (omega (arith, ap length is_put, length-insert node.pairs slot (k, v) within_here, room))
 
       pub none_added : (n : ℕ) → mid.leaf n ≡ Held → ⊥
-      none_added n h = elim (cases_eq n leaf.0) [ inl same ↦ (let z = sym adds.leaf.changed ∙ (ap mid.leaf (sym same) ∙ h) in cc) | inr other ↦ due.shape.no_leaf_held n (sym (adds.leaf.others n other) ∙ h) ]
+      none_added = none_held old mid leaf.0 _ adds due.shape.no_leaf_held
 
       abbrev pub climb_added : Climb cmp is_summary mid path Done
       climb_added = climb_put edits_added adds.inner none_added

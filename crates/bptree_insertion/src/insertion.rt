@@ -279,11 +279,7 @@ pub fn is_full(len: usize) -> bool
 // The place of a key in a leaf below so many levels, or how many of its keys are smaller. In the last
 // of several leaves a key that is to be put likely stands behind all others.
 #[inline(always)]
-fn slot_for<K: Key, V: Drop>(
-    leaf: &LeafNode<K, V>,
-    levels: usize,
-    key: &K,
-) -> Result<usize, usize>
+fn slot_for<K: Key, V: Drop>(leaf: &LeafNode<K, V>, levels: usize, key: &K) -> Result<usize, usize>
     ensures in_range { IsSearchInRange result (length leaf.now.pairs) }
     ensures found { IfOk result (HasEqualAt K.cmp leaf.now.pairs key.now) }
     ensures place { IsPlaceInLeaf K.cmp leaf.now key.now result }

@@ -3,6 +3,7 @@ pub mod Ascending
 pub mod Counting
 pub mod Equal
 pub mod Found
+pub mod KeptKeys
 pub mod Laws
 pub mod Locating
 pub mod Neighbours

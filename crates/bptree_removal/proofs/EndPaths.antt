@@ -1,18 +1,14 @@
 -- A way down to an end leads a search for any key of its leaf there, and a pair that is taken there is the first or the last.
-use Rattle.std.proofs.Common.{◌≡◌, ℕ, ◌+◌, ◌-◌, ◌<◌, ◌^◌, List, [], ◌∷◌, ◌++◌, length, refl, sym, ap, subst, ◌∙◌, arith, None, Some, slice_get}
+use Rattle.std.proofs.Common.{◌≡◌, ℕ, ◌-◌, ◌<◌, ◌^◌, List, [], ◌∷◌, ◌++◌, length, refl, sym, ap, ◌∙◌, arith, None, Some, slice_get}
 use Rattle.std.specs.Prelude.{Bool, true, false, cond}
 use Rattle.std.specs.declared.cmp.Ordering.{Ordering}
 use Rattle.std.specs.declared.cmp.Ordering.TheVariants.{Equal}
 use Rattle.std.specs.Cmp.{IsTotalOrder}
-use Rattle.std.specs.List.{remove}
-use Rattle.std.specs.Map.{keys_of}
-use Rattle.bptree_keys.specs.Contents.{IsAscending, del}
+use Rattle.bptree_keys.specs.Contents.{IsAscending}
 use Rattle.bptree_keys.specs.declared.node_id.InnerNodeId.{InnerNodeId}
 use Rattle.bptree_keys.specs.declared.node_id.LeafNodeId.{LeafNodeId}
 use Rattle.bptree_keys.specs.declared.node_id.NodeId.{NodeId}
 use Rattle.bptree_keys.specs.declared.node_id.NodeId.TheVariants as kind
-use Rattle.bptree_keys.proofs.Found.{hit_at}
-use Rattle.bptree_keys.proofs.Parted.{del_hit}
 use Rattle.bptree_nodes.specs.Inner.{Inner}
 use Rattle.bptree_nodes.specs.Leaf.{Leaf}
 use Rattle.bptree_nodes.specs.Slot.{Slots, Present}
@@ -20,9 +16,9 @@ use Rattle.bptree_shape.specs.Leaves.{StandsIn}
 use Rattle.bptree_shape.specs.Shape.{leaf_pairs, pairs_at, root_least, IsWellShaped}
 use Rattle.bptree_shape.proofs.ListReads.{read_below, read_some}
 use Rattle.bptree_shape.proofs.Walk.{tree_ascends}
-use Rattle.bptree_descents.specs.ByArgument.{IsSubtree}
+use Rattle.bptree_descents.specs.ByArgument.{IsSubtree, GoesOn}
 use Rattle.bptree_descents.proofs.Selected.{goes_on}
-use Rattle.bptree_removal.proofs.Withdrawn.{alike}
+use Rattle.bptree_removal.proofs.Deleted.{alike, deleted_by}
 use Rattle.bptree_removal.specs.Removal.{IsThere, IsFound, IsTakenFrom, IsTakenAt, LeadsOn}
 
 module _ {K V A : Type 0} {cmp : K → K → Ordering} (total : IsTotalOrder cmp) (is_summary : A → List K → Type 0) (slots : Slots (Inner K A) (Leaf K V)) where
@@ -35,10 +31,6 @@ module _ {K V A : Type 0} {cmp : K → K → Ordering} (total : IsTotalOrder cmp
 -- the key that was found is there
 abbrev pub there_of : {K V A : Type 0} {cmp : K → K → Ordering} {is_summary : A → List K → Type 0} {slots : Slots (Inner K A) (Leaf K V)} {height : ℕ} {root : NodeId} {path : List (InnerNodeId × ℕ × NodeId)} {leaf : LeafNodeId} {slot : ℕ} {k : K} → IsFound cmp is_summary slots height root path leaf slot k → IsThere cmp is_summary slots path leaf slot k
 there_of {height = height} {root = root} f = record { top = height; root = root; shape = f.shape; few = f.few; way = f.way; found = f.found }
-
--- what stands at a place is deleted by a key that equals its key
-pub deleted_by : {K V : Type 0} {cmp : K → K → Ordering} → IsTotalOrder cmp → (pairs : List (K × V)) (i : ℕ) (pair : K × V) (k : K) → IsAscending cmp pairs → slice_get pairs i ≡ Some pair → cmp pair.0 k ≡ Equal → remove pairs i ≡ del cmp pairs k
-deleted_by {cmp = cmp} total pairs i pair k sorted read equal = sym (del_hit cmp pairs _ _ _ k (hit_at cmp total pairs sorted k i pair (rw read equal)).1)
 
 module _ {K V A : Type 0} {cmp : K → K → Ordering} (total : IsTotalOrder cmp) (is_summary : A → List K → Type 0) (old new : Slots (Inner K A) (Leaf K V)) (h : ℕ) (root : NodeId) (shape : IsWellShaped cmp is_summary old h root) where
   sorted : IsAscending cmp (pairs_at old h root)
@@ -67,7 +59,7 @@ none_at_end true (x ∷ xs) none = absurd (some_here (x ∷ xs) (length (x ∷ x
 none_at_end false (x ∷ xs) none = cc
 
 module _ {K V A : Type 0} {cmp : K → K → Ordering} (total : IsTotalOrder cmp) (is_summary : A → List K → Type 0) (old : Slots (Inner K A) (Leaf K V)) (h : ℕ) (root : NodeId) (shape : IsWellShaped cmp is_summary old h root) (few : length (pairs_at old h root) < 2 ^ 64)
-    (leaf : LeafNodeId) (slot : ℕ) (within : slot < length (leaf_pairs (old.leaf leaf.0))) (path longer : List (InnerNodeId × ℕ × NodeId)) (none : path ≡ []) (on : LeadsOn cmp old h root path longer leaf) where
+    (leaf : LeafNodeId) (slot : ℕ) (within : slot < length (leaf_pairs (old.leaf leaf.0))) (path longer : List (InnerNodeId × ℕ × NodeId)) (none : path ≡ []) (on : GoesOn cmp old h root path longer (Some (leaf, slot))) where
   abbrev pub pair_there : (pair : K × V) × (slice_get (leaf_pairs (old.leaf leaf.0)) slot ≡ Some pair)
   pair_there = read_some (leaf_pairs (old.leaf leaf.0)) slot within
 
@@ -76,7 +68,7 @@ module _ {K V A : Type 0} {cmp : K → K → Ordering} (total : IsTotalOrder cmp
   found_there = record {
     shape = shape;
     few = few;
-    way = on slot pair_there.0 pair_there.1 h root (rw none (refl, refl));
+    way = on pair_there.0 pair_there.1 h root (rw none (refl, refl));
     found = rw pair_there.1 (alike total pair_there.0.0);
   }
 

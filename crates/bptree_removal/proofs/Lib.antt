@@ -1,3 +1,4 @@
+pub mod Deleted
 pub mod EndPaths
 pub mod Removals
 pub mod RemovedLeaf

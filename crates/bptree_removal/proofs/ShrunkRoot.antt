@@ -78,9 +78,14 @@ module _ {K V A : Type 0} {cmp : K → K → Ordering} {is_summary : A → List 
       linked = rw order (linked_same old new None (leaves_at old (suc m) (kind.Inner id)) None (each_counted (SameLinks old new) (leaves_at old (suc m) (kind.Inner id)) (λ l some. same_links old new l (leaf_at l.0))) loose.linked);
     }
 
-  -- the same at a height that the code knows
-  pub shrunk_root_at : (h : ℕ) → IsLoose cmp is_summary old h (kind.Inner id) → IsWellShaped cmp is_summary new (h - 1) child × (pairs_at new (h - 1) child ≡ pairs_at old h (kind.Inner id))
-  shrunk_root_at zero loose = absurd loose.tree
-  shrunk_root_at (suc m) loose =
+  at_height : (h : ℕ) → IsLoose cmp is_summary old h (kind.Inner id) → IsWellShaped cmp is_summary new (h - 1) child × (pairs_at new (h - 1) child ≡ pairs_at old h (kind.Inner id))
+  at_height zero loose = absurd loose.tree
+  at_height (suc m) loose =
       let down : m ≡ suc m - 1 = omega arith in
       (subst (λ n. IsWellShaped cmp is_summary new n child) down (shrunk_root_shape m loose), subst (λ n. pairs_at new n child ≡ pairs_at old (suc m) (kind.Inner id)) down (shrunk_root_pairs m loose))
+
+  -- the same at a height and a root that the code knows
+  pub shrunk_root_at : (h : ℕ) (root : NodeId) → root ≡ kind.Inner id → IsLoose cmp is_summary old h root → IsWellShaped cmp is_summary new (h - 1) child × (pairs_at new (h - 1) child ≡ pairs_at old h root)
+  shrunk_root_at h root is loose =
+      let shrunk = at_height h (subst (λ x. IsLoose cmp is_summary old h x) is loose) in
+      (shrunk.0, shrunk.1 ∙ ap (λ x. pairs_at old h x) (sym is))

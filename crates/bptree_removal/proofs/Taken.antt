@@ -1,9 +1,8 @@
 -- A pair is taken out of the leaf at the end of a path.
-use Rattle.std.proofs.Common.{◌≡◌, ℕ, ◌+◌, ◌≤◌, inl, inr, false, List, length, sym, ap, subst, ◌∙◌, arith, Some, slice_get}
+use Rattle.std.proofs.Common.{◌≡◌, ℕ, ◌+◌, ◌≤◌, List, length, sym, ap, subst, arith, Some, slice_get}
 use Rattle.std.specs.declared.cmp.Ordering.{Ordering}
 use Rattle.std.specs.Cmp.{IsTotalOrder}
 use Rattle.std.specs.List.{remove}
-use Rattle.std.proofs.lemmas.Bool.{cases_eq}
 use Rattle.std.proofs.lemmas.List.Edits.{length-remove}
 use Rattle.bptree_keys.specs.Contents.{IsAscending, del}
 use Rattle.bptree_keys.proofs.Found.{hit_at}
@@ -12,7 +11,7 @@ use Rattle.bptree_keys.proofs.Updates.{length_del}
 use Rattle.bptree_nodes.specs.Inner.{Inner}
 use Rattle.bptree_nodes.specs.Leaf.{Leaf}
 use Rattle.bptree_nodes.specs.LeafResults.{HasEqualAt}
-use Rattle.bptree_nodes.specs.Slot.{Slot, Slots, Held, Present, IsPresent, UpdatesLeaf}
+use Rattle.bptree_nodes.specs.Slot.{Slot, Slots, Present, IsPresent, UpdatesLeaf}
 use Rattle.bptree_keys.specs.declared.node_id.InnerNodeId.{InnerNodeId}
 use Rattle.bptree_keys.specs.declared.node_id.LeafNodeId.{LeafNodeId}
 use Rattle.bptree_keys.specs.declared.node_id.NodeId.{NodeId}
@@ -23,17 +22,16 @@ use Rattle.bptree_shape.specs.Outcome.{Done}
 use Rattle.bptree_shape.specs.Shape.{leaf_pairs, pairs_at}
 use Rattle.bptree_removal.specs.Removal.{IsThere, Leaves}
 use Rattle.bptree_ascent.proofs.Climbing.{not_held}
-use Rattle.bptree_ascent.proofs.SlotFacts.{none_is}
+use Rattle.bptree_ascent.proofs.LeafClimb.{none_held, leaf_reached, climb_from}
 use Rattle.bptree_rebalancing.proofs.Loose.{loose_of}
 use Rattle.bptree_removal.proofs.RemovedLeaf.{del_is_local, leaf_removed}
-use Rattle.bptree_ascent.proofs.Rooted.{reach_of, whole_done}
-use Rattle.bptree_shape.proofs.Ways.{way_can}
+use Rattle.bptree_ascent.proofs.Rooted.{whole_done}
 use Rattle.bptree_shape.proofs.ListReads.{read_below}
 
 module _ {K V A : Type 0} {cmp : K → K → Ordering} (total : IsTotalOrder cmp) (is_summary : A → List K → Type 0) (old : Slots (Inner K A) (Leaf K V)) (path : List (InnerNodeId × ℕ × NodeId)) (leaf : LeafNodeId) (slot : ℕ) (k : K)
     (there : IsThere cmp is_summary old path leaf slot k) where
   can : CanReach cmp old 0 (kind.Leaf leaf) k
-  can = way_can cmp old k path there.top there.root 0 (kind.Leaf leaf) there.way (reach_of cmp is_summary old there.top there.root k there.shape)
+  can = leaf_reached is_summary old path leaf k there.top there.root there.shape there.way
 
   pub leaf_there : IsPresent (old.leaf leaf.0)
   leaf_there = can.tree.0
@@ -58,40 +56,11 @@ module _ {K V A : Type 0} {cmp : K → K → Ordering} (total : IsTotalOrder cmp
       edits_taken =
           leaf_removed total is_summary old mid leaf k node here kept (omega (arith, left, ap length is_del)) (omega (arith, ap length is_del, one_less, most_here)) (rw is_del at takes)
 
-      pub none_held : (n : ℕ) → mid.leaf n ≡ Held → ⊥
-      none_held n h =
-          elim (cases_eq n leaf.0) [
-            | inl same ↦ (let z = sym takes.leaf.changed ∙ (ap mid.leaf (sym same) ∙ h) in cc)
-            | inr other ↦ there.shape.no_leaf_held n (sym (takes.leaf.others n other) ∙ h)
-          ]
-
       pub few_taken : StaysFew cmp (λ (l : List (K × V)). del cmp l k) (length (pairs_at old there.top there.root))
       few_taken l sorted short = omega (arith, there.few, length_del cmp total l sorted k)
 
       abbrev pub climb_taken : Climb cmp is_summary mid path Done
-      climb_taken = record {
-        old = old;
-        edit = λ l. del cmp l k;
-        k = k;
-        leaf = leaf;
-        turn = Stays;
-        kept = kept;
-        held_inner = λ n. false;
-        held_leaf = λ n. false;
-        top = there.top;
-        root = there.root;
-        height = 0;
-        id = kind.Leaf leaf;
-        shape = there.shape;
-        few = few_taken;
-        local = del_is_local cmp k;
-        way = there.way;
-        edits = edits_taken;
-        free = record {
-          inners = λ n. none_is (mid.inner n) (λ h. there.shape.no_inner_held n (ap (λ (f : ℕ → Slot (Inner K A)). f n) (sym takes.inner) ∙ h));
-          leaves = λ n. none_is (mid.leaf n) (none_held n);
-        };
-      }
+      climb_taken = climb_from is_summary old path leaf k there.top there.root there.shape there.way (λ l. del cmp l k) kept few_taken (del_is_local cmp k) edits_taken takes.inner (none_held old mid leaf.0 _ takes there.shape.no_leaf_held)
 
       pub leaves_taken : (new : Slots (Inner K A) (Leaf K V)) (top : A) → Risen climb_taken new top → Leaves cmp is_summary old new there.top there.root leaf slot k pair top
       leaves_taken new top r = record {

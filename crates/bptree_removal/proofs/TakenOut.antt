@@ -40,7 +40,7 @@ at_most : (n m : ℕ) → (m < n → ⊥) → n ≤ m
 at_most n m none = omega (arith, none)
 
 -- a leaf that can give no pair is one with few
-pub few_of : {K V : Type 0} (place : Slot (Leaf K V)) (node : Leaf K V) → place ≡ Present node → (16 < length node.pairs → false ≡ true) → length (leaf_pairs place) ≤ 16
+few_of : {K V : Type 0} (place : Slot (Leaf K V)) (node : Leaf K V) → place ≡ Present node → (16 < length node.pairs → false ≡ true) → length (leaf_pairs place) ≤ 16
 few_of place node is none = rw is (at_most (length node.pairs) 16 (λ some. true≢false (sym (none some))))
 
 -- where a key was found, a pair stands
@@ -89,14 +89,8 @@ module _ {K V A : Type 0} {cmp : K → K → Ordering} (total : IsTotalOrder cmp
     most = taken.most_here total is_summary old path leaf slot k there node here pair read_here
 
     -- the pair can stand there again
-    pub present_taken : IsPresent (mid.leaf leaf.0)
-    present_taken = rw takes_here.leaf.changed tt
-
-    pub slot_taken : slot ≤ length (leaf_pairs (mid.leaf leaf.0))
-    slot_taken = rw takes_here.leaf.changed (omega (arith, one_less, read_below node.pairs slot pair read_here))
-
-    pub room_taken : length (leaf_pairs (mid.leaf leaf.0)) < 64
-    room_taken = rw takes_here.leaf.changed (omega (arith, one_less, most))
+    pub room_taken : IsPresent (mid.leaf leaf.0) × (slot ≤ length (leaf_pairs (mid.leaf leaf.0))) × (length (leaf_pairs (mid.leaf leaf.0)) < 64)
+    room_taken = rw takes_here.leaf.changed (tt, omega (arith, one_less, read_below node.pairs slot pair read_here), omega (arith, one_less, most))
 
     pub sorted_taken : IsAscending cmp (leaf_pairs (mid.leaf leaf.0))
     sorted_taken =
@@ -123,10 +117,14 @@ module _ {K V A : Type 0} {cmp : K → K → Ordering} (total : IsTotalOrder cmp
 
 -- the leaf underflows
 module _ {K V A : Type 0} {cmp : K → K → Ordering} (total : IsTotalOrder cmp) (is_summary : A → List K → Type 0) (old : Slots (Inner K A) (Leaf K V)) (rest : List (InnerNodeId × ℕ × NodeId)) (id : InnerNodeId) (place : ℕ) (child : NodeId) (leaf : LeafNodeId) (slot : ℕ) (k : K)
-    (there : IsThere cmp is_summary old (rest ++ (id, place, child) ∷ []) leaf slot k) (pair : K × V) (read : slice_get (leaf_pairs (old.leaf leaf.0)) slot ≡ Some pair)
-    (mid : Slots (Inner K A) (Leaf K V)) (takes : (was : Leaf K V) → old.leaf leaf.0 ≡ Present was → UpdatesLeaf old mid leaf.0 (Present (record was { pairs = remove was.pairs slot }))) (low : length (leaf_pairs (old.leaf leaf.0)) ≤ 16) where
+    (whole : List (InnerNodeId × ℕ × NodeId)) (whole_is : whole ≡ rest ++ (id, place, child) ∷ []) (there_whole : IsThere cmp is_summary old whole leaf slot k) (pair : K × V) (read : slice_get (leaf_pairs (old.leaf leaf.0)) slot ≡ Some pair)
+    (mid : Slots (Inner K A) (Leaf K V)) (takes : (was : Leaf K V) → old.leaf leaf.0 ≡ Present was → UpdatesLeaf old mid leaf.0 (Present (record was { pairs = remove was.pairs slot })))
+    (seen : Leaf K V) (seen_is : old.leaf leaf.0 ≡ Present seen) (few : 16 < length seen.pairs → false ≡ true) where
   abbrev pub path : List (InnerNodeId × ℕ × NodeId)
   path = rest ++ (id, place, child) ∷ []
+
+  abbrev pub there : IsThere cmp is_summary old path leaf slot k
+  there = there_by path whole_is there_whole
 
   abbrev pub short_node : Leaf K V
   short_node = node total is_summary old path leaf slot k there pair read mid takes
@@ -144,6 +142,9 @@ module _ {K V A : Type 0} {cmp : K → K → Ordering} (total : IsTotalOrder cmp
   seated =
       let seat = seat_of cmp old k {is_summary = is_summary} path there.top there.root 0 (kind.Leaf leaf) there.way there.shape in
       omega (arith, seat.tree.3, least_some there.top rest (id, place, child))
+
+  low : length (leaf_pairs (old.leaf leaf.0)) ≤ 16
+  low = few_of _ seen seen_is few
 
   pub fifteen : length (remove short_node.pairs slot) ≡ 15
   fifteen =
@@ -165,5 +166,5 @@ module _ {K V A : Type 0} {cmp : K → K → Ordering} (total : IsTotalOrder cmp
     none_held = λ number. (refl, refl);
   }
 
-  pub leaves_short : (new : Slots (Inner K A) (Leaf K V)) (top : A) → Trims short_leaf.climb new top → Leaves cmp is_summary old new there.top there.root leaf slot k pair top
-  leaves_short new top t = record { pair_was = read; loose = t.loose; pairs = t.pairs; told = t.told }
+  pub leaves_short : (new : Slots (Inner K A) (Leaf K V)) (top : A) → ((c : LeafUnderflow cmp is_summary mid rest id place) → Trims c.climb new top) → Leaves cmp is_summary old new there.top there.root leaf slot k pair top
+  leaves_short new top trims = let t = trims short_leaf in record { pair_was = read; loose = t.loose; pairs = t.pairs; told = t.told }

@@ -1,14 +1,7 @@
 -- The pair at an allowed place is taken out of a whole tree.
-use Rattle.std.proofs.Common.{◌≡◌, ℕ, ◌+◌, ◌<◌, ◌^◌, List, [], length, refl, sym, subst, ◌∙◌, Option, Some, None, slice_get}
+use Rattle.std.proofs.Common.{◌≡◌, ℕ, ◌+◌, ◌<◌, ◌^◌, List, [], length, sym, subst, ◌∙◌, Option, Some}
 use Rattle.std.specs.declared.cmp.Ordering.{Ordering}
-use Rattle.std.specs.declared.cmp.Ordering.TheVariants.{Less, Equal, Greater}
 use Rattle.std.specs.Cmp.{IsTotalOrder}
-use Rattle.std.specs.List.{remove}
-use Rattle.std.specs.Map.{keys_of}
-use Rattle.bptree_keys.specs.Contents.{IsAscending, del}
-use Rattle.bptree_keys.proofs.Ascending.{greater_turned}
-use Rattle.bptree_keys.proofs.Found.{hit_at}
-use Rattle.bptree_keys.proofs.Parted.{del_hit}
 use Rattle.bptree_nodes.specs.Inner.{Inner}
 use Rattle.bptree_nodes.specs.Leaf.{Leaf}
 use Rattle.bptree_nodes.specs.Slot.{Slots}
@@ -17,51 +10,35 @@ use Rattle.bptree_keys.specs.declared.node_id.LeafNodeId.{LeafNodeId}
 use Rattle.bptree_keys.specs.declared.node_id.NodeId.{NodeId}
 use Rattle.bptree_descents.specs.ByArgument.{IsSelectedAt, IsWithdrawn, GoesOn}
 use Rattle.bptree_shape.specs.Leaves.{pairs_of}
-use Rattle.bptree_shape.specs.Shape.{leaf_pairs, pairs_at, root_least, IsWellShaped}
-use Rattle.bptree_removal.specs.Removal.{IsThere, Leaves}
-use Rattle.bptree_shape.proofs.Ordered.{by_cases}
-use Rattle.bptree_shape.proofs.Walk.{tree_ascends}
-use Rattle.bptree_shape.proofs.ListReads.{read_some}
+use Rattle.bptree_shape.specs.Shape.{pairs_at, IsWellShaped}
+use Rattle.bptree_removal.specs.Removal.{IsFound, IsTakenAt, IsTakenFrom}
+use Rattle.bptree_removal.proofs.EndPaths.{found_there, pair_there, taken_there}
 use Rattle.bptree_descents.proofs.Selected.{place_read}
 
--- a key equals itself
-pub alike : {K : Type 0} {cmp : K → K → Ordering} → IsTotalOrder cmp → (k : K) → cmp k k ≡ Equal
-alike {cmp = cmp} total k =
-    by_cases (cmp k k) (λ e. let z : Less ≡ Greater = sym e ∙ greater_turned cmp total k k e in cc) (λ e. e)
-    (λ e. let z : Greater ≡ Less = sym e ∙ (total.antisymm k k ∙ rw e refl) in cc)
+module _ {K V A Q : Type 0} {cmp : K → K → Ordering} (total : IsTotalOrder cmp) (is_summary : A → List K → Type 0) (selects : Q → List K → Option ℕ → Type 0) (query : Q) (slots : Slots (Inner K A) (Leaf K V)) (h : ℕ) (root : NodeId)
+    (shape : IsWellShaped cmp is_summary slots h root) (few : length (pairs_at slots h root) < 2 ^ 64) (answer : Option (LeafNodeId × ℕ)) (selected : IsSelectedAt selects query slots h root answer) (leaf : LeafNodeId) (slot : ℕ) (is : answer ≡ Some (leaf, slot))
+    (path longer : List (InnerNodeId × ℕ × NodeId)) (none : path ≡ []) (on : GoesOn cmp slots h root path longer answer) where
+  selected_here : IsSelectedAt selects query slots h root (Some (leaf, slot))
+  selected_here = subst (IsSelectedAt selects query slots h root) is selected
 
--- what stands at a place is deleted by its key
-pub deleted_at : {K V : Type 0} {cmp : K → K → Ordering} → IsTotalOrder cmp → (pairs : List (K × V)) (i : ℕ) (pair : K × V) → IsAscending cmp pairs → slice_get pairs i ≡ Some pair → remove pairs i ≡ del cmp pairs pair.0
-deleted_at {cmp = cmp} total pairs i pair sorted read = sym (del_hit cmp pairs _ _ _ pair.0 (hit_at cmp total pairs sorted pair.0 i pair (rw read (alike total pair.0))).1)
+  goes_here : GoesOn cmp slots h root path longer (Some (leaf, slot))
+  goes_here = subst (GoesOn cmp slots h root path longer) is on
 
-module _ {K V A : Type 0} {cmp : K → K → Ordering} (total : IsTotalOrder cmp) (is_summary : A → List K → Type 0) (slots : Slots (Inner K A) (Leaf K V)) where
-  module _ {Q : Type 0} (selects : Q → List K → Option ℕ → Type 0) (query : Q) (h : ℕ) (root : NodeId) (shape : IsWellShaped cmp is_summary slots h root) (few : length (pairs_at slots h root) < 2 ^ 64) (leaf : LeafNodeId) (slot : ℕ)
-      (selected : IsSelectedAt selects query slots h root (Some (leaf, slot))) where
-    abbrev pub found_pair : (pair : K × V) × (slice_get (leaf_pairs (slots.leaf leaf.0)) slot ≡ Some pair)
-    found_pair = read_some (leaf_pairs (slots.leaf leaf.0)) slot selected.1
+  -- the key that was found stands at the end of the path
+  pub found_key : (k : K) × IsFound cmp is_summary slots h root longer leaf slot k
+  found_key = ((pair_there total is_summary slots h root shape few leaf slot selected_here.1 path longer none goes_here).0.0, found_there total is_summary slots h root shape few leaf slot selected_here.1 path longer none goes_here)
 
-    -- the key that was found stands at the end of the path
-    abbrev pub is_there : (path longer : List (InnerNodeId × ℕ × NodeId)) → path ≡ [] → GoesOn cmp slots h root path longer (Some (leaf, slot)) → IsThere cmp is_summary slots longer leaf slot found_pair.0.0
-    is_there path longer none on = record {
-      top = h;
-      root = root;
-      shape = shape;
-      few = few;
-      way = on found_pair.0 found_pair.1 h root (rw none (refl, refl));
-      found = rw found_pair.1 (alike total found_pair.0.0);
-    }
+  -- and its pair left the whole
+  pub withdrawn : (new : Slots (Inner K A) (Leaf K V)) (pair : K × V) (top : NodeId) (top_height : ℕ) (a : A) → ((k : K) → IsFound cmp is_summary slots h root longer leaf slot k → IsTakenFrom cmp is_summary slots new h root leaf slot k pair top top_height a)
+      → IsWithdrawn selects query cmp is_summary slots new h root pair top top_height a
+  unfolding found_key
+  withdrawn new pair top top_height a takes =
+      let place = length (pairs_of slots selected_here.0.before) + slot in
+      let there = pair_there total is_summary slots h root shape few leaf slot selected_here.1 path longer none goes_here in
+      let taken = taken_there total is_summary slots h root shape few leaf slot selected_here.1 path longer none goes_here new pair top top_height a place (there.1 ∙ sym (place_read slots h root leaf selected_here.0 slot there.0 there.1)) (takes found_key.0 found_key.1) in
+      record { place = place; was = taken.was; selected = selected_here.2; shape = taken.shape; pairs = taken.pairs; told = taken.told }
 
-    -- and its pair left the whole
-    pub withdrawn : (mid new : Slots (Inner K A) (Leaf K V)) (pair : K × V) (a : A) (top : NodeId) (top_height : ℕ) → Leaves cmp is_summary slots mid h root leaf slot found_pair.0.0 pair a → IsWellShaped cmp is_summary new top_height top → pairs_at new top_height top ≡ pairs_at mid h root
-        → IsWithdrawn selects query cmp is_summary slots new h root pair top top_height a
-    withdrawn mid new pair a top top_height leaves shrunk_root same =
-        let place = length (pairs_of slots selected.0.before) + slot in
-        let sorted = tree_ascends total slots (root_least h) h root None None shape.tree in
-        record {
-          place = place;
-          was = place_read slots h root leaf selected.0 slot pair leaves.pair_was;
-          selected = selected.2;
-          shape = shrunk_root;
-          pairs = same ∙ (leaves.pairs ∙ sym (deleted_at total (pairs_at slots h root) place found_pair.0 sorted (place_read slots h root leaf selected.0 slot found_pair.0 found_pair.1)));
-          told = subst (λ l. is_summary a (keys_of l)) (sym same) leaves.told;
-        }
+-- the same pair as one that left from a place
+pub withdrawn_at : {K V A Q : Type 0} {selects : Q → List K → Option ℕ → Type 0} {query : Q} {cmp : K → K → Ordering} {is_summary : A → List K → Type 0} {old new : Slots (Inner K A) (Leaf K V)} {h : ℕ} {root : NodeId} {pair : K × V} {top : NodeId} {top_height : ℕ} {a : A}
+    → (r : IsWithdrawn selects query cmp is_summary old new h root pair top top_height a) → IsTakenAt cmp is_summary old new h root r.place pair top top_height a
+withdrawn_at r = record { was = r.was; shape = r.shape; pairs = r.pairs; told = r.told }

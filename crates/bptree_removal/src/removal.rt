@@ -333,14 +333,8 @@ where
     match find_path_by_argument(store, root, height, query, path)? {
         None => Ok(None),
         Some((leaf, slot)) => {
-            let (value, summary) = take_out(store, path, leaf, slot, statistic)?;
-            let (root, height) = shrink_root(store, root, height);
-            Ok(Some(Removed {
-                value,
-                root,
-                height,
-                summary,
-            }))
+            let gone = take_whole(store, path, root, height, leaf, slot, statistic)?;
+            Ok(Some(gone))
         }
     }
 }

@@ -1,6 +1,7 @@
 pub mod Agreeing
 pub mod Between
 pub mod Down
+pub mod EndSteps
 pub mod Ends
 pub mod Frame
 pub mod Hinted

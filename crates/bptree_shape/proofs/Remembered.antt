@@ -1,5 +1,5 @@
 -- The way that a search takes to a remembered leaf which can hold the key.
-use Rattle.std.proofs.Common.{◌≡◌, ◌⊎◌, ℕ, zero, suc, ◌+◌, ◌-◌, ◌<◌, ◌≤◌, inl, inr, Bool, true, false, not, List, [], ◌∷◌, ◌++◌, length, refl, sym, ap, subst, ◌∙◌, arith, Option, Some, None, slice_get, ◌||◌, ◌&&◌}
+use Rattle.std.proofs.Common.{◌≡◌, ℕ, zero, suc, ◌+◌, ◌-◌, ◌<◌, ◌≤◌, inl, inr, true, not, List, [], ◌∷◌, ◌++◌, length, refl, sym, ap, subst, ◌∙◌, arith, Option, Some, None, slice_get, ◌||◌}
 use Rattle.std.specs.Prelude.{slice_index_or, is_none}
 use mathlib.Core.Bool.{true≢false}
 use Rattle.std.specs.declared.cmp.Ordering.{Ordering}
@@ -23,7 +23,7 @@ use Rattle.bptree_stores.specs.Hint.{HoldsKey}
 use Rattle.bptree_shape.specs.Leaves.{pairs_of, StandsIn, Stands, IsLeafFor}
 use Rattle.bptree_shape.specs.Order.{flat, Leads}
 use Rattle.bptree_shape.specs.Path.{Way}
-use Rattle.bptree_shape.specs.Shape.{leaf_pairs, leaf_prev, leaf_next, leaves_at, AreLinked, IsWellShaped, root_least}
+use Rattle.bptree_shape.specs.Shape.{leaf_pairs, leaf_prev, leaf_next, AreLinked, IsWellShaped, root_least}
 use Rattle.bptree_shape.proofs.Down.{inner_present, node_children, child_stands, leaf_for_node, leaf_for_leaf}
 use Rattle.bptree_shape.proofs.Hinted.{both_true, none_last, none_first, linked_prev, linked_next, present_stands}
 use Rattle.bptree_shape.proofs.Walk.{flat-append}

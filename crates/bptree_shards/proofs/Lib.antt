@@ -1,5 +1,4 @@
 pub mod EmptyLemmas
-pub mod KeptKeys
 pub mod LengthLemmas
 pub mod MoveLemmas
 pub mod PartLemmas

@@ -14,7 +14,7 @@ use Rattle.bptree_keys.proofs.PieceLemmas.{flatten-cut, AllByRecursion-append, A
 use Rattle.bptree_keys.proofs.Laws.{put_ascending}
 use Rattle.bptree_keys.proofs.Updates.{del_ascending}
 use Rattle.std.proofs.lemmas.List.{length-append}
-use Rattle.bptree_shards.proofs.KeptKeys.{all_put, all_kept}
+use Rattle.bptree_keys.proofs.KeptKeys.{all_put, all_kept}
 use Rattle.bptree_shards.proofs.PartLemmas.{flatten_set, all_flatten_set, first_of_two}
 use Rattle.std.specs.Option.{option_or}
 use Rattle.bptree_shards.specs.Shards.{AreShards, StandBetween, NoneBelow, shard_of}

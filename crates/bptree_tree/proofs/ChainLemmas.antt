@@ -2,6 +2,7 @@
 use Rattle.std.proofs.Common.{inl, inr, ◌≡◌, ◌≢◌, ℕ, zero, suc, ◌+◌, ◌-◌, ◌<◌, ◌≤◌, cond, List, [], ◌∷◌, ◌++◌, length, refl, sym, ap, subst, ◌∙◌, arith, Option, Some, None, eqb, append-nil, length-append}
 use Rattle.std.proofs.lemmas.Bool.Decides.{eqb_tells}
 use Rattle.std.specs.List.{AllByRecursion}
+use Rattle.std.specs.Option.{unwrap_or}
 use Rattle.std.specs.declared.cmp.Ordering.{Ordering}
 use Rattle.bptree_keys.proofs.PieceLemmas.{AllByRecursion-left, AllByRecursion-weaker}
 use Rattle.bptree_keys.specs.declared.node_id.LeafNodeId.{LeafNodeId}
@@ -195,33 +196,40 @@ left_of slots first last (x ∷ xs) len counted chain =
     let walked = chain_walked slots first last (x ∷ xs) len here counted in
     (record { counted = rw walked counted; chain = λ some. rw walked here }, walked)
 
-module _ {K V A : Type 0} (old new : Slots (Inner K A) (Leaf K V)) (first last : LeafNodeId) (len : ℕ) (left : IsLeft old first last len) (more : 0 < len) (leaf : Leaf K V) where
+-- what the code reads of the leaf that it took out: its length, and its link, where it has one
+module _ {K V A : Type 0} (old new : Slots (Inner K A) (Leaf K V)) (first last : LeafNodeId) (len : ℕ) (left : IsLeft old first last len) (more : 0 < len) (leaf seen counted : Leaf K V) (seen_is : seen ≡ leaf) (counted_is : counted ≡ leaf) (n : ℕ) (n_is : n ≡ length counted.pairs) (to : LeafNodeId) where
+  long : n ≡ length leaf.pairs
+  long = n_is ∙ ap (λ (l : Leaf K V). length l.pairs) counted_is
+
+  names : (link : Leaf K V → Option LeafNodeId) (read : Option LeafNodeId) (here : LeafNodeId) → read ≡ link seen → to ≡ unwrap_or read here → (id : LeafNodeId) → link leaf ≡ Some id → to ≡ id
+  names link read here is named id e = named ∙ ap (λ (o : Option LeafNodeId). unwrap_or o here) (is ∙ (ap link seen_is ∙ e))
+
   -- what is left once the first leaf is taken out, or the last
-  pub record FirstOut (first' : LeafNodeId) : Type 0 where
-    pub parts : chain_pairs old first len ≡ leaf.pairs ++ chain_pairs new first' (len - length leaf.pairs)
+  pub record FirstOut : Type 0 where
+    pub parts : chain_pairs old first len ≡ leaf.pairs ++ chain_pairs new to (len - n)
     pub some : 0 < length leaf.pairs
-    pub within : length leaf.pairs ≤ len
-    pub left' : IsLeft new first' last (len - length leaf.pairs)
+    pub within : n ≤ len
+    pub left' : IsLeft new to last (len - n)
 
-  pub record LastOut (last' : LeafNodeId) : Type 0 where
-    pub parts : chain_pairs old first len ≡ chain_pairs new first (len - length leaf.pairs) ++ leaf.pairs
+  pub record LastOut : Type 0 where
+    pub parts : chain_pairs old first len ≡ chain_pairs new first (len - n) ++ leaf.pairs
     pub some : 0 < length leaf.pairs
-    pub within : length leaf.pairs ≤ len
-    pub left' : IsLeft new first last' (len - length leaf.pairs)
+    pub within : n ≤ len
+    pub left' : IsLeft new first to (len - n)
 
-  pub first_out : (first' : LeafNodeId) → old.leaf first.0 ≡ Present leaf → ((n : ℕ) → n ≢ first.0 → new.leaf n ≡ old.leaf n) → ((id : LeafNodeId) → leaf.next ≡ Some id → first' ≡ id) → FirstOut first'
-  first_out first' at others names =
+  pub first_out : (next : Option LeafNodeId) → next ≡ seen.next → to ≡ unwrap_or next first → old.leaf first.0 ≡ Present leaf → ((i : ℕ) → i ≢ first.0 → new.leaf i ≡ old.leaf i) → FirstOut
+  first_out next is named at others =
       let out = first_leaves old new first last (chain_pairs old first len) (left.chain more) leaf at others in
-      let long : len ≡ length leaf.pairs + length out.rest = left.counted ∙ (ap length out.parts ∙ length-append leaf.pairs out.rest) in
-      let rest = left_of new first' last out.rest (len - length leaf.pairs) (omega arith) (λ some. let next = out.next some in rw (names next.0 next.1) next.2) in
-      record { parts = rw rest.1 out.parts; some = out.some; within = omega arith; left' = rest.0 }
+      let parts : len ≡ length leaf.pairs + length out.rest = left.counted ∙ (ap length out.parts ∙ length-append leaf.pairs out.rest) in
+      let rest = left_of new to last out.rest (len - n) (omega (arith, long)) (λ some. let next' = out.next some in rw (names (λ l. l.next) next first is named next'.0 next'.1) next'.2) in
+      record { parts = rw rest.1 out.parts; some = out.some; within = omega (arith, long); left' = rest.0 }
 
-  pub last_out : (last' : LeafNodeId) → old.leaf last.0 ≡ Present leaf → ((n : ℕ) → n ≢ last.0 → new.leaf n ≡ old.leaf n) → ((id : LeafNodeId) → leaf.prev ≡ Some id → last' ≡ id) → LastOut last'
-  last_out last' at others names =
+  pub last_out : (prev : Option LeafNodeId) → prev ≡ seen.prev → to ≡ unwrap_or prev last → old.leaf last.0 ≡ Present leaf → ((i : ℕ) → i ≢ last.0 → new.leaf i ≡ old.leaf i) → LastOut
+  last_out prev is named at others =
       let out = last_leaves old new first last (chain_pairs old first len) (left.chain more) leaf at others in
-      let long : len ≡ length out.rest + length leaf.pairs = left.counted ∙ (ap length out.parts ∙ length-append out.rest leaf.pairs) in
-      let rest = left_of new first last' out.rest (len - length leaf.pairs) (omega arith) (λ some. let prev = out.prev some in rw (names prev.0 prev.1) prev.2) in
-      record { parts = rw rest.1 out.parts; some = out.some; within = omega arith; left' = rest.0 }
+      let parts : len ≡ length out.rest + length leaf.pairs = left.counted ∙ (ap length out.parts ∙ length-append out.rest leaf.pairs) in
+      let rest = left_of new first to out.rest (len - n) (omega (arith, long)) (λ some. let prev' = out.prev some in rw (names (λ l. l.prev) prev last is named prev'.0 prev'.1) prev'.2) in
+      record { parts = rw rest.1 out.parts; some = out.some; within = omega (arith, long); left' = rest.0 }
 
 module _ {K V A : Type 0} (cmp : K → K → Ordering) (is_summary : A → List K → Type 0) (slots : Slots (Inner K A) (Leaf K V)) where
   tree_full : (h : ℕ) (root : NodeId) → IsWellShaped cmp is_summary slots h root → 0 < length (pairs_at slots h root) → AllByRecursion (λ (id : LeafNodeId). 0 < length (leaf_pairs (slots.leaf id.0))) (leaves_at slots h root)

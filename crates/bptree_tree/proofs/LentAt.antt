@@ -1,7 +1,7 @@
 -- A value is written at a slot of one leaf.
 use Rattle.std.proofs.Common.{◌≡◌, ℕ, zero, suc, ◌+◌, ◌<◌, List, [], ◌∷◌, ◌++◌, length, refl, sym, ap, subst, ◌∙◌, arith, slice_get}
 use Rattle.std.specs.declared.cmp.Ordering.{Ordering}
-use Rattle.std.specs.Map.{values_of}
+use Rattle.std.specs.Map.{keys_of, values_of}
 use Rattle.bptree_nodes.specs.Inner.{Inner}
 use Rattle.bptree_nodes.specs.Leaf.{Leaf, set_value_at}
 use Rattle.bptree_nodes.specs.Slot.{Slot, Slots, Present, UpdatesLeaf}
@@ -9,7 +9,7 @@ use Rattle.bptree_keys.specs.declared.node_id.LeafNodeId.{LeafNodeId}
 use Rattle.bptree_keys.specs.declared.node_id.NodeId.{NodeId}
 use Rattle.bptree_shape.specs.Leaves.{pairs_of, StandsIn}
 use Rattle.bptree_shape.specs.Shape.{leaf_pairs, pairs_at, IsWellShaped}
-use Rattle.bptree_ascent.proofs.Lent.{keys_stay, set_parts}
+use Rattle.bptree_ascent.proofs.Lent.{keys_stay, set_keys, set_length, set_parts, set_shape}
 use Rattle.bptree_shape.proofs.Spot.{parts_of_read}
 
 set_past : {K V : Type 0} (xs ys : List (K × V)) (i : ℕ) (v : V) → set_value_at (xs ++ ys) (length xs + i) v ≡ xs ++ set_value_at ys i v
@@ -40,6 +40,19 @@ value_of_slot slots h root leaf node e in' i within =
 -- a slot of a leaf is one of the node that was read
 pub slot_within : {K V A : Type 0} (slots : Slots (Inner K A) (Leaf K V)) (leaf : LeafNodeId) (node : Leaf K V) (i : ℕ) → slots.leaf leaf.0 ≡ Present node → i < length (leaf_pairs (slots.leaf leaf.0)) → i < length node.pairs
 slot_within {K} {V} slots leaf node i e within = subst (λ (x : Slot (Leaf K V)). i < length (leaf_pairs x)) e within
+
+module _ {K V A : Type 0} (cmp : K → K → Ordering) (is_summary : A → List K → Type 0) (slots new : Slots (Inner K A) (Leaf K V)) (h : ℕ) (root : NodeId) (shape : IsWellShaped cmp is_summary slots h root)
+    (leaf : LeafNodeId) (node : Leaf K V) (e : slots.leaf leaf.0 ≡ Present node) (in' : StandsIn slots h root leaf) (i : ℕ) (w : V)
+    (updates : UpdatesLeaf slots new leaf.0 (Present (record node { pairs = set_value_at node.pairs i w }))) where
+  -- whatever value is written, the tree is well shaped, counted and summed up
+  pub lent_right : (len : ℕ) → len ≡ length (pairs_at slots h root) → (a : A) → is_summary a (keys_of (pairs_at slots h root)) → IsWellShaped cmp is_summary new h root × (len ≡ length (pairs_at new h root)) × is_summary a (keys_of (pairs_at new h root))
+  lent_right len counted a told =
+      let written = set_value_at node.pairs i w in
+      let same = keys_stay node.pairs i w in (
+        set_shape cmp is_summary slots new h root shape leaf node e in' written same updates,
+        counted ∙ sym (set_length cmp is_summary slots new h root shape leaf node e in' written same updates),
+        rw (set_keys cmp is_summary slots new h root shape leaf node e in' written same updates) told,
+      )
 
 module _ {K V A : Type 0} (cmp : K → K → Ordering) (is_summary : A → List K → Type 0) (slots new : Slots (Inner K A) (Leaf K V)) (h : ℕ) (root : NodeId) (shape : IsWellShaped cmp is_summary slots h root)
     (leaf : LeafNodeId) (node : Leaf K V) (e : slots.leaf leaf.0 ≡ Present node) (in' : StandsIn slots h root leaf) (i : ℕ) (within : i < length node.pairs) (w : V)

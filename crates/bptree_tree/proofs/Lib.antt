@@ -5,6 +5,7 @@ pub mod EndLemmas
 pub mod EntryLemmas
 pub mod Heights
 pub mod LentAt
+pub mod OneFewer
 pub mod PartSpans
 pub mod RangeRemovalLemmas
 pub mod Spans

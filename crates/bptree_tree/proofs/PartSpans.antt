@@ -96,35 +96,14 @@ module _ {K V A : Type 0} (slots : Slots (Inner K A) (Leaf K V)) where
   linked_tail p (x ∷ []) (y ∷ ys) q h = (Some x, h.2)
   linked_tail p (x ∷ y ∷ before) rest q h = linked_tail (Some x) (y ∷ before) rest q h.2
 
-  -- from a place of a leaf, over others, to a place of the last
-  span_over : (x : LeafNodeId) (mid : List LeafNodeId) (back : LeafNodeId) (rest : List LeafNodeId) (from to : ℕ) (p q : Option LeafNodeId) → AreLinked slots p (x ∷ (mid ++ back ∷ rest)) q
-      → AllByRecursion (HasPair slots) (x ∷ (mid ++ back ∷ rest)) → from ≤ length (leaf_pairs (slots.leaf x.0)) → to ≤ length (leaf_pairs (slots.leaf back.0))
-      → IsSpan (leaves_of slots) x from (mid ++ back ∷ []) back to (drop from (leaf_pairs (slots.leaf x.0)) ++ (pairs_of slots mid ++ take to (leaf_pairs (slots.leaf back.0))))
-  span_over x [] back rest from to p q linked all h g =
-      let at = present_leaf (slots.leaf x.0) all.0 in
-      let after = present_leaf (slots.leaf back.0) all.1.0 in
-      let prev = first_prev x back rest q linked.2 in
-      let long : length (leaf_pairs (slots.leaf x.0)) ≡ length at.0.pairs = ap (λ s. length (leaf_pairs s)) at.1 in
-      let long' : length (leaf_pairs (slots.leaf back.0)) ≡ length after.0.pairs = ap (λ s. length (leaf_pairs s)) after.1 in (
-        at.0,
-        after.0,
-        ap leaf_of at.1,
-        sym (ap leaf_next at.1) ∙ linked.1,
-        ap leaf_of after.1,
-        sym (ap leaf_prev after.1) ∙ prev,
-        omega (arith, h, long),
-        at.2,
-        take to (leaf_pairs (slots.leaf back.0)),
-        ap (λ s. drop from (leaf_pairs s) ++ take to (leaf_pairs (slots.leaf back.0))) at.1,
-        (after.0, ap leaf_of after.1, refl, omega arith, omega (arith, g, long'), ap (λ s. take to (leaf_pairs s)) after.1),
-      )
-  span_over x (y ∷ mid) back rest from to p q linked all h g =
+  -- from a place of a leaf, on to what begins in the next
+  span_ahead : (x y : LeafNodeId) (ids more : List LeafNodeId) (back : LeafNodeId) (from to : ℕ) (p q : Option LeafNodeId) (ys : List (K × V)) → AreLinked slots p (x ∷ y ∷ ids) q → AllByRecursion (HasPair slots) (x ∷ y ∷ ids) → from ≤ length (leaf_pairs (slots.leaf x.0)) → IsSpan (leaves_of slots) y 0 more back to ys
+      → IsSpan (leaves_of slots) x from (y ∷ more) back to (drop from (leaf_pairs (slots.leaf x.0)) ++ ys)
+  span_ahead x y ids more back from to p q ys linked all h rest =
       let at = present_leaf (slots.leaf x.0) all.0 in
       let after = present_leaf (slots.leaf y.0) all.1.0 in
-      let prev = first_prev x y (mid ++ back ∷ rest) q linked.2 in
-      let long : length (leaf_pairs (slots.leaf x.0)) ≡ length at.0.pairs = ap (λ s. length (leaf_pairs s)) at.1 in
-      let ys = pairs_of slots (y ∷ mid) ++ take to (leaf_pairs (slots.leaf back.0)) in
-      let more = span_over y mid back rest 0 to (Some x) q linked.2 all.1 (omega arith) g in (
+      let prev = first_prev x y ids q linked.2 in
+      let long : length (leaf_pairs (slots.leaf x.0)) ≡ length at.0.pairs = ap (λ s. length (leaf_pairs s)) at.1 in (
         at.0,
         after.0,
         ap leaf_of at.1,
@@ -135,8 +114,22 @@ module _ {K V A : Type 0} (slots : Slots (Inner K A) (Leaf K V)) where
         at.2,
         ys,
         ap (λ s. drop from (leaf_pairs s) ++ ys) at.1,
-        subst (IsSpan (leaves_of slots) y 0 (mid ++ back ∷ []) back to) (sym (append_assoc (leaf_pairs (slots.leaf y.0)) (pairs_of slots mid) (take to (leaf_pairs (slots.leaf back.0))))) more,
+        rest,
       )
+
+  -- from a place of a leaf, over others, to a place of the last
+  span_over : (x : LeafNodeId) (mid : List LeafNodeId) (back : LeafNodeId) (rest : List LeafNodeId) (from to : ℕ) (p q : Option LeafNodeId) → AreLinked slots p (x ∷ (mid ++ back ∷ rest)) q
+      → AllByRecursion (HasPair slots) (x ∷ (mid ++ back ∷ rest)) → from ≤ length (leaf_pairs (slots.leaf x.0)) → to ≤ length (leaf_pairs (slots.leaf back.0))
+      → IsSpan (leaves_of slots) x from (mid ++ back ∷ []) back to (drop from (leaf_pairs (slots.leaf x.0)) ++ (pairs_of slots mid ++ take to (leaf_pairs (slots.leaf back.0))))
+  span_over x [] back rest from to p q linked all h g =
+      let after = present_leaf (slots.leaf back.0) all.1.0 in
+      let long : length (leaf_pairs (slots.leaf back.0)) ≡ length after.0.pairs = ap (λ s. length (leaf_pairs s)) after.1 in
+      span_ahead x back rest [] back from to p q (take to (leaf_pairs (slots.leaf back.0))) linked all h
+      (after.0, ap leaf_of after.1, refl, omega arith, omega (arith, g, long), ap (λ s. take to (leaf_pairs s)) after.1)
+  span_over x (y ∷ mid) back rest from to p q linked all h g =
+      let more = span_over y mid back rest 0 to (Some x) q linked.2 all.1 (omega arith) g in
+      span_ahead x y (mid ++ back ∷ rest) (mid ++ back ∷ []) back from to p q (pairs_of slots (y ∷ mid) ++ take to (leaf_pairs (slots.leaf back.0))) linked all h
+      (subst (IsSpan (leaves_of slots) y 0 (mid ++ back ∷ []) back to) (sym (append_assoc (leaf_pairs (slots.leaf y.0)) (pairs_of slots mid) (take to (leaf_pairs (slots.leaf back.0))))) more)
 
 module _ {K V A : Type 0} {cmp : K → K → Ordering} (is_summary : A → List K → Type 0) (slots : Slots (Inner K A) (Leaf K V)) (h : ℕ) (root : NodeId) (shape : IsWellShaped cmp is_summary slots h root) where
   abbrev size : LeafNodeId → ℕ

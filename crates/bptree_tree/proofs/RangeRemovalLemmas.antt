@@ -1,9 +1,15 @@
 -- The first pair that passes a test leaves an ascending list.
-use Rattle.std.proofs.Common.{◌≡◌, ◌≤◌, ◌∙◌, arith, sym, ap, refl, Bool, true, false, not, cond, filter, Some, None, List, [], ◌∷◌, ◌++◌, length, slice_get, append-nil, append_assoc}
+use Rattle.std.proofs.Common.{◌≡◌, ◌≤◌, ◌∙◌, ◌&&◌, arith, sym, ap, refl, Bool, true, false, not, cond, filter, Option, Some, None, List, [], ◌∷◌, ◌++◌, length, slice_get, append-nil, append_assoc}
 use Rattle.std.specs.declared.cmp.Ordering.{Ordering}
 use Rattle.std.specs.declared.cmp.Ordering.TheVariants.{Less, Equal, Greater}
+use Rattle.std.specs.Cmp.{IsTotalOrder}
+use Rattle.std.proofs.lemmas.Cmp.{tied_itself}
 use Rattle.std.proofs.lemmas.List.Elements.{filter-append}
-use Rattle.bptree_keys.specs.Contents.{del}
+use Rattle.bptree_keys.specs.Contents.{IsAscending, del, has}
+use Rattle.bptree_keys.specs.Ranges.{between, falls_short, stays_below}
+use Rattle.bptree_keys.proofs.Ascending.{gap_if_absent}
+use Rattle.bptree_keys.proofs.Laws.{found_if_there, hit_if_there}
+use Rattle.bptree_tree.specs.RangeRemoval.{FirstLeaves}
 use Rattle.bptree_keys.specs.Places.{AllAnswer, IsGap, IsHit}
 use Rattle.bptree_keys.proofs.Parted.{del_hit}
 
@@ -66,6 +72,22 @@ module _ {K V : Type 0} (cmp : K → K → Ordering) (test : K × V → Bool) (k
       rw (filter-append test before after, parted, none_before, passes) refl,
       rw (hit.parts, filter-append (λ x. not (test x)) before after, filter-append (λ x. not (test x)) before (pair ∷ after), passes) refl,
     )
+
+-- the first pair between two ends
+module _ {K V : Type 0} {cmp : K → K → Ordering} (total : IsTotalOrder cmp) (lo hi : Option K) (k : K) (v : V) (rest old : List (K × V)) (sorted : IsAscending cmp old) (steps : between cmp old lo hi ≡ (k, v) ∷ rest) where
+  first : slice_get (between cmp old lo hi) 0 ≡ Some (k, v)
+  first = rw steps refl
+
+  -- there is none, where no key equals its key
+  pub absent_between : has cmp old k ≡ false → between cmp old lo hi ≡ []
+  absent_between absent = none_passes cmp (λ pair. not (falls_short cmp lo pair.0) && stays_below cmp hi pair.0) k (k, v) (tied_itself total k) old _ _ (gap_if_absent cmp total old k sorted absent) first
+
+  -- and the pair that leaves by its key is that one
+  pub first_between : has cmp old k ≡ true → (new : List (K × V)) → new ≡ del cmp old k → FirstLeaves cmp lo hi true old new
+  first_between there new left =
+      let found = found_if_there cmp k old there in
+      let parts = first_leaves cmp (λ pair. not (falls_short cmp lo pair.0) && stays_below cmp hi pair.0) k (k, v) (tied_itself total k) old found.before found.pair found.after (hit_if_there cmp total old sorted k there) first in
+      (found.pair, rw left parts.0, rw left parts.1)
 
 -- no more pass than there are
 module _ {X : Type 0} (test : X → Bool) where

@@ -259,3 +259,11 @@ updated_whole calls f cmp old new updated =
     let behind : length updated.behind ≡ 0 = omega (arith, ap length was, length-append updated.before (old ++ updated.behind), length-append old updated.behind) in
     let is : new ≡ updated.changed = updated.is ∙ rw (none_of updated.before ahead, none_of updated.behind behind) (append-nil updated.changed) in
     (updated.after, rw (is, ← all) updated.changes)
+
+-- so a count and a summary that were right are right still
+pub updated_right : {F K V A : Type 0} {calls : Mut F (Bor K × (MutBor V × Unit {0})) (Unit {0} × (MutBor V × Unit {0}))} {f : F} {cmp : K → K → Ordering} {lo hi : Option K} {old new : List (K × V)} (is_summary : A → List K → Type 0) (len : ℕ) (a : A) → IsUpdatedBetween calls f cmp lo hi old new → len ≡ length old → is_summary a (keys_of old)
+    → (len ≡ length new) × is_summary a (keys_of new)
+updated_right {calls = calls} {f = f} {cmp = cmp} {lo = lo} {hi = hi} {old = old} {new = new} is_summary len a updated counted told =
+    let keys = updated_keys calls f cmp lo hi old new updated in
+    let long : length new ≡ length old = sym (length-keys_of new) ∙ (ap length keys ∙ length-keys_of old) in
+    (counted ∙ sym long, rw keys told)

@@ -36,7 +36,7 @@ impl<S: NodeStore> BPlusTree<S> {
 
     // The pair at a place that is allowed for the query, with the leaf and the slot where it
     // stands.
-    fn place_by_argument(
+    pub(crate) fn place_by_argument(
         &self,
         query: <S::Argument as SearchArgument<S::K>>::Query,
     ) -> Result<Option<((LeafNodeId, usize), (&S::K, &S::V))>, AllocError>

@@ -37,11 +37,9 @@ impl<S: NodeStore> BPlusTree<S> {
         ensures selected { IfOk result (ShowsSelected S.Argument.selects query self.now.contents) }
         ensures sure { S.Argument.needs_no_memory → IsOk result }
     {
-        // Read, so that it is known to fit.
-        let _len = self.len;
-        match by_argument::find_by_argument(&self.store, self.root, self.height, query)? {
+        match self.place_by_argument(query)? {
             None => Ok(None),
-            Some((leaf, slot)) => Ok(Some(self.store.get_leaf(leaf).data_at(slot))),
+            Some((_, pair)) => Ok(Some(pair)),
         }
     }
 

@@ -16,17 +16,11 @@ overflow_sub-here g c =
     let fits = place_of_walk _ _ _ _ _ _ _ _ _ _ c.leaves.invariant.walked c.leaf_at-leaf.ensures in
     omega (arith, fits, c.len.ensures.value)
 
-pub returns-then-left-here-clause-between : goal.returns-then-left-here-clause-between
-returns-then-left-here-clause-between g c =
+pub returns-then-left-here : goal.returns-then-left-here
+returns-then-left-here g c =
     let fits = place_of_walk _ _ _ _ _ _ _ _ _ _ c.leaves.invariant.walked c.leaf_at-leaf.ensures in
-    (ends_here _ _ _ _ _ _ _ _ _ _ c.leaves.invariant.walked c.leaf_at-leaf.ensures (omega (arith, fits, c.len.ensures.value, c.if-left-here.true))
-    (λ same. absurd (c.leaves-test.true (c.as_usize.ensures ∙ (ap (λ (x : LeafNodeId). x.0) same ∙ sym c.as_usize-in-leaves.ensures))))).between
-
-pub returns-then-left-here-clause-same : goal.returns-then-left-here-clause-same
-returns-then-left-here-clause-same g c =
-    let fits = place_of_walk _ _ _ _ _ _ _ _ _ _ c.leaves.invariant.walked c.leaf_at-leaf.ensures in
-    (ends_here _ _ _ _ _ _ _ _ _ _ c.leaves.invariant.walked c.leaf_at-leaf.ensures (omega (arith, fits, c.len.ensures.value, c.if-left-here.true))
-    (λ same. absurd (c.leaves-test.true (c.as_usize.ensures ∙ (ap (λ (x : LeafNodeId). x.0) same ∙ sym c.as_usize-in-leaves.ensures))))).same
+    let end = ends_here _ _ _ _ _ _ _ _ _ _ c.leaves.invariant.walked c.leaf_at-leaf.ensures (omega (arith, fits, c.len.ensures.value, c.if-left-here.true)) (λ same. absurd (c.leaves-test.true (c.as_usize.ensures ∙ (ap (λ (x : LeafNodeId). x.0) same ∙ sym c.as_usize-in-leaves.ensures)))) in
+    record { between = end.between; same = end.same }
 
 pub unwrap-at-requires : goal.unwrap-at-requires
 unwrap-at-requires g c =
@@ -49,26 +43,16 @@ overflow_sub-here-2 g c =
     let same : c.leaves.at ≡ c.args.back = same_id _ _ (sym c.as_usize.ensures ∙ (c.leaves-test.false ∙ c.as_usize-in-leaves.ensures)) in
     (last_of_walk _ _ _ _ _ _ _ _ _ c.leaves.invariant.walked same).2
 
-pub returns-then-left-here-2-clause-between : goal.returns-then-left-here-2-clause-between
-returns-then-left-here-2-clause-between g c =
+pub returns-then-left-here-2 : goal.returns-then-left-here-2
+returns-then-left-here-2 g c =
     let same : c.leaves.at ≡ c.args.back = same_id _ _ (sym c.as_usize.ensures ∙ (c.leaves-test.false ∙ c.as_usize-in-leaves.ensures)) in
     let last = last_of_walk _ _ _ _ _ _ _ _ _ c.leaves.invariant.walked same in
     let short : c.leaves.passed + c.leaves.left ≤ c.args.to = omega (arith, last.2, c.if-left-here-2.true) in
-    (ends_here _ _ _ _ _ _ _ _ _ last.0 c.leaves.invariant.walked (ap (leaves_of (g.S.NodeStore.slots c.args.store.now)) same ∙ last.1) (omega (arith, last.3, short)) (λ _. short)).between
+    let end = ends_here _ _ _ _ _ _ _ _ _ last.0 c.leaves.invariant.walked (ap (leaves_of (g.S.NodeStore.slots c.args.store.now)) same ∙ last.1) (omega (arith, last.3, short)) (λ _. short) in
+    record { between = end.between; same = end.same }
 
-pub returns-then-left-here-2-clause-same : goal.returns-then-left-here-2-clause-same
-returns-then-left-here-2-clause-same g c =
+pub returns-else-left-here-2 : goal.returns-else-left-here-2
+returns-else-left-here-2 g c =
     let same : c.leaves.at ≡ c.args.back = same_id _ _ (sym c.as_usize.ensures ∙ (c.leaves-test.false ∙ c.as_usize-in-leaves.ensures)) in
-    let last = last_of_walk _ _ _ _ _ _ _ _ _ c.leaves.invariant.walked same in
-    let short : c.leaves.passed + c.leaves.left ≤ c.args.to = omega (arith, last.2, c.if-left-here-2.true) in
-    (ends_here _ _ _ _ _ _ _ _ _ last.0 c.leaves.invariant.walked (ap (leaves_of (g.S.NodeStore.slots c.args.store.now)) same ∙ last.1) (omega (arith, last.3, short)) (λ _. short)).same
-
-pub returns-else-left-here-2-clause-between : goal.returns-else-left-here-2-clause-between
-returns-else-left-here-2-clause-between g c =
-    let same : c.leaves.at ≡ c.args.back = same_id _ _ (sym c.as_usize.ensures ∙ (c.leaves-test.false ∙ c.as_usize-in-leaves.ensures)) in
-    (ends_behind _ _ _ _ _ _ _ _ _ c.leaves.invariant.walked same c.if-left-here-2.false).between
-
-pub returns-else-left-here-2-clause-same : goal.returns-else-left-here-2-clause-same
-returns-else-left-here-2-clause-same g c =
-    let same : c.leaves.at ≡ c.args.back = same_id _ _ (sym c.as_usize.ensures ∙ (c.leaves-test.false ∙ c.as_usize-in-leaves.ensures)) in
-    (ends_behind _ _ _ _ _ _ _ _ _ c.leaves.invariant.walked same c.if-left-here-2.false).same
+    let end = ends_behind _ _ _ _ _ _ _ _ _ c.leaves.invariant.walked same c.if-left-here-2.false in
+    record { between = end.between; same = end.same }

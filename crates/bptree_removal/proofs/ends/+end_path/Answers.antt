@@ -1,7 +1,7 @@
 use Rattle.std.proofs.Common.{◌∷◌, [], ◌-◌, ap, arith, length, length-append}
 use Rattle.bptree_keys.specs.declared.node_id.NodeId.TheVariants.{Inner, Leaf}
-use Rattle.bptree_shape.proofs.Down.{inner_present, node_children}
-use Rattle.bptree_shape.proofs.Ends.{end_above, end_child, end_of_leaf, end_stands, end_within}
+use Rattle.bptree_shape.proofs.EndSteps.{end_inside, end_lower, end_up}
+use Rattle.bptree_shape.proofs.Ends.{end_of_leaf, end_stands}
 use Rattle.bptree_descents.proofs.Selected.{goes_here}
 use Rattle.bptree_descents.proofs.Summed.{child_subtree}
 use Rattle.bptree_descents.specs.ByArgument.{IsSubtree}
@@ -10,42 +10,18 @@ use Rattle.bptree_removal.proofs.ends.+end_path.Goals as goal
 
 pub child_id-child-requires : goal.child_id-child-requires
 child_id-child-requires g t c =
-    let slots = g.S.NodeStore.slots c.args.store.now in
-    let node = c.get_inner-node.result.now in
-    let place = c.end_place-place.result in
-    let s : IsSubtree g.S.K.Ord.cmp g.S.Argument.Argument.is_summary slots c.args.height (Inner c.in-Inner.inner) = rw c.in-Inner.is at c.requires.subtree in
-    let long = node_children g.met.S.K.Ord.total slots c.args.height c.in-Inner.inner node s.stands c.get_inner-node.ensures in
-    end_within c.args.is_last (length node.children) place (omega (arith, long)) (end_child c.args.is_last (length node.keys) (length node.children) c.len.result place long c.len.ensures.value c.end_place-place.ensures)
+    end_inside g.met.S.K.Ord.total (g.S.NodeStore.slots c.args.store.now) c.args.is_last c.args.height c.args.id c.in-Inner.inner c.get_inner-node.result.now c.requires.subtree.stands c.in-Inner.is c.get_inner-node.ensures c.len.result c.end_place-place.result c.len.ensures.value c.end_place-place.ensures
 
 pub end_path-requires : goal.end_path-requires
 end_path-requires g t c κs within =
     let total = g.met.S.K.Ord.total in
     let sum = g.S.Argument.Argument.is_summary in
     let slots = g.S.NodeStore.slots c.args.store.now in
-    let node = c.get_inner-node.result.now in
-    let place = c.end_place-place.result in
     let s : IsSubtree g.S.K.Ord.cmp sum slots c.args.height (Inner c.in-Inner.inner) = rw c.in-Inner.is at c.requires.subtree in
-    let long = node_children total slots c.args.height c.in-Inner.inner node s.stands c.get_inner-node.ensures in
-    let there = end_within c.args.is_last (length node.children) place (omega (arith, long)) (end_child c.args.is_last (length node.keys) (length node.children) c.len.result place long c.len.ensures.value c.end_place-place.ensures) in
-    let p = (inner_present total slots c.args.height c.in-Inner.inner s.stands).1 in (
-      omega (arith, p),
-      (
-        within.0,
-        (
-          within.1.0,
-          (
-            within.1.1.0,
-            (
-              within.1.1.1,
-              (
-                child_subtree total sum slots c.args.height c.in-Inner.inner node s c.get_inner-node.ensures place c.child_id-child.result there c.child_id-child.ensures,
-                omega (arith, p, ap length c.push.ensures, length-append c.args.path.now ((c.in-Inner.inner, place, c.child_id-child.result) ∷ []), c.requires.room),
-              ),
-            ),
-          ),
-        ),
-      ),
-    )
+    let inside = end_inside g.met.S.K.Ord.total (g.S.NodeStore.slots c.args.store.now) c.args.is_last c.args.height c.args.id c.in-Inner.inner c.get_inner-node.result.now c.requires.subtree.stands c.in-Inner.is c.get_inner-node.ensures c.len.result c.end_place-place.result c.len.ensures.value c.end_place-place.ensures in
+    let lower = end_lower g.met.S.K.Ord.total (g.S.NodeStore.slots c.args.store.now) c.args.is_last c.args.height c.args.id c.in-Inner.inner c.get_inner-node.result.now c.requires.subtree.stands c.in-Inner.is c.get_inner-node.ensures c.len.result c.end_place-place.result c.len.ensures.value c.end_place-place.ensures in
+    let subtree = child_subtree total sum slots c.args.height c.in-Inner.inner c.get_inner-node.result.now s c.get_inner-node.ensures c.end_place-place.result c.child_id-child.result inside c.child_id-child.ensures in
+    (omega (arith, lower), (within.0, (within.1.0, (within.1.1.0, (within.1.1.1, (subtree, omega (arith, lower, ap length c.push.ensures, length-append c.args.path.now ((c.in-Inner.inner, c.end_place-place.result, c.child_id-child.result) ∷ []), c.requires.room)))))))
 
 pub returns-in-Leaf-clause-leaf : goal.returns-in-Leaf-clause-leaf
 returns-in-Leaf-clause-leaf g t c =
@@ -61,15 +37,7 @@ returns-in-Leaf-clause-way g t c =
 
 pub returns-in-Inner-clause-leaf : goal.returns-in-Inner-clause-leaf
 returns-in-Inner-clause-leaf g t c =
-    let total = g.met.S.K.Ord.total in
-    let slots = g.S.NodeStore.slots c.args.store.now in
-    let node = c.get_inner-node.result.now in
-    let place = c.end_place-place.result in
-    let s : IsSubtree g.S.K.Ord.cmp g.S.Argument.Argument.is_summary slots c.args.height (Inner c.in-Inner.inner) = rw c.in-Inner.is at c.requires.subtree in
-    let long = node_children total slots c.args.height c.in-Inner.inner node s.stands c.get_inner-node.ensures in
-    let up = (inner_present total slots c.args.height c.in-Inner.inner s.stands).1 in
-    let at = end_child c.args.is_last (length node.keys) (length node.children) c.len.result place long c.len.ensures.value c.end_place-place.ensures in
-    rw c.in-Inner.is (end_above g.S.K.Ord.cmp slots c.args.is_last c.args.height c.in-Inner.inner node place c.child_id-child.result c.end_path.result up c.get_inner-node.ensures (omega (arith, long)) at c.child_id-child.ensures c.end_path.ensures.leaf)
+    end_up g.met.S.K.Ord.total (g.S.NodeStore.slots c.args.store.now) c.args.is_last c.args.height c.args.id c.in-Inner.inner c.get_inner-node.result.now c.requires.subtree.stands c.in-Inner.is c.get_inner-node.ensures c.len.result c.end_place-place.result c.len.ensures.value c.end_place-place.ensures c.child_id-child.result c.end_path.result c.child_id-child.ensures c.end_path.ensures.leaf
 
 pub returns-in-Inner-clause-way : goal.returns-in-Inner-clause-way
 returns-in-Inner-clause-way g t c =

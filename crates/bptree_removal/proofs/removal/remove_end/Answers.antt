@@ -1,4 +1,4 @@
-use Rattle.std.proofs.Common.{◌≡◌, ◌<◌, ◌-◌, ◌∙◌, Some, ap, arith, cond, length, refl, slice_get, sym}
+use Rattle.std.proofs.Common.{◌≡◌, ◌<◌, ◌-◌, ◌∙◌, ap, arith, cond, length, refl, slice_get, sym}
 use Rattle.bptree_ascent.proofs.Rooted.{low_tree}
 use Rattle.bptree_shape.specs.Shape.{leaf_pairs, pairs_at}
 use Rattle.bptree_shape.proofs.Ends.{end_pair, end_within}
@@ -24,8 +24,8 @@ take_whole-requires g c =
     let slot = c.end_place-slot.result in
     let some : 0 < length c.get_leaf.result.now.pairs = omega (arith, c.len-len.ensures.value) in
     let within : slot < length (leaf_pairs (old.leaf leaf.0)) = rw c.get_leaf.ensures (end_within c.args.is_last (length c.get_leaf.result.now.pairs) slot some (rw c.len-len.ensures.value at c.end_place-slot.ensures)) in (
-      (pair_there total sum old c.args.height c.args.root c.requires.shape c.requires.few leaf slot within c.clear.new.self c.end_path-leaf.new.path c.clear.ensures c.end_path-leaf.ensures.way).0.0,
-      found_there total sum old c.args.height c.args.root c.requires.shape c.requires.few leaf slot within c.clear.new.self c.end_path-leaf.new.path c.clear.ensures c.end_path-leaf.ensures.way,
+      (pair_there total sum old c.args.height c.args.root c.requires.shape c.requires.few leaf slot within c.clear.new.self c.end_path-leaf.new.path c.clear.ensures (c.end_path-leaf.ensures.way slot)).0.0,
+      found_there total sum old c.args.height c.args.root c.requires.shape c.requires.few leaf slot within c.clear.new.self c.end_path-leaf.new.path c.clear.ensures (c.end_path-leaf.ensures.way slot),
     )
 
 pub returns-then-len-eq0-clause-removed : goal.returns-then-len-eq0-clause-removed
@@ -51,9 +51,9 @@ returns-clause-removed g c =
     let within : slot < length (leaf_pairs (old.leaf leaf.0)) = rw c.get_leaf.ensures (end_within c.args.is_last (length node.pairs) slot some stands) in
     let at = end_pair g.S.K.Ord.cmp old c.args.height c.args.root c.requires.shape.tree leaf node c.get_leaf.ensures c.args.is_last c.end_path-leaf.ensures.leaf in
     let here : slice_get (leaf_pairs (old.leaf leaf.0)) slot ≡ slice_get (pairs_at old c.args.height c.args.root) place = rw (c.get_leaf.ensures, stands) at in
-    let pair = pair_there total sum old c.args.height c.args.root c.requires.shape c.requires.few leaf slot within c.clear.new.self c.end_path-leaf.new.path c.clear.ensures c.end_path-leaf.ensures.way in
-    let found = found_there total sum old c.args.height c.args.root c.requires.shape c.requires.few leaf slot within c.clear.new.self c.end_path-leaf.new.path c.clear.ensures c.end_path-leaf.ensures.way in
-    taken_there total sum old c.args.height c.args.root c.requires.shape c.requires.few leaf slot within c.clear.new.self c.end_path-leaf.new.path c.clear.ensures c.end_path-leaf.ensures.way (slots c.take_whole.new.store) gone.value gone.root gone.height gone.summary place here (c.in_ok-gone.ensures.taken pair.0.0 found)
+    let pair = pair_there total sum old c.args.height c.args.root c.requires.shape c.requires.few leaf slot within c.clear.new.self c.end_path-leaf.new.path c.clear.ensures (c.end_path-leaf.ensures.way slot) in
+    let found = found_there total sum old c.args.height c.args.root c.requires.shape c.requires.few leaf slot within c.clear.new.self c.end_path-leaf.new.path c.clear.ensures (c.end_path-leaf.ensures.way slot) in
+    taken_there total sum old c.args.height c.args.root c.requires.shape c.requires.few leaf slot within c.clear.new.self c.end_path-leaf.new.path c.clear.ensures (c.end_path-leaf.ensures.way slot) (slots c.take_whole.new.store) gone.value gone.root gone.height gone.summary place here (c.in_ok-gone.ensures.taken pair.0.0 found)
 
 pub returns-in_err-gone-clause-empty : goal.returns-in_err-gone-clause-empty
 returns-in_err-gone-clause-empty g c empty =

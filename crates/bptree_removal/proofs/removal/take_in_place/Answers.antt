@@ -5,7 +5,7 @@ pub sum_of-requires : goal.sum_of-requires
 sum_of-requires g c =
     let slots = g.S.NodeStore.slots in
     let took = c.take_pair-pair.ensures in
-    out.present_taken g.met.S.K.Ord.total g.S.Argument.Argument.is_summary (slots c.args.store.now) c.args.path.now c.args.leaf c.args.slot c.requires.there.0 c.requires.there.1 c.take_pair-pair.result took.pair (slots c.take_pair-pair.new.store) took.takes
+    (out.room_taken g.met.S.K.Ord.total g.S.Argument.Argument.is_summary (slots c.args.store.now) c.args.path.now c.args.leaf c.args.slot c.requires.there.0 c.requires.there.1 c.take_pair-pair.result took.pair (slots c.take_pair-pair.new.store) took.takes).0
 
 pub ascend-requires : goal.ascend-requires
 ascend-requires g c =
@@ -19,38 +19,14 @@ returns-in-Ok-ascend-clause-leaves g c k there =
     let took = c.take_pair-pair.ensures in
     out.leaves_in_place g.met.S.K.Ord.total g.S.Argument.Argument.is_summary (slots c.args.store.now) c.args.path.now c.args.leaf c.args.slot k there c.take_pair-pair.result took.pair (slots c.take_pair-pair.new.store) took.takes c.requires.spare c.in-Ok.summary c.in-Ok.ensures.some c.in-Ok.ensures.none (slots c.ascend.new.store) c.in-Ok-ascend.top (c.in-Ok-ascend.ensures.rises (out.climbs_in_place g.met.S.K.Ord.total g.S.Argument.Argument.is_summary (slots c.args.store.now) c.args.path.now c.args.leaf c.args.slot k there c.take_pair-pair.result took.pair (slots c.take_pair-pair.new.store) took.takes c.requires.spare c.in-Ok.summary c.in-Ok.ensures.some c.in-Ok.ensures.none))
 
-pub put_pair-requires-clause-present : goal.put_pair-requires-clause-present
-put_pair-requires-clause-present g c =
-    let slots = g.S.NodeStore.slots in
-    let took = c.take_pair-pair.ensures in
-    out.present_taken g.met.S.K.Ord.total g.S.Argument.Argument.is_summary (slots c.args.store.now) c.args.path.now c.args.leaf c.args.slot c.requires.there.0 c.requires.there.1 c.take_pair-pair.result took.pair (slots c.take_pair-pair.new.store) took.takes
+pub put_pair-requires : goal.put_pair-requires
+put_pair-requires g c =
+    let room = out.room_taken g.met.S.K.Ord.total g.S.Argument.Argument.is_summary (g.S.NodeStore.slots c.args.store.now) c.args.path.now c.args.leaf c.args.slot c.requires.there.0 c.requires.there.1 c.take_pair-pair.result c.take_pair-pair.ensures.pair (g.S.NodeStore.slots c.take_pair-pair.new.store) c.take_pair-pair.ensures.takes in
+    record { present = room.0; slot = room.1; room = room.2 }
 
-pub put_pair-requires-clause-slot : goal.put_pair-requires-clause-slot
-put_pair-requires-clause-slot g c =
-    let slots = g.S.NodeStore.slots in
-    let took = c.take_pair-pair.ensures in
-    out.slot_taken g.met.S.K.Ord.total g.S.Argument.Argument.is_summary (slots c.args.store.now) c.args.path.now c.args.leaf c.args.slot c.requires.there.0 c.requires.there.1 c.take_pair-pair.result took.pair (slots c.take_pair-pair.new.store) took.takes
-
-pub put_pair-requires-clause-room : goal.put_pair-requires-clause-room
-put_pair-requires-clause-room g c =
-    let slots = g.S.NodeStore.slots in
-    let took = c.take_pair-pair.ensures in
-    out.room_taken g.met.S.K.Ord.total g.S.Argument.Argument.is_summary (slots c.args.store.now) c.args.path.now c.args.leaf c.args.slot c.requires.there.0 c.requires.there.1 c.take_pair-pair.result took.pair (slots c.take_pair-pair.new.store) took.takes
-
-pub put_pair-requires-in-Err-clause-present : goal.put_pair-requires-in-Err-clause-present
-put_pair-requires-in-Err-clause-present g c =
-    let slots = g.S.NodeStore.slots in
-    let took = c.take_pair-pair.ensures in
-    rw c.in-Err.ensures.refused (out.present_taken g.met.S.K.Ord.total g.S.Argument.Argument.is_summary (slots c.args.store.now) c.args.path.now c.args.leaf c.args.slot c.requires.there.0 c.requires.there.1 c.take_pair-pair.result took.pair (slots c.take_pair-pair.new.store) took.takes)
-
-pub put_pair-requires-in-Err-clause-slot : goal.put_pair-requires-in-Err-clause-slot
-put_pair-requires-in-Err-clause-slot g c =
-    let slots = g.S.NodeStore.slots in
-    let took = c.take_pair-pair.ensures in
-    rw c.in-Err.ensures.refused (out.slot_taken g.met.S.K.Ord.total g.S.Argument.Argument.is_summary (slots c.args.store.now) c.args.path.now c.args.leaf c.args.slot c.requires.there.0 c.requires.there.1 c.take_pair-pair.result took.pair (slots c.take_pair-pair.new.store) took.takes)
-
-pub put_pair-requires-in-Err-clause-room : goal.put_pair-requires-in-Err-clause-room
-put_pair-requires-in-Err-clause-room g c =
-    let slots = g.S.NodeStore.slots in
-    let took = c.take_pair-pair.ensures in
-    rw c.in-Err.ensures.refused (out.room_taken g.met.S.K.Ord.total g.S.Argument.Argument.is_summary (slots c.args.store.now) c.args.path.now c.args.leaf c.args.slot c.requires.there.0 c.requires.there.1 c.take_pair-pair.result took.pair (slots c.take_pair-pair.new.store) took.takes)
+pub put_pair-requires-in-Err : goal.put_pair-requires-in-Err
+put_pair-requires-in-Err g c =
+    rw c.in-Err.ensures.refused (
+    let room = out.room_taken g.met.S.K.Ord.total g.S.Argument.Argument.is_summary (g.S.NodeStore.slots c.args.store.now) c.args.path.now c.args.leaf c.args.slot c.requires.there.0 c.requires.there.1 c.take_pair-pair.result c.take_pair-pair.ensures.pair (g.S.NodeStore.slots c.take_pair-pair.new.store) c.take_pair-pair.ensures.takes in
+    record { present = room.0; slot = room.1; room = room.2 }
+    )

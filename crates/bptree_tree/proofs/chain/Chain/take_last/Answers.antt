@@ -1,29 +1,16 @@
-use Rattle.std.proofs.Common.{◌≡◌, ◌∙◌, sym, ap, arith, length, Option, Some}
-use Rattle.std.specs.Option.{unwrap_or}
-use Rattle.bptree_keys.specs.declared.node_id.LeafNodeId.{LeafNodeId}
+use Rattle.std.proofs.Common.{◌∙◌, sym, arith}
 use Rattle.bptree_tree.proofs.ChainLemmas.{last_out}
 use Rattle.bptree_tree.proofs.chain.Chain.take_last.Goals as goal
 
 pub overflow_sub-self : goal.overflow_sub-self
 overflow_sub-self g c =
-    let leaf = c.take_out-leaf.result.value in
-    let names : (id : LeafNodeId) → leaf.prev ≡ Some id → c.unwrap_or-last.result ≡ id = λ id e. c.unwrap_or-last.ensures ∙ ap (λ (o : Option LeafNodeId). unwrap_or o c.self.inside.last) (c.prev.ensures ∙ (ap (λ l. l.prev) c.deref.ensures ∙ e)) in
-    let long : c.len.result ≡ length leaf.pairs = c.len.ensures.value ∙ ap (λ l. length l.pairs) c.deref-2.ensures in
-    let out = last_out (g.S.NodeStore.slots c.self.inside.store) (g.S.NodeStore.slots c.take_out-leaf.new.store) c.self.inside.first c.self.inside.last c.self.inside.len c.self.invariant (omega arith) leaf c.unwrap_or-last.result c.take_out-leaf.ensures.value c.take_out-leaf.ensures.others names in
-    omega (arith, out.within, long)
+    (last_out (g.S.NodeStore.slots c.self.inside.store) (g.S.NodeStore.slots c.take_out-leaf.new.store) c.self.inside.first c.self.inside.last c.self.inside.len c.self.invariant (omega arith) c.take_out-leaf.result.value _ _ c.deref.ensures c.deref-2.ensures c.len.result c.len.ensures.value c.unwrap_or-last.result c.prev.result c.prev.ensures c.unwrap_or-last.ensures c.take_out-leaf.ensures.value c.take_out-leaf.ensures.others).within
 
 pub invariant_of-self : goal.invariant_of-self
 invariant_of-self g c =
-    let leaf = c.take_out-leaf.result.value in
-    let names : (id : LeafNodeId) → leaf.prev ≡ Some id → c.unwrap_or-last.result ≡ id = λ id e. c.unwrap_or-last.ensures ∙ ap (λ (o : Option LeafNodeId). unwrap_or o c.self.inside.last) (c.prev.ensures ∙ (ap (λ l. l.prev) c.deref.ensures ∙ e)) in
-    let long : c.len.result ≡ length leaf.pairs = c.len.ensures.value ∙ ap (λ l. length l.pairs) c.deref-2.ensures in
-    let out = last_out (g.S.NodeStore.slots c.self.inside.store) (g.S.NodeStore.slots c.take_out-leaf.new.store) c.self.inside.first c.self.inside.last c.self.inside.len c.self.invariant (omega arith) leaf c.unwrap_or-last.result c.take_out-leaf.ensures.value c.take_out-leaf.ensures.others names in
-    rw long out.left'
+    (last_out (g.S.NodeStore.slots c.self.inside.store) (g.S.NodeStore.slots c.take_out-leaf.new.store) c.self.inside.first c.self.inside.last c.self.inside.len c.self.invariant (omega arith) c.take_out-leaf.result.value _ _ c.deref.ensures c.deref-2.ensures c.len.result c.len.ensures.value c.unwrap_or-last.result c.prev.result c.prev.ensures c.unwrap_or-last.ensures c.take_out-leaf.ensures.value c.take_out-leaf.ensures.others).left'
 
 pub returns : goal.returns
 returns g c =
-    let leaf = c.take_out-leaf.result.value in
-    let names : (id : LeafNodeId) → leaf.prev ≡ Some id → c.unwrap_or-last.result ≡ id = λ id e. c.unwrap_or-last.ensures ∙ ap (λ (o : Option LeafNodeId). unwrap_or o c.self.inside.last) (c.prev.ensures ∙ (ap (λ l. l.prev) c.deref.ensures ∙ e)) in
-    let long : c.len.result ≡ length leaf.pairs = c.len.ensures.value ∙ ap (λ l. length l.pairs) c.deref-2.ensures in
-    let out = last_out (g.S.NodeStore.slots c.self.inside.store) (g.S.NodeStore.slots c.take_out-leaf.new.store) c.self.inside.first c.self.inside.last c.self.inside.len c.self.invariant (omega arith) leaf c.unwrap_or-last.result c.take_out-leaf.ensures.value c.take_out-leaf.ensures.others names in
-    rw long (sym c.self.view_is ∙ out.parts, out.some)
+    let out = last_out (g.S.NodeStore.slots c.self.inside.store) (g.S.NodeStore.slots c.take_out-leaf.new.store) c.self.inside.first c.self.inside.last c.self.inside.len c.self.invariant (omega arith) c.take_out-leaf.result.value _ _ c.deref.ensures c.deref-2.ensures c.len.result c.len.ensures.value c.unwrap_or-last.result c.prev.result c.prev.ensures c.unwrap_or-last.ensures c.take_out-leaf.ensures.value c.take_out-leaf.ensures.others in
+    (sym c.self.view_is ∙ out.parts, out.some)

@@ -7,9 +7,10 @@ use Rattle.bptree_nodes.specs.LeafResults.{HasEqualAt}
 use Rattle.bptree_nodes.specs.Slot.{Slot, Present}
 use Rattle.bptree_nodes.proofs.LeafContents.{value_at_place}
 use Rattle.bptree_shape.specs.Shape.{root_least, pairs_at}
-use Rattle.bptree_ascent.proofs.Lent.{keys_stay, set_shape, set_keys, set_length, lent_pairs, lent_store, none_if_absent}
+use Rattle.bptree_ascent.proofs.Lent.{lent_pairs, lent_store, none_if_absent}
 use Rattle.bptree_shape.proofs.Spot.{value_in_leaf, leaf_ascends}
 use Rattle.bptree_shape.proofs.Walk.{tree_ascends}
+use Rattle.bptree_tree.proofs.LentAt.{lent_right}
 use Rattle.bptree_tree.proofs.tree.BPlusTree.get_mut.Goals as goal
 
 -- one giver, and the same value at each write
@@ -23,22 +24,14 @@ found_in cmp k i seen node slot a b found = let e : Present seen ≡ Present nod
 -- whatever value is written, the tree is well shaped
 pub invariant_of-self-lent : goal.invariant_of-self-lent
 invariant_of-self-lent g c = λ w.
-    let cmp = g.S.K.Ord.cmp in
-    let slots = g.S.NodeStore.slots c.self.inside.store in
     let tree = c.self.inside in
-    let sum = g.S.Argument.Argument.is_summary in
+    let slots = g.S.NodeStore.slots in
     let leaf = c.leaf_for-leaf.result in
     let node = c.get_mut_leaf.result.now in
-    let read = c.get_mut_leaf.ensures.value in
-    let written = set_value_at node.pairs c.in-Ok.slot w in
-    let same = keys_stay node.pairs c.in-Ok.slot w in
-    let updates = g.met.S.NodeStore.with_leaf_updates tree.store leaf.0 (record node { pairs = written }) c.leaf_for-leaf.ensures.stands.present in
-    let new = g.S.NodeStore.slots (g.S.NodeStore.with_leaf tree.store leaf.0 (record node { pairs = written })) in
-    let keys = set_keys cmp sum slots new tree.height tree.root c.self.invariant.0 leaf node read c.leaf_for-leaf.ensures.stands written same updates in (
-      set_shape cmp sum slots new tree.height tree.root c.self.invariant.0 leaf node read c.leaf_for-leaf.ensures.stands written same updates,
-      c.self.invariant.1 ∙ sym (set_length cmp sum slots new tree.height tree.root c.self.invariant.0 leaf node read c.leaf_for-leaf.ensures.stands written same updates),
-      rw keys c.self.invariant.2,
-    )
+    let stands = c.leaf_for-leaf.ensures.stands in
+    let written = record node { pairs = set_value_at node.pairs c.in-Ok.slot w } in
+    lent_right g.S.K.Ord.cmp g.S.Argument.Argument.is_summary (slots tree.store) (slots (g.S.NodeStore.with_leaf tree.store leaf.0 written)) tree.height tree.root c.self.invariant.0 leaf node c.get_mut_leaf.ensures.value stands c.in-Ok.slot w (g.met.S.NodeStore.with_leaf_updates tree.store leaf.0 written stands.present)
+    tree.len c.self.invariant.1 tree.root_argument c.self.invariant.2
 
 -- the value that is lent is the one at the key, and the tree ends with what is written there
 pub returns-in-Ok : goal.returns-in-Ok

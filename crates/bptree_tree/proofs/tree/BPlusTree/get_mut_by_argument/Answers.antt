@@ -1,30 +1,21 @@
-use Rattle.std.proofs.Common.{◌∙◌, sym, ◌+◌, length, refl, Some}
+use Rattle.std.proofs.Common.{◌∙◌, ◌+◌, length, refl, Some}
 use Rattle.bptree_nodes.specs.Leaf.{set_value_at}
 use Rattle.bptree_descents.specs.ByArgument.{IsSelectedAt}
 use Rattle.bptree_shape.specs.Leaves.{pairs_of}
-use Rattle.bptree_ascent.proofs.Lent.{keys_stay, set_shape, set_keys, set_length}
-use Rattle.bptree_tree.proofs.LentAt.{set_pairs, value_of_slot, slot_within}
+use Rattle.bptree_tree.proofs.LentAt.{lent_right, set_pairs, value_of_slot, slot_within}
 use Rattle.bptree_tree.proofs.tree.BPlusTree.get_mut_by_argument.Goals as goal
 
 -- whatever value is written, the tree is well shaped
 pub invariant_of-self-lent : goal.invariant_of-self-lent
 invariant_of-self-lent g c = λ w.
     let tree = c.self.inside in
-    let store = g.S.NodeStore.slots in
-    let slots = store tree.store in
+    let slots = g.S.NodeStore.slots in
     let leaf = c.in-Ok-Some.leaf in
-    let slot = c.in-Ok-Some.slot in
     let node = c.get_mut_leaf.result.now in
-    let read = c.get_mut_leaf.ensures.value in
-    let found : IsSelectedAt g.S.Argument.SearchArgument.selects c.args.query slots tree.height tree.root (Some (leaf, slot)) = rw c.in-Ok-Some.field-0-is at c.in-Ok-Some.ensures.selected in
-    let written = record node { pairs = set_value_at node.pairs slot w } in
-    let updates = g.met.S.NodeStore.with_leaf_updates tree.store leaf.0 written found.0.present in
-    let new = store (g.S.NodeStore.with_leaf tree.store leaf.0 written) in
-    let sum = g.S.Argument.Argument.is_summary in (
-      set_shape g.S.K.Ord.cmp sum slots new tree.height tree.root c.self.invariant.0 leaf node read found.0 (set_value_at node.pairs slot w) (keys_stay node.pairs slot w) updates,
-      c.self.invariant.1 ∙ sym (set_length g.S.K.Ord.cmp sum slots new tree.height tree.root c.self.invariant.0 leaf node read found.0 (set_value_at node.pairs slot w) (keys_stay node.pairs slot w) updates),
-      rw (set_keys g.S.K.Ord.cmp sum slots new tree.height tree.root c.self.invariant.0 leaf node read found.0 (set_value_at node.pairs slot w) (keys_stay node.pairs slot w) updates) c.self.invariant.2,
-    )
+    let found : IsSelectedAt g.S.Argument.SearchArgument.selects c.args.query (slots tree.store) tree.height tree.root (Some (leaf, c.in-Ok-Some.slot)) = rw c.in-Ok-Some.field-0-is at c.in-Ok-Some.ensures.selected in
+    let written = record node { pairs = set_value_at node.pairs c.in-Ok-Some.slot w } in
+    lent_right g.S.K.Ord.cmp g.S.Argument.Argument.is_summary (slots tree.store) (slots (g.S.NodeStore.with_leaf tree.store leaf.0 written)) tree.height tree.root c.self.invariant.0 leaf node c.get_mut_leaf.ensures.value found.0 c.in-Ok-Some.slot w (g.met.S.NodeStore.with_leaf_updates tree.store leaf.0 written found.0.present)
+    tree.len c.self.invariant.1 tree.root_argument c.self.invariant.2
 
 -- the value that is lent stands at an allowed place, and the tree ends with what is written there
 pub returns-in-Ok-Some : goal.returns-in-Ok-Some

@@ -5,7 +5,7 @@ use Rattle.std.proofs.lemmas.Result.{IfOk-weaker}
 use Rattle.bptree_keys.specs.Ranges.{between}
 use Rattle.bptree_ranges.specs.Summaries.{IsPartSummary}
 use Rattle.bptree_ranges.proofs.Runs.{no_part, whole_part, tail_part}
-use Rattle.bptree_removal.proofs.Withdrawn.{alike}
+use Rattle.bptree_removal.proofs.Deleted.{alike}
 use Rattle.bptree_shape.proofs.Walk.{tree_ascends}
 use Rattle.bptree_shape.specs.Shape.{root_least}
 use Rattle.bptree_descents.specs.ByArgument.{IsSelected}

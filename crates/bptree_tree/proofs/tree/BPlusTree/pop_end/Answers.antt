@@ -1,8 +1,6 @@
-use Rattle.std.proofs.Common.{◌-◌, ap, arith, cond, length}
-use Rattle.std.proofs.lemmas.List.Edits.{length-remove}
 use Rattle.bptree_shape.specs.Shape.{pairs_at}
-use Rattle.bptree_shape.proofs.ListReads.{read_below}
 use Rattle.bptree_tree.proofs.EndLemmas.{end_taken, none_taken}
+use Rattle.bptree_tree.proofs.OneFewer.{one_fewer}
 use Rattle.bptree_tree.proofs.tree.BPlusTree.pop_end.Goals as goal
 
 pub returns-in-None-clause-ok : goal.returns-in-None-clause-ok
@@ -12,13 +10,8 @@ returns-in-None-clause-ok g c =
 
 pub invariant_of-self-in-Some : goal.invariant_of-self-in-Some
 invariant_of-self-in-Some g c =
-    let tree = c.self.inside in
-    let whole = pairs_at (g.S.NodeStore.slots tree.store) tree.height tree.root in
     let taken = rw c.in-Some.is at c.in_ok-remove_end.ensures.removed in
-    let place = cond c.args.is_last (length whole - 1) 0 in
-    let within = read_below whole place c.in-Some.gone.value taken.was in
-    let fewer = length-remove whole place within in
-    (taken.shape, omega (arith, c.self.invariant.1, fewer, within, ap length taken.pairs), taken.told)
+    one_fewer taken c.self.inside.len c.self.invariant.1
 
 pub returns-in-Some-clause-ok : goal.returns-in-Some-clause-ok
 returns-in-Some-clause-ok g c =
