@@ -1,5 +1,5 @@
 -- The pair of a key, by the leaf that can hold the key.
-use Rattle.std.proofs.Common.{◌≡◌, ◌+◌, ℕ, suc, true, false, not, List, [], ◌∷◌, ◌++◌, length, take, drop, refl, sym, ap, ◌∙◌, None, Some, slice_get}
+use Rattle.std.proofs.Common.{◌≡◌, ◌+◌, ℕ, suc, true, false, not, List, [], ◌∷◌, ◌++◌, length, take, drop, refl, ap, None, Some, slice_get}
 use Rattle.std.specs.Prelude.{◌&&◌}
 use Rattle.std.specs.declared.cmp.Ordering.{Ordering}
 use Rattle.std.specs.declared.cmp.Ordering.TheVariants.{Less, Equal}

@@ -1,5 +1,5 @@
 -- The first pair that passes a test leaves an ascending list.
-use Rattle.std.proofs.Common.{◌≡◌, ◌≤◌, ◌∙◌, ◌&&◌, arith, sym, ap, refl, Bool, true, false, not, cond, filter, Option, Some, None, List, [], ◌∷◌, ◌++◌, length, slice_get, append-nil, append_assoc}
+use Rattle.std.proofs.Common.{◌≡◌, ◌≤◌, ◌∙◌, ◌&&◌, arith, sym, ap, refl, Bool, true, false, not, cond, filter, Option, Some, List, [], ◌∷◌, ◌++◌, length, slice_get, append-nil, append_assoc}
 use Rattle.std.specs.declared.cmp.Ordering.{Ordering}
 use Rattle.std.specs.declared.cmp.Ordering.TheVariants.{Less, Equal, Greater}
 use Rattle.std.specs.Cmp.{IsTotalOrder}

@@ -1,14 +1,6 @@
-use Rattle.std.proofs.Common.{◌≡◌, sym, subst, Some, None, arith}
-use Rattle.std.specs.Map.{keys_of}
-use Rattle.std.specs.Option.{option_map}
 use Rattle.std.proofs.lemmas.Result.{IfOk-weaker}
-use Rattle.bptree_keys.specs.Ranges.{between}
-use Rattle.bptree_ranges.specs.Summaries.{IsPartSummary}
 use Rattle.bptree_ranges.proofs.Runs.{no_part, whole_part, tail_part}
 use Rattle.bptree_removal.proofs.Deleted.{alike}
-use Rattle.bptree_shape.proofs.Walk.{tree_ascends}
-use Rattle.bptree_shape.specs.Shape.{root_least}
-use Rattle.bptree_descents.specs.ByArgument.{IsSelected}
 use Rattle.bptree_tree.proofs.tree.BPlusTree.part_argument.Goals as goal
 
 pub returns-in_default : goal.returns-in_default

@@ -1,4 +1,4 @@
-use Rattle.std.proofs.Common.{◌∙◌, ap, sym}
+use Rattle.std.proofs.Common.{◌∙◌, ap}
 use Rattle.std.specs.Option.{option_map}
 use Rattle.bptree_tree.proofs.EntryLemmas.{entry_value}
 use Rattle.bptree_tree.proofs.tree.BPlusTree.remove.Goals as goal

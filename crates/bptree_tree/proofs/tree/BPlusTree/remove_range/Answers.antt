@@ -1,4 +1,4 @@
-use Rattle.std.proofs.Common.{◌≡◌, ◌∙◌, [], ◌∷◌, ◌++◌, sym, ap, length, not, ◌&&◌, arith, length-append}
+use Rattle.std.proofs.Common.{◌∙◌, [], ◌∷◌, ◌++◌, sym, ap, length, not, ◌&&◌, arith, length-append}
 use Rattle.std.specs.Option.{option_copied}
 use Rattle.bptree_keys.specs.Ranges.{between, falls_short, stays_below}
 use Rattle.bptree_tree.proofs.RangeRemovalLemmas.{all_fail, left_on, no_longer}
