@@ -1,7 +1,7 @@
 -- What an inner node becomes that is cut.
 use Rattle.std.proofs.Common.{◌≡◌, ℕ, ◌+◌, ◌-◌, ◌<◌, ◌≤◌, zero, suc, List, [], ◌∷◌, ◌++◌, length, take, drop, refl, sym, ap, ◌∙◌, arith, Some}
 use Rattle.std.specs.List.{insert, slice_get}
-use Rattle.std.proofs.lemmas.List.{take-append-drop, take-take}
+use Rattle.std.proofs.lemmas.List.{take-append-drop}
 use Rattle.bptree_keys.specs.declared.node_id.NodeId.{NodeId}
 use Rattle.bptree_nodes.specs.Inner.{Inner, SplitsByTable}
 use Rattle.bptree_nodes.proofs.Pairs.{parts, slice_get-take}
@@ -18,10 +18,6 @@ module _ {X : Type 0} where
   around_element (y ∷ xs) zero m x h e = let one : m ≡ suc zero = omega arith in rw one (cc)
   around_element (y ∷ xs) (suc n) zero x h e = absurd (omega arith)
   around_element (y ∷ xs) (suc n) (suc m) x h e = ap (λ zs. y ∷ zs) (around_element xs n m x h (omega arith))
-
-  -- the same where the first part was cut off before
-  pub around_last : (xs : List X) (n m : ℕ) (x : X) → slice_get (take m xs) n ≡ Some x → m ≡ n + 1 → take n (take m xs) ++ x ∷ drop m xs ≡ xs
-  around_last xs n m x h e = rw (take-take n m xs (omega arith)) (around_element xs n m x (sym (slice_get-take m xs n (omega arith)) ∙ h) e)
 
   -- the elements of a list with a new one
   pub at_new : (xs : List X) (i : ℕ) (x : X) → i ≤ length xs → slice_get (insert xs i x) i ≡ Some x
