@@ -1,4 +1,4 @@
-use Rattle.std.proofs.Common.{ℕ, ◌≡◌, ◌≤◌, ◌+◌, ◌++◌, length, map, take, drop, ◌∷◌, sym, ap, ◌∙◌, arith, slice_set}
+use Rattle.std.proofs.Common.{ℕ, ◌++◌, length, map, drop, sym, ap, ◌∙◌, arith}
 use Rattle.std.proofs.lemmas.List.{length-set}
 use Rattle.bptree_c.specs.Ends.{turned}
 use Rattle.bptree_c.specs.Pairs.{as_pair, as_tuple}

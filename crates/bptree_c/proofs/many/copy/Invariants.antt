@@ -1,4 +1,4 @@
-use Rattle.std.proofs.Common.{◌≡◌, ◌+◌, ◌-◌, ◌≤◌, ◌++◌, length, map, take, drop}
+use Rattle.std.proofs.Common.{◌≡◌, ◌-◌, ◌≤◌, ◌++◌, length, map, take, drop}
 use Rattle.bptree_c.specs.Ends.{turned}
 use Rattle.bptree_c.specs.Pairs.{as_pair}
 use Rattle.bptree_c.proofs.many.copy.Given as goal
