@@ -1,5 +1,5 @@
 -- Pairs that are copied one by one.
-use Rattle.std.proofs.Common.{◌≡◌, ℕ, zero, suc, ◌+◌, ◌<◌, ◌≤◌, List, [], ◌∷◌, ◌++◌, length, map, take, drop, slice_set, refl, sym, ap, ◌∙◌, arith, add-one}
+use Rattle.std.proofs.Common.{◌≡◌, ℕ, zero, suc, ◌+◌, ◌<◌, ◌≤◌, List, [], ◌∷◌, ◌++◌, length, map, take, drop, slice_set, refl, ap, arith, add-one}
 use Rattle.bptree_c.specs.declared.pair.Pair.{Pair}
 use Rattle.bptree_c.specs.Pairs.{as_pair}
 

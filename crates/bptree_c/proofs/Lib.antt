@@ -1,4 +1,3 @@
-pub mod ByteHandles
 pub mod ByteLemmas
 pub mod CopyLemmas
 pub mod Handles

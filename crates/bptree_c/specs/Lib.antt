@@ -1,6 +1,5 @@
 pub mod ByteKeys
 pub mod Ends
 pub mod Held
-pub mod HeldBytes
 pub mod Pairs
 pub mod Popped

@@ -1,5 +1,5 @@
 -- Pairs as C has them, and what is copied into a caller's array.
-use Rattle.std.specs.Prelude.{◌≡◌, ℕ, List, ◌++◌, length, map, take, drop}
+use Rattle.std.specs.Prelude.{◌≡◌, ℕ, List, [], ◌∷◌, ◌++◌, Option, MatchOption, length, map, take, drop}
 use Rattle.bptree_c.specs.declared.pair.Pair.{Pair}
 
 abbrev pub as_tuple : Pair → ℕ × ℕ
@@ -12,3 +12,7 @@ as_pair pair = record { key = pair.0; value = pair.1 }
 abbrev pub IsCopied : List (ℕ × ℕ) → List Pair → List Pair → ℕ → Type 0
 IsCopied l old new count =
     (count ≡ length (take (length old) l)) × (new ≡ map as_pair (take (length old) l) ++ drop count old)
+
+-- the first pair of the list has left it, or there was none
+abbrev pub IsTaken : List (ℕ × ℕ) → Option Pair → List (ℕ × ℕ) → Type 0
+IsTaken old taken new = MatchOption taken (old ≡ []) (λ pair. old ≡ as_tuple pair ∷ new)

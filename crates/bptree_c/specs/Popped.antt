@@ -19,11 +19,15 @@ LeftFirst old new told = (rest : List (ℕ × ℕ)) × (old ≡ as_tuple told �
 abbrev pub LeftLast : List (ℕ × ℕ) → Option (List (ℕ × ℕ)) → Pair → Type 0
 LeftLast old new told = (rest : List (ℕ × ℕ)) × (old ≡ rest ++ as_tuple told ∷ []) × (new ≡ Some rest)
 
--- 0 for none, 1 for a pair that stands where C reads it, and 2 for a refusal
-abbrev pub IsTold : Result (Option (ℕ × ℕ)) AllocError → ℕ → Pair → Type 0
-IsTold answer code pair = MatchResult answer
-    (λ found. MatchOption found (code ≡ 0) (λ it. (code ≡ 1) × (it ≡ as_tuple pair)))
+-- 0 for none, 1 for what stands where C reads it, and 2 for a refusal
+abbrev pub IsToldAs : {X Y : Type 0} → (Y → X) → Result (Option X) AllocError → ℕ → Y → Type 0
+IsToldAs read answer code place = MatchResult answer
+    (λ found. MatchOption found (code ≡ 0) (λ it. (code ≡ 1) × (it ≡ read place)))
     (λ _. code ≡ 2)
+
+-- the same of a pair
+abbrev pub IsTold : Result (Option (ℕ × ℕ)) AllocError → ℕ → Pair → Type 0
+IsTold = IsToldAs as_tuple
 
 -- what stood at the key is told, and the value is put there, or the pair has left
 abbrev pub IsPutAt : List (ℕ × ℕ) → ℕ → ℕ → Option ℕ → Option (List (ℕ × ℕ)) → Type 0

@@ -33,9 +33,10 @@ pub struct ByteHandle {
 }
 
 impl Model for ByteHandle {
-    ghost use Rattle.bptree_c.specs.HeldBytes.{held_owns};
+    ghost use Rattle.bptree_c.specs.Held.{held_owns};
+    ghost use Rattle.bptree_c.specs.contracts.byte_handle.ByteSet.{the_row};
 
-    ghost also_owns = { λ h. held_owns h.at h.held };
+    ghost also_owns = { λ h. held_owns the_row h.at h.held };
 }
 
 impl ByteHandle {

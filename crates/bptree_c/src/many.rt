@@ -1,8 +1,8 @@
 //! Calls that copy many pairs at once into a caller's array. None of them is ever refused.
-ghost use Rattle.std.specs.Prelude.{◌≡◌, ◌≤◌, ℕ, List, Some, None, length, reverse};
+ghost use Rattle.std.specs.Prelude.{◌≡◌, ◌≤◌, ℕ, List, Some, None, length};
 ghost use Rattle.std.specs.Ordering.{nat_cmp};
-ghost use Rattle.bptree_c.specs.Ends.{up_to, back_from};
-ghost use Rattle.bptree_c.specs.Pairs.{IsCopied};
+ghost use Rattle.bptree_c.specs.Ends.{up_to, back_from, turned};
+ghost use Rattle.bptree_c.specs.Pairs.{IsCopied, IsTaken};
 ghost use Rattle.bptree_keys.specs.Ranges.{between};
 ghost use Rattle.bptree_maps.specs.Pages.{page};
 
@@ -28,7 +28,7 @@ pub extern "C" fn bptree_range(
     ensures copied { IsCopied (between nat_cmp pairs (Some from) None) out.old out.new result }
 {
     let whole = map.take(alloc);
-    let count = copy_forward(whole.pairs.range(Some(&from), None), out);
+    let count = copy(whole.pairs.range(Some(&from), None), false, out);
     map.give(whole);
     count
 }
@@ -48,7 +48,7 @@ pub extern "C" fn bptree_range_back(
     ensures copied { IsCopied (back_from pairs from) out.old out.new result }
 {
     let whole = map.take(alloc);
-    let count = copy_back(pairs_up_to(&whole, from), out);
+    let count = copy(pairs_up_to(&whole, from), true, out);
     map.give(whole);
     count
 }
@@ -71,7 +71,7 @@ pub extern "C" fn bptree_page(
         return 0;
     }
     let whole = map.take(alloc);
-    let count = copy_forward(page_in(&whole, number, out.len()), out);
+    let count = copy(page_in(&whole, number, out.len()), false, out);
     map.give(whole);
     count
 }
@@ -93,17 +93,15 @@ fn pairs_up_to(map: &Map, key: u64) -> Iter<'_, u64, u64, Count>
         .range_bounds(Bound::Unbounded, Bound::Included(&key))
 }
 
-fn copy_forward(mut left: Iter<'_, u64, u64, Count>, out: &mut [Pair]) -> usize
-    ensures { IsCopied left.entry out.old out.new result }
+// Copies from the first pair on, or from the last pair back.
+fn copy(mut left: Iter<'_, u64, u64, Count>, is_back: bool, out: &mut [Pair]) -> usize
+    ensures { IsCopied (turned is_back left.entry) out.old out.new result }
 {
     let mut count = 0;
     while count < out.len() {
-        match left.next() {
-            Some((key, value)) => {
-                out[count] = Pair {
-                    key: *key,
-                    value: *value,
-                };
+        match take_pair(&mut left, is_back) {
+            Some(pair) => {
+                out[count] = pair;
                 count += 1;
             }
             None => return count,
@@ -112,21 +110,20 @@ fn copy_forward(mut left: Iter<'_, u64, u64, Count>, out: &mut [Pair]) -> usize
     count
 }
 
-fn copy_back(mut left: Iter<'_, u64, u64, Count>, out: &mut [Pair]) -> usize
-    ensures { IsCopied (reverse left.entry) out.old out.new result }
+// Takes the first pair, or the last.
+fn take_pair(left: &mut Iter<'_, u64, u64, Count>, is_back: bool) -> Option<Pair>
+    ensures { IsTaken (turned is_back left.old) result (turned is_back left.new) }
 {
-    let mut count = 0;
-    while count < out.len() {
-        match left.next_back() {
-            Some((key, value)) => {
-                out[count] = Pair {
-                    key: *key,
-                    value: *value,
-                };
-                count += 1;
-            }
-            None => return count,
-        }
+    let taken = if is_back {
+        left.next_back()
+    } else {
+        left.next()
+    };
+    match taken {
+        Some((key, value)) => Some(Pair {
+            key: *key,
+            value: *value,
+        }),
+        None => None,
     }
-    count
 }

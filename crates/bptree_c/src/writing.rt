@@ -3,7 +3,7 @@ ghost use Rattle.std.specs.Prelude.{◌≡◌, ◌≤◌, ℕ, List, [], Option,
 ghost use Rattle.std.specs.List.{remove};
 ghost use Rattle.std.specs.Map.Iter.{TakesFirst, TakesLast};
 ghost use Rattle.std.specs.Ordering.{nat_cmp};
-ghost use Rattle.bptree_c.specs.Popped.{IsGoneAt, IsPutAt, IsTold, LeftAt, LeftFirst, LeftLast};
+ghost use Rattle.bptree_c.specs.Popped.{IsGoneAt, IsPutAt, IsTold, IsToldAs, LeftAt, LeftFirst, LeftLast};
 ghost use Rattle.bptree_keys.specs.Contents.{has, value};
 ghost use Rattle.bptree_tree.specs.Changes.{Puts, Removes};
 
@@ -35,14 +35,7 @@ pub extern "C" fn bptree_put(
     let mut whole = map.take(alloc);
     let answer = put_in(&mut whole, key, new);
     map.give(whole);
-    match answer {
-        Ok(None) => 0,
-        Ok(Some(was)) => {
-            *old = was;
-            1
-        }
-        Err(_) => 2,
-    }
+    told_value(answer, old)
 }
 
 fn put_in(map: &mut Map, key: u64, new: u64) -> Result<Option<u64>, AllocError>
@@ -53,6 +46,20 @@ fn put_in(map: &mut Map, key: u64, new: u64) -> Result<Option<u64>, AllocError>
     match map.pairs.insert(key, new) {
         Ok(old) => Ok(old),
         Err(_) => Err(AllocError),
+    }
+}
+
+// The code for a value that was there, which is written where there was one.
+fn told_value(answer: Result<Option<u64>, AllocError>, old: &mut u64) -> u32
+    ensures { IsToldAs (λ it. it) answer result old.new }
+{
+    match answer {
+        Ok(Some(was)) => {
+            *old = was;
+            1
+        }
+        Ok(None) => 0,
+        Err(_) => 2,
     }
 }
 
@@ -74,14 +81,7 @@ pub extern "C" fn bptree_del(alloc: Global, map: &mut Handle, key: u64, old: &mu
     let mut whole = map.take(alloc);
     let answer = del_in(&mut whole, key);
     map.give(whole);
-    match answer {
-        Ok(None) => 0,
-        Ok(Some(was)) => {
-            *old = was;
-            1
-        }
-        Err(_) => 2,
-    }
+    told_value(answer, old)
 }
 
 fn del_in(map: &mut Map, key: u64) -> Result<Option<u64>, AllocError>

@@ -1,0 +1,16 @@
+use Rattle.std.proofs.Common.{◌≡◌, ◌-◌, ◌≤◌, ◌++◌, length, map, take, drop}
+use Rattle.bptree_c.specs.Ends.{turned}
+use Rattle.bptree_c.specs.Pairs.{as_pair}
+use Rattle.bptree_c.proofs.many.copy.Given as goal
+
+abbrev pub invariant-loop-count : goal.invariant-loop-count
+invariant-loop-count l = record {
+  in_room : l.count ≤ length l.out;
+  same_room : length l.out ≡ length l.initial.out;
+  so_far : l.out ≡ map as_pair (take l.count (turned l.fn.is_back l.fn.left)) ++ drop l.count l.initial.out;
+  rest : turned l.fn.is_back l.left ≡ drop l.count (turned l.fn.is_back l.fn.left);
+  there : l.count ≤ length (turned l.fn.is_back l.fn.left);
+}
+
+abbrev pub decreases-loop-count : goal.decreases-loop-count
+decreases-loop-count l = length l.out - l.count
