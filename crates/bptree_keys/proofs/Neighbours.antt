@@ -10,7 +10,7 @@ use Rattle.std.specs.Map.{keys_of}
 use Rattle.std.proofs.lemmas.Cmp.{tied_itself}
 use Rattle.std.proofs.lemmas.Map.Keys.{sorted_head, sorted_tail}
 use Rattle.bptree_keys.specs.Contents.{IsAscending, pairs_below, next, previous}
-use Rattle.bptree_keys.specs.Neighbours.{IsLeastAbove, IsGreatestBelow, IsAfter, IsBefore}
+use Rattle.bptree_keys.specs.Neighbours.{IsNearest, IsLeastAbove, IsGreatestBelow, IsAfter, IsBefore}
 use Rattle.bptree_keys.proofs.Ascending.{greater_turned}
 
 -- what holds of each key holds of a pair that is read
@@ -44,26 +44,21 @@ module _ {K V : Type 0} (cmp : K → K → Ordering) (total : IsTotalOrder cmp) 
 
   -- a first pair that is above is the one
   first_above : cmp x.0 k ≡ Greater → IsLeastAbove cmp (x ∷ l) k x
-  first_above above = record { place = 0; here = refl; above = above; least = λ i other read up. not_below_first i other read }
+  first_above above = record { place = 0; here = refl; beside = above; nearest = λ i other read up. not_below_first i other read }
 
-  -- one that is not is passed over
+  -- the nearest pair of the rest is that of all, where the first pair is no nearer one
+  behind : {side : Ordering} {is_nearer : Ordering → Bool} {pair : K × V} → IsNearest cmp l k side is_nearer pair → (cmp x.0 k ≡ side → is_nearer (cmp x.0 pair.0) ≡ false) → IsNearest cmp (x ∷ l) k side is_nearer pair
+  behind {side} {is_nearer} {pair} at first = record { place = suc at.place; here = at.here; beside = at.beside; nearest = each_more (λ other. cmp other.0 k ≡ side → is_nearer (cmp other.0 pair.0) ≡ false) x l first at.nearest }
+
+  -- a first pair that is not above is passed over
   later_above : is_gt (cmp x.0 k) ≡ false → (o : Option (K × V)) → IsAfter cmp l k o → IsAfter cmp (x ∷ l) k o
   later_above not_above None none = each_more (λ other. is_gt (cmp other.0 k) ≡ false) x l not_above none
-  later_above not_above (Some pair) at = record {
-    place = suc at.place;
-    here = at.here;
-    above = at.above;
-    least = each_more (λ other. cmp other.0 k ≡ Greater → is_lt (cmp other.0 pair.0) ≡ false) x l (λ up. absurd (true≢false (sym (ap is_gt up) ∙ not_above))) at.least;
-  }
+  later_above not_above (Some pair) at = behind at (λ up. absurd (true≢false (sym (ap is_gt up) ∙ not_above)))
 
   above_by : (o : Ordering) → cmp x.0 k ≡ o → IsAfter cmp l k (next cmp l k) → IsAfter cmp (x ∷ l) k (next cmp (x ∷ l) k)
   above_by Less is later = rw is (later_above (ap is_gt is) (next cmp l k) later)
   above_by Equal is later = rw is (later_above (ap is_gt is) (next cmp l k) later)
   above_by Greater is later = rw is (first_above is)
-
-  -- the greatest smaller pair of the rest is that of all, where the first pair is no greater one
-  behind : {pair : K × V} (at : IsGreatestBelow cmp l k pair) → (cmp x.0 k ≡ Less → is_gt (cmp x.0 pair.0) ≡ false) → IsGreatestBelow cmp (x ∷ l) k pair
-  behind {pair} at first = record { place = suc at.place; here = at.here; below = at.below; greatest = each_more (λ other. cmp other.0 k ≡ Less → is_gt (cmp other.0 pair.0) ≡ false) x l first at.greatest }
 
   -- a first pair that is not below is passed over
   later_below : is_lt (cmp x.0 k) ≡ false → (o : Option (K × V)) → IsBefore cmp l k o → IsBefore cmp (x ∷ l) k o
@@ -75,8 +70,8 @@ module _ {K V : Type 0} (cmp : K → K → Ordering) (total : IsTotalOrder cmp) 
   first_below below none = record {
     place = 0;
     here = refl;
-    below = below;
-    greatest = each_more (λ other. cmp other.0 k ≡ Less → is_gt (cmp other.0 x.0) ≡ false) x l (λ down. ap is_gt (tied_itself total x.0)) (λ i other read down. absurd (true≢false (sym (ap is_lt down) ∙ none_kept (λ (p : K × V). is_lt (cmp p.0 k)) l none i other read)));
+    beside = below;
+    nearest = each_more (λ other. cmp other.0 k ≡ Less → is_gt (cmp other.0 x.0) ≡ false) x l (λ down. ap is_gt (tied_itself total x.0)) (λ i other read down. absurd (true≢false (sym (ap is_lt down) ∙ none_kept (λ (p : K × V). is_lt (cmp p.0 k)) l none i other read)));
   }
 
   -- and a later one is greater than it

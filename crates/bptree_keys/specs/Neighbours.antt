@@ -1,23 +1,23 @@
 -- What the pair after a key is, and the pair before it.
-use Rattle.std.specs.Prelude.{◌≡◌, ℕ, false, List, Option, Some, None, slice_get}
+use Rattle.std.specs.Prelude.{◌≡◌, ℕ, Bool, false, List, Option, Some, None, slice_get}
 use Rattle.std.specs.declared.cmp.Ordering.{Ordering}
 use Rattle.std.specs.declared.cmp.Ordering.TheVariants.{Less, Greater}
 use Rattle.std.specs.Ordering.{is_lt, is_gt}
 
 module _ {K V : Type 0} (cmp : K → K → Ordering) (l : List (K × V)) (k : K) where
-  -- a pair of the list whose key is greater than k, and no key of the list lies between
-  pub record IsLeastAbove (pair : K × V) : Type 0 where
+  -- a pair of the list whose key is on one side of k, and no key on that side is nearer: none of them passes the test beside it
+  pub record IsNearest (side : Ordering) (is_nearer : Ordering → Bool) (pair : K × V) : Type 0 where
     pub place : ℕ
     pub here : slice_get l place ≡ Some pair
-    pub above : cmp pair.0 k ≡ Greater
-    pub least : (i : ℕ) (other : K × V) → slice_get l i ≡ Some other → cmp other.0 k ≡ Greater → is_lt (cmp other.0 pair.0) ≡ false
+    pub beside : cmp pair.0 k ≡ side
+    pub nearest : (i : ℕ) (other : K × V) → slice_get l i ≡ Some other → cmp other.0 k ≡ side → is_nearer (cmp other.0 pair.0) ≡ false
 
-  -- a pair of the list whose key is smaller than k, and no key of the list lies between
-  pub record IsGreatestBelow (pair : K × V) : Type 0 where
-    pub place : ℕ
-    pub here : slice_get l place ≡ Some pair
-    pub below : cmp pair.0 k ≡ Less
-    pub greatest : (i : ℕ) (other : K × V) → slice_get l i ≡ Some other → cmp other.0 k ≡ Less → is_gt (cmp other.0 pair.0) ≡ false
+  -- the pair with the least greater key, and the one with the greatest smaller key
+  abbrev pub IsLeastAbove : K × V → Type 0
+  IsLeastAbove = IsNearest Greater is_lt
+
+  abbrev pub IsGreatestBelow : K × V → Type 0
+  IsGreatestBelow = IsNearest Less is_gt
 
   -- the pair with the least greater key, or none where no key is greater
   abbrev pub IsAfter : Option (K × V) → Type 0
