@@ -1,5 +1,5 @@
 use Rattle.std.proofs.Common.{◌+◌, ◌-◌, ◌*◌, ◌/◌, refl, arith}
-use Rattle.bptree_keys.proofs.Steps.{step_taken}
+use Rattle.bptree_keys.proofs.Steps.{half_taken}
 use Rattle.bptree_keys.proofs.Counting.{count_then, count_end}
 use Rattle.bptree_keys.proofs.Locating.{answers_rise}
 use Rattle.bptree_keys.proofs.compares.count_among.Goals as goal
@@ -13,8 +13,7 @@ halves-preserved g c =
       positive = omega arith;
       within = omega (arith, s.0, c.halves.invariant.within);
       among = s.1;
-      from_there = omega (arith, c.halves.invariant.from_there, c.compare.ensures.counts_on);
-      steps = λ n h. step_taken c.halves.left (c.halves.left - half) c.halves.compares c.compare.new.self (c.args.compares.now + n) (c.halves.invariant.steps n h) (omega (arith, c.compare.ensures.count)) (omega arith) (omega arith);
+      counted = half_taken c.args.compares.now c.args.width c.halves.left (c.halves.left - half) c.halves.compares c.compare.new.self c.halves.invariant.counted c.compare.ensures.counts_on (omega (arith, c.compare.ensures.count)) (omega arith) (omega arith);
     }
 
 pub returns-clause-ascending : goal.returns-clause-ascending

@@ -1,5 +1,5 @@
 use Rattle.std.proofs.Common.{◌+◌, ◌-◌, ◌*◌, ◌/◌, sym, refl, arith, ◌∙◌}
-use Rattle.bptree_keys.proofs.Steps.{window_then, window_end, step_taken}
+use Rattle.bptree_keys.proofs.Steps.{window_then, window_end, half_taken}
 use Rattle.bptree_keys.proofs.compares.search_among.Goals as goal
 
 pub halves-preserved : goal.halves-preserved
@@ -11,8 +11,7 @@ halves-preserved g c =
       positive = omega arith;
       within = omega (arith, s.0, c.halves.invariant.within);
       among = s.1;
-      from_there = omega (arith, c.halves.invariant.from_there, c.compare.ensures.counts_on);
-      steps = λ n h. step_taken c.halves.left (c.halves.left - half) c.halves.compares c.compare.new.self (c.args.compares.now + n) (c.halves.invariant.steps n h) (omega (arith, c.compare.ensures.count)) (omega arith) (omega arith);
+      counted = half_taken c.args.compares.now c.args.width c.halves.left (c.halves.left - half) c.halves.compares c.compare.new.self c.halves.invariant.counted c.compare.ensures.counts_on (omega (arith, c.compare.ensures.count)) (omega arith) (omega arith);
     }
 
 pub returns-else-is_eq-clause-position : goal.returns-else-is_eq-clause-position

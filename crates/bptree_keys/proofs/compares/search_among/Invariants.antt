@@ -1,6 +1,6 @@
-use Rattle.std.proofs.Common.{◌+◌, ◌-◌, ◌^◌, ◌≤◌, ◌<◌, ℕ, length}
+use Rattle.std.proofs.Common.{◌+◌, ◌≤◌, ◌<◌, length}
 use Rattle.bptree_keys.specs.Searches.{IsAmong}
-use Rattle.bptree_keys.proofs.Steps.{StepsLeft}
+use Rattle.bptree_keys.proofs.Steps.{Halves}
 use Rattle.bptree_keys.proofs.compares.search_among.Given as goal
 
 abbrev pub invariant-halves : goal.invariant-halves
@@ -8,8 +8,7 @@ invariant-halves g l = record {
   positive : 0 < l.left;
   within : l.first + l.left ≤ length l.keys;
   among : IsAmong (λ y. g.K.Ord.cmp y l.key) l.keys l.first l.left;
-  from_there : l.fn.compares ≤ l.compares;
-  steps : (steps : ℕ) → l.fn.width ≤ 2 ^ steps → StepsLeft l.left l.compares (l.fn.compares + steps);
+  counted : Halves l.fn.compares l.fn.width l.left l.compares;
 }
 
 abbrev pub decreases-halves : goal.decreases-halves

@@ -1,5 +1,5 @@
 use Rattle.std.proofs.Common.{◌+◌, ◌-◌, ◌/◌, sym, arith, ◌∙◌}
-use Rattle.bptree_keys.proofs.Steps.{all_before, all_after, step_taken}
+use Rattle.bptree_keys.proofs.Steps.{all_before, all_after, half_taken}
 use Rattle.bptree_keys.proofs.compares.search_halves.Goals as goal
 
 pub halves-init : goal.halves-init
@@ -9,8 +9,7 @@ halves-init g c =
       within = c.requires.within;
       below = λ up k d a b. absurd (omega arith);
       above = c.requires.above;
-      from_there = omega arith;
-      steps = λ n h. record { left = n; is = omega (arith, h); within = omega arith };
+      counted = record { from_there = omega arith; steps = λ n h. record { left = n; is = omega (arith, h); within = omega arith } };
     }
 
 pub halves-preserved-in-Less : goal.halves-preserved-in-Less
@@ -23,8 +22,7 @@ halves-preserved-in-Less g c =
       within = c.halves.invariant.within;
       below = all_before (λ (y : g.row.K.Denot). g.K.Ord.cmp y c.args.key.now) c.args.keys.now middle c.index-keys-middle.result (omega (arith, c.halves.invariant.within)) c.index-keys-middle.is (sym c.compare.ensures.order ∙ c.in-Less.is);
       above = c.halves.invariant.above;
-      from_there = omega (arith, c.halves.invariant.from_there, c.compare.ensures.counts_on);
-      steps = λ n h. step_taken (high - low + 1) (high - (middle + 1) + 1) c.halves.compares c.compare.new.self (c.args.compares.now + n) (c.halves.invariant.steps n h) (omega (arith, c.compare.ensures.count)) (omega arith) (omega arith);
+      counted = half_taken c.args.compares.now (c.args.end + 1) (high - low + 1) (high - (middle + 1) + 1) c.halves.compares c.compare.new.self c.halves.invariant.counted c.compare.ensures.counts_on (omega (arith, c.compare.ensures.count)) (omega arith) (omega arith);
     }
 
 pub halves-preserved : goal.halves-preserved
@@ -37,6 +35,5 @@ halves-preserved g c =
       within = omega (arith, c.halves.invariant.within);
       below = c.halves.invariant.below;
       above = all_after (λ (y : g.row.K.Denot). g.K.Ord.cmp y c.args.key.now) c.args.keys.now middle c.index-keys-middle.result (omega (arith, c.halves.invariant.within)) c.index-keys-middle.is (sym c.compare.ensures.order ∙ c.in-Greater.is);
-      from_there = omega (arith, c.halves.invariant.from_there, c.compare.ensures.counts_on);
-      steps = λ n h. step_taken (high - low + 1) (middle - low + 1) c.halves.compares c.compare.new.self (c.args.compares.now + n) (c.halves.invariant.steps n h) (omega (arith, c.compare.ensures.count)) (omega arith) (omega arith);
+      counted = half_taken c.args.compares.now (c.args.end + 1) (high - low + 1) (middle - low + 1) c.halves.compares c.compare.new.self c.halves.invariant.counted c.compare.ensures.counts_on (omega (arith, c.compare.ensures.count)) (omega arith) (omega arith);
     }
