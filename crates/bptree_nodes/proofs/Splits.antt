@@ -1,7 +1,7 @@
 -- What an inner node becomes that is cut.
 use Rattle.std.proofs.Common.{◌≡◌, ℕ, ◌+◌, ◌-◌, ◌<◌, ◌≤◌, zero, suc, List, [], ◌∷◌, ◌++◌, length, take, drop, refl, sym, ap, ◌∙◌, arith, Some}
 use Rattle.std.specs.List.{insert, slice_get}
-use Rattle.std.proofs.lemmas.List.{take-append-drop}
+use Rattle.std.proofs.lemmas.List.{take-append-drop, take-take}
 use Rattle.bptree_keys.specs.declared.node_id.NodeId.{NodeId}
 use Rattle.bptree_nodes.specs.Inner.{Inner, SplitsByTable}
 use Rattle.bptree_nodes.proofs.Pairs.{parts, slice_get-take}
@@ -18,6 +18,13 @@ module _ {X : Type 0} where
   around_element (y ∷ xs) zero m x h e = let one : m ≡ suc zero = omega arith in rw one (cc)
   around_element (y ∷ xs) (suc n) zero x h e = absurd (omega arith)
   around_element (y ∷ xs) (suc n) (suc m) x h e = ap (λ zs. y ∷ zs) (around_element xs n m x h (omega arith))
+
+  -- the last of the first m elements, and those before it
+  pub last_taken : (xs cut left : List X) (m len : ℕ) (x : X) → 0 < m → cut ≡ take m xs → len ≡ m → slice_get cut (len - 1) ≡ Some x → left ≡ take (len - 1) cut → (slice_get xs (m - 1) ≡ Some x) × (left ≡ take (m - 1) xs)
+  last_taken xs cut left m len x some kept same value items = (
+    sym (slice_get-take m xs (m - 1) (omega arith)) ∙ rw (kept, same) at value,
+    items ∙ rw (kept, same) (take-take (m - 1) m xs (omega arith)),
+  )
 
   -- the elements of a list with a new one
   pub at_new : (xs : List X) (i : ℕ) (x : X) → i ≤ length xs → slice_get (insert xs i x) i ≡ Some x

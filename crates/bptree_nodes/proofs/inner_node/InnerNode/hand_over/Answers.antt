@@ -1,6 +1,5 @@
-use Rattle.std.proofs.Common.{◌-◌, refl, arith}
-use Rattle.std.proofs.lemmas.List.{take-take}
-use Rattle.bptree_nodes.proofs.Pairs.{slice_get-take}
+use Rattle.std.proofs.Common.{refl, arith}
+use Rattle.bptree_nodes.proofs.Splits.{last_taken}
 use Rattle.bptree_nodes.proofs.inner_node.InnerNode.hand_over.Goals as goal
 
 pub invariant_of-self : goal.invariant_of-self
@@ -15,13 +14,16 @@ invariant_of-right g c =
 
 pub returns-clause-left : goal.returns-clause-left
 returns-clause-left g c =
-    rw (← c.self.view_is, c.take_last-promoted.ensures.items, c.move_tail.ensures.len, c.move_tail.ensures.kept, take-take (c.args.place - 1) c.args.place c.self.inside.keys.items (omega arith), c.move_children.ensures.kept, c.move_tail-2.ensures.kept) refl
+    let within = rw (← c.self.view_is) at c.requires.within in
+    let last = c.take_last-promoted.ensures in
+    let taken = last_taken c.self.inside.keys.items _ _ c.args.place _ _ (omega (arith, within.0)) c.move_tail.ensures.kept c.move_tail.ensures.len last.value last.items in
+    rw (← c.self.view_is, taken.1, c.move_children.ensures.kept, c.move_tail-2.ensures.kept) refl
 
 pub returns-clause-promoted : goal.returns-clause-promoted
 returns-clause-promoted g c =
     let within = rw (← c.self.view_is) at c.requires.within in
-    let last = rw (c.move_tail.ensures.len, c.move_tail.ensures.kept) at c.take_last-promoted.ensures.value in
-    rw (← c.self.view_is, ← slice_get-take c.args.place c.self.inside.keys.items (c.args.place - 1) (omega (arith, within.0))) last
+    let last = c.take_last-promoted.ensures in
+    rw (← c.self.view_is) (last_taken c.self.inside.keys.items _ _ c.args.place _ _ (omega (arith, within.0)) c.move_tail.ensures.kept c.move_tail.ensures.len last.value last.items).0
 
 pub returns-clause-right : goal.returns-clause-right
 returns-clause-right g c = rw (← c.self.view_is, c.move_tail.ensures.moved, c.move_children.ensures.moved, c.move_tail-2.ensures.moved) refl
