@@ -1,9 +1,9 @@
 -- The first pairs of a span, leaf by leaf.
-use Rattle.std.proofs.Common.{◌≡◌, ℕ, zero, suc, ◌+◌, ◌-◌, ◌<◌, ◌≤◌, List, [], ◌∷◌, ◌++◌, length, take, drop, Option, Some, None, refl, sym, subst, ◌∙◌, ap, arith, length-append, length-drop, append_assoc, append-nil}
+use Rattle.std.proofs.Common.{◌≡◌, ℕ, zero, suc, ◌+◌, ◌-◌, ◌<◌, ◌≤◌, List, [], ◌∷◌, ◌++◌, length, take, drop, Option, Some, refl, sym, subst, ◌∙◌, ap, arith, length-append, length-drop, append_assoc}
 use Rattle.std.proofs.Math.Seq.{take-append-add}
 use Rattle.std.proofs.lemmas.List.{drop-take, length-take-le, take_all}
-use Rattle.std.proofs.lemmas.Bool.Decides.{eqb_tells}
-use Rattle.bptree_iteration.specs.declared.part.Extent.TheVariants.{Exact, Cut}
+use Rattle.bptree_iteration.specs.declared.part.Extent.{Extent}
+use Rattle.bptree_iteration.specs.declared.part.Extent.TheVariants.{Exact}
 use Rattle.bptree_keys.specs.declared.node_id.LeafNodeId.{LeafNodeId}
 use Rattle.bptree_nodes.specs.Leaf.{Leaf}
 use Rattle.bptree_iteration.specs.Span.{IsSpan, AreApart, first_between, IsBetween}
@@ -51,8 +51,8 @@ module _ {K V : Type 0} (leaves : LeafNodeId → Option (Leaf K V)) where
     pub whole : first_between leaves front from back to limit ≡ take limit (ws ++ ys)
     pub join : (b : LeafNodeId) (t u : ℕ) (kds : List LeafNodeId) (zs : List (K × V)) (after : List LeafNodeId) (vs : List (K × V)) → IsSpan leaves at passed kds b t zs → AreApart at kds b → IsSpan leaves b u after back to vs → AreApart b after back → length after ≤ length ids → Joined front from b t (ws ++ zs)
 
-  pub walked_none : (front : LeafNodeId) (from : ℕ) (back : LeafNodeId) (to limit : ℕ) → IsBetween leaves front from back to limit Cut → Walked front from back to limit front from limit
-  walked_none front from back to limit h =
+  pub walked_none : (front : LeafNodeId) (from : ℕ) (back : LeafNodeId) (to limit : ℕ) (extent : Extent) → IsBetween leaves front from back to limit extent → Walked front from back to limit front from limit
+  walked_none front from back to limit extent h =
       record {
         ids = h.ids;
         ws = [];

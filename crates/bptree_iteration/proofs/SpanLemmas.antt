@@ -1,5 +1,5 @@
 -- Steps from the two ends of a span of leaves.
-use Rattle.std.proofs.Common.{◌≡◌, ℕ, zero, suc, ◌+◌, ◌-◌, ◌<◌, ◌≤◌, List, [], ◌∷◌, ◌++◌, length, take, drop, Option, Some, None, IsSome, slice_get, cond, eqb, inl, inr, refl, sym, subst, ◌∙◌, ap, arith, length-append, length-drop, append_assoc, take-append-drop, add-one}
+use Rattle.std.proofs.Common.{◌≡◌, ℕ, zero, suc, ◌+◌, ◌-◌, ◌<◌, ◌≤◌, List, [], ◌∷◌, ◌++◌, length, take, drop, Option, Some, None, IsSome, slice_get, inl, inr, refl, sym, subst, ◌∙◌, ap, arith, length-append, length-drop, append_assoc, take-append-drop, add-one}
 use Rattle.std.proofs.Math.Nat.{eq-or-lt_of_le}
 use Rattle.std.proofs.Math.Seq.{take-append_seam, take-append-add, take-length, take-nil}
 use Rattle.std.proofs.lemmas.List.{drop-append-le, append-nil, length-take-le, take_all}

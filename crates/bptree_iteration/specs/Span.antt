@@ -1,5 +1,5 @@
 -- Leaves that follow one another by their links, and the pairs between two places in them.
-use Rattle.std.specs.Prelude.{◌≡◌, ◌==◌, ℕ, zero, suc, ◌+◌, ◌-◌, ◌<◌, ◌≤◌, ◌≢◌, ⊤, cond, IsSome, List, [], ◌∷◌, ◌++◌, length, slice_get, take, drop, Option, Some, None}
+use Rattle.std.specs.Prelude.{◌≡◌, ◌==◌, ℕ, zero, suc, ◌+◌, ◌<◌, ◌≤◌, ◌≢◌, ⊤, cond, IsSome, List, [], ◌∷◌, ◌++◌, length, take, drop, Option, Some, None}
 use Rattle.std.specs.Option.{option_map_or}
 use Rattle.bptree_iteration.specs.declared.part.Extent.{Extent}
 use Rattle.bptree_iteration.specs.declared.part.Extent.TheVariants.{Exact, Open, Cut}
@@ -119,10 +119,6 @@ module _ {K V A : Type 0} (slots : Slots (Inner K A) (Leaf K V)) where
   abbrev pub pairs_of_part : Part → List (K × V)
   pairs_of_part part = first_between (leaves_of slots) part.front part.from part.back part.to part.limit
 
-  -- how many pairs stand between two places, up to a limit
-  abbrev pub count_between : LeafNodeId → ℕ → LeafNodeId → ℕ → ℕ → ℕ
-  count_between front from back to limit = length (first_between (leaves_of slots) front from back to limit)
-
-  -- up to another place and limit stand the same pairs
-  abbrev pub AreSame : LeafNodeId → ℕ → LeafNodeId → ℕ → ℕ → LeafNodeId → ℕ → ℕ → Type 0
-  AreSame front from back to limit back' to' limit' = first_between (leaves_of slots) front from back' to' limit' ≡ first_between (leaves_of slots) front from back to limit
+  -- another part begins at the same place, and has the same pairs up to its own end and limit
+  abbrev pub AreSame : Part → Part → Type 0
+  AreSame part other = (other.front ≡ part.front) × (other.from ≡ part.from) × (pairs_of_part other ≡ pairs_of_part part)

@@ -3,7 +3,7 @@ ghost use Rattle.std.specs.Prelude.{◌≡◌, ◌<◌, ◌≤◌, ◌≢◌, Is
 ghost use Rattle.std.specs.Iterator.{at_most, item_count, UpTo};
 ghost use Rattle.std.specs.Iterator.SizeHint.{IsWithinCount};
 ghost use Rattle.std.specs.Map.Iter.{TakesFirst, TakesLast, deref_pair};
-ghost use Rattle.bptree_iteration.specs.Span.{leaves_of, first_between, IsBetween, IsEndIn, CanGoOn, IsFrontPlace, CanGoBack, IsBackPlace, AreSame, IsPartIn, count_between, pairs_of_part};
+ghost use Rattle.bptree_iteration.specs.Span.{leaves_of, IsEndIn, CanGoOn, IsFrontPlace, CanGoBack, IsBackPlace, AreSame, IsPartIn, pairs_of_part};
 ghost use Rattle.bptree_iteration.specs.declared.part.Extent.TheVariants as extents;
 
 pub use crate::part::{Extent, Part};
@@ -18,34 +18,25 @@ use std::marker::{Model, PhantomData};
 #[derive(Drop)]
 pub struct Iter<'a, S: NodeStore> {
     store: &'a S,
-    // The leaf of the next pair from the front and the pair's place, or the leaf before it and its
-    // length.
-    front: LeafNodeId,
-    from: usize,
-    // The place in that leaf up to which its pairs are between the two ends.
+    // The part that is left. Where its extent is `Cut`, its end may be behind the last pair.
+    part: Part,
+    // The place in its first leaf up to which that leaf's pairs are between the two ends.
     end: usize,
-    // The leaf under the number `front`, so that a step within it asks nothing of the store.
+    // Its first leaf, so that a step within it asks nothing of the store.
     leaf: &'a LeafNode<S::K, S::V>,
-    // The leaf of the last pair and the place after it, or the leaf after it and 0. Where `extent`
-    // is `Cut`, it is a place that may be behind it.
-    back: LeafNodeId,
-    to: usize,
-    // No more pairs than these are left.
-    limit: usize,
-    extent: Extent,
     // The items are borrowed for 'a.
     marker: PhantomData<&'a (S::K, S::V)>,
 }
 
 impl<'a, S: NodeStore> Model for Iter<'a, S> {
     ghost use Rattle.std.specs.Prelude.{◌≡◌, List, Some};
-    ghost use Rattle.bptree_iteration.specs.Span.{leaves_of, first_between, IsBetween, IsEndIn};
+    ghost use Rattle.bptree_iteration.specs.Span.{leaves_of, pairs_of_part, IsPartIn, IsEndIn};
 
     ghost Value = { List (S.K × S.V) };
 
-    ghost view = { λ it. first_between (leaves_of (S.slots it.store.now)) it.front it.from it.back it.to it.limit };
+    ghost view = { λ it. pairs_of_part (S.slots it.store.now) it.part };
 
-    ghost invariant = { λ it. IsBetween (leaves_of (S.slots it.store.now)) it.front it.from it.back it.to it.limit it.extent × (leaves_of (S.slots it.store.now) it.front ≡ Some it.leaf.now) × IsEndIn it.front it.back it.to it.leaf.now it.end };
+    ghost invariant = { λ it. IsPartIn (S.slots it.store.now) it.part × (leaves_of (S.slots it.store.now) it.part.front ≡ Some it.leaf.now) × IsEndIn it.part.front it.part.back it.part.to it.leaf.now it.end };
 }
 
 impl<'a, S: NodeStore> Iter<'a, S> {
@@ -57,14 +48,9 @@ impl<'a, S: NodeStore> Iter<'a, S> {
         let leaf = leaf_at(store, part.front);
         Iter {
             store,
-            front: part.front,
-            from: part.from,
+            part,
             end: end_in(part.front, leaf, part.back, part.to),
             leaf,
-            back: part.back,
-            to: part.to,
-            limit: part.limit,
-            extent: part.extent,
             marker: PhantomData,
         }
     }
@@ -148,84 +134,72 @@ fn are_apart(front: LeafNodeId, from: usize, back: LeafNodeId, to: usize) -> boo
     front.as_usize() != back.as_usize() || from < to
 }
 
-// Where the first `limit` of the pairs between two places end, or all where there are fewer, and
-// how many they are.
+// The same part, up to where its pairs end, with the number of them.
 //
 // A step for each leaf up to that place.
-fn end_of_first<S: NodeStore>(
-    store: &S,
-    front: LeafNodeId,
-    from: usize,
-    back: LeafNodeId,
-    to: usize,
-    limit: usize,
-) -> (LeafNodeId, usize, usize)
-    requires { IsBetween (leaves_of (S.slots store.now)) front from back to limit extents.Cut }
-    ensures between { IsBetween (leaves_of (S.slots store.now)) front from result.0 result.1 result.2 extents.Exact }
-    ensures same { AreSame (S.slots store.now) front from back to limit result.0 result.1 result.2 }
+fn end_of_first<S: NodeStore>(store: &S, part: Part) -> Part
+    requires { IsPartIn (S.slots store.now) part }
+    ensures part { IsPartIn (S.slots store.now) result }
+    ensures same { AreSame (S.slots store.now) part result }
+    ensures known { result.extent ≡ extents.Exact }
 {
-    let mut at = front;
-    let mut passed = from;
-    let mut left = limit;
-    'leaves: while at.as_usize() != back.as_usize() {
+    let mut at = part.front;
+    let mut passed = part.from;
+    let mut left = part.limit;
+    'leaves: while at.as_usize() != part.back.as_usize() {
         let leaf = leaf_at(store, at);
         let here = leaf.len() - passed;
         if left <= here {
-            return (at, passed + left, limit);
+            return Part {
+                back: at,
+                to: passed + left,
+                extent: Extent::Exact,
+                ..part
+            };
         }
         left -= here;
         at = leaf.next().unwrap();
         passed = 0;
     }
-    let here = to - passed;
+    let here = part.to - passed;
     if left <= here {
-        (at, passed + left, limit)
+        Part {
+            to: passed + left,
+            extent: Extent::Exact,
+            ..part
+        }
     } else {
-        (back, to, limit - left + here)
+        Part {
+            limit: part.limit - left + here,
+            extent: Extent::Exact,
+            ..part
+        }
     }
 }
 
 // How many pairs are left. Where that is not known, a step for each leaf between the two places.
-fn count_left<S: NodeStore>(
-    store: &S,
-    front: LeafNodeId,
-    from: usize,
-    back: LeafNodeId,
-    to: usize,
-    limit: usize,
-    extent: Extent,
-) -> usize
-    requires { IsBetween (leaves_of (S.slots store.now)) front from back to limit extent }
-    ensures { result ≡ count_between (S.slots store.now) front from back to limit }
+fn count_left<S: NodeStore>(store: &S, part: Part) -> usize
+    requires { IsPartIn (S.slots store.now) part }
+    ensures { result ≡ length (pairs_of_part (S.slots store.now) part) }
 {
-    match extent {
-        Extent::Exact => limit,
-        Extent::Open | Extent::Cut => end_of_first(store, front, from, back, to, limit).2,
+    match part.extent {
+        Extent::Exact => part.limit,
+        Extent::Open | Extent::Cut => end_of_first(store, part).limit,
     }
 }
 
-// Where the pairs end that are left, with what is known of how many they are. Where the end is not
-// known, it takes a step for each of their leaves.
-fn known_end<S: NodeStore>(
-    store: &S,
-    front: LeafNodeId,
-    from: usize,
-    back: LeafNodeId,
-    to: usize,
-    limit: usize,
-    extent: Extent,
-) -> (LeafNodeId, usize, usize, Extent)
-    requires { IsBetween (leaves_of (S.slots store.now)) front from back to limit extent }
-    ensures between { IsBetween (leaves_of (S.slots store.now)) front from result.0 result.1 result.2 result.3 }
-    ensures same { AreSame (S.slots store.now) front from back to limit result.0 result.1 result.2 }
-    ensures known { result.3 ≢ extents.Cut }
+// The same part, with its end where its pairs end. Where that is not known, it takes a step for
+// each of their leaves.
+#[inline]
+fn known_end<S: NodeStore>(store: &S, part: Part) -> Part
+    requires { IsPartIn (S.slots store.now) part }
+    ensures part { IsPartIn (S.slots store.now) result }
+    ensures same { AreSame (S.slots store.now) part result }
+    ensures known { result.extent ≢ extents.Cut }
 {
-    match extent {
-        Extent::Cut => {
-            let (end, upto, count) = end_of_first(store, front, from, back, to, limit);
-            (end, upto, count, Extent::Exact)
-        }
-        Extent::Exact | Extent::Open => (back, to, limit, extent),
+    match part.extent {
+        Extent::Cut => end_of_first(store, part),
+        Extent::Exact | Extent::Open => part,
     }
 }
 
@@ -238,21 +212,27 @@ impl<'a, S: NodeStore> Iterator for Iter<'a, S> {
 
     #[inline]
     fn next(&mut self) -> Option<(&'a S::K, &'a S::V)> {
-        if self.limit == 0 {
+        if self.part.limit == 0 {
             return None;
         }
         let (front, leaf, from, end) = front_place(
-            self.store, self.front, self.leaf, self.from, self.end, self.back, self.to,
+            self.store,
+            self.part.front,
+            self.leaf,
+            self.part.from,
+            self.end,
+            self.part.back,
+            self.part.to,
         );
         if from == end {
             return None;
         }
         let pair = leaf.data_at(from);
-        self.front = front;
+        self.part.front = front;
         self.leaf = leaf;
-        self.from = from + 1;
+        self.part.from = from + 1;
         self.end = end;
-        self.limit -= 1;
+        self.part.limit -= 1;
         Some(pair)
     }
 
@@ -262,15 +242,7 @@ impl<'a, S: NodeStore> Iterator for Iter<'a, S> {
         ensures upper { IfSome result.1 (UpTo (at_most (length self.now))) }
         ensures exact { result ≡ (length self.now, Some (length self.now)) }
     {
-        let len = count_left(
-            self.store,
-            self.front,
-            self.from,
-            self.back,
-            self.to,
-            self.limit,
-            self.extent,
-        );
+        let len = count_left(self.store, self.part);
         (len, Some(len))
     }
 }
@@ -280,28 +252,22 @@ impl<'a, S: NodeStore> DoubleEndedIterator for Iter<'a, S> {
 
     #[inline]
     fn next_back(&mut self) -> Option<(&'a S::K, &'a S::V)> {
-        if self.limit == 0 {
+        if self.part.limit == 0 {
             return None;
         }
-        let (end, upto, limit, extent) = known_end(
-            self.store,
-            self.front,
-            self.from,
-            self.back,
-            self.to,
-            self.limit,
-            self.extent,
-        );
-        let (back, to) = back_place(self.store, end, upto, self.front);
-        if !are_apart(self.front, self.from, back, to) {
+        let part = known_end(self.store, self.part);
+        let (back, to) = back_place(self.store, part.back, part.to, part.front);
+        if !are_apart(part.front, part.from, back, to) {
             return None;
         }
         let pair = leaf_at(self.store, back).data_at(to - 1);
-        self.back = back;
-        self.to = to - 1;
-        self.end = end_in(self.front, self.leaf, back, to - 1);
-        self.limit = limit - 1;
-        self.extent = extent;
+        self.part = Part {
+            back,
+            to: to - 1,
+            limit: part.limit - 1,
+            ..part
+        };
+        self.end = end_in(part.front, self.leaf, back, to - 1);
         Some(pair)
     }
 }
@@ -309,15 +275,7 @@ impl<'a, S: NodeStore> DoubleEndedIterator for Iter<'a, S> {
 impl<'a, S: NodeStore> ExactSizeIterator for Iter<'a, S> {
     /// Where it is not known how many pairs are left, a step for each leaf that is left.
     fn len(&self) -> usize {
-        count_left(
-            self.store,
-            self.front,
-            self.from,
-            self.back,
-            self.to,
-            self.limit,
-            self.extent,
-        )
+        count_left(self.store, self.part)
     }
 }
 
@@ -331,14 +289,9 @@ impl<'a, S: NodeStore> Clone for Iter<'a, S> {
     fn clone(&self) -> Result<Self, AllocError> {
         Ok(Iter {
             store: self.store,
-            front: self.front,
-            from: self.from,
+            part: self.part,
             end: self.end,
             leaf: self.leaf,
-            back: self.back,
-            to: self.to,
-            limit: self.limit,
-            extent: self.extent,
             marker: PhantomData,
         })
     }
