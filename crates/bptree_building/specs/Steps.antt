@@ -1,5 +1,5 @@
 -- What each node of a layer is built of.
-use Rattle.std.specs.Prelude.{◌≡◌, ℕ, ◌+◌, ◌<◌, ◌≤◌, ◌^◌, ◌∷◌, ◌++◌, List, Option, None, Some, length}
+use Rattle.std.specs.Prelude.{◌≡◌, ℕ, ◌+◌, ◌<◌, ◌^◌, ◌∷◌, ◌++◌, List, Option, None, Some, length}
 use Rattle.std.specs.declared.cmp.Ordering.{Ordering}
 use Rattle.std.specs.List.{AllZip}
 use Rattle.std.specs.Map.{keys_of}
@@ -79,9 +79,3 @@ module _ {K V A : Type 0} (cmp : K → K → Ordering) (is_summary : A → List 
     SpreadsOn done done' items items' count id prev next =
         (length (into_iter_items items') + count ≡ length (into_iter_items items)) × (into_iter_len items' ≡ length (into_iter_items items')) × (new.leaf next.0 ≡ Held)
         × ((pairs : List (K × V)) → IsAscending cmp pairs → IsSpreading cmp is_summary old 16 done id prev (into_iter_items items) pairs → IsSpreading cmp is_summary new 16 done' next (Some id) (into_iter_items items') pairs)
-
-    -- a leaf of all pairs that are left stands there, and the leaves are a layer
-    abbrev pub EndsSpreading : {Z : Type 0} → List (Subtree K A) → List (Subtree K A) → IntoIter (K × V) Z → ℕ → LeafNodeId → Option LeafNodeId → Type 0
-    EndsSpreading done done' items count id prev =
-        (pairs : List (K × V)) → (0 < length done → 16 ≤ count) → IsAscending cmp pairs → IsSpreading cmp is_summary old 16 done id prev (into_iter_items items) pairs
-        → (0 < length done') × IsLayer cmp is_summary new 0 done' pairs

@@ -6,7 +6,7 @@ ghost use Rattle.bptree_keys.specs.Contents.{IsAscending};
 ghost use Rattle.bptree_nodes.specs.Slot.{Held, IsEmpty, Present, UpdatesLeaf};
 ghost use Rattle.bptree_ascent.specs.Change.{StartsAt};
 ghost use Rattle.bptree_building.specs.Layer.{IsLayer};
-ghost use Rattle.bptree_building.specs.Steps.{leaf_tree, EndsSpreading, SpreadsOn, TakesPairs};
+ghost use Rattle.bptree_building.specs.Steps.{leaf_tree, SpreadsOn, TakesPairs};
 
 use crate::subtree::{Subtree, append};
 use bptree_arguments::argument::Argument;
@@ -122,26 +122,6 @@ fn add_leaf<S: NodeStore>(
     Ok(next)
 }
 
-// Puts a leaf of all `count` of the items under the held number `id`, behind all other leaves.
-fn add_last_leaf<S: NodeStore>(
-    store: &mut S,
-    layer: &mut Vec<Subtree<S::K, S::Argument>>,
-    items: &mut IntoIter<(S::K, S::V)>,
-    count: usize,
-    id: LeafNodeId,
-    prev: Option<LeafNodeId>,
-) -> Result<(), AllocError>
-    requires count { (0 < count) × (count ≤ 64) }
-    requires all { length (into_iter_items items.old) ≡ count }
-    requires counted { into_iter_len items.old ≡ length (into_iter_items items.old) }
-    requires held { (S.slots store.old).leaf id.0 ≡ Held }
-    ensures { IfOk result (λ _. EndsSpreading S.K.cmp S.Argument.is_summary (S.slots store.old) (S.slots store.new) layer.old.items layer.new.items items.old count id prev) }
-{
-    let filled = fill(store.allocator(), items, count, prev)?;
-    stand_leaf(store, layer, filled, id)?;
-    Ok(())
-}
-
 /// The leaves of ascending pairs, in an empty store, with the links between them. Each pair is
 /// moved once, and each leaf is put into the store once.
 pub fn build_leaves<S: NodeStore>(
@@ -165,6 +145,7 @@ pub fn build_leaves<S: NodeStore>(
         id = next;
         left -= count;
     }
-    add_last_leaf(store, &mut layer, &mut items, left, id, prev)?;
+    let filled = fill(store.allocator(), &mut items, left, prev)?;
+    stand_leaf(store, &mut layer, filled, id)?;
     Ok(layer)
 }
