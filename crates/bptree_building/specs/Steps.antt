@@ -51,6 +51,11 @@ pub record IsRaised {K V A : Type 0} (cmp : K → K → Ordering) (is_summary : 
   pub updates : UpdatesInner old new id.0 (Present node)
   pub told : (pieces : List (List K)) → ArePieces cmp pieces → AllZip is_summary node.arguments pieces → is_summary tree.summary (flatten pieces)
 
+-- an iterator has so many items left, and knows how many
+pub record HasLeft {X Z : Type 0} (items : IntoIter X Z) (left : ℕ) : Type 0 where
+  pub are : left ≡ length (into_iter_items items)
+  pub counted : into_iter_len items ≡ length (into_iter_items items)
+
 -- The same of an iterator over trees, or over pairs, which has the others left: a node above the first trees.
 abbrev pub TakesTrees : {K A Z : Type 0} → IntoIter (Subtree K A) Z → ℕ → Inner K A → K → IntoIter (Subtree K A) Z → Type 0
 TakesTrees old count node first new = IsAbove (into_iter_items old) count node first (into_iter_items new)

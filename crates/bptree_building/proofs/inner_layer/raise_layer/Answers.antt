@@ -5,8 +5,7 @@ use Rattle.bptree_building.proofs.inner_layer.raise_layer.Goals as goal
 
 pub nodes-init : goal.nodes-init
 nodes-init g c = record {
-  left_is = search rules;
-  counted = search rules;
+  has_left = record { are = search rules; counted = search rules };
   several = search rules;
   enough = λ some. absurd (omega (arith, some, ap length c.new-above.ensures.items));
   fewer = omega (arith, ap length c.new-above.ensures.items, c.len-left.ensures);
@@ -23,8 +22,7 @@ nodes-preserved g c =
     let enough = cut.enough c.nodes-test.true in
     let more = length-append c.nodes.above.items (c.in_ok-tree.tree ∷ []) in
     record {
-      left_is = omega (arith, long, c.nodes.invariant.left_is);
-      counted = c.in_ok-tree.ensures.0;
+      has_left = record { are = omega (arith, long, c.nodes.invariant.has_left.are); counted = c.in_ok-tree.ensures.0 };
       several = omega (arith, rest);
       enough = λ some. omega (arith, rest);
       fewer = omega (arith, ap length c.in_ok-append.ensures, more, rest, enough, c.nodes.invariant.fewer);
@@ -42,5 +40,5 @@ returns g c =
       omega (arith, ap length c.in_ok-append-2.ensures, more, c.nodes.invariant.fewer, c.nodes.invariant.several),
       λ pairs ascending fits layer.
           rw (c.in_ok-append-2.ensures, add-one) (rises_last g.met.S.K.Ord.total g.S.Argument.Argument.is_summary (g.S.NodeStore.slots c.nodes.store) (g.S.NodeStore.slots c.raise-2.new.store) c.args.height (into_iter_items c.nodes.trees) c.nodes.left c.in_ok-tree-2.tree (into_iter_items c.raise-2.new.trees) pairs
-          raised ascending fits (omega (arith, long, c.nodes.invariant.left_is)) (omega (arith, c.nodes-test.false)) c.nodes.above.items c.nodes.invariant.several c.nodes.invariant.enough (c.nodes.invariant.rising pairs ascending fits layer)),
+          raised ascending fits (omega (arith, long, c.nodes.invariant.has_left.are)) (omega (arith, c.nodes-test.false)) c.nodes.above.items c.nodes.invariant.several c.nodes.invariant.enough (c.nodes.invariant.rising pairs ascending fits layer)),
     )

@@ -1,13 +1,13 @@
-use Rattle.std.proofs.Common.{◌≡◌, ◌+◌, ◌≤◌, ◌<◌, ◌^◌, List, length}
-use Rattle.std.specs.Vec.Iter.{into_iter_items, into_iter_len}
+use Rattle.std.proofs.Common.{◌+◌, ◌≤◌, ◌<◌, ◌^◌, List, length}
+use Rattle.std.specs.Vec.Iter.{into_iter_items}
 use Rattle.bptree_keys.specs.Contents.{IsAscending}
 use Rattle.bptree_building.specs.Layer.{IsLayer, IsRising}
+use Rattle.bptree_building.specs.Steps.{HasLeft}
 use Rattle.bptree_building.proofs.inner_layer.raise_layer.Given as goal
 
 abbrev pub invariant-nodes : goal.invariant-nodes
 invariant-nodes g l = record {
-  left_is : l.left ≡ length (into_iter_items l.trees);
-  counted : into_iter_len l.trees ≡ length (into_iter_items l.trees);
+  has_left : HasLeft l.trees l.left;
   several : 1 < l.left;
   enough : 0 < length l.above.items → 17 ≤ l.left;
   fewer : length l.above.items + l.left ≤ length l.fn.layer.items;

@@ -10,5 +10,5 @@ returns g c =
     rw c.in_ok-stand_leaf.ensures.appended (
       not_empty c.leaves.layer.items _,
       leaf_ends g.met.S.K.Ord.total g.S.Argument.Argument.is_summary (g.S.NodeStore.slots c.leaves.store) c.leaves.left c.leaves.layer.items c.leaves.id c.leaves.prev (into_iter_items c.leaves.items) (into_iter_items c.fill.new.items) c.args.pairs.items filled.first filled.summary filled.leaf.value c.in_ok-filled.ensures.1
-          (g.S.NodeStore.slots c.stand_leaf.new.store) c.stand_leaf.ensures.stands (sym c.leaves.invariant.left_is) (omega (arith, c.leaves-test.false)) (λ some. omega (arith, c.leaves.invariant.enough some)) c.requires.ascending c.leaves.invariant.spreading,
+          (g.S.NodeStore.slots c.stand_leaf.new.store) c.stand_leaf.ensures.stands (sym c.leaves.invariant.has_left.are) (omega (arith, c.leaves-test.false)) (λ some. omega (arith, c.leaves.invariant.enough some)) c.requires.ascending c.leaves.invariant.spreading,
     )

@@ -1,12 +1,12 @@
-use Rattle.std.proofs.Common.{◌≡◌, ◌≤◌, ◌<◌, length}
-use Rattle.std.specs.Vec.Iter.{into_iter_items, into_iter_len}
+use Rattle.std.proofs.Common.{◌≤◌, ◌<◌, length}
+use Rattle.std.specs.Vec.Iter.{into_iter_items}
 use Rattle.bptree_building.specs.Layer.{IsSpreading}
+use Rattle.bptree_building.specs.Steps.{HasLeft}
 use Rattle.bptree_building.proofs.leaf_layer.build_leaves.Given as goal
 
 abbrev pub invariant-leaves : goal.invariant-leaves
 invariant-leaves g l = record {
-  left_is : l.left ≡ length (into_iter_items l.items);
-  counted : into_iter_len l.items ≡ length (into_iter_items l.items);
+  has_left : HasLeft l.items l.left;
   some : 0 < l.left;
   enough : 0 < length l.layer.items → 16 ≤ l.left;
   spreading : IsSpreading g.S.K.Ord.cmp g.S.Argument.Argument.is_summary (g.S.NodeStore.slots l.store) 16 l.layer.items l.id l.prev (into_iter_items l.items) l.fn.pairs.items;
