@@ -95,6 +95,9 @@ where
     }
 }
 
+/// A rank: `Ok` where the key is present.
+type RankResult<R> = Result<R, R>;
+
 /// The rank of a key in the tree of a height under a number: `Ok` where the key is present.
 ///
 /// One descent: on each level the summaries of the children before the one for the key are folded,
@@ -104,10 +107,7 @@ pub fn rank_by_argument<S: NodeStore>(
     root: NodeId,
     height: usize,
     k: &S::K,
-) -> Result<
-    Result<<S::Argument as RankArgument<S::K>>::Rank, <S::Argument as RankArgument<S::K>>::Rank>,
-    AllocError,
->
+) -> Result<RankResult<<S::Argument as RankArgument<S::K>>::Rank>, AllocError>
 where
     S::Argument: RankArgument<S::K>,
     requires { IsSubtree S.K.cmp S.Argument.is_summary (S.slots store.now) height root }
@@ -118,9 +118,6 @@ where
     let rank = <S::Argument as RankArgument<S::K>>::initial_value();
     rank_below(store, root, height, k, rank)
 }
-
-// A rank, `Ok` where the key is present.
-type RankResult<R> = Result<R, R>;
 
 // The same below a node, carried on from the rank that stands for the keys before it.
 fn rank_below<S: NodeStore>(
