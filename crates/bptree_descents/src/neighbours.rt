@@ -35,6 +35,20 @@ fn place_of<'a, S: NodeStore>(
             return (hint, leaf, place_in(leaf, offset, key));
         }
     }
+    locate_key(store, root, height, key)
+}
+
+/// The leaf that a key belongs to, and the key's place in it, or else the number of smaller keys.
+/// The leaf is searched for, and then the key in it.
+pub fn locate_key<'a, S: NodeStore>(
+    store: &'a S,
+    root: NodeId,
+    height: usize,
+    key: &S::K,
+) -> (LeafNodeId, &'a LeafNode<S::K, S::V>, Result<usize, usize>)
+    requires { IsWellShaped S.K.cmp S.Argument.is_summary (S.slots store.now) height root }
+    ensures { IsPlaceAt S.K.cmp (S.slots store.now) height root key.now result.0 result.1.now result.2 }
+{
     let id = leaf_for(store, root, height, key);
     let leaf = store.get_leaf(id);
     let mut compares = Compares::below(height);
