@@ -21,15 +21,14 @@ use Rattle.bptree_keys.proofs.Found.{gap_at, hit_at}
 use Rattle.bptree_keys.proofs.Parted.{filter_all, filter_none}
 use Rattle.bptree_nodes.specs.Inner.{Inner}
 use Rattle.bptree_nodes.specs.Leaf.{Leaf}
-use Rattle.bptree_nodes.specs.Slot.{Slots, Present}
-use Rattle.bptree_shape.specs.Leaves.{pairs_of, IsLeafFor}
+use Rattle.bptree_nodes.specs.Slot.{Slots}
+use Rattle.bptree_shape.specs.Leaves.{pairs_of}
 use Rattle.bptree_shape.specs.Shape.{pairs_at, IsWellShaped}
 use Rattle.bptree_shape.proofs.Between.{cut, none_pass, each_of, all_pass}
 use Rattle.bptree_shape.proofs.Ordered.{by_cases, less_then_up}
 use Rattle.bptree_shape.proofs.Spot.{leaf_ascends, parts_of_read}
-use Rattle.bptree_descents.specs.Neighbours.{beside}
-use Rattle.bptree_descents.proofs.Beside.{found_at}
-use Rattle.bptree_ranges.specs.Bounds.{between_bounds, end_bound, is_before_bound, is_before_start, is_upto_end, may_hold, start_bound}
+use Rattle.bptree_descents.specs.Neighbours.{beside, IsPlaceAt}
+use Rattle.bptree_ranges.specs.Bounds.{between_bounds, bound_key, end_bound, is_before_bound, is_before_start, is_upto_end, may_hold, start_bound}
 use Rattle.bptree_ranges.specs.Ranges.{start, IsPlaceOn}
 use Rattle.bptree_ranges.proofs.Bordered.{falls_all}
 use Rattle.bptree_ranges.proofs.Ranged.{contents_ascend, filter_fewer, size_of, start_is}
@@ -115,15 +114,30 @@ between_ends {K} cmp l lo hi start' end' e f = rw (e, f) (same lo hi)
     same (Some a) None = refl
     same (Some a) (Some b) = refl
 
+-- a bound without a key is open
+pub open_bound : {K : Type 0} (end' : Bool) (bound : Bound K) (found : Option (K × Bool)) → found ≡ bound_key end' bound → found ≡ None → bound ≡ Unbounded
+open_bound end' (Included q) found told is = cc
+open_bound end' (Excluded q) found told is = cc
+open_bound end' Unbounded found told is = refl
+
 module _ {K V : Type 0} (cmp : K → K → Ordering) (l : List (K × V)) where
   -- how many pairs stand before a bound
-  pub at_included : (end' : Bool) (bound : Bound K) (k : K) (n : ℕ) → bound ≡ Included k → n ≡ length (filter (λ (p : K × V). is_before end' (cmp p.0 k)) l) → n ≡ length (filter (λ (p : K × V). is_before_bound cmp end' bound p.0) l)
+  at_included : (end' : Bool) (bound : Bound K) (k : K) (n : ℕ) → bound ≡ Included k → n ≡ length (filter (λ (p : K × V). is_before end' (cmp p.0 k)) l) → n ≡ length (filter (λ (p : K × V). is_before_bound cmp end' bound p.0) l)
   at_included true bound k n is counted = rw is counted
   at_included false bound k n is counted = rw is counted
 
-  pub at_excluded : (end' : Bool) (bound : Bound K) (k : K) (n : ℕ) → bound ≡ Excluded k → n ≡ length (filter (λ (p : K × V). is_before (not end') (cmp p.0 k)) l) → n ≡ length (filter (λ (p : K × V). is_before_bound cmp end' bound p.0) l)
+  at_excluded : (end' : Bool) (bound : Bound K) (k : K) (n : ℕ) → bound ≡ Excluded k → n ≡ length (filter (λ (p : K × V). is_before (not end') (cmp p.0 k)) l) → n ≡ length (filter (λ (p : K × V). is_before_bound cmp end' bound p.0) l)
   at_excluded true bound k n is counted = rw is counted
   at_excluded false bound k n is counted = rw is counted
+
+  pub at_key : (end' : Bool) (bound : Bound K) (found : Option (K × Bool)) (k : K) (behind : Bool) (n : ℕ) → found ≡ bound_key end' bound → found ≡ Some (k, behind) → n ≡ length (filter (λ (p : K × V). is_before behind (cmp p.0 k)) l) → n ≡ length (filter (λ (p : K × V). is_before_bound cmp end' bound p.0) l)
+  at_key end' (Included q) found k behind n told is counted =
+      let same : ◌≡◌ {A = K × Bool} (q, end') (k, behind) = cc in
+      at_included end' (Included q) k n (ap (λ t. Included t.0) same) (rw (ap (λ t. t.1) same) counted)
+  at_key end' (Excluded q) found k behind n told is counted =
+      let same : ◌≡◌ {A = K × Bool} (q, not end') (k, behind) = cc in
+      at_excluded end' (Excluded q) k n (ap (λ t. Excluded t.0) same) (rw (ap (λ t. t.1) same) counted)
+  at_key end' Unbounded found k behind n told is counted = cc
 
   pub at_open_start : (end' : Bool) (bound : Bound K) (n : ℕ) → bound ≡ Unbounded → end' ≡ false → n ≡ 0 → n ≡ length (filter (λ (p : K × V). is_before_bound cmp end' bound p.0) l)
   at_open_start end' bound n is start' none = rw (is, start') (none ∙ sym (ap length (none_pass (λ (p : K × V). false) l (each_of (λ (p : K × V). false ≡ false) (λ p. refl) l))))
@@ -196,10 +210,11 @@ module _ {K V A : Type 0} {cmp : K → K → Ordering} (total : IsTotalOrder cmp
     none_settled no' xs same i = let gap : i - i ≡ 0 = omega arith in sym same ∙ (none_held no' ∙ sym (ap (part (pairs_at slots h root) i) gap))
 
   -- the place beside a key in the leaf for it is one in the tree
-  pub place_beside : (k : K) (id : LeafNodeId) (leaf : Leaf K V) (r : Result ℕ ℕ) (behind : Bool) (n : ℕ) → IsLeafFor cmp slots h root k id → slots.leaf id.0 ≡ Present leaf → (IsAscending cmp leaf.pairs → IsPlaceOf cmp leaf.pairs k r) → length leaf.pairs ≤ 64 → n ≡ beside r behind
+  pub place_beside : (k : K) (id : LeafNodeId) (leaf : Leaf K V) (r : Result ℕ ℕ) (behind : Bool) (n : ℕ) → IsPlaceAt cmp slots h root k id leaf r → n ≡ beside r behind
       → IsPlaceOn slots h root id n × (start slots h root id + n ≡ length (filter (λ (p : K × V). is_before behind (cmp p.0 k)) (pairs_at slots h root)))
-  place_beside k id leaf r behind n for' here found fits is =
-      let at = found_at total is_summary slots h root shape k id leaf r for' here found fits in
+  place_beside k id leaf r behind n at is =
+      let for' = at.for_key in
+      let here = at.here in
       let in' = for'.stands in
       let ascending = leaf_ascends total slots h root id leaf in' (contents_ascend is_summary slots h root shape total) here in
       let counts = place_counts total k behind leaf.pairs r ascending at.place_is in

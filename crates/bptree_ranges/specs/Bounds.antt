@@ -4,9 +4,9 @@ use Rattle.std.specs.Borrow.{Bor}
 use Rattle.std.specs.declared.cmp.Ordering.{Ordering}
 use Rattle.std.specs.declared.ops.Bound.{Bound}
 use Rattle.std.specs.declared.ops.Bound.TheVariants.{Included, Excluded, Unbounded}
+use Rattle.std.specs.Option.{option_map}
 use Rattle.std.specs.Ordering.{is_lt, is_gt}
 use Rattle.std.specs.Range.Bound.{bound_map}
-use Rattle.bptree_arguments.specs.GroupAnswers.{is_before}
 use Rattle.bptree_iteration.specs.declared.part.Part.{Part}
 use Rattle.bptree_keys.specs.declared.node_id.LeafNodeId.{LeafNodeId}
 use Rattle.bptree_keys.specs.declared.node_id.NodeId.{NodeId}
@@ -28,6 +28,16 @@ start_bound (Some lo) = Included lo
 abbrev pub end_bound : {K : Type 0} → Option K → Bound K
 end_bound None = Unbounded
 end_bound (Some hi) = Excluded hi
+
+-- the key of an end, or else of a start, and whether the place of the bound is behind that key; none where the bound is open
+abbrev pub bound_key : {K : Type 0} → Bool → Bound K → Option (K × Bool)
+bound_key end (Included k) = Some (k, end)
+bound_key end (Excluded k) = Some (k, not end)
+bound_key end Unbounded = None
+
+-- the same, where a reference shows the key
+abbrev pub TellsKey : {K : Type 0} → Bool → Bound (Bor K) → Option (Bor K × Bool) → Type 0
+TellsKey end bound found = option_map (λ at. (at.0.now, at.1)) found ≡ bound_key end (bound_copied bound)
 
 module _ {K : Type 0} (cmp : K → K → Ordering) where
   -- the key comes before the start
@@ -69,7 +79,3 @@ module _ {K V A : Type 0} (cmp : K → K → Ordering) (slots : Slots (Inner K A
   -- before the place stand the pairs that do not come behind an end, or else those that come before a start
   abbrev pub IsBoundPlace : Bool → Bound (Bor K) → LeafNodeId × ℕ → Type 0
   IsBoundPlace end bound at = place_on slots height root at ≡ length (filter (λ pair. is_before_bound cmp end (bound_copied bound) pair.0) (pairs_at slots height root))
-
-  -- or that are smaller than a key, and the one that equals it where the place is to be behind that
-  abbrev pub IsPlaceBeside : K → Bool → LeafNodeId × ℕ → Type 0
-  IsPlaceBeside k behind at = place_on slots height root at ≡ length (filter (λ pair. is_before behind (cmp pair.0 k)) (pairs_at slots height root))

@@ -1,17 +1,15 @@
 //! Where a part of the contents begins and ends that is told by two bounds.
 ghost use Rattle.std.specs.Prelude.{◌≡◌, ◌≤◌, length};
 ghost use Rattle.std.specs.Option.{option_copied};
-ghost use Rattle.bptree_ranges.specs.Bounds.{bound_copied, end_bound, may_hold, start_bound, IsBoundPlace, IsPartInBounds, IsPlaceBeside};
+ghost use Rattle.bptree_ranges.specs.Bounds.{bound_copied, end_bound, may_hold, start_bound, IsBoundPlace, IsPartInBounds, TellsKey};
 ghost use Rattle.bptree_ranges.specs.Ranges.{IsPlaceOn};
 ghost use Rattle.bptree_shape.specs.Shape.{pairs_at, IsWellShaped};
 
 use crate::ranges::{end_of_all, no_part, part_of_places};
-use bptree_descents::neighbours::slot_beside;
+use bptree_descents::neighbours::{locate_key, slot_beside};
 use bptree_iteration::part::{Extent, Part};
-use bptree_keys::compares::Compares;
 use bptree_keys::node_id::{LeafNodeId, NodeId};
 use bptree_shape::descent::first_leaf;
-use bptree_shape::reading::leaf_for;
 use bptree_stores::node_stores::NodeStore;
 use std::ops::Bound;
 
@@ -79,28 +77,23 @@ pub(crate) fn place_of_bound<S: NodeStore>(
     ensures place { IsPlaceOn (S.slots store.now) height root result.0 result.1 }
     ensures before { IsBoundPlace S.K.cmp (S.slots store.now) height root end bound.entry result }
 {
-    match bound {
-        Bound::Included(key) => place_beside(store, root, height, key, end),
-        Bound::Excluded(key) => place_beside(store, root, height, key, !end),
-        Bound::Unbounded if end => end_of_all(store, root, height),
-        Bound::Unbounded => (first_leaf(store, root, height), 0),
+    match key_of_bound(bound, end) {
+        Some((key, behind)) => {
+            let (leaf, _, place) = locate_key(store, root, height, key);
+            (leaf, slot_beside(place, behind))
+        }
+        None if end => end_of_all(store, root, height),
+        None => (first_leaf(store, root, height), 0),
     }
 }
 
-// The place behind the smaller keys, and, where it is asked, behind the key itself.
-fn place_beside<S: NodeStore>(
-    store: &S,
-    root: NodeId,
-    height: usize,
-    key: &S::K,
-    behind: bool,
-) -> (LeafNodeId, usize)
-    requires { IsWellShaped S.K.cmp S.Argument.is_summary (S.slots store.now) height root }
-    ensures place { IsPlaceOn (S.slots store.now) height root result.0 result.1 }
-    ensures before { IsPlaceBeside S.K.cmp (S.slots store.now) height root key.now behind result }
+// The key of a bound, and whether the place of the bound is behind that key.
+fn key_of_bound<K>(bound: Bound<&K>, end: bool) -> Option<(&K, bool)>
+    ensures { TellsKey end bound.entry result }
 {
-    let leaf = leaf_for(store, root, height, key);
-    let mut compares = Compares::below(height);
-    let place = store.get_leaf(leaf).locate_slot_counted(key, &mut compares);
-    (leaf, slot_beside(place, behind))
+    match bound {
+        Bound::Included(key) => Some((key, end)),
+        Bound::Excluded(key) => Some((key, !end)),
+        Bound::Unbounded => None,
+    }
 }
