@@ -5,8 +5,11 @@ use Rattle.std.proofs.lemmas.List.{drop-take, length-take-le, take_all}
 use Rattle.bptree_iteration.specs.declared.part.Extent.{Extent}
 use Rattle.bptree_iteration.specs.declared.part.Extent.TheVariants.{Exact}
 use Rattle.bptree_keys.specs.declared.node_id.LeafNodeId.{LeafNodeId}
+use Rattle.bptree_nodes.specs.Inner.{Inner}
 use Rattle.bptree_nodes.specs.Leaf.{Leaf}
-use Rattle.bptree_iteration.specs.Span.{IsSpan, AreApart, first_between, IsBetween}
+use Rattle.bptree_nodes.specs.Slot.{Slots}
+use Rattle.bptree_iteration.specs.declared.part.Part.{Part}
+use Rattle.bptree_iteration.specs.Span.{leaves_of, pairs_of_part, AreSame, IsSpan, AreApart, first_between, IsBetween, IsPartIn}
 use Rattle.bptree_iteration.proofs.SpanLemmas.{first_of_span, from_le, take-part}
 
 take_take : {X : Type 0} (n m : ℕ) (xs : List X) → n ≤ m → take n (take m xs) ≡ take n xs
@@ -163,3 +166,14 @@ module _ {K V : Type 0} (leaves : LeafNodeId → Option (Leaf K V)) where
   -- the place that the walk has come to
   pub place_of_walk : (front : LeafNodeId) (from : ℕ) (back : LeafNodeId) (to limit : ℕ) (at : LeafNodeId) (passed left : ℕ) (leaf : Leaf K V) → Walked front from back to limit at passed left → leaves at ≡ Some leaf → passed ≤ length leaf.pairs
   place_of_walk front from back to limit at passed left leaf w is = from_le leaves at passed w.ids back to w.ys leaf w.span is
+
+-- another part with the same pairs has its end for an end of the first
+pub record EndsPart {K V A : Type 0} (slots : Slots (Inner K A) (Leaf K V)) (part other : Part) : Type 0 where
+  pub between : IsBetween (leaves_of slots) part.front part.from other.back other.to other.limit other.extent
+  pub same : first_between (leaves_of slots) part.front part.from other.back other.to other.limit ≡ pairs_of_part slots part
+
+pub ends_part : {K V A : Type 0} (slots : Slots (Inner K A) (Leaf K V)) (part other : Part) → IsPartIn slots other → AreSame slots part other → EndsPart slots part other
+ends_part slots part other is same = record {
+  between = subst (λ front. IsBetween (leaves_of slots) front part.from other.back other.to other.limit other.extent) same.0 (subst (λ from. IsBetween (leaves_of slots) other.front from other.back other.to other.limit other.extent) same.1 is);
+  same = subst (λ front. first_between (leaves_of slots) front part.from other.back other.to other.limit ≡ pairs_of_part slots part) same.0 (subst (λ from. first_between (leaves_of slots) other.front from other.back other.to other.limit ≡ pairs_of_part slots part) same.1 same.2);
+}

@@ -256,18 +256,16 @@ impl<'a, S: NodeStore> DoubleEndedIterator for Iter<'a, S> {
             return None;
         }
         let part = known_end(self.store, self.part);
-        let (back, to) = back_place(self.store, part.back, part.to, part.front);
-        if !are_apart(part.front, part.from, back, to) {
+        let (back, to) = back_place(self.store, part.back, part.to, self.part.front);
+        if !are_apart(self.part.front, self.part.from, back, to) {
             return None;
         }
         let pair = leaf_at(self.store, back).data_at(to - 1);
-        self.part = Part {
-            back,
-            to: to - 1,
-            limit: part.limit - 1,
-            ..part
-        };
-        self.end = end_in(part.front, self.leaf, back, to - 1);
+        self.part.back = back;
+        self.part.to = to - 1;
+        self.part.limit = part.limit - 1;
+        self.part.extent = part.extent;
+        self.end = end_in(self.part.front, self.leaf, back, to - 1);
         Some(pair)
     }
 }
