@@ -31,6 +31,10 @@ pub record IsPlaceAt {K V A : Type 0} (cmp : K → K → Ordering) (slots : Slot
   pub place_is : IsPlaceOf cmp leaf.pairs k place
   pub fits : length leaf.pairs ≤ 64
 
+-- the same of a search's answer, by the leaf that a reference shows
+abbrev pub LocatesKey : {K V A : Type 0} → (K → K → Ordering) → Slots (Inner K A) (Leaf K V) → ℕ → NodeId → K → LeafNodeId × Bor (Leaf K V) × Result ℕ ℕ → Type 0
+LocatesKey cmp slots h root k found = IsPlaceAt cmp slots h root k found.0 found.1.now found.2
+
 -- the pair that was read, by the keys and values that references show
 abbrev pub pair_read : {K V X : Type 0} → X × (Bor K × Bor V) → K × V
 pair_read found = (found.1.0.now, found.1.1.now)

@@ -2,7 +2,7 @@
 ghost use Rattle.std.specs.Prelude.{◌≡◌, ◌≤◌, length, slice_get};
 ghost use Rattle.std.specs.Option.{option_copied, option_map};
 ghost use Rattle.bptree_keys.specs.Contents.{last_member};
-ghost use Rattle.bptree_descents.specs.Neighbours.{beside, IsPlaceAt, leaf_pairs_of, ReadsNext, ReadsPrevious, first_from, last_upto, pair_read};
+ghost use Rattle.bptree_descents.specs.Neighbours.{beside, leaf_pairs_of, LocatesKey, ReadsNext, ReadsPrevious, first_from, last_upto, pair_read};
 ghost use Rattle.bptree_shape.specs.Shape.{pairs_at, IsWellShaped, value_in};
 ghost use Rattle.bptree_nodes.specs.LeafResults.{place_of, IsPlaceInLeaf};
 
@@ -28,7 +28,7 @@ fn place_of<'a, S: NodeStore>(
     key: &S::K,
 ) -> (LeafNodeId, &'a LeafNode<S::K, S::V>, Result<usize, usize>)
     requires { IsWellShaped S.K.cmp S.Argument.is_summary (S.slots store.now) height root }
-    ensures { IsPlaceAt S.K.cmp (S.slots store.now) height root key.now result.0 result.1.now result.2 }
+    ensures { LocatesKey S.K.cmp (S.slots store.now) height root key.now result }
 {
     if let Some(leaf) = store.try_get_leaf(hint) {
         if leaf.in_range(key) {
@@ -47,7 +47,7 @@ pub fn locate_key<'a, S: NodeStore>(
     key: &S::K,
 ) -> (LeafNodeId, &'a LeafNode<S::K, S::V>, Result<usize, usize>)
     requires { IsWellShaped S.K.cmp S.Argument.is_summary (S.slots store.now) height root }
-    ensures { IsPlaceAt S.K.cmp (S.slots store.now) height root key.now result.0 result.1.now result.2 }
+    ensures { LocatesKey S.K.cmp (S.slots store.now) height root key.now result }
 {
     let id = leaf_for(store, root, height, key);
     let leaf = store.get_leaf(id);
