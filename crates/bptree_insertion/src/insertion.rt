@@ -294,17 +294,17 @@ fn put_at_hand<S: NodeStore>(
     root: NodeId,
     height: usize,
     leaf: LeafNodeId,
-    k: S::K,
-    v: S::V,
+    pair: (S::K, S::V),
 ) -> Result<Put<S::V, S::Argument>, (S::K, S::V)>
-    requires at_hand { IsAtHand S.K.cmp S.Argument.is_summary (S.slots store.old) k leaf }
+    requires at_hand { IsAtHand S.K.cmp S.Argument.is_summary (S.slots store.old) pair.0 leaf }
     requires shape { IsWellShaped S.K.cmp S.Argument.is_summary (S.slots store.old) height root }
-    requires room { HasRoomFor S.K.cmp (pairs_at (S.slots store.old) height root) k }
-    ensures put { IfOk result (IsPut S.K.cmp S.Argument.is_summary (S.slots store.old) (S.slots store.new) height root k v) }
+    requires room { HasRoomFor S.K.cmp (pairs_at (S.slots store.old) height root) pair.0 }
+    ensures put { IfOk result (IsPut S.K.cmp S.Argument.is_summary (S.slots store.old) (S.slots store.new) height root pair.0 pair.1) }
     ensures refused { OnErr result (S.slots store.new ≡ S.slots store.old) }
-    ensures handed_back { IfErr result (λ pair. pair ≡ (k, v)) }
-    ensures absent { OnErr result (LacksKey S.K.cmp (S.slots store.old) height root k) }
+    ensures handed_back { IfErr result (λ back. back ≡ pair) }
+    ensures absent { OnErr result (LacksKey S.K.cmp (S.slots store.old) height root pair.0) }
 {
+    let (k, v) = pair;
     let found = slot_for(store.get_leaf(leaf), 0, &k);
     match found {
         Ok(place) => Ok(Put::Replaced(replace_at(store, leaf, place, v))),
@@ -339,7 +339,7 @@ pub fn upsert<S: NodeStore>(
     ensures absent { OnErr result (LacksKey S.K.cmp (S.slots store.old) height root k) }
 {
     if let Some(leaf) = leaf_at_hand(store, &k) {
-        return put_at_hand(store, root, height, leaf, k, v);
+        return put_at_hand(store, root, height, leaf, (k, v));
     }
     path.clear();
     let leaf = find_path(store, root, height, &k, path);
