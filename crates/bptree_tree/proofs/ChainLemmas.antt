@@ -204,27 +204,21 @@ module _ {K V A : Type 0} (old new : Slots (Inner K A) (Leaf K V)) (first last :
   names : (link : Leaf K V → Option LeafNodeId) (read : Option LeafNodeId) (here : LeafNodeId) → read ≡ link seen → to ≡ unwrap_or read here → (id : LeafNodeId) → link leaf ≡ Some id → to ≡ id
   names link read here is named id e = named ∙ ap (λ (o : Option LeafNodeId). unwrap_or o here) (is ∙ (ap link seen_is ∙ e))
 
-  -- what is left once the first leaf is taken out, or the last
-  pub record FirstOut : Type 0 where
-    pub parts : chain_pairs old first len ≡ leaf.pairs ++ chain_pairs new to (len - n)
+  -- what is left once the leaf is taken out: the leaves from one to another, whose pairs with those of the leaf are all
+  pub record LeafOut (first' last' : LeafNodeId) (joined : List (K × V)) : Type 0 where
+    pub parts : chain_pairs old first len ≡ joined
     pub some : 0 < length leaf.pairs
     pub within : n ≤ len
-    pub left' : IsLeft new to last (len - n)
+    pub left' : IsLeft new first' last' (len - n)
 
-  pub record LastOut : Type 0 where
-    pub parts : chain_pairs old first len ≡ chain_pairs new first (len - n) ++ leaf.pairs
-    pub some : 0 < length leaf.pairs
-    pub within : n ≤ len
-    pub left' : IsLeft new first to (len - n)
-
-  pub first_out : (next : Option LeafNodeId) → next ≡ seen.next → to ≡ unwrap_or next first → old.leaf first.0 ≡ Present leaf → ((i : ℕ) → i ≢ first.0 → new.leaf i ≡ old.leaf i) → FirstOut
+  pub first_out : (next : Option LeafNodeId) → next ≡ seen.next → to ≡ unwrap_or next first → old.leaf first.0 ≡ Present leaf → ((i : ℕ) → i ≢ first.0 → new.leaf i ≡ old.leaf i) → LeafOut to last (leaf.pairs ++ chain_pairs new to (len - n))
   first_out next is named at others =
       let out = first_leaves old new first last (chain_pairs old first len) (left.chain more) leaf at others in
       let parts : len ≡ length leaf.pairs + length out.rest = left.counted ∙ (ap length out.parts ∙ length-append leaf.pairs out.rest) in
       let rest = left_of new to last out.rest (len - n) (omega (arith, long)) (λ some. let next' = out.next some in rw (names (λ l. l.next) next first is named next'.0 next'.1) next'.2) in
       record { parts = rw rest.1 out.parts; some = out.some; within = omega (arith, long); left' = rest.0 }
 
-  pub last_out : (prev : Option LeafNodeId) → prev ≡ seen.prev → to ≡ unwrap_or prev last → old.leaf last.0 ≡ Present leaf → ((i : ℕ) → i ≢ last.0 → new.leaf i ≡ old.leaf i) → LastOut
+  pub last_out : (prev : Option LeafNodeId) → prev ≡ seen.prev → to ≡ unwrap_or prev last → old.leaf last.0 ≡ Present leaf → ((i : ℕ) → i ≢ last.0 → new.leaf i ≡ old.leaf i) → LeafOut first to (chain_pairs new first (len - n) ++ leaf.pairs)
   last_out prev is named at others =
       let out = last_leaves old new first last (chain_pairs old first len) (left.chain more) leaf at others in
       let parts : len ≡ length out.rest + length leaf.pairs = left.counted ∙ (ap length out.parts ∙ length-append out.rest leaf.pairs) in
