@@ -215,8 +215,8 @@ pub fn find_entry<S: NodeStore>(
     }
 }
 
-/// Takes the pair at a slot of the leaf at the end of a path out of a whole tree, as that which
-/// `find_entry` found by the way that it left in the path. A refusal changes no slot.
+/// Takes the pair at a slot of the leaf at the end of a path out of a whole tree. `find_entry`
+/// answers the leaf and the slot, and leaves such a path. A refusal changes no slot.
 pub fn take_entry<S: NodeStore>(
     store: &mut S,
     path: &mut VisitStack,

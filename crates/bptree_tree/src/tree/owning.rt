@@ -105,8 +105,8 @@ fn pair_at_end<K: Drop, V: Drop>(pairs: &mut LeafPairs<K, V>, is_last: bool) -> 
     }
 }
 
-// The same of what is left in two open leaves, of which one is near that end, and of the leaves
-// between.
+// The same of what is left in all leaves: the open one near that end, those between, and the open
+// one far from it.
 #[inline(always)]
 fn pair_left<S: NodeStore>(
     near: &mut LeafPairs<S::K, S::V>,
