@@ -18,8 +18,8 @@ use Rattle.bptree_keys.specs.declared.node_id.LeafNodeId.{LeafNodeId}
 use Rattle.bptree_keys.specs.declared.node_id.NodeId.{NodeId}
 use Rattle.bptree_keys.specs.declared.node_id.NodeId.TheVariants as kind
 use Rattle.bptree_keys.proofs.PieceLemmas.{AllZip-length}
-use Rattle.bptree_ascent.specs.Change.{Keeps}
-use Rattle.bptree_ascent.specs.Climb.{is_held, HeldAre, least_at, Climb, Climbs, Risen}
+use Rattle.bptree_ascent.specs.Change.{Keeps, TakesSummary}
+use Rattle.bptree_ascent.specs.Climb.{is_held, HeldAre, NoneHeld, least_at, Climb, Climbs, Risen}
 use Rattle.bptree_shape.specs.Edit.{CanReach, Turn, Edits}
 use Rattle.bptree_shape.specs.Outcome.{Outcome, Done}
 use Rattle.bptree_shape.specs.Order.{flat}
@@ -30,6 +30,7 @@ use Rattle.bptree_ascent.proofs.Lift.{node_keeps}
 use Rattle.bptree_ascent.proofs.NodeChanges.{set_long, get_set, some_same}
 use Rattle.bptree_shape.proofs.NodePieces.{child_keys, node_keys_flat, node_pieces, node_summaries}
 use Rattle.bptree_ascent.proofs.Rooted.{reach_of}
+use Rattle.bptree_ascent.proofs.Undone.{restored}
 use Rattle.bptree_shape.proofs.Walk.{tree_ascends}
 use Rattle.bptree_shape.proofs.Ways.{LastStep, way_last, way_can, way_few, way_summed}
 use Rattle.bptree_shape.proofs.Widen.{tree_less, node_sizes, node_stays, replaced_around}
@@ -73,6 +74,9 @@ pub not_held : {N : Type 0} (slot : Slot N) → is_held slot ≡ false → slot 
 not_held Free none e = absurd (let z : Free ≡ Held = e in cc)
 not_held Held none e = absurd (true≢false none)
 not_held (Present node) none e = absurd (let z : Present node ≡ Held = e in cc)
+
+pub none_are_held : {I L : Type 0} {inner leaf : ℕ → Bool} {slots : Slots I L} → HeldAre inner leaf slots → ((n : ℕ) → (inner n ≡ false) × (leaf n ≡ false)) → NoneHeld slots
+none_are_held {slots = slots} are none = record { inners = λ n. not_held (slots.inner n) (are.inners n ∙ (none n).0); leaves = λ n. not_held (slots.leaf n) (are.leaves n ∙ (none n).1) }
 
 pub held_is : {N : Type 0} (s : Slot N) → is_held s ≡ true → s ≡ Held
 held_is Free q = absurd (true≢false (sym q))
@@ -187,9 +191,11 @@ module _ {K V A : Type 0} {cmp : K → K → Ordering} (total : IsTotalOrder cmp
       pub keeps : Keeps now after number i a (last now path Done c.climb rest number i child e).node
       keeps = kept_there.0
 
-      -- what holds of each node that it may have been
-      pub when_kept : {R : Type 0} → ((was : Inner K A) → now.inner number.0 ≡ Present was → slice_get was.arguments i ≡ Some old → Keeps now after number i a was → R) → R
-      when_kept f = f (last now path Done c.climb rest number i child e).node (stays now path Done c.climb rest number i child e) kept_there.1 keeps
+      -- the old summary that is put back leaves the slots as they were
+      pub put_back : (new : Slots (Inner K A) (Leaf K V)) (out : A) → TakesSummary after new number i old out → (new ≡ now) × (out ≡ a)
+      put_back new out takes =
+          let s = last now path Done c.climb rest number i child e in
+          restored now after new number i s.node a old out (stays now path Done c.climb rest number i child e) kept_there.1 keeps (takes (with_summary s.node i a) keeps.sets.changed)
 
       pub held_same : HeldAre c.climb.held_inner c.climb.held_leaf after
       held_same =

@@ -19,7 +19,7 @@ use Rattle.bptree_shape.specs.Path.{Way}
 use Rattle.bptree_shape.specs.Shape.{pairs_at, root_least, IsSummed}
 use Rattle.bptree_ascent.specs.Sums.{SumsUpAt, PlaceAt, HasKeysAt, HasPlace, IsLinked, IsSplit, with_split}
 use Rattle.bptree_ascent.specs.declared.node_changes.Division.{Division}
-use Rattle.bptree_ascent.proofs.Climbing.{climb_on, least_most, held_kept, not_held, edits_less, enough_for, told_up, last, can, summed_there, stays, has_place, few_there}
+use Rattle.bptree_ascent.proofs.Climbing.{climb_on, least_most, held_kept, none_are_held, edits_less, enough_for, told_up, last, can, summed_there, stays, has_place, few_there}
 use Rattle.bptree_ascent.proofs.Lift.{node_links, node_splits}
 use Rattle.bptree_ascent.proofs.NodeChanges.{set_long}
 use Rattle.bptree_ascent.proofs.Rooted.{split_unlinked, split_unlinked_pairs}
@@ -223,8 +223,8 @@ module _ {K V A : Type 0} {cmp : K → K → Ordering} (total : IsTotalOrder cmp
   told : is_summary a (keys_of (pairs_at new (suc c.climb.top) (kind.Inner id)))
   told =
       let d = c.climb in
-      let tree = split_unlinked cmp is_summary d.edit d.old now d.top d.root d.k d.leaf d.shape (λ n. not_held (now.leaf n) (d.free.leaves n ∙ (c.none_held n).1)) (λ n. not_held (now.inner n) (d.free.inners n ∙ (c.none_held n).0)) new d.turn division.left division.separator division.node division.right id edits roots left right in
-      let pairs = split_unlinked_pairs cmp is_summary d.edit d.old now d.top d.root d.k d.leaf d.shape (λ n. not_held (now.leaf n) (d.free.leaves n ∙ (c.none_held n).1)) (λ n. not_held (now.inner n) (d.free.inners n ∙ (c.none_held n).0)) new d.turn division.left division.separator division.node division.right id edits roots in
+      let tree = split_unlinked cmp is_summary d.edit d.old now d.top d.root d.k d.leaf d.shape (none_are_held d.free c.none_held) new d.turn division.left division.separator division.node division.right id edits roots left right in
+      let pairs = split_unlinked_pairs cmp is_summary d.edit d.old now d.top d.root d.k d.leaf d.shape (none_are_held d.free c.none_held) new d.turn division.left division.separator division.node division.right id edits roots in
       let few : length (d.edit (pairs_at d.old d.top d.root)) < 2 ^ 64 = d.few (pairs_at d.old d.top d.root) (tree_ascends total d.old (root_least d.top) d.top d.root None None d.shape.tree) (omega arith) in
       told_up total is_summary new (root_least (suc d.top)) d.top id None None a tree.tree tree.summed (subst (λ l. length l < 2 ^ 64) (sym pairs) few) sums
 

@@ -1,10 +1,11 @@
 -- A leaf at the end of a path is edited, and the edit begins its way up.
-use Rattle.std.proofs.Common.{◌≡◌, ℕ, inl, inr, false, List, length, sym, ap, ◌∙◌}
+use Rattle.std.proofs.Common.{◌≡◌, ℕ, ◌≤◌, inl, inr, false, List, length, sym, ap, subst, ◌∙◌}
 use Rattle.std.specs.declared.cmp.Ordering.{Ordering}
 use Rattle.std.proofs.lemmas.Bool.{cases_eq}
+use Rattle.bptree_keys.specs.Contents.{IsAscending}
 use Rattle.bptree_nodes.specs.Inner.{Inner}
 use Rattle.bptree_nodes.specs.Leaf.{Leaf}
-use Rattle.bptree_nodes.specs.Slot.{Slot, Slots, Held, Present, UpdatesLeaf}
+use Rattle.bptree_nodes.specs.Slot.{Slot, Slots, Held, Present, IsPresent, UpdatesLeaf}
 use Rattle.bptree_keys.specs.declared.node_id.InnerNodeId.{InnerNodeId}
 use Rattle.bptree_keys.specs.declared.node_id.LeafNodeId.{LeafNodeId}
 use Rattle.bptree_keys.specs.declared.node_id.NodeId.{NodeId}
@@ -13,7 +14,7 @@ use Rattle.bptree_ascent.specs.Climb.{StaysFew, Climb}
 use Rattle.bptree_shape.specs.Edit.{CanReach, IsLocal, Turn, Edits}
 use Rattle.bptree_shape.specs.Outcome.{Outcome}
 use Rattle.bptree_shape.specs.Path.{Way}
-use Rattle.bptree_shape.specs.Shape.{pairs_at, IsWellShaped}
+use Rattle.bptree_shape.specs.Shape.{leaf_pairs, pairs_at, IsWellShaped}
 use Rattle.bptree_ascent.proofs.Rooted.{reach_of}
 use Rattle.bptree_ascent.proofs.SlotFacts.{none_is}
 use Rattle.bptree_shape.proofs.Ways.{way_can}
@@ -30,6 +31,17 @@ module _ {K V A : Type 0} {cmp : K → K → Ordering} (is_summary : A → List 
     (shape : IsWellShaped cmp is_summary old top root) (way : Way cmp old k top root path 0 (kind.Leaf leaf)) where
   pub leaf_reached : CanReach cmp old 0 (kind.Leaf leaf) k
   leaf_reached = way_can cmp old k path top root 0 (kind.Leaf leaf) way (reach_of cmp is_summary old top root k shape)
+
+  pub leaf_stands : IsPresent (old.leaf leaf.0)
+  leaf_stands = leaf_reached.tree.0
+
+  -- its pairs ascend, and it has no more than fit
+  module _ (node : Leaf K V) (here : old.leaf leaf.0 ≡ Present node) where
+    pub leaf_ascends : IsAscending cmp node.pairs
+    leaf_ascends = subst (λ (s : Slot (Leaf K V)). IsAscending cmp (leaf_pairs s)) here leaf_reached.tree.2
+
+    pub leaf_fits : length node.pairs ≤ 64
+    leaf_fits = subst (λ (s : Slot (Leaf K V)). length (leaf_pairs s) ≤ 64) here leaf_reached.tree.4
 
   abbrev pub climb_from : {mid : Slots (Inner K A) (Leaf K V)} {turn : Turn} {outcome : Outcome K} (edit : List (K × V) → List (K × V)) (kept : ℕ) → StaysFew cmp edit (length (pairs_at old top root)) → IsLocal cmp k edit
       → Edits cmp is_summary edit kept old mid 0 (kind.Leaf leaf) k leaf turn outcome → mid.inner ≡ old.inner → ((n : ℕ) → mid.leaf n ≡ Held → ⊥) → Climb cmp is_summary mid path outcome

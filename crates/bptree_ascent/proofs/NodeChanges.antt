@@ -4,6 +4,7 @@ use Rattle.std.specs.List.{insert}
 use Rattle.bptree_nodes.specs.Inner.{Inner}
 use Rattle.bptree_keys.specs.declared.node_id.NodeId.{NodeId}
 use Rattle.bptree_ascent.specs.Sums.{with_summary, with_split, HasPlace, IsCut}
+use Rattle.bptree_ascent.specs.Undoing.{GivesEntry}
 use Rattle.bptree_ascent.specs.declared.node_changes.Division.{Division}
 
 module _ {X : Type 0} where
@@ -37,32 +38,34 @@ module _ {K A : Type 0} where
   pub place_below : (was : Inner K A) (place : ℕ) → HasPlace was place → place < length was.arguments
   place_below was place h = omega (arith, h.within, h.children, h.arguments)
 
+  -- a division of an entry that is the same, with the same summary left, is the same
+  same_division : (given d : Division K A) (entry : K × NodeId × A) → GivesEntry entry given → ◌≡◌ {A = K × NodeId × A} entry (d.separator, d.node, d.right) → given.left ≡ d.left → given ≡ d
+  same_division given d entry gives same left = gives ∙ (λ i. record { left = left i; separator = (same i).0; node = (same i).1; right = (same i).2 })
+
   -- an entry is taken out again, and the old summary of the child before it is put back
-  pub entry_back : (was whole mid new : Inner K A) (place : ℕ) (old out right : A) (s : K) (n : NodeId) (d : Division K A) → HasPlace was place → slice_get was.arguments place ≡ Some old
+  pub entry_back : (was whole mid new : Inner K A) (place : ℕ) (old : A) (entry : K × NodeId × A) (given d : Division K A) → HasPlace was place → slice_get was.arguments place ≡ Some old
       → whole ≡ with_split was place d.left d.separator d.node d.right
       → ((w : Inner K A) (key : K) (child : NodeId) (a : A) → whole.keys ≡ insert w.keys place key → whole.children ≡ insert w.children (suc place) child → whole.arguments ≡ insert w.arguments (suc place) a
-      → place ≤ length w.keys → suc place ≤ length w.children → suc place ≤ length w.arguments → (mid ≡ w) × (◌≡◌ {A = K × NodeId × A} (s, n, right) (key, child, a)))
-      → slice_get mid.arguments place ≡ Some out → new ≡ record mid { arguments = slice_set mid.arguments place old }
-      → (new ≡ was) × (◌≡◌ {A = Division K A} (record { left = out; separator = s; node = n; right = right }) d)
-  entry_back was whole mid new place old out right s n d h read is undoes got set =
+      → place ≤ length w.keys → suc place ≤ length w.children → suc place ≤ length w.arguments → (mid ≡ w) × (◌≡◌ {A = K × NodeId × A} entry (key, child, a)))
+      → slice_get mid.arguments place ≡ Some given.left → new ≡ record mid { arguments = slice_set mid.arguments place old } → GivesEntry entry given → (new ≡ was) × (given ≡ d)
+  entry_back was whole mid new place old entry given d h read is undoes got set gives =
       let w = with_summary was place d.left in
       let long = set_long was.arguments place d.left in
       let taken = undoes w d.separator d.node d.right (ap (λ (x : Inner K A). x.keys) is) (ap (λ (x : Inner K A). x.children) is ∙ rw add-one refl) (ap (λ (x : Inner K A). x.arguments) is ∙ rw add-one refl)
       h.within (omega (arith, h.within, h.children)) (omega (arith, long, h.within, h.children, h.arguments)) in
-      let back = sum_back was mid new place d.left old out taken.0 (place_below was place h) read got set in
-      (back.0, (let parts = taken.1 in rw (back.1, ap (λ (t : K × NodeId × A). t.0) parts, ap (λ (t : K × NodeId × A). t.1) parts, ap (λ (t : K × NodeId × A). t.2) parts) refl))
+      let back = sum_back was mid new place d.left old given.left taken.0 (place_below was place h) read got set in
+      (back.0, same_division given d entry gives taken.1 back.1)
 
   -- the undo of a split of a full node
-  pub cut_back : (was left half mid new : Inner K A) (place : ℕ) (old out right : A) (up s : K) (n : NodeId) (d : Division K A) → HasPlace was place → length was.keys ≡ 64 → slice_get was.arguments place ≡ Some old
+  pub cut_back : (was left half mid new : Inner K A) (place : ℕ) (old : A) (up : K) (entry : K × NodeId × A) (given d : Division K A) → HasPlace was place → length was.keys ≡ 64 → slice_get was.arguments place ≡ Some old
       → IsCut (with_split was place d.left d.separator d.node d.right) left up half
       → ((w : Inner K A) (key : K) (child : NodeId) (a : A) → left.keys ++ (up ∷ half.keys) ≡ insert w.keys place key → left.children ++ half.children ≡ insert w.children (suc place) child
-      → left.arguments ++ half.arguments ≡ insert w.arguments (suc place) a → length w.keys ≡ 64 → length w.children ≡ 65 → length w.arguments ≡ 65 → (mid ≡ w) × (◌≡◌ {A = K × NodeId × A} (s, n, right) (key, child, a)))
-      → slice_get mid.arguments place ≡ Some out → new ≡ record mid { arguments = slice_set mid.arguments place old }
-      → (new ≡ was) × (◌≡◌ {A = Division K A} (record { left = out; separator = s; node = n; right = right }) d)
-  cut_back was left half mid new place old out right up s n d h full read cut undoes got set =
+      → left.arguments ++ half.arguments ≡ insert w.arguments (suc place) a → length w.keys ≡ 64 → length w.children ≡ 65 → length w.arguments ≡ 65 → (mid ≡ w) × (◌≡◌ {A = K × NodeId × A} entry (key, child, a)))
+      → slice_get mid.arguments place ≡ Some given.left → new ≡ record mid { arguments = slice_set mid.arguments place old } → GivesEntry entry given → (new ≡ was) × (given ≡ d)
+  cut_back was left half mid new place old up entry given d h full read cut undoes got set gives =
       let w = with_summary was place d.left in
       let long = set_long was.arguments place d.left in
       let taken = undoes w d.separator d.node d.right cut.keys (cut.children ∙ rw add-one refl) (cut.arguments ∙ rw add-one refl)
       full (omega (arith, full, h.children)) (omega (arith, long, full, h.children, h.arguments)) in
-      let back = sum_back was mid new place d.left old out taken.0 (place_below was place h) read got set in
-      (back.0, (let parts = taken.1 in rw (back.1, ap (λ (t : K × NodeId × A). t.0) parts, ap (λ (t : K × NodeId × A). t.1) parts, ap (λ (t : K × NodeId × A). t.2) parts) refl))
+      let back = sum_back was mid new place d.left old given.left taken.0 (place_below was place h) read got set in
+      (back.0, same_division given d entry gives taken.1 back.1)

@@ -13,9 +13,10 @@ use Rattle.bptree_keys.specs.declared.node_id.LeafNodeId.{LeafNodeId}
 use Rattle.bptree_keys.specs.declared.node_id.NodeId.{NodeId}
 use Rattle.bptree_keys.specs.declared.node_id.NodeId.TheVariants as kind
 use Rattle.bptree_ascent.specs.Change.{Roots, RelinksNext}
+use Rattle.bptree_ascent.specs.Climb.{NoneHeld, IsUnlinked}
 use Rattle.bptree_shape.specs.Edit.{CanReach, Turn, Stays, Gains, fresh_of, SameLinks, LinksAt, Edits}
 use Rattle.bptree_shape.specs.Order.{flat, Chain}
-use Rattle.bptree_shape.specs.Shape.{leaf_next, inner_keys, inner_children, pairs_at, leaves_at, leaf_count, inner_count, stands, AreLinked, IsSummed, IsTree, IsWellShaped, root_least}
+use Rattle.bptree_shape.specs.Shape.{leaf_next, inner_keys, inner_children, pairs_at, leaves_at, inner_count, stands, AreLinked, IsTree, IsWellShaped, root_least}
 use Rattle.bptree_shape.specs.Outcome.{Done, Split}
 use Rattle.bptree_shape.proofs.Hinted.{count_of, count_leaves, first_or, linked_next}
 use Rattle.bptree_shape.proofs.Agreeing.{stands_le, present_if_stands, stands_if_absent}
@@ -75,25 +76,15 @@ module _ {K V A : Type 0} (cmp : K → K → Ordering) (is_summary : A → List 
   pub present_leaf : (h : ℕ) (root : NodeId) → IsWellShaped cmp is_summary slots h root → (n : ℕ) → 1 ≤ count_of (leaves_at slots h root) n → IsPresent (slots.leaf n)
   present_leaf h root w n some = present_if_stands (slots.leaf n) (omega (arith, some, w.leaves n, count_leaves slots h root n))
 
-  -- all of a tree's shape but its links
-  pub record IsUnlinked (h : ℕ) (root : NodeId) : Type 0 where
-    pub tree : IsTree cmp slots (root_least h) h root None None
-    pub leaves : (n : ℕ) → leaf_count slots h root n ≡ stands (slots.leaf n)
-    pub inners : (n : ℕ) → inner_count slots h root n ≡ stands (slots.inner n)
-    pub no_leaf_held : (n : ℕ) → slots.leaf n ≡ Held → ⊥
-    pub no_inner_held : (n : ℕ) → slots.inner n ≡ Held → ⊥
-    pub summed : IsSummed slots is_summary h root
-
 module _ {K V A : Type 0} (cmp : K → K → Ordering) (is_summary : A → List K → Type 0) (edit : List (K × V) → List (K × V)) (old new : Slots (Inner K A) (Leaf K V)) (h : ℕ) (root : NodeId) (k : K) (leaf : LeafNodeId)
-    (shape : IsWellShaped cmp is_summary old h root) (no_leaf_held : (n : ℕ) → new.leaf n ≡ Held → ⊥) (no_inner_held : (n : ℕ) → new.inner n ≡ Held → ⊥) where
+    (shape : IsWellShaped cmp is_summary old h root) (none_held : NoneHeld new) where
   -- an edit after which the top node stands as before
-  pub done_unlinked : (turn : Turn) → Edits cmp is_summary edit (root_least h) old new h root k leaf turn Done → IsUnlinked cmp is_summary new h root
+  pub done_unlinked : (turn : Turn) → Edits cmp is_summary edit (root_least h) old new h root k leaf turn Done → IsUnlinked cmp is_summary new (root_least h) h root
   done_unlinked turn edits = record {
     tree = edits.tree (root_least h) None None (omega arith) shape.tree (tt, tt);
     leaves = λ n. omega (arith, shape.leaves n, edits.leaves n);
     inners = λ n. omega (arith, shape.inners n, edits.inners n);
-    no_leaf_held = no_leaf_held;
-    no_inner_held = no_inner_held;
+    none_held = none_held;
     summed = edits.summed shape.summed;
   }
 
@@ -106,8 +97,8 @@ module _ {K V A : Type 0} (cmp : K → K → Ordering) (is_summary : A → List 
         tree = tree.tree;
         leaves = tree.leaves;
         inners = tree.inners;
-        no_leaf_held = no_leaf_held;
-        no_inner_held = no_inner_held;
+        no_leaf_held = tree.none_held.leaves;
+        no_inner_held = tree.none_held.inners;
         summed = tree.summed;
         linked = rw order (linked_same old new None (leaves_at old h root) None (each_counted (SameLinks old new) (leaves_at old h root) (λ l some. stays l (present_leaf cmp is_summary old h root shape l.0 some))) shape.linked);
       }
@@ -145,10 +136,10 @@ module _ {K V A : Type 0} (cmp : K → K → Ordering) (is_summary : A → List 
     held_inner n held =
         elim (eqb_tells n id.0) [
           | inl same ↦ (let e = sym roots.sets.changed ∙ (ap after.inner (sym same.1) ∙ held) in cc)
-          | inr other ↦ no_inner_held n (sym (roots.sets.others n other.1) ∙ held)
+          | inr other ↦ none_held.inners n (sym (roots.sets.others n other.1) ∙ held)
         ]
 
-    pub split_unlinked : is_summary l (keys_of (pairs_at new h root)) → is_summary r (keys_of (pairs_at new h right)) → IsUnlinked cmp is_summary after (suc h) (kind.Inner id)
+    pub split_unlinked : is_summary l (keys_of (pairs_at new h root)) → is_summary r (keys_of (pairs_at new h right)) → IsUnlinked cmp is_summary after 1 (suc h) (kind.Inner id)
     split_unlinked left_told right_told =
         let t = edits.tree (root_least h) None None (omega arith) shape.tree (tt, tt) in
         let sums = edits.summed shape.summed in
@@ -156,8 +147,7 @@ module _ {K V A : Type 0} (cmp : K → K → Ordering) (is_summary : A → List 
           tree = rw roots.sets.changed (tt, (at_left.tree 16 None (Some s) t.0, t.1, at_right.tree 16 (Some s) None t.2), omega arith, omega arith);
           leaves = λ n. rw (roots.sets.changed, roots.leaf) (omega (arith, shape.leaves n, edits.leaves n, at_left.leaves n, at_right.leaves n));
           inners = λ n. rw roots.sets.changed (omega (arith, shape.inners n, edits.inners n, at_left.inners n, at_right.inners n, one_more n));
-          no_leaf_held = λ n held. no_leaf_held n (ap (λ (f : ℕ → Slot (Leaf K V)). f n) (sym roots.leaf) ∙ held);
-          no_inner_held = held_inner;
+          none_held = record { inners = held_inner; leaves = λ n held. none_held.leaves n (ap (λ (f : ℕ → Slot (Leaf K V)). f n) (sym roots.leaf) ∙ held) };
           summed = rw roots.sets.changed ((rw at_left.pairs left_told, (rw at_right.pairs right_told, tt)), (at_left.summed sums.0, (at_right.summed sums.1, tt)));
         }
 
@@ -177,7 +167,7 @@ module _ {K V A : Type 0} (cmp : K → K → Ordering) (is_summary : A → List 
   pub relinked_contents : (height : ℕ) (top : NodeId) → pairs_at final height top ≡ pairs_at mid height top
   relinked_contents height top = (relinked_same height top).pairs
 
-  module _ (height : ℕ) (top : NodeId) (tree : IsUnlinked cmp is_summary mid height top) (is : leaves_at mid height top ≡ before ++ leaf ∷ (fresh ∷ after)) where
+  module _ (height : ℕ) (top : NodeId) (tree : IsUnlinked cmp is_summary mid (root_least height) height top) (is : leaves_at mid height top ≡ before ++ leaf ∷ (fresh ∷ after)) where
     links : AreLinked old None (before ++ leaf ∷ after) None
     links = subst (λ ids. AreLinked old None ids None) was shape.linked
 
@@ -198,21 +188,21 @@ module _ {K V A : Type 0} (cmp : K → K → Ordering) (is_summary : A → List 
           tree = same.tree (root_least height) None None tree.tree;
           leaves = λ n. same.leaves n ∙ (tree.leaves n ∙ sym (relinked_pairs mid final fresh next relinks n).stands);
           inners = λ n. same.inners n ∙ (tree.inners n ∙ ap stands (sym (relinked_inner mid final fresh next relinks n)));
-          no_leaf_held = λ n held. tree.no_leaf_held n (relinked_held mid final fresh next relinks n held);
-          no_inner_held = λ n held. tree.no_inner_held n (sym (relinked_inner mid final fresh next relinks n) ∙ held);
+          no_leaf_held = λ n held. tree.none_held.leaves n (relinked_held mid final fresh next relinks n held);
+          no_inner_held = λ n held. tree.none_held.inners n (sym (relinked_inner mid final fresh next relinks n) ∙ held);
           summed = same.summed tree.summed;
           linked = rw (same.order, is) (linked_relinked old mid final before leaf fresh untouched at after unique present (subst (λ o. RelinksNext mid final o fresh) next_is relinks) links);
         }
 
 -- a leaf was split, and the leaf behind the new one was relinked
 module _ {K V A : Type 0} (cmp : K → K → Ordering) (is_summary : A → List K → Type 0) (edit : List (K × V) → List (K × V)) (old new : Slots (Inner K A) (Leaf K V)) (h : ℕ) (root : NodeId) (k : K) (leaf fresh : LeafNodeId)
-    (shape : IsWellShaped cmp is_summary old h root) (no_leaf_held : (n : ℕ) → new.leaf n ≡ Held → ⊥) (no_inner_held : (n : ℕ) → new.inner n ≡ Held → ⊥) where
+    (shape : IsWellShaped cmp is_summary old h root) (none_held : NoneHeld new) where
   -- below a root that stands as before
   module _ (final : Slots (Inner K A) (Leaf K V)) (edits : Edits cmp is_summary edit (root_least h) old new h root k leaf (Gains fresh) Done) (relinks : RelinksNext new final (leaf_next (old.leaf leaf.0)) fresh) where
     pub whole_grown : IsWellShaped cmp is_summary final h root
     whole_grown =
         whole_inserted cmp is_summary old new final h root leaf fresh edits.order.before edits.order.after shape edits.order.was edits.links (λ x other there. (edits.untouched x other tt there).0) relinks h root
-        (done_unlinked cmp is_summary edit old new h root k leaf shape no_leaf_held no_inner_held (Gains fresh) edits) edits.order.is
+        (done_unlinked cmp is_summary edit old new h root k leaf shape none_held (Gains fresh) edits) edits.order.is
 
     pub grown_pairs : pairs_at final h root ≡ edit (pairs_at old h root)
     grown_pairs =
@@ -230,10 +220,10 @@ module _ {K V A : Type 0} (cmp : K → K → Ordering) (is_summary : A → List 
     pub whole_split : is_summary l (keys_of (pairs_at new h root)) → is_summary r (keys_of (pairs_at new h right)) → IsWellShaped cmp is_summary final (suc h) (kind.Inner id)
     whole_split left_told right_told =
         whole_inserted cmp is_summary old after final h root leaf fresh edits.order.before edits.order.after shape edits.order.was links_after untouched_after relinks (suc h) (kind.Inner id)
-        (split_unlinked cmp is_summary edit old new h root k leaf shape no_leaf_held no_inner_held after (Gains fresh) l s right r id edits roots left_told right_told)
-        (split_unlinked_order cmp is_summary edit old new h root k leaf shape no_leaf_held no_inner_held after (Gains fresh) l s right r id edits roots)
+        (split_unlinked cmp is_summary edit old new h root k leaf shape none_held after (Gains fresh) l s right r id edits roots left_told right_told)
+        (split_unlinked_order cmp is_summary edit old new h root k leaf shape none_held after (Gains fresh) l s right r id edits roots)
 
     pub split_pairs : pairs_at final (suc h) (kind.Inner id) ≡ edit (pairs_at old h root)
     split_pairs =
         relinked_contents cmp is_summary old after final h root leaf fresh edits.order.before edits.order.after shape edits.order.was links_after untouched_after relinks (suc h) (kind.Inner id)
-        ∙ split_unlinked_pairs cmp is_summary edit old new h root k leaf shape no_leaf_held no_inner_held after (Gains fresh) l s right r id edits roots
+        ∙ split_unlinked_pairs cmp is_summary edit old new h root k leaf shape none_held after (Gains fresh) l s right r id edits roots

@@ -1,5 +1,5 @@
 -- A change of a store's slots is undone.
-use Rattle.std.proofs.Common.{◌≡◌, ℕ, ◌<◌, ◌≤◌, List, ◌++◌, inl, inr, length, refl, sym, ap, ◌∙◌, arith, Some, slice_get, slice_set}
+use Rattle.std.proofs.Common.{◌≡◌, ℕ, ◌≤◌, List, ◌++◌, inl, inr, length, refl, sym, ap, ◌∙◌, Some, slice_get, slice_set}
 use Rattle.std.specs.declared.cmp.Ordering.{Ordering}
 use Rattle.std.specs.List.{insert, remove}
 use Rattle.std.proofs.lemmas.Bool.{cases_eq}
@@ -13,30 +13,29 @@ use Rattle.bptree_ascent.specs.Change.{Keeps}
 use Rattle.bptree_ascent.specs.LeafChange.{Adds, DividesLeaf}
 use Rattle.bptree_ascent.specs.Sums.{with_summary}
 use Rattle.bptree_ascent.specs.declared.node_changes.Division.{Division}
-use Rattle.bptree_ascent.proofs.NodeChanges.{sum_back, set_long}
+use Rattle.bptree_ascent.proofs.NodeChanges.{sum_back}
+use Rattle.bptree_shape.proofs.ListReads.{read_below}
 
 pub same_node : {N : Type 0} (slot : Slot N) (a b : N) → slot ≡ Present a → slot ≡ Present b → a ≡ b
 same_node slot a b e f = let z : Present a ≡ Present b = sym e ∙ f in cc
 
--- a node is put back as it was
-pub restored : {K V A : Type 0} (was now mid new : Slots (Inner K A) (Leaf K V)) (id : InnerNodeId) (place : ℕ) (node from put : Inner K A) (a old out : A) → was.inner id.0 ≡ Present node → slice_get node.arguments place ≡ Some old
-    → Keeps was now id place a node → now.inner id.0 ≡ Present from → UpdatesInner now mid id.0 Held → place < length from.arguments → slice_get from.arguments place ≡ Some out
-    → put ≡ record from { arguments = slice_set from.arguments place old } → UpdatesInner mid new id.0 (Present put) → (new ≡ was) × (out ≡ a)
-restored {K} {V} {A} was now mid new id place node from put a old out here read keeps there taken below got set back =
-    (λ i. record { inner = λ n. each n i; leaf = (back.leaf ∙ (taken.leaf ∙ keeps.leaf)) i }, undone.1)
+-- a node changes, and is again what it was
+pub node_back : {K V A : Type 0} (was now new : Slots (Inner K A) (Leaf K V)) (id : InnerNodeId) (node is back : Inner K A) → was.inner id.0 ≡ Present node → UpdatesInner was now id.0 (Present is) → UpdatesInner now new id.0 (Present back) → back ≡ node → new ≡ was
+node_back {K} {V} {A} was now new id node is back here changes undoes same = λ i. record { inner = λ n. each n i; leaf = (undoes.leaf ∙ changes.leaf) i }
   where
-    is : from ≡ with_summary node place a
-    is = same_node (now.inner id.0) from (with_summary node place a) there keeps.sets.changed
-
-    undone : (put ≡ node) × (out ≡ a)
-    undone = sum_back node from put place a old out is (omega (arith, below, set_long node.arguments place a, ap (λ (x : Inner K A). length x.arguments) is)) read got set
-
     each : (n : ℕ) → new.inner n ≡ was.inner n
     each n =
         elim (cases_eq n id.0) [
-          | inl same ↦ (rw same (back.inner.changed ∙ (ap Present undone.0 ∙ sym here)))
-          | inr other ↦ back.inner.others n other ∙ (taken.inner.others n other ∙ keeps.sets.others n other)
+          | inl at ↦ (rw at (undoes.inner.changed ∙ (ap Present same ∙ sym here)))
+          | inr other ↦ undoes.inner.others n other ∙ changes.inner.others n other
         ]
+
+-- it takes another summary of a child, and then the old one again
+pub restored : {K V A : Type 0} (was now new : Slots (Inner K A) (Leaf K V)) (id : InnerNodeId) (place : ℕ) (node : Inner K A) (a old out : A) → was.inner id.0 ≡ Present node → slice_get node.arguments place ≡ Some old
+    → Keeps was now id place a node → Keeps now new id place old (with_summary node place a) × (slice_get (slice_set node.arguments place a) place ≡ Some out) → (new ≡ was) × (out ≡ a)
+restored was now new id place node a old out here read keeps back =
+    let undone = sum_back node (with_summary node place a) (with_summary (with_summary node place a) place old) place a old out refl (read_below node.arguments place old read) read back.1 refl in
+    (node_back was now new id node _ _ here (record { inner = keeps.sets; leaf = keeps.leaf }) (record { inner = back.0.sets; leaf = back.0.leaf }) undone.0, undone.1)
 
 -- a pair that was put into a leaf is taken out again
 pub pair_back : {K V : Type 0} (from put back : Leaf K V) (slot : ℕ) (pair out : K × V) → put ≡ record from { pairs = insert from.pairs slot pair } → slot ≤ length from.pairs → slice_get put.pairs slot ≡ Some out → back ≡ record put { pairs = remove put.pairs slot }

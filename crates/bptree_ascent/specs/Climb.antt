@@ -14,7 +14,7 @@ use Rattle.bptree_ascent.specs.Change.{Roots}
 use Rattle.bptree_shape.specs.Edit.{IsLocal, Turn, Edits}
 use Rattle.bptree_shape.specs.Outcome.{Outcome, Done, Split}
 use Rattle.bptree_shape.specs.Path.{Way}
-use Rattle.bptree_shape.specs.Shape.{pairs_at, root_least, IsWellShaped}
+use Rattle.bptree_shape.specs.Shape.{pairs_at, leaf_count, inner_count, stands, root_least, IsTree, IsSummed, IsWellShaped}
 use Rattle.bptree_ascent.specs.declared.node_changes.Division.{Division}
 
 -- whether a number is held
@@ -27,6 +27,20 @@ is_held (Present node) = false
 pub record HeldAre {I L : Type 0} (inner leaf : ℕ → Bool) (slots : Slots I L) : Type 0 where
   pub inners : (n : ℕ) → is_held (slots.inner n) ≡ inner n
   pub leaves : (n : ℕ) → is_held (slots.leaf n) ≡ leaf n
+
+-- no number is held
+pub record NoneHeld {I L : Type 0} (slots : Slots I L) : Type 0 where
+  pub inners : (n : ℕ) → slots.inner n ≡ Held → ⊥
+  pub leaves : (n : ℕ) → slots.leaf n ≡ Held → ⊥
+
+-- All that a right tree is, but that its top node may have fewer keys or pairs than a root, and that nothing is known of the
+-- links of its leaves.
+pub record IsUnlinked {K V A : Type 0} (cmp : K → K → Ordering) (is_summary : A → List K → Type 0) (slots : Slots (Inner K A) (Leaf K V)) (least height : ℕ) (root : NodeId) : Type 0 where
+  pub tree : IsTree cmp slots least height root None None
+  pub leaves : (n : ℕ) → leaf_count slots height root n ≡ stands (slots.leaf n)
+  pub inners : (n : ℕ) → inner_count slots height root n ≡ stands (slots.inner n)
+  pub none_held : NoneHeld slots
+  pub summed : IsSummed slots is_summary height root
 
 -- an edit of no more ascending pairs than some makes fewer than 2 to the power of 64
 abbrev pub StaysFew : {K V : Type 0} → (K → K → Ordering) → (List (K × V) → List (K × V)) → ℕ → Type 0

@@ -10,10 +10,11 @@ ghost use Rattle.bptree_ascent.specs.Climb.{Climbs, ClimbsTwo, Risen, Reaches};
 ghost use Rattle.bptree_ascent.specs.Sums.{SumsUp, PlaceAt, HasKeysAt, LinksChild, SplitsNode, SumsUpAbove, SumsUpLeft, SumsUpRight, SumsUpRoot};
 ghost use Rattle.bptree_ascent.specs.Sums.{HasPlaceAbove, IsKeptAbove, SumsUpChanged};
 ghost use Rattle.bptree_shape.specs.Shape.{inner_keys, inner_arguments};
-ghost use Rattle.bptree_ascent.specs.Undoing.{UndoesLink, UndoesSplitInner, UndoesSummary};
+ghost use Rattle.bptree_ascent.specs.Undoing.{UndoesLink, UndoesSplitInner};
 
 use crate::node_changes::{
-    Division, Resummed, SplitNode, give_entry, take_and_split, take_entry, undo_take_and_split,
+    Division, Resummed, SplitNode, give_back, give_entry, take_and_split, take_entry,
+    undo_take_and_split,
 };
 use bptree_arguments::argument::Argument;
 use bptree_keys::entry_ref::VisitStack;
@@ -22,7 +23,8 @@ use bptree_nodes::inner_node::InnerNode;
 use bptree_stores::node_stores::NodeStore;
 use std::alloc::AllocError;
 
-// Puts a child's new summary into its node, and answers the old one.
+// Puts a child's summary into its node, and answers the one that it had there. So a second call
+// undoes the first.
 fn set_at<S: NodeStore>(
     store: &mut S,
     id: InnerNodeId,
@@ -75,23 +77,6 @@ fn sum_of_changed<S: NodeStore>(
     S::Argument::from_inner(node.keys(), node.arguments())
 }
 
-// Undoes what `set_at` did.
-fn restore_at<S: NodeStore>(
-    store: &mut S,
-    id: InnerNodeId,
-    place: usize,
-    old: S::Argument,
-) -> S::Argument
-    requires present { IsPresent ((S.slots store.old).inner id.0) }
-    requires place { place < length (inner_arguments ((S.slots store.old).inner id.0)) }
-    ensures undoes { UndoesSummary (S.slots store.old) (S.slots store.new) id place old result }
-{
-    let mut node = store.take_inner(id);
-    let summary = node.set_argument(place, old);
-    store.put_back_inner(id, node);
-    summary
-}
-
 /// Carries a node's new summary up the path above it. It answers that of the root. Refused, it
 /// hands the summary back. A node's summary is told by what changed in one child where the argument
 /// can (`from_replaced`), and else asked for anew. Where every value is a summary of every list, no
@@ -114,11 +99,11 @@ pub fn ascend<S: NodeStore>(
     };
     let old = set_at(store, id, place, summary);
     let Ok(above) = sum_of_changed(store, path, id, place, &old) else {
-        return Err(restore_at(store, id, place, old));
+        return Err(set_at(store, id, place, old));
     };
     match ascend(store, path, above) {
         Ok(top) => Ok(top),
-        Err(_) => Err(restore_at(store, id, place, old)),
+        Err(_) => Err(set_at(store, id, place, old)),
     }
 }
 
@@ -136,10 +121,7 @@ fn link_at<S: NodeStore>(
     ensures refused { OnErr result (S.slots store.new ≡ S.slots store.old) }
     ensures handed_back { IfErr result (λ back. back ≡ division) }
 {
-    let mut node = store.take_inner(id);
-    let asked = take_entry(&mut node, place, division);
-    store.put_back_inner(id, node);
-    asked
+    take_entry(store.get_mut_inner(id), place, division)
 }
 
 // Undoes what `link_at` did.
@@ -152,10 +134,7 @@ fn unlink_at<S: NodeStore>(
     requires place { PlaceAt ((S.slots store.old).inner id.0) (place + 1) }
     ensures undoes { UndoesLink (S.slots store.old) (S.slots store.new) id place old result }
 {
-    let mut node = store.take_inner(id);
-    let division = give_entry(&mut node, place, old);
-    store.put_back_inner(id, node);
-    division
+    give_entry(store.get_mut_inner(id), place, old)
 }
 
 // Puts the node to the right of a child that was split into its node, which is full and is split in
@@ -258,14 +237,8 @@ fn grow_root<S: NodeStore>(
         }
         Err(_) => {
             store.release_inner(id);
-            let (separator, child, right) = node.pop();
-            let left = node.set_argument(0, S::Argument::default());
-            Err(Division {
-                left,
-                separator,
-                node: child,
-                right,
-            })
+            let entry = node.pop();
+            Err(give_back(&mut node, 0, S::Argument::default(), entry))
         }
     }
 }

@@ -3,7 +3,7 @@
 ghost use Rattle.std.specs.Prelude.{◌≡◌, ◌<◌, ◌≤◌, ◌+◌, List, [], length, slice_get, Some, IfOk, IfErr, OnErr};
 ghost use Rattle.bptree_nodes.specs.Inner.{HasKeys};
 ghost use Rattle.bptree_ascent.specs.Sums.{SumsUp, with_summary, HasPlace, IsCut, with_division};
-ghost use Rattle.bptree_ascent.specs.Undoing.{UndoesCut, UndoesDivision};
+ghost use Rattle.bptree_ascent.specs.Undoing.{GivesEntry, UndoesCut, UndoesDivision};
 
 use bptree_arguments::argument::Argument;
 use bptree_keys::key::Key;
@@ -94,8 +94,25 @@ pub fn give_entry<K: Key, A: Argument<K>>(
     requires arguments { length node.old.arguments ≡ length node.old.children }
     ensures undoes { UndoesDivision place old node.old node.new result }
 {
-    let (separator, child, right) = node.remove_at(place);
+    let entry = node.remove_at(place);
+    give_back(node, place, old, entry)
+}
+
+// Puts a child's old summary back. It answers the division that the node had taken: the summary
+// that was in its place, and the entry that the node gave up.
+pub(crate) fn give_back<K: Key, A: Argument<K>>(
+    node: &mut InnerNode<K, A>,
+    place: usize,
+    old: A,
+    entry: (K, NodeId, A),
+) -> Division<K, A>
+    requires place { place < length node.old.arguments }
+    ensures after { node.new ≡ with_summary node.old place old }
+    ensures left { slice_get node.old.arguments place ≡ Some result.left }
+    ensures entry { GivesEntry entry result }
+{
     let left = node.set_argument(place, old);
+    let (separator, child, right) = entry;
     Division {
         left,
         separator,
@@ -158,12 +175,6 @@ pub fn undo_take_and_split<K: Key, A: Argument<K>>(
     requires place { place ≤ 64 }
     ensures undoes { UndoesCut place old node.old up half.value node.new result }
 {
-    let (separator, child, right) = node.undo_split(place, up, half);
-    let left = node.set_argument(place, old);
-    Division {
-        left,
-        separator,
-        node: child,
-        right,
-    }
+    let entry = node.undo_split(place, up, half);
+    give_back(node, place, old, entry)
 }

@@ -4,7 +4,7 @@ use Rattle.std.specs.declared.cmp.Ordering.{Ordering}
 use Rattle.std.specs.Cmp.{IsTotalOrder}
 use Rattle.std.specs.List.{insert}
 use Rattle.std.specs.Map.{keys_of}
-use Rattle.std.proofs.lemmas.Bool.{cases_eq}
+use Rattle.std.proofs.lemmas.Bool.{cases_eq, eqb-true}
 use Rattle.std.proofs.lemmas.List.Edits.{length-insert}
 use Rattle.bptree_keys.specs.Contents.{IsAscending, below, has, put}
 use Rattle.bptree_nodes.specs.Inner.{Inner}
@@ -18,15 +18,15 @@ use Rattle.bptree_keys.proofs.Found.{inserted}
 use Rattle.bptree_keys.proofs.Updates.{length_put}
 use Rattle.bptree_ascent.specs.Change.{SplitsLeaf, RelinksNext}
 use Rattle.bptree_ascent.specs.Climb.{StaysFew, Climb, Climbs, ClimbsTwo, Risen, Reaches}
-use Rattle.bptree_shape.specs.Edit.{CanReach, Turn, Stays, Gains, Edits}
+use Rattle.bptree_shape.specs.Edit.{Turn, Stays, Gains, Edits}
 use Rattle.bptree_ascent.specs.LeafChange.{HasSlotAt, SumsUpLeaf, Adds, AreHalves, DividesLeaf}
 use Rattle.bptree_shape.specs.Outcome.{Outcome, Done, Split}
 use Rattle.bptree_insertion.specs.Puts.{IsDue, IsPlaced, IsPlacedUpTo}
 use Rattle.bptree_shape.specs.Shape.{leaf_pairs, leaf_next, pairs_at, leaves_at, root_least, AreLinked, IsWellShaped}
 use Rattle.bptree_ascent.specs.declared.node_changes.Division.{Division}
-use Rattle.bptree_ascent.proofs.Climbing.{least_most, not_held}
+use Rattle.bptree_ascent.proofs.Climbing.{least_most, none_are_held}
 use Rattle.bptree_shape.proofs.Hinted.{total-append, count_of, first_or, linked_next}
-use Rattle.bptree_ascent.proofs.LeafClimb.{none_held, leaf_reached, climb_from}
+use Rattle.bptree_ascent.proofs.LeafClimb.{none_held, leaf_reached, leaf_stands, leaf_ascends, climb_from}
 use Rattle.bptree_ascent.proofs.LeafEdit.{put_is_local, leaf_edited, leaf_split}
 use Rattle.bptree_ascent.proofs.Relinked.{one_at}
 use Rattle.bptree_ascent.proofs.SlotFacts.{node_of, next_seen}
@@ -58,8 +58,8 @@ head_is (y ∷ ys) next e = let same : y ≡ next = cc in omega (arith, one_at y
 -- the leaf behind one that was split is there still
 module _ {K V A : Type 0} (cmp : K → K → Ordering) (is_summary : A → List K → Type 0) (edit : List (K × V) → List (K × V)) (old new at : Slots (Inner K A) (Leaf K V)) (h : ℕ) (root : NodeId) (k : K) (leaf fresh : LeafNodeId) (outcome : Outcome K)
     (shape : IsWellShaped cmp is_summary old h root) (edits : Edits cmp is_summary edit (root_least h) old new h root k leaf (Gains fresh) outcome) (leaves : at.leaf ≡ new.leaf) where
-  leaf_stands : IsPresent (at.leaf leaf.0)
-  leaf_stands = present_if_next (at.leaf leaf.0) fresh (rw leaves edits.links.1)
+  split_stands : IsPresent (at.leaf leaf.0)
+  split_stands = present_if_next (at.leaf leaf.0) fresh (rw leaves edits.links.1)
 
   next_counted : (next : LeafNodeId) → leaf_next (old.leaf leaf.0) ≡ Some next → 1 ≤ count_of (leaves_at old h root) next.0
   next_counted next e =
@@ -71,7 +71,7 @@ module _ {K V A : Type 0} (cmp : K → K → Ordering) (is_summary : A → List 
   next_stands : (next : LeafNodeId) → leaf_next (old.leaf leaf.0) ≡ Some next → IsPresent (at.leaf next.0)
   next_stands next e =
       elim (cases_eq next.0 leaf.0) [
-        | inl same ↦ rw same leaf_stands
+        | inl same ↦ rw same split_stands
         | inr other ↦ (let here = present_leaf cmp is_summary old h root shape next.0 (next_counted next e) in rw leaves ((edits.untouched next other tt here).1))
       ]
 
@@ -79,16 +79,17 @@ module _ {K V A : Type 0} (cmp : K → K → Ordering) (is_summary : A → List 
   next_there None is = tt
   next_there (Some next) is = next_stands next is
 
+-- a leaf that was seen to be full has 64 pairs
+pub full_of : {K V : Type 0} (slot : Slot (Leaf K V)) (seen : Leaf K V) (is_full : Bool) → slot ≡ Present seen → is_full ≡ eqb (length seen.pairs) 64 → is_full ≡ true → length (leaf_pairs slot) ≡ 64
+full_of slot seen is_full here told full = rw here (eqb-true (length seen.pairs) 64 (sym told ∙ full))
+
 module _ {K V A : Type 0} {cmp : K → K → Ordering} (total : IsTotalOrder cmp) (is_summary : A → List K → Type 0) (old : Slots (Inner K A) (Leaf K V)) (path : List (InnerNodeId × ℕ × NodeId)) (leaf : LeafNodeId) (slot : ℕ) (k : K)
     (due : IsDue cmp is_summary old path leaf slot k) where
-  can : CanReach cmp old 0 (kind.Leaf leaf) k
-  can = leaf_reached is_summary old path leaf k due.top due.root due.shape due.way
-
   pub leaf_there : IsPresent (old.leaf leaf.0)
-  leaf_there = can.tree.0
+  leaf_there = leaf_stands is_summary old path leaf k due.top due.root due.shape due.way
 
   sorted : IsAscending cmp (leaf_pairs (old.leaf leaf.0))
-  sorted = can.tree.2
+  sorted = (leaf_reached is_summary old path leaf k due.top due.root due.shape due.way).tree.2
 
   pub slot_within : (v : V) → slot ≤ length (leaf_pairs (old.leaf leaf.0))
   slot_within v = (inserted cmp total (leaf_pairs (old.leaf leaf.0)) sorted k slot v due.absent due.place).in_range
@@ -107,7 +108,7 @@ module _ {K V A : Type 0} {cmp : K → K → Ordering} (total : IsTotalOrder cmp
 
   module _ (v : V) where
     sorted_here : IsAscending cmp node.pairs
-    sorted_here = subst (λ (s : Slot (Leaf K V)). IsAscending cmp (leaf_pairs s)) here sorted
+    sorted_here = leaf_ascends is_summary old path leaf k due.top due.root due.shape due.way node here
 
     pub within_here : slot ≤ length node.pairs
     within_here = subst (λ (s : Slot (Leaf K V)). slot ≤ length (leaf_pairs s)) here (slot_within v)
@@ -161,7 +162,7 @@ module _ {K V A : Type 0} {cmp : K → K → Ordering} (total : IsTotalOrder cmp
       placed_added a sums new top rises =
           let r = rises (climbs_added a sums) in
           record {
-            shape = whole_done cmp is_summary (λ l. put cmp l k v) old new due.top due.root k leaf due.shape (λ n. not_held _ (r.free.leaves n)) (λ n. not_held _ (r.free.inners n)) r.edits;
+            shape = whole_done cmp is_summary (λ l. put cmp l k v) old new due.top due.root k leaf due.shape (none_are_held r.free (λ n. (refl, refl))) r.edits;
             pairs = r.edits.pairs;
             told = r.told;
           }
@@ -228,18 +229,18 @@ module _ {K V A : Type 0} {cmp : K → K → Ordering} (total : IsTotalOrder cmp
 
       placed_reached : (new final : Slots (Inner K A) (Leaf K V)) (top : Option InnerNodeId) (a : A) → Reaches climb_divided new top a → RelinksNext new final (leaf_next (old.leaf leaf.0)) fresh → IsPlacedUpTo cmp is_summary old final due.top due.root k v top a
       placed_reached new final None a r relinks =
-          let pairs = grown_pairs cmp is_summary (λ l. put cmp l k v) old new due.top due.root k leaf fresh due.shape (λ n. not_held _ (r.free.leaves n)) (λ n. not_held _ (r.free.inners n)) final r.edits relinks in
+          let pairs = grown_pairs cmp is_summary (λ l. put cmp l k v) old new due.top due.root k leaf fresh due.shape (none_are_held r.free (λ n. (refl, refl))) final r.edits relinks in
           record {
-            shape = whole_grown cmp is_summary (λ l. put cmp l k v) old new due.top due.root k leaf fresh due.shape (λ n. not_held _ (r.free.leaves n)) (λ n. not_held _ (r.free.inners n)) final r.edits relinks;
+            shape = whole_grown cmp is_summary (λ l. put cmp l k v) old new due.top due.root k leaf fresh due.shape (none_are_held r.free (λ n. (refl, refl))) final r.edits relinks;
             pairs = pairs;
             told = subst (λ l. is_summary a (keys_of l)) (r.edits.pairs ∙ sym pairs) r.told;
           }
       placed_reached new final (Some id) a r relinks =
           let d = r.division in
-          let pairs = split_pairs cmp is_summary (λ l. put cmp l k v) old r.mid due.top due.root k leaf fresh due.shape (λ n. not_held _ (r.free.leaves n)) (λ n. not_held _ (r.free.inners n)) new final d.left d.separator d.node d.right id r.edits r.roots relinks in
-          let same = split_unlinked_pairs cmp is_summary (λ l. put cmp l k v) old r.mid due.top due.root k leaf due.shape (λ n. not_held _ (r.free.leaves n)) (λ n. not_held _ (r.free.inners n)) new (Gains fresh) d.left d.separator d.node d.right id r.edits r.roots in
+          let pairs = split_pairs cmp is_summary (λ l. put cmp l k v) old r.mid due.top due.root k leaf fresh due.shape (none_are_held r.free (λ n. (refl, refl))) new final d.left d.separator d.node d.right id r.edits r.roots relinks in
+          let same = split_unlinked_pairs cmp is_summary (λ l. put cmp l k v) old r.mid due.top due.root k leaf due.shape (none_are_held r.free (λ n. (refl, refl))) new (Gains fresh) d.left d.separator d.node d.right id r.edits r.roots in
           record {
-            shape = whole_split cmp is_summary (λ l. put cmp l k v) old r.mid due.top due.root k leaf fresh due.shape (λ n. not_held _ (r.free.leaves n)) (λ n. not_held _ (r.free.inners n)) new final d.left d.separator d.node d.right id r.edits r.roots relinks r.left r.right;
+            shape = whole_split cmp is_summary (λ l. put cmp l k v) old r.mid due.top due.root k leaf fresh due.shape (none_are_held r.free (λ n. (refl, refl))) new final d.left d.separator d.node d.right id r.edits r.roots relinks r.left r.right;
             pairs = pairs;
             told = subst (λ l. is_summary a (keys_of l)) (same ∙ sym pairs) r.told;
           }

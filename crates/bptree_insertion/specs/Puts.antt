@@ -14,6 +14,7 @@ use Rattle.bptree_keys.specs.declared.node_id.LeafNodeId.{LeafNodeId}
 use Rattle.bptree_keys.specs.declared.node_id.NodeId.{NodeId}
 use Rattle.bptree_keys.specs.declared.node_id.NodeId.TheVariants as kind
 use Rattle.bptree_shape.specs.Path.{Way}
+use Rattle.bptree_stores.specs.Hint.{HoldsKey}
 use Rattle.bptree_shape.specs.Shape.{leaf_pairs, pairs_at, IsWellShaped}
 use Rattle.bptree_insertion.specs.declared.insertion.Put.{Put}
 use Rattle.bptree_insertion.specs.declared.insertion.Put.TheVariants.{Replaced, Added}
@@ -62,6 +63,12 @@ HasRoomFor cmp l k = has cmp l k ≡ false → length l + 1 < 2 ^ 64
 -- every value is a summary of every list of keys
 abbrev pub SaysNothing : {K A : Type 0} → (A → List K → Type 0) → Type 0
 SaysNothing {K} {A} is_summary = (a : A) (keys : List K) → is_summary a keys
+
+-- a leaf holds the key and has room, and no node above it is told of a change
+pub record IsAtHand {K V A : Type 0} (cmp : K → K → Ordering) (is_summary : A → List K → Type 0) (slots : Slots (Inner K A) (Leaf K V)) (k : K) (leaf : LeafNodeId) : Type 0 where
+  pub holds : HoldsKey cmp (slots.leaf leaf.0) k
+  pub few : length (leaf_pairs (slots.leaf leaf.0)) < 64
+  pub any : SaysNothing is_summary
 
 -- the key is one that the right half starts at, where a full leaf of these pairs is cut with a new key at a slot
 abbrev pub SeparatesHalves : {K V : Type 0} → (K → K → Ordering) → List (K × V) → ℕ → K → K → Type 0

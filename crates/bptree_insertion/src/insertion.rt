@@ -5,8 +5,7 @@ ghost use Rattle.bptree_keys.specs.declared.node_id.NodeId.TheVariants as kind;
 ghost use Rattle.bptree_nodes.specs.LeafResults.{HasEqualAt, IsPlaceInLeaf};
 ghost use Rattle.bptree_nodes.specs.Slot.{IsPresent};
 ghost use Rattle.bptree_ascent.specs.LeafChange.{SumsUpLeaf, HasSlotAt, AreHalves, SumsUpLeafAt};
-ghost use Rattle.bptree_insertion.specs.Puts.{IsDue, IsPut, risen, AddsPair, Divides, HasRoomFor, HasValueAt, IsDueBelow, LeftSumsUp, PlacesDue, PlacesDueUpTo, Rejoins, RightSumsUp, SaysNothing, SeparatesHalves, SetsValue, UndoesAdd};
-ghost use Rattle.bptree_stores.specs.Hint.{HoldsKey};
+ghost use Rattle.bptree_insertion.specs.Puts.{IsAtHand, IsDue, IsPut, risen, AddsPair, Divides, HasRoomFor, HasValueAt, IsDueBelow, LeftSumsUp, PlacesDue, PlacesDueUpTo, Rejoins, RightSumsUp, SeparatesHalves, SetsValue, UndoesAdd};
 ghost use Rattle.bptree_shape.specs.Shape.{leaf_pairs, pairs_at, IsWellShaped, LacksKey};
 
 use bptree_arguments::argument::Argument;
@@ -195,36 +194,8 @@ fn undo_split_at<S: NodeStore>(
     pair
 }
 
-// Puts a pair with a new key into the leaf at the end of a path, which is full and is split. It
+// Puts a pair with a new key into the leaf at the end of a path, which is split where it is full. It
 // answers the number of a new root, where the root was split too, and a summary of all keys.
-fn put_and_split<S: NodeStore>(
-    store: &mut S,
-    path: &mut VisitStack,
-    root: NodeId,
-    id: LeafNodeId,
-    slot: usize,
-    key: S::K,
-    value: S::V,
-) -> Result<(Option<InnerNodeId>, S::Argument), (S::K, S::V)>
-    requires due { IsDueBelow S.K.cmp S.Argument.is_summary (S.slots store.old) root path.old id slot key }
-    requires full { length (leaf_pairs ((S.slots store.old).leaf id.0)) ≡ 64 }
-    ensures placed { PlacesDueUpTo S.K.cmp S.Argument.is_summary (S.slots store.old) (S.slots store.new) path.old id slot key value root result }
-    ensures refused { OnErr result (S.slots store.new ≡ S.slots store.old) }
-    ensures handed_back { IfErr result (λ pair. pair ≡ (key, value)) }
-{
-    let next = store.get_leaf(id).next();
-    let (division, fresh) = split_at(store, id, slot, key, value)?;
-    match ascend_split(store, path, root, division) {
-        Ok(top) => {
-            relink_next(store, fresh, next);
-            Ok(top)
-        }
-        Err(_) => Err(undo_split_at(store, id, fresh, slot)),
-    }
-}
-
-// Puts a pair with a new key into the leaf at the end of a path. It answers the number of a new
-// root, where the root was split, and a summary of all keys.
 fn put_new<S: NodeStore>(
     store: &mut S,
     path: &mut VisitStack,
@@ -239,11 +210,20 @@ fn put_new<S: NodeStore>(
     ensures refused { OnErr result (S.slots store.new ≡ S.slots store.old) }
     ensures handed_back { IfErr result (λ pair. pair ≡ (key, value)) }
 {
-    if store.get_leaf(id).is_full() {
-        return put_and_split(store, path, root, id, slot, key, value);
+    let leaf = store.get_leaf(id);
+    if !leaf.is_full() {
+        let summary = put_in_room(store, path, id, slot, key, value)?;
+        return Ok((None, summary));
     }
-    let summary = put_in_room(store, path, id, slot, key, value)?;
-    Ok((None, summary))
+    let next = leaf.next();
+    let (division, fresh) = split_at(store, id, slot, key, value)?;
+    match ascend_split(store, path, root, division) {
+        Ok(top) => {
+            relink_next(store, fresh, next);
+            Ok(top)
+        }
+        Err(_) => Err(undo_split_at(store, id, fresh, slot)),
+    }
 }
 
 // Puts a value in the place of another.
@@ -296,9 +276,7 @@ fn slot_for<K: Key, V: Drop>(leaf: &LeafNode<K, V>, levels: usize, key: &K) -> R
 // change: every value is a summary of every list.
 #[inline(always)]
 fn leaf_at_hand<S: NodeStore>(store: &S, k: &S::K) -> Option<LeafNodeId>
-    ensures holds { IfSome result (λ id. HoldsKey S.K.cmp ((S.slots store.now).leaf id.0) k.now) }
-    ensures room { IfSome result (λ id. length (leaf_pairs ((S.slots store.now).leaf id.0)) < 64) }
-    ensures any { IfSome result (λ _. SaysNothing S.Argument.is_summary) }
+    ensures { IfSome result (IsAtHand S.K.cmp S.Argument.is_summary (S.slots store.now) k.now) }
 {
     if !S::Argument::is_zst() {
         return None;
@@ -310,26 +288,23 @@ fn leaf_at_hand<S: NodeStore>(store: &S, k: &S::K) -> Option<LeafNodeId>
     Some(leaf)
 }
 
-// Puts a pair into a leaf that holds its key and has room, where every value is a summary of every
-// list. No other node is touched.
+// Puts a pair into the leaf at hand. No other node is touched.
 fn put_at_hand<S: NodeStore>(
     store: &mut S,
     root: NodeId,
     height: usize,
     leaf: LeafNodeId,
-    k: S::K,
-    v: S::V,
+    pair: (S::K, S::V),
 ) -> Result<Put<S::V, S::Argument>, (S::K, S::V)>
+    requires at_hand { IsAtHand S.K.cmp S.Argument.is_summary (S.slots store.old) pair.0 leaf }
     requires shape { IsWellShaped S.K.cmp S.Argument.is_summary (S.slots store.old) height root }
-    requires room { HasRoomFor S.K.cmp (pairs_at (S.slots store.old) height root) k }
-    requires holds { HoldsKey S.K.cmp ((S.slots store.old).leaf leaf.0) k }
-    requires few { length (leaf_pairs ((S.slots store.old).leaf leaf.0)) < 64 }
-    requires any { SaysNothing S.Argument.is_summary }
-    ensures put { IfOk result (IsPut S.K.cmp S.Argument.is_summary (S.slots store.old) (S.slots store.new) height root k v) }
+    requires room { HasRoomFor S.K.cmp (pairs_at (S.slots store.old) height root) pair.0 }
+    ensures put { IfOk result (IsPut S.K.cmp S.Argument.is_summary (S.slots store.old) (S.slots store.new) height root pair.0 pair.1) }
     ensures refused { OnErr result (S.slots store.new ≡ S.slots store.old) }
-    ensures handed_back { IfErr result (λ pair. pair ≡ (k, v)) }
-    ensures absent { OnErr result (LacksKey S.K.cmp (S.slots store.old) height root k) }
+    ensures handed_back { IfErr result (λ back. back ≡ pair) }
+    ensures absent { OnErr result (LacksKey S.K.cmp (S.slots store.old) height root pair.0) }
 {
+    let (k, v) = pair;
     let found = slot_for(store.get_leaf(leaf), 0, &k);
     match found {
         Ok(place) => Ok(Put::Replaced(replace_at(store, leaf, place, v))),
@@ -364,7 +339,7 @@ pub fn upsert<S: NodeStore>(
     ensures absent { OnErr result (LacksKey S.K.cmp (S.slots store.old) height root k) }
 {
     if let Some(leaf) = leaf_at_hand(store, &k) {
-        return put_at_hand(store, root, height, leaf, k, v);
+        return put_at_hand(store, root, height, leaf, (k, v));
     }
     path.clear();
     let leaf = find_path(store, root, height, &k, path);

@@ -1,5 +1,5 @@
 -- The children of a node, their sizes, and which sibling is chosen for one that underflows.
-use Rattle.std.proofs.Common.{◌≡◌, ℕ, zero, suc, ◌+◌, ◌<◌, ◌≤◌, inl, inr, ◌⊎◌, List, [], ◌∷◌, length, get_or, refl, ap, sym, arith, Option, Some, None, slice_get, subst}
+use Rattle.std.proofs.Common.{◌≡◌, ℕ, zero, suc, ◌+◌, ◌<◌, ◌≤◌, inl, inr, ◌⊎◌, List, [], ◌∷◌, length, get_or, refl, ap, sym, arith, Option, Some, None, IsSome, slice_get, subst}
 use Rattle.std.specs.declared.cmp.Ordering.{Ordering}
 use Rattle.std.specs.List.{AllByRecursion, insert}
 use Rattle.bptree_nodes.specs.Inner.{Inner}
@@ -7,6 +7,7 @@ use Rattle.bptree_nodes.specs.Leaf.{Leaf}
 use Rattle.bptree_nodes.specs.Slot.{Slots, Present}
 use Rattle.bptree_shape.specs.Shape.{inner_children}
 use Rattle.bptree_shape.proofs.ListReads.{all_read}
+use Rattle.bptree_keys.specs.Numbers.{inner_number, leaf_number}
 use Rattle.bptree_keys.specs.declared.node_id.InnerNodeId.{InnerNodeId}
 use Rattle.bptree_keys.specs.declared.node_id.NodeId.{NodeId}
 use Rattle.bptree_keys.specs.declared.node_id.NodeId.TheVariants as kind
@@ -40,6 +41,15 @@ module _ {K V A : Type 0} (slots : Slots (Inner K A) (Leaf K V)) where
 
     pub size_there : (child : NodeId) → slice_get node.children place ≡ Some child → node_size slots child ≡ size_below slots id place
     size_there child read = sym (size_read (inner_children (slots.inner id.0)) place child (rw here read))
+
+  -- the numbers of inner nodes, and of leaves, tell that they are
+  pub inner_numbered : (c : NodeId) → IsInnerAt slots c → IsSome (inner_number c)
+  inner_numbered (kind.Leaf id) there = absurd there
+  inner_numbered (kind.Inner id) there = refl
+
+  pub leaf_numbered : (c : NodeId) → IsLeafAt slots c → IsSome (leaf_number c)
+  leaf_numbered (kind.Leaf id) there = refl
+  leaf_numbered (kind.Inner id) there = absurd there
 
   leaf_is_node : (c : NodeId) → IsLeafAt slots c → IsNodeAt slots c
   leaf_is_node (kind.Leaf id) there = there

@@ -30,7 +30,7 @@ use Rattle.bptree_rebalancing.specs.Trim.{ClimbsUnderflow, Sunk, LeafUnderflow, 
 use Rattle.bptree_rebalancing.specs.declared.rotate_merge.Joint.{Joint}
 use Rattle.bptree_rebalancing.specs.declared.rotate_merge.Sibling.{Sibling}
 use Rattle.bptree_shape.proofs.Agreeing.{stands_le}
-use Rattle.bptree_ascent.proofs.Climbing.{climb_on, told_up, least_most, not_held, held_is}
+use Rattle.bptree_ascent.proofs.Climbing.{climb_on, told_up, least_most, none_are_held, not_held, held_is}
 use Rattle.bptree_shape.proofs.Frame.{Same, same}
 use Rattle.bptree_rebalancing.proofs.Choosing.{inserted_is, before_is, most_so}
 use Rattle.bptree_shape.proofs.Hinted.{count_of, count_leaves, first_or, linked_next}
@@ -261,6 +261,9 @@ module _ {K V A : Type 0} {cmp : K → K → Ordering} (total' : IsTotalOrder cm
                   | inr far ↦ not_held (new.leaf n) (sunk.free.leaves n ∙ rw far.0 (c.none_held n).1) (sym (frees.leaf.others n (λ z. far.1 (sym z))) ∙ h)
                 ]
 
+            free_inner : (n : ℕ) → final.inner n ≡ Held → ⊥
+            free_inner n held = not_held (new.inner n) (sunk.free.inners n ∙ (c.none_held n).0) (sym (mid_inner n) ∙ (sym (relinked_inner mid final left next rebalances n) ∙ held))
+
             linked : AreLinked final None (first ++ left ∷ later) None
             linked =
                 linked_closed c.climb.old mid final first left right later untouched (rw (frees.leaf.others left.0 j.three.apart) edits.links) unique present
@@ -269,12 +272,13 @@ module _ {K V A : Type 0} {cmp : K → K → Ordering} (total' : IsTotalOrder cm
             pub trims_merged : Trims c.climb final top
             trims_merged = record {
               loose = record {
-                tree = relinked.tree 0 None None (freed.tree 0 None None (edits.tree 0 None None (omega arith) (tree_less cmp c.climb.old (root_least c.climb.top) 0 c.climb.top c.climb.root None None (omega arith) c.climb.shape.tree) (tt, tt)));
-                leaves = λ n. omega (arith, relinked.leaves n, freed.leaves n, counts n, mid_stands n, (relinked_pairs mid final left next rebalances n).stands);
-                inners = λ n. omega (arith, relinked.inners n, freed.inners n, inner_counts n, ap stands (mid_inner n), ap stands (relinked_inner mid final left next rebalances n));
-                no_leaf_held = free_leaf;
-                no_inner_held = λ n held. not_held (new.inner n) (sunk.free.inners n ∙ (c.none_held n).0) (sym (mid_inner n) ∙ (sym (relinked_inner mid final left next rebalances n) ∙ held));
-                summed = relinked.summed (freed.summed (edits.summed c.climb.shape.summed));
+                nodes = record {
+                  tree = relinked.tree 0 None None (freed.tree 0 None None (edits.tree 0 None None (omega arith) (tree_less cmp c.climb.old (root_least c.climb.top) 0 c.climb.top c.climb.root None None (omega arith) c.climb.shape.tree) (tt, tt)));
+                  leaves = λ n. omega (arith, relinked.leaves n, freed.leaves n, counts n, mid_stands n, (relinked_pairs mid final left next rebalances n).stands);
+                  inners = λ n. omega (arith, relinked.inners n, freed.inners n, inner_counts n, ap stands (mid_inner n), ap stands (relinked_inner mid final left next rebalances n));
+                  none_held = record { inners = free_inner; leaves = free_leaf };
+                  summed = relinked.summed (freed.summed (edits.summed c.climb.shape.summed));
+                };
                 linked = subst (λ ids. AreLinked final None ids None) (sym (relinked.order ∙ (freed.order ∙ edits.order.is))) linked;
               };
               pairs = relinked.pairs ∙ (freed.pairs ∙ edits.pairs);
@@ -370,7 +374,7 @@ module _ {K V A : Type 0} {cmp : K → K → Ordering} (total' : IsTotalOrder cm
       pub trims_rotated : (above : A) (sums : SumsUpAt cmp is_summary (after.inner number.0) above) (new : Slots (Inner K A) (Leaf K V)) (top : A) → Risen (rotated_climbs above sums).climb new top → Trims c.climb new top
       trims_rotated above sums new top r = record {
         loose = loose_of cmp is_summary new c.climb.top c.climb.root
-            (whole_done cmp is_summary c.climb.edit c.climb.old new c.climb.top c.climb.root c.climb.k left c.climb.shape (λ n. not_held (new.leaf n) (r.free.leaves n ∙ (c.none_held n).1)) (λ n. not_held (new.inner n) (r.free.inners n ∙ (c.none_held n).0)) r.edits);
+            (whole_done cmp is_summary c.climb.edit c.climb.old new c.climb.top c.climb.root c.climb.k left c.climb.shape (none_are_held r.free c.none_held) r.edits);
         pairs = r.edits.pairs;
         told = r.told;
       }

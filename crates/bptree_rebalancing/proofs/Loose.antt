@@ -11,11 +11,12 @@ use Rattle.bptree_shape.proofs.Widen.{tree_less}
 
 pub loose_of : {K V A : Type 0} (cmp : K → K → Ordering) (is_summary : A → List K → Type 0) (slots : Slots (Inner K A) (Leaf K V)) (h : ℕ) (root : NodeId) → IsWellShaped cmp is_summary slots h root → IsLoose cmp is_summary slots h root
 loose_of cmp is_summary slots h root w = record {
-  tree = tree_less cmp slots (root_least h) 0 h root _ _ (omega arith) w.tree;
-  leaves = w.leaves;
-  inners = w.inners;
-  no_leaf_held = w.no_leaf_held;
-  no_inner_held = w.no_inner_held;
-  summed = w.summed;
+  nodes = record {
+    tree = tree_less cmp slots (root_least h) 0 h root _ _ (omega arith) w.tree;
+    leaves = w.leaves;
+    inners = w.inners;
+    none_held = record { inners = w.no_inner_held; leaves = w.no_leaf_held };
+    summed = w.summed;
+  };
   linked = w.linked;
 }

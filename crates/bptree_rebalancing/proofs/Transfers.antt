@@ -144,7 +144,7 @@ module _ {K A : Type 0} where
       → slot ≤ length w.keys → suc slot ≤ length w.children → suc slot ≤ length w.arguments → (taken ≡ w) × (◌≡◌ {A = K × NodeId × A} (out_s, out_child, out_a) (key, c, x)))
       (got : slice_get taken.arguments slot ≡ Some out) (put : set ≡ record taken { arguments = slice_set taken.arguments slot before }) where
     rotated_back : (set ≡ bare) × (◌≡◌ {A = Division K A} (record { left = out; separator = out_s; node = out_child; right = out_a }) (record { left = rotates.left; separator = rotates.separator; node = child; right = rotates.right }))
-    rotated_back = entry_back bare now taken set slot before out out_a out_s out_child (record { left = rotates.left; separator = rotates.separator; node = child; right = rotates.right }) entry.place rotates.summary rotates.is undoes got put
+    rotated_back = entry_back bare now taken set slot before (out_s, out_child, out_a) (record { left = out; separator = out_s; node = out_child; right = out_a }) (record { left = rotates.left; separator = rotates.separator; node = child; right = rotates.right }) entry.place rotates.summary rotates.is undoes got put refl
 
     pub rotated_separator : out_s ≡ rotates.separator
     rotated_separator = ap (λ (d : Division K A). d.separator) rotated_back.1

@@ -69,6 +69,10 @@ module _ {K V A : Type 0} (slots : Slots (Inner K A) (Leaf K V)) where
   abbrev pub HasOneChildMore : InnerNodeId → Type 0
   HasOneChildMore id = length (inner_children (slots.inner id.0)) ≡ length (inner_keys (slots.inner id.0)) + 1
 
+  -- it has a child at a place, and at most 65 of them
+  abbrev pub HasPlaceBelow : InnerNodeId → ℕ → Type 0
+  HasPlaceBelow id place = IsPresent (slots.inner id.0) × (place < length (inner_children (slots.inner id.0))) × (length (inner_children (slots.inner id.0)) ≤ 65)
+
   -- its child at a place, and how many keys or pairs that has; 0 past the end
   abbrev pub HasChild : InnerNodeId → ℕ → NodeId → Type 0
   HasChild id place child = slice_get (inner_children (slots.inner id.0)) place ≡ Some child

@@ -4,14 +4,14 @@ use Rattle.std.specs.declared.cmp.Ordering.{Ordering}
 use Rattle.std.specs.Map.{keys_of}
 use Rattle.bptree_nodes.specs.Inner.{Inner}
 use Rattle.bptree_nodes.specs.Leaf.{Leaf}
-use Rattle.bptree_nodes.specs.Slot.{Slots, Held}
+use Rattle.bptree_nodes.specs.Slot.{Slots}
 use Rattle.bptree_keys.specs.declared.node_id.InnerNodeId.{InnerNodeId}
 use Rattle.bptree_keys.specs.declared.node_id.NodeId.{NodeId}
 use Rattle.bptree_keys.specs.declared.node_id.NodeId.TheVariants as kind
-use Rattle.bptree_ascent.specs.Climb.{HeldAre, least_at, Climb}
+use Rattle.bptree_ascent.specs.Climb.{HeldAre, IsUnlinked, least_at, Climb}
 use Rattle.bptree_shape.specs.Edit.{Stays, Edits}
 use Rattle.bptree_shape.specs.Outcome.{Outcome, Done}
-use Rattle.bptree_shape.specs.Shape.{pairs_at, leaves_at, leaf_count, inner_count, stands, AreLinked, IsSummed, IsTree}
+use Rattle.bptree_shape.specs.Shape.{pairs_at, leaves_at, AreLinked}
 
 -- an edit was carried to an inner node that may have underflowed
 pub record ClimbsUnderflow {K V A : Type 0} (cmp : K → K → Ordering) (is_summary : A → List K → Type 0) (now : Slots (Inner K A) (Leaf K V)) (path : List (InnerNodeId × ℕ × NodeId)) (id : InnerNodeId) (a : A) : Type 0 where
@@ -38,12 +38,7 @@ pub record LeafUnderflow {K V A : Type 0} (cmp : K → K → Ordering) (is_summa
 
 -- all that a right tree is, but that the root may have no key
 pub record IsLoose {K V A : Type 0} (cmp : K → K → Ordering) (is_summary : A → List K → Type 0) (slots : Slots (Inner K A) (Leaf K V)) (height : ℕ) (root : NodeId) : Type 0 where
-  pub tree : IsTree cmp slots 0 height root None None
-  pub leaves : (n : ℕ) → leaf_count slots height root n ≡ stands (slots.leaf n)
-  pub inners : (n : ℕ) → inner_count slots height root n ≡ stands (slots.inner n)
-  pub no_leaf_held : (n : ℕ) → slots.leaf n ≡ Held → ⊥
-  pub no_inner_held : (n : ℕ) → slots.inner n ≡ Held → ⊥
-  pub summed : IsSummed slots is_summary height root
+  pub nodes : IsUnlinked cmp is_summary slots 0 height root
   pub linked : AreLinked slots None (leaves_at slots height root) None
 
 -- the whole tree was edited, and its root may have no key

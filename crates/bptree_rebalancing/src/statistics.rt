@@ -32,22 +32,25 @@ impl Statistic {
     /// Counts a leaf that was rebalanced: which sibling gave a pair, or else, for a merge, whether
     /// the leaf that underflowed was the right one of the two.
     pub fn count_leaf(&mut self, giver: Option<Sibling>, is_right: bool) {
-        let counter = match giver {
-            Some(Sibling::Left) => &mut self.rotate_right_leaf,
-            Some(Sibling::Right) => &mut self.rotate_left_leaf,
-            None if is_right => &mut self.merge_with_left_leaf,
-            None => &mut self.merge_with_right_leaf,
-        };
-        *counter = counter.saturating_add(1);
+        self.count(true, giver, is_right);
     }
 
     /// Counts an inner node that was rebalanced, in the same way.
     pub fn count_inner(&mut self, giver: Option<Sibling>, is_right: bool) {
-        let counter = match giver {
-            Some(Sibling::Left) => &mut self.rotate_right_inner,
-            Some(Sibling::Right) => &mut self.rotate_left_inner,
-            None if is_right => &mut self.merge_with_left_inner,
-            None => &mut self.merge_with_right_inner,
+        self.count(false, giver, is_right);
+    }
+
+    // Raises the counter of one of the eight ways.
+    fn count(&mut self, is_leaf: bool, giver: Option<Sibling>, is_right: bool) {
+        let counter = match (is_leaf, giver) {
+            (true, Some(Sibling::Left)) => &mut self.rotate_right_leaf,
+            (true, Some(Sibling::Right)) => &mut self.rotate_left_leaf,
+            (true, None) if is_right => &mut self.merge_with_left_leaf,
+            (true, None) => &mut self.merge_with_right_leaf,
+            (false, Some(Sibling::Left)) => &mut self.rotate_right_inner,
+            (false, Some(Sibling::Right)) => &mut self.rotate_left_inner,
+            (false, None) if is_right => &mut self.merge_with_left_inner,
+            (false, None) => &mut self.merge_with_right_inner,
         };
         *counter = counter.saturating_add(1);
     }

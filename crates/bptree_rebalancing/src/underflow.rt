@@ -1,11 +1,10 @@
 //! Underflow in a tree that stands in a store: which sibling a node rotates or merges with, and
 //! inner nodes that are rebalanced up the path.
-ghost use Rattle.std.specs.Prelude.{◌≡◌, ◌<◌, ◌≤◌, ◌+◌, IfOk, OnErr, IsTrue, length};
+ghost use Rattle.std.specs.Prelude.{◌≡◌, ◌<◌, ◌+◌, IfOk, OnErr, IsTrue};
 ghost use Rattle.bptree_keys.specs.declared.node_id.NodeId.TheVariants as kind;
 ghost use Rattle.bptree_nodes.specs.Slot.{IsPresent};
 ghost use Rattle.bptree_ascent.specs.Climb.{Climbs, Risen};
-ghost use Rattle.bptree_rebalancing.specs.ChooseSibling.{ChosenSibling, ChoosesSibling, HasChild, HasOneChildMore, InnersBelow, LeavesBelow, NodesBelow, size_below};
-ghost use Rattle.bptree_shape.specs.Shape.{inner_children};
+ghost use Rattle.bptree_rebalancing.specs.ChooseSibling.{ChosenSibling, ChoosesSibling, HasChild, HasOneChildMore, HasPlaceBelow, InnersBelow, LeavesBelow, NodesBelow, size_below};
 ghost use Rattle.bptree_rebalancing.specs.Trim.{ClimbsUnderflow, Sunk};
 
 use crate::rotate_merge::Sibling;
@@ -21,10 +20,13 @@ use bptree_nodes::leaf_node::LEAF_MINIMUM;
 use bptree_stores::node_stores::NodeStore;
 use std::alloc::AllocError;
 
-// The slot of the separator between a child that underflows and its sibling, and which sibling
-// gives, where one can; else the two merge. `gives` is whether the sibling before it gives, and
-// `after` how many the one behind it has, or 0 where none stands.
-fn choose_sibling(place: usize, gives: bool, after: usize) -> (usize, Option<Sibling>)
+/// The slot of the separator between a child that underflows and its sibling, and which of the two
+/// gives, where one can; else they merge.
+pub type SiblingChoice = (usize, Option<Sibling>);
+
+// What is chosen for a child at a place. `gives` is whether the sibling before it gives, and `after`
+// how many the one behind it has, or 0 where none stands.
+fn choose_sibling(place: usize, gives: bool, after: usize) -> SiblingChoice
     requires { IsTrue gives → 0 < place }
     ensures { ChosenSibling place gives after result.0 result.1 }
 {
@@ -57,20 +59,12 @@ fn child_len<S: NodeStore>(store: &S, id: InnerNodeId, place: usize) -> usize
     }
 }
 
-// Which sibling the child at a place of a node rotates or merges with, and the slot of the
-// separator between the two. The one before it gives where it can, and of leaves also has more than
-// the one behind.
-fn sibling<S: NodeStore>(
-    store: &S,
-    id: InnerNodeId,
-    place: usize,
-    leaves: bool,
-) -> (usize, Option<Sibling>)
-    requires present { IsPresent ((S.slots store.now).inner id.0) }
+// Which sibling the child at a place of a node rotates or merges with. The one before it gives where
+// it can, and of leaves also has more than the one behind.
+fn sibling<S: NodeStore>(store: &S, id: InnerNodeId, place: usize, leaves: bool) -> SiblingChoice
     requires children { NodesBelow (S.slots store.now) id }
     requires long { HasOneChildMore (S.slots store.now) id }
-    requires place { place < length (inner_children ((S.slots store.now).inner id.0)) }
-    requires fits { length (inner_children ((S.slots store.now).inner id.0)) ≤ 65 }
+    requires place { HasPlaceBelow (S.slots store.now) id place }
     ensures { ChoosesSibling (size_below (S.slots store.now) id) place result.0 result.1 }
 {
     let after = child_len(store, id, place + 1);
@@ -86,18 +80,11 @@ fn sibling<S: NodeStore>(
     choose_sibling(place, gives, after)
 }
 
-/// Which sibling the leaf at a place of a node rotates or merges with, and the slot of the
-/// separator between the two.
-pub fn leaf_sibling<S: NodeStore>(
-    store: &S,
-    id: InnerNodeId,
-    place: usize,
-) -> (usize, Option<Sibling>)
-    requires present { IsPresent ((S.slots store.now).inner id.0) }
+/// Which sibling the leaf at a place of a node rotates or merges with.
+pub fn leaf_sibling<S: NodeStore>(store: &S, id: InnerNodeId, place: usize) -> SiblingChoice
     requires children { LeavesBelow (S.slots store.now) id }
     requires long { HasOneChildMore (S.slots store.now) id }
-    requires place { place < length (inner_children ((S.slots store.now).inner id.0)) }
-    requires fits { length (inner_children ((S.slots store.now).inner id.0)) ≤ 65 }
+    requires place { HasPlaceBelow (S.slots store.now) id place }
     ensures { ChoosesSibling (size_below (S.slots store.now) id) place result.0 result.1 }
 {
     sibling(store, id, place, true)
@@ -175,23 +162,17 @@ pub fn ascend_underflow<S: NodeStore>(
 
 // The inner node at a place of a node.
 fn inner_at<S: NodeStore>(store: &S, id: InnerNodeId, place: usize) -> InnerNodeId
-    requires present { IsPresent ((S.slots store.now).inner id.0) }
     requires children { InnersBelow (S.slots store.now) id }
-    requires place { place < length (inner_children ((S.slots store.now).inner id.0)) }
+    requires place { HasPlaceBelow (S.slots store.now) id place }
     ensures { HasChild (S.slots store.now) id place (kind.Inner result) }
 {
-    match store.get_inner(id).child_id(place) {
-        NodeId::Inner(child) => child,
-        NodeId::Leaf(_) => unreachable!(),
-    }
+    store.get_inner(id).child_id(place).inner_id_unchecked()
 }
 
 // The two inner nodes on both sides of a separator.
 fn inners_at<S: NodeStore>(store: &S, id: InnerNodeId, slot: usize) -> (InnerNodeId, InnerNodeId)
-    requires present { IsPresent ((S.slots store.now).inner id.0) }
     requires children { InnersBelow (S.slots store.now) id }
-    requires fits { length (inner_children ((S.slots store.now).inner id.0)) ≤ 65 }
-    requires slot { slot + 1 < length (inner_children ((S.slots store.now).inner id.0)) }
+    requires slot { HasPlaceBelow (S.slots store.now) id (slot + 1) }
     ensures left { HasChild (S.slots store.now) id slot (kind.Inner result.0) }
     ensures right { HasChild (S.slots store.now) id (slot + 1) (kind.Inner result.1) }
 {
@@ -200,23 +181,17 @@ fn inners_at<S: NodeStore>(store: &S, id: InnerNodeId, slot: usize) -> (InnerNod
 
 // The leaf at a place of a node.
 fn leaf_at<S: NodeStore>(store: &S, id: InnerNodeId, place: usize) -> LeafNodeId
-    requires present { IsPresent ((S.slots store.now).inner id.0) }
     requires children { LeavesBelow (S.slots store.now) id }
-    requires place { place < length (inner_children ((S.slots store.now).inner id.0)) }
+    requires place { HasPlaceBelow (S.slots store.now) id place }
     ensures { HasChild (S.slots store.now) id place (kind.Leaf result) }
 {
-    match store.get_inner(id).child_id(place) {
-        NodeId::Leaf(child) => child,
-        NodeId::Inner(_) => unreachable!(),
-    }
+    store.get_inner(id).child_id(place).leaf_id_unchecked()
 }
 
 /// The two leaves on both sides of a separator.
 pub fn leaves_at<S: NodeStore>(store: &S, id: InnerNodeId, slot: usize) -> (LeafNodeId, LeafNodeId)
-    requires present { IsPresent ((S.slots store.now).inner id.0) }
     requires children { LeavesBelow (S.slots store.now) id }
-    requires fits { length (inner_children ((S.slots store.now).inner id.0)) ≤ 65 }
-    requires slot { slot + 1 < length (inner_children ((S.slots store.now).inner id.0)) }
+    requires slot { HasPlaceBelow (S.slots store.now) id (slot + 1) }
     ensures left { HasChild (S.slots store.now) id slot (kind.Leaf result.0) }
     ensures right { HasChild (S.slots store.now) id (slot + 1) (kind.Leaf result.1) }
 {

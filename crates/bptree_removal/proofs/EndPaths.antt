@@ -1,9 +1,10 @@
 -- A way down to an end leads a search for any key of its leaf there, and a pair that is taken there is the first or the last.
-use Rattle.std.proofs.Common.{◌≡◌, ℕ, ◌-◌, ◌<◌, ◌^◌, List, [], ◌∷◌, ◌++◌, length, refl, sym, ap, ◌∙◌, arith, None, Some, slice_get}
+use Rattle.std.proofs.Common.{◌≡◌, ℕ, ◌+◌, ◌-◌, ◌<◌, ◌^◌, List, [], ◌∷◌, ◌++◌, length, refl, sym, ap, subst, ◌∙◌, arith, None, Some, slice_get}
 use Rattle.std.specs.Prelude.{Bool, true, false, cond}
 use Rattle.std.specs.declared.cmp.Ordering.{Ordering}
 use Rattle.std.specs.declared.cmp.Ordering.TheVariants.{Equal}
 use Rattle.std.specs.Cmp.{IsTotalOrder}
+use Rattle.std.specs.Map.{keys_of}
 use Rattle.bptree_keys.specs.Contents.{IsAscending}
 use Rattle.bptree_keys.specs.declared.node_id.InnerNodeId.{InnerNodeId}
 use Rattle.bptree_keys.specs.declared.node_id.LeafNodeId.{LeafNodeId}
@@ -12,14 +13,14 @@ use Rattle.bptree_keys.specs.declared.node_id.NodeId.TheVariants as kind
 use Rattle.bptree_nodes.specs.Inner.{Inner}
 use Rattle.bptree_nodes.specs.Leaf.{Leaf}
 use Rattle.bptree_nodes.specs.Slot.{Slots, Present}
-use Rattle.bptree_shape.specs.Leaves.{StandsIn}
+use Rattle.bptree_shape.specs.Leaves.{StandsIn, pairs_of}
 use Rattle.bptree_shape.specs.Shape.{leaf_pairs, pairs_at, root_least, IsWellShaped}
 use Rattle.bptree_shape.proofs.ListReads.{read_below, read_some}
 use Rattle.bptree_shape.proofs.Walk.{tree_ascends}
 use Rattle.bptree_descents.specs.ByArgument.{IsSubtree, GoesOn}
-use Rattle.bptree_descents.proofs.Selected.{goes_on}
+use Rattle.bptree_descents.proofs.Selected.{goes_on, place_read}
 use Rattle.bptree_removal.proofs.Deleted.{alike, deleted_by}
-use Rattle.bptree_removal.specs.Removal.{IsThere, IsFound, IsTakenFrom, IsTakenAt, LeadsOn}
+use Rattle.bptree_removal.specs.Removal.{IsThere, Leaves, IsFound, IsEntryAt, IsTakenFrom, IsTakenAt, IsEntryTaken, LeadsOn}
 
 module _ {K V A : Type 0} {cmp : K → K → Ordering} (total : IsTotalOrder cmp) (is_summary : A → List K → Type 0) (slots : Slots (Inner K A) (Leaf K V)) where
   -- with the entry for the child, a search goes on from the node
@@ -44,6 +45,27 @@ module _ {K V A : Type 0} {cmp : K → K → Ordering} (total : IsTotalOrder cmp
     pairs = taken.pairs ∙ sym (deleted_by total (pairs_at old h root) place pair k sorted was equal);
     told = taken.told;
   }
+
+-- a pair left its leaf, and then the root gave way
+pub taken_from : {K V A : Type 0} {cmp : K → K → Ordering} (is_summary : A → List K → Type 0) (old mid new : Slots (Inner K A) (Leaf K V)) (h : ℕ) (root : NodeId) (leaf : LeafNodeId) (slot : ℕ) (k : K) (pair : K × V) (top : NodeId) (top_height : ℕ) (a : A)
+    → Leaves cmp is_summary old mid h root leaf slot k pair a → IsWellShaped cmp is_summary new top_height top → pairs_at new top_height top ≡ pairs_at mid h root → IsTakenFrom cmp is_summary old new h root leaf slot k pair top top_height a
+taken_from is_summary old mid new h root leaf slot k pair top top_height a gone shape pairs = record {
+  pair_was = gone.pair_was;
+  shape = shape;
+  pairs = pairs ∙ gone.pairs;
+  told = subst (λ l. is_summary a (keys_of l)) (sym pairs) gone.told;
+}
+
+-- with a key that no other leaf can hold
+pub entry_taken : {K V A : Type 0} {cmp : K → K → Ordering} (total : IsTotalOrder cmp) (is_summary : A → List K → Type 0) (old new : Slots (Inner K A) (Leaf K V)) (h : ℕ) (root : NodeId) (path : List (InnerNodeId × ℕ × NodeId)) (leaf : LeafNodeId) (slot : ℕ) (k : K) (pair : K × V) (top : NodeId) (top_height : ℕ) (a : A)
+    → IsEntryAt cmp is_summary old h root path leaf slot k → IsTakenFrom cmp is_summary old new h root leaf slot k pair top top_height a → IsEntryTaken cmp is_summary old new h root k pair top top_height a
+entry_taken {cmp = cmp} total is_summary old new h root path leaf slot k pair top top_height a at taken =
+    let place = length (pairs_of old at.1.stands.before) + slot in
+    let equal : cmp pair.0 k ≡ Equal = rw taken.pair_was at at.0.found in (
+      place,
+      equal,
+      taken_at total is_summary old new h root at.0.shape leaf slot k pair top top_height a place taken equal (place_read old h root leaf at.1.stands slot pair taken.pair_was),
+    )
 
 -- a place within a list, and the ends of an empty one
 pub none_here : {X : Type 0} (xs : List X) (i : ℕ) → length xs ≡ 0 → slice_get xs i ≡ None

@@ -34,13 +34,13 @@ module _ {K V A : Type 0} {cmp : K → K → Ordering} {is_summary : A → List 
     only : (node.children ≡ child ∷ []) × IsTree cmp old 16 m child None None
     only =
         only_child cmp (IsTree cmp old 16 m) node.keys node.children child None None none read
-        (subst (λ (x : Slot (Inner K A)). Chain cmp (IsTree cmp old 16 m) (inner_keys x) (inner_children x) None None) here loose.tree.1)
+        (subst (λ (x : Slot (Inner K A)). Chain cmp (IsTree cmp old 16 m) (inner_keys x) (inner_children x) None None) here loose.nodes.tree.1)
 
     children : inner_children (old.inner id.0) ≡ child ∷ []
     children = ap inner_children here ∙ only.0
 
     count : (n : ℕ) → cond (eqb id.0 n) 1 0 + inner_count old m child n ≡ stands (old.inner n)
-    count n = let z = rw children at (loose.inners n) in omega (arith, z)
+    count n = let z = rw children at (loose.nodes.inners n) in omega (arith, z)
 
     leaf_at : (n : ℕ) → new.leaf n ≡ old.leaf n
     leaf_at n = ap (λ (f : ℕ → Slot (Leaf K V)). f n) leaf
@@ -70,16 +70,16 @@ module _ {K V A : Type 0} {cmp : K → K → Ordering} {is_summary : A → List 
     pub shrunk_root_shape : IsWellShaped cmp is_summary new m child
     shrunk_root_shape = record {
       tree = there.tree (root_least m) None None (tree_less cmp old 16 (root_least m) m child None None (least_low m) only.1);
-      leaves = λ n. let z = rw children at (loose.leaves n) in omega (arith, z, there.leaves n, ap stands (leaf_at n));
+      leaves = λ n. let z = rw children at (loose.nodes.leaves n) in omega (arith, z, there.leaves n, ap stands (leaf_at n));
       inners = inner_now;
-      no_leaf_held = λ n h. loose.no_leaf_held n (sym (leaf_at n) ∙ h);
-      no_inner_held = λ n h. elim (cases_eq n id.0) [ inl e ↦ (let z : Free ≡ Held = sym gone ∙ (ap new.inner (sym e) ∙ h) in cc) | inr apart ↦ loose.no_inner_held n (sym (others n apart) ∙ h) ];
-      summed = there.summed (let z = rw children at loose.summed in z.1.0);
+      no_leaf_held = λ n h. loose.nodes.none_held.leaves n (sym (leaf_at n) ∙ h);
+      no_inner_held = λ n h. elim (cases_eq n id.0) [ inl e ↦ (let z : Free ≡ Held = sym gone ∙ (ap new.inner (sym e) ∙ h) in cc) | inr apart ↦ loose.nodes.none_held.inners n (sym (others n apart) ∙ h) ];
+      summed = there.summed (let z = rw children at loose.nodes.summed in z.1.0);
       linked = rw order (linked_same old new None (leaves_at old (suc m) (kind.Inner id)) None (each_counted (SameLinks old new) (leaves_at old (suc m) (kind.Inner id)) (λ l some. same_links old new l (leaf_at l.0))) loose.linked);
     }
 
   at_height : (h : ℕ) → IsLoose cmp is_summary old h (kind.Inner id) → IsWellShaped cmp is_summary new (h - 1) child × (pairs_at new (h - 1) child ≡ pairs_at old h (kind.Inner id))
-  at_height zero loose = absurd loose.tree
+  at_height zero loose = absurd loose.nodes.tree
   at_height (suc m) loose =
       let down : m ≡ suc m - 1 = omega arith in
       (subst (λ n. IsWellShaped cmp is_summary new n child) down (shrunk_root_shape m loose), subst (λ n. pairs_at new n child ≡ pairs_at old (suc m) (kind.Inner id)) down (shrunk_root_pairs m loose))

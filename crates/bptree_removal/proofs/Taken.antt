@@ -1,5 +1,5 @@
 -- A pair is taken out of the leaf at the end of a path.
-use Rattle.std.proofs.Common.{◌≡◌, ℕ, ◌+◌, ◌≤◌, List, length, sym, ap, subst, arith, Some, slice_get}
+use Rattle.std.proofs.Common.{◌≡◌, ℕ, ◌+◌, ◌≤◌, List, length, refl, sym, ap, subst, arith, Some, slice_get}
 use Rattle.std.specs.declared.cmp.Ordering.{Ordering}
 use Rattle.std.specs.Cmp.{IsTotalOrder}
 use Rattle.std.specs.List.{remove}
@@ -17,12 +17,12 @@ use Rattle.bptree_keys.specs.declared.node_id.LeafNodeId.{LeafNodeId}
 use Rattle.bptree_keys.specs.declared.node_id.NodeId.{NodeId}
 use Rattle.bptree_keys.specs.declared.node_id.NodeId.TheVariants as kind
 use Rattle.bptree_ascent.specs.Climb.{Climb, Risen, StaysFew}
-use Rattle.bptree_shape.specs.Edit.{CanReach, Stays, Edits}
+use Rattle.bptree_shape.specs.Edit.{Stays, Edits}
 use Rattle.bptree_shape.specs.Outcome.{Done}
 use Rattle.bptree_shape.specs.Shape.{leaf_pairs, pairs_at}
 use Rattle.bptree_removal.specs.Removal.{IsThere, Leaves}
-use Rattle.bptree_ascent.proofs.Climbing.{not_held}
-use Rattle.bptree_ascent.proofs.LeafClimb.{none_held, leaf_reached, climb_from}
+use Rattle.bptree_ascent.proofs.Climbing.{none_are_held}
+use Rattle.bptree_ascent.proofs.LeafClimb.{none_held, leaf_stands, leaf_ascends, leaf_fits, climb_from}
 use Rattle.bptree_rebalancing.proofs.Loose.{loose_of}
 use Rattle.bptree_removal.proofs.RemovedLeaf.{del_is_local, leaf_removed}
 use Rattle.bptree_ascent.proofs.Rooted.{whole_done}
@@ -30,18 +30,15 @@ use Rattle.bptree_shape.proofs.ListReads.{read_below}
 
 module _ {K V A : Type 0} {cmp : K → K → Ordering} (total : IsTotalOrder cmp) (is_summary : A → List K → Type 0) (old : Slots (Inner K A) (Leaf K V)) (path : List (InnerNodeId × ℕ × NodeId)) (leaf : LeafNodeId) (slot : ℕ) (k : K)
     (there : IsThere cmp is_summary old path leaf slot k) where
-  can : CanReach cmp old 0 (kind.Leaf leaf) k
-  can = leaf_reached is_summary old path leaf k there.top there.root there.shape there.way
-
   pub leaf_there : IsPresent (old.leaf leaf.0)
-  leaf_there = can.tree.0
+  leaf_there = leaf_stands is_summary old path leaf k there.top there.root there.shape there.way
 
   module _ (node : Leaf K V) (here : old.leaf leaf.0 ≡ Present node) (pair : K × V) (read : slice_get node.pairs slot ≡ Some pair) where
     pub sorted_here : IsAscending cmp node.pairs
-    sorted_here = subst (λ (s : Slot (Leaf K V)). IsAscending cmp (leaf_pairs s)) here can.tree.2
+    sorted_here = leaf_ascends is_summary old path leaf k there.top there.root there.shape there.way node here
 
     pub most_here : length node.pairs ≤ 64
-    most_here = subst (λ (s : Slot (Leaf K V)). length (leaf_pairs s) ≤ 64) here can.tree.4
+    most_here = leaf_fits is_summary old path leaf k there.top there.root there.shape there.way node here
 
     pub is_del : remove node.pairs slot ≡ del cmp node.pairs k
     is_del =
@@ -65,7 +62,7 @@ module _ {K V A : Type 0} {cmp : K → K → Ordering} (total : IsTotalOrder cmp
       pub leaves_taken : (new : Slots (Inner K A) (Leaf K V)) (top : A) → Risen climb_taken new top → Leaves cmp is_summary old new there.top there.root leaf slot k pair top
       leaves_taken new top r = record {
         pair_was = rw here read;
-        loose = loose_of cmp is_summary new there.top there.root (whole_done cmp is_summary (λ l. del cmp l k) old new there.top there.root k leaf there.shape (λ n. not_held _ (r.free.leaves n)) (λ n. not_held _ (r.free.inners n)) r.edits);
+        loose = loose_of cmp is_summary new there.top there.root (whole_done cmp is_summary (λ l. del cmp l k) old new there.top there.root k leaf there.shape (none_are_held r.free (λ n. (refl, refl))) r.edits);
         pairs = r.edits.pairs;
         told = r.told;
       }

@@ -192,31 +192,6 @@ fn shrink_root<S: NodeStore>(store: &mut S, root: NodeId, height: usize) -> (Nod
     (child, height - 1)
 }
 
-// Takes the pair at a slot of the leaf at the end of a path out of a whole tree, and settles the
-// root.
-fn take_whole<S: NodeStore>(
-    store: &mut S,
-    path: &mut VisitStack,
-    root: NodeId,
-    height: usize,
-    leaf: LeafNodeId,
-    slot: usize,
-    statistic: &mut Statistic,
-) -> Result<Removed<(S::K, S::V), S::Argument>, AllocError>
-    requires { (k : S.K) × IsFound S.K.cmp S.Argument.is_summary (S.slots store.old) height root path.old leaf slot k }
-    ensures taken { TakesFound S.K.cmp S.Argument.is_summary (S.slots store.old) (S.slots store.new) height root path.old leaf slot result }
-    ensures refused { OnErr result (S.slots store.new ≡ S.slots store.old) }
-{
-    let (value, summary) = take_out(store, path, leaf, slot, statistic)?;
-    let (root, height) = shrink_root(store, root, height);
-    Ok(Removed {
-        value,
-        root,
-        height,
-        summary,
-    })
-}
-
 /// The leaf and the slot of the key that equals `k` in a whole tree, where there is one, and at the
 /// end of the path the way there. It takes no memory. What the path held before plays no part.
 pub fn find_entry<S: NodeStore>(
@@ -240,8 +215,8 @@ pub fn find_entry<S: NodeStore>(
     }
 }
 
-/// Takes the pair that `find_entry` found out of a whole tree, by the way that it left in the path.
-/// A refusal changes no slot.
+/// Takes the pair at a slot of the leaf at the end of a path out of a whole tree. `find_entry`
+/// answers the leaf and the slot, and leaves such a path. A refusal changes no slot.
 pub fn take_entry<S: NodeStore>(
     store: &mut S,
     path: &mut VisitStack,
@@ -251,11 +226,19 @@ pub fn take_entry<S: NodeStore>(
     slot: usize,
     statistic: &mut Statistic,
 ) -> Result<Removed<(S::K, S::V), S::Argument>, AllocError>
-    requires { (k : S.K) × IsEntryAt S.K.cmp S.Argument.is_summary (S.slots store.old) height root path.old leaf slot k }
+    requires { (k : S.K) × IsFound S.K.cmp S.Argument.is_summary (S.slots store.old) height root path.old leaf slot k }
+    ensures found { TakesFound S.K.cmp S.Argument.is_summary (S.slots store.old) (S.slots store.new) height root path.old leaf slot result }
     ensures taken { TakesEntry S.K.cmp S.Argument.is_summary (S.slots store.old) (S.slots store.new) height root path.old leaf slot result }
     ensures refused { OnErr result (S.slots store.new ≡ S.slots store.old) }
 {
-    take_whole(store, path, root, height, leaf, slot, statistic)
+    let (value, summary) = take_out(store, path, leaf, slot, statistic)?;
+    let (root, height) = shrink_root(store, root, height);
+    Ok(Removed {
+        value,
+        root,
+        height,
+        summary,
+    })
 }
 
 /// Removes the pair with a key equal to `k` from a whole tree, where there is one, and hands it out
@@ -308,7 +291,7 @@ pub fn remove_end<S: NodeStore>(
         return Ok(None);
     }
     let slot = end_place(len, is_last);
-    let gone = take_whole(store, path, root, height, leaf, slot, statistic)?;
+    let gone = take_entry(store, path, root, height, leaf, slot, statistic)?;
     Ok(Some(gone))
 }
 
@@ -333,7 +316,7 @@ where
     match find_path_by_argument(store, root, height, query, path)? {
         None => Ok(None),
         Some((leaf, slot)) => {
-            let gone = take_whole(store, path, root, height, leaf, slot, statistic)?;
+            let gone = take_entry(store, path, root, height, leaf, slot, statistic)?;
             Ok(Some(gone))
         }
     }

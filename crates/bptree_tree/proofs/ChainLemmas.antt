@@ -1,5 +1,5 @@
 -- The first and the last leaf of a chain are taken out, and the others stay one.
-use Rattle.std.proofs.Common.{inl, inr, ◌≡◌, ◌≢◌, ℕ, zero, suc, ◌+◌, ◌-◌, ◌<◌, ◌≤◌, cond, List, [], ◌∷◌, ◌++◌, length, refl, sym, ap, subst, ◌∙◌, arith, Option, Some, None, eqb, append-nil, length-append}
+use Rattle.std.proofs.Common.{inl, inr, ◌≡◌, ◌≢◌, Bool, true, false, ℕ, zero, suc, ◌+◌, ◌-◌, ◌<◌, ◌≤◌, cond, List, [], ◌∷◌, ◌++◌, length, refl, sym, ap, subst, ◌∙◌, arith, Option, Some, None, eqb, append-nil, length-append}
 use Rattle.std.proofs.lemmas.Bool.Decides.{eqb_tells}
 use Rattle.std.specs.List.{AllByRecursion}
 use Rattle.std.specs.Option.{unwrap_or}
@@ -10,7 +10,7 @@ use Rattle.bptree_keys.specs.declared.node_id.NodeId.{NodeId}
 use Rattle.bptree_keys.specs.declared.node_id.NodeId.TheVariants as kind
 use Rattle.bptree_nodes.specs.Inner.{Inner}
 use Rattle.bptree_nodes.specs.Leaf.{Leaf}
-use Rattle.bptree_nodes.specs.Slot.{Slot, Slots, Present}
+use Rattle.bptree_nodes.specs.Slot.{Slot, Slots, Free, Held, Present, IsPresent}
 use Rattle.bptree_shape.specs.Edit.{SameLinks}
 use Rattle.bptree_shape.specs.Leaves.{pairs_of, IsFirstLeaf, IsLastLeaf}
 use Rattle.bptree_shape.specs.Shape.{leaf_pairs, leaf_prev, leaf_next, pairs_at, leaves_at, AreLinked, IsWellShaped}
@@ -21,10 +21,21 @@ use Rattle.bptree_shape.proofs.Hinted.{count_of, count_leaves, total-append}
 use Rattle.bptree_shape.proofs.Walk.{flat-append}
 use Rattle.bptree_ascent.proofs.Lent.{pairs_apart}
 use Rattle.bptree_ascent.proofs.Relinked.{linked_same, one_at, same_links}
-use Rattle.bptree_tree.specs.Chain.{IsChain, IsLeft, chain_pairs}
+use Rattle.bptree_tree.specs.Chain.{IsChain, IsLeft, chain_pairs, LeaveAt, end_of, inward_link, with_end}
+use Rattle.bptree_tree.specs.declared.chain.Ends.{Ends}
 use Rattle.bptree_iteration.specs.Span.{IsSpan, leaves_of}
 use Rattle.bptree_iteration.proofs.SpanLemmas.{pairs_left-span}
 use Rattle.bptree_tree.proofs.Spans.{last_in, span_of}
+
+-- what holds of all members holds of the last
+all_last : {X : Type 0} (P : X → Type 0) (front : List X) (last : X) → AllByRecursion P (front ++ last ∷ []) → P last
+all_last P [] last all = all.0
+all_last P (x ∷ front) last all = all_last P front last all.1
+
+present_with_pairs : {K V : Type 0} (slot : Slot (Leaf K V)) → 0 < length (leaf_pairs slot) → IsPresent slot
+present_with_pairs Free some = absurd (omega arith)
+present_with_pairs Held some = absurd (omega arith)
+present_with_pairs (Present leaf) some = tt
 
 module _ {K V A : Type 0} (slots : Slots (Inner K A) (Leaf K V)) where
   -- walking along the links gives the pairs of the chain
@@ -141,10 +152,6 @@ module _ {K V A : Type 0} (old new : Slots (Inner K A) (Leaf K V)) (first last :
       pairs_at_last : leaf_pairs (old.leaf last.0) ≡ leaf.pairs
       pairs_at_last = ap leaf_pairs at
 
-      full_at : (front : List LeafNodeId) → AllByRecursion (λ (id : LeafNodeId). 0 < length (leaf_pairs (old.leaf id.0))) (front ++ last ∷ []) → 0 < length (leaf_pairs (old.leaf last.0))
-      full_at [] full = full.0
-      full_at (x ∷ front) full = full_at front full.1
-
       by : (ahead : List LeafNodeId) → chain.ids ≡ ahead ++ last ∷ [] → LastLeaves leaf
       by [] ends =
           let full = subst (AllByRecursion (λ (id : LeafNodeId). 0 < length (leaf_pairs (old.leaf id.0)))) ends chain.full in
@@ -165,7 +172,7 @@ module _ {K V A : Type 0} (old new : Slots (Inner K A) (Leaf K V)) (first last :
           record {
             rest = pairs_of old (x ∷ front);
             parts = chain.pairs ∙ (ap (pairs_of old) ends ∙ (flat-append (λ (l : LeafNodeId). leaf_pairs (old.leaf l.0)) (x ∷ front) (last ∷ []) ∙ ap (λ ps. pairs_of old (x ∷ front) ++ ps) (append-nil (leaf_pairs (old.leaf last.0)) ∙ pairs_at_last)));
-            some = rw (← pairs_at_last) (full_at (x ∷ front) full);
+            some = rw (← pairs_at_last) (all_last (λ (id : LeafNodeId). 0 < length (leaf_pairs (old.leaf id.0))) (x ∷ front) last full);
             prev = λ some. (
               cut_off.end,
               sym (ap leaf_prev at) ∙ cut_off.named,
@@ -196,40 +203,40 @@ left_of slots first last (x ∷ xs) len counted chain =
     let walked = chain_walked slots first last (x ∷ xs) len here counted in
     (record { counted = rw walked counted; chain = λ some. rw walked here }, walked)
 
--- what the code reads of the leaf that it took out: its length, and its link, where it has one
-module _ {K V A : Type 0} (old new : Slots (Inner K A) (Leaf K V)) (first last : LeafNodeId) (len : ℕ) (left : IsLeft old first last len) (more : 0 < len) (leaf seen counted : Leaf K V) (seen_is : seen ≡ leaf) (counted_is : counted ≡ leaf) (n : ℕ) (n_is : n ≡ length counted.pairs) (to : LeafNodeId) where
-  long : n ≡ length leaf.pairs
-  long = n_is ∙ ap (λ (l : Leaf K V). length l.pairs) counted_is
+module _ {K V A : Type 0} (old new : Slots (Inner K A) (Leaf K V)) (ends : Ends) (len : ℕ) (left : IsLeft old ends.first ends.last len) (more : 0 < len) where
+  -- a leaf stands at each end
+  pub end_present : (is_last : Bool) → IsPresent (old.leaf (end_of is_last ends).0)
+  end_present false = let chain = left.chain more in present_with_pairs (old.leaf ends.first.0) (subst (AllByRecursion (λ (id : LeafNodeId). 0 < length (leaf_pairs (old.leaf id.0)))) chain.starts chain.full).0
+  end_present true =
+      let chain = left.chain more in
+      let HasPair : LeafNodeId → Type 0 = λ id. 0 < length (leaf_pairs (old.leaf id.0)) in
+      present_with_pairs (old.leaf ends.last.0) (all_last HasPair chain.ahead ends.last (subst (AllByRecursion HasPair) chain.ends chain.full))
 
-  names : (link : Leaf K V → Option LeafNodeId) (read : Option LeafNodeId) (here : LeafNodeId) → read ≡ link seen → to ≡ unwrap_or read here → (id : LeafNodeId) → link leaf ≡ Some id → to ≡ id
-  names link read here is named id e = named ∙ ap (λ (o : Option LeafNodeId). unwrap_or o here) (is ∙ (ap link seen_is ∙ e))
+  -- what the code reads of the leaf that it took out: its length, and its link, where it has one
+  module _ (leaf seen counted : Leaf K V) (seen_is : seen ≡ leaf) (counted_is : counted ≡ leaf) (n : ℕ) (n_is : n ≡ length counted.pairs) (link : Option LeafNodeId) (to : LeafNodeId) where
+    long : n ≡ length leaf.pairs
+    long = n_is ∙ ap (λ (l : Leaf K V). length l.pairs) counted_is
 
-  -- what is left once the first leaf is taken out, or the last
-  pub record FirstOut : Type 0 where
-    pub parts : chain_pairs old first len ≡ leaf.pairs ++ chain_pairs new to (len - n)
-    pub some : 0 < length leaf.pairs
-    pub within : n ≤ len
-    pub left' : IsLeft new to last (len - n)
+    names : (link_of : Leaf K V → Option LeafNodeId) (here : LeafNodeId) → link ≡ link_of seen → to ≡ unwrap_or link here → (id : LeafNodeId) → link_of leaf ≡ Some id → to ≡ id
+    names link_of here is named id e = named ∙ ap (λ (o : Option LeafNodeId). unwrap_or o here) (is ∙ (ap link_of seen_is ∙ e))
 
-  pub record LastOut : Type 0 where
-    pub parts : chain_pairs old first len ≡ chain_pairs new first (len - n) ++ leaf.pairs
-    pub some : 0 < length leaf.pairs
-    pub within : n ≤ len
-    pub left' : IsLeft new first to (len - n)
+    -- what is left once the leaf at an end is taken out
+    pub record EndOut (is_last : Bool) : Type 0 where
+      pub within : n ≤ len
+      pub left' : IsLeft new (with_end is_last ends to).first (with_end is_last ends to).last (len - n)
+      pub leave : LeaveAt is_last leaf.pairs (chain_pairs old ends.first len) (chain_pairs new (with_end is_last ends to).first (len - n))
 
-  pub first_out : (next : Option LeafNodeId) → next ≡ seen.next → to ≡ unwrap_or next first → old.leaf first.0 ≡ Present leaf → ((i : ℕ) → i ≢ first.0 → new.leaf i ≡ old.leaf i) → FirstOut
-  first_out next is named at others =
-      let out = first_leaves old new first last (chain_pairs old first len) (left.chain more) leaf at others in
-      let parts : len ≡ length leaf.pairs + length out.rest = left.counted ∙ (ap length out.parts ∙ length-append leaf.pairs out.rest) in
-      let rest = left_of new to last out.rest (len - n) (omega (arith, long)) (λ some. let next' = out.next some in rw (names (λ l. l.next) next first is named next'.0 next'.1) next'.2) in
-      record { parts = rw rest.1 out.parts; some = out.some; within = omega (arith, long); left' = rest.0 }
-
-  pub last_out : (prev : Option LeafNodeId) → prev ≡ seen.prev → to ≡ unwrap_or prev last → old.leaf last.0 ≡ Present leaf → ((i : ℕ) → i ≢ last.0 → new.leaf i ≡ old.leaf i) → LastOut
-  last_out prev is named at others =
-      let out = last_leaves old new first last (chain_pairs old first len) (left.chain more) leaf at others in
-      let parts : len ≡ length out.rest + length leaf.pairs = left.counted ∙ (ap length out.parts ∙ length-append out.rest leaf.pairs) in
-      let rest = left_of new first to out.rest (len - n) (omega (arith, long)) (λ some. let prev' = out.prev some in rw (names (λ l. l.prev) prev last is named prev'.0 prev'.1) prev'.2) in
-      record { parts = rw rest.1 out.parts; some = out.some; within = omega (arith, long); left' = rest.0 }
+    pub end_out : (is_last : Bool) → link ≡ inward_link is_last seen → to ≡ unwrap_or link (end_of is_last ends) → old.leaf (end_of is_last ends).0 ≡ Present leaf → ((i : ℕ) → i ≢ (end_of is_last ends).0 → new.leaf i ≡ old.leaf i) → EndOut is_last
+    end_out false is named at others =
+        let out = first_leaves old new ends.first ends.last (chain_pairs old ends.first len) (left.chain more) leaf at others in
+        let parts : len ≡ length leaf.pairs + length out.rest = left.counted ∙ (ap length out.parts ∙ length-append leaf.pairs out.rest) in
+        let rest = left_of new to ends.last out.rest (len - n) (omega (arith, long)) (λ some. let next' = out.next some in rw (names (λ l. l.next) ends.first is named next'.0 next'.1) next'.2) in
+        record { within = omega (arith, long); left' = rest.0; leave = (rw rest.1 out.parts, out.some) }
+    end_out true is named at others =
+        let out = last_leaves old new ends.first ends.last (chain_pairs old ends.first len) (left.chain more) leaf at others in
+        let parts : len ≡ length out.rest + length leaf.pairs = left.counted ∙ (ap length out.parts ∙ length-append out.rest leaf.pairs) in
+        let rest = left_of new ends.first to out.rest (len - n) (omega (arith, long)) (λ some. let prev' = out.prev some in rw (names (λ l. l.prev) ends.last is named prev'.0 prev'.1) prev'.2) in
+        record { within = omega (arith, long); left' = rest.0; leave = (rw rest.1 out.parts, out.some) }
 
 module _ {K V A : Type 0} (cmp : K → K → Ordering) (is_summary : A → List K → Type 0) (slots : Slots (Inner K A) (Leaf K V)) where
   tree_full : (h : ℕ) (root : NodeId) → IsWellShaped cmp is_summary slots h root → 0 < length (pairs_at slots h root) → AllByRecursion (λ (id : LeafNodeId). 0 < length (leaf_pairs (slots.leaf id.0))) (leaves_at slots h root)

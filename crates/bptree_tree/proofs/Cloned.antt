@@ -102,6 +102,20 @@ module _ {K : Type 0} (cmp : K → K → Ordering) where
         (zip_turns (λ x y. cmp x y ≡ Equal) (λ y. cmp k y ≡ Less) (λ y. cmp c y ≡ Less) (λ x y same less. same_answer k c x y equal.0 same ∙ less) keys copies equal.1 (sorted_head cmp k keys ascending))
         (ascending_alike keys copies equal.1 (sorted_tail cmp k keys ascending))
 
+module _ {N : Type 0} (node_clone : N → N → Type 0) where
+  -- what holds of two free slots, of two held ones, and of a node and its clone
+  of_slots : (P : Slot N → Slot N → Type 0) → P Free Free → P Held Held → ((node copy : N) → node_clone node copy → P (Present node) (Present copy)) → (old new : Slot N) → IsSlotClone node_clone old new → P old new
+  of_slots P free held node Free new is = rw is free
+  of_slots P free held node Held new is = rw is held
+  of_slots P free held node (Present x) new is = rw is.1 (node x is.0 is.2)
+
+  -- a node stands in both or in none, and one is held only with the other
+  abbrev IsSlotAlike : Slot N → Slot N → Type 0
+  IsSlotAlike old new = (stands new ≡ stands old) × (new ≡ Held → old ≡ Held)
+
+  slot_alike : (old new : Slot N) → IsSlotClone node_clone old new → IsSlotAlike old new
+  slot_alike = of_slots IsSlotAlike (refl, λ h. h) (refl, λ h. h) (λ node copy clone. (refl, λ h. cc))
+
 module _ {K V : Type 0} (cmp : K → K → Ordering) (value_clone : V → V → Type 0) where
   -- a pair whose key is equal and whose value is a clone
   abbrev pub IsPairClone : K × V → K × V → Type 0
@@ -113,25 +127,19 @@ module _ {K V : Type 0} (cmp : K → K → Ordering) (value_clone : V → V → 
   zip_keys (p ∷ pairs) [] all = absurd all
   zip_keys (p ∷ pairs) (q ∷ copies) all = (all.0.0, zip_keys pairs copies all.1)
 
-  -- both are free, both are held, or both have leaves of the same links, the second's with clones of the pairs
+  -- the links of leaves are the same, and the second's pairs are clones
   record LeafAlike (old new : Slot (Leaf K V)) : Type 0 where
     pairs : AllZip IsPairClone (leaf_pairs old) (leaf_pairs new)
     prev : leaf_prev new ≡ leaf_prev old
     next : leaf_next new ≡ leaf_next old
-    stands : stands new ≡ stands old
-    held : new ≡ Held → old ≡ Held
 
   module _ (key_clone : K → K → Type 0) (clone_is_equal : (x y : K) → key_clone x y → cmp x y ≡ Equal) where
     leaf_alike : (old new : Slot (Leaf K V)) → IsSlotClone (IsLeafClone key_clone value_clone) old new → LeafAlike old new
-    leaf_alike Free new is = rw is (record { pairs = tt; prev = refl; next = refl; stands = refl; held = λ h. h })
-    leaf_alike Held new is = rw is (record { pairs = tt; prev = refl; next = refl; stands = refl; held = λ h. h })
-    leaf_alike (Present leaf) new is =
-        rw is.1 (record {
-          pairs = zip_weaker (λ p q. key_clone p.0 q.0 × value_clone p.1 q.1) IsPairClone (λ p q both. (clone_is_equal p.0 q.0 both.0, both.1)) leaf.pairs is.0.pairs is.2.pairs;
-          prev = is.2.links.0;
-          next = is.2.links.1;
-          stands = refl;
-          held = λ h. cc;
+    leaf_alike =
+        of_slots (IsLeafClone key_clone value_clone) LeafAlike (record { pairs = tt; prev = refl; next = refl }) (record { pairs = tt; prev = refl; next = refl }) (λ leaf copy clone. record {
+          pairs = zip_weaker (λ p q. key_clone p.0 q.0 × value_clone p.1 q.1) IsPairClone (λ p q both. (clone_is_equal p.0 q.0 both.0, both.1)) leaf.pairs copy.pairs clone.pairs;
+          prev = clone.links.0;
+          next = clone.links.1;
         })
 
 module _ {K A : Type 0} (cmp : K → K → Ordering) (argument_clone : A → A → Type 0) where
@@ -140,20 +148,14 @@ module _ {K A : Type 0} (cmp : K → K → Ordering) (argument_clone : A → A �
     keys : AreEqual cmp (inner_keys old) (inner_keys new)
     arguments : AllZip argument_clone (inner_arguments old) (inner_arguments new)
     children : inner_children new ≡ inner_children old
-    stands : stands new ≡ stands old
-    held : new ≡ Held → old ≡ Held
 
   module _ (key_clone : K → K → Type 0) (clone_is_equal : (x y : K) → key_clone x y → cmp x y ≡ Equal) where
     inner_alike : (old new : Slot (Inner K A)) → IsSlotClone (IsInnerClone key_clone argument_clone) old new → InnerAlike old new
-    inner_alike Free new is = rw is (record { keys = tt; arguments = tt; children = refl; stands = refl; held = λ h. h })
-    inner_alike Held new is = rw is (record { keys = tt; arguments = tt; children = refl; stands = refl; held = λ h. h })
-    inner_alike (Present node) new is =
-        rw is.1 (record {
-          keys = zip_weaker key_clone (λ k c. cmp k c ≡ Equal) clone_is_equal node.keys is.0.keys is.2.keys;
-          arguments = is.2.arguments;
-          children = is.2.children;
-          stands = refl;
-          held = λ h. cc;
+    inner_alike =
+        of_slots (IsInnerClone key_clone argument_clone) InnerAlike (record { keys = tt; arguments = tt; children = refl }) (record { keys = tt; arguments = tt; children = refl }) (λ node copy clone. record {
+          keys = zip_weaker key_clone (λ k c. cmp k c ≡ Equal) clone_is_equal node.keys copy.keys clone.keys;
+          arguments = clone.arguments;
+          children = clone.children;
         })
 
 -- clones of summaries of some lists are summaries of lists of equal keys
@@ -177,6 +179,12 @@ module _ {K V A : Type 0} {cmp : K → K → Ordering} (total : IsTotalOrder cmp
 
   inner : (n : ℕ) → InnerAlike cmp argument_clone (old.inner n) (new.inner n)
   inner n = inner_alike cmp argument_clone key_clone clone_is_equal (old.inner n) (new.inner n) (is.inner n)
+
+  leaf_slot : (n : ℕ) → (stands (new.leaf n) ≡ stands (old.leaf n)) × (new.leaf n ≡ Held → old.leaf n ≡ Held)
+  leaf_slot n = slot_alike (IsLeafClone key_clone value_clone) (old.leaf n) (new.leaf n) (is.leaf n)
+
+  inner_slot : (n : ℕ) → (stands (new.inner n) ≡ stands (old.inner n)) × (new.inner n ≡ Held → old.inner n ≡ Held)
+  inner_slot n = slot_alike (IsInnerClone key_clone argument_clone) (old.inner n) (new.inner n) (is.inner n)
 
   -- the pairs are clones, in their order
   pub pairs_alike : (h : ℕ) (id : NodeId) → AllZip (IsPairClone cmp value_clone) (pairs_at old h id) (pairs_at new h id)
@@ -219,7 +227,7 @@ module _ {K V A : Type 0} {cmp : K → K → Ordering} (total : IsTotalOrder cmp
       let was = leaf_pairs (old.leaf id.0) in
       let now = leaf_pairs (new.leaf id.0) in
       let long : length now ≡ length was = AllZip-long (IsPairClone cmp value_clone) was now a.pairs in (
-        present_alike (old.leaf id.0) (new.leaf id.0) a.stands t.0,
+        present_alike (old.leaf id.0) (new.leaf id.0) (leaf_slot id.0).0 t.0,
         zip_turns (IsPairClone cmp value_clone) (λ p. Within cmp lo hi p.0) (λ p. Within cmp lo' hi' p.0) (λ p q both within. (at_least cmp total lo lo' p.0 q.0 low both.0 within.0, under cmp total hi hi' p.0 q.0 high both.0 within.1)) was now a.pairs t.1,
         ascending_alike cmp total (keys_of was) (keys_of now) (zip_keys cmp value_clone was now a.pairs) t.2,
         rw long t.3,
@@ -236,7 +244,7 @@ module _ {K V A : Type 0} {cmp : K → K → Ordering} (total : IsTotalOrder cmp
       let was = inner_keys (old.inner id.0) in
       let now = inner_keys (new.inner id.0) in
       let long : length now ≡ length was = AllZip-long (λ k c. cmp k c ≡ Equal) was now a.keys in (
-        present_alike (old.inner id.0) (new.inner id.0) a.stands t.0,
+        present_alike (old.inner id.0) (new.inner id.0) (inner_slot id.0).0 t.0,
         rw a.children (chain_alike cmp total (IsTree cmp old 16 h) (IsTree cmp new 16 h) was now cs lo hi lo' hi' a.keys (every _ (λ c a b a' b' l u s. tree_alike 16 h c a b a' b' l u s) cs) low high t.1),
         rw long t.2,
         rw long t.3,
@@ -262,10 +270,10 @@ module _ {K V A : Type 0} {cmp : K → K → Ordering} (total : IsTotalOrder cmp
   pub shape_alike : (h : ℕ) (root : NodeId) → IsWellShaped cmp is_summary old h root → IsWellShaped cmp is_summary new h root
   shape_alike h root w = record {
     tree = tree_alike (root_least h) h root None None None None tt tt w.tree;
-    leaves = λ n. leaf_counts_same h root n ∙ (w.leaves n ∙ sym (leaf n).stands);
-    inners = λ n. inner_counts_same h root n ∙ (w.inners n ∙ sym (inner n).stands);
-    no_leaf_held = λ n held. w.no_leaf_held n ((leaf n).held held);
-    no_inner_held = λ n held. w.no_inner_held n ((inner n).held held);
+    leaves = λ n. leaf_counts_same h root n ∙ (w.leaves n ∙ sym (leaf_slot n).0);
+    inners = λ n. inner_counts_same h root n ∙ (w.inners n ∙ sym (inner_slot n).0);
+    no_leaf_held = λ n held. w.no_leaf_held n ((leaf_slot n).1 held);
+    no_inner_held = λ n held. w.no_inner_held n ((inner_slot n).1 held);
     summed = summed_alike h root w.summed;
     linked = rw (leaves_same h root) (linked_alike None (leaves_at old h root) None w.linked);
   }

@@ -24,6 +24,7 @@ use Rattle.bptree_shape.specs.Shape.{pairs_at, root_least, IsWellShaped}
 use Rattle.bptree_shape.proofs.LeafFor.{node_ascends, absent_there}
 use Rattle.bptree_shape.proofs.Ordered.{by_cases}
 use Rattle.bptree_shape.proofs.Walk.{tree_ascends}
+use Rattle.bptree_ascent.proofs.Lent.{none_if_absent}
 use Rattle.bptree_descents.proofs.Selected.{place_read}
 use Rattle.bptree_tree.specs.Entries.{entry, at_least}
 
@@ -94,11 +95,8 @@ module _ {K V A : Type 0} {cmp : K → K → Ordering} (total : IsTotalOrder cmp
 -- the leaf that can hold a key lacks it, and so does the tree
 module _ {K V A : Type 0} {cmp : K → K → Ordering} (total : IsTotalOrder cmp) (is_summary : A → List K → Type 0) (slots : Slots (Inner K A) (Leaf K V)) (h : ℕ) (root : NodeId) (shape : IsWellShaped cmp is_summary slots h root)
     (k : K) (leaf : LeafNodeId) (node : Leaf K V) (for' : IsLeafFor cmp slots h root k leaf) (here : slots.leaf leaf.0 ≡ Present node) (lacks : IsAscending cmp node.pairs → has cmp node.pairs k ≡ false) where
-  absent : has cmp (pairs_at slots h root) k ≡ false
+  pub absent : has cmp (pairs_at slots h root) k ≡ false
   absent = absent_there total is_summary slots h root k leaf node shape for' here (lacks (node_ascends total is_summary slots h root k leaf node shape for' here))
 
-  pub entry_lacking : entry cmp (pairs_at slots h root) k ≡ None
-  entry_lacking = entry_absent cmp (pairs_at slots h root) k absent
-
-  pub at_least_lacking : at_least cmp (pairs_at slots h root) k ≡ next cmp (pairs_at slots h root) k
-  at_least_lacking = at_least_absent cmp (pairs_at slots h root) k absent
+  pub value_lacking : value cmp (pairs_at slots h root) k ≡ None
+  value_lacking = none_if_absent cmp (pairs_at slots h root) k absent

@@ -1,5 +1,5 @@
 -- What a contract sees of a cursor.
-use Rattle.std.specs.Prelude.{◌≡◌, List, Option, Some, None, IsSomeAnd}
+use Rattle.std.specs.Prelude.{◌≡◌, List, Option, Some, None, Result, Ok, IfOk, IsOk, IsSomeAnd}
 use Rattle.std.specs.Borrow.{Bor}
 use Rattle.std.specs.declared.cmp.Ordering.{Ordering}
 use Rattle.std.specs.declared.cmp.Ordering.TheVariants.{Equal}
@@ -40,3 +40,19 @@ module _ {K V : Type 0} where
   -- the pair that is lent beside its place
   abbrev pub found_pair : {P : Type 0} → Option (P × (Bor K × Bor V)) → Option (K × V)
   found_pair found = option_map (λ at. deref_pair at.1) found
+
+-- A cursor on a pair is answered, and the value there, or none where there is no pair. It is refused only where a clone of a
+-- key can be.
+pub record AnswersCursor {K V E : Type 0} (cmp : K → K → Ordering) (is_infallible : K → Type 0) (pair : Option (K × V)) (answer : Result (Option (Cursor K × Bor V)) E) : Type 0 where
+  pub cursor : IfOk answer (PointsAt cmp pair)
+  pub value : IfOk answer (ShowsValueOf pair)
+  pub end : pair ≡ None → answer ≡ Ok None
+  pub sure : ((key : K) → is_infallible key) → IsOk answer
+
+module _ {K V E : Type 0} (cmp : K → K → Ordering) (is_infallible : K → Type 0) (l : List (K × V)) (k : K) where
+  -- the pair is the one after a key, or the one before it
+  abbrev pub AnswersNext : Result (Option (Cursor K × Bor V)) E → Type 0
+  AnswersNext answer = AnswersCursor cmp is_infallible (next cmp l k) answer
+
+  abbrev pub AnswersPrevious : Result (Option (Cursor K × Bor V)) E → Type 0
+  AnswersPrevious answer = AnswersCursor cmp is_infallible (previous cmp l k) answer

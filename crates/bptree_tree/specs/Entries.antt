@@ -1,7 +1,8 @@
 -- The pair of a key, and the first pair that is not below it.
-use Rattle.std.specs.Prelude.{Option, Some, None, List, slice_get}
+use Rattle.std.specs.Prelude.{◌≡◌, Option, Some, None, List, slice_get}
 use Rattle.std.specs.declared.cmp.Ordering.{Ordering}
 use Rattle.std.specs.Map.{keys_of, lookup_entry}
+use Rattle.std.specs.Map.Iter.{deref_pair}
 use Rattle.std.specs.Ordering.{is_eq}
 use Rattle.bptree_keys.specs.Ranges.{between}
 use Rattle.std.specs.Borrow.{Bor}
@@ -23,6 +24,11 @@ module _ {K V : Type 0} (cmp : K → K → Ordering) where
   -- the pair with the least key that is not below k
   abbrev pub at_least : List (K × V) → K → Option (K × V)
   at_least l k = slice_get (between cmp l (Some k) None) 0
+
+-- a pair that is lent beside its place is that of a key, and so the first that is not below it
+pub record IsFoundAt {P K V : Type 0} (cmp : K → K → Ordering) (l : List (K × V)) (k : K) (found : P × (Bor K × Bor V)) : Type 0 where
+  pub entry : entry cmp l k ≡ Some (deref_pair found.1)
+  pub first : at_least cmp l k ≡ Some (deref_pair found.1)
 
 module _ {K V : Type 0} (cmp : K → K → Ordering) (l : List (K × V)) where
   -- the pairs between two ends that are lent, either of which may be left out

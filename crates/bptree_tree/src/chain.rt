@@ -1,7 +1,7 @@
 //! The leaves of an owned tree, taken out one by one from both ends.
 ghost use Rattle.std.specs.Prelude.{◌≡◌, ◌≢◌, ℕ, MatchOption};
 ghost use Rattle.bptree_nodes.specs.Slot.{Present, IsPresent};
-ghost use Rattle.bptree_tree.specs.Chain.{IsLeft, chain_pairs, AreEmpty, LeaveEnd, LeaveFront};
+ghost use Rattle.bptree_tree.specs.Chain.{IsLeft, chain_pairs, AreEmpty, LeaveAt, end_of, inward_link, with_end};
 
 use bptree_keys::node_id::LeafNodeId;
 use bptree_nodes::leaf_node::LeafNode;
@@ -13,8 +13,7 @@ use std::marker::Model;
 #[derive(Drop)]
 pub(crate) struct Chain<S: NodeStore> {
     store: S,
-    first: LeafNodeId,
-    last: LeafNodeId,
+    ends: Ends,
     // The number of pairs of the leaves that are left.
     len: usize,
 }
@@ -25,9 +24,42 @@ impl<S: NodeStore> Model for Chain<S> {
 
     ghost Value = { List (S.K × S.V) };
 
-    ghost view = { λ chain. chain_pairs (S.slots chain.store) chain.first chain.len };
+    ghost view = { λ chain. chain_pairs (S.slots chain.store) chain.ends.first chain.len };
 
-    ghost invariant = { λ chain. IsLeft (S.slots chain.store) chain.first chain.last chain.len };
+    ghost invariant = { λ chain. IsLeft (S.slots chain.store) chain.ends.first chain.ends.last chain.len };
+}
+
+/// The leaves at both ends.
+#[derive(Clone, Copy)]
+pub(crate) struct Ends {
+    first: LeafNodeId,
+    last: LeafNodeId,
+}
+
+impl Ends {
+    fn at(self, is_last: bool) -> LeafNodeId
+        ensures { result ≡ end_of is_last self }
+    {
+        if is_last { self.last } else { self.first }
+    }
+
+    // The ends once another leaf is at one of them.
+    fn with(self, is_last: bool, id: LeafNodeId) -> Ends
+        ensures { result ≡ with_end is_last self id }
+    {
+        if is_last {
+            Ends { last: id, ..self }
+        } else {
+            Ends { first: id, ..self }
+        }
+    }
+}
+
+// The number of the leaf beside one that stands at an end.
+fn link_inward<K: Drop, V: Drop>(leaf: &LeafNode<K, V>, is_last: bool) -> Option<LeafNodeId>
+    ensures { result ≡ inward_link is_last leaf.now }
+{
+    if is_last { leaf.prev() } else { leaf.next() }
 }
 
 // The leaf under a number, which is released.
@@ -48,36 +80,22 @@ impl<S: NodeStore> Chain<S> {
     {
         Chain {
             store,
-            first,
-            last,
+            ends: Ends { first, last },
             len,
         }
     }
 
-    /// The first leaf, which has a pair.
-    pub(crate) fn take_first(&mut self) -> Option<Box<LeafNode<S::K, S::V>>>
-        ensures { MatchOption result (AreEmpty self.old self.new) (λ leaf. LeaveFront leaf.value.pairs self.old self.new) }
+    /// The first leaf, or the last one, which has a pair.
+    pub(crate) fn take_end(&mut self, is_last: bool) -> Option<Box<LeafNode<S::K, S::V>>>
+        ensures { MatchOption result (AreEmpty self.old self.new) (λ leaf. LeaveAt is_last leaf.value.pairs self.old self.new) }
     {
         if self.len == 0 {
             return None;
         }
-        let leaf = take_out(&mut self.store, self.first);
-        let first = leaf.next().unwrap_or(self.first);
-        self.first = first;
-        self.len -= leaf.len();
-        Some(leaf)
-    }
-
-    /// The last leaf, which has a pair.
-    pub(crate) fn take_last(&mut self) -> Option<Box<LeafNode<S::K, S::V>>>
-        ensures { MatchOption result (AreEmpty self.old self.new) (λ leaf. LeaveEnd leaf.value.pairs self.old self.new) }
-    {
-        if self.len == 0 {
-            return None;
-        }
-        let leaf = take_out(&mut self.store, self.last);
-        let last = leaf.prev().unwrap_or(self.last);
-        self.last = last;
+        let end = self.ends.at(is_last);
+        let leaf = take_out(&mut self.store, end);
+        let next = link_inward(&leaf, is_last).unwrap_or(end);
+        self.ends = self.ends.with(is_last, next);
         self.len -= leaf.len();
         Some(leaf)
     }

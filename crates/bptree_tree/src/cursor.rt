@@ -107,7 +107,7 @@ impl<K: Key> Cursor<K> {
         ensures end { pair_after K.cmp tree.now.contents self.now ≡ None → result ≡ Ok None }
         ensures sure { ((key : K) → K.is_infallible key) → IsOk result }
     {
-        tree.cursor_after(self.leaf, self.offset, &self.key)
+        tree.cursor_after((self.leaf, self.offset), &self.key)
     }
 
     /// As `prev`, with the value there.
@@ -120,7 +120,7 @@ impl<K: Key> Cursor<K> {
         ensures end { pair_before K.cmp tree.now.contents self.now ≡ None → result ≡ Ok None }
         ensures sure { ((key : K) → K.is_infallible key) → IsOk result }
     {
-        tree.cursor_before(self.leaf, self.offset, &self.key)
+        tree.cursor_before((self.leaf, self.offset), &self.key)
     }
 
     /// Whether a key of the tree equals the cursor's. It takes no memory.

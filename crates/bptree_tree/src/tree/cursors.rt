@@ -2,7 +2,7 @@
 ghost use Rattle.std.specs.Prelude.{◌≡◌, [], slice_get, IfOk, IsOk, IsSomeAnd, Ok, None};
 ghost use Rattle.std.specs.Option.{option_copied};
 ghost use Rattle.bptree_keys.specs.Contents.{next, previous, value, last_member};
-ghost use Rattle.bptree_tree.specs.Cursor.{StandsAt, PointsAt, PointsAtKey, ShowsValueOf, found_pair};
+ghost use Rattle.bptree_tree.specs.Cursor.{AnswersCursor, AnswersNext, AnswersPrevious, StandsAt, PointsAt, PointsAtKey, ShowsValueOf, found_pair};
 ghost use Rattle.bptree_tree.specs.Entries.{at_least};
 
 use crate::cursor::Cursor;
@@ -13,6 +13,12 @@ use bptree_keys::node_id::LeafNodeId;
 use bptree_shape::reading;
 use bptree_stores::node_stores::NodeStore;
 use std::alloc::AllocError;
+
+// A pair beside the leaf and the slot where it stands, where one was found.
+pub(crate) type Found<'t, K, V> = Option<((LeafNodeId, usize), (&'t K, &'t V))>;
+
+// A cursor and the value at its key, where there is a pair for it.
+pub(crate) type Shown<'t, K, V> = Result<Option<(Cursor<K>, &'t V)>, AllocError>;
 
 impl<S: NodeStore> BPlusTree<S> {
     /// A cursor on the least key. It takes what a clone of the key takes, and of an empty tree
@@ -53,11 +59,7 @@ impl<S: NodeStore> BPlusTree<S> {
         ensures end { at_least S.K.cmp self.now.contents k.now ≡ None → result ≡ Ok None }
         ensures sure { ((key : S.K) → S.K.is_infallible key) → IsOk result }
     {
-        let Some((place, (key, value))) = self.place_from(k) else {
-            return Ok(None);
-        };
-        let cursor = Cursor::at(place, key)?;
-        Ok(Some((cursor, value)))
+        Self::cursor_on(self.place_from(k))
     }
 
     /// A cursor on the least key above `k`, and the value there. It takes what a clone of that key
@@ -71,119 +73,80 @@ impl<S: NodeStore> BPlusTree<S> {
         ensures sure { ((key : S.K) → S.K.is_infallible key) → IsOk result }
     {
         let leaf = reading::leaf_for(&self.store, self.root, self.height, k);
-        self.cursor_after(leaf, 0, k)
+        self.cursor_after((leaf, 0), k)
+    }
+
+    // A cursor on a clone of the key of a pair that was found, and the value there.
+    pub(crate) fn cursor_on(found: Found<'_, S::K, S::V>) -> Shown<'_, S::K, S::V>
+        ensures { AnswersCursor S.K.cmp S.K.is_infallible (found_pair found.entry) result }
+    {
+        let Some((place, (key, value))) = found else {
+            return Ok(None);
+        };
+        let cursor = Cursor::at(place, key)?;
+        Ok(Some((cursor, value)))
     }
 
     // Cursors at the ends and beside a key, with the values there.
 
-    pub(crate) fn cursor_at_first(&self) -> Result<Option<(Cursor<S::K>, &S::V)>, AllocError>
-        ensures cursor { IfOk result (PointsAt S.K.cmp (slice_get self.now.contents 0)) }
-        ensures value { IfOk result (ShowsValueOf (slice_get self.now.contents 0)) }
-        ensures end { slice_get self.now.contents 0 ≡ None → result ≡ Ok None }
-        ensures sure { ((key : S.K) → S.K.is_infallible key) → IsOk result }
+    pub(crate) fn cursor_at_first(&self) -> Shown<'_, S::K, S::V>
+        ensures { AnswersCursor S.K.cmp S.K.is_infallible (slice_get self.now.contents 0) result }
     {
-        let Some((place, (key, value))) = self.first_place() else {
-            return Ok(None);
-        };
-        let cursor = Cursor::at(place, key)?;
-        Ok(Some((cursor, value)))
+        Self::cursor_on(self.first_place())
     }
 
-    pub(crate) fn cursor_at_last(&self) -> Result<Option<(Cursor<S::K>, &S::V)>, AllocError>
-        ensures cursor { IfOk result (PointsAt S.K.cmp (last_member self.now.contents)) }
-        ensures value { IfOk result (ShowsValueOf (last_member self.now.contents)) }
-        ensures end { last_member self.now.contents ≡ None → result ≡ Ok None }
-        ensures sure { ((key : S.K) → S.K.is_infallible key) → IsOk result }
+    pub(crate) fn cursor_at_last(&self) -> Shown<'_, S::K, S::V>
+        ensures { AnswersCursor S.K.cmp S.K.is_infallible (last_member self.now.contents) result }
     {
-        let Some((place, (key, value))) = self.last_place() else {
-            return Ok(None);
-        };
-        let cursor = Cursor::at(place, key)?;
-        Ok(Some((cursor, value)))
+        Self::cursor_on(self.last_place())
     }
 
-    pub(crate) fn cursor_after(
-        &self,
-        leaf: LeafNodeId,
-        offset: usize,
-        key: &S::K,
-    ) -> Result<Option<(Cursor<S::K>, &S::V)>, AllocError>
-        ensures cursor { IfOk result (PointsAt S.K.cmp (next S.K.cmp self.now.contents key.now)) }
-        ensures value { IfOk result (ShowsValueOf (next S.K.cmp self.now.contents key.now)) }
-        ensures end { next S.K.cmp self.now.contents key.now ≡ None → result ≡ Ok None }
-        ensures sure { ((key : S.K) → S.K.is_infallible key) → IsOk result }
+    pub(crate) fn cursor_after(&self, at: (LeafNodeId, usize), key: &S::K) -> Shown<'_, S::K, S::V>
+        ensures { AnswersNext S.K.cmp S.K.is_infallible self.now.contents key.now result }
     {
-        let Some((place, (key, value))) = self.place_after(leaf, offset, key) else {
-            return Ok(None);
-        };
-        let cursor = Cursor::at(place, key)?;
-        Ok(Some((cursor, value)))
+        Self::cursor_on(self.place_after(at, key))
     }
 
-    pub(crate) fn cursor_before(
-        &self,
-        leaf: LeafNodeId,
-        offset: usize,
-        key: &S::K,
-    ) -> Result<Option<(Cursor<S::K>, &S::V)>, AllocError>
-        ensures cursor { IfOk result (PointsAt S.K.cmp (previous S.K.cmp self.now.contents key.now)) }
-        ensures value { IfOk result (ShowsValueOf (previous S.K.cmp self.now.contents key.now)) }
-        ensures end { previous S.K.cmp self.now.contents key.now ≡ None → result ≡ Ok None }
-        ensures sure { ((key : S.K) → S.K.is_infallible key) → IsOk result }
+    pub(crate) fn cursor_before(&self, at: (LeafNodeId, usize), key: &S::K) -> Shown<'_, S::K, S::V>
+        ensures { AnswersPrevious S.K.cmp S.K.is_infallible self.now.contents key.now result }
     {
-        let Some((place, (key, value))) = self.place_before(leaf, offset, key) else {
-            return Ok(None);
-        };
-        let cursor = Cursor::at(place, key)?;
-        Ok(Some((cursor, value)))
+        Self::cursor_on(self.place_before(at, key))
     }
 
-    // The pairs there, with the leaves and places where they stand.
+    // The pairs at the ends and beside a key, with the leaves and places where they stand.
 
-    fn first_place(&self) -> Option<((LeafNodeId, usize), (&S::K, &S::V))>
+    fn first_place(&self) -> Found<'_, S::K, S::V>
         ensures { found_pair result ≡ slice_get self.now.contents 0 }
     {
         neighbours::first_pair(&self.store, self.root, self.height)
     }
 
-    fn last_place(&self) -> Option<((LeafNodeId, usize), (&S::K, &S::V))>
+    fn last_place(&self) -> Found<'_, S::K, S::V>
         ensures { found_pair result ≡ last_member self.now.contents }
     {
         neighbours::last_pair(&self.store, self.root, self.height)
     }
 
-    fn place_after(
-        &self,
-        leaf: LeafNodeId,
-        offset: usize,
-        key: &S::K,
-    ) -> Option<((LeafNodeId, usize), (&S::K, &S::V))>
+    fn place_after(&self, at: (LeafNodeId, usize), key: &S::K) -> Found<'_, S::K, S::V>
         ensures { found_pair result ≡ next S.K.cmp self.now.contents key.now }
     {
-        neighbours::pair_after(&self.store, self.root, self.height, leaf, offset, key)
+        neighbours::pair_after(&self.store, self.root, self.height, at.0, at.1, key)
     }
 
     // The pair with the least key that is not below a key.
-    fn place_from(&self, k: &S::K) -> Option<((LeafNodeId, usize), (&S::K, &S::V))>
+    fn place_from(&self, k: &S::K) -> Found<'_, S::K, S::V>
         ensures { found_pair result ≡ at_least S.K.cmp self.now.contents k.now }
     {
-        let id = reading::leaf_for(&self.store, self.root, self.height, k);
-        let leaf = self.store.get_leaf(id);
-        match leaf.locate_slot_counted(k, &mut Compares::below(self.height)) {
-            Ok(slot) => Some(((id, slot), leaf.data_at(slot))),
-            Err(slot) => self.place_after(id, slot, k),
+        match self.find(k) {
+            Ok(found) => Some(found),
+            Err(at) => self.place_after(at, k),
         }
     }
 
-    fn place_before(
-        &self,
-        leaf: LeafNodeId,
-        offset: usize,
-        key: &S::K,
-    ) -> Option<((LeafNodeId, usize), (&S::K, &S::V))>
+    fn place_before(&self, at: (LeafNodeId, usize), key: &S::K) -> Found<'_, S::K, S::V>
         ensures { found_pair result ≡ previous S.K.cmp self.now.contents key.now }
     {
-        neighbours::pair_before(&self.store, self.root, self.height, leaf, offset, key)
+        neighbours::pair_before(&self.store, self.root, self.height, at.0, at.1, key)
     }
 
     // The value at a key, which is tried at a place first.

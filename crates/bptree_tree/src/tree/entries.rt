@@ -1,12 +1,13 @@
 //! Reads of one pair: by its key, and at both ends.
-ghost use Rattle.std.specs.Prelude.{◌≡◌, slice_get};
+ghost use Rattle.std.specs.Prelude.{◌≡◌, false, slice_get, IfOk, IfErr};
 ghost use Rattle.std.specs.Option.{option_map};
 ghost use Rattle.bptree_keys.specs.Contents.{has, last_member};
-ghost use Rattle.bptree_tree.specs.Entries.{entry};
+ghost use Rattle.bptree_tree.specs.Entries.{IsFoundAt, entry};
 ghost use Rattle.std.specs.Map.Iter.{deref_pair};
 
 use crate::tree::BPlusTree;
 use bptree_keys::compares::Compares;
+use bptree_keys::node_id::LeafNodeId;
 use bptree_shape::reading;
 use bptree_stores::node_stores::NodeStore;
 
@@ -22,11 +23,27 @@ impl<S: NodeStore> BPlusTree<S> {
     pub fn get_key_value(&self, k: &S::K) -> Option<(&S::K, &S::V)>
         ensures { option_map deref_pair result ≡ entry S.K.cmp self.now.contents k.now }
     {
+        match self.find(k) {
+            Ok((_, pair)) => Some(pair),
+            Err(_) => None,
+        }
+    }
+
+    // The pair whose key equals `k`, with the leaf and the slot where it stands; else the leaf that
+    // can hold the key, and the slot where it would stand.
+    #[inline(always)]
+    pub(crate) fn find(
+        &self,
+        k: &S::K,
+    ) -> Result<((LeafNodeId, usize), (&S::K, &S::V)), (LeafNodeId, usize)>
+        ensures found { IfOk result (IsFoundAt S.K.cmp self.now.contents k.now) }
+        ensures absent { IfErr result (λ _. has S.K.cmp self.now.contents k.now ≡ false) }
+    {
         let id = reading::leaf_for(&self.store, self.root, self.height, k);
         let leaf = self.store.get_leaf(id);
         match leaf.locate_slot_counted(k, &mut Compares::below(self.height)) {
-            Ok(slot) => Some(leaf.data_at(slot)),
-            Err(_) => None,
+            Ok(slot) => Ok(((id, slot), leaf.data_at(slot))),
+            Err(slot) => Err((id, slot)),
         }
     }
 

@@ -4,6 +4,7 @@ ghost use Rattle.std.specs.Iterator.{at_most, item_count, UpTo};
 ghost use Rattle.std.specs.Iterator.SizeHint.{IsWithinCount};
 ghost use Rattle.std.specs.Map.Iter.{TakesFirst, TakesLast, GivesInOrder, GivesInReverse};
 ghost use Rattle.bptree_keys.specs.Contents.{IsAscending};
+ghost use Rattle.bptree_tree.specs.Chain.{TakesEnd, all_from};
 
 use crate::chain::Chain;
 use crate::tree::BPlusTree;
@@ -92,45 +93,57 @@ impl<S: NodeStore> IntoIterator for BPlusTree<S> {
     }
 }
 
-// The first pair that is left.
-fn next_of<S: NodeStore>(
-    leaves: &mut Chain<S>,
-    front: &mut LeafPairs<S::K, S::V>,
-    back: &mut LeafPairs<S::K, S::V>,
-) -> Option<(S::K, S::V)>
-    ensures { TakesFirst (λ pair. pair) (front.old ++ (leaves.old ++ back.old)) result (front.new ++ (leaves.new ++ back.new)) }
+// The first pair of an open leaf, or the last one.
+#[inline(always)]
+fn pair_at_end<K: Drop, V: Drop>(pairs: &mut LeafPairs<K, V>, is_last: bool) -> Option<(K, V)>
+    ensures { TakesEnd is_last pairs.old result pairs.new }
 {
-    match front.next() {
-        Some(pair) => return Some(pair),
-        None => {}
-    }
-    match leaves.take_first() {
-        Some(leaf) => {
-            *front = LeafNode::into_pairs(leaf);
-            front.next()
-        }
-        None => back.next(),
+    if is_last {
+        pairs.next_back()
+    } else {
+        pairs.next()
     }
 }
 
-// The last pair that is left.
-fn last_of<S: NodeStore>(
+// The same of what is left in all leaves: the open one near that end, those between, and the open
+// one far from it.
+#[inline(always)]
+fn pair_left<S: NodeStore>(
+    near: &mut LeafPairs<S::K, S::V>,
     leaves: &mut Chain<S>,
-    front: &mut LeafPairs<S::K, S::V>,
-    back: &mut LeafPairs<S::K, S::V>,
+    far: &mut LeafPairs<S::K, S::V>,
+    is_last: bool,
 ) -> Option<(S::K, S::V)>
-    ensures { TakesLast (λ pair. pair) (front.old ++ (leaves.old ++ back.old)) result (front.new ++ (leaves.new ++ back.new)) }
+    ensures { TakesEnd is_last (all_from is_last near.old leaves.old far.old) result (all_from is_last near.new leaves.new far.new) }
 {
-    match back.next_back() {
+    match pair_at_end(near, is_last) {
         Some(pair) => return Some(pair),
         None => {}
     }
-    match leaves.take_last() {
+    match leaves.take_end(is_last) {
         Some(leaf) => {
-            *back = LeafNode::into_pairs(leaf);
-            back.next_back()
+            *near = LeafNode::into_pairs(leaf);
+            pair_at_end(near, is_last)
         }
-        None => front.next_back(),
+        None => pair_at_end(far, is_last),
+    }
+}
+
+impl<S: NodeStore> IntoIter<S> {
+    // The first pair that is left, or the last one.
+    #[inline(always)]
+    fn pair_at(&mut self, is_last: bool) -> Option<(S::K, S::V)>
+        ensures { TakesEnd is_last self.old result self.new }
+    {
+        if self.len == 0 {
+            return None;
+        }
+        self.len -= 1;
+        if is_last {
+            pair_left(&mut self.back, &mut self.leaves, &mut self.front, true)
+        } else {
+            pair_left(&mut self.front, &mut self.leaves, &mut self.back, false)
+        }
     }
 }
 
@@ -142,11 +155,7 @@ impl<S: NodeStore> Iterator for IntoIter<S> {
     ghost remaining = { item_count (λ left. left) };
 
     fn next(&mut self) -> Option<(S::K, S::V)> {
-        if self.len == 0 {
-            return None;
-        }
-        self.len -= 1;
-        next_of(&mut self.leaves, &mut self.front, &mut self.back)
+        self.pair_at(false)
     }
 
     fn size_hint(&self) -> (usize, Option<usize>)
@@ -162,11 +171,7 @@ impl<S: NodeStore> DoubleEndedIterator for IntoIter<S> {
     ghost next_back_gives = { TakesLast (λ pair. pair) };
 
     fn next_back(&mut self) -> Option<(S::K, S::V)> {
-        if self.len == 0 {
-            return None;
-        }
-        self.len -= 1;
-        last_of(&mut self.leaves, &mut self.front, &mut self.back)
+        self.pair_at(true)
     }
 }
 

@@ -7,9 +7,9 @@ ghost use Rattle.std.specs.Map.Iter.{deref_pair};
 
 use crate::cursor::Cursor;
 use crate::tree::BPlusTree;
+use crate::tree::cursors::Found;
 use bptree_arguments::argument::SearchArgument;
 use bptree_descents::by_argument;
-use bptree_keys::node_id::LeafNodeId;
 use bptree_stores::node_stores::NodeStore;
 use std::alloc::AllocError;
 
@@ -27,11 +27,7 @@ impl<S: NodeStore> BPlusTree<S> {
         ensures selected { IfOk result (PointsAtSelected S.Argument.selects query self.now.contents S.K.cmp) }
         ensures sure { S.Argument.needs_no_memory → ((key : S.K) → S.K.is_infallible key) → IsOk result }
     {
-        let Some((place, (key, value))) = self.place_by_argument(query)? else {
-            return Ok(None);
-        };
-        let cursor = Cursor::at(place, key)?;
-        Ok(Some((cursor, value)))
+        Self::cursor_on(self.place_by_argument(query)?)
     }
 
     // The pair at a place that is allowed for the query, with the leaf and the slot where it
@@ -39,7 +35,7 @@ impl<S: NodeStore> BPlusTree<S> {
     pub(crate) fn place_by_argument(
         &self,
         query: <S::Argument as SearchArgument<S::K>>::Query,
-    ) -> Result<Option<((LeafNodeId, usize), (&S::K, &S::V))>, AllocError>
+    ) -> Result<Found<'_, S::K, S::V>, AllocError>
     where
         S::Argument: SearchArgument<S::K>,
         ensures selected { IfOk result (λ answer. IsSelected S.Argument.selects query self.now.contents (option_map (λ found. deref_pair found.1) answer)) }

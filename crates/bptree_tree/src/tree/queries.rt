@@ -3,7 +3,6 @@ ghost use Rattle.std.specs.Prelude.{◌≡◌, IfOk, IfErr, IsOk, is_ok, length}
 ghost use Rattle.std.specs.Map.{keys_of};
 ghost use Rattle.bptree_arguments.specs.Visits.{answered, IsAllowedError};
 ghost use Rattle.bptree_keys.specs.Contents.{has};
-ghost use Rattle.bptree_keys.specs.Ranges.{between};
 ghost use Rattle.bptree_ranges.specs.Summaries.{IsPartSummary};
 ghost use Rattle.bptree_tree.specs.Changes.{EitherWay};
 ghost use Rattle.bptree_tree.specs.Entries.{pairs_between, SumsUpBetween};

@@ -2,7 +2,7 @@ use Rattle.std.proofs.Common.{◌∷◌, [], length, length-append, arith, ap, s
 use mathlib.Core.Bool.{true≢false}
 use Rattle.bptree_shape.specs.Outcome.{Done}
 use Rattle.bptree_ascent.proofs.AnySummary.{risen_untouched}
-use Rattle.bptree_ascent.proofs.Climbing.{empty_path, present, argument_place, climbs_keeps, risen_keeps, place_above, present_after, place_after, when_kept, risen_here}
+use Rattle.bptree_ascent.proofs.Climbing.{empty_path, present, argument_place, climbs_keeps, risen_keeps, place_above, present_after, place_after, put_back, risen_here}
 use Rattle.bptree_ascent.proofs.ascent.+ascend.Goals as goal
 
 pub returns-then-is_zst-clause-rises : goal.returns-then-is_zst-clause-rises
@@ -28,19 +28,21 @@ sum_of_changed-requires-clause-place g t c = place_after g.met.S.K.Ord.total g.S
 pub sum_of_changed-requires-clause-above : goal.sum_of_changed-requires-clause-above
 sum_of_changed-requires-clause-above g t c = place_above g.met.S.K.Ord.total g.S.Argument.Argument.is_summary (g.S.NodeStore.slots c.args.store.now) (g.S.NodeStore.slots c.set_at-old.new.store) c.args.path.now c.args.summary c.requires c.pop.new.self c.in-Some.id c.in-Some.place c.in-Some.field-0-2 c.in-Some.ensures.some c.set_at-old.result c.set_at-old.ensures.keeps
 
-pub restore_at-requires-clause-present : goal.restore_at-requires-clause-present
-restore_at-requires-clause-present g t c = present_after g.met.S.K.Ord.total g.S.Argument.Argument.is_summary (g.S.NodeStore.slots c.args.store.now) (g.S.NodeStore.slots c.set_at-old.new.store) c.args.path.now c.args.summary c.requires c.pop.new.self c.in-Some.id c.in-Some.place c.in-Some.field-0-2 c.in-Some.ensures.some c.set_at-old.result c.set_at-old.ensures.keeps
+pub set_at-requires-clause-present : goal.set_at-requires-clause-present
+set_at-requires-clause-present g t c = present_after g.met.S.K.Ord.total g.S.Argument.Argument.is_summary (g.S.NodeStore.slots c.args.store.now) (g.S.NodeStore.slots c.set_at-old.new.store) c.args.path.now c.args.summary c.requires c.pop.new.self c.in-Some.id c.in-Some.place c.in-Some.field-0-2 c.in-Some.ensures.some c.set_at-old.result c.set_at-old.ensures.keeps
 
-pub restore_at-requires-clause-place : goal.restore_at-requires-clause-place
-restore_at-requires-clause-place g t c = place_after g.met.S.K.Ord.total g.S.Argument.Argument.is_summary (g.S.NodeStore.slots c.args.store.now) (g.S.NodeStore.slots c.set_at-old.new.store) c.args.path.now c.args.summary c.requires c.pop.new.self c.in-Some.id c.in-Some.place c.in-Some.field-0-2 c.in-Some.ensures.some c.set_at-old.result c.set_at-old.ensures.keeps
+pub set_at-requires-clause-place : goal.set_at-requires-clause-place
+set_at-requires-clause-place g t c = place_after g.met.S.K.Ord.total g.S.Argument.Argument.is_summary (g.S.NodeStore.slots c.args.store.now) (g.S.NodeStore.slots c.set_at-old.new.store) c.args.path.now c.args.summary c.requires c.pop.new.self c.in-Some.id c.in-Some.place c.in-Some.field-0-2 c.in-Some.ensures.some c.set_at-old.result c.set_at-old.ensures.keeps
 
 pub returns-in_default-sum_of_changed-clause-refused : goal.returns-in_default-sum_of_changed-clause-refused
-returns-in_default-sum_of_changed-clause-refused g t c = (when_kept g.met.S.K.Ord.total g.S.Argument.Argument.is_summary (g.S.NodeStore.slots c.args.store.now) (g.S.NodeStore.slots c.set_at-old.new.store) c.args.path.now c.args.summary c.requires c.pop.new.self c.in-Some.id c.in-Some.place c.in-Some.field-0-2 c.in-Some.ensures.some c.set_at-old.result c.set_at-old.ensures.keeps
-    (λ was here read keeps. c.restore_at.ensures.undoes (g.S.NodeStore.slots c.args.store.now) was c.args.summary here read keeps)).0
+returns-in_default-sum_of_changed-clause-refused g t c =
+    (put_back g.met.S.K.Ord.total g.S.Argument.Argument.is_summary (g.S.NodeStore.slots c.args.store.now) (g.S.NodeStore.slots c.set_at-old.new.store) c.args.path.now c.args.summary c.requires c.pop.new.self c.in-Some.id c.in-Some.place c.in-Some.field-0-2 c.in-Some.ensures.some c.set_at-old.result c.set_at-old.ensures.keeps
+    (g.S.NodeStore.slots c.set_at.new.store) c.set_at.result c.set_at.ensures.keeps).0
 
 pub returns-in_default-sum_of_changed-clause-handed_back : goal.returns-in_default-sum_of_changed-clause-handed_back
-returns-in_default-sum_of_changed-clause-handed_back g t c = (when_kept g.met.S.K.Ord.total g.S.Argument.Argument.is_summary (g.S.NodeStore.slots c.args.store.now) (g.S.NodeStore.slots c.set_at-old.new.store) c.args.path.now c.args.summary c.requires c.pop.new.self c.in-Some.id c.in-Some.place c.in-Some.field-0-2 c.in-Some.ensures.some c.set_at-old.result c.set_at-old.ensures.keeps
-    (λ was here read keeps. c.restore_at.ensures.undoes (g.S.NodeStore.slots c.args.store.now) was c.args.summary here read keeps)).1
+returns-in_default-sum_of_changed-clause-handed_back g t c =
+    (put_back g.met.S.K.Ord.total g.S.Argument.Argument.is_summary (g.S.NodeStore.slots c.args.store.now) (g.S.NodeStore.slots c.set_at-old.new.store) c.args.path.now c.args.summary c.requires c.pop.new.self c.in-Some.id c.in-Some.place c.in-Some.field-0-2 c.in-Some.ensures.some c.set_at-old.result c.set_at-old.ensures.keeps
+    (g.S.NodeStore.slots c.set_at.new.store) c.set_at.result c.set_at.ensures.keeps).1
 
 pub ascend-requires : goal.ascend-requires
 ascend-requires g t c κs within = (
@@ -48,11 +50,11 @@ ascend-requires g t c κs within = (
   (within.0, (within.1.0, (within.1.1.0, (within.1.1.1, rw c.in-Ok.ensures.path (climbs_keeps g.met.S.K.Ord.total g.S.Argument.Argument.is_summary (g.S.NodeStore.slots c.args.store.now) (g.S.NodeStore.slots c.set_at-old.new.store) c.args.path.now c.args.summary c.requires c.pop.new.self c.in-Some.id c.in-Some.place c.in-Some.field-0-2 c.in-Some.ensures.some c.set_at-old.result c.set_at-old.ensures.keeps c.in-Ok.above c.in-Ok.ensures.sums))))),
 )
 
-pub restore_at-requires-in-Err-clause-present : goal.restore_at-requires-in-Err-clause-present
-restore_at-requires-in-Err-clause-present g t c = rw c.in-Err.ensures.refused (present_after g.met.S.K.Ord.total g.S.Argument.Argument.is_summary (g.S.NodeStore.slots c.args.store.now) (g.S.NodeStore.slots c.set_at-old.new.store) c.args.path.now c.args.summary c.requires c.pop.new.self c.in-Some.id c.in-Some.place c.in-Some.field-0-2 c.in-Some.ensures.some c.set_at-old.result c.set_at-old.ensures.keeps)
+pub set_at-requires-in-Err-clause-present : goal.set_at-requires-in-Err-clause-present
+set_at-requires-in-Err-clause-present g t c = rw c.in-Err.ensures.refused (present_after g.met.S.K.Ord.total g.S.Argument.Argument.is_summary (g.S.NodeStore.slots c.args.store.now) (g.S.NodeStore.slots c.set_at-old.new.store) c.args.path.now c.args.summary c.requires c.pop.new.self c.in-Some.id c.in-Some.place c.in-Some.field-0-2 c.in-Some.ensures.some c.set_at-old.result c.set_at-old.ensures.keeps)
 
-pub restore_at-requires-in-Err-clause-place : goal.restore_at-requires-in-Err-clause-place
-restore_at-requires-in-Err-clause-place g t c = rw c.in-Err.ensures.refused (place_after g.met.S.K.Ord.total g.S.Argument.Argument.is_summary (g.S.NodeStore.slots c.args.store.now) (g.S.NodeStore.slots c.set_at-old.new.store) c.args.path.now c.args.summary c.requires c.pop.new.self c.in-Some.id c.in-Some.place c.in-Some.field-0-2 c.in-Some.ensures.some c.set_at-old.result c.set_at-old.ensures.keeps)
+pub set_at-requires-in-Err-clause-place : goal.set_at-requires-in-Err-clause-place
+set_at-requires-in-Err-clause-place g t c = rw c.in-Err.ensures.refused (place_after g.met.S.K.Ord.total g.S.Argument.Argument.is_summary (g.S.NodeStore.slots c.args.store.now) (g.S.NodeStore.slots c.set_at-old.new.store) c.args.path.now c.args.summary c.requires c.pop.new.self c.in-Some.id c.in-Some.place c.in-Some.field-0-2 c.in-Some.ensures.some c.set_at-old.result c.set_at-old.ensures.keeps)
 
 pub returns-in-Ok-ascend-clause-rises : goal.returns-in-Ok-ascend-clause-rises
 returns-in-Ok-ascend-clause-rises g t c climbs =
@@ -60,9 +62,11 @@ returns-in-Ok-ascend-clause-rises g t c climbs =
     (g.S.NodeStore.slots c.ascend.new.store) c.in-Ok-ascend.top (rw c.in-Ok.ensures.path at c.in-Ok-ascend.ensures.rises)
 
 pub returns-in-Err-clause-refused : goal.returns-in-Err-clause-refused
-returns-in-Err-clause-refused g t c = (when_kept g.met.S.K.Ord.total g.S.Argument.Argument.is_summary (g.S.NodeStore.slots c.args.store.now) (g.S.NodeStore.slots c.set_at-old.new.store) c.args.path.now c.args.summary c.requires c.pop.new.self c.in-Some.id c.in-Some.place c.in-Some.field-0-2 c.in-Some.ensures.some c.set_at-old.result c.set_at-old.ensures.keeps
-    (λ was here read keeps. c.restore_at-in-Err.ensures.undoes (g.S.NodeStore.slots c.args.store.now) was c.args.summary here read (rw c.in-Err.ensures.refused keeps))).0
+returns-in-Err-clause-refused g t c =
+    (put_back g.met.S.K.Ord.total g.S.Argument.Argument.is_summary (g.S.NodeStore.slots c.args.store.now) (g.S.NodeStore.slots c.set_at-old.new.store) c.args.path.now c.args.summary c.requires c.pop.new.self c.in-Some.id c.in-Some.place c.in-Some.field-0-2 c.in-Some.ensures.some c.set_at-old.result c.set_at-old.ensures.keeps
+    (g.S.NodeStore.slots c.set_at-in-Err.new.store) c.set_at-in-Err.result (rw c.in-Err.ensures.refused at c.set_at-in-Err.ensures.keeps)).0
 
 pub returns-in-Err-clause-handed_back : goal.returns-in-Err-clause-handed_back
-returns-in-Err-clause-handed_back g t c = (when_kept g.met.S.K.Ord.total g.S.Argument.Argument.is_summary (g.S.NodeStore.slots c.args.store.now) (g.S.NodeStore.slots c.set_at-old.new.store) c.args.path.now c.args.summary c.requires c.pop.new.self c.in-Some.id c.in-Some.place c.in-Some.field-0-2 c.in-Some.ensures.some c.set_at-old.result c.set_at-old.ensures.keeps
-    (λ was here read keeps. c.restore_at-in-Err.ensures.undoes (g.S.NodeStore.slots c.args.store.now) was c.args.summary here read (rw c.in-Err.ensures.refused keeps))).1
+returns-in-Err-clause-handed_back g t c =
+    (put_back g.met.S.K.Ord.total g.S.Argument.Argument.is_summary (g.S.NodeStore.slots c.args.store.now) (g.S.NodeStore.slots c.set_at-old.new.store) c.args.path.now c.args.summary c.requires c.pop.new.self c.in-Some.id c.in-Some.place c.in-Some.field-0-2 c.in-Some.ensures.some c.set_at-old.result c.set_at-old.ensures.keeps
+    (g.S.NodeStore.slots c.set_at-in-Err.new.store) c.set_at-in-Err.result (rw c.in-Err.ensures.refused at c.set_at-in-Err.ensures.keeps)).1

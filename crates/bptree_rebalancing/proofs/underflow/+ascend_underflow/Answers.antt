@@ -27,9 +27,6 @@ returns-in_default-clause-rises g t c climbs =
     let none = empty_path c.args.path.now (λ some. true≢false (sym (c.in_default.ensures.variant.1 some))) in
     sn.sunk_here g.met.S.K.Ord.total g.S.Argument.Argument.is_summary (g.S.NodeStore.slots c.args.store.now) c.args.path.now c.args.id c.args.summary climbs none
 
-pub sibling-slot-requires-clause-present : goal.sibling-slot-requires-clause-present
-sibling-slot-requires-clause-present g t c = sn.node_there g.met.S.K.Ord.total c.requires c.pop.new.self c.in-Some.parent c.in-Some.place c.in-Some.field-0-2 c.in-Some.ensures.some
-
 pub sibling-slot-requires-clause-children : goal.sibling-slot-requires-clause-children
 sibling-slot-requires-clause-children g t c = sn.nodes_there g.met.S.K.Ord.total c.requires c.pop.new.self c.in-Some.parent c.in-Some.place c.in-Some.field-0-2 c.in-Some.ensures.some
 
@@ -37,22 +34,13 @@ pub sibling-slot-requires-clause-long : goal.sibling-slot-requires-clause-long
 sibling-slot-requires-clause-long g t c = sn.long_there g.met.S.K.Ord.total c.requires c.pop.new.self c.in-Some.parent c.in-Some.place c.in-Some.field-0-2 c.in-Some.ensures.some
 
 pub sibling-slot-requires-clause-place : goal.sibling-slot-requires-clause-place
-sibling-slot-requires-clause-place g t c = sn.place_there g.met.S.K.Ord.total c.requires c.pop.new.self c.in-Some.parent c.in-Some.place c.in-Some.field-0-2 c.in-Some.ensures.some
-
-pub sibling-slot-requires-clause-fits : goal.sibling-slot-requires-clause-fits
-sibling-slot-requires-clause-fits g t c = sn.fits_there g.met.S.K.Ord.total c.requires c.pop.new.self c.in-Some.parent c.in-Some.place c.in-Some.field-0-2 c.in-Some.ensures.some
-
-pub inners_at-requires-clause-present : goal.inners_at-requires-clause-present
-inners_at-requires-clause-present g t c = sn.node_there g.met.S.K.Ord.total c.requires c.pop.new.self c.in-Some.parent c.in-Some.place c.in-Some.field-0-2 c.in-Some.ensures.some
+sibling-slot-requires-clause-place g t c = (sn.node_there g.met.S.K.Ord.total c.requires c.pop.new.self c.in-Some.parent c.in-Some.place c.in-Some.field-0-2 c.in-Some.ensures.some, sn.place_there g.met.S.K.Ord.total c.requires c.pop.new.self c.in-Some.parent c.in-Some.place c.in-Some.field-0-2 c.in-Some.ensures.some, sn.fits_there g.met.S.K.Ord.total c.requires c.pop.new.self c.in-Some.parent c.in-Some.place c.in-Some.field-0-2 c.in-Some.ensures.some)
 
 pub inners_at-requires-clause-children : goal.inners_at-requires-clause-children
 inners_at-requires-clause-children g t c = sn.inners_there g.met.S.K.Ord.total c.requires c.pop.new.self c.in-Some.parent c.in-Some.place c.in-Some.field-0-2 c.in-Some.ensures.some
 
-pub inners_at-requires-clause-fits : goal.inners_at-requires-clause-fits
-inners_at-requires-clause-fits g t c = sn.fits_there g.met.S.K.Ord.total c.requires c.pop.new.self c.in-Some.parent c.in-Some.place c.in-Some.field-0-2 c.in-Some.ensures.some
-
 pub inners_at-requires-clause-slot : goal.inners_at-requires-clause-slot
-inners_at-requires-clause-slot g t c = sn.slot_there g.met.S.K.Ord.total c.requires c.pop.new.self c.in-Some.parent c.in-Some.place c.in-Some.field-0-2 c.in-Some.ensures.some c.sibling-slot.result.0 c.sibling-slot.result.1 c.sibling-slot.ensures
+inners_at-requires-clause-slot g t c = (sn.node_there g.met.S.K.Ord.total c.requires c.pop.new.self c.in-Some.parent c.in-Some.place c.in-Some.field-0-2 c.in-Some.ensures.some, sn.slot_there g.met.S.K.Ord.total c.requires c.pop.new.self c.in-Some.parent c.in-Some.place c.in-Some.field-0-2 c.in-Some.ensures.some c.sibling-slot.result.0 c.sibling-slot.result.1 c.sibling-slot.ensures, sn.fits_there g.met.S.K.Ord.total c.requires c.pop.new.self c.in-Some.parent c.in-Some.place c.in-Some.field-0-2 c.in-Some.ensures.some)
 
 pub rotate_inners_at-requires-clause-siblings : goal.rotate_inners_at-requires-clause-siblings
 rotate_inners_at-requires-clause-siblings g t c = sn.siblings_there g.met.S.K.Ord.total c.requires c.pop.new.self c.in-Some.parent c.in-Some.place c.in-Some.field-0-2 c.in-Some.ensures.some c.sibling-slot.result.0 c.sibling-slot.result.1 c.sibling-slot.ensures c.inners_at.result.0 c.inners_at.result.1 c.inners_at.ensures.left c.inners_at.ensures.right

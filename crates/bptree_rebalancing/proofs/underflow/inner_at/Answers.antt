@@ -1,10 +1,10 @@
-use Rattle.bptree_keys.specs.declared.node_id.NodeId.TheVariants as kind
 use Rattle.bptree_rebalancing.specs.ChooseSibling.{IsInnerAt}
+use Rattle.bptree_rebalancing.proofs.Choosing.{inner_numbered}
 use Rattle.bptree_shape.specs.Shape.{inner_children}
 use Rattle.bptree_shape.proofs.ListReads.{all_read}
 use Rattle.bptree_rebalancing.proofs.underflow.inner_at.Goals as goal
 
-pub unreachable-requires : goal.unreachable-requires
-unreachable-requires g c =
+pub inner_id_unchecked-requires : goal.inner_id_unchecked-requires
+inner_id_unchecked-requires g c =
     let slots = g.S.NodeStore.slots c.args.store.now in
-    all_read (IsInnerAt slots) (inner_children (slots.inner c.args.id.0)) c.args.place (kind.Leaf c.in-Leaf.field-0) c.requires.children (rw c.get_inner.ensures c.in-Leaf.ensures)
+    inner_numbered slots c.child_id.result (all_read (IsInnerAt slots) (inner_children (slots.inner c.args.id.0)) c.args.place c.child_id.result c.requires.children (rw c.get_inner.ensures c.child_id.ensures))

@@ -5,9 +5,6 @@ use Rattle.bptree_rebalancing.proofs.ClimbingLeaf as climb
 use Rattle.bptree_ascent.proofs.SlotFacts.{next_seen}
 use Rattle.bptree_removal.proofs.removal.rebalance_leaf.Goals as goal
 
-pub leaf_sibling-slot-requires-clause-present : goal.leaf_sibling-slot-requires-clause-present
-leaf_sibling-slot-requires-clause-present g c = spot.node_there g.met.S.K.Ord.total c.requires
-
 pub leaf_sibling-slot-requires-clause-children : goal.leaf_sibling-slot-requires-clause-children
 leaf_sibling-slot-requires-clause-children g c = spot.leaves_there g.met.S.K.Ord.total c.requires
 
@@ -15,22 +12,13 @@ pub leaf_sibling-slot-requires-clause-long : goal.leaf_sibling-slot-requires-cla
 leaf_sibling-slot-requires-clause-long g c = spot.long_there g.met.S.K.Ord.total c.requires
 
 pub leaf_sibling-slot-requires-clause-place : goal.leaf_sibling-slot-requires-clause-place
-leaf_sibling-slot-requires-clause-place g c = spot.place_there g.met.S.K.Ord.total c.requires
-
-pub leaf_sibling-slot-requires-clause-fits : goal.leaf_sibling-slot-requires-clause-fits
-leaf_sibling-slot-requires-clause-fits g c = spot.fits_there g.met.S.K.Ord.total c.requires
-
-pub leaves_at-requires-clause-present : goal.leaves_at-requires-clause-present
-leaves_at-requires-clause-present g c = spot.node_there g.met.S.K.Ord.total c.requires
+leaf_sibling-slot-requires-clause-place g c = (spot.node_there g.met.S.K.Ord.total c.requires, spot.place_there g.met.S.K.Ord.total c.requires, spot.fits_there g.met.S.K.Ord.total c.requires)
 
 pub leaves_at-requires-clause-children : goal.leaves_at-requires-clause-children
 leaves_at-requires-clause-children g c = spot.leaves_there g.met.S.K.Ord.total c.requires
 
-pub leaves_at-requires-clause-fits : goal.leaves_at-requires-clause-fits
-leaves_at-requires-clause-fits g c = spot.fits_there g.met.S.K.Ord.total c.requires
-
 pub leaves_at-requires-clause-slot : goal.leaves_at-requires-clause-slot
-leaves_at-requires-clause-slot g c = spot.slot_there g.met.S.K.Ord.total c.requires c.leaf_sibling-slot.result.0 c.leaf_sibling-slot.result.1 c.leaf_sibling-slot.ensures
+leaves_at-requires-clause-slot g c = (spot.node_there g.met.S.K.Ord.total c.requires, spot.slot_there g.met.S.K.Ord.total c.requires c.leaf_sibling-slot.result.0 c.leaf_sibling-slot.result.1 c.leaf_sibling-slot.ensures, spot.fits_there g.met.S.K.Ord.total c.requires)
 
 pub rotate_leaves_at-requires-clause-place : goal.rotate_leaves_at-requires-clause-place
 rotate_leaves_at-requires-clause-place g c = spot.entry_there g.met.S.K.Ord.total c.requires c.leaf_sibling-slot.result.0 c.leaf_sibling-slot.result.1 c.leaf_sibling-slot.ensures

@@ -15,8 +15,8 @@ end_path-leaf-requires-clause-room g c =
     let low = low_tree g.S.K.Ord.cmp g.S.Argument.Argument.is_summary (g.S.NodeStore.slots c.args.store.now) c.args.height c.args.root c.requires.shape c.requires.few in
     omega (arith, low, ap length c.clear.ensures)
 
-pub take_whole-requires : goal.take_whole-requires
-take_whole-requires g c =
+pub take_entry-requires : goal.take_entry-requires
+take_entry-requires g c =
     let total = g.met.S.K.Ord.total in
     let sum = g.S.Argument.Argument.is_summary in
     let old = g.S.NodeStore.slots c.args.store.now in
@@ -53,7 +53,7 @@ returns-clause-removed g c =
     let here : slice_get (leaf_pairs (old.leaf leaf.0)) slot ≡ slice_get (pairs_at old c.args.height c.args.root) place = rw (c.get_leaf.ensures, stands) at in
     let pair = pair_there total sum old c.args.height c.args.root c.requires.shape c.requires.few leaf slot within c.clear.new.self c.end_path-leaf.new.path c.clear.ensures (c.end_path-leaf.ensures.way slot) in
     let found = found_there total sum old c.args.height c.args.root c.requires.shape c.requires.few leaf slot within c.clear.new.self c.end_path-leaf.new.path c.clear.ensures (c.end_path-leaf.ensures.way slot) in
-    taken_there total sum old c.args.height c.args.root c.requires.shape c.requires.few leaf slot within c.clear.new.self c.end_path-leaf.new.path c.clear.ensures (c.end_path-leaf.ensures.way slot) (slots c.take_whole.new.store) gone.value gone.root gone.height gone.summary place here (c.in_ok-gone.ensures.taken pair.0.0 found)
+    taken_there total sum old c.args.height c.args.root c.requires.shape c.requires.few leaf slot within c.clear.new.self c.end_path-leaf.new.path c.clear.ensures (c.end_path-leaf.ensures.way slot) (slots c.take_entry.new.store) gone.value gone.root gone.height gone.summary place here (c.in_ok-gone.ensures.found pair.0.0 found)
 
 pub returns-in_err-gone-clause-empty : goal.returns-in_err-gone-clause-empty
 returns-in_err-gone-clause-empty g c empty =

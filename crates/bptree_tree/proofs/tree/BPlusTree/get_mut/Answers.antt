@@ -7,9 +7,10 @@ use Rattle.bptree_nodes.specs.LeafResults.{HasEqualAt}
 use Rattle.bptree_nodes.specs.Slot.{Slot, Present}
 use Rattle.bptree_nodes.proofs.LeafContents.{value_at_place}
 use Rattle.bptree_shape.specs.Shape.{root_least, pairs_at}
-use Rattle.bptree_ascent.proofs.Lent.{lent_pairs, lent_store, none_if_absent}
+use Rattle.bptree_ascent.proofs.Lent.{lent_pairs, lent_store}
 use Rattle.bptree_shape.proofs.Spot.{value_in_leaf, leaf_ascends}
 use Rattle.bptree_shape.proofs.Walk.{tree_ascends}
+use Rattle.bptree_tree.proofs.EntryLemmas.{value_lacking}
 use Rattle.bptree_tree.proofs.LentAt.{lent_right}
 use Rattle.bptree_tree.proofs.tree.BPlusTree.get_mut.Goals as goal
 
@@ -64,18 +65,10 @@ returns-in-Ok g c =
 -- nothing is lent
 pub returns-in-Err : goal.returns-in-Err
 returns-in-Err g c =
-    let total = g.met.S.K.Ord.total in
-    let cmp = g.S.K.Ord.cmp in
-    let slots = g.S.NodeStore.slots c.self.inside.store in
-    let tree = c.self.inside in
-    let leaf = c.leaf_for-leaf.result in
-    let node = c.get_leaf.result.now in
-    let k = c.args.k.now in
-    let ascending : IsAscending cmp (pairs_at slots tree.height tree.root) = tree_ascends total slots (root_least tree.height) tree.height tree.root None None c.self.invariant.0.tree in
-    let sorted = leaf_ascends total slots tree.height tree.root leaf node c.leaf_for-leaf.ensures.stands ascending c.get_leaf.ensures in (
+    let tree = c.self.inside in (
       ap inr c.self.view_is,
       record {
         writes_back = tt;
-        value = rw (← c.self.view_is) (sym (value_in_leaf total slots tree.height tree.root k leaf node c.leaf_for-leaf.ensures c.get_leaf.ensures ∙ none_if_absent cmp node.pairs k (c.in-Err.ensures.place sorted).0));
+        value = rw (← c.self.view_is) (sym (value_lacking g.met.S.K.Ord.total g.S.Argument.Argument.is_summary (g.S.NodeStore.slots tree.store) tree.height tree.root c.self.invariant.0 c.args.k.now c.leaf_for-leaf.result c.get_leaf.result.now c.leaf_for-leaf.ensures c.get_leaf.ensures (λ sorted. (c.in-Err.ensures.place sorted).0)));
       },
     )
