@@ -1,5 +1,5 @@
 -- Two siblings rotate or merge, and what undoes that.
-use Rattle.std.proofs.Common.{◌≡◌, ℕ, zero, suc, ◌+◌, ◌-◌, ◌<◌, ◌≤◌, List, [], ◌∷◌, ◌++◌, length, take, drop, refl, sym, ap, subst, ◌∙◌, arith, Option, Some, slice_get, slice_set, length-append}
+use Rattle.std.proofs.Common.{◌≡◌, ℕ, zero, suc, ◌+◌, ◌-◌, ◌<◌, ◌≤◌, List, [], ◌∷◌, ◌++◌, length, take, drop, refl, sym, ap, subst, ◌∙◌, arith, add-one, Option, Some, slice_get, slice_set, length-append}
 use Rattle.std.specs.declared.cmp.Ordering.{Ordering}
 use Rattle.std.specs.List.{insert, remove}
 use Rattle.std.proofs.lemmas.List.{take_at, drop_at}
@@ -9,15 +9,16 @@ use Rattle.bptree_keys.specs.declared.node_id.NodeId.{NodeId}
 use Rattle.bptree_nodes.specs.Inner.{Inner, with_entry, without_entry, first_children, later_children}
 use Rattle.bptree_nodes.specs.Leaf.{Leaf}
 use Rattle.bptree_nodes.specs.Slot.{Slot, Present}
-use Rattle.bptree_rebalancing.specs.Transfer.{other_of, CanGive, Moves, MovesPair, MovesChild, MergesLeaf, MergesInner, HasEntry, Rotates, Merges}
-use Rattle.bptree_ascent.specs.Sums.{HasPlace}
+use Rattle.bptree_rebalancing.specs.Transfer.{other_of, CanGive, Moves, MovesPair, MovesChild, MergesLeaf, MergesInner, HasEntry, Rotates, Merges, ExchangesJoint}
+use Rattle.bptree_ascent.specs.Sums.{HasPlace, with_summary, with_split}
 use Rattle.bptree_ascent.specs.declared.node_changes.Division.{Division}
+use Rattle.bptree_rebalancing.specs.declared.rotate_merge.Joint.{Joint}
 use Rattle.bptree_rebalancing.specs.declared.rotate_merge.Sibling.{Sibling}
 use Rattle.bptree_rebalancing.specs.declared.rotate_merge.Sibling.TheVariants.{Left, Right}
 use Rattle.bptree_rebalancing.proofs.Choosing.{inserted_is}
-use Rattle.bptree_shape.proofs.ListReads.{read_below}
+use Rattle.bptree_shape.proofs.ListReads.{read_below, read_some}
 use Rattle.bptree_ascent.proofs.Undone.{same_node}
-use Rattle.bptree_ascent.proofs.NodeChanges.{entry_back, sum_back, place_below}
+use Rattle.bptree_ascent.proofs.NodeChanges.{entry_back, sum_back, place_below, set_back, set_long}
 
 module _ {X : Type 0} where
   -- what was removed is inserted again
@@ -37,6 +38,32 @@ module _ {X : Type 0} where
   read_at_end [] ys x i e = rw e refl
   read_at_end (z ∷ xs) ys x zero e = absurd (omega arith)
   read_at_end (z ∷ xs) ys x (suc i) e = read_at_end xs ys x i (omega arith)
+
+  -- what was inserted is replaced, and so is what stands right before it
+  set_inserted : (xs : List X) (i : ℕ) (a b : X) → i ≤ length xs → slice_set (insert xs i a) i b ≡ insert xs i b
+  set_inserted [] zero a b within = refl
+  set_inserted [] (suc i) a b within = absurd (omega arith)
+  set_inserted (x ∷ xs) zero a b within = refl
+  set_inserted (x ∷ xs) (suc i) a b within = ap (λ l. x ∷ l) (set_inserted xs i a b (omega arith))
+
+  set_before : (xs : List X) (i : ℕ) (a b : X) → i < length xs → slice_set (insert xs (suc i) a) i b ≡ insert (slice_set xs i b) (suc i) a
+  set_before [] i a b below = absurd (omega arith)
+  set_before (x ∷ xs) zero a b below = refl
+  set_before (x ∷ xs) (suc i) a b below = ap (λ l. x ∷ l) (set_before xs i a b (omega arith))
+
+  get_before : (xs : List X) (i : ℕ) (a : X) → i < length xs → slice_get (insert xs (suc i) a) i ≡ slice_get xs i
+  get_before [] i a below = absurd (omega arith)
+  get_before (x ∷ xs) zero a below = refl
+  get_before (x ∷ xs) (suc i) a below = get_before xs i a (omega arith)
+
+  -- what stands right behind is still there
+  get_next : (xs : List X) (i : ℕ) (a : X) → slice_get (slice_set xs i a) (suc i) ≡ slice_get xs (suc i)
+  get_next [] i a = refl
+  get_next (x ∷ xs) zero a = refl
+  get_next (x ∷ xs) (suc i) a = get_next xs i a
+
+  pub get_behind : (xs : List X) (i : ℕ) (a : X) → slice_get (slice_set xs i a) (i + 1) ≡ slice_get xs (i + 1)
+  get_behind xs i a = rw add-one (get_next xs i a)
 
 -- how far the giver and its sibling are from what they had, once the one gave and the other gave back
 back_sizes : (giver : Sibling) (a b c d e f : ℕ) → Moves giver a b c d → Moves (other_of giver) c d e f → (e ≡ a) × (f ≡ b)
@@ -126,6 +153,61 @@ module _ {K A : Type 0} where
         place = record { within = omega (arith, first, h.within); children = omega (arith, first, second, h.children, h.within); arguments = omega (arith, second, third, h.arguments) };
         is = node_same node (with_entry (without_entry node slot) slot s child a) (sym (insert_removed node.keys slot s key)) (sym (insert_removed node.children (slot + 1) child at)) (sym (insert_removed node.arguments (slot + 1) a told));
       })
+
+  -- a node with another separator, and other summaries on both sides
+  abbrev pub with_joint : Inner K A → ℕ → Joint K A → Inner K A
+  with_joint node slot joint = record node {
+    keys = slice_set node.keys slot joint.separator;
+    arguments = slice_set (slice_set node.arguments slot joint.left) (slot + 1) joint.right;
+  }
+
+  joint_put : (bare : Inner K A) (slot : ℕ) (s : K) (child : NodeId) (a : A) (joint : Joint K A) → HasPlace bare slot
+      → with_joint (with_entry bare slot s child a) slot joint ≡ with_split bare slot joint.left joint.separator child joint.right
+  joint_put bare slot s child a joint h =
+      let below = place_below bare slot h in
+      let long = set_long bare.arguments slot joint.left in
+      node_same _ _ (set_inserted bare.keys slot s joint.separator h.within) refl
+      (rw add-one (ap (λ xs. slice_set xs (suc slot) joint.right) (set_before bare.arguments slot a joint.left below) ∙ set_inserted (slice_set bare.arguments slot joint.left) (suc slot) a joint.right (omega (arith, below, long))))
+
+  joint_is : (node new : Inner K A) (slot : ℕ) (joint out : Joint K A) → ExchangesJoint slot node joint out new → new ≡ with_joint node slot joint
+  joint_is node new slot joint out x = x.is ∙ sym (ap (λ n. with_joint n slot joint) x.entry.is ∙ joint_put x.bare slot out.separator x.child out.right joint x.entry.place)
+
+  pub joint_exchanged : (node new : Inner K A) (slot : ℕ) (joint out : Joint K A) → HasPlace node (slot + 1) → slice_get node.keys slot ≡ Some out.separator → slice_get node.arguments slot ≡ Some out.left → slice_get node.arguments (slot + 1) ≡ Some out.right
+      → new ≡ with_joint node slot joint → ExchangesJoint slot node joint out new
+  joint_exchanged node new slot joint out h key left right is =
+      let at = read_some node.children (slot + 1) (omega (arith, h.within, h.children)) in
+      let bare = without_entry node slot in
+      let entry = entry_out node bare slot out.separator at.0 out.right h key at.1 right refl in record {
+        bare = bare;
+        child = at.0;
+        entry = entry;
+        summary =
+            sym (get_before bare.arguments slot out.right (place_below bare slot entry.place))
+            ∙ (ap (λ n. slice_get (insert bare.arguments n out.right) slot) (sym (add-one slot)) ∙ (ap (λ (n : Inner K A). slice_get n.arguments slot) (sym entry.is) ∙ left));
+        is = is ∙ (ap (λ n. with_joint n slot joint) entry.is ∙ joint_put bare slot out.separator at.0 out.right joint entry.place);
+      }
+
+  -- the place stays, and so does the number of keys
+  pub joint_place : (node new : Inner K A) (slot : ℕ) (joint out : Joint K A) → HasPlace node (slot + 1) → ExchangesJoint slot node joint out new → HasPlace new (slot + 1) × (length new.keys ≡ length node.keys)
+  joint_place node new slot joint out h x =
+      let is = joint_is node new slot joint out x in
+      let keys : length new.keys ≡ length node.keys = ap (λ (n : Inner K A). length n.keys) is ∙ set_long node.keys slot joint.separator in
+      let children : length new.children ≡ length node.children = ap (λ (n : Inner K A). length n.children) is in
+      let arguments : length new.arguments ≡ length node.arguments =
+      ap (λ (n : Inner K A). length n.arguments) is ∙ (set_long (slice_set node.arguments slot joint.left) (slot + 1) joint.right ∙ set_long node.arguments slot joint.left) in
+      (record { within = omega (arith, keys, h.within); children = omega (arith, keys, children, h.children); arguments = omega (arith, children, arguments, h.arguments) }, keys)
+
+  -- what stood there stands there again
+  pub joint_back : (node bare now back : Inner K A) (slot : ℕ) (child : NodeId) (joint told out : Joint K A) → HasEntry node bare slot joint.separator child joint.right → slice_get bare.arguments slot ≡ Some joint.left
+      → now ≡ with_split bare slot told.left told.separator child told.right → ExchangesJoint slot now joint out back → back ≡ node
+  joint_back node bare now back slot child joint told out entry summary is x =
+      let other = with_summary bare slot told.left in
+      let h = entry.place in
+      let there : HasPlace other slot = record { within = h.within; children = h.children; arguments = set_long bare.arguments slot told.left ∙ h.arguments } in
+      joint_is now back slot joint out x
+      ∙ (ap (λ n. with_joint n slot joint) is
+      ∙ (joint_put other slot told.separator child told.right joint there
+      ∙ (ap (λ xs. with_entry (record bare { arguments = xs }) slot joint.separator child joint.right) (set_back bare.arguments slot told.left joint.left summary) ∙ sym entry.is)))
 
   -- an entry of the node that stands somewhere
   pub entry_of : {bare : Inner K A} {slot : ℕ} {s : K} {child : NodeId} {a : A} (there : Slot (Inner K A)) (node was : Inner K A) → there ≡ Present node → there ≡ Present was → HasEntry was bare slot s child a → HasEntry node bare slot s child a

@@ -1,5 +1,5 @@
 -- A parent and two of its children are taken out of a store, changed, and put back.
-use Rattle.std.proofs.Common.{◌≡◌, ℕ, ◌+◌, ◌≤◌, List, length, slice_get, Some, inl, inr, sym, ap, ◌∙◌, Result, Ok, Err, IfOk}
+use Rattle.std.proofs.Common.{◌≡◌, ℕ, ◌+◌, ◌≤◌, List, length, slice_get, Some, inl, inr, refl, sym, ap, subst, ◌∙◌, Result, Ok, Err, IfOk}
 use Rattle.std.specs.declared.cmp.Ordering.{Ordering}
 use Rattle.std.proofs.lemmas.Bool.{cases_eq}
 use Rattle.bptree_nodes.specs.Inner.{Inner}
@@ -9,12 +9,16 @@ use Rattle.bptree_keys.specs.declared.node_id.InnerNodeId.{InnerNodeId}
 use Rattle.bptree_keys.specs.declared.node_id.LeafNodeId.{LeafNodeId}
 use Rattle.bptree_keys.specs.declared.node_id.NodeId.TheVariants as kind
 use Rattle.bptree_shape.specs.Shape.{leaf_pairs, leaf_next, inner_keys, inner_children}
+use Rattle.bptree_ascent.specs.Change.{StartsAt}
+use Rattle.bptree_ascent.specs.LeafChange.{SumsUpLeaf}
 use Rattle.bptree_ascent.proofs.Undone.{same_node}
 use Rattle.bptree_rebalancing.specs.ChooseSibling.{CanGivePair, CanGiveChild, FitInOneLeaf, FitInOneNode}
-use Rattle.bptree_rebalancing.specs.RotateMerge.{RotatesLeaves, MergesLeaves, RotatesInners, MergesInners, UndoesRotateLeaves, UndoesRotateInners, UndoesMergeLeaves, UndoesMergeInners, ThreeAt, RotatesLeavesAt, MergesLeavesAt, RotatesInnersAt, MergesInnersAt}
+use Rattle.bptree_rebalancing.specs.RotateMerge.{MergesLeaves, RotatesInners, MergesInners, UndoesRotateInners, UndoesMergeLeaves, UndoesMergeInners, ThreeAt, MovesPairAt, RetellsLeavesAt, RotatesLeavesAt, MergesLeavesAt, RotatesInnersAt, MergesInnersAt}
+use Rattle.bptree_rebalancing.specs.Transfer.{other_of, MovesPair, ExchangesJoint}
 use Rattle.bptree_rebalancing.specs.declared.rotate_merge.Joint.{Joint}
 use Rattle.bptree_rebalancing.specs.declared.rotate_merge.Sibling.{Sibling}
 use Rattle.bptree_rebalancing.specs.declared.rotate_merge.Sides.{Sides}
+use Rattle.bptree_rebalancing.proofs.Transfers.{joint_back, pair_moved_back}
 
 pub slots_same : {I L : Type 0} (x y : Slots I L) → ((n : ℕ) → x.inner n ≡ y.inner n) → ((n : ℕ) → x.leaf n ≡ y.leaf n) → x ≡ y
 slots_same x y inner leaf = λ i. record { inner = λ n. inner n i; leaf = λ n. leaf n i }
@@ -71,31 +75,7 @@ module _ {K V A : Type 0} {old s1 s2 s3 s4 s5 : Slots (Inner K A) (Leaf K V)} (i
   leaves_stay n l r =
       p2.leaf.others n l ∙ (ap (λ (f : ℕ → Slot (Leaf K V)). f n) p1.leaf ∙ (t3.leaf.others n r ∙ (t2.leaf.others n l ∙ ap (λ (f : ℕ → Slot (Leaf K V)). f n) t1.leaf)))
 
-  module _ (s6 : Slots (Inner K A) (Leaf K V)) (slot : Slot (Leaf K V)) (p3 : UpdatesLeaf s5 s6 right.0 slot) where
-    node_is_then : s6.inner id.0 ≡ Present node'
-    node_is_then = ap (λ (f : ℕ → Slot (Inner K A)). f id.0) p3.inner ∙ node_is
-
-    left_is_then : s6.leaf left.0 ≡ Present one'
-    left_is_then = p3.leaf.others left.0 apart ∙ left_is
-
-    inners_stay_then : (n : ℕ) → (n ≡ id.0 → ⊥) → s6.inner n ≡ old.inner n
-    inners_stay_then n far = ap (λ (f : ℕ → Slot (Inner K A)). f n) p3.inner ∙ inners_stay n far
-
-    leaves_stay_then : (n : ℕ) → (n ≡ left.0 → ⊥) → (n ≡ right.0 → ⊥) → s6.leaf n ≡ old.leaf n
-    leaves_stay_then n l r = p3.leaf.others n r ∙ leaves_stay n l r
-
-    -- all is as it was in another store
-    all_back : (was : Slots (Inner K A) (Leaf K V)) → ((n : ℕ) → (n ≡ id.0 → ⊥) → old.inner n ≡ was.inner n) → ((n : ℕ) → (n ≡ left.0 → ⊥) → (n ≡ right.0 → ⊥) → old.leaf n ≡ was.leaf n)
-        → (was.inner id.0 ≡ Present node') × (was.leaf left.0 ≡ Present one') × (was.leaf right.0 ≡ slot) → s6 ≡ was
-    all_back was inners leaves (here, at_left, at_right) =
-        slots_same s6 was
-        (λ n. elim (cases_eq n id.0) [ inl e ↦ (rw e (node_is_then ∙ sym here)) | inr far ↦ inners_stay_then n far ∙ inners n far ])
-        (λ n. elim (cases_eq n left.0) [
-          | inl e ↦ (rw e (left_is_then ∙ sym at_left))
-          | inr l ↦ elim (cases_eq n right.0) [ inl e ↦ (rw e (p3.leaf.changed ∙ sym at_right)) | inr r ↦ leaves_stay_then n l r ∙ leaves n l r ]
-        ])
-
-  -- so the two merged, or rotated, or a rotation was undone
+  -- so the two merged
   module _ {cmp : K → K → Ordering} {is_summary : A → List K → Type 0} {slot : ℕ} {joint : Joint K A} {node : Inner K A} (here : old.inner id.0 ≡ Present node) where
     pub leaves_merged : {emptied : Leaf K V} → length (inner_keys (old.inner id.0)) ≤ 64 → FitInOneLeaf old left right → MergesLeaves cmp is_summary slot node one other node' one' emptied joint → MergesLeavesAt cmp is_summary slot old s5 id left right joint emptied
     leaves_merged most fits merges = record {
@@ -106,20 +86,126 @@ module _ {K V A : Type 0} {old s1 s2 s3 s4 s5 : Slots (Inner K A) (Leaf K V)} (i
       transfers = merges;
     }
 
-    module _ {giver : Sibling} {s6 : Slots (Inner K A) (Leaf K V)} {other' : Leaf K V} (p3 : UpdatesLeaf s5 s6 right.0 (Present other')) where
-      pub leaves_rotated : length (inner_keys (old.inner id.0)) ≤ 64 → CanGivePair old giver left right → RotatesLeaves cmp is_summary giver slot node one other node' one' other' joint → RotatesLeavesAt cmp is_summary slot old s6 id giver left right joint
-      leaves_rotated most can rotates = record {
+-- a pair of one leaf went to its sibling, one leaf after the other
+module _ {K V A : Type 0} {old mid new : Slots (Inner K A) (Leaf K V)} (giver : Sibling) (left right : LeafNodeId) {one other one' other' : Leaf K V} (apart : left.0 ≡ right.0 → ⊥) (can : CanGivePair old giver left right) (moves : MovesPair giver one other one' other') where
+  pub moved_from_left : old.leaf left.0 ≡ Present one → UpdatesLeaf old mid left.0 (Present one') → mid.leaf right.0 ≡ Present other → UpdatesLeaf mid new right.0 (Present other') → MovesPairAt old new giver left right
+  moved_from_left at_left first at_mid second =
+      let at_right : old.leaf right.0 ≡ Present other = sym (first.leaf.others right.0 (λ e. apart (sym e))) ∙ at_mid in record {
+        one = one;
+        other = other;
+        one' = one';
         other' = other';
-        three = three_at here left_was right_was (node_is_then s6 (Present other') p3) (left_is_then s6 (Present other') p3) p3.leaf.changed apart most;
-        inners = inners_stay_then s6 (Present other') p3;
-        leaves = leaves_stay_then s6 (Present other') p3;
-        can = rw (left_was, right_was) at can;
-        transfers = rotates;
+        at_left = at_left;
+        at_right = at_right;
+        is_left = second.leaf.others left.0 apart ∙ first.leaf.changed;
+        is_right = second.leaf.changed;
+        leaves = λ n l r. second.leaf.others n r ∙ first.leaf.others n l;
+        inner = second.inner ∙ first.inner;
+        can = rw (at_left, at_right) at can;
+        moves = moves;
       }
 
-      pub leaves_unrotated : (was : Slots (Inner K A) (Leaf K V)) → RotatesLeavesAt cmp is_summary slot was old id giver left right joint → UndoesRotateLeaves cmp is_summary slot joint node one other node' one' other' giver → s6 ≡ was
-      leaves_unrotated was r undoes =
-          all_back s6 (Present other') p3 was r.inners r.leaves (three_back r.three (λ x y z. RotatesLeaves cmp is_summary giver slot r.three.node r.three.one r.three.other x y z joint) here left_was right_was r.transfers (undoes r.three.node r.three.one r.three.other))
+  pub moved_from_right : old.leaf right.0 ≡ Present other → UpdatesLeaf old mid right.0 (Present other') → mid.leaf left.0 ≡ Present one → UpdatesLeaf mid new left.0 (Present one') → MovesPairAt old new giver left right
+  moved_from_right at_right first at_mid second =
+      let at_left : old.leaf left.0 ≡ Present one = sym (first.leaf.others left.0 apart) ∙ at_mid in record {
+        one = one;
+        other = other;
+        one' = one';
+        other' = other';
+        at_left = at_left;
+        at_right = at_right;
+        is_left = second.leaf.changed;
+        is_right = second.leaf.others right.0 (λ e. apart (sym e)) ∙ first.leaf.changed;
+        leaves = λ n l r. second.leaf.others n l ∙ first.leaf.others n r;
+        inner = second.inner ∙ first.inner;
+        can = rw (at_left, at_right) at can;
+        moves = moves;
+      }
+
+-- a pair that went over comes back
+pub pairs_back : {K V A : Type 0} {giver : Sibling} (left right : LeafNodeId) {old mid new : Slots (Inner K A) (Leaf K V)} → MovesPairAt old mid giver left right → (mid' : Slots (Inner K A) (Leaf K V)) → mid'.leaf ≡ mid.leaf → MovesPairAt mid' new (other_of giver) left right → new.leaf ≡ old.leaf
+pairs_back {K} {V} {A} {giver} left right {old} {mid} {new} there mid' same back = λ i n. each n i
+  where
+    one : back.one ≡ there.one'
+    one = same_node (mid'.leaf left.0) back.one there.one' back.at_left (ap (λ (f : ℕ → Slot (Leaf K V)). f left.0) same ∙ there.is_left)
+
+    other : back.other ≡ there.other'
+    other = same_node (mid'.leaf right.0) back.other there.other' back.at_right (ap (λ (f : ℕ → Slot (Leaf K V)). f right.0) same ∙ there.is_right)
+
+    undone : (back.one' ≡ there.one) × (back.other' ≡ there.other)
+    undone = pair_moved_back giver there.one there.other there.one' there.other' back.one' back.other' there.moves (subst (λ (l : Leaf K V). MovesPair (other_of giver) l there.other' back.one' back.other') one (subst (λ (l : Leaf K V). MovesPair (other_of giver) back.one l back.one' back.other') other back.moves))
+
+    each : (n : ℕ) → new.leaf n ≡ old.leaf n
+    each n =
+        elim (cases_eq n left.0) [
+          | inl e ↦ (rw e (back.is_left ∙ (ap Present undone.0 ∙ sym there.at_left)))
+          | inr l ↦ elim (cases_eq n right.0) [
+            | inl e ↦ (rw e (back.is_right ∙ (ap Present undone.1 ∙ sym there.at_right)))
+            | inr r ↦ back.leaves n l r ∙ (ap (λ (f : ℕ → Slot (Leaf K V)). f n) same ∙ there.leaves n l r)
+          ]
+        ]
+
+module _ {K V A : Type 0} {cmp : K → K → Ordering} {is_summary : A → List K → Type 0} {slot : ℕ} {giver : Sibling} (id : InnerNodeId) (left right : LeafNodeId) {joint : Joint K A} where
+  -- and the node above has what stands between the two then
+  pub leaves_rotated : {old mid new : Slots (Inner K A) (Leaf K V)} → (left.0 ≡ right.0 → ⊥) → MovesPairAt old mid giver left right → RetellsLeavesAt cmp is_summary slot mid new id left right joint → RotatesLeavesAt cmp is_summary slot old new id giver left right joint
+  leaves_rotated {old} {mid} {new} apart moved told =
+      let x = told.exchanges in
+      let one = same_node (mid.leaf left.0) told.one moved.one' told.at_left moved.is_left in
+      let other = same_node (mid.leaf right.0) told.other moved.other' told.at_right moved.is_right in
+      let at_node : old.inner id.0 ≡ Present told.node = sym (ap (λ (f : ℕ → Slot (Inner K A)). f id.0) moved.inner) ∙ told.at_node in
+      let leaf = told.updates.leaf in record {
+        other' = moved.other';
+        three = three_at at_node moved.at_left moved.at_right told.updates.inner.changed (ap (λ (f : ℕ → Slot (Leaf K V)). f left.0) leaf ∙ moved.is_left) (ap (λ (f : ℕ → Slot (Leaf K V)). f right.0) leaf ∙ moved.is_right) apart (rw at_node told.most);
+        inners = λ n far. told.updates.inner.others n far ∙ ap (λ (f : ℕ → Slot (Inner K A)). f n) moved.inner;
+        leaves = λ n l r. ap (λ (f : ℕ → Slot (Leaf K V)). f n) leaf ∙ moved.leaves n l r;
+        can = moved.can;
+        transfers = record {
+          bare = x.bare;
+          child = x.child;
+          entry = x.entry;
+          moves = moved.moves;
+          rotates = record {
+            left = told.told.left;
+            separator = told.told.separator;
+            right = told.told.right;
+            is = x.is;
+            summary = x.summary;
+            told_left = subst (λ (l : Leaf K V). SumsUpLeaf cmp is_summary l.pairs told.told.left) one told.tells.told_left;
+            separates = subst (λ (l : Leaf K V). StartsAt cmp told.told.separator l.pairs) other told.tells.separates;
+            told_right = subst (λ (l : Leaf K V). SumsUpLeaf cmp is_summary l.pairs told.told.right) other told.tells.told_right;
+          };
+        };
+      }
+
+  -- the two, and the node above, are again what they were
+  pub leaves_unrotated : {was now mid new : Slots (Inner K A) (Leaf K V)} → (node back : Inner K A) (out : Joint K A) → RotatesLeavesAt cmp is_summary slot was now id giver left right joint → now.inner id.0 ≡ Present node → ExchangesJoint slot node joint out back → UpdatesInner now mid id.0 (Present back) → MovesPairAt mid new (other_of giver) left right
+      → new ≡ was
+  leaves_unrotated {was} {now} {mid} {new} node back out r here x put moved =
+      let three = r.three in
+      let rotates = r.transfers.rotates in
+      let told : Joint K A = record { left = rotates.left; separator = rotates.separator; right = rotates.right } in
+      let is = same_node (now.inner id.0) node three.node' here three.is_node ∙ rotates.is in
+      let undone = joint_back three.node r.transfers.bare node back slot r.transfers.child joint told out r.transfers.entry rotates.summary is x in
+      let there : MovesPairAt was (record { inner = was.inner; leaf = now.leaf }) giver left right = record {
+        one = three.one;
+        other = three.other;
+        one' = three.one';
+        other' = r.other';
+        at_left = three.at_left;
+        at_right = three.at_right;
+        is_left = three.is_left;
+        is_right = three.is_right;
+        leaves = r.leaves;
+        inner = refl;
+        can = r.can;
+        moves = r.transfers.moves;
+      } in
+      slots_same new was
+      (λ n. ap (λ (f : ℕ → Slot (Inner K A)). f n) moved.inner ∙ elim (cases_eq n id.0) [
+        | inl e ↦ (rw e (put.inner.changed ∙ (ap Present undone ∙ sym three.at_node)))
+        | inr far ↦ put.inner.others n far ∙ r.inners n far
+      ])
+      (λ n. ap (λ (f : ℕ → Slot (Leaf K V)). f n) (pairs_back left right there mid put.leaf moved))
 
 -- the same where the children are inner nodes
 module _ {K V A : Type 0} {old s1 s2 s3 s4 s5 : Slots (Inner K A) (Leaf K V)} (id left right : InnerNodeId) {node' one other one' : Inner K A} (apart : (left.0 ≡ right.0 → ⊥) × (left.0 ≡ id.0 → ⊥) × (right.0 ≡ id.0 → ⊥))

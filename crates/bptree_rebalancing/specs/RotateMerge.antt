@@ -3,14 +3,14 @@ use Rattle.std.specs.Prelude.{◌≡◌, ℕ, ◌+◌, ◌<◌, ◌≤◌, List,
 use Rattle.std.specs.declared.cmp.Ordering.{Ordering}
 use Rattle.bptree_nodes.specs.Inner.{Inner}
 use Rattle.bptree_nodes.specs.Leaf.{Leaf}
-use Rattle.bptree_nodes.specs.Slot.{Slot, Slots, Held, Present}
+use Rattle.bptree_nodes.specs.Slot.{Slot, Slots, Held, Present, UpdatesInner}
 use Rattle.bptree_keys.specs.declared.node_id.InnerNodeId.{InnerNodeId}
 use Rattle.bptree_keys.specs.declared.node_id.LeafNodeId.{LeafNodeId}
 use Rattle.bptree_keys.specs.declared.node_id.NodeId.{NodeId}
 use Rattle.bptree_keys.specs.declared.node_id.NodeId.TheVariants as kind
 use Rattle.bptree_ascent.specs.Change.{StartsAt}
 use Rattle.bptree_ascent.specs.LeafChange.{SumsUpLeaf}
-use Rattle.bptree_rebalancing.specs.Transfer.{CanGive, MovesPair, MergesLeaf, MovesChild, MergesInner, HasEntry, Rotates, Merges}
+use Rattle.bptree_rebalancing.specs.Transfer.{CanGive, MovesPair, MergesLeaf, MovesChild, MergesInner, HasEntry, Rotates, Merges, ExchangesJoint}
 use Rattle.bptree_ascent.specs.Sums.{SumsUp, PlaceAt}
 use Rattle.bptree_ascent.specs.declared.node_changes.Resummed.{Resummed}
 use Rattle.bptree_shape.specs.Shape.{leaf_pairs, leaf_next, inner_keys, inner_children}
@@ -27,11 +27,13 @@ module _ {K V A : Type 0} (cmp : K → K → Ordering) (is_summary : A → List 
     pub moves : MovesPair giver left right left' right'
     pub rotates : Rotates cmp bare slot child (SumsUpLeaf cmp is_summary left'.pairs) (λ s. StartsAt cmp s right'.pairs) (SumsUpLeaf cmp is_summary right'.pairs) node' joint.left
 
-  -- a node takes the summaries of two leaves below it, with a separator between them; or the new summary of one leaf
-  abbrev pub TakesLeaves : Inner K A → ℕ → NodeId → Leaf K V → Leaf K V → Inner K A → Resummed A → Type 0
-  TakesLeaves old slot child left right new sums =
-      Rotates cmp old slot child (SumsUpLeaf cmp is_summary left.pairs) (λ s. StartsAt cmp s right.pairs) (SumsUpLeaf cmp is_summary right.pairs) new sums.old
+  -- what stands between two leaves: their summaries, and a separator
+  pub record TellsLeaves (left right : Leaf K V) (joint : Joint K A) : Type 0 where
+    pub told_left : SumsUpLeaf cmp is_summary left.pairs joint.left
+    pub separates : StartsAt cmp joint.separator right.pairs
+    pub told_right : SumsUpLeaf cmp is_summary right.pairs joint.right
 
+  -- a node takes the new summary of a leaf below it
   abbrev pub TakesLeaf : Inner K A → ℕ → Leaf K V → Inner K A → Resummed A → Type 0
   TakesLeaf old slot leaf new sums = Merges old slot (SumsUpLeaf cmp is_summary leaf.pairs) new sums.old
 
@@ -76,10 +78,6 @@ module _ {K A : Type 0} (cmp : K → K → Ordering) (is_summary : A → List K 
 -- A parent and two children that rotated or merged are again what they were. The left child had `kept` pairs or keys before a
 -- merge, and the right one was `child`, behind a leaf whose link was `next`.
 module _ {K V A : Type 0} (cmp : K → K → Ordering) (is_summary : A → List K → Type 0) (slot : ℕ) (joint : Joint K A) (node : Inner K A) (left right : Leaf K V) (node' : Inner K A) (left' right' : Leaf K V) where
-  abbrev pub UndoesRotateLeaves : Sibling → Type 0
-  UndoesRotateLeaves giver =
-      (was : Inner K A) (one other : Leaf K V) → RotatesLeaves cmp is_summary giver slot was one other node left right joint → (node' ≡ was) × (left' ≡ one) × (right' ≡ other)
-
   abbrev pub UndoesMergeLeaves : NodeId → ℕ → Option LeafNodeId → Type 0
   UndoesMergeLeaves child kept next =
       (was : Inner K A) (one other : Leaf K V) → MergesLeaves cmp is_summary slot was one other node left right joint → slice_get was.children (slot + 1) ≡ Some child → kept ≡ length one.pairs → next ≡ one.next → (node' ≡ was) × (left' ≡ one) × (right' ≡ other)
@@ -100,6 +98,21 @@ pub record AreInnersBeside {K V A : Type 0} (slots : Slots (Inner K A) (Leaf K V
   pub right_some : 0 < length (inner_children (slots.inner right.0))
   pub apart : (left.0 ≡ right.0 → ⊥) × (left.0 ≡ id.0 → ⊥) × (right.0 ≡ id.0 → ⊥)
 
+-- a pair of one leaf went to its sibling
+pub record MovesPairAt {K V A : Type 0} (old new : Slots (Inner K A) (Leaf K V)) (giver : Sibling) (left right : LeafNodeId) : Type 0 where
+  pub one : Leaf K V
+  pub other : Leaf K V
+  pub one' : Leaf K V
+  pub other' : Leaf K V
+  pub at_left : old.leaf left.0 ≡ Present one
+  pub at_right : old.leaf right.0 ≡ Present other
+  pub is_left : new.leaf left.0 ≡ Present one'
+  pub is_right : new.leaf right.0 ≡ Present other'
+  pub leaves : (n : ℕ) → (n ≡ left.0 → ⊥) → (n ≡ right.0 → ⊥) → new.leaf n ≡ old.leaf n
+  pub inner : new.inner ≡ old.inner
+  pub can : CanGive giver (length one.pairs) (length other.pairs)
+  pub moves : MovesPair giver one other one' other'
+
 -- what stood under the numbers of a node and of two children of it, and what stands there then, `behind` under that of the right one
 pub record ThreeAt {K A C : Type 0} (above above' : ℕ → Slot (Inner K A)) (below below' : ℕ → Slot C) (id left right : ℕ) (behind : Slot C) : Type 0 where
   pub node : Inner K A
@@ -117,6 +130,21 @@ pub record ThreeAt {K A C : Type 0} (above above' : ℕ → Slot (Inner K A)) (b
   pub most : length node.keys ≤ 64
 
 module _ {K V A : Type 0} (cmp : K → K → Ordering) (is_summary : A → List K → Type 0) (slot : ℕ) (old new : Slots (Inner K A) (Leaf K V)) (id : InnerNodeId) where
+  -- a node above two leaves has their summaries, and a separator between them
+  pub record RetellsLeavesAt (left right : LeafNodeId) (joint : Joint K A) : Type 0 where
+    pub node : Inner K A
+    pub one : Leaf K V
+    pub other : Leaf K V
+    pub node' : Inner K A
+    pub at_node : old.inner id.0 ≡ Present node
+    pub at_left : old.leaf left.0 ≡ Present one
+    pub at_right : old.leaf right.0 ≡ Present other
+    pub updates : UpdatesInner old new id.0 (Present node')
+    pub most : length node.keys ≤ 64
+    pub told : Joint K A
+    pub tells : TellsLeaves cmp is_summary one other told
+    pub exchanges : ExchangesJoint slot node told joint node'
+
   -- what stands under the numbers of a node and of two leaves below it changed so
   pub record RotatesLeavesAt (giver : Sibling) (left right : LeafNodeId) (joint : Joint K A) : Type 0 where
     pub other' : Leaf K V

@@ -5,6 +5,7 @@ use Rattle.bptree_nodes.specs.Inner.{Inner, Fits, with_entry, merged}
 use Rattle.bptree_nodes.specs.Leaf.{Leaf}
 use Rattle.bptree_keys.specs.declared.node_id.NodeId.{NodeId}
 use Rattle.bptree_ascent.specs.Sums.{HasPlace, with_summary, with_split}
+use Rattle.bptree_rebalancing.specs.declared.rotate_merge.Joint.{Joint}
 use Rattle.bptree_rebalancing.specs.declared.rotate_merge.Sibling.{Sibling}
 use Rattle.bptree_rebalancing.specs.declared.rotate_merge.Sibling.TheVariants.{Left, Right}
 
@@ -64,6 +65,14 @@ module _ {K A : Type 0} where
     pub told_left : left_told left
     pub separates : parts separator
     pub told_right : right_told right
+
+  -- a separator, and the summaries of the children on both sides, stand in place of others, which are answered
+  pub record ExchangesJoint (slot : ℕ) (node : Inner K A) (joint out : Joint K A) (new : Inner K A) : Type 0 where
+    pub bare : Inner K A
+    pub child : NodeId
+    pub entry : HasEntry node bare slot out.separator child out.right
+    pub summary : slice_get bare.arguments slot ≡ Some out.left
+    pub is : new ≡ with_split bare slot joint.left joint.separator child joint.right
 
   -- a node takes a new summary of a child
   pub record Merges (bare : Inner K A) (slot : ℕ) (told : A → Type 0) (new : Inner K A) (before : A) : Type 0 where

@@ -2,8 +2,8 @@
 //! merge. What can't be had on the way is refused, and then all three nodes are again what they
 //! were.
 ghost use Rattle.std.specs.Prelude.{◌≡◌, ◌<◌, ◌≤◌, ◌+◌, [], length, IfOk, OnErr, IfErr};
-ghost use Rattle.bptree_rebalancing.specs.Transfer.{other_of, CanGive, MovesPair, MovesChild};
-ghost use Rattle.bptree_rebalancing.specs.RotateMerge.{RotatesLeaves, MergesLeaves, RotatesInners, MergesInners, TakesInner, TakesInners, TakesLeaf, TakesLeaves, UndoesMergeInners, UndoesMergeLeaves, UndoesRotateInners, UndoesRotateLeaves};
+ghost use Rattle.bptree_rebalancing.specs.Transfer.{other_of, CanGive, MovesChild, ExchangesJoint};
+ghost use Rattle.bptree_rebalancing.specs.RotateMerge.{MergesLeaves, RotatesInners, MergesInners, TakesInner, TakesInners, TakesLeaf, TellsLeaves, UndoesMergeInners, UndoesMergeLeaves, UndoesRotateInners};
 ghost use Rattle.bptree_ascent.specs.Sums.{HasPlace, SumsUp};
 
 use bptree_arguments::argument::Argument;
@@ -22,7 +22,7 @@ pub enum Sibling {
 }
 
 impl Sibling {
-    fn other(self) -> Sibling
+    pub(crate) fn other(self) -> Sibling
         ensures { result ≡ other_of self }
     {
         match self {
@@ -47,21 +47,6 @@ pub struct Joint<K, A> {
     pub right: A,
 }
 
-// One pair of the giver goes to its sibling.
-fn move_pair<K: Drop, V: Drop>(
-    giver: Sibling,
-    left: &mut LeafNode<K, V>,
-    right: &mut LeafNode<K, V>,
-)
-    requires { CanGive giver (length left.old.pairs) (length right.old.pairs) }
-    ensures { MovesPair giver left.old right.old left.new right.new }
-{
-    match giver {
-        Sibling::Left => left.rotate_right(right),
-        Sibling::Right => left.rotate_left(right),
-    }
-}
-
 // One child of the giver goes to its sibling. It answers the separator that then stands between the
 // two.
 fn move_child<K: Drop, A: Drop>(
@@ -81,38 +66,71 @@ fn move_child<K: Drop, A: Drop>(
     }
 }
 
-// Asks for the summaries of two leaves, and puts them with a separator and the number of the right
-// one into a node without that entry. It answers the node's summary and the left leaf's old one.
-fn ask_leaves<K: Key, V: Drop, A: Argument<K>>(
-    node: &mut InnerNode<K, A>,
-    slot: usize,
-    child: NodeId,
+/// The summaries of two leaves, and a separator between them.
+pub fn joint_of<K: Key, V: Drop, A: Argument<K>>(
     left: &LeafNode<K, V>,
     right: &LeafNode<K, V>,
-) -> Result<Resummed<A>, AllocError>
-    requires place { HasPlace node.old slot }
-    requires room { length node.old.keys < 64 }
-    requires some { 0 < length right.now.pairs }
-    ensures rotates { IfOk result (TakesLeaves K.cmp A.is_summary node.old slot child left.now right.now node.new) }
-    ensures sums { IfOk result (λ sums. SumsUp K.cmp A.is_summary node.new sums.above) }
-    ensures refused { OnErr result (node.new ≡ node.old) }
+) -> Result<Joint<K, A>, AllocError>
+    requires { 0 < length right.now.pairs }
+    ensures { IfOk result (TellsLeaves K.cmp A.is_summary left.now right.now) }
 {
     let separator = right.data_at(0).0.clone()?;
     let left = A::from_leaf(left.keys())?;
     let right = A::from_leaf(right.keys())?;
-    let division = Division {
+    Ok(Joint {
         left,
         separator,
-        node: child,
         right,
-    };
-    match take_entry(node, slot, division) {
-        Ok(sums) => Ok(sums),
-        Err(_) => Err(AllocError),
+    })
+}
+
+/// Puts a separator, and the summaries of the children on both sides, in place of what stands in a
+/// node. It answers that.
+pub fn exchange_joint<K: Key, A: Argument<K>>(
+    node: &mut InnerNode<K, A>,
+    slot: usize,
+    joint: Joint<K, A>,
+) -> Joint<K, A>
+    requires place { HasPlace node.old (slot + 1) }
+    requires most { length node.old.keys ≤ 64 }
+    ensures { ExchangesJoint slot node.old joint result node.new }
+{
+    let separator = node.set_key(slot, joint.separator);
+    let left = node.set_argument(slot, joint.left);
+    let right = node.set_argument(slot + 1, joint.right);
+    Joint {
+        left,
+        separator,
+        right,
     }
 }
 
-// The same of two inner nodes, with the separator between them. Refused, it hands that back.
+/// The same, and asks for the node's summary. It answers that, and what stood there; refused, the
+/// node is as it was.
+pub fn take_joint<K: Key, A: Argument<K>>(
+    node: &mut InnerNode<K, A>,
+    slot: usize,
+    joint: Joint<K, A>,
+) -> Result<(A, Joint<K, A>), AllocError>
+    requires place { HasPlace node.old (slot + 1) }
+    requires most { length node.old.keys ≤ 64 }
+    ensures exchanges { IfOk result (λ done. ExchangesJoint slot node.old joint done.1 node.new) }
+    ensures sums { IfOk result (λ done. SumsUp K.cmp A.is_summary node.new done.0) }
+    ensures refused { OnErr result (node.new ≡ node.old) }
+{
+    let before = exchange_joint(node, slot, joint);
+    match A::from_inner(node.keys(), node.arguments()) {
+        Ok(above) => Ok((above, before)),
+        Err(refusal) => {
+            exchange_joint(node, slot, before);
+            Err(refusal)
+        }
+    }
+}
+
+// Asks for the summaries of two inner nodes, and puts them with the separator between the two and the
+// number of the right one into a node without that entry. It answers the node's summary and the left
+// node's old one. Refused, it hands the separator back.
 fn ask_inners<K: Key, A: Argument<K>>(
     node: &mut InnerNode<K, A>,
     slot: usize,
@@ -183,64 +201,6 @@ fn ask_inner<K: Key, A: Argument<K>>(
     }
 }
 
-/// Rotates a pair from one leaf to its sibling. It answers the parent's summary, and what stood in
-/// the parent; refused, all three are as they were.
-pub fn rotate_leaves<K: Key, V: Drop, A: Argument<K>>(
-    node: &mut InnerNode<K, A>,
-    slot: usize,
-    giver: Sibling,
-    left: &mut LeafNode<K, V>,
-    right: &mut LeafNode<K, V>,
-) -> Result<(A, Joint<K, A>), AllocError>
-    requires place { HasPlace node.old (slot + 1) }
-    requires most { length node.old.keys ≤ 64 }
-    requires rotates { CanGive giver (length left.old.pairs) (length right.old.pairs) }
-    requires some { 1 < length right.old.pairs }
-    ensures rotates { IfOk result (λ done. RotatesLeaves K.cmp A.is_summary giver slot node.old left.old right.old node.new left.new right.new done.1) }
-    ensures sums { IfOk result (λ done. SumsUp K.cmp A.is_summary node.new done.0) }
-    ensures node { OnErr result (node.new ≡ node.old) }
-    ensures left { OnErr result (left.new ≡ left.old) }
-    ensures right { OnErr result (right.new ≡ right.old) }
-{
-    move_pair(giver, left, right);
-    let (separator, child, old) = node.remove_at(slot);
-    match ask_leaves(node, slot, child, left, right) {
-        Ok(Resummed { above, old: before }) => {
-            let joint = Joint {
-                left: before,
-                separator,
-                right: old,
-            };
-            Ok((above, joint))
-        }
-        Err(refusal) => {
-            node.insert_at(slot, separator, child, old);
-            move_pair(giver.other(), left, right);
-            Err(refusal)
-        }
-    }
-}
-
-/// Undoes what `rotate_leaves` did.
-pub fn undo_rotate_leaves<K: Key, V: Drop, A: Argument<K>>(
-    node: &mut InnerNode<K, A>,
-    slot: usize,
-    giver: Sibling,
-    joint: Joint<K, A>,
-    left: &mut LeafNode<K, V>,
-    right: &mut LeafNode<K, V>,
-)
-    requires place { HasPlace node.old (slot + 1) }
-    requires most { length node.old.keys ≤ 64 }
-    requires rotates { CanGive (other_of giver) (length left.old.pairs) (length right.old.pairs) }
-    ensures undoes { UndoesRotateLeaves K.cmp A.is_summary slot joint node.old left.old right.old node.new left.new right.new giver }
-{
-    let (_, child, _) = node.remove_at(slot);
-    node.set_argument(slot, joint.left);
-    node.insert_at(slot, joint.separator, child, joint.right);
-    move_pair(giver.other(), left, right);
-}
-
 /// Merges two leaves into the left one; the right one stays empty. It answers the parent's summary,
 /// and what stood in the parent; refused, all three are as they were.
 pub fn merge_leaves<K: Key, V: Drop, A: Argument<K>>(
@@ -303,8 +263,9 @@ pub fn undo_merge_leaves<K: Key, V: Drop, A: Argument<K>>(
     left.set_next(next);
 }
 
-/// Rotates a child from one inner node to its sibling, as `rotate_leaves` does a pair. The
-/// separator goes down to the one, and a key of the other comes up.
+/// Rotates a child from one inner node to its sibling. The separator goes down to the one, and a key
+/// of the other comes up. It answers the parent's summary, and what stood in the parent; refused, all
+/// three are as they were.
 pub fn rotate_inners<K: Key, A: Argument<K>>(
     node: &mut InnerNode<K, A>,
     slot: usize,

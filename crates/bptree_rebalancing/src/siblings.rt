@@ -4,19 +4,61 @@ ghost use Rattle.std.specs.Prelude.{◌≡◌, ◌<◌, ◌≤◌, ◌+◌, leng
 ghost use Rattle.bptree_nodes.specs.Slot.{IsPresent};
 ghost use Rattle.bptree_shape.specs.Shape.{leaf_pairs, inner_keys};
 ghost use Rattle.bptree_keys.specs.declared.node_id.NodeId.TheVariants as kind;
-ghost use Rattle.bptree_rebalancing.specs.RotateMerge.{AreInnersBeside, RotatesLeavesAt, MergesLeavesAt, RotatesInnersAt, MergesInnersAt, HaveMergedInners, HaveMergedLeaves, HaveRotatedInners, HaveRotatedLeaves, UndoesMergeInnersAt, UndoesMergeLeavesAt, UndoesRotateInnersAt, UndoesRotateLeavesAt};
+ghost use Rattle.bptree_rebalancing.specs.RotateMerge.{AreInnersBeside, RotatesLeavesAt, MergesLeavesAt, RotatesInnersAt, MergesInnersAt, HaveMergedInners, HaveMergedLeaves, HaveRotatedInners, HaveRotatedLeaves, MovesPairAt, RetellsLeavesAt, UndoesMergeInnersAt, UndoesMergeLeavesAt, UndoesRotateInnersAt, UndoesRotateLeavesAt};
 ghost use Rattle.bptree_ascent.specs.Sums.{PlaceAt, SumsUpAt, SumsUpFirst};
 ghost use Rattle.bptree_rebalancing.specs.ChooseSibling.{CanGiveChild, CanGivePair, FitInOneLeaf, FitInOneNode};
 
 use crate::rotate_merge::{
-    Joint, Sibling, Sides, merge_inners, merge_leaves, rotate_inners, rotate_leaves,
-    undo_merge_inners, undo_merge_leaves, undo_rotate_inners, undo_rotate_leaves,
+    Joint, Sibling, Sides, exchange_joint, joint_of, merge_inners, merge_leaves, rotate_inners,
+    take_joint, undo_merge_inners, undo_merge_leaves, undo_rotate_inners,
 };
 use bptree_keys::node_id::{InnerNodeId, LeafNodeId, NodeId};
 use bptree_nodes::inner_node::InnerNode;
 use bptree_nodes::leaf_node::LeafNode;
 use bptree_stores::node_stores::NodeStore;
 use std::alloc::AllocError;
+
+// One pair of the giver goes to its sibling.
+fn move_pair_at<S: NodeStore>(store: &mut S, giver: Sibling, left: LeafNodeId, right: LeafNodeId)
+    requires left { IsPresent ((S.slots store.old).leaf left.0) }
+    requires right { IsPresent ((S.slots store.old).leaf right.0) }
+    requires can { CanGivePair (S.slots store.old) giver left right }
+    requires apart { left.0 ≡ right.0 → ⊥ }
+    ensures { MovesPairAt (S.slots store.old) (S.slots store.new) giver left right }
+{
+    match giver {
+        Sibling::Left => {
+            let (key, value) = store.get_mut_leaf(left).pop();
+            store.get_mut_leaf(right).insert_at(0, key, value);
+        }
+        Sibling::Right => {
+            let (key, value) = store.get_mut_leaf(right).pop_front();
+            store.get_mut_leaf(left).push(key, value);
+        }
+    }
+}
+
+// Asks for the summaries of two leaves, and for a separator between them, and puts these into the
+// node above. It answers the summary of that node, and what stood there.
+fn retell_leaves_at<S: NodeStore>(
+    store: &mut S,
+    id: InnerNodeId,
+    slot: usize,
+    left: LeafNodeId,
+    right: LeafNodeId,
+) -> Result<(S::Argument, Joint<S::K, S::Argument>), AllocError>
+    requires place { PlaceAt ((S.slots store.old).inner id.0) (slot + 1) }
+    requires most { length (inner_keys ((S.slots store.old).inner id.0)) ≤ 64 }
+    requires left { IsPresent ((S.slots store.old).leaf left.0) }
+    requires right { IsPresent ((S.slots store.old).leaf right.0) }
+    requires some { 0 < length (leaf_pairs ((S.slots store.old).leaf right.0)) }
+    ensures retells { IfOk result (λ done. RetellsLeavesAt S.K.cmp S.Argument.is_summary slot (S.slots store.old) (S.slots store.new) id left right done.1) }
+    ensures sums { IfOk result (SumsUpFirst S.K.cmp S.Argument.is_summary (S.slots store.new) id) }
+    ensures refused { OnErr result (S.slots store.new ≡ S.slots store.old) }
+{
+    let joint = joint_of(store.get_leaf(left), store.get_leaf(right))?;
+    take_joint(store.get_mut_inner(id), slot, joint)
+}
 
 /// Rotates a pair from one leaf to its sibling. It answers the summary of the parent, and what
 /// stood there.
@@ -39,14 +81,14 @@ pub fn rotate_leaves_at<S: NodeStore>(
     ensures sums { IfOk result (SumsUpFirst S.K.cmp S.Argument.is_summary (S.slots store.new) id) }
     ensures refused { OnErr result (S.slots store.new ≡ S.slots store.old) }
 {
-    let mut node = store.take_inner(id);
-    let mut one = store.take_leaf(left);
-    let mut other = store.take_leaf(right);
-    let asked = rotate_leaves(&mut node, slot, giver, &mut one, &mut other);
-    store.put_back_inner(id, node);
-    store.assign_leaf(left, one);
-    store.assign_leaf(right, other);
-    asked
+    move_pair_at(store, giver, left, right);
+    match retell_leaves_at(store, id, slot, left, right) {
+        Ok(told) => Ok(told),
+        Err(refusal) => {
+            move_pair_at(store, giver.other(), left, right);
+            Err(refusal)
+        }
+    }
 }
 
 /// Undoes what `rotate_leaves_at` did.
@@ -62,13 +104,8 @@ pub fn undo_rotate_leaves_at<S: NodeStore>(
     requires { HaveRotatedLeaves S.K.cmp S.Argument.is_summary slot (S.slots store.old) id giver left right joint }
     ensures { UndoesRotateLeavesAt S.K.cmp S.Argument.is_summary slot (S.slots store.old) (S.slots store.new) id giver left right joint }
 {
-    let mut node = store.take_inner(id);
-    let mut one = store.take_leaf(left);
-    let mut other = store.take_leaf(right);
-    undo_rotate_leaves(&mut node, slot, giver, joint, &mut one, &mut other);
-    store.put_back_inner(id, node);
-    store.assign_leaf(left, one);
-    store.assign_leaf(right, other);
+    exchange_joint(store.get_mut_inner(id), slot, joint);
+    move_pair_at(store, giver.other(), left, right);
 }
 
 /// Merges two leaves under the number of the left one. It answers the summary of the parent, what

@@ -1,8 +1,14 @@
-use Rattle.bptree_rebalancing.proofs.Triples.{leaves_rotated, ok_so}
+use Rattle.std.proofs.Common.{ap, ◌∙◌}
+use Rattle.bptree_rebalancing.proofs.Triples.{leaves_rotated, pairs_back, slots_same}
 use Rattle.bptree_rebalancing.proofs.siblings.rotate_leaves_at.Goals as goal
 
-pub returns-clause-rotates : goal.returns-clause-rotates
-returns-clause-rotates g c =
-    ok_so c.rotate_leaves-asked.result _ _ c.rotate_leaves-asked.ensures.rotates
-    (λ done rotates. leaves_rotated c.args.id c.args.left c.args.right c.requires.apart c.take_inner-node.ensures.updates c.take_leaf-one.ensures.value c.take_leaf-one.ensures.updates c.take_leaf-other.ensures.value c.take_leaf-other.ensures.updates c.put_back_inner.ensures c.assign_leaf.ensures
-    c.take_inner-node.ensures.value c.assign_leaf-2.ensures c.requires.most c.requires.rotates (rw (c.deref_mut.ensures.value, c.deref_mut-2.ensures.value, c.deref_mut-3.ensures.value) at rotates))
+pub returns-in-Ok-clause-rotates : goal.returns-in-Ok-clause-rotates
+returns-in-Ok-clause-rotates g c = leaves_rotated c.args.id c.args.left c.args.right c.requires.apart c.move_pair_at.ensures c.in-Ok.ensures.retells
+
+pub returns-in-Err-clause-refused : goal.returns-in-Err-clause-refused
+returns-in-Err-clause-refused g c =
+    let there = c.move_pair_at.ensures in
+    let same = c.in-Err.ensures.refused in
+    let back = rw c.other.ensures at c.move_pair_at-in-Err.ensures in
+    slots_same (g.S.NodeStore.slots c.move_pair_at-in-Err.new.store) (g.S.NodeStore.slots c.args.store.now) (λ n. ap (λ f. f n) (back.inner ∙ (ap (λ s. s.inner) same ∙ there.inner)))
+    (λ n. ap (λ f. f n) (pairs_back c.args.left c.args.right there (g.S.NodeStore.slots c.retell_leaves_at.new.store) (ap (λ s. s.leaf) same) back))
