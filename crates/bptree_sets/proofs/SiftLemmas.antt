@@ -4,7 +4,7 @@ use Rattle.std.specs.declared.cmp.Ordering.{Ordering}
 use Rattle.std.specs.Cmp.{IsTotalOrder}
 use Rattle.std.specs.List.Sorted.{IsStrictlySortedBy}
 use Rattle.bptree_maps.specs.Keys.{holds, keys_within, keys_without}
-use Rattle.bptree_sets.specs.Beside.{AreSides, count_kept, keys_sifted}
+use Rattle.bptree_sets.specs.Beside.{AreSides, BoundsKept, count_kept, keys_sifted}
 use Rattle.bptree_sets.specs.Joined.{IsBoundedHint}
 use Rattle.bptree_sets.proofs.MemberLemmas.{both_parts, within_fits}
 
@@ -46,10 +46,10 @@ module _ {K : Type 0} (cmp : K → K → Ordering) (keeps : Bool → Bool) where
   length_sifted (k ∷ keys) others = one_more k (keys_sifted cmp keeps keys others) (keys_within cmp keys others) (keys_without cmp keys others) (holds cmp others k) (length_sifted keys others)
 
   -- what is told of any that are held and not held bounds those that are given
-  pub sifted_bounds : IsTotalOrder cmp → (keys others : List K) → IsStrictlySortedBy cmp keys → IsStrictlySortedBy cmp others → (m n : ℕ) (told : ℕ × Option ℕ) → m ≡ length keys → n ≡ length others → ((held lacking : ℕ) → held ≤ n → held + lacking ≡ m → IsBoundedHint (count_kept keeps held lacking) told) → IsBoundedHint (length (keys_sifted cmp keeps keys others)) told
+  pub sifted_bounds : IsTotalOrder cmp → (keys others : List K) → IsStrictlySortedBy cmp keys → IsStrictlySortedBy cmp others → (m n : ℕ) (told : ℕ × Option ℕ) → m ≡ length keys → n ≡ length others → BoundsKept keeps m n told → IsBoundedHint (length (keys_sifted cmp keeps keys others)) told
   sifted_bounds total keys others first second m n told is is_too bounds =
       rw (length_sifted keys others) (bounds (length (keys_within cmp keys others)) (length (keys_without cmp keys others)) (omega (arith, within_fits cmp total keys others first second, is_too)) (omega (arith, both_parts cmp total keys others first second, is)))
 
   -- the same of two sides, whose lengths are told as numbers
-  pub walked_bounds : IsTotalOrder cmp → (sides : List K × List K) → AreSides cmp sides → (m n : ℕ) (told : ℕ × Option ℕ) → m ≡ min (length sides.0) (2 ^ 64 - 1) → n ≡ min (length sides.1) (2 ^ 64 - 1) → ((held lacking : ℕ) → held ≤ n → held + lacking ≡ m → IsBoundedHint (count_kept keeps held lacking) told) → IsBoundedHint (length (keys_sifted cmp keeps sides.0 sides.1)) told
+  pub walked_bounds : IsTotalOrder cmp → (sides : List K × List K) → AreSides cmp sides → (m n : ℕ) (told : ℕ × Option ℕ) → m ≡ min (length sides.0) (2 ^ 64 - 1) → n ≡ min (length sides.1) (2 ^ 64 - 1) → BoundsKept keeps m n told → IsBoundedHint (length (keys_sifted cmp keeps sides.0 sides.1)) told
   walked_bounds total sides are m n told is is_too bounds = sifted_bounds total sides.0 sides.1 are.0 are.1 m n told (omega (arith, are.2, is)) (omega (arith, are.3, is_too)) bounds

@@ -1,5 +1,5 @@
 -- What is left of two sets whose keys are held against each other, by the way that they are gone through.
-use Rattle.std.specs.Prelude.{◌^◌, ◌<◌, ◌+◌, ℕ, Bool, true, false, List, Option, filter, length, if◌then◌else◌}
+use Rattle.std.specs.Prelude.{◌≡◌, ◌^◌, ◌<◌, ◌≤◌, ◌+◌, ℕ, Bool, true, false, List, Option, filter, length, if◌then◌else◌}
 use Rattle.std.specs.declared.cmp.Ordering.{Ordering}
 use Rattle.std.specs.Borrow.{Bor}
 use Rattle.std.specs.List.{filter_map}
@@ -8,6 +8,7 @@ use Rattle.std.specs.Map.Iter.{TakesFirst, deref}
 use Rattle.bptree_sets.specs.declared.set.sifted.By.{By}
 use Rattle.bptree_sets.specs.declared.set.sifted.By.TheVariants as by
 use Rattle.bptree_maps.specs.Keys.{holds, key_found}
+use Rattle.bptree_sets.specs.Joined.{IsBoundedHint}
 
 module _ {K : Type 0} (cmp : K → K → Ordering) where
   -- the keys of a list that are kept by whether others hold them
@@ -44,3 +45,7 @@ module _ {K : Type 0} (cmp : K → K → Ordering) where
 -- how many are kept of so many keys that are held and so many that are not
 abbrev pub count_kept : (Bool → Bool) → ℕ → ℕ → ℕ
 count_kept keeps held lacking = (if keeps true then held else 0) + (if keeps false then lacking else 0)
+
+-- what is told bounds the keys that are kept of a list, however many of them another holds: so long are both lists
+abbrev pub BoundsKept : (Bool → Bool) → ℕ → ℕ → ℕ × Option ℕ → Type 0
+BoundsKept keeps first second told = (held lacking : ℕ) → held ≤ second → held + lacking ≡ first → IsBoundedHint (count_kept keeps held lacking) told

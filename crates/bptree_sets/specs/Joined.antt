@@ -20,3 +20,11 @@ module _ {K : Type 0} where
 -- what is told bounds n items from both sides
 abbrev pub IsBoundedHint : ℕ → ℕ × Option ℕ → Type 0
 IsBoundedHint n told = IsWithinCount told.0 (at_most n) × IfSome told.1 (UpTo (at_most n))
+
+-- what is told bounds what comes of any two lists that are so long
+abbrev pub BoundsJoined : {K : Type 0} → (List K × List K → List K) → ℕ → ℕ → ℕ × Option ℕ → Type 0
+BoundsJoined joined first second told = (both : _) → HaveLengths first second both → IsBoundedHint (length (joined both)) told
+
+-- what is told is right of any two lists that are so long
+abbrev pub TellsOf : {K : Type 0} → (List K × List K → ℕ × Option ℕ → Type 0) → ℕ → ℕ → ℕ × Option ℕ → Type 0
+TellsOf tells first second told = (both : _) → HaveLengths first second both → tells both told

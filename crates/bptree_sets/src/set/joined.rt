@@ -3,7 +3,7 @@ ghost use Rattle.std.specs.Prelude.{◌≡◌, ◌<◌, ◌^◌, ℕ, List, Opti
 ghost use Rattle.std.specs.Borrow.{Bor};
 ghost use Rattle.std.specs.Iterator.{at_most, item_count, UpTo};
 ghost use Rattle.std.specs.Iterator.SizeHint.{IsWithinCount};
-ghost use Rattle.bptree_sets.specs.Joined.{AreNoLonger, GoesOn, HaveLengths, IsBoundedHint};
+ghost use Rattle.bptree_sets.specs.Joined.{AreNoLonger, BoundsJoined, GoesOn, TellsOf};
 
 use crate::set::Iter;
 use crate::set::symmetric::InOneAlone;
@@ -31,8 +31,8 @@ pub trait Joining<K: Key> {
 
     /// What is told of how many they are, by how many keys are left of each set.
     fn hint(first: usize, second: usize) -> (usize, Option<usize>)
-        ensures tells { (both : List K × List K) → HaveLengths first second both → tells both result }
-        ensures bounds { (both : List K × List K) → HaveLengths first second both → IsBoundedHint (length (joined both)) result };
+        ensures tells { TellsOf tells first second result }
+        ensures bounds { BoundsJoined joined first second result };
 }
 
 /// The keys of two sets in their order, seen as what is left of each. Of two equal keys the first

@@ -1,12 +1,11 @@
 //! The keys of a set that another set holds, or those that it does not hold.
-ghost use Rattle.std.specs.Prelude.{◌≡◌, ◌+◌, ◌≤◌, ℕ, Bool, length, IfSome, IsSome, ⊤};
+ghost use Rattle.std.specs.Prelude.{◌≡◌, Bool, length, IfSome, IsSome, ⊤};
 ghost use Rattle.std.specs.Iterator.{at_most, item_count, UpTo};
 ghost use Rattle.std.specs.Iterator.SizeHint.{IsWithinCount};
 ghost use Rattle.std.specs.List.Sorted.{IsStrictlySortedBy};
 ghost use Rattle.std.specs.Map.Iter.{TakesFirst, deref};
 ghost use Rattle.bptree_maps.specs.Keys.{keys_within};
-ghost use Rattle.bptree_sets.specs.Beside.{AreSides, TakesFetched, TakesSifted, count_kept, keys_sifted};
-ghost use Rattle.bptree_sets.specs.Joined.{IsBoundedHint};
+ghost use Rattle.bptree_sets.specs.Beside.{AreSides, BoundsKept, TakesFetched, TakesSifted, keys_sifted};
 
 use crate::set::difference::Lacking;
 use crate::set::intersection::Shared;
@@ -27,7 +26,7 @@ pub trait Sieve {
 
     /// What is told of how many of the first set's keys are given, by the lengths of both sets.
     fn hint(lens: (usize, usize)) -> (usize, Option<usize>)
-        ensures bounds { (held lacking : ℕ) → held ≤ lens.1 → held + lacking ≡ lens.0 → IsBoundedHint (count_kept keeps held lacking) result }
+        ensures bounds { BoundsKept keeps lens.0 lens.1 result }
         ensures bounded { IsSome result.1 };
 }
 
