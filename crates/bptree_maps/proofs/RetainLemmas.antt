@@ -1,9 +1,10 @@
 -- A list is asked member by member, and those that stay stand one behind the other.
 use Rattle.std.proofs.Common.{◌≡◌, ◌∙◌, refl, sym, ap, suc, Bool, true, false, Option, List, [], ◌∷◌, ◌++◌, append_assoc, append-nil}
+use Rattle.std.specs.Borrow.{Bor, MutBor}
+use Rattle.std.specs.Fn.{Called, Mut}
 use Rattle.std.specs.declared.cmp.Ordering.{Ordering}
-use Rattle.std.specs.declared.cmp.Ordering.TheVariants.{Less, Equal, Greater}
+use Rattle.std.specs.declared.cmp.Ordering.TheVariants.{Less}
 use Rattle.std.specs.Cmp.{IsTotalOrder}
-use Rattle.std.specs.List.{AllByRecursion}
 use Rattle.std.specs.List.Retain.{IsFiltered, RetainsInTurn}
 use Rattle.std.specs.List.Sorted.{IsStrictlySortedBy}
 use Rattle.std.specs.Map.{keys_of}
@@ -16,6 +17,7 @@ use Rattle.bptree_keys.specs.Ranges.{between}
 use Rattle.bptree_tree.specs.RangeRemoval.{FirstsLeft}
 use Rattle.bptree_maps.specs.Keys.{with_key}
 use Rattle.bptree_maps.specs.RetainedKeys.{FirstKeysLeft}
+use Rattle.bptree_maps.specs.Retaining.{CallsAtPair, IsRetained, IsRetainedUpTo}
 use Rattle.bptree_maps.proofs.KeyLemmas.{keys_between-is, keys_outside-is, keys_put}
 use Rattle.bptree_maps.proofs.SplitLemmas.{keys_joined}
 
@@ -74,6 +76,24 @@ module _ {S X : Type 0} (R : S → X → Bool → S → X → Type 0) (t : S) (x
 
   pub retains_none : R t x false u y → (more stay : List X) → RetainsInTurn R u more stay → RetainsInTurn R t (x ∷ more) stay
   retains_none call more stay r = (false, u, y, call, stay, r, refl)
+
+-- a closure is called at the next of the pairs
+module _ {F K V : Type 0} (calls : Mut F (Bor K × (MutBor V × Unit {0})) (Bool × (MutBor V × Unit {0}))) where
+  pub called_at : {t u : F} {key : Bor K} {value lent : MutBor V} {stays : Bool} → Called calls t (key, (value, tt)) (stays, (lent, tt)) u → CallsAtPair calls t (key.now, value.now) stays u (key.now, lent.now)
+  called_at called = record { key = _; value = _; lent = _; shows = (refl, refl); called = called; leaves = refl }
+
+  module _ (f : F) (old : List (K × V)) (t : F) (kept left : List (K × V)) (asked : AsksOn (IsRetained calls) f old t kept left) (pair : K × V) (rest : List (K × V)) (next : left ≡ pair ∷ rest) (u : F) (after : K × V) where
+    -- it stays and is stored, or it stays and is not stored, or it leaves
+    pub pair_stays : CallsAtPair calls t pair true u after → AsksOn (IsRetained calls) f old u (kept ++ after ∷ []) rest
+    pair_stays call = one_stays (IsRetained calls) f old t kept pair rest (rw next at asked) u after (retains_one (CallsAtPair calls) t pair u after call)
+
+    pub pair_in_hand : CallsAtPair calls t pair true u after → IsRetainedUpTo calls f old kept after rest
+    pair_in_hand call =
+        let goes = rw next at asked in
+        (goes.0, pair, goes.1, goes.2 (pair ∷ []) (after ∷ []) (retains_one (CallsAtPair calls) t pair u after call [] [] refl))
+
+    pub pair_leaves : CallsAtPair calls t pair false u after → AsksOn (IsRetained calls) f old u kept rest
+    pair_leaves call = one_leaves (IsRetained calls) f old t kept pair rest (rw next at asked) u (retains_none (CallsAtPair calls) t pair u after call)
 
 module _ {P X : Type 0} (R : P → X → Bool → P → Type 0) where
   pub filters_nothing : (p : P) → IsFiltered R p [] []

@@ -15,7 +15,7 @@ use Rattle.bptree_keys.proofs.Ascending.{all_pairs, greater_turned}
 use Rattle.bptree_keys.proofs.Parted.{put_gap}
 use Rattle.bptree_shape.proofs.Ordered.{ascending_after}
 use Rattle.bptree_shape.proofs.Spot.{ascending_before}
-use Rattle.bptree_maps.specs.Splitting.{is_not_below, reaches}
+use Rattle.bptree_maps.specs.Splitting.{reaches}
 
 -- the last of a list, by what comes before it
 last_of : {X : Type 0} (xs : List X) (x : X) → slice_get (xs ++ x ∷ []) (length (xs ++ x ∷ []) - 1) ≡ Some x

@@ -1,5 +1,6 @@
 pub mod Comparing
 pub mod Gathering
+pub mod Hints
 pub mod KeyBounds
 pub mod KeyChanges
 pub mod Keys

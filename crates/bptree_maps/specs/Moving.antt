@@ -1,5 +1,5 @@
 -- Many pairs, or keys, put one after another.
-use Rattle.std.specs.Prelude.{◌≡◌, List, [], ◌∷◌, ◌++◌, Option, Some, None}
+use Rattle.std.specs.Prelude.{◌≡◌, List, [], ◌∷◌, ◌++◌, Option, Some}
 use Rattle.std.specs.declared.cmp.Ordering.{Ordering}
 use Rattle.std.specs.Iterator.{Drains, YieldsThen}
 use Rattle.std.specs.Map.{keys_of}

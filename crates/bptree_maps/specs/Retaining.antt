@@ -1,9 +1,8 @@
 -- What a closure keeps of a list.
 use Rattle.std.specs.Prelude.{◌≡◌, Bool, List, [], ◌∷◌, ◌++◌}
 use Rattle.std.specs.Borrow.{Bor, MutBor}
-use Rattle.std.specs.Fn.{Called, CalledAt, Mut}
-use Rattle.std.specs.List.Retain.{IsFiltered, RetainsInTurn}
-use Rattle.bptree_tree.specs.Refusal.{pair_of}
+use Rattle.std.specs.Fn.{Called, Mut}
+use Rattle.std.specs.List.Retain.{RetainsInTurn}
 use Rattle.bptree_maps.specs.declared.refusals.RetainError.{RetainError}
 use Rattle.bptree_maps.specs.declared.refusals.RetainError.TheVariants.{NotMade, NotStored}
 

@@ -1,44 +1,43 @@
 //! An ordered map.
-ghost use Rattle.std.specs.Prelude.{◌≡◌, ◌*◌, ◌≤◌, List, [], None, Some, Ok, length, slice_get, false, IfOk, IfErr, OnErr, IsOk, IsTrue, ◌↔◌, is_ok, IfSome, ⊤};
+ghost use Rattle.std.specs.Prelude.{◌≡◌, ◌≤◌, List, [], None, Some, Ok, length, slice_get, false, IfOk, IfErr, OnErr, IsOk, IsTrue, ◌↔◌, is_ok};
 ghost use Rattle.std.specs.Borrow.{Lends, LendsIf, LendsSoOk, sem};
 ghost use Rattle.std.specs.Map.{keys_of, values_of};
-ghost use Rattle.std.specs.Iterator.{at_most, item_count, UpTo, IsFiniteIterable as AreFinite};
+ghost use Rattle.std.specs.Iterator.{IsFiniteIterable as AreFinite};
 ghost use Rattle.std.specs.Iterator.Runs.{WholeRun};
-ghost use Rattle.std.specs.Iterator.SizeHint.{IsWithinCount};
 ghost use Rattle.std.specs.List.{remove};
 ghost use Rattle.std.specs.List.Sorted.{IsStrictlySortedBy};
-ghost use Rattle.std.specs.Map.Iter.{ShowsInOrder, GivesInOrder, GivesInReverse, TakesFirst, TakesLast, deref, deref_pair};
+ghost use Rattle.std.specs.Map.Iter.{ShowsInOrder, GivesInOrder, GivesInReverse, deref, deref_pair};
 ghost use Rattle.std.specs.Option.{option_map, option_copied, option_copied_mut};
 ghost use Rattle.bptree_arguments.specs.Groups.{of_group};
 ghost use Rattle.bptree_arguments.specs.Visits.{answered, IsAllowedError};
 ghost use Rattle.bptree_ascent.specs.Lending.{written};
+ghost use Rattle.bptree_descents.specs.ByArgument.{IsPartSelected, IsTaken};
 ghost use Rattle.bptree_keys.specs.Contents.{IsAscending, has, value, gather, next, last_member};
-ghost use Rattle.bptree_keys.specs.Ranges.{between, part};
+ghost use Rattle.bptree_keys.specs.Ranges.{part};
+ghost use Rattle.bptree_maps.specs.contracts.map.BPlusTreeMap.{the_row};
+ghost use Rattle.bptree_maps.specs.Gathering.{AreFewFor, IsMapOf};
 ghost use Rattle.bptree_maps.specs.Places.{place};
 ghost use Rattle.bptree_maps.specs.Popping.{IsPopped};
+ghost use Rattle.bptree_maps.specs.Rows.{inner_row, count_row, count_argument, count_clone, count_default};
+ghost use Rattle.bptree_maps.specs.Writing.{WritesAt};
 ghost use Rattle.bptree_nodes.specs.Leaf.{set_value_at};
 ghost use Rattle.bptree_ranges.specs.Summaries.{IsPartSummary};
-ghost use Rattle.bptree_descents.specs.ByArgument.{IsPartSelected, IsTaken};
+ghost use Rattle.bptree_tree.specs.Changes.{EitherWay, IsFull, PopsFirst, PopsLast, Puts, Removes, RemovesEntry, RemovesTold};
 ghost use Rattle.bptree_tree.specs.Cursor.{PointsAt, ShowsValueOf};
 ghost use Rattle.bptree_tree.specs.Entries.{entry, at_least, SumsUpBetween, pairs_between};
 ghost use Rattle.bptree_tree.specs.Refusal.{HandsBack};
-ghost use Rattle.bptree_maps.specs.contracts.map.BPlusTreeMap.{the_row};
-ghost use Rattle.bptree_maps.specs.Rows.{inner_row, count_row, count_argument, count_clone, count_default};
-ghost use Rattle.bptree_maps.specs.Writing.{WritesAt};
-ghost use Rattle.bptree_maps.specs.Gathering.{AreFewFor, IsMapOf};
-ghost use Rattle.bptree_tree.specs.Changes.{EitherWay, IsFull, PopsFirst, PopsLast, Puts, Removes, RemovesEntry, RemovesTold};
 ghost use Rattle.bptree_tree.specs.Selected.{LendsSelected, SelectsNone, ShowsSelected};
 ghost use Rattle.bptree_tree.specs.Whole.{ArePairsCloned};
 
 mod borrowed;
 mod bounds;
-mod keys;
+mod iter;
 mod moving;
 mod owned;
 mod places;
 mod retaining;
+mod sides;
 mod updates;
-mod values;
 
 use crate::gathering::gather_tree;
 pub use crate::gathering::law_of_from_iter;
@@ -49,13 +48,14 @@ use bptree_arguments::group::FromRef;
 use bptree_arguments::visit::{DescendError, DescendVisit};
 use bptree_keys::key::Key;
 use bptree_stores::node_store_vec::NodeStoreVec;
-use bptree_tree::{BPlusTree, Cursor, InsertError, SelectError, iterator};
-pub use keys::{IntoKeys, Keys};
+use bptree_tree::{BPlusTree, Cursor, InsertError, SelectError};
+pub use iter::Iter;
 pub use owned::IntoIter;
+pub use sides::{
+    IntoKeys, IntoSideIter, IntoValues, KeySide, Keys, LentSide, Side, SideIter, ValueSide, Values,
+};
 use std::alloc::{AllocError, Global};
-use std::iter::{ExactSizeIterator, FusedIterator};
 use std::marker::Model;
-pub use values::{IntoValues, Values};
 
 /// Pairs of a key and a value, in the strictly ascending order of their keys, with summaries of the
 /// keys.
@@ -383,9 +383,7 @@ impl<K: Key, V: Drop, A: Argument<K>> BPlusTreeMap<K, V, A> {
         ensures ascending { IsAscending K.cmp self.now }
         ensures runs { ShowsInOrder (deref_pair {K = K} {X = V}) }
     {
-        Iter {
-            inner: self.inner.iter(),
-        }
+        Iter::new(self.inner.iter())
     }
 
     /// The keys in their order. It takes no memory, and neither do its steps.
@@ -447,9 +445,7 @@ impl<K: Key, V: Drop, A: Argument<K>> BPlusTreeMap<K, V, A> {
         ensures ascending { IsAscending K.cmp result }
         ensures runs { ShowsInOrder (deref_pair {K = K} {X = V}) }
     {
-        Iter {
-            inner: self.inner.range(lo, hi),
-        }
+        Iter::new(self.inner.range(lo, hi))
     }
 
     /// A summary of the keys that are not below `lo` and are below `hi`, where they are given; of
@@ -497,9 +493,7 @@ impl<K: Key, V: Drop, A: Argument<K>> BPlusTreeMap<K, V, A> {
         ensures sure { A.needs_no_memory → IsOk result }
         ensures runs { ShowsInOrder (deref_pair {K = K} {X = V}) }
     {
-        Ok(Iter {
-            inner: self.inner.range_by_argument(query, n)?,
-        })
+        Ok(Iter::new(self.inner.range_by_argument(query, n)?))
     }
 
     /// The pairs whose key's group equals the group, in the order of their keys. It takes no memory
@@ -516,9 +510,7 @@ impl<K: Key, V: Drop, A: Argument<K>> BPlusTreeMap<K, V, A> {
         ensures ascending { IfOk result (λ pairs. IsAscending K.cmp pairs) }
         ensures runs { ShowsInOrder (deref_pair {K = K} {X = V}) }
     {
-        Ok(Iter {
-            inner: self.inner.group_range(group)?,
-        })
+        Ok(Iter::new(self.inner.group_range(group)?))
     }
 
     /// The first `n` pairs of a group, or all where there are fewer, without its first `i`. What it
@@ -535,9 +527,7 @@ impl<K: Key, V: Drop, A: Argument<K>> BPlusTreeMap<K, V, A> {
         ensures ascending { IfOk result (λ pairs. IsAscending K.cmp pairs) }
         ensures runs { ShowsInOrder (deref_pair {K = K} {X = V}) }
     {
-        Ok(Iter {
-            inner: self.inner.group_part(group, i, n)?,
-        })
+        Ok(Iter::new(self.inner.group_part(group, i, n)?))
     }
 
     /// The tree inside, whose contents are the map's.
@@ -639,69 +629,5 @@ impl<K: Key, V: Drop, A: Argument<K>> IntoIterator for BPlusTreeMap<K, V, A> {
 
     fn into_iter(self) -> IntoIter<K, V, A> {
         BPlusTreeMap::into_iter(self)
-    }
-}
-
-/// The pairs of a map that are left, in the order of their keys. No step takes memory.
-#[derive(Drop)]
-pub struct Iter<'a, K: Key, V: Drop, A: Argument<K>> {
-    inner: iterator::Iter<'a, NodeStoreVec<K, V, A>>,
-}
-
-impl<'a, K: Key, V: Drop, A: Argument<K>> Model for Iter<'a, K, V, A> {
-    ghost use Rattle.std.specs.Prelude.{List};
-
-    ghost Value = { List (K × V) };
-
-    ghost view = { λ it. it.inner };
-}
-
-impl<'a, K: Key, V: Drop, A: Argument<K>> Iterator for Iter<'a, K, V, A> {
-    type Item = (&'a K, &'a V);
-
-    ghost next_gives = { TakesFirst deref_pair };
-
-    ghost remaining = { item_count (λ left. left) };
-
-    #[inline]
-    fn next(&mut self) -> Option<(&'a K, &'a V)> {
-        self.inner.next()
-    }
-
-    fn size_hint(&self) -> (usize, Option<usize>)
-        ensures lower { IsWithinCount result.0 (at_most (length self.now)) }
-        ensures upper { IfSome result.1 (UpTo (at_most (length self.now))) }
-        ensures exact { result ≡ (length self.now, Some (length self.now)) }
-    {
-        self.inner.size_hint()
-    }
-}
-
-impl<'a, K: Key, V: Drop, A: Argument<K>> DoubleEndedIterator for Iter<'a, K, V, A> {
-    ghost next_back_gives = { TakesLast deref_pair };
-
-    #[inline]
-    fn next_back(&mut self) -> Option<(&'a K, &'a V)> {
-        self.inner.next_back()
-    }
-}
-
-impl<'a, K: Key, V: Drop, A: Argument<K>> ExactSizeIterator for Iter<'a, K, V, A> {
-    fn len(&self) -> usize {
-        self.size_hint().0
-    }
-}
-
-impl<'a, K: Key, V: Drop, A: Argument<K>> FusedIterator for Iter<'a, K, V, A> {}
-
-impl<'a, K: Key, V: Drop, A: Argument<K>> Clone for Iter<'a, K, V, A> {
-    ghost is_clone = { λ it copy. copy ≡ it };
-
-    ghost is_infallible = { λ _. ⊤ };
-
-    fn clone(&self) -> Result<Self, AllocError> {
-        Ok(Iter {
-            inner: self.inner.clone()?,
-        })
     }
 }

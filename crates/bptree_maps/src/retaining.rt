@@ -1,6 +1,6 @@
 //! The pairs of a tree that a closure keeps.
-ghost use Rattle.std.specs.Prelude.{◌≡◌, IfErr, OnOk};
-ghost use Rattle.bptree_tree.specs.Refusal.{pair_of};
+ghost use Rattle.std.specs.Prelude.{◌≡◌, IfErr, IfOk, OnOk};
+ghost use Rattle.bptree_keys.specs.Contents.{put};
 ghost use Rattle.bptree_maps.specs.Retaining.{IsRetained, IsRetainRefused};
 
 use crate::refusals::RetainError;
@@ -9,13 +9,15 @@ use bptree_tree::tree::IntoIter;
 use bptree_tree::{BPlusTree, InsertError};
 use std::mem;
 
-// The pair that an insertion hands back.
-fn pair_back<K: Drop, V: Drop>(refusal: InsertError<K, V>) -> (K, V)
-    ensures { result ≡ pair_of refusal }
+// Puts a pair in that stays, or hands it back where that is refused.
+fn put_kept<S: NodeStore>(tree: &mut BPlusTree<S>, k: S::K, v: S::V) -> Result<(), (S::K, S::V)>
+    ensures ok { IfOk result (λ _. tree.new.contents ≡ put S.K.cmp tree.old.contents k v) }
+    ensures err { IfErr result (λ pair. (pair ≡ (k, v)) × (tree.new.contents ≡ tree.old.contents)) }
 {
-    match refusal {
-        InsertError::OutOfMemory(k, v) => (k, v),
-        InsertError::Full(k, v) => (k, v),
+    match tree.insert(k, v) {
+        Ok(_) => Ok(()),
+        Err(InsertError::OutOfMemory(k, v)) => Err((k, v)),
+        Err(InsertError::Full(k, v)) => Err((k, v)),
     }
 }
 
@@ -35,9 +37,9 @@ pub(crate) fn retain_in_tree<S: NodeStore, F: FnMut(&S::K, &mut S::V) -> bool>(
     'pairs: while let Some((k, v)) = pairs.next() {
         let mut value = v;
         if f(&k, &mut value) {
-            match tree.insert(k, value) {
-                Ok(_) => {}
-                Err(refusal) => return Err(RetainError::NotStored(pair_back(refusal), pairs)),
+            match put_kept(tree, k, value) {
+                Ok(()) => {}
+                Err(pair) => return Err(RetainError::NotStored(pair, pairs)),
             }
         }
     }

@@ -1,6 +1,8 @@
-pub mod DifferenceLemmas
+mod BesideNothing
 pub mod EntryKeys
+pub mod KeyLaws
 pub mod MemberLemmas
+pub mod SiftLemmas
 pub mod SymmetricLemmas
 pub mod UnionLemmas
 pub mod WalkLemmas

@@ -1,5 +1,5 @@
 -- Which keys of one set another holds, and how many.
-use Rattle.std.proofs.Common.{◌≡◌, ◌∙◌, ◌+◌, ◌≤◌, ◌&&◌, ◌||◌, ◌⊎◌, inl, inr, arith, List, [], ◌∷◌, Bool, true, false, not, cond, filter, length, Option, Some, None, is_some, refl, sym, ap}
+use Rattle.std.proofs.Common.{◌≡◌, ◌∙◌, ◌+◌, ◌≤◌, ◌&&◌, ◌||◌, arith, List, [], ◌∷◌, Bool, true, false, not, cond, filter, length, Option, Some, None, is_some, refl, sym, ap}
 use mathlib.Core.Bool.{true≢false}
 use Rattle.std.proofs.lemmas.Cmp.{alike_right, tied_itself}
 use Rattle.std.proofs.lemmas.List.Filters.{length-filter_both}
@@ -11,18 +11,10 @@ use Rattle.std.specs.Cmp.{IsTotalOrder}
 use Rattle.std.specs.List.{AllByRecursion}
 use Rattle.std.specs.List.Sorted.{IsStrictlySortedBy}
 use Rattle.std.specs.Map.Iter.{TakesFirst}
-use Rattle.std.specs.Ordering.{is_eq, is_lt}
+use Rattle.std.specs.Ordering.{is_eq}
 use Rattle.bptree_keys.proofs.Ascending.{greater_turned, less_turned}
-use Rattle.bptree_maps.specs.Keys.{holds, key_found, keys_between, keys_within, keys_without, without_key, IsDisjoint, IsSubset}
+use Rattle.bptree_maps.specs.Keys.{holds, key_found, keys_within, keys_without, without_key, IsDisjoint, IsSubset}
 use Rattle.bptree_maps.proofs.KeyLemmas.{without_ascending, without_holds, without_length}
-
--- a step of a walk over the keys of a list that another holds
-module _ {K : Type 0} (cmp : K → K → Ordering) where
-  pub shared : (keys rest : List K) (k : K) (others : List K) → keys ≡ k ∷ rest → true ≡ holds cmp others k → keys_within cmp keys others ≡ k ∷ keys_within cmp rest others
-  shared keys rest k others is there = rw is (ap (λ b. cond b (k ∷ keys_within cmp rest others) (keys_within cmp rest others)) (sym there))
-
-  pub left_out : (keys rest : List K) (k : K) (others : List K) → keys ≡ k ∷ rest → false ≡ holds cmp others k → keys_within cmp keys others ≡ keys_within cmp rest others
-  left_out keys rest k others is absent = rw is (ap (λ b. cond b (k ∷ keys_within cmp rest others) (keys_within cmp rest others)) (sym absent))
 
 -- what is left after the first of ascending keys ascends
 pub after_first : {K : Type 0} (cmp : K → K → Ordering) (keys rest : List K) (k : K) → keys ≡ k ∷ rest → IsStrictlySortedBy cmp keys → IsStrictlySortedBy cmp rest
@@ -160,7 +152,7 @@ module _ {K : Type 0} (cmp : K → K → Ordering) (total : IsTotalOrder cmp) wh
         and_right true b is = is
         and_right false b is = absurd (true≢false (sym is))
 
-    both_parts : length (keys_within cmp keys others) + length (keys_without cmp keys others) ≡ length keys
+    pub both_parts : length (keys_within cmp keys others) + length (keys_without cmp keys others) ≡ length keys
     both_parts = length-filter_both (λ key. holds cmp others key) (λ key. not (holds cmp others key)) (λ key. refl) keys
 
     pub within_most : length (keys_within cmp keys others) ≤ length keys

@@ -12,10 +12,13 @@ use Rattle.std.specs.Map.Iter.{TakesFirst}
 use Rattle.std.specs.Ordering.{is_eq, match_ordering}
 use Rattle.bptree_keys.proofs.Ascending.{ascending_cons, less_turned}
 use Rattle.bptree_keys.proofs.PieceLemmas.{AllByRecursion-weaker}
-use Rattle.bptree_merging.specs.Merge.{merge_step, step_by, merged, merged_from}
+use Rattle.bptree_merging.specs.Merge.{firsts, merge_step, merged, merged_from, seconds, step_by}
+use Rattle.bptree_merging.proofs.MergedLemmas.{firsts_merged, seconds_merged}
 use Rattle.bptree_maps.specs.Keys.{holds}
-use Rattle.bptree_sets.specs.Symmetric.{IsSymmetricStep, alone, symmetric}
+use Rattle.bptree_sets.specs.Joined.{IsBoundedHint}
+use Rattle.bptree_sets.specs.Symmetric.{IsHintOfBoth, IsSymmetricStep, alone, symmetric}
 use Rattle.bptree_sets.proofs.MemberLemmas.{apart}
+use Rattle.bptree_sets.proofs.UnionLemmas.{sum_bounds}
 
 -- what steps gave of one list alone
 abbrev lone : {A : Type 0} → List (Option A × Option A) → List A
@@ -106,20 +109,22 @@ module _ {A : Type 0} (order : A → A → Ordering) where
   counted_symmetric [] ys = let whole = ap length (lone_second ys) in record { no_fewer = omega arith; no_fewer_too = omega (arith, whole); no_more = omega (arith, whole) }
   counted_symmetric (x ∷ xs) ys = counted_from x (length xs) (merged order xs) (counted_symmetric xs) ys
 
+  pub symmetric_bounds : (both : List A × List A) (told : ℕ × Option ℕ) → IsHintOfBoth (length both.0) (length both.1) told → IsBoundedHint (length (symmetric order both.0 both.1)) told
+  symmetric_bounds both told is =
+      let counted = counted_symmetric both.0 both.1 in
+      (λ _. omega (arith, counted.no_fewer, counted.no_fewer_too, is.0), sum_bounds told.1 _ _ _ is.1 counted.no_more)
+
   -- what holds of each key of both lists holds of each that is given
   module _ (P : A → Type 0) where
-    all_from : (x : A) (rest : List A → List (Option A × Option A)) → P x → ((zs : List A) → AllByRecursion P zs → AllByRecursion P (lone (rest zs))) → (ys : List A) → AllByRecursion P ys → AllByRecursion P (lone (merged_from order x rest ys))
-    all_from x rest first later [] all = (first, later [] tt)
-    all_from x rest first later (y ∷ ys) all =
-        elim (order x y) as (λ o. AllByRecursion P (lone (match_ordering o ((Some x, None) ∷ rest (y ∷ ys)) ((Some x, Some y) ∷ rest ys) ((None, Some y) ∷ merged_from order x rest ys)))) [
-          | Less ↦ (first, later (y ∷ ys) all)
-          | Equal ↦ later ys all.1
-          | Greater ↦ (all.0, all_from x rest first later ys all.1)
-        ]
+    all_lone : (steps : List (Option A × Option A)) → AllByRecursion P (firsts steps) → AllByRecursion P (seconds steps) → AllByRecursion P (lone steps)
+    all_lone [] first second = tt
+    all_lone ((None, None) ∷ steps) first second = all_lone steps first second
+    all_lone ((None, Some y) ∷ steps) first second = (second.0, all_lone steps first second.1)
+    all_lone ((Some x, None) ∷ steps) first second = (first.0, all_lone steps first.1 second)
+    all_lone ((Some x, Some y) ∷ steps) first second = all_lone steps first.1 second.1
 
     all_symmetric : (xs ys : List A) → AllByRecursion P xs → AllByRecursion P ys → AllByRecursion P (symmetric order xs ys)
-    all_symmetric [] ys first second = rw (lone_second ys) second
-    all_symmetric (x ∷ xs) ys first second = all_from x (merged order xs) first.0 (λ zs all. all_symmetric xs zs first.1 all) ys second
+    all_symmetric xs ys first second = all_lone (merged order xs ys) (rw (firsts_merged order xs ys) first) (rw (seconds_merged order xs ys) second)
 
 -- whether one of two answers is, and not both
 abbrev differ : Bool → Bool → Bool

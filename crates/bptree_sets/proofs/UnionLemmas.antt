@@ -14,8 +14,9 @@ use Rattle.std.specs.Ordering.{is_eq, match_ordering}
 use Rattle.bptree_keys.proofs.Ascending.{greater_turned, less_turned}
 use Rattle.bptree_keys.proofs.PieceLemmas.{AllByRecursion-weaker}
 use Rattle.bptree_merging.specs.Merge.{merge_step, step_by, merged, keys_given}
-use Rattle.bptree_merging.proofs.MergedLemmas.{keys_alone, keys_step}
-use Rattle.bptree_sets.specs.Union.{IsUnionStep, union}
+use Rattle.bptree_merging.proofs.MergedLemmas.{counted_merged, keys_alone, keys_step}
+use Rattle.bptree_sets.specs.Joined.{AreNoLonger, IsBoundedHint}
+use Rattle.bptree_sets.specs.Union.{IsBetweenLengths, IsUnionStep, union}
 
 -- what the first of two items shows
 pub shown_or : {T A : Type 0} (shows : T → A) (r q : Option T) → option_map shows (option_or r q) ≡ option_or (option_map shows r) (option_map shows q)
@@ -23,7 +24,7 @@ shown_or shows None q = refl
 shown_or shows (Some x) q = refl
 
 -- a step of a merge makes no side longer
-pub left_shorter : {A : Type 0} (order : A → A → Ordering) (us vs : List A) → (length (merge_step order us vs).left.0 ≤ length us) × (length (merge_step order us vs).left.1 ≤ length vs)
+pub left_shorter : {A : Type 0} (order : A → A → Ordering) (us vs : List A) → AreNoLonger (us, vs) (merge_step order us vs).left
 left_shorter order [] [] = (omega arith, omega arith)
 left_shorter order (x ∷ us) [] = (omega arith, omega arith)
 left_shorter order [] (y ∷ vs) = (omega arith, omega arith)
@@ -33,6 +34,11 @@ left_shorter order (x ∷ us) (y ∷ vs) =
       | Equal ↦ (omega arith, omega arith)
       | Greater ↦ (omega arith, omega arith)
     ]
+
+pub shorter_still : {A : Type 0} (order : A → A → Ordering) (old now left : List A × List A) → AreNoLonger old now → left ≡ (merge_step order now.0 now.1).left → AreNoLonger old left
+shorter_still order old now left are is =
+    let step = left_shorter order now.0 now.1 in
+    rw is (omega (arith, are.0, step.0), omega (arith, are.1, step.1))
 
 module _ {A : Type 0} (order : A → A → Ordering) (total : IsTotalOrder order) (k : A) where
   -- the key of the list that equals k
@@ -85,11 +91,17 @@ pub union_goes : {K : Type 0} (cmp : K → K → Ordering) (old left : List K ×
 union_goes cmp old left None step = record { on = λ _. tt; keeps = tt; rests = λ _. tt }
 union_goes cmp old left (Some x) step = record { on = λ _. (tt, tt, rw step.2 (omega arith)); keeps = tt; rests = λ _. tt }
 
--- the sum of both numbers left, where it fits, bounds any number that is at most the sum
-pub sum_upper : (r : Option ℕ) (x y n : ℕ) → SomeIff r (x + y < 2 ^ 64) (x + y) → n ≤ x + y → IfSome r (UpTo (at_most n))
-sum_upper None x y n fits most = tt
-sum_upper (Some s) x y n fits most = (tt, omega (arith, fits.1, most))
-
-pub sum_exact : (r : Option ℕ) (x y m n : ℕ) → x ≡ m → y ≡ n → SomeIff r (x + y < 2 ^ 64) (x + y) → MatchOption r (2 ^ 64 ≤ m + n) (λ s. s ≡ m + n)
+-- the sum of both numbers, where it fits
+pub sum_exact : (r : Option ℕ) (x y m n : ℕ) → m ≡ x → n ≡ y → SomeIff r (x + y < 2 ^ 64) (x + y) → MatchOption r (2 ^ 64 ≤ m + n) (λ s. s ≡ m + n)
 sum_exact None x y m n first second fits = omega (arith, first, second, fits)
 sum_exact (Some s) x y m n first second fits = omega (arith, first, second, fits.1)
+
+-- it bounds any number that is at most the sum
+pub sum_bounds : (r : Option ℕ) (m n k : ℕ) → MatchOption r (2 ^ 64 ≤ m + n) (λ s. s ≡ m + n) → k ≤ m + n → IfSome r (UpTo (at_most k))
+sum_bounds None m n k told most = tt
+sum_bounds (Some s) m n k told most = (tt, omega (arith, told, most))
+
+pub union_bounds : {K : Type 0} (cmp : K → K → Ordering) (both : List K × List K) (told : ℕ × Option ℕ) → IsBetweenLengths both.0 both.1 told → IsBoundedHint (length (union cmp both.0 both.1)) told
+union_bounds cmp both told is =
+    let counted = counted_merged cmp both.0 both.1 in
+    (λ _. omega (arith, counted.no_fewer, counted.no_fewer_too, is.0), sum_bounds told.1 _ _ _ is.1 counted.no_more)

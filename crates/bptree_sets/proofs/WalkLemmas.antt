@@ -1,5 +1,5 @@
 -- Two ascending lists that are walked side by side, and which keys of the first the second holds.
-use Rattle.std.proofs.Common.{◌≡◌, ◌∙◌, ◌+◌, ◌<◌, ◌||◌, arith, List, [], ◌∷◌, Bool, true, false, not, cond, filter, length, Option, Some, None, option_map, refl, sym, ap}
+use Rattle.std.proofs.Common.{◌≡◌, ◌∙◌, ◌+◌, ◌<◌, ◌||◌, arith, List, [], ◌∷◌, Bool, true, false, cond, length, Option, Some, None, option_map, is_some, refl, sym, ap}
 use Rattle.std.proofs.lemmas.Cmp.{tied_back, tied_itself}
 use Rattle.std.proofs.lemmas.Map.Keys.{sorted_head, sorted_tail}
 use Rattle.std.specs.declared.cmp.Ordering.{Ordering}
@@ -7,12 +7,11 @@ use Rattle.std.specs.declared.cmp.Ordering.TheVariants.{Less, Equal, Greater}
 use Rattle.std.specs.Cmp.{IsTotalOrder}
 use Rattle.std.specs.List.{AllByRecursion}
 use Rattle.std.specs.List.Sorted.{IsStrictlySortedBy}
-use Rattle.std.specs.Map.Iter.{TakesFirst}
 use Rattle.std.specs.Ordering.{is_eq}
 use Rattle.bptree_keys.proofs.Ascending.{greater_turned, less_turned}
 use Rattle.bptree_keys.proofs.PieceLemmas.{AllByRecursion-weaker}
 use Rattle.bptree_merging.specs.Merge.{merge_step, step_by}
-use Rattle.bptree_sets.specs.Beside.{AreSides, keys_fetched}
+use Rattle.bptree_sets.specs.Beside.{AreSides, keys_fetched, keys_sifted}
 use Rattle.bptree_maps.specs.Keys.{holds, key_found, keys_within}
 use Rattle.bptree_sets.proofs.MemberLemmas.{apart, none_above}
 use Rattle.bptree_sets.proofs.UnionLemmas.{left_shorter}
@@ -22,8 +21,8 @@ some_inside h = cc
 
 module _ {K : Type 0} (cmp : K → K → Ordering) (f : Bool → Bool) where
   -- the keys that pass by whether others hold them
-  abbrev pub sifted : List K → List K → List K
-  sifted keys others = filter (λ key. f (holds cmp others key)) keys
+  abbrev sifted : List K → List K → List K
+  sifted = keys_sifted cmp f
 
   -- what a step of both lists, which gave r of the first and q of the second, says of them
   abbrev pub Sifts : {T : Type 0} → (T → K) → List K → Option T → Option T → List K → Type 0
@@ -74,32 +73,6 @@ module _ {K : Type 0} (cmp : K → K → Ordering) (f : Bool → Bool) where
       sifts_step [] (y ∷ vs) first second None (Some b) left e g k = rw k refl
       sifts_step (x ∷ us) (y ∷ vs) first second r q left e g k = rw k (sifts_at x us y vs first second (cmp x y) refl r q e g)
 
--- what a step says of the keys that are lacking, and of those that are shared
-module _ {K T : Type 0} (cmp : K → K → Ordering) (shows : T → K) (old new : List K) where
-  pub lacking_passed : (r q : Option T) (b : T) → q ≡ Some b → Sifts cmp not shows old r q new → old ≡ new
-  lacking_passed None (Some c) b is step = step
-  lacking_passed (Some a) (Some c) b is step = step
-  lacking_passed None None b is step = cc
-  lacking_passed (Some a) None b is step = cc
-
-  pub lacking_given : (r q : Option T) → q ≡ None → Sifts cmp not shows old r q new → TakesFirst shows old r new
-  lacking_given None None is step = step
-  lacking_given (Some a) None is step = step
-  lacking_given None (Some b) is step = absurd (cc)
-  lacking_given (Some a) (Some b) is step = cc
-
-  pub shared_given : (r q : Option T) (a b : T) → r ≡ Some a → q ≡ Some b → Sifts cmp (λ b. b) shows old r q new → old ≡ shows a ∷ new
-  shared_given r q a b is is_too step = rw (is, is_too) at step
-
-  pub shared_end : (r q : Option T) → r ≡ None → q ≡ None → Sifts cmp (λ b. b) shows old r q new → (old ≡ []) × (new ≡ [])
-  shared_end r q is is_too step = rw (is, is_too) at step
-
-  pub shared_first : (r q : Option T) (a : T) → r ≡ Some a → q ≡ None → Sifts cmp (λ b. b) shows old r q new → old ≡ new
-  shared_first r q a is is_too step = rw (is, is_too) at step
-
-  pub shared_second : (r q : Option T) (b : T) → r ≡ None → q ≡ Some b → Sifts cmp (λ b. b) shows old r q new → old ≡ new
-  shared_second r q b is is_too step = rw (is, is_too) at step
-
 module _ {K : Type 0} (cmp : K → K → Ordering) where
   sorted_at : (x : K) (xs : List K) (y : K) (ys : List K) → IsStrictlySortedBy cmp (x ∷ xs) → IsStrictlySortedBy cmp (y ∷ ys) → (o : Ordering) → IsStrictlySortedBy cmp (step_by o x xs y ys).left.0 × IsStrictlySortedBy cmp (step_by o x xs y ys).left.1
   sorted_at x xs y ys first second Less = (sorted_tail cmp x xs first, second)
@@ -135,6 +108,38 @@ module _ {K : Type 0} (cmp : K → K → Ordering) where
     fewer_left (x ∷ us) [] r q left some e g k = rw k (omega arith)
     fewer_left [] (y ∷ vs) r q left some e g k = rw k (omega arith)
     fewer_left (x ∷ us) (y ∷ vs) r q left some e g k = rw k (fewer_at x us y vs (cmp x y))
+
+-- a step of both lists that gave r of the first and q of the second
+module _ {K T : Type 0} (cmp : K → K → Ordering) (keeps : Bool → Bool) (total : IsTotalOrder cmp) (shows : T → K) (sides left : List K × List K) (are : AreSides cmp sides) (r q : Option T) (ran : (option_map shows r ≡ (merge_step cmp sides.0 sides.1).first) × (option_map shows q ≡ (merge_step cmp sides.0 sides.1).second) × (left ≡ (merge_step cmp sides.0 sides.1).left)) where
+  pub still_sides : AreSides cmp left
+  still_sides = sides_left cmp sides left are ran.2
+
+  sifts : Sifts cmp keeps shows (keys_sifted cmp keeps sides.0 sides.1) r q (keys_sifted cmp keeps left.0 left.1)
+  sifts = sifts_step cmp keeps total shows sides.0 sides.1 are.0 are.1 r q left ran.0 ran.1 ran.2
+
+  first_at : (old new : List K) (r q : Option T) (a : T) → r ≡ Some a → Sifts cmp keeps shows old r q new → old ≡ cond (keeps (is_some q)) (shows a ∷ new) new
+  first_at old new None q a is step = cc
+  first_at old new (Some b) None a is step = step ∙ ap (λ x. cond (keeps false) (shows x ∷ new) new) (sym (some_inside is))
+  first_at old new (Some b) (Some d) a is step = step ∙ ap (λ x. cond (keeps true) (shows x ∷ new) new) (sym (some_inside is))
+
+  -- a key of the first list is given, or passed by, or one of the second list alone is, or both have ended
+  module _ (start : List K) (began : start ≡ keys_sifted cmp keeps sides.0 sides.1) where
+    pub walk_gives : (a : T) (held : Bool) → r ≡ Some a → held ≡ is_some q → true ≡ keeps held → start ≡ shows a ∷ keys_sifted cmp keeps left.0 left.1
+    walk_gives a held is there kept =
+        began ∙ first_at _ _ r q a is sifts ∙ ap (λ b. cond b (shows a ∷ keys_sifted cmp keeps left.0 left.1) (keys_sifted cmp keeps left.0 left.1)) (ap keeps (sym there) ∙ sym kept)
+
+    pub walk_passes : (a : T) (held : Bool) → r ≡ Some a → held ≡ is_some q → false ≡ keeps held → AreSides cmp left × (start ≡ keys_sifted cmp keeps left.0 left.1)
+    walk_passes a held is there passed =
+        (still_sides, began ∙ first_at _ _ r q a is sifts ∙ ap (λ b. cond b (shows a ∷ keys_sifted cmp keeps left.0 left.1) (keys_sifted cmp keeps left.0 left.1)) (ap keeps (sym there) ∙ sym passed))
+
+    pub walk_skips : (b : T) → r ≡ None → q ≡ Some b → AreSides cmp left × (start ≡ keys_sifted cmp keeps left.0 left.1)
+    walk_skips b is is_too = (still_sides, began ∙ rw (is, is_too) at sifts)
+
+    pub walk_ends : r ≡ None → q ≡ None → (start ≡ []) × (keys_sifted cmp keeps left.0 left.1 ≡ [])
+    walk_ends is is_too = let ends = rw (is, is_too) at sifts in (began ∙ ends.0, ends.1)
+
+  pub walk_shortens : (r ≡ None → q ≡ None → ⊥) → length left.0 + length left.1 < length sides.0 + length sides.1
+  walk_shortens some = fewer_left cmp shows sides.0 sides.1 r q left some ran.0 ran.1 ran.2
 
 pub some_not_none : {T : Type 0} (r : Option T) (a : T) → r ≡ Some a → r ≡ None → ⊥
 some_not_none r a some none = cc

@@ -1,17 +1,20 @@
 -- What is left of two sets whose keys are held against each other, by the way that they are gone through.
-use Rattle.std.specs.Prelude.{◌^◌, ◌<◌, List, Option, length}
+use Rattle.std.specs.Prelude.{◌≡◌, ◌^◌, ◌<◌, ◌≤◌, ◌+◌, ℕ, Bool, true, false, List, Option, filter, length, if◌then◌else◌}
 use Rattle.std.specs.declared.cmp.Ordering.{Ordering}
 use Rattle.std.specs.Borrow.{Bor}
 use Rattle.std.specs.List.{filter_map}
 use Rattle.std.specs.List.Sorted.{IsStrictlySortedBy}
 use Rattle.std.specs.Map.Iter.{TakesFirst, deref}
-use Rattle.bptree_sets.specs.declared.set.difference.Lacking.{Lacking}
-use Rattle.bptree_sets.specs.declared.set.difference.Lacking.TheVariants as lacking
-use Rattle.bptree_sets.specs.declared.set.intersection.Shared.{Shared}
-use Rattle.bptree_sets.specs.declared.set.intersection.Shared.TheVariants as shared
-use Rattle.bptree_maps.specs.Keys.{key_found, keys_within, keys_without}
+use Rattle.bptree_sets.specs.declared.set.sifted.By.{By}
+use Rattle.bptree_sets.specs.declared.set.sifted.By.TheVariants as by
+use Rattle.bptree_maps.specs.Keys.{holds, key_found}
+use Rattle.bptree_sets.specs.Joined.{IsBoundedHint}
 
 module _ {K : Type 0} (cmp : K → K → Ordering) where
+  -- the keys of a list that are kept by whether others hold them
+  abbrev pub keys_sifted : (Bool → Bool) → List K → List K → List K
+  keys_sifted keeps keys others = filter (λ key. keeps (holds cmp others key)) keys
+
   -- for each key of a list the key of another that equals it
   abbrev pub keys_fetched : List K → List K → List K
   keys_fetched keys others = filter_map (λ key. key_found cmp keys key) others
@@ -20,34 +23,29 @@ module _ {K : Type 0} (cmp : K → K → Ordering) where
   abbrev pub AreSides : List K × List K → Type 0
   AreSides sides = IsStrictlySortedBy cmp sides.0 × IsStrictlySortedBy cmp sides.1 × (length sides.0 < 2 ^ 64) × (length sides.1 < 2 ^ 64)
 
-  -- the keys that are left of those that the first set shares
-  abbrev pub shared_left : List K → Shared K → List K
-  shared_left others (shared.Seek keys) = keys_within cmp keys others
-  shared_left others (shared.Fetch keys) = keys_fetched others keys
-  shared_left others (shared.Walk sides) = keys_within cmp sides.0 sides.1
+  -- the keys that are left of those that are kept
+  abbrev pub sifted_left : (Bool → Bool) → List K → By K → List K
+  sifted_left keeps others (by.Seek keys) = keys_sifted keeps keys others
+  sifted_left keeps others (by.Fetch keys) = keys_fetched others keys
+  sifted_left keeps others (by.Walk sides) = keys_sifted keeps sides.0 sides.1
 
-  abbrev pub IsSharedSound : Shared K → Type 0
-  IsSharedSound (shared.Seek keys) = IsStrictlySortedBy cmp keys
-  IsSharedSound (shared.Fetch keys) = IsStrictlySortedBy cmp keys
-  IsSharedSound (shared.Walk sides) = AreSides sides
+  abbrev pub IsSound : By K → Type 0
+  IsSound (by.Seek keys) = IsStrictlySortedBy cmp keys
+  IsSound (by.Fetch keys) = IsStrictlySortedBy cmp keys
+  IsSound (by.Walk sides) = AreSides sides
 
-  -- the keys that are left of those that the second set lacks
-  abbrev pub lacking_left : List K → Lacking K → List K
-  lacking_left others (lacking.Seek keys) = keys_without cmp keys others
-  lacking_left others (lacking.Walk sides) = keys_without cmp sides.0 sides.1
-
-  abbrev pub IsLackingSound : Lacking K → Type 0
-  IsLackingSound (lacking.Seek keys) = IsStrictlySortedBy cmp keys
-  IsLackingSound (lacking.Walk sides) = AreSides sides
-
-  -- a step gave the first of the keys that one list shares with another, and left the others of them
-  abbrev pub TakesShared : List K × List K → Option (Bor K) → List K × List K → Type 0
-  TakesShared old r new = TakesFirst deref (keys_within cmp old.0 old.1) r (keys_within cmp new.0 new.1)
+  -- a step gave the first of the keys that are kept of a list by another, and left the others of them
+  abbrev pub TakesSifted : (Bool → Bool) → List K × List K → Option (Bor K) → List K × List K → Type 0
+  TakesSifted keeps old r new = TakesFirst deref (keys_sifted keeps old.0 old.1) r (keys_sifted keeps new.0 new.1)
 
   -- the same of those that a list has for the keys of another
   abbrev pub TakesFetched : List K × List K → Option (Bor K) → List K × List K → Type 0
   TakesFetched old r new = TakesFirst deref (keys_fetched old.0 old.1) r (keys_fetched new.0 new.1)
 
-  -- the same of those that another lacks
-  abbrev pub TakesLacking : List K × List K → Option (Bor K) → List K × List K → Type 0
-  TakesLacking old r new = TakesFirst deref (keys_without cmp old.0 old.1) r (keys_without cmp new.0 new.1)
+-- how many are kept of so many keys that are held and so many that are not
+abbrev pub count_kept : (Bool → Bool) → ℕ → ℕ → ℕ
+count_kept keeps held lacking = (if keeps true then held else 0) + (if keeps false then lacking else 0)
+
+-- what is told bounds the keys that are kept of a list, however many of them another holds: so long are both lists
+abbrev pub BoundsKept : (Bool → Bool) → ℕ → ℕ → ℕ × Option ℕ → Type 0
+BoundsKept keeps first second told = (held lacking : ℕ) → held ≤ second → held + lacking ≡ first → IsBoundedHint (count_kept keeps held lacking) told

@@ -1,4 +1,5 @@
 pub mod Beside
+pub mod Joined
 pub mod KeyLaws
 pub mod Replacing
 pub mod Symmetric

@@ -1,9 +1,8 @@
 -- The keys that one of two ascending lists holds, and the other does not.
-use Rattle.std.specs.Prelude.{◌≡◌, ◌+◌, ◌≤◌, ◌^◌, ℕ, List, Option, Some, None, MatchOption, length}
+use Rattle.std.specs.Prelude.{◌≡◌, ◌+◌, ◌≤◌, ◌^◌, ℕ, List, Option, Some, None, MatchOption}
 use Rattle.std.specs.declared.cmp.Ordering.{Ordering}
 use Rattle.std.specs.Borrow.{Bor}
 use Rattle.std.specs.Int.{abs_diff}
-use Rattle.std.specs.Iterator.{Count, at_most}
 use Rattle.std.specs.List.{filter_map}
 use Rattle.std.specs.Map.Iter.{TakesFirst, deref}
 use Rattle.bptree_merging.specs.Merge.{merged}
@@ -22,10 +21,6 @@ module _ {K : Type 0} (cmp : K → K → Ordering) where
   -- a step gave the first of those keys of what was left of both lists
   abbrev pub IsSymmetricStep : List K × List K → Option (Bor K) → List K × List K → Type 0
   IsSymmetricStep old r new = TakesFirst deref (symmetric old.0 old.1) r (symmetric new.0 new.1)
-
-  -- how many of those keys are left
-  abbrev pub symmetric_count : List K × List K → Count
-  symmetric_count both = at_most (length (symmetric both.0 both.1))
 
 -- at least the difference of both numbers, and at most their sum, where that is a number
 abbrev pub IsHintOfBoth : ℕ → ℕ → ℕ × Option ℕ → Type 0

@@ -11,10 +11,6 @@ module _ {K : Type 0} (cmp : K → K → Ordering) where
   abbrev pub union : List K → List K → List K
   union first second = keys_given (merged cmp first second)
 
-  -- how many keys both lists have together, each key once
-  abbrev pub union_count : List K × List K → ℕ
-  union_count both = length (union both.0 both.1)
-
   -- a step gave the first key of the union of what was left of both lists, and left of each what a step of their merge does
   abbrev pub IsUnionStep : List K × List K → Option (Bor K) → List K × List K → Type 0
   IsUnionStep old r new =

@@ -22,19 +22,7 @@ impl<K: Key> PartialEq for BPlusTreeSet<K> {
     ghost laws = { lists_per K.PartialEq.laws };
 
     fn eq(&self, other: &Self) -> bool {
-        if self.len() != other.len() {
-            return false;
-        }
-        let (mut left, mut right) = (self.iter(), other.iter());
-        while let Some(key) = left.next() {
-            let Some(beside) = right.next() else {
-                unreachable!();
-            };
-            if key != beside {
-                return false;
-            }
-        }
-        true
+        self.map == other.map
     }
 }
 
@@ -49,20 +37,7 @@ impl<K: Key> PartialOrd for BPlusTreeSet<K> {
     ghost laws = { lists_po K.PartialOrd.laws };
 
     fn partial_cmp(&self, other: &Self) -> Option<Ordering> {
-        let (mut left, mut right) = (self.iter(), other.iter());
-        while let Some(key) = left.next() {
-            let Some(beside) = right.next() else {
-                return Some(Ordering::Greater);
-            };
-            match key.partial_cmp(&beside) {
-                Some(Ordering::Equal) => {}
-                decided => return decided,
-            }
-        }
-        match right.next() {
-            Some(_) => Some(Ordering::Less),
-            None => Some(Ordering::Equal),
-        }
+        self.map.partial_cmp(&other.map)
     }
 }
 
@@ -77,7 +52,7 @@ impl<K: Key> Ord for BPlusTreeSet<K> {
     ghost matches_eq = { lists_ties K.cmp K.matches_eq };
 
     fn cmp(&self, other: &Self) -> Ordering {
-        self.iter().cmp(other.iter())
+        self.map.cmp(&other.map)
     }
 }
 

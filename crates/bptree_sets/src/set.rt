@@ -18,27 +18,29 @@ mod borrowed;
 mod bounds;
 mod difference;
 mod intersection;
-mod iter;
+mod joined;
 mod laws;
 mod moving;
 mod retaining;
+mod sifted;
 mod symmetric;
 mod union;
 
 use bptree_keys::key::Key;
 use bptree_maps::gathering::gather_map;
-use bptree_maps::map::{BPlusTreeMap, Keys};
+use bptree_maps::map::{BPlusTreeMap, IntoKeys, Keys};
 pub use bptree_maps::refusals::{MoveError, ReplaceError, RetainError, SplitError};
 use bptree_stores::node_store_vec::NodeStoreVec;
 use bptree_tree::{BPlusTree, InsertError};
-pub use difference::Difference;
-pub use intersection::Intersection;
-pub use iter::{IntoIter, Iter};
+pub use difference::Lacking;
+pub use intersection::Shared;
+pub use joined::{Joined, Joining, SymmetricDifference, Union};
 pub use laws::{laws_of_keys, laws_of_two_sets};
+pub use sifted::{Difference, Intersection, Sieve, Sifted};
 use std::alloc::{AllocError, Global};
 use std::marker::Model;
-pub use symmetric::SymmetricDifference;
-pub use union::{Union, laws_of_union};
+pub use symmetric::InOneAlone;
+pub use union::{InEither, laws_of_union};
 
 // How many times fewer keys a set has than another, at least, where each is looked up in the other.
 const SEEK_RATIO: usize = 16;
@@ -46,7 +48,7 @@ const SEEK_RATIO: usize = 16;
 /// Keys in their strictly ascending order.
 #[derive(Drop)]
 pub struct BPlusTreeSet<K: Key> {
-    map: BPlusTreeMap<K, ()>,
+    pub(crate) map: BPlusTreeMap<K, ()>,
 }
 
 impl<K: Key> Model for BPlusTreeSet<K> {
@@ -222,7 +224,7 @@ impl<K: Key> BPlusTreeSet<K> {
         ensures ascending { IsStrictlySortedBy K.cmp self.now }
         ensures runs { ShowsInOrder (deref {X = K}) }
     {
-        Iter::new(self.map.keys())
+        self.map.keys()
     }
 
     /// The keys that are not below `lo` and are below `hi`, where they are given, in their order.
@@ -235,7 +237,7 @@ impl<K: Key> BPlusTreeSet<K> {
         ensures ascending { IsStrictlySortedBy K.cmp result }
         ensures runs { ShowsInOrder (deref {X = K}) }
     {
-        Iter::new(Keys::new(self.map.range(lo, hi)))
+        Keys::new(self.map.range(lo, hi))
     }
 
     /// The keys in their order, each handed over. It takes no memory, and neither do its steps.
@@ -245,7 +247,7 @@ impl<K: Key> BPlusTreeSet<K> {
         ensures runs { GivesInOrder K }
         ensures runs_back { GivesInReverse K }
     {
-        IntoIter::new(self.map.into_keys())
+        self.map.into_keys()
     }
 
     /// The keys of both sets in their order; of two equal keys that of this set. It takes no
@@ -266,7 +268,7 @@ impl<K: Key> BPlusTreeSet<K> {
         ensures ascending { IsStrictlySortedBy K.cmp result }
         ensures runs { ShowsInOrder (deref {X = K}) }
     {
-        Difference::new(self, other)
+        Sifted::new(self, other)
     }
 
     /// The keys of this set that a key of the other equals, in their order. It takes no memory, and
@@ -279,7 +281,10 @@ impl<K: Key> BPlusTreeSet<K> {
         ensures ascending { IsStrictlySortedBy K.cmp result }
         ensures runs { ShowsInOrder (deref {X = K}) }
     {
-        Intersection::new(self, other)
+        if other.len() <= self.len() / SEEK_RATIO {
+            return Sifted::fetching(self, other);
+        }
+        Sifted::new(self, other)
     }
 
     /// The keys of both sets in their order, without those that are in both. It takes no memory,
@@ -346,3 +351,10 @@ impl<K: Key> IntoIterator for BPlusTreeSet<K> {
         self.into_iter()
     }
 }
+
+/// The keys of a set that are left, in their order. No step takes memory.
+pub type Iter<'a, K> = Keys<'a, K, (), ()>;
+
+/// The keys of an owned set that are left, in their order. No step takes memory, and none is
+/// refused; what is left is dropped with it.
+pub type IntoIter<K> = IntoKeys<K, (), ()>;

@@ -20,8 +20,6 @@ impl<K: Key, V: Drop, A: Argument<K>> BPlusTreeMap<K, V, A> {
         ensures ascending { IsAscending K.cmp result }
         ensures runs { ShowsInOrder (deref_pair {K = K} {X = V}) }
     {
-        Iter {
-            inner: self.inner.range_bounds(lo, hi),
-        }
+        Iter::new(self.inner.range_bounds(lo, hi))
     }
 }

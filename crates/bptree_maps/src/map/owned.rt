@@ -1,8 +1,8 @@
 //! The pairs of a map that is handed over, one by one from both ends.
-ghost use Rattle.std.specs.Prelude.{◌≡◌, Some, length, IfSome};
-ghost use Rattle.std.specs.Iterator.{at_most, item_count, UpTo};
-ghost use Rattle.std.specs.Iterator.SizeHint.{IsWithinCount};
+ghost use Rattle.std.specs.Prelude.{◌≡◌, length};
+ghost use Rattle.std.specs.Iterator.{item_count};
 ghost use Rattle.std.specs.Map.Iter.{TakesFirst, TakesLast};
+ghost use Rattle.bptree_maps.specs.Hints.{IsExactHint};
 
 use bptree_arguments::argument::Argument;
 use bptree_keys::key::Key;
@@ -47,9 +47,7 @@ impl<K: Key, V: Drop, A: Argument<K>> Iterator for IntoIter<K, V, A> {
     }
 
     fn size_hint(&self) -> (usize, Option<usize>)
-        ensures lower { IsWithinCount result.0 (at_most (length self.now)) }
-        ensures upper { IfSome result.1 (UpTo (at_most (length self.now))) }
-        ensures exact { result ≡ (length self.now, Some (length self.now)) }
+        ensures { IsExactHint (length self.now) result }
     {
         self.inner.size_hint()
     }

@@ -21,6 +21,6 @@ impl<K: Key> BPlusTreeSet<K> {
         ensures ascending { IsStrictlySortedBy K.cmp result }
         ensures runs { ShowsInOrder (deref {X = K}) }
     {
-        Iter::new(Keys::new(self.map.range_bounds(lo, hi)))
+        Keys::new(self.map.range_bounds(lo, hi))
     }
 }

@@ -12,6 +12,7 @@ use bptree_keys::key::Key;
 /// it is held, and others as before. Both leave an ascending list ascending, and what is gathered
 /// of any list is ascending: of an ascending one that list, so that `from_iter` of what `into_iter`
 /// gives is the same. It does nothing.
+#[tactic(auto, using(crate::proofs::KeyLaws::laws))]
 pub fn laws_of_keys<K: Key>()
     ensures with_order { WithKeyAscends K.cmp }
     ensures with_holds { WithKeyHolds K.cmp }

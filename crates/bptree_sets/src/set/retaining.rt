@@ -44,7 +44,7 @@ impl<K: Key> BPlusTreeSet<K> {
         let Ok(fresh) = BPlusTreeMap::new(self.tree().node_store().allocator()) else {
             return Err(RetainError::NotMade);
         };
-        let mut keys = IntoIter::new(mem::replace(&mut self.map, fresh).into_keys());
+        let mut keys = mem::replace(&mut self.map, fresh).into_keys();
         'keys: while let Some(k) = keys.next() {
             if f(&k) {
                 match self.insert(k) {

@@ -1,7 +1,7 @@
-use Rattle.std.proofs.Common.{◌≡◌, ◌∙◌, refl, ap, List, [], ◌∷◌, ◌++◌, true, false}
+use Rattle.std.proofs.Common.{◌≡◌, ◌∙◌, refl, ap, [], ◌∷◌, ◌++◌}
 use Rattle.bptree_keys.specs.Contents.{IsAscending}
-use Rattle.bptree_maps.specs.Retaining.{CallsAtPair, IsRetained}
-use Rattle.bptree_maps.proofs.RetainLemmas.{all_asked, ascending_without, none_asked, one_leaves, one_stays, put_behind, retains_none, retains_one, still_ascending}
+use Rattle.bptree_maps.specs.Retaining.{IsRetained}
+use Rattle.bptree_maps.proofs.RetainLemmas.{all_asked, ascending_without, called_at, none_asked, pair_in_hand, pair_leaves, pair_stays, put_behind, still_ascending}
 use denote.Param.Always.{mut_next}
 use Rattle.bptree_maps.proofs.retaining.retain_in_tree.Goals as goal
 
@@ -17,67 +17,28 @@ pairs-init g c =
 
 pub returns-in-Err-clause-err : goal.returns-in-Err-clause-err
 returns-in-Err-clause-err g c =
-    let at = c.pairs.invariant in
-    let k = c.in-Some.k in
-    let v = c.in-Some.v in
-    let w = c.f.new.arg3 in
-    let call : CallsAtPair g.F.FnMut c.pairs.f (k, v) c.f.result c.f.new.self (k, w) = record { key = _; value = _; lent = _; shows = (refl, refl); called = c.f.ensures; leaves = refl } in
-    let goes = rw c.in-Some.ensures.steps at at.asked in
-    let err = c.in-Err.ensures.err in
-    let one = retains_one (CallsAtPair g.F.FnMut) c.pairs.f (k, v) c.f.new.self (k, w) (rw c.if-f.true at call) [] [] refl in
-    rw (err.1, c.pair_back.ensures ∙ err.0) (goes.0, (k, v), goes.1, goes.2 ((k, v) ∷ []) ((k, w) ∷ []) one)
+    let call = rw c.if-f.true at (called_at g.F.FnMut c.f.ensures) in
+    rw (c.in-Err.ensures.err.1, c.in-Err.ensures.err.0) (pair_in_hand g.F.FnMut _ _ _ _ _ c.pairs.invariant.asked _ _ c.in-Some.ensures.steps _ _ call)
 
-pub pairs-preserved-in-Ok-insert : goal.pairs-preserved-in-Ok-insert
-pairs-preserved-in-Ok-insert g c =
-    let at = c.pairs.invariant in
+pub pairs-preserved-in-Ok-put_kept : goal.pairs-preserved-in-Ok-put_kept
+pairs-preserved-in-Ok-put_kept g c =
     let total = g.met.S.K.Ord.total in
-    let kept = c.pairs.tree.contents in
-    let rest = c.next.new.self in
-    let k = c.in-Some.k in
-    let v = c.in-Some.v in
-    let w = c.f.new.arg3 in
-    let call : CallsAtPair g.F.FnMut c.pairs.f (k, v) c.f.result c.f.new.self (k, w) = record { key = _; value = _; lent = _; shows = (refl, refl); called = c.f.ensures; leaves = refl } in
-    let goes = rw c.in-Some.ensures.steps at at.asked in
-    let ascending : IsAscending g.S.K.Ord.cmp (kept ++ (k, v) ∷ rest) = rw c.in-Some.ensures.steps at at.ascending in
-    let stored : c.insert.new.self.contents ≡ kept ++ (k, w) ∷ [] = c.in-Ok-insert.ensures.ok.1 ∙ put_behind total kept (k, v) rest ascending w in
+    let call = rw c.if-f.true at (called_at g.F.FnMut c.f.ensures) in
+    let ascending : IsAscending g.S.K.Ord.cmp (c.pairs.tree.contents ++ (c.in-Some.k, c.in-Some.v) ∷ c.next.new.self) = rw c.in-Some.ensures.steps at c.pairs.invariant.ascending in
+    let stored = c.in-Ok-put_kept.ensures.ok ∙ put_behind total _ (c.in-Some.k, c.in-Some.v) _ ascending c.f.new.arg3 in
     record {
-      callable = mut_next g.F.FnMut _ _ _ _ _ c.f.ensures refl at.callable;
-      ascending = rw stored (still_ascending total kept (k, v) rest ascending w);
-      asked = rw stored (one_stays (IsRetained g.F.FnMut) c.args.f c.args.tree.now.contents c.pairs.f kept (k, v) rest goes c.f.new.self (k, w) (retains_one (CallsAtPair g.F.FnMut) c.pairs.f (k, v) c.f.new.self (k, w) (rw c.if-f.true at call)));
-    }
-
-pub pairs-preserved-in-Ok-insert-2 : goal.pairs-preserved-in-Ok-insert-2
-pairs-preserved-in-Ok-insert-2 g c =
-    let at = c.pairs.invariant in
-    let total = g.met.S.K.Ord.total in
-    let kept = c.pairs.tree.contents in
-    let rest = c.next.new.self in
-    let k = c.in-Some.k in
-    let v = c.in-Some.v in
-    let w = c.f.new.arg3 in
-    let call : CallsAtPair g.F.FnMut c.pairs.f (k, v) c.f.result c.f.new.self (k, w) = record { key = _; value = _; lent = _; shows = (refl, refl); called = c.f.ensures; leaves = refl } in
-    let goes = rw c.in-Some.ensures.steps at at.asked in
-    let ascending : IsAscending g.S.K.Ord.cmp (kept ++ (k, v) ∷ rest) = rw c.in-Some.ensures.steps at at.ascending in
-    let stored : c.insert.new.self.contents ≡ kept ++ (k, w) ∷ [] = c.in-Ok-insert.ensures.ok.1 ∙ put_behind total kept (k, v) rest ascending w in
-    record {
-      callable = mut_next g.F.FnMut _ _ _ _ _ c.f.ensures refl at.callable;
-      ascending = rw stored (still_ascending total kept (k, v) rest ascending w);
-      asked = rw stored (one_stays (IsRetained g.F.FnMut) c.args.f c.args.tree.now.contents c.pairs.f kept (k, v) rest goes c.f.new.self (k, w) (retains_one (CallsAtPair g.F.FnMut) c.pairs.f (k, v) c.f.new.self (k, w) (rw c.if-f.true at call)));
+      callable = mut_next g.F.FnMut _ _ _ _ _ c.f.ensures refl c.pairs.invariant.callable;
+      ascending = rw stored (still_ascending total _ (c.in-Some.k, c.in-Some.v) _ ascending c.f.new.arg3);
+      asked = rw stored (pair_stays g.F.FnMut _ _ _ _ _ c.pairs.invariant.asked _ _ c.in-Some.ensures.steps _ _ call);
     }
 
 pub pairs-preserved : goal.pairs-preserved
 pairs-preserved g c =
-    let at = c.pairs.invariant in
-    let total = g.met.S.K.Ord.total in
-    let kept = c.pairs.tree.contents in
-    let rest = c.next.new.self in
-    let k = c.in-Some.k in
-    let v = c.in-Some.v in
-    let call : CallsAtPair g.F.FnMut c.pairs.f (k, v) c.f.result c.f.new.self (k, c.f.new.arg3) = record { key = _; value = _; lent = _; shows = (refl, refl); called = c.f.ensures; leaves = refl } in
+    let call = rw c.if-f.false at (called_at g.F.FnMut c.f.ensures) in
     record {
-      callable = mut_next g.F.FnMut _ _ _ _ _ c.f.ensures refl at.callable;
-      ascending = ascending_without total kept (k, v) rest (rw c.in-Some.ensures.steps at at.ascending);
-      asked = one_leaves (IsRetained g.F.FnMut) c.args.f c.args.tree.now.contents c.pairs.f kept (k, v) rest (rw c.in-Some.ensures.steps at at.asked) c.f.new.self (retains_none (CallsAtPair g.F.FnMut) c.pairs.f (k, v) c.f.new.self (k, c.f.new.arg3) (rw c.if-f.false at call));
+      callable = mut_next g.F.FnMut _ _ _ _ _ c.f.ensures refl c.pairs.invariant.callable;
+      ascending = ascending_without g.met.S.K.Ord.total c.pairs.tree.contents (c.in-Some.k, c.in-Some.v) c.next.new.self (rw c.in-Some.ensures.steps at c.pairs.invariant.ascending);
+      asked = pair_leaves g.F.FnMut _ _ _ _ _ c.pairs.invariant.asked _ _ c.in-Some.ensures.steps _ _ call;
     }
 
 pub returns-clause-ok : goal.returns-clause-ok

@@ -1,5 +1,4 @@
-use Rattle.std.proofs.Common.{◌∙◌, Some, None, ap, sym}
-use Rattle.bptree_keys.specs.Ranges.{between}
+use Rattle.std.proofs.Common.{sym}
 use Rattle.bptree_maps.proofs.SplitLemmas.{joined, kept_of, kept_on, moved_on, split_end}
 use Rattle.bptree_maps.proofs.splitting.split_tree.Goals as goal
 

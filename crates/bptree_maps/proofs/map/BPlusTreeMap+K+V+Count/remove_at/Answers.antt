@@ -1,6 +1,6 @@
 use Rattle.std.proofs.Common.{◌≤◌, arith, length, sym}
 use Rattle.std.proofs.lemmas.Option.{slice_get_past}
-use Rattle.bptree_maps.proofs.PlaceLemmas.{all_stay, taken_is}
+use Rattle.bptree_maps.proofs.PlaceLemmas.{all_stay}
 use Rattle.bptree_maps.proofs.map.BPlusTreeMap+K+V+Count.remove_at.Goals as goal
 
 pub returns-then-i-len-clause-ok : goal.returns-then-i-len-clause-ok

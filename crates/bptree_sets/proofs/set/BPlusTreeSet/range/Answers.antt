@@ -6,7 +6,7 @@ use Rattle.bptree_maps.proofs.KeyLemmas.{keys_between-is}
 use Rattle.bptree_sets.proofs.set.BPlusTreeSet.range.Goals as goal
 
 pub returns-clause-rest : goal.returns-clause-rest
-returns-clause-rest g c = rw (← c.self.view_is) (c.new-2.ensures ∙ c.new.ensures ∙ ap keys_of c.range.ensures.rest ∙ keys_between-is g.K.Ord.cmp c.self.inside.map _ _)
+returns-clause-rest g c = rw (← c.self.view_is) (c.new.ensures ∙ ap keys_of c.range.ensures.rest ∙ keys_between-is g.K.Ord.cmp c.self.inside.map _ _)
 
 pub returns-clause-runs : goal.returns-clause-runs
 returns-clause-runs g c = from_front (TakesFirst deref) deref (λ s. s) (λ s t h. ap length h.0) (λ s x t h. h)

@@ -1,20 +1,19 @@
-use Rattle.std.proofs.Common.{◌≡◌, ◌∙◌, refl, ap, List, [], ◌∷◌, ◌++◌, true, false}
+use Rattle.std.proofs.Common.{◌≡◌, ◌∙◌, refl, ap, [], ◌∷◌, ◌++◌}
 use Rattle.std.specs.Fn.{CalledAt}
 use Rattle.std.specs.List.Retain.{IsFiltered}
 use Rattle.std.specs.List.Sorted.{IsStrictlySortedBy}
 use Rattle.std.specs.Map.{keys_of}
-use Rattle.bptree_maps.specs.Keys.{with_key}
 use Rattle.bptree_maps.proofs.RetainLemmas.{all_asked, filters_none, filters_nothing, filters_one, key_behind, keys_still_sorted, keys_without, none_asked, one_leaves, one_stays}
 use denote.Param.Always.{mut_next}
 use Rattle.bptree_sets.proofs.set.BPlusTreeSet.retain.Goals as goal
 
 pub keys-init : goal.keys-init
 keys-init g c =
-    let same : c.new-keys.result ≡ c.args.self.now = rw (← c.self.view_is) (c.new-keys.ensures ∙ (c.into_keys.ensures.rest ∙ ap keys_of c.replace.ensures.value)) in
+    let same : c.into_keys-keys.result ≡ c.args.self.now = rw (← c.self.view_is) (c.into_keys-keys.ensures.rest ∙ ap keys_of c.replace.ensures.value) in
     let empty : keys_of c.replace.new.dest ≡ [] = ap keys_of (c.replace.ensures.after ∙ c.in-Ok.ensures) in
     record {
       callable = c.requires;
-      sorted = rw (empty, c.new-keys.ensures) c.into_keys.ensures.ascending;
+      sorted = rw empty c.into_keys-keys.ensures.ascending;
       asked = rw (empty, same) (none_asked (IsFiltered (CalledAt g.F.FnMut)) c.args.f c.args.self.now);
     }
 

@@ -1,0 +1,55 @@
+-- The keys of a list that are kept by whether another holds them: one by one, and how many.
+use Rattle.std.proofs.Common.{◌≡◌, ◌∙◌, ◌+◌, ◌-◌, ◌^◌, ◌≤◌, ℕ, min, suc, arith, List, [], ◌∷◌, Bool, true, false, not, cond, length, Option, refl, sym, ap}
+use Rattle.std.specs.declared.cmp.Ordering.{Ordering}
+use Rattle.std.specs.Cmp.{IsTotalOrder}
+use Rattle.std.specs.List.Sorted.{IsStrictlySortedBy}
+use Rattle.bptree_maps.specs.Keys.{holds, keys_within, keys_without}
+use Rattle.bptree_sets.specs.Beside.{AreSides, BoundsKept, count_kept, keys_sifted}
+use Rattle.bptree_sets.specs.Joined.{IsBoundedHint}
+use Rattle.bptree_sets.proofs.MemberLemmas.{both_parts, within_fits}
+
+module _ {K : Type 0} (cmp : K → K → Ordering) (keeps : Bool → Bool) where
+  -- the first key is given, or passed by
+  module _ (keys rest : List K) (k : K) (others : List K) (held : Bool) (next : keys ≡ k ∷ rest) (there : held ≡ holds cmp others k) where
+    pub key_given : true ≡ keeps held → keys_sifted cmp keeps keys others ≡ k ∷ keys_sifted cmp keeps rest others
+    key_given kept = rw next (ap (λ b. cond b (k ∷ keys_sifted cmp keeps rest others) (keys_sifted cmp keeps rest others)) (sym (kept ∙ ap keeps there)))
+
+    pub key_passed : false ≡ keeps held → keys_sifted cmp keeps keys others ≡ keys_sifted cmp keeps rest others
+    key_passed passed = rw next (ap (λ b. cond b (k ∷ keys_sifted cmp keeps rest others) (keys_sifted cmp keeps rest others)) (sym (passed ∙ ap keeps there)))
+
+  -- how many are given
+  none_kept : (a b : Bool) → 0 ≡ cond a 0 0 + cond b 0 0
+  none_kept true true = refl
+  none_kept true false = refl
+  none_kept false true = refl
+  none_kept false false = refl
+
+  module _ (k : K) (kept : List K) (held lacking : ℕ) where
+    one_held : (a b : Bool) → length kept ≡ cond a held 0 + cond b lacking 0 → length (cond a (k ∷ kept) kept) ≡ cond a (suc held) 0 + cond b lacking 0
+    one_held true true is = omega (arith, is)
+    one_held true false is = omega (arith, is)
+    one_held false true is = is
+    one_held false false is = is
+
+    one_lacking : (a b : Bool) → length kept ≡ cond a held 0 + cond b lacking 0 → length (cond b (k ∷ kept) kept) ≡ cond a held 0 + cond b (suc lacking) 0
+    one_lacking true true is = omega (arith, is)
+    one_lacking true false is = is
+    one_lacking false true is = omega (arith, is)
+    one_lacking false false is = is
+
+  one_more : (k : K) (kept within without : List K) (b : Bool) → length kept ≡ count_kept keeps (length within) (length without) → length (cond (keeps b) (k ∷ kept) kept) ≡ count_kept keeps (length (cond b (k ∷ within) within)) (length (cond (not b) (k ∷ without) without))
+  one_more k kept within without true is = one_held k kept (length within) (length without) (keeps true) (keeps false) is
+  one_more k kept within without false is = one_lacking k kept (length within) (length without) (keeps true) (keeps false) is
+
+  length_sifted : (keys others : List K) → length (keys_sifted cmp keeps keys others) ≡ count_kept keeps (length (keys_within cmp keys others)) (length (keys_without cmp keys others))
+  length_sifted [] others = none_kept (keeps true) (keeps false)
+  length_sifted (k ∷ keys) others = one_more k (keys_sifted cmp keeps keys others) (keys_within cmp keys others) (keys_without cmp keys others) (holds cmp others k) (length_sifted keys others)
+
+  -- what is told of any that are held and not held bounds those that are given
+  pub sifted_bounds : IsTotalOrder cmp → (keys others : List K) → IsStrictlySortedBy cmp keys → IsStrictlySortedBy cmp others → (m n : ℕ) (told : ℕ × Option ℕ) → m ≡ length keys → n ≡ length others → BoundsKept keeps m n told → IsBoundedHint (length (keys_sifted cmp keeps keys others)) told
+  sifted_bounds total keys others first second m n told is is_too bounds =
+      rw (length_sifted keys others) (bounds (length (keys_within cmp keys others)) (length (keys_without cmp keys others)) (omega (arith, within_fits cmp total keys others first second, is_too)) (omega (arith, both_parts cmp total keys others first second, is)))
+
+  -- the same of two sides, whose lengths are told as numbers
+  pub walked_bounds : IsTotalOrder cmp → (sides : List K × List K) → AreSides cmp sides → (m n : ℕ) (told : ℕ × Option ℕ) → m ≡ min (length sides.0) (2 ^ 64 - 1) → n ≡ min (length sides.1) (2 ^ 64 - 1) → BoundsKept keeps m n told → IsBoundedHint (length (keys_sifted cmp keeps sides.0 sides.1)) told
+  walked_bounds total sides are m n told is is_too bounds = sifted_bounds total sides.0 sides.1 are.0 are.1 m n told (omega (arith, are.2, is)) (omega (arith, are.3, is_too)) bounds

@@ -1,0 +1,201 @@
+//! The keys of a set that another set holds, or those that it does not hold.
+ghost use Rattle.std.specs.Prelude.{◌≡◌, Bool, length, IfSome, IsSome, ⊤};
+ghost use Rattle.std.specs.Iterator.{at_most, item_count, UpTo};
+ghost use Rattle.std.specs.Iterator.SizeHint.{IsWithinCount};
+ghost use Rattle.std.specs.List.Sorted.{IsStrictlySortedBy};
+ghost use Rattle.std.specs.Map.Iter.{TakesFirst, deref};
+ghost use Rattle.bptree_maps.specs.Keys.{keys_within};
+ghost use Rattle.bptree_sets.specs.Beside.{AreSides, BoundsKept, TakesFetched, TakesSifted, keys_sifted};
+
+use crate::set::difference::Lacking;
+use crate::set::intersection::Shared;
+use crate::set::{BPlusTreeSet, Iter, SEEK_RATIO};
+use bptree_keys::key::Key;
+use bptree_merging::merge_iter::MergeIterInner;
+use std::alloc::AllocError;
+use std::iter::FusedIterator;
+use std::marker::{Model, PhantomData};
+
+/// Which keys of a set are given, by whether another set holds them.
+pub trait Sieve {
+    ghost keeps: { Bool → Bool };
+
+    /// Whether a key is given that the other set holds, or does not hold.
+    fn is_kept(held: bool) -> bool
+        ensures { result ≡ keeps held };
+
+    /// What is told of how many of the first set's keys are given, by the lengths of both sets.
+    fn hint(lens: (usize, usize)) -> (usize, Option<usize>)
+        ensures bounds { BoundsKept keeps lens.0 lens.1 result }
+        ensures bounded { IsSome result.1 };
+}
+
+/// The keys of a set that no key of another set equals, in their order, seen as what is left of
+/// them. No step takes memory.
+pub type Difference<'a, K> = Sifted<'a, K, Lacking>;
+
+/// The keys of a set that a key of another set equals, in their order, seen as what is left of
+/// them. No step takes memory.
+pub type Intersection<'a, K> = Sifted<'a, K, Shared>;
+
+/// Keys of a set that are given by whether another set holds them, in their order, seen as what is
+/// left of them. No step takes memory.
+#[derive(Drop)]
+pub struct Sifted<'a, K: Key, W: Sieve> {
+    by: By<'a, K>,
+    other: &'a BPlusTreeSet<K>,
+    sieve: PhantomData<W>,
+}
+
+#[derive(Drop)]
+enum By<'a, K: Key> {
+    // Each key of the first set is looked up in the other, the second.
+    Seek(Iter<'a, K>),
+    // Each key of the second set is looked up in the other, the first, which gives the key that it
+    // has.
+    Fetch(Iter<'a, K>),
+    // Both are walked side by side.
+    Walk(MergeIterInner<Iter<'a, K>>),
+}
+
+impl<'a, K: Key, W: Sieve> Model for Sifted<'a, K, W> {
+    ghost use Rattle.std.specs.Prelude.{List};
+    ghost use Rattle.bptree_sets.specs.Beside.{sifted_left, IsSound};
+
+    ghost Value = { List K };
+
+    ghost view = { λ it. sifted_left K.cmp W.keeps it.other.now it.by };
+
+    ghost invariant = { λ it. IsSound K.cmp it.by };
+}
+
+impl<'a, K: Key, W: Sieve> Sifted<'a, K, W> {
+    // A set that has far fewer keys is looked up in the other, key by key.
+    pub(crate) fn new(first: &'a BPlusTreeSet<K>, other: &'a BPlusTreeSet<K>) -> Self
+        ensures rest { result ≡ keys_sifted K.cmp W.keeps first.now other.now }
+        ensures ascending { IsStrictlySortedBy K.cmp result }
+    {
+        if first.len() <= other.len() / SEEK_RATIO {
+            return Sifted {
+                by: By::Seek(first.iter()),
+                other,
+                sieve: PhantomData,
+            };
+        }
+        Sifted {
+            by: By::Walk(MergeIterInner::new(first.iter(), other.iter())),
+            other,
+            sieve: PhantomData,
+        }
+    }
+}
+
+impl<'a, K: Key> Sifted<'a, K, Shared> {
+    // Each key of the second set is looked up in the first.
+    pub(crate) fn fetching(first: &'a BPlusTreeSet<K>, second: &'a BPlusTreeSet<K>) -> Self
+        ensures rest { result ≡ keys_within K.cmp first.now second.now }
+        ensures ascending { IsStrictlySortedBy K.cmp result }
+    {
+        // Read, so that it is known to ascend.
+        let _len = first.len();
+        Sifted {
+            by: By::Fetch(second.iter()),
+            other: first,
+            sieve: PhantomData,
+        }
+    }
+}
+
+impl<'a, K: Key, W: Sieve> Iterator for Sifted<'a, K, W> {
+    type Item = &'a K;
+
+    ghost next_gives = { TakesFirst deref };
+
+    ghost remaining = { item_count (λ left. left) };
+
+    fn next(&mut self) -> Option<&'a K> {
+        let other = self.other;
+        match &mut self.by {
+            By::Seek(keys) => seek::<K, W>(keys, other),
+            By::Fetch(keys) => fetch(keys, other),
+            By::Walk(sides) => walk::<K, W>(sides),
+        }
+    }
+
+    fn size_hint(&self) -> (usize, Option<usize>)
+        ensures lower { IsWithinCount result.0 (at_most (length self.now)) }
+        ensures upper { IfSome result.1 (UpTo (at_most (length self.now))) }
+        ensures bounded { IsSome result.1 }
+    {
+        match &self.by {
+            By::Seek(keys) => W::hint((keys.len(), self.other.len())),
+            By::Fetch(keys) => (0, Some(keys.len().min(self.other.len()))),
+            By::Walk(sides) => W::hint(sides.lens()),
+        }
+    }
+}
+
+impl<'a, K: Key, W: Sieve> FusedIterator for Sifted<'a, K, W> {}
+
+impl<'a, K: Key, W: Sieve> Clone for Sifted<'a, K, W> {
+    ghost is_clone = { λ it copy. copy ≡ it };
+
+    ghost is_infallible = { λ _. ⊤ };
+
+    fn clone(&self) -> Result<Self, AllocError> {
+        let by = match &self.by {
+            By::Seek(keys) => By::Seek(keys.clone()?),
+            By::Fetch(keys) => By::Fetch(keys.clone()?),
+            By::Walk(sides) => By::Walk(sides.clone()?),
+        };
+        Ok(Sifted {
+            by,
+            other: self.other,
+            sieve: PhantomData,
+        })
+    }
+}
+
+fn seek<'a, K: Key, W: Sieve>(keys: &mut Iter<'a, K>, other: &'a BPlusTreeSet<K>) -> Option<&'a K>
+    requires { IsStrictlySortedBy K.cmp keys.old }
+    ensures ascending { IsStrictlySortedBy K.cmp keys.new }
+    ensures takes { TakesSifted K.cmp W.keeps (keys.old, other.now) result (keys.new, other.now) }
+{
+    while let Some(key) = keys.next() {
+        if W::is_kept(other.contains(key)) {
+            return Some(key);
+        }
+    }
+    None
+}
+
+fn fetch<'a, K: Key>(keys: &mut Iter<'a, K>, other: &'a BPlusTreeSet<K>) -> Option<&'a K>
+    requires { IsStrictlySortedBy K.cmp keys.old }
+    ensures ascending { IsStrictlySortedBy K.cmp keys.new }
+    ensures takes { TakesFetched K.cmp (other.now, keys.old) result (other.now, keys.new) }
+{
+    while let Some(key) = keys.next() {
+        if let Some(found) = other.get(key) {
+            return Some(found);
+        }
+    }
+    None
+}
+
+fn walk<'a, K: Key, W: Sieve>(sides: &mut MergeIterInner<Iter<'a, K>>) -> Option<&'a K>
+    requires { AreSides K.cmp sides.old }
+    ensures sides { AreSides K.cmp sides.new }
+    ensures takes { TakesSifted K.cmp W.keeps sides.old result sides.new }
+{
+    loop {
+        match sides.nexts(|a, b| a.cmp(b)) {
+            (Some(key), second) => {
+                if W::is_kept(second.is_some()) {
+                    return Some(key);
+                }
+            }
+            (None, Some(_)) => {}
+            (None, None) => return None,
+        }
+    }
+}
