@@ -1,5 +1,5 @@
 //! Callers of a leaf.
-ghost use Rattle.std.specs.Prelude.{◌≡◌, ◌<◌, ◌≤◌, ◌+◌, ◌-◌, ◌∷◌, ◌++◌, [], List, Some, None, true, false, length, take, drop, slice_get, remove, IfOk, IfSome, IsSomeAnd, option_copied};
+ghost use Rattle.std.specs.Prelude.{◌≡◌, ◌<◌, ◌≤◌, ◌+◌, ◌-◌, ◌∷◌, ◌++◌, [], List, Some, None, true, false, length, take, slice_get, remove, IfOk, IfSome, IsSomeAnd, option_copied};
 ghost use Rattle.std.specs.declared.cmp.Ordering.TheVariants.{Less, Equal, Greater};
 ghost use Rattle.std.specs.List.{AllZip};
 ghost use Rattle.std.specs.Iterator.{Yields, YieldsThen};
@@ -384,34 +384,6 @@ fn takes_a_split_back<K: Drop, V: Drop>(
 {
     let right = leaf.split_new_leaf(slot, item, ids.1, ids.0, room);
     leaf.undo_split(slot, right)
-}
-
-// The last pair of one leaf becomes the first of the next.
-#[tactic(auto, using(crate::proofs::Ends::last_moves))]
-fn lends_its_last<K: Drop, V: Drop>(leaf: &mut LeafNode<K, V>, right: &mut LeafNode<K, V>)
-    requires some { 0 < length leaf.old.pairs }
-    requires room { length right.old.pairs < 64 }
-    ensures left { (front : List (K × V)) → (last : K × V) → leaf.old.pairs ≡ front ++ last ∷ [] → leaf.new.pairs ≡ front }
-    ensures right { (front : List (K × V)) → (last : K × V) → leaf.old.pairs ≡ front ++ last ∷ [] → right.new.pairs ≡ last ∷ right.old.pairs }
-    ensures left_links { (leaf.new.prev ≡ leaf.old.prev) × (leaf.new.next ≡ leaf.old.next) }
-    ensures right_links { (right.new.prev ≡ right.old.prev) × (right.new.next ≡ right.old.next) }
-{
-    leaf.rotate_right(right);
-}
-
-// The first pair of the next leaf becomes the last of one.
-fn takes_the_first_of_the_next<K: Drop, V: Drop>(
-    leaf: &mut LeafNode<K, V>,
-    right: &mut LeafNode<K, V>,
-)
-    requires some { 0 < length right.old.pairs }
-    requires room { length leaf.old.pairs < 64 }
-    ensures left { leaf.new.pairs ≡ leaf.old.pairs ++ take 1 right.old.pairs }
-    ensures right { right.new.pairs ≡ drop 1 right.old.pairs }
-    ensures left_links { (leaf.new.prev ≡ leaf.old.prev) × (leaf.new.next ≡ leaf.old.next) }
-    ensures right_links { (right.new.prev ≡ right.old.prev) × (right.new.next ≡ right.old.next) }
-{
-    leaf.rotate_left(right);
 }
 
 // What was taken over is handed over again: both have the pairs that they had, and `right` all that
