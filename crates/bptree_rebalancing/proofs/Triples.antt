@@ -12,7 +12,7 @@ use Rattle.bptree_shape.specs.Shape.{leaf_pairs, leaf_next, inner_keys, inner_ch
 use Rattle.bptree_ascent.specs.Change.{StartsAt}
 use Rattle.bptree_ascent.specs.LeafChange.{SumsUpLeaf}
 use Rattle.bptree_ascent.proofs.Undone.{same_node}
-use Rattle.bptree_rebalancing.specs.ChooseSibling.{CanGivePair, CanGiveChild, FitInOneLeaf, FitInOneNode}
+use Rattle.bptree_rebalancing.specs.ChooseSibling.{CanGiveChild, FitInOneLeaf, FitInOneNode}
 use Rattle.bptree_rebalancing.specs.RotateMerge.{MergesLeaves, RotatesInners, MergesInners, UndoesRotateInners, UndoesMergeLeaves, UndoesMergeInners, ThreeAt, MovesPairAt, RetellsLeavesAt, RotatesLeavesAt, MergesLeavesAt, RotatesInnersAt, MergesInnersAt}
 use Rattle.bptree_rebalancing.specs.Transfer.{other_of, MovesPair, ExchangesJoint}
 use Rattle.bptree_rebalancing.specs.declared.rotate_merge.Joint.{Joint}
@@ -85,42 +85,6 @@ module _ {K V A : Type 0} {old s1 s2 s3 s4 s5 : Slots (Inner K A) (Leaf K V)} (i
       fits = rw (left_was, right_was) at fits;
       transfers = merges;
     }
-
--- a pair of one leaf went to its sibling, one leaf after the other
-module _ {K V A : Type 0} {old mid new : Slots (Inner K A) (Leaf K V)} (giver : Sibling) (left right : LeafNodeId) {one other one' other' : Leaf K V} (apart : left.0 ≡ right.0 → ⊥) (can : CanGivePair old giver left right) (moves : MovesPair giver one other one' other') where
-  pub moved_from_left : old.leaf left.0 ≡ Present one → UpdatesLeaf old mid left.0 (Present one') → mid.leaf right.0 ≡ Present other → UpdatesLeaf mid new right.0 (Present other') → MovesPairAt old new giver left right
-  moved_from_left at_left first at_mid second =
-      let at_right : old.leaf right.0 ≡ Present other = sym (first.leaf.others right.0 (λ e. apart (sym e))) ∙ at_mid in record {
-        one = one;
-        other = other;
-        one' = one';
-        other' = other';
-        at_left = at_left;
-        at_right = at_right;
-        is_left = second.leaf.others left.0 apart ∙ first.leaf.changed;
-        is_right = second.leaf.changed;
-        leaves = λ n l r. second.leaf.others n r ∙ first.leaf.others n l;
-        inner = second.inner ∙ first.inner;
-        can = rw (at_left, at_right) at can;
-        moves = moves;
-      }
-
-  pub moved_from_right : old.leaf right.0 ≡ Present other → UpdatesLeaf old mid right.0 (Present other') → mid.leaf left.0 ≡ Present one → UpdatesLeaf mid new left.0 (Present one') → MovesPairAt old new giver left right
-  moved_from_right at_right first at_mid second =
-      let at_left : old.leaf left.0 ≡ Present one = sym (first.leaf.others left.0 apart) ∙ at_mid in record {
-        one = one;
-        other = other;
-        one' = one';
-        other' = other';
-        at_left = at_left;
-        at_right = at_right;
-        is_left = second.leaf.changed;
-        is_right = second.leaf.others right.0 (λ e. apart (sym e)) ∙ first.leaf.changed;
-        leaves = λ n l r. second.leaf.others n l ∙ first.leaf.others n r;
-        inner = second.inner ∙ first.inner;
-        can = rw (at_left, at_right) at can;
-        moves = moves;
-      }
 
 -- a pair that went over comes back
 pub pairs_back : {K V A : Type 0} {giver : Sibling} (left right : LeafNodeId) {old mid new : Slots (Inner K A) (Leaf K V)} → MovesPairAt old mid giver left right → (mid' : Slots (Inner K A) (Leaf K V)) → mid'.leaf ≡ mid.leaf → MovesPairAt mid' new (other_of giver) left right → new.leaf ≡ old.leaf
