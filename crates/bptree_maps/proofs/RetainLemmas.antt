@@ -80,7 +80,7 @@ module _ {S X : Type 0} (R : S → X → Bool → S → X → Type 0) (t : S) (x
 -- a closure is called at the next of the pairs
 module _ {F K V : Type 0} (calls : Mut F (Bor K × (MutBor V × Unit {0})) (Bool × (MutBor V × Unit {0}))) where
   pub called_at : {t u : F} {key : Bor K} {value lent : MutBor V} {stays : Bool} → Called calls t (key, (value, tt)) (stays, (lent, tt)) u → CallsAtPair calls t (key.now, value.now) stays u (key.now, lent.now)
-  called_at called = record { key = _; value = _; lent = _; shows = (refl, refl); called = called; leaves = refl }
+  called_at called = (refl, record { key = _; value = _; shows = (refl, refl); left = _; called = called; leaves = refl })
 
   module _ (f : F) (old : List (K × V)) (t : F) (kept left : List (K × V)) (asked : AsksOn (IsRetained calls) f old t kept left) (pair : K × V) (rest : List (K × V)) (next : left ≡ pair ∷ rest) (u : F) (after : K × V) where
     -- it stays and is stored, or it stays and is not stored, or it leaves

@@ -1,20 +1,16 @@
 -- What a closure keeps of a list.
 use Rattle.std.specs.Prelude.{◌≡◌, Bool, List, [], ◌∷◌, ◌++◌}
 use Rattle.std.specs.Borrow.{Bor, MutBor}
-use Rattle.std.specs.Fn.{Called, Mut}
+use Rattle.std.specs.Fn.{Mut}
 use Rattle.std.specs.List.Retain.{RetainsInTurn}
+use Rattle.std.specs.Map.Calls.{CalledAtPair}
 use Rattle.bptree_maps.specs.declared.refusals.RetainError.{RetainError}
 use Rattle.bptree_maps.specs.declared.refusals.RetainError.TheVariants.{NotMade, NotStored}
 
 module _ {F K V : Type 0} (calls : Mut F (Bor K × (MutBor V × Unit {0})) (Bool × (MutBor V × Unit {0}))) where
   -- a call at the key and the value of a pair answers whether the pair stays, and leaves the value, and the closure, so
-  pub record CallsAtPair (f : F) (pair : K × V) (stays : Bool) (after : F) (left : K × V) : Type 0 where
-    pub key : Bor K
-    pub value : MutBor V
-    pub lent : MutBor V
-    pub shows : (key.now ≡ pair.0) × (value.now ≡ pair.1)
-    pub called : Called calls f (key, (value, tt)) (stays, (lent, tt)) after
-    pub leaves : left ≡ (pair.0, lent.now)
+  abbrev pub CallsAtPair : F → K × V → Bool → F → K × V → Type 0
+  CallsAtPair f pair stays after left = (left.0 ≡ pair.0) × CalledAtPair calls f pair.0 pair.1 stays left.1 after
 
   -- the pairs that stay, as the closure left them
   abbrev pub IsRetained : F → List (K × V) → List (K × V) → Type 0

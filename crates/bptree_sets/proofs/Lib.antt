@@ -1,6 +1,5 @@
 mod BesideNothing
 pub mod EntryKeys
-pub mod KeyLaws
 pub mod MemberLemmas
 pub mod SiftLemmas
 pub mod SymmetricLemmas

@@ -31,6 +31,13 @@ module _ {K : Type 0} (cmp : K → K → Ordering) where
   abbrev pub WithoutKeyIsOneFewer : Type 0
   WithoutKeyIsOneFewer = (keys : List K) → (k : K) → IsStrictlySortedBy cmp keys → length (without_key cmp keys k) + (if holds cmp keys k then 1 else 0) ≡ length keys
 
+  -- what is known of keys with one more, and of keys without one
+  abbrev pub WithKeyLaws : Type 0
+  WithKeyLaws = WithKeyAscends × WithKeyHolds × WithKeyIsOneMore
+
+  abbrev pub WithoutKeyLaws : Type 0
+  WithoutKeyLaws = WithoutKeyAscends × WithoutKeyHolds × WithoutKeyIsOneFewer
+
   -- a union holds what either list does, and the key that is found in it is the first list's where that has one
   abbrev pub UnionHoldsBoth : Type 0
   UnionHoldsBoth = (first second : List K) → (k : K) → holds cmp (union cmp first second) k ≡ holds cmp first k || holds cmp second k

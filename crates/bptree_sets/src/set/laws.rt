@@ -4,7 +4,7 @@ ghost use Rattle.std.specs.List.Sorted.{IsStrictlySortedBy};
 ghost use Rattle.bptree_maps.specs.Keys.{holds, gathered, keys_within, keys_without};
 ghost use Rattle.bptree_sets.specs.Symmetric.{symmetric};
 ghost use Rattle.bptree_sets.specs.TwoSets.{KeepsFirstOrder, KeepsOrder, MakesDifference, MakesIntersection, MakesSymmetricDifference};
-ghost use Rattle.bptree_sets.specs.KeyLaws.{WithKeyAscends, WithKeyHolds, WithKeyIsOneMore, WithoutKeyAscends, WithoutKeyHolds, WithoutKeyIsOneFewer};
+ghost use Rattle.bptree_sets.specs.KeyLaws.{WithKeyLaws, WithoutKeyLaws};
 
 use bptree_keys::key::Key;
 
@@ -12,14 +12,9 @@ use bptree_keys::key::Key;
 /// it is held, and others as before. Both leave an ascending list ascending, and what is gathered
 /// of any list is ascending: of an ascending one that list, so that `from_iter` of what `into_iter`
 /// gives is the same. It does nothing.
-#[tactic(auto, using(crate::proofs::KeyLaws::laws))]
 pub fn laws_of_keys<K: Key>()
-    ensures with_order { WithKeyAscends K.cmp }
-    ensures with_holds { WithKeyHolds K.cmp }
-    ensures with_len { WithKeyIsOneMore K.cmp }
-    ensures without_order { WithoutKeyAscends K.cmp }
-    ensures without_holds { WithoutKeyHolds K.cmp }
-    ensures without_len { WithoutKeyIsOneFewer K.cmp }
+    ensures with_key { WithKeyLaws K.cmp }
+    ensures without_key { WithoutKeyLaws K.cmp }
     ensures gathered { (keys : List K) → IsStrictlySortedBy K.cmp (gathered K.cmp keys) }
     ensures same { (keys : List K) → IsStrictlySortedBy K.cmp keys → gathered K.cmp keys ≡ keys }
 {}

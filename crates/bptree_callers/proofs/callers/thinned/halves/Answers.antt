@@ -1,4 +1,4 @@
-use Rattle.std.proofs.Common.{◌≡◌, ◌∙◌, ◌/◌, ap, not, ◌==◌, rules}
+use Rattle.std.proofs.Common.{◌≡◌, ◌∙◌, ◌/◌, ap, not, sym, ◌==◌, rules}
 use Rattle.std.proofs.lemmas.Result.{on_ok_weaker}
 use Rattle.bptree_callers.specs.Numbers.{halved}
 use Rattle.bptree_callers.proofs.RetainedLemmas.{kept_by_test}
@@ -8,9 +8,11 @@ pub returns : goal.returns
 returns g c =
     on_ok_weaker c.retain.result
     (kept_by_test _ (λ pair. not (pair.1 == 0)) halved (λ f pair stays after left call.
-    let told : (stays ≡ not (call.value.now / 2 == 0)) × (call.lent.now ≡ call.value.now / 2) = search rules in (
-      told.0 ∙ ap (λ v. not (v / 2 == 0)) call.shows.1,
-      call.leaves ∙ ap (λ v. (pair.0, v)) (told.1 ∙ ap (λ v. v / 2) call.shows.1),
+    let made = call.1 in
+    let told : (stays ≡ not (made.value.now / 2 == 0)) × (made.left.now ≡ made.value.now / 2) = search rules in
+    let value = sym made.leaves ∙ told.1 ∙ ap (λ v. v / 2) made.shows.1 in (
+      told.0 ∙ ap (λ v. not (v / 2 == 0)) made.shows.1,
+      λ i. (call.0 i, value i),
     ))
     _ c.args.map.now c.retain.new.self)
     c.retain.ensures.ok
