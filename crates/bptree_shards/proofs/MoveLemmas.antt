@@ -140,3 +140,6 @@ module _ {K V : Type 0} (cmp : K → K → Ordering) (total : IsTotalOrder cmp) 
   pub first_pairs_move : FirstPairsMove cmp V
   first_pairs_move low high old new front p moved q back same bounds at less none are =
       moved_to low high old new front p (moved ++ q) (p ++ moved) q back same bounds at less none (sym (append_assoc p moved q)) are
+
+-- what moves a bound, or pairs over a bound
+pub ruleset laws = (bound_goes_in, bound_goes_out, shards_merge, last_pairs_move, first_pairs_move)

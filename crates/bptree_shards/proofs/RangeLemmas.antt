@@ -147,15 +147,12 @@ module _ {K V : Type 0} (cmp : K → K → Ordering) (total : IsTotalOrder cmp) 
   abbrev after : List (K × V)
   after = flatten (drop (suc at) shards)
 
-  cut : flatten shards ≡ ahead ++ (piece_at shards at ++ after)
-  cut = flatten-cut shards at here.in_range
-
   from_whole : from_key cmp (flatten shards) k ≡ from_key cmp (piece_at shards at) k ++ after
   from_whole =
       let test = λ (pair : K × V). not (falls_short cmp (Some k) pair.0) && stays_below cmp None pair.0 in
       let none : filter test ahead ≡ [] = none_pass cmp total k test ahead (AllByRecursion-weaker (λ pair. cmp pair.0 k ≡ Less) (λ pair. test pair ≡ false) (λ pair less. rw less refl) ahead here.smaller) in
       let all : filter test after ≡ after = all_pass cmp total k test after (AllByRecursion-weaker (λ pair. cmp pair.0 k ≡ Greater) (λ pair. test pair ≡ true) (λ pair more. rw more refl) after here.greater) in
-      ap (filter test) cut ∙ filter-append test ahead (piece_at shards at ++ after) ∙ ap (λ l. l ++ filter test (piece_at shards at ++ after)) none
+      ap (filter test) (flatten-cut shards at here.in_range) ∙ filter-append test ahead (piece_at shards at ++ after) ∙ ap (λ l. l ++ filter test (piece_at shards at ++ after)) none
       ∙ filter-append test (piece_at shards at) after ∙ ap (λ l. filter test (piece_at shards at) ++ l) all
 
   back_whole : back_from cmp (flatten shards) k ≡ back_from cmp (piece_at shards at) k ++ reverse ahead
@@ -164,7 +161,7 @@ module _ {K V : Type 0} (cmp : K → K → Ordering) (total : IsTotalOrder cmp) 
       let all : filter test ahead ≡ ahead = filter_all cmp k (λ o. not (is_gt o)) Less ahead refl here.smaller in
       let none : filter test after ≡ [] = filter_none cmp k (λ o. not (is_gt o)) Greater after refl here.greater in
       let kept : filter test (flatten shards) ≡ ahead ++ filter test (piece_at shards at) =
-      ap (filter test) cut ∙ filter-append test ahead (piece_at shards at ++ after) ∙ ap (λ l. l ++ filter test (piece_at shards at ++ after)) all
+      ap (filter test) (flatten-cut shards at here.in_range) ∙ filter-append test ahead (piece_at shards at ++ after) ∙ ap (λ l. l ++ filter test (piece_at shards at ++ after)) all
       ∙ ap (λ l. ahead ++ l) (filter-append test (piece_at shards at) after ∙ ap (λ l. filter test (piece_at shards at) ++ l) none ∙ append-nil (filter test (piece_at shards at))) in
       ap reverse kept ∙ reverse-append ahead (filter test (piece_at shards at))
 

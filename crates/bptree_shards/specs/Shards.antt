@@ -1,5 +1,5 @@
 -- One ascending list in shards: consecutive pieces of it, cut at ascending bounds. A shard may be empty.
-use Rattle.std.specs.Prelude.{◌≡◌, ◌+◌, ◌-◌, ℕ, zero, suc, false, List, [], ◌∷◌, Option, Some, None, length, set, not, filter, reverse, if◌then◌else◌}
+use Rattle.std.specs.Prelude.{◌≡◌, ◌+◌, ◌-◌, ℕ, zero, suc, Bool, false, true, List, [], ◌∷◌, Option, Some, None, length, set, not, filter, reverse, if◌then◌else◌}
 use Rattle.std.specs.declared.cmp.Ordering.{Ordering}
 use Rattle.std.specs.declared.cmp.Ordering.TheVariants.{Less}
 use Rattle.std.specs.Ordering.{is_lt, is_gt}
@@ -20,6 +20,11 @@ module _ {K : Type 0} (cmp : K → K → Ordering) where
   abbrev pub shard_below : List K → K → ℕ
   shard_below [] k = zero
   shard_below (bound ∷ bounds) k = if is_gt (cmp k bound) then suc (shard_below bounds k) else zero
+
+  -- how many bounds there are before the first one that is above k, or that is not below it
+  abbrev pub bounds_before : Bool → List K → K → ℕ
+  bounds_before false bounds k = shard_of bounds k
+  bounds_before true bounds k = shard_below bounds k
 
   -- the first shard that may have a pair between two keys, either of which may be left out, and the last one
   abbrev pub first_shard : List K → Option K → ℕ

@@ -6,6 +6,7 @@ use bptree_keys::key::Key;
 /// Shards stay shards of the same whole where one is cut in two at a key whose shard it is, and
 /// where two neighbours become one. They do where the last pairs of one go to the next, or the
 /// first pairs of one to the one before. The bounds stay bounds.
+#[tactic(auto, using(crate::proofs::MoveLemmas::laws))]
 pub fn laws_of_moves<K: Key, V>()
     ensures goes_in { BoundGoesIn K.cmp }
     ensures goes_out { BoundGoesOut K.cmp }

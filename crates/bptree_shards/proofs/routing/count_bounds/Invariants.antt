@@ -1,10 +1,10 @@
 use Rattle.std.proofs.Common.{◌≡◌, ◌+◌, length}
-use Rattle.bptree_shards.specs.Shards.{shard_below}
-use Rattle.bptree_shards.proofs.routing.route_below.Given as goal
+use Rattle.bptree_shards.specs.Shards.{bounds_before}
+use Rattle.bptree_shards.proofs.routing.count_bounds.Given as goal
 
 abbrev pub invariant-loop-bound : goal.invariant-loop-bound
 invariant-loop-bound g l = record {
-  so_far : shard_below g.K.Ord.cmp l.fn.bounds l.fn.k ≡ l.at + shard_below g.K.Ord.cmp l.rest l.fn.k;
+  so_far : bounds_before g.K.Ord.cmp l.fn.or_equals l.fn.bounds l.fn.k ≡ l.at + bounds_before g.K.Ord.cmp l.fn.or_equals l.rest l.fn.k;
   all : l.at + length l.rest ≡ length l.fn.bounds;
 }
 
