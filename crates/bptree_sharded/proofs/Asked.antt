@@ -251,3 +251,6 @@ module _ {T X : Type 0} (pairs : T → List X) (items : List T) where
 
   pub lengths_all : (i : ℕ) → length items ≤ i → take i (lengths_of (map pairs items)) ≡ lengths_of (map pairs items)
   lengths_all i past = take_all i (lengths_of (map pairs items)) (omega (arith, past, length-map (map pairs items) length, length-map items pairs))
+
+-- the shard of a key is there, and its length is
+pub ruleset routing = (routed_within, routed_counted)

@@ -8,7 +8,7 @@ ghost use Rattle.bptree_keys.specs.Ranges.{between, part};
 ghost use Rattle.bptree_shards.specs.Lengths.{lengths_of};
 ghost use Rattle.bptree_shards.specs.Shards.{AreShards, back_from};
 ghost use Rattle.bptree_sharded.specs.Shown.{shown, GivesBack};
-ghost use Rattle.bptree_sharded.specs.Whole.{descends_at};
+ghost use Rattle.bptree_sharded.specs.Whole.{descends_at, last_pair_before};
 ghost use Rattle.bptree_tree.specs.Entries.{pairs_between};
 ghost use Rattle.std.specs.Map.Iter.{deref_pair};
 
@@ -65,7 +65,7 @@ fn last_before<'a, S: Shard>(
 ) -> Option<(&'a S::K, &'a S::V)>
     requires counted { lengths.now ≡ lengths_of (map (λ shard. S.pairs shard) shards.now) }
     requires in_range { end ≤ length shards.now }
-    ensures { option_map deref_pair result ≡ last_member (flatten (take end (map (λ shard. S.pairs shard) shards.now))) }
+    ensures { option_map deref_pair result ≡ last_pair_before (λ shard. S.pairs shard) shards.now end }
 {
     match prev_full(lengths, end) {
         None => None,
@@ -133,7 +133,7 @@ impl<S: Shard> Shards<S> {
     }
 
     /// The value at a key. The shard of the key is asked.
-    #[tactic(auto, using(crate::proofs::Asked::routed_within, crate::proofs::Asked::routed_counted))]
+    #[tactic(auto, using(crate::proofs::Asked::routing))]
     pub fn get(&self, k: &S::K) -> Option<&S::V>
         ensures { option_copied result ≡ value S.K.cmp self.now k.now }
     {
@@ -143,7 +143,7 @@ impl<S: Shard> Shards<S> {
     /// Puts a value at a key, and gives what was there. The shard of the key is asked. Where it
     /// refuses, the pair comes back and the whole is as it was; and so it is where there are as
     /// many pairs as a `usize` counts.
-    #[tactic(auto, using(crate::proofs::Asked::routed_within, crate::proofs::Asked::routed_counted))]
+    #[tactic(auto, using(crate::proofs::Asked::routing))]
     pub fn put(&mut self, k: S::K, v: S::V) -> Result<Option<S::V>, (S::K, S::V)>
         ensures old { IfOk result (λ old. old ≡ value S.K.cmp self.old k) }
         ensures ok { IfOk result (λ old. self.new ≡ put S.K.cmp self.old k v) }
@@ -161,7 +161,7 @@ impl<S: Shard> Shards<S> {
 
     /// Takes out the pair at a key, and gives its value. The shard of the key is asked. Where it
     /// refuses, the whole is as it was.
-    #[tactic(auto, using(crate::proofs::Asked::routed_within, crate::proofs::Asked::routed_counted))]
+    #[tactic(auto, using(crate::proofs::Asked::routing))]
     pub fn del(&mut self, k: &S::K) -> Result<Option<S::V>, AllocError>
         ensures old { IfOk result (λ old. old ≡ value S.K.cmp self.old k.now) }
         ensures ok { IfOk result (λ old. self.new ≡ del S.K.cmp self.old k.now) }
@@ -174,7 +174,7 @@ impl<S: Shard> Shards<S> {
     }
 
     /// The number of smaller keys. The shard of the key is asked.
-    #[tactic(auto, using(crate::proofs::Asked::routed_within, crate::proofs::Asked::routed_counted))]
+    #[tactic(auto, using(crate::proofs::Asked::routing))]
     pub fn rank(&self, k: &S::K) -> usize
         ensures { result ≡ length (pairs_below S.K.cmp self.now k.now) }
     {
@@ -209,7 +209,7 @@ impl<S: Shard> Shards<S> {
 
     /// The pair with the least greater key. The shard of the key is asked, and where that has none,
     /// the first shard behind it that has a pair.
-    #[tactic(auto, using(crate::proofs::Asked::routed_within, crate::proofs::Asked::routed_counted))]
+    #[tactic(auto, using(crate::proofs::Asked::routing))]
     pub fn next(&self, k: &S::K) -> Option<(&S::K, &S::V)>
         ensures { option_map deref_pair result ≡ next S.K.cmp self.now k.now }
     {
@@ -285,7 +285,7 @@ impl<S: Shard> Shards<S> {
 
     /// At most `n` of the pairs whose keys are not above `k`, the greatest first. The shard of the
     /// key is asked, and then each shard before it that has one of them.
-    #[tactic(auto, using(crate::proofs::Asked::routed_within, crate::proofs::Asked::routed_counted))]
+    #[tactic(auto, using(crate::proofs::Asked::routing))]
     pub fn back(&self, alloc: Global, k: &S::K, n: usize) -> Result<Vec<(&S::K, &S::V)>, AllocError>
         ensures { IfOk result (λ it. shown it.items ≡ take n (back_from S.K.cmp self.now k.now)) }
     {
@@ -305,7 +305,7 @@ impl<S: Shard> Shards<S> {
     /// Room for one more shard comes first: where that is refused, nothing has changed. Where a
     /// pair could not move, the greatest pairs of the shard have left the list, and are handed
     /// back.
-    #[tactic(auto, using(crate::proofs::Asked::routed_within, crate::proofs::Asked::routed_counted))]
+    #[tactic(auto, using(crate::proofs::Asked::routed_within))]
     pub fn split(&mut self, k: S::K) -> Result<(), SplitError<S, MoveError<S::K, S::V>>>
         ensures ok { OnOk result (self.new ≡ self.old) }
         ensures err { IfErr result (GivesBack S.K.cmp (λ shard. S.pairs shard) self.old self.new) }

@@ -1,9 +1,19 @@
-use Rattle.std.proofs.Common.{map, ap, ◌∙◌}
+use Rattle.std.proofs.Common.{arith, map, ap, ◌∙◌}
 use Rattle.bptree_keys.specs.Pieces.{flatten}
 use Rattle.bptree_maps.specs.Splitting.{gone}
-use Rattle.bptree_sharded.proofs.Asked.{same_parts}
+use Rattle.bptree_sharded.proofs.Asked.{same_parts, routed_counted}
 use Rattle.bptree_sharded.proofs.Moved.{split_whole, split_list, early_whole, early_list}
 use Rattle.bptree_sharded.proofs.whole.Shards.split.Goals as goal
+
+pub index_mut-requires-2 : goal.index_mut-requires-2
+index_mut-requires-2 g c =
+    let whole = same_parts g.S.Shard.pairs c.self.inside.shards.items c.reserve-2.new.self.items c.reserve.ensures.items c.reserve-2.ensures.items c.reserve-3.ensures.items c.self.invariant in
+    omega (arith, routed_counted g.met.S.K.Ord.total g.S.Shard.pairs c.reserve-2.new.self.items whole c.args.k c.route-at.result c.route-at.ensures.shard c.deref.ensures.value)
+
+pub insert_reserved-requires-clause-within : goal.insert_reserved-requires-clause-within
+insert_reserved-requires-clause-within g c =
+    let whole = same_parts g.S.Shard.pairs c.self.inside.shards.items c.reserve-2.new.self.items c.reserve.ensures.items c.reserve-2.ensures.items c.reserve-3.ensures.items c.self.invariant in
+    omega (arith, routed_counted g.met.S.K.Ord.total g.S.Shard.pairs c.reserve-2.new.self.items whole c.args.k c.route-at.result c.route-at.ensures.shard c.deref.ensures.value)
 
 pub invariant_of-self-in-Ok : goal.invariant_of-self-in-Ok
 invariant_of-self-in-Ok g c =
