@@ -13,7 +13,7 @@ use Rattle.bptree_nodes.specs.Leaf.{set_value_at}
 use Rattle.bptree_descents.specs.ByArgument.{IsPartSelected, IsSelected, IsTaken}
 use Rattle.bptree_ascent.specs.Lending.{written}
 use Rattle.bptree_ascent.specs.NodeTree.{NodeTree}
-use Rattle.bptree_tree.specs.Cursor.{cursor_key}
+use Rattle.bptree_tree.specs.Cursor.{cursor_key, PointsAt, ShowsValueOf}
 use Rattle.bptree_tree.specs.declared.cursor.Cursor.{Cursor as CursorOf}
 use Rattle.bptree_tree.specs.declared.InsertError as insert_error
 use Rattle.bptree_tree.specs.declared.InsertError.TheVariants as refusal
@@ -51,6 +51,18 @@ module _ {K V : Type 0} (cmp : K → K → Ordering) where
   abbrev pub pair_beside : Bool → List (K × V) → K → Option (K × V)
   pair_beside true l k = next cmp l k
   pair_beside false l k = previous cmp l k
+
+  -- of a cursor beside a value that is lent: it stands at the pair beside another cursor's key, and the value is that pair's
+  module _ (is_next : Bool) (l : List (K × V)) (cursor : CursorOf K) where
+    abbrev pub PointsBeside : Option (CursorOf K × Bor V) → Type 0
+    PointsBeside answer = PointsAt cmp (pair_beside is_next l (cursor_key cursor)) answer
+
+    abbrev pub ShowsBeside : Option (CursorOf K × Bor V) → Type 0
+    ShowsBeside answer = ShowsValueOf (pair_beside is_next l (cursor_key cursor)) answer
+
+    -- or there is no such pair
+    abbrev pub HasNoneBeside : Type 0
+    HasNoneBeside = pair_beside is_next l (cursor_key cursor) ≡ None
 
   -- the list has the greatest length, and the key would make it longer
   abbrev pub HasNoRoomFor : List (K × V) → K → Type 0

@@ -1,7 +1,7 @@
 //! Commands on the cursors that are held.
 ghost use Rattle.std.specs.Prelude.{◌≡◌, ◌<◌, Option, None, Ok, IfOk, IsOk, vec_len};
 ghost use Rattle.bptree_tree.specs.Cursor.{cursor_key, PointsAt, ShowsValueOf};
-ghost use Rattle.bptree_script.specs.Steps.{JoinsOrStays, Step, GoesTo, JoinsAt, held_keys, pair_at_end, pair_beside, cursor_at_end, step_of, reading_of};
+ghost use Rattle.bptree_script.specs.Steps.{JoinsOrStays, Step, GoesTo, JoinsAt, held_keys, PointsBeside, ShowsBeside, HasNoneBeside, pair_at_end, cursor_at_end, step_of, reading_of};
 
 use crate::commands::{Command, Reply, ReplyOf};
 use bptree_arguments::argument::{RankArgument, SearchArgument};
@@ -116,9 +116,9 @@ pub(crate) fn beside<'t, S: NodeStore>(
     cursor: &Cursor<S::K>,
     is_next: bool,
 ) -> Result<Option<(Cursor<S::K>, &'t S::V)>, AllocError>
-    ensures cursor { IfOk result (PointsAt S.K.cmp (pair_beside S.K.cmp is_next tree.now.contents (cursor_key cursor.now))) }
-    ensures value { IfOk result (ShowsValueOf (pair_beside S.K.cmp is_next tree.now.contents (cursor_key cursor.now))) }
-    ensures end { pair_beside S.K.cmp is_next tree.now.contents (cursor_key cursor.now) ≡ None → result ≡ Ok None }
+    ensures cursor { IfOk result (PointsBeside S.K.cmp is_next tree.now.contents cursor.now) }
+    ensures value { IfOk result (ShowsBeside S.K.cmp is_next tree.now.contents cursor.now) }
+    ensures end { HasNoneBeside S.K.cmp is_next tree.now.contents cursor.now → result ≡ Ok None }
     ensures sure { ((key : S.K) → S.K.is_infallible key) → IsOk result }
 {
     if is_next {
