@@ -1,5 +1,5 @@
 -- Whole lines at once.
-use Rattle.std.proofs.Common.{◌≡◌, ℕ, suc, min, ◌+◌, ◌-◌, ◌<◌, ◌≤◌, List, [], ◌∷◌, ◌++◌, length, take, drop, get_or, ◌==◌, not, cond, nat_lt, true, false, refl, sym, ap, ◌∙◌, append_assoc, append-nil, arith, subst, inl, inr, Option, None, Some, length-take, length-drop}
+use Rattle.std.proofs.Common.{◌≡◌, ℕ, suc, min, ◌+◌, ◌-◌, ◌<◌, ◌≤◌, List, [], ◌∷◌, ◌++◌, length, take, drop, get_or, ◌==◌, not, cond, nat_lt, true, false, refl, sym, ap, ◌∙◌, append_assoc, append-nil, arith, subst, inl, inr, None, Some, length-take, length-drop}
 use Rattle.std.specs.Prelude.{Result, Ok, Err, IsOk, OnOk}
 use Rattle.std.proofs.lemmas.Bool.{cases_Bool, cases_lt}
 use Rattle.std.proofs.lemmas.Bool.Decides.{nat_tests}

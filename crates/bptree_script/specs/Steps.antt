@@ -13,7 +13,7 @@ use Rattle.bptree_nodes.specs.Leaf.{set_value_at}
 use Rattle.bptree_descents.specs.ByArgument.{IsPartSelected, IsSelected, IsTaken}
 use Rattle.bptree_ascent.specs.Lending.{written}
 use Rattle.bptree_ascent.specs.NodeTree.{NodeTree}
-use Rattle.bptree_tree.specs.Cursor.{cursor_key}
+use Rattle.bptree_tree.specs.Cursor.{cursor_key, PointsAt, ShowsValueOf}
 use Rattle.bptree_tree.specs.declared.cursor.Cursor.{Cursor as CursorOf}
 use Rattle.bptree_tree.specs.declared.InsertError as insert_error
 use Rattle.bptree_tree.specs.declared.InsertError.TheVariants as refusal
@@ -41,9 +41,51 @@ module _ {K V : Type 0} (cmp : K → K → Ordering) where
   RepliesCopy pair OutOfMemory = Unit {0}
   RepliesCopy pair reply = ⊥
 
+  -- the reply has copies of what was taken, or there was no memory
+  abbrev pub RepliesWalk : {R : Type 0} → List (Option (K × V)) → Reply K V R → Type 0
+  RepliesWalk taken (Walked answers) = AllZip IsCopyOf taken answers.items
+  RepliesWalk taken OutOfMemory = Unit {0}
+  RepliesWalk taken reply = ⊥
+
+  -- the pair beside a key: the next one, or the previous one
+  abbrev pub pair_beside : Bool → List (K × V) → K → Option (K × V)
+  pair_beside true l k = next cmp l k
+  pair_beside false l k = previous cmp l k
+
+  -- of a cursor beside a value that is lent: it stands at the pair beside another cursor's key, and the value is that pair's
+  module _ (is_next : Bool) (l : List (K × V)) (cursor : CursorOf K) where
+    abbrev pub PointsBeside : Option (CursorOf K × Bor V) → Type 0
+    PointsBeside answer = PointsAt cmp (pair_beside is_next l (cursor_key cursor)) answer
+
+    abbrev pub ShowsBeside : Option (CursorOf K × Bor V) → Type 0
+    ShowsBeside answer = ShowsValueOf (pair_beside is_next l (cursor_key cursor)) answer
+
+    -- or there is no such pair
+    abbrev pub HasNoneBeside : Type 0
+    HasNoneBeside = pair_beside is_next l (cursor_key cursor) ≡ None
+
   -- the list has the greatest length, and the key would make it longer
   abbrev pub HasNoRoomFor : List (K × V) → K → Type 0
   HasNoRoomFor l k = (length l ≡ 2 ^ 64 - 1) × (has cmp l k ≡ false)
+
+-- the first pair, or the last one
+abbrev pub pair_at_end : {X : Type 0} → Bool → List X → Option X
+pair_at_end true l = slice_get l 0
+pair_at_end false l = slice_get l (length l - 1)
+
+-- the commands that differ by an end, by a direction and by what is read
+module _ {K V Q : Type 0} where
+  abbrev pub cursor_at_end : Bool → Command K V Q
+  cursor_at_end true = CursorFirst
+  cursor_at_end false = CursorLast
+
+  abbrev pub step_of : Bool → ℕ → Command K V Q
+  step_of true n = Next n
+  step_of false n = Prev n
+
+  abbrev pub reading_of : Bool → ℕ → Command K V Q
+  reading_of true n = ValueOf n
+  reading_of false n = Exists n
 
 -- a cursor with this key joins the held ones, and its number is told with a value; or there is no memory for it
 abbrev pub JoinsOrStays : {K V R : Type 0} → K → Option V → List K → Reply K V R → List K → Type 0

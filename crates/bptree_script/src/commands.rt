@@ -5,7 +5,7 @@ ghost use Rattle.bptree_script.specs.Steps.{IsCopyOf, RepliesCopy, Step, Run, re
 ghost use Rattle.std.specs.Map.Iter.{deref_pair};
 
 use crate::held;
-use crate::walk::{End, walk, walk_range, walk_range_at};
+use crate::walk::{End, walk, walk_range};
 use bptree_arguments::argument::{RankArgument, SearchArgument};
 use bptree_keys::key::Key;
 use bptree_stores::node_stores::NodeStore;
@@ -223,24 +223,6 @@ where
     }
 }
 
-fn first<S: NodeStore>(tree: &BPlusTree<S>) -> ReplyOf<S>
-where
-    S::V: Copy,
-    S::Argument: SearchArgument<S::K> + RankArgument<S::K>,
-    ensures { Reads S.K.cmp S.Argument.selects S.Argument.ranks tree.now Command.First result }
-{
-    copied(tree.first())
-}
-
-fn last<S: NodeStore>(tree: &BPlusTree<S>) -> ReplyOf<S>
-where
-    S::V: Copy,
-    S::Argument: SearchArgument<S::K> + RankArgument<S::K>,
-    ensures { Reads S.K.cmp S.Argument.selects S.Argument.ranks tree.now Command.Last result }
-{
-    copied(tree.last())
-}
-
 fn at<S: NodeStore>(
     tree: &BPlusTree<S>,
     query: <S::Argument as SearchArgument<S::K>>::Query,
@@ -287,21 +269,24 @@ where
         Command::Get(key) => get(tree, key),
         Command::Set(key, value) => set(tree, key, value),
         Command::SetAt(query, value) => set_at(tree, query, value),
-        Command::First => first(tree),
-        Command::Last => last(tree),
+        Command::First => copied(tree.first()),
+        Command::Last => copied(tree.last()),
         Command::Len => Reply::Number(tree.len()),
         Command::At(query) => at(tree, query),
         Command::Rank(key) => rank(tree, key),
         Command::Cursor(key) => held::hold(tree, cursors, key),
-        Command::CursorFirst => held::hold_first(tree, cursors),
-        Command::CursorLast => held::hold_last(tree, cursors),
-        Command::Next(number) => held::next(tree, cursors, number),
-        Command::Prev(number) => held::prev(tree, cursors, number),
-        Command::Exists(number) => held::exists(tree, cursors.as_slice(), number),
-        Command::Value(number) => held::value(tree, cursors.as_slice(), number),
-        Command::Walk(word) => walk(alloc, tree, word),
+        Command::CursorFirst => held::hold_end(tree, cursors, true),
+        Command::CursorLast => held::hold_end(tree, cursors, false),
+        Command::Next(number) => held::step(tree, cursors, number, true),
+        Command::Prev(number) => held::step(tree, cursors, number, false),
+        Command::Exists(number) => held::read(tree, cursors.as_slice(), number, false),
+        Command::Value(number) => held::read(tree, cursors.as_slice(), number, true),
+        Command::Walk(word) => walk(alloc, tree.iter(), word),
         Command::Range(lo, hi, word) => walk_range(alloc, tree, lo, hi, word),
-        Command::RangeAt(query, n, word) => walk_range_at(alloc, tree, query, n, word),
+        Command::RangeAt(query, n, word) => match tree.range_by_argument(query, n) {
+            Ok(pairs) => walk(alloc, pairs, word),
+            Err(_) => Reply::OutOfMemory,
+        },
     }
 }
 

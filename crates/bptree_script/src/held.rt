@@ -1,7 +1,7 @@
 //! Commands on the cursors that are held.
-ghost use Rattle.std.specs.Prelude.{◌<◌, Option, vec_len};
-ghost use Rattle.bptree_tree.specs.Cursor.{cursor_key};
-ghost use Rattle.bptree_script.specs.Steps.{JoinsOrStays, Step, GoesTo, JoinsAt, held_keys};
+ghost use Rattle.std.specs.Prelude.{◌≡◌, ◌<◌, Option, None, Ok, IfOk, IsOk, vec_len};
+ghost use Rattle.bptree_tree.specs.Cursor.{cursor_key, PointsAt, ShowsValueOf};
+ghost use Rattle.bptree_script.specs.Steps.{JoinsOrStays, Step, GoesTo, JoinsAt, held_keys, PointsBeside, ShowsBeside, HasNoneBeside, pair_at_end, cursor_at_end, step_of, reading_of};
 
 use crate::commands::{Command, Reply, ReplyOf};
 use bptree_arguments::argument::{RankArgument, SearchArgument};
@@ -9,6 +9,7 @@ use bptree_keys::key::Key;
 use bptree_stores::node_stores::NodeStore;
 use bptree_tree::BPlusTree;
 use bptree_tree::cursor::Cursor;
+use std::alloc::AllocError;
 
 // Holds a cursor, and tells its number with the value at its key.
 fn join<K: Key, V: Drop, R>(
@@ -55,33 +56,32 @@ fn hold_found<K: Key, V: Copy, R>(
     }
 }
 
-/// Holds a cursor at the first pair.
-pub(crate) fn hold_first<S: NodeStore>(
-    tree: &BPlusTree<S>,
-    cursors: &mut Vec<Cursor<S::K>>,
-) -> ReplyOf<S>
-where
-    S::V: Copy,
-    S::Argument: SearchArgument<S::K> + RankArgument<S::K>,
-    ensures { Step S.K.cmp S.Argument.selects S.Argument.ranks tree.now.contents (held_keys cursors.old.items) Command.CursorFirst result tree.now.contents (held_keys cursors.new.items) }
+// A cursor on the first pair, or on the last one, with the value there.
+fn at_end<'t, S: NodeStore>(
+    tree: &'t BPlusTree<S>,
+    is_first: bool,
+) -> Result<Option<(Cursor<S::K>, &'t S::V)>, AllocError>
+    ensures cursor { IfOk result (PointsAt S.K.cmp (pair_at_end is_first tree.now.contents)) }
+    ensures value { IfOk result (ShowsValueOf (pair_at_end is_first tree.now.contents)) }
 {
-    match Cursor::first(tree) {
-        Ok(found) => hold_found(cursors, found),
-        Err(_) => Reply::OutOfMemory,
+    if is_first {
+        return Cursor::first(tree);
     }
+    Cursor::last(tree)
 }
 
-/// Holds a cursor at the last pair.
-pub(crate) fn hold_last<S: NodeStore>(
+/// Holds a cursor at the first pair, or at the last one.
+pub(crate) fn hold_end<S: NodeStore>(
     tree: &BPlusTree<S>,
     cursors: &mut Vec<Cursor<S::K>>,
+    is_first: bool,
 ) -> ReplyOf<S>
 where
     S::V: Copy,
     S::Argument: SearchArgument<S::K> + RankArgument<S::K>,
-    ensures { Step S.K.cmp S.Argument.selects S.Argument.ranks tree.now.contents (held_keys cursors.old.items) Command.CursorLast result tree.now.contents (held_keys cursors.new.items) }
+    ensures { Step S.K.cmp S.Argument.selects S.Argument.ranks tree.now.contents (held_keys cursors.old.items) (cursor_at_end is_first) result tree.now.contents (held_keys cursors.new.items) }
 {
-    match Cursor::last(tree) {
+    match at_end(tree, is_first) {
         Ok(found) => hold_found(cursors, found),
         Err(_) => Reply::OutOfMemory,
     }
@@ -109,76 +109,62 @@ fn move_to<K: Key, V: Copy, R>(
     }
 }
 
-/// Moves the cursor of a number to the pair with the least greater key.
-pub(crate) fn next<S: NodeStore>(
+/// The pair beside a cursor's key, with a cursor on it: the one with the least greater key, or the
+/// one with the greatest smaller key.
+pub(crate) fn beside<'t, S: NodeStore>(
+    tree: &'t BPlusTree<S>,
+    cursor: &Cursor<S::K>,
+    is_next: bool,
+) -> Result<Option<(Cursor<S::K>, &'t S::V)>, AllocError>
+    ensures cursor { IfOk result (PointsBeside S.K.cmp is_next tree.now.contents cursor.now) }
+    ensures value { IfOk result (ShowsBeside S.K.cmp is_next tree.now.contents cursor.now) }
+    ensures end { HasNoneBeside S.K.cmp is_next tree.now.contents cursor.now → result ≡ Ok None }
+    ensures sure { ((key : S.K) → S.K.is_infallible key) → IsOk result }
+{
+    if is_next {
+        return cursor.next_with_value(tree);
+    }
+    cursor.prev_with_value(tree)
+}
+
+/// Moves the cursor of a number to the pair beside its key.
+pub(crate) fn step<S: NodeStore>(
     tree: &BPlusTree<S>,
     cursors: &mut Vec<Cursor<S::K>>,
     number: usize,
+    is_next: bool,
 ) -> ReplyOf<S>
 where
     S::V: Copy,
     S::Argument: SearchArgument<S::K> + RankArgument<S::K>,
-    ensures { Step S.K.cmp S.Argument.selects S.Argument.ranks tree.now.contents (held_keys cursors.old.items) (Command.Next number) result tree.now.contents (held_keys cursors.new.items) }
+    ensures { Step S.K.cmp S.Argument.selects S.Argument.ranks tree.now.contents (held_keys cursors.old.items) (step_of is_next number) result tree.now.contents (held_keys cursors.new.items) }
 {
     let Some(cursor) = cursors.get(number) else {
         return Reply::NoCursor;
     };
-    match cursor.next_with_value(tree) {
+    match beside(tree, cursor, is_next) {
         Ok(moved) => move_to(cursors, number, moved),
         Err(_) => Reply::OutOfMemory,
     }
 }
 
-/// Moves the cursor of a number to the pair with the greatest smaller key.
-pub(crate) fn prev<S: NodeStore>(
+/// Reads at the key of the cursor of a number: the value there, or whether there is one.
+pub(crate) fn read<S: NodeStore>(
     tree: &BPlusTree<S>,
-    cursors: &mut Vec<Cursor<S::K>>,
+    cursors: &[Cursor<S::K>],
     number: usize,
+    is_value: bool,
 ) -> ReplyOf<S>
 where
     S::V: Copy,
     S::Argument: SearchArgument<S::K> + RankArgument<S::K>,
-    ensures { Step S.K.cmp S.Argument.selects S.Argument.ranks tree.now.contents (held_keys cursors.old.items) (Command.Prev number) result tree.now.contents (held_keys cursors.new.items) }
+    ensures { Step S.K.cmp S.Argument.selects S.Argument.ranks tree.now.contents (held_keys cursors.now) (reading_of is_value number) result tree.now.contents (held_keys cursors.now) }
 {
     let Some(cursor) = cursors.get(number) else {
         return Reply::NoCursor;
     };
-    match cursor.prev_with_value(tree) {
-        Ok(moved) => move_to(cursors, number, moved),
-        Err(_) => Reply::OutOfMemory,
+    if is_value {
+        return Reply::Value(cursor.value(tree).copied());
     }
-}
-
-/// Whether the key of the cursor of a number is present.
-pub(crate) fn exists<S: NodeStore>(
-    tree: &BPlusTree<S>,
-    cursors: &[Cursor<S::K>],
-    number: usize,
-) -> ReplyOf<S>
-where
-    S::V: Copy,
-    S::Argument: SearchArgument<S::K> + RankArgument<S::K>,
-    ensures { Step S.K.cmp S.Argument.selects S.Argument.ranks tree.now.contents (held_keys cursors.now) (Command.Exists number) result tree.now.contents (held_keys cursors.now) }
-{
-    match cursors.get(number) {
-        Some(cursor) => Reply::Done(cursor.exists(tree)),
-        None => Reply::NoCursor,
-    }
-}
-
-/// The value at the key of the cursor of a number.
-pub(crate) fn value<S: NodeStore>(
-    tree: &BPlusTree<S>,
-    cursors: &[Cursor<S::K>],
-    number: usize,
-) -> ReplyOf<S>
-where
-    S::V: Copy,
-    S::Argument: SearchArgument<S::K> + RankArgument<S::K>,
-    ensures { Step S.K.cmp S.Argument.selects S.Argument.ranks tree.now.contents (held_keys cursors.now) (Command.Value number) result tree.now.contents (held_keys cursors.now) }
-{
-    match cursors.get(number) {
-        Some(cursor) => Reply::Value(cursor.value(tree).copied()),
-        None => Reply::NoCursor,
-    }
+    Reply::Done(cursor.exists(tree))
 }

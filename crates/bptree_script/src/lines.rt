@@ -34,25 +34,15 @@ fn keep_bytes(line: &mut Kept, bytes: &[u8])
     let _ = line.try_extend_from_slice(&bytes[..n]);
 }
 
-// Answers the line that ends in this piece.
-fn answer_kept<W: Write>(
-    tree: &mut NumberTree,
-    line: &mut Kept,
-    piece: &[u8],
-    out: &mut Output<W>,
-) -> Result<(), ServeError>
-    ensures replies { Replies out.old out.new (answer tree.old.contents (take KEPT (line.old.items ++ piece.now))) result }
-    ensures pairs { OnOk result (tree.new.contents
-        ≡ pairs_after tree.old.contents (take KEPT (line.old.items ++ piece.now))) }
-    ensures line { OnOk result (line.new.items ≡ []) }
+// The line that ends in this piece, as much of it as is kept. A line of one piece is not copied.
+fn ended_line<'a>(line: &'a mut Kept, piece: &'a [u8]) -> &'a [u8]
+    ensures { result.now ≡ take KEPT (line.old.items ++ piece.now) }
 {
     if line.is_empty() {
-        return answer_line(tree, piece, out);
+        return &piece[..KEPT.min(piece.len())];
     }
     keep_bytes(line, piece);
-    answer_line(tree, line.as_slice(), out)?;
-    line.clear();
-    Ok(())
+    line.as_slice()
 }
 
 /// Answers the lines that end in these bytes, and keeps what follows the last of them.
@@ -70,7 +60,8 @@ pub fn take_lines<W: Write>(
 {
     let mut rest = bytes;
     while let Some(at) = line_end(rest) {
-        answer_kept(tree, line, &rest[..at], out)?;
+        answer_line(tree, ended_line(line, &rest[..at]), out)?;
+        line.clear();
         rest = &rest[at + 1..];
     }
     keep_bytes(line, rest);

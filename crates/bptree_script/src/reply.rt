@@ -3,16 +3,17 @@ ghost use Rattle.std.specs.Prelude.{◌≡◌, ◌≤◌, [], ◌++◌, codes, d
 ghost use Rattle.std.specs.Map.{keys_of};
 ghost use Rattle.std.specs.Ordering.{nat_cmp};
 ghost use Rattle.bptree_arguments.specs.CountLaws.{count_below};
-ghost use Rattle.bptree_keys.specs.Contents.{has, value, del, next, previous};
+ghost use Rattle.bptree_keys.specs.Contents.{has, value, del};
 ghost use Rattle.bptree_requests.specs.Request.{request_of};
 ghost use Rattle.bptree_tree.specs.Cursor.{cursor_key};
 ghost use Rattle.bptree_script.specs.Answers.{pair_text, found_text, item_text, pairs_text, page_text, rank_text, old_text, gone_text, value_text, put_text, pairs_with_put, reply_to, pairs_with, answer, pairs_after};
 ghost use Rattle.bptree_script.specs.Ends.{seen_from};
 ghost use Rattle.bptree_script.specs.Sent.{SendsOrFails, Replies};
-ghost use Rattle.bptree_script.specs.Steps.{told_pair};
+ghost use Rattle.bptree_script.specs.Steps.{pair_beside, told_pair};
 ghost use Rattle.std.specs.Map.Iter.{deref_pair};
 
 use crate::error::ServeError;
+use crate::held::beside;
 use crate::output::Output;
 use crate::walk::{End, take_pair};
 use arrayvec::ArrayString;
@@ -156,15 +157,14 @@ fn send_page<S: NodeStore<K = u64, V = u64, Argument = Count>, W: Write>(
 }
 
 // The pair at a place, if there is one.
-fn send_place<S: NodeStore<K = u64, V = u64, Argument = Count>, W: Write>(
-    out: &mut Output<W>,
+fn pair_at<S: NodeStore<K = u64, V = u64, Argument = Count>>(
     tree: &BPlusTree<S>,
     place: u64,
-) -> Result<(), ServeError>
-    ensures { SendsOrFails out.old out.new (found_text (slice_get tree.now.contents place)) result }
+) -> Option<(&u64, &u64)>
+    ensures { option_map deref_pair result ≡ slice_get tree.now.contents place }
 {
     match tree.get_by_argument(place as usize) {
-        Ok(pair) => send_found(out, pair),
+        Ok(pair) => pair,
         Err(_) => unreachable!(),
     }
 }
@@ -195,32 +195,18 @@ fn cursor_on<S: NodeStore<K = u64, V = u64, Argument = Count>>(
     }
 }
 
-// The pair with the least greater key, if there is one.
-fn send_next<S: NodeStore<K = u64, V = u64, Argument = Count>, W: Write>(
-    out: &mut Output<W>,
-    tree: &BPlusTree<S>,
-    k: u64,
-) -> Result<(), ServeError>
-    ensures { SendsOrFails out.old out.new (found_text (next nat_cmp tree.now.contents k)) result }
-{
-    let cursor = cursor_on(tree, k);
-    match cursor.next_with_value(tree) {
-        Ok(found) => send_beside(out, found),
-        Err(_) => unreachable!(),
-    }
-}
-
-// The pair with the greatest smaller key, if there is one.
-fn send_prev<S: NodeStore<K = u64, V = u64, Argument = Count>, W: Write>(
-    out: &mut Output<W>,
+// The pair beside a key, if there is one, with a cursor on it: the one with the least greater key,
+// or the one with the greatest smaller key.
+fn neighbour<S: NodeStore<K = u64, V = u64, Argument = Count>>(
     tree: &BPlusTree<S>,
     key: u64,
-) -> Result<(), ServeError>
-    ensures { SendsOrFails out.old out.new (found_text (previous nat_cmp tree.now.contents key)) result }
+    is_next: bool,
+) -> Option<(Cursor<u64>, &u64)>
+    ensures { told_pair result ≡ pair_beside nat_cmp is_next tree.now.contents key }
 {
     let cursor = cursor_on(tree, key);
-    match cursor.prev_with_value(tree) {
-        Ok(found) => send_beside(out, found),
+    match beside(tree, &cursor, is_next) {
+        Ok(found) => found,
         Err(_) => unreachable!(),
     }
 }
@@ -303,10 +289,10 @@ fn carry_out<S: NodeStore<K = u64, V = u64, Argument = Count>, W: Write>(
         Request::Page(p, s) => send_page(out, tree, p, s),
         Request::First => send_found(out, tree.first()),
         Request::Last => send_found(out, tree.last()),
-        Request::At(place) => send_place(out, tree, place),
+        Request::At(place) => send_found(out, pair_at(tree, place)),
         Request::Rank(key) => send_rank(out, tree, key),
-        Request::Next(key) => send_next(out, tree, key),
-        Request::Prev(key) => send_prev(out, tree, key),
+        Request::Next(key) => send_beside(out, neighbour(tree, key, true)),
+        Request::Prev(key) => send_beside(out, neighbour(tree, key, false)),
         Request::Clear => delete_all(tree, out),
     }
 }

@@ -3,7 +3,7 @@ ghost use Rattle.std.specs.Prelude.{IfOk};
 ghost use Rattle.std.specs.List.{AllZip};
 ghost use Rattle.std.specs.Map.Iter.{deref_pair};
 ghost use Rattle.bptree_script.specs.Ends.{TakesFrom, walked};
-ghost use Rattle.bptree_script.specs.Steps.{IsCopyOf, Reads};
+ghost use Rattle.bptree_script.specs.Steps.{IsCopyOf, RepliesWalk, Reads};
 
 use crate::commands::{Command, Reply, ReplyOf, copy_of};
 use bptree_arguments::argument::{RankArgument, SearchArgument};
@@ -55,14 +55,17 @@ where
     Ok(answers)
 }
 
-/// Takes pairs from the ends of an iterator that is made for it.
-pub(crate) fn walk<S: NodeStore>(alloc: Global, tree: &BPlusTree<S>, word: Vec<End>) -> ReplyOf<S>
+/// Takes pairs from the ends of an iterator.
+pub(crate) fn walk<S: NodeStore, R>(
+    alloc: Global,
+    pairs: Iter<'_, S>,
+    word: Vec<End>,
+) -> Reply<S::K, S::V, R>
 where
     S::V: Copy,
-    S::Argument: SearchArgument<S::K> + RankArgument<S::K>,
-    ensures { Reads S.K.cmp S.Argument.selects S.Argument.ranks tree.now (Command.Walk word) result }
+    ensures { RepliesWalk S.K.cmp (walked word.items pairs.entry) result }
 {
-    match taken(alloc, tree.iter(), word.as_slice()) {
+    match taken(alloc, pairs, word.as_slice()) {
         Ok(answers) => Reply::Walked(answers),
         Err(_) => Reply::OutOfMemory,
     }
@@ -82,30 +85,5 @@ where
     ensures { Reads S.K.cmp S.Argument.selects S.Argument.ranks tree.now (Command.Range lo hi word) result }
 {
     let pairs = tree.range(lo.as_ref(), hi.as_ref());
-    match taken(alloc, pairs, word.as_slice()) {
-        Ok(answers) => Reply::Walked(answers),
-        Err(_) => Reply::OutOfMemory,
-    }
-}
-
-/// Takes pairs from the ends of so many, from a place on that is allowed for the query.
-pub(crate) fn walk_range_at<S: NodeStore>(
-    alloc: Global,
-    tree: &BPlusTree<S>,
-    query: <S::Argument as SearchArgument<S::K>>::Query,
-    n: usize,
-    word: Vec<End>,
-) -> ReplyOf<S>
-where
-    S::V: Copy,
-    S::Argument: SearchArgument<S::K> + RankArgument<S::K>,
-    ensures { Reads S.K.cmp S.Argument.selects S.Argument.ranks tree.now (Command.RangeAt query n word) result }
-{
-    let Ok(pairs) = tree.range_by_argument(query, n) else {
-        return Reply::OutOfMemory;
-    };
-    match taken(alloc, pairs, word.as_slice()) {
-        Ok(answers) => Reply::Walked(answers),
-        Err(_) => Reply::OutOfMemory,
-    }
+    walk(alloc, pairs, word)
 }

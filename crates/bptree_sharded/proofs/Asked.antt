@@ -1,19 +1,19 @@
 -- What the shard that is asked says of the whole.
-use Rattle.std.proofs.Common.{◌≡◌, ℕ, zero, suc, ◌+◌, ◌-◌, ◌^◌, ◌<◌, ◌≤◌, Bool, true, false, List, [], ◌∷◌, ◌++◌, Option, Some, None, Result, Ok, Err, OnErr, length, map, take, drop, set, slice_get, get_or, refl, sym, ap, subst, cond, ◌∙◌, arith}
+use Rattle.std.proofs.Common.{◌≡◌, ℕ, zero, suc, ◌+◌, ◌-◌, ◌^◌, ◌<◌, ◌≤◌, Bool, true, false, List, [], ◌∷◌, ◌++◌, Option, Some, None, Result, Ok, Err, OnErr, length, map, take, drop, set, slice_get, slice_index, get_or, refl, sym, ap, subst, cond, ◌∙◌, arith}
 use Rattle.std.specs.declared.cmp.Ordering.{Ordering}
 use Rattle.std.specs.List.{sum}
 use Rattle.std.specs.Option.{option_or, option_map, is_some}
 use Rattle.std.specs.Cmp.{IsTotalOrder}
-use Rattle.std.proofs.lemmas.List.{length-map, map-set, set-get_or, get_or_default, get_or-set_same, take_more, take_all}
+use Rattle.std.proofs.lemmas.List.{length-map, map-set, set-get_or, get_or-set_same, take_more, take_all}
 use Rattle.std.proofs.lemmas.List.Sums.{length-filter, count_by-le-length}
 use Rattle.std.specs.Ordering.{is_lt}
 use Rattle.bptree_keys.specs.Contents.{has, value, put, del, next, previous, pairs_below, last_member}
 use Rattle.bptree_keys.specs.Pieces.{flatten, piece_at, start_of}
 use Rattle.bptree_keys.proofs.Updates.{length_put, length_del}
-use Rattle.bptree_shards.specs.Lengths.{lengths_of, IsPlaceFound, IsFirstFull, IsLastFull, first_in, last_in}
+use Rattle.bptree_shards.specs.Lengths.{lengths_of, IsPlaceFound, IsFirstFull, IsLastFull, first_in}
 use Rattle.bptree_shards.specs.Shards.{AreShards, shard_of, shard_below}
-use Rattle.bptree_shards.proofs.LengthLemmas.{total, start_is, length_at, within, member_located, first_from, last_whole}
-use Rattle.bptree_shards.proofs.RangeLemmas.{routed_below, next_found, previous_routed, previous_lower}
+use Rattle.bptree_shards.proofs.LengthLemmas.{total, start_is, length_at, within, member_located, last_before}
+use Rattle.bptree_shards.proofs.RangeLemmas.{routed_below, next_found, previous_lower}
 use Rattle.bptree_shards.proofs.ShardLemmas.{routed, value_routed, put_routed, put_stays, del_routed, del_stays, rank_routed, next_routed}
 use Rattle.bptree_sharded.specs.Whole.{IsWhole}
 
@@ -43,10 +43,23 @@ at_most_one : (b : Bool) (n : ℕ) → cond b n (n + 1) ≤ n + 1
 at_most_one true n = omega arith
 at_most_one false n = omega arith
 
+-- what was written is read
+pub read_back : {T : Type 0} (items : List T) (i : ℕ) (x y : T) → i < length items → x ≡ get_or (set items i y) i x → x ≡ y
+read_back items i x y short is = is ∙ get_or-set_same items i y x short
+
 set_same : {X : Type 0} (pieces : List (List X)) (i : ℕ) → set pieces i (piece_at pieces i) ≡ pieces
 set_same pieces i = set-get_or pieces i []
 
-module _ {T K V : Type 0} (cmp : K → K → Ordering) (order : IsTotalOrder cmp) (pairs : T → List (K × V)) (bounds : List K) (items : List T) (lengths : List ℕ)
+-- a number that bounds told as they were read
+told_by : {B : Type 0} (number : B → ℕ) (i : ℕ) {read now : B} → i ≡ number read → read ≡ now → i ≡ number now
+told_by number i route same = route ∙ ap number same
+
+-- a whole whose parts are as they were
+pub same_parts : {T K V : Type 0} {cmp : K → K → Ordering} (pairs : T → List (K × V)) {bounds new_bounds : List K} (items new_items : List T) {lengths new_lengths : List ℕ}
+    → new_bounds ≡ bounds → new_items ≡ items → new_lengths ≡ lengths → IsWhole cmp bounds (map pairs items) lengths → IsWhole cmp new_bounds (map pairs new_items) new_lengths
+same_parts pairs items new_items same_bounds same_items same_lengths whole = rw (same_bounds, same_items, same_lengths) whole
+
+module _ {T K V : Type 0} {cmp : K → K → Ordering} (order : IsTotalOrder cmp) (pairs : T → List (K × V)) {bounds : List K} (items : List T) {lengths : List ℕ}
     (whole : IsWhole cmp bounds (map pairs items) lengths) where
   abbrev shards : List (List (K × V))
   shards = map pairs items
@@ -60,189 +73,174 @@ module _ {T K V : Type 0} (cmp : K → K → Ordering) (order : IsTotalOrder cmp
   there : (i : ℕ) → i < length shards → i < length items
   there i short = omega (arith, short, length-map items pairs)
 
-  -- ---- a key
-
-  module _ (k : K) (i : ℕ) (is : i ≡ shard_of cmp bounds k) where
-    pub in_range : i < length items
-    in_range = rw is (there (shard_of cmp bounds k) (routed cmp order k bounds shards whole.are.between).in_range)
-
-  -- the same by the bounds as they were read
-  module _ (k : K) (i : ℕ) (read : List K) (route : i ≡ shard_of cmp read k) (same : read ≡ bounds) where
-    pub routed_to : i ≡ shard_of cmp bounds k
-    routed_to = route ∙ ap (λ l. shard_of cmp l k) same
-
-    pub routed_within : i < length items
-    routed_within = in_range k i routed_to
-
-  module _ (k : K) (i : ℕ) (is : i ≡ shard_of cmp bounds k) (x : T) (here : x ≡ get_or items i x) where
-    own : pairs x ≡ piece_at shards (shard_of cmp bounds k)
-    own = asked pairs items i x (in_range k i is) here ∙ ap (piece_at shards) is
-
-    pub value_asked : value cmp (pairs x) k ≡ value cmp (flatten shards) k
-    value_asked = ap (λ l. value cmp l k) own ∙ sym (value_routed cmp order bounds shards k whole.are)
-
-    pub rank_asked : sum (take i lengths) + length (pairs_below cmp (pairs x) k) ≡ length (pairs_below cmp (flatten shards) k)
-    rank_asked =
-        ap (λ n. n + length (pairs_below cmp (pairs x) k)) (ap (λ j. sum (take j lengths)) is ∙ ap (λ l. sum (take (shard_of cmp bounds k) l)) whole.counted ∙ sym (start_is shards (shard_of cmp bounds k)))
-        ∙ ap (λ l. start_of shards (shard_of cmp bounds k) + length (pairs_below cmp l k)) own ∙ sym (rank_routed cmp order bounds shards k whole.are)
-
-    -- one shard changed
-    module _ (y : T) where
-      pub changed : (new : List (K × V)) → pairs y ≡ new → map pairs (set items i y) ≡ set shards (shard_of cmp bounds k) new
-      changed new is_new = map-set pairs items i y ∙ ap (λ j. set shards j (pairs y)) is ∙ ap (set shards (shard_of cmp bounds k)) is_new
-
-      pub counted : (n : ℕ) → n ≡ length (pairs y) → set lengths i n ≡ lengths_of (map pairs (set items i y))
-      counted n is_n = ap (λ l. set l i n) whole.counted ∙ ap (set (lengths_of shards) i) is_n ∙ sym (lengths-set pairs items i y)
-
-      pub put_asked : (v : V) → pairs y ≡ put cmp (pairs x) k v → flatten (map pairs (set items i y)) ≡ put cmp (flatten shards) k v
-      put_asked v is_put = ap flatten (changed (put cmp (piece_at shards (shard_of cmp bounds k)) k v) (is_put ∙ ap (λ l. put cmp l k v) own)) ∙ put_routed cmp order bounds shards k whole.are v
-
-      pub put_whole : (v : V) (n : ℕ) → pairs y ≡ put cmp (pairs x) k v → n ≡ length (pairs y) → sum lengths + 1 < 2 ^ 64 → IsWhole cmp bounds (map pairs (set items i y)) (set lengths i n)
-      put_whole v n is_put is_n room = record {
-        are = subst (AreShards cmp bounds) (sym (changed (put cmp (piece_at shards (shard_of cmp bounds k)) k v) (is_put ∙ ap (λ l. put cmp l k v) own))) (put_stays cmp order bounds shards k whole.are v);
-        counted = counted n is_n;
-        fits =
-            let sum_is = ap sum (counted n is_n) ∙ sym (total (map pairs (set items i y))) ∙ ap length (put_asked v is_put) ∙ length_put cmp order (flatten shards) whole.are.ascending k v in
-            let most = at_most_one (has cmp (flatten shards) k) (length (flatten shards)) in
-            omega (arith, sum_is, most, len_whole, room);
-      }
-
-      pub del_asked : pairs y ≡ del cmp (pairs x) k → flatten (map pairs (set items i y)) ≡ del cmp (flatten shards) k
-      del_asked is_del = ap flatten (changed (del cmp (piece_at shards (shard_of cmp bounds k)) k) (is_del ∙ ap (λ l. del cmp l k) own)) ∙ del_routed cmp order bounds shards k whole.are
-
-      pub del_whole : (n : ℕ) → pairs y ≡ del cmp (pairs x) k → n ≡ length (pairs y) → IsWhole cmp bounds (map pairs (set items i y)) (set lengths i n)
-      del_whole n is_del is_n = record {
-        are = subst (AreShards cmp bounds) (sym (changed (del cmp (piece_at shards (shard_of cmp bounds k)) k) (is_del ∙ ap (λ l. del cmp l k) own))) (del_stays cmp order bounds shards k whole.are);
-        counted = counted n is_n;
-        fits =
-            let sum_is = ap sum (counted n is_n) ∙ sym (total (map pairs (set items i y))) ∙ ap length (del_asked is_del) in
-            let fewer = length_del cmp order (flatten shards) whole.are.ascending k in
-            omega (arith, sum_is, fewer, len_whole, whole.fits);
-      }
-
-      -- a refusal
-      same_shards : pairs y ≡ pairs x → map pairs (set items i y) ≡ shards
-      same_shards is_same = map-set pairs items i y ∙ ap (set shards i) (is_same ∙ asked pairs items i x (in_range k i is) here) ∙ set_same shards i
-
-      pub same_asked : pairs y ≡ pairs x → flatten (map pairs (set items i y)) ≡ flatten shards
-      same_asked is_same = ap flatten (same_shards is_same)
-
-      pub same_whole : pairs y ≡ pairs x → IsWhole cmp bounds (map pairs (set items i y)) lengths
-      same_whole is_same = rw (same_shards is_same) whole
-
-  -- ---- places and ends
-
-  pub at_asked : (place shard n : ℕ) (x : T) → IsPlaceFound lengths place (Some (shard, n)) → x ≡ get_or items shard x → slice_get (pairs x) n ≡ slice_get (flatten shards) place
-  at_asked place shard n x is here =
-      let found = rw whole.counted at is in
-      let long : n < length (piece_at shards shard) = rw (length_at shards shard) at found.inside in
-      ap (λ l. slice_get l n) (asked pairs items shard x (there shard (within shards shard n long)) here) ∙ sym (member_located shards place (Some (shard, n)) found)
-
   -- the number of a shard that has a pair
-  full_there : (from to j : ℕ) → IsFirstFull lengths from to (Some j) → j < length items
-  full_there from to j is = there j (within shards j 0 (rw (length_at shards j) at (rw whole.counted at is.2)))
-
-  last_there : (to j : ℕ) → IsLastFull lengths to (Some j) → j < length items
-  last_there to j is = there j (within shards j 0 (rw (length_at shards j) at (rw whole.counted at is.1)))
-
   same_shards_count : length lengths ≡ length shards
   same_shards_count = ap length whole.counted ∙ length-map shards length
 
-  pub first_none : IsFirstFull lengths 0 (length lengths) None → None ≡ slice_get (flatten shards) 0
-  first_none is = sym (first_from shards 0 None (rw whole.counted at (rw same_shards_count at is)))
+  full_there : (from to j : ℕ) → IsFirstFull lengths from to (Some j) → j < length items
+  full_there from to j is = there j (within shards j 0 (rw (length_at shards j) at (rw whole.counted at is.2)))
 
-  pub first_some : (j : ℕ) (y : T) → IsFirstFull lengths 0 (length lengths) (Some j) → y ≡ get_or items j y → slice_get (pairs y) 0 ≡ slice_get (flatten shards) 0
-  first_some j y is here = ap (λ l. slice_get l 0) (asked pairs items j y (full_there 0 (length lengths) j is) here) ∙ sym (first_from shards 0 (Some j) (rw whole.counted at (rw same_shards_count at is)))
+  -- ---- a key
 
-  pub last_none : IsLastFull lengths (length lengths) None → None ≡ last_member (flatten shards)
-  last_none is = sym (last_whole shards None (rw whole.counted at (rw same_shards_count at is)))
+  -- the shard of a key, by the bounds as they were read
+  module _ (k : K) (i : ℕ) {read : List K} (route : i ≡ shard_of cmp read k) (same : read ≡ bounds) where
+    is : i ≡ shard_of cmp bounds k
+    is = told_by (λ l. shard_of cmp l k) i route same
 
-  -- the last pair of a shard whose length is known
-  last_pair : (j : ℕ) (y : T) → j < length items → y ≡ get_or items j y → slice_get (pairs y) (get_or lengths j 0 - 1) ≡ last_member (piece_at shards j)
-  last_pair j y short here =
-      let long : get_or lengths j 0 ≡ length (piece_at shards j) = ap (λ l. get_or l j 0) whole.counted ∙ length_at shards j in
-      let same = asked pairs items j y short here in
-      ap (λ n. slice_get (pairs y) (n - 1)) long ∙ ap (λ l. slice_get l (length (piece_at shards j) - 1)) same
+    pub routed_within : i < length items
+    routed_within = rw is (there (shard_of cmp bounds k) (routed cmp order k bounds shards whole.are.between).in_range)
 
-  -- that length, as it is read
-  read_length : (j n : ℕ) → j < length items → n ≡ get_or lengths j n → n ≡ get_or lengths j 0
-  read_length j n short is = let here : j < length lengths = omega (arith, short, same_count) in is ∙ get_or_default lengths j n 0 here
+    pub routed_counted : i < length lengths
+    routed_counted = omega (arith, routed_within, same_count)
 
-  pub last_some : (j n : ℕ) (y : T) → IsLastFull lengths (length lengths) (Some j) → y ≡ get_or items j y → n ≡ get_or lengths j n → slice_get (pairs y) (n - 1) ≡ last_member (flatten shards)
-  last_some j n y is here long =
-      ap (λ m. slice_get (pairs y) (m - 1)) (read_length j n (last_there (length lengths) j is) long)
-      ∙ last_pair j y (last_there (length lengths) j is) here ∙ sym (last_whole shards (Some j) (rw whole.counted at (rw same_shards_count at is)))
+    module _ (x : T) (here : x ≡ get_or items i x) where
+      own : pairs x ≡ piece_at shards (shard_of cmp bounds k)
+      own = asked pairs items i x routed_within here ∙ ap (piece_at shards) is
 
-  -- ---- the pair beside a key
+      pub value_asked : value cmp (pairs x) k ≡ value cmp (flatten shards) k
+      value_asked = ap (λ l. value cmp l k) own ∙ sym (value_routed cmp order bounds shards k whole.are)
 
-  module _ (k : K) (i : ℕ) (is : i ≡ shard_of cmp bounds k) (x : T) (here : x ≡ get_or items i x) {R : Type 0} (shows : R → K × V) (r : Option R)
-      (told : option_map shows r ≡ next cmp (pairs x) k) where
-    from_next : option_map shows r ≡ next cmp (piece_at shards (shard_of cmp bounds k)) k
-    from_next = told ∙ ap (λ l. next cmp l k) (own k i is x here)
+      pub rank_asked : sum (take i lengths) + length (pairs_below cmp (pairs x) k) ≡ length (pairs_below cmp (flatten shards) k)
+      rank_asked =
+          ap (λ n. n + length (pairs_below cmp (pairs x) k)) (ap (λ j. sum (take j lengths)) is ∙ ap (λ l. sum (take (shard_of cmp bounds k) l)) whole.counted ∙ sym (start_is shards (shard_of cmp bounds k)))
+          ∙ ap (λ l. start_of shards (shard_of cmp bounds k) + length (pairs_below cmp l k)) own ∙ sym (rank_routed cmp order bounds shards k whole.are)
 
-    next_by : (found : Option ℕ) → IsFirstFull lengths (i + 1) (length lengths) found → next cmp (flatten shards) k ≡ option_or (option_map shows r) (first_in shards found)
-    next_by found full =
-        next_found cmp order bounds shards k whole.are found (rw whole.counted at (rw same_shards_count at (subst (λ j. IsFirstFull lengths (j + 1) (length lengths) found) is full)))
-        ∙ ap (λ o. option_or o (first_in shards found)) (sym from_next)
+      -- a rank is at most the number of pairs
+      pub rank_fits : sum (take i lengths) + length (pairs_below cmp (pairs x) k) < 2 ^ 64
+      rank_fits = omega (arith, rank_asked, length-filter (λ (pair : K × V). is_lt (cmp pair.0 k)) (flatten shards), count_by-le-length (λ (pair : K × V). is_lt (cmp pair.0 k)) (flatten shards), len_whole, whole.fits)
 
-    pub next_own : true ≡ is_some r → option_map shows r ≡ next cmp (flatten shards) k
-    next_own some = or_some shows r (slice_get (flatten (drop (suc (shard_of cmp bounds k)) shards)) 0) some
-        ∙ ap (λ o. option_or o (slice_get (flatten (drop (suc (shard_of cmp bounds k)) shards)) 0)) from_next ∙ sym (next_routed cmp order bounds shards k whole.are)
+      -- one shard changed
+      module _ (y : T) where
+        pub changed : (new : List (K × V)) → pairs y ≡ new → map pairs (set items i y) ≡ set shards (shard_of cmp bounds k) new
+        changed new is_new = map-set pairs items i y ∙ ap (λ j. set shards j (pairs y)) is ∙ ap (set shards (shard_of cmp bounds k)) is_new
 
-    pub next_none : false ≡ is_some r → IsFirstFull lengths (i + 1) (length lengths) None → None ≡ next cmp (flatten shards) k
-    next_none none full = sym (next_by None full ∙ ap (λ o. option_or o None) (not_some shows r none))
+        pub put_asked : (v : V) → pairs y ≡ put cmp (pairs x) k v → flatten (map pairs (set items i y)) ≡ put cmp (flatten shards) k v
+        put_asked v is_put = ap flatten (changed (put cmp (piece_at shards (shard_of cmp bounds k)) k v) (is_put ∙ ap (λ l. put cmp l k v) own)) ∙ put_routed cmp order bounds shards k whole.are v
 
-    pub next_some : false ≡ is_some r → (j : ℕ) (y : T) → IsFirstFull lengths (i + 1) (length lengths) (Some j) → y ≡ get_or items j y → slice_get (pairs y) 0 ≡ next cmp (flatten shards) k
-    next_some none j y full there_y =
-        ap (λ l. slice_get l 0) (asked pairs items j y (full_there (i + 1) (length lengths) j full) there_y)
-        ∙ sym (next_by (Some j) full ∙ ap (λ o. option_or o (first_in shards (Some j))) (not_some shows r none))
+        pub del_asked : pairs y ≡ del cmp (pairs x) k → flatten (map pairs (set items i y)) ≡ del cmp (flatten shards) k
+        del_asked is_del = ap flatten (changed (del cmp (piece_at shards (shard_of cmp bounds k)) k) (is_del ∙ ap (λ l. del cmp l k) own)) ∙ del_routed cmp order bounds shards k whole.are
 
-  module _ (k : K) (i : ℕ) (is : i ≡ shard_below cmp bounds k) where
-    pub in_range_below : i < length items
-    in_range_below = rw is (there (shard_below cmp bounds k) (routed_below cmp order k bounds shards whole.are.between).in_range)
+        -- how many pairs it has, asked where it was written
+        module _ (n : ℕ) (z : T) (long : n ≡ length (pairs z)) (back : z ≡ get_or (set items i y) i z) where
+          pub counted : set lengths i n ≡ lengths_of (map pairs (set items i y))
+          counted =
+              ap (λ l. set l i n) whole.counted ∙ ap (set (lengths_of shards) i) (long ∙ ap (λ shard. length (pairs shard)) (read_back items i z y routed_within back))
+              ∙ sym (lengths-set pairs items i y)
 
-  module _ (k : K) (i : ℕ) (read : List K) (route : i ≡ shard_below cmp read k) (same : read ≡ bounds) where
-    pub below_routed_to : i ≡ shard_below cmp bounds k
-    below_routed_to = route ∙ ap (λ l. shard_below cmp l k) same
+          pub put_whole : (v : V) → pairs y ≡ put cmp (pairs x) k v → sum lengths + 1 < 2 ^ 64 → IsWhole cmp bounds (map pairs (set items i y)) (set lengths i n)
+          put_whole v is_put room = record {
+            are = subst (AreShards cmp bounds) (sym (changed (put cmp (piece_at shards (shard_of cmp bounds k)) k v) (is_put ∙ ap (λ l. put cmp l k v) own))) (put_stays cmp order bounds shards k whole.are v);
+            counted = counted;
+            fits =
+                let sum_is = ap sum counted ∙ sym (total (map pairs (set items i y))) ∙ ap length (put_asked v is_put) ∙ length_put cmp order (flatten shards) whole.are.ascending k v in
+                let most = at_most_one (has cmp (flatten shards) k) (length (flatten shards)) in
+                omega (arith, sum_is, most, len_whole, room);
+          }
 
+          pub del_whole : pairs y ≡ del cmp (pairs x) k → IsWhole cmp bounds (map pairs (set items i y)) (set lengths i n)
+          del_whole is_del = record {
+            are = subst (AreShards cmp bounds) (sym (changed (del cmp (piece_at shards (shard_of cmp bounds k)) k) (is_del ∙ ap (λ l. del cmp l k) own))) (del_stays cmp order bounds shards k whole.are);
+            counted = counted;
+            fits =
+                let sum_is = ap sum counted ∙ sym (total (map pairs (set items i y))) ∙ ap length (del_asked is_del) in
+                let fewer = length_del cmp order (flatten shards) whole.are.ascending k in
+                omega (arith, sum_is, fewer, len_whole, whole.fits);
+          }
+
+        -- a refusal
+        same_shards : pairs y ≡ pairs x → map pairs (set items i y) ≡ shards
+        same_shards is_same = map-set pairs items i y ∙ ap (set shards i) (is_same ∙ asked pairs items i x routed_within here) ∙ set_same shards i
+
+        pub same_asked : pairs y ≡ pairs x → flatten (map pairs (set items i y)) ≡ flatten shards
+        same_asked is_same = ap flatten (same_shards is_same)
+
+        pub same_whole : pairs y ≡ pairs x → IsWhole cmp bounds (map pairs (set items i y)) lengths
+        same_whole is_same = rw (same_shards is_same) whole
+
+      -- ---- the pair behind a key
+
+      module _ {R : Type 0} (shows : R → K × V) (r : Option R) (told : option_map shows r ≡ next cmp (pairs x) k) where
+        from_next : option_map shows r ≡ next cmp (piece_at shards (shard_of cmp bounds k)) k
+        from_next = told ∙ ap (λ l. next cmp l k) own
+
+        next_by : (found : Option ℕ) → IsFirstFull lengths (i + 1) (length lengths) found → next cmp (flatten shards) k ≡ option_or (option_map shows r) (first_in shards found)
+        next_by found full =
+            next_found cmp order bounds shards k whole.are found (rw whole.counted at (rw same_shards_count at (subst (λ j. IsFirstFull lengths (j + 1) (length lengths) found) is full)))
+            ∙ ap (λ o. option_or o (first_in shards found)) (sym from_next)
+
+        pub next_own : true ≡ is_some r → option_map shows r ≡ next cmp (flatten shards) k
+        next_own some = or_some shows r (slice_get (flatten (drop (suc (shard_of cmp bounds k)) shards)) 0) some
+            ∙ ap (λ o. option_or o (slice_get (flatten (drop (suc (shard_of cmp bounds k)) shards)) 0)) from_next ∙ sym (next_routed cmp order bounds shards k whole.are)
+
+        -- by the lengths as they were read
+        module _ {counts : List ℕ} (same_counts : counts ≡ lengths) (none : false ≡ is_some r) where
+          next_read : (found : Option ℕ) → IsFirstFull counts (i + 1) (length counts) found → next cmp (flatten shards) k ≡ first_in shards found
+          next_read found full = next_by found (rw same_counts at full) ∙ ap (λ o. option_or o (first_in shards found)) (not_some shows r none)
+
+          pub next_none : IsFirstFull counts (i + 1) (length counts) None → None ≡ next cmp (flatten shards) k
+          next_none full = sym (next_read None full)
+
+          pub next_some : (j : ℕ) (y : T) → IsFirstFull counts (i + 1) (length counts) (Some j) → y ≡ get_or items j y → slice_get (pairs y) 0 ≡ next cmp (flatten shards) k
+          next_some j y full there_y =
+              ap (λ l. slice_get l 0) (asked pairs items j y (full_there (i + 1) (length lengths) j (rw same_counts at full)) there_y) ∙ sym (next_read (Some j) full)
+
+  -- ---- the pair before a key
+
+  module _ (k : K) (i : ℕ) {read : List K} (route : i ≡ shard_below cmp read k) (same : read ≡ bounds) where
     pub below_routed_within : i < length items
-    below_routed_within = in_range_below k i below_routed_to
+    below_routed_within = rw (told_by (λ l. shard_below cmp l k) i route same) (there (shard_below cmp bounds k) (routed_below cmp order k bounds shards whole.are.between).in_range)
 
-  module _ (k : K) (i : ℕ) (is : i ≡ shard_below cmp bounds k) (x : T) (here : x ≡ get_or items i x) {R : Type 0} (shows : R → K × V) (r : Option R)
-      (told : option_map shows r ≡ previous cmp (pairs x) k) where
-    from_previous : option_map shows r ≡ previous cmp (piece_at shards (shard_below cmp bounds k)) k
-    from_previous = told ∙ ap (λ l. previous cmp l k) (asked pairs items i x (in_range_below k i is) here ∙ ap (piece_at shards) is)
+    module _ (x : T) (here : x ≡ get_or items i x) where
+      previous_is : previous cmp (flatten shards) k ≡ option_or (previous cmp (pairs x) k) (last_member (flatten (take i shards)))
+      previous_is =
+          previous_lower cmp order bounds shards k whole.are
+          ∙ ap (λ j. option_or (previous cmp (piece_at shards j) k) (last_member (flatten (take j shards)))) (sym (told_by (λ l. shard_below cmp l k) i route same))
+          ∙ ap (λ l. option_or (previous cmp l k) (last_member (flatten (take i shards)))) (sym (asked pairs items i x below_routed_within here))
 
-    previous_by : (found : Option ℕ) → IsLastFull lengths i found → previous cmp (flatten shards) k ≡ option_or (option_map shows r) (last_in shards found)
-    previous_by found full =
-        previous_routed cmp order bounds shards k whole.are found (rw whole.counted at (subst (λ j. IsLastFull lengths j found) is full))
-        ∙ ap (λ o. option_or o (last_in shards found)) (sym from_previous)
+      pub previous_own : (found : K × V) → Some found ≡ previous cmp (pairs x) k → Some found ≡ previous cmp (flatten shards) k
+      previous_own found told = sym (previous_is ∙ ap (λ o. option_or o (last_member (flatten (take i shards)))) (sym told))
 
-    pub previous_own : true ≡ is_some r → option_map shows r ≡ previous cmp (flatten shards) k
-    previous_own some = or_some shows r (last_member (flatten (take (shard_below cmp bounds k) shards))) some
-        ∙ ap (λ o. option_or o (last_member (flatten (take (shard_below cmp bounds k) shards)))) from_previous ∙ sym (previous_lower cmp order bounds shards k whole.are)
+      pub previous_none : None ≡ previous cmp (pairs x) k → last_member (flatten (take i shards)) ≡ previous cmp (flatten shards) k
+      previous_none told = sym (previous_is ∙ ap (λ o. option_or o (last_member (flatten (take i shards)))) (sym told))
 
-    pub previous_none : false ≡ is_some r → IsLastFull lengths i None → None ≡ previous cmp (flatten shards) k
-    previous_none none full = sym (previous_by None full ∙ ap (λ o. option_or o None) (not_some shows r none))
+  -- ---- places and ends
 
-    pub previous_some : false ≡ is_some r → (j n : ℕ) (y : T) → IsLastFull lengths i (Some j) → y ≡ get_or items j y → n ≡ get_or lengths j n → slice_get (pairs y) (n - 1) ≡ previous cmp (flatten shards) k
-    previous_some none j n y full there_y long =
-        ap (λ m. slice_get (pairs y) (m - 1)) (read_length j n (last_there i j full) long) ∙ last_pair j y (last_there i j full) there_y ∙ sym (previous_by (Some j) full ∙ ap (λ o. option_or o (last_in shards (Some j))) (not_some shows r none))
+  -- all shards are before the last end
+  pub last_asked : (read : List T) (end : ℕ) → read ≡ items → end ≡ length items → last_member (flatten (take end (map pairs read))) ≡ last_member (flatten shards)
+  last_asked read end same all =
+      let past : length shards ≤ end = omega (arith, all, length-map items pairs) in
+      ap (λ l. last_member (flatten (take end (map pairs l)))) same ∙ ap (λ l. last_member (flatten l)) (take_all end shards past)
 
-  pub at_none : (place : ℕ) → IsPlaceFound lengths place None → None ≡ slice_get (flatten shards) place
-  at_none place past = sym (member_located shards place None (rw whole.counted at past))
+  -- by the lengths as they were read
+  module _ {counts : List ℕ} (same_counts : counts ≡ lengths) where
+    pub at_none : (place : ℕ) → IsPlaceFound counts place None → None ≡ slice_get (flatten shards) place
+    at_none place past = sym (member_located shards place None (rw whole.counted at (rw same_counts at past)))
 
-  -- a rank is at most the number of pairs
-  pub rank_fits : (k : K) (i : ℕ) (is : i ≡ shard_of cmp bounds k) (x : T) (here : x ≡ get_or items i x) → sum (take i lengths) + length (pairs_below cmp (pairs x) k) < 2 ^ 64
-  rank_fits k i is x here = omega (arith, rank_asked k i is x here, length-filter (λ (pair : K × V). is_lt (cmp pair.0 k)) (flatten shards), count_by-le-length (λ (pair : K × V). is_lt (cmp pair.0 k)) (flatten shards), len_whole, whole.fits)
+    pub at_asked : (place shard n : ℕ) (x : T) → IsPlaceFound counts place (Some (shard, n)) → x ≡ get_or items shard x → slice_get (pairs x) n ≡ slice_get (flatten shards) place
+    at_asked place shard n x is here =
+        let found = rw whole.counted at (rw same_counts at is) in
+        let long : n < length (piece_at shards shard) = rw (length_at shards shard) at found.inside in
+        ap (λ l. slice_get l n) (asked pairs items shard x (there shard (within shards shard n long)) here) ∙ sym (member_located shards place (Some (shard, n)) found)
+
+-- the last pair of the shards before one
+module _ {T X : Type 0} (pairs : T → List X) (items : List T) {lengths : List ℕ} (counted : lengths ≡ lengths_of (map pairs items)) (end : ℕ) where
+  pub last_none : IsLastFull lengths end None → None ≡ last_member (flatten (take end (map pairs items)))
+  last_none full = sym (last_before (map pairs items) end None (rw counted at full))
+
+  pub in_lengths : end ≤ length items → end ≤ length lengths
+  in_lengths in_range = omega (arith, in_range, ap length counted, length-map (map pairs items) length, length-map items pairs)
+
+  pub last_some : end ≤ length items → (j : ℕ) (y : T) → IsLastFull lengths end (Some j) → y ≡ get_or items j y
+      → slice_get (pairs y) (slice_index lengths j - 1) ≡ last_member (flatten (take end (map pairs items)))
+  last_some in_range j y full here =
+      let short : j < length items = omega (arith, full.0, in_range) in
+      let long : slice_index lengths j ≡ length (piece_at (map pairs items) j) = ap (λ l. slice_index l j) counted ∙ length_at (map pairs items) j in
+      ap (λ n. slice_get (pairs y) (n - 1)) long ∙ ap (λ l. slice_get l (length (piece_at (map pairs items) j) - 1)) (asked pairs items j y short here)
+      ∙ sym (last_before (map pairs items) end (Some j) (rw counted at full))
 
 pub on_err : {A E : Type 0} {P : Type 0} (r : Result A E) → P → OnErr r P
 on_err (Ok x) p = tt
 on_err (Err e) p = p
-
--- what was written is read
-pub read_back : {T : Type 0} (items : List T) (i : ℕ) (x y : T) → i < length items → x ≡ get_or (set items i y) i x → x ≡ y
-read_back items i x y short is = is ∙ get_or-set_same items i y x short
 
 module _ {T X : Type 0} (pairs : T → List X) (items : List T) where
   pub lengths_more : (i : ℕ) (x : T) → i < length items → x ≡ get_or items i x → take (i + 1) (lengths_of (map pairs items)) ≡ take i (lengths_of (map pairs items)) ++ length (pairs x) ∷ []
@@ -253,3 +251,6 @@ module _ {T X : Type 0} (pairs : T → List X) (items : List T) where
 
   pub lengths_all : (i : ℕ) → length items ≤ i → take i (lengths_of (map pairs items)) ≡ lengths_of (map pairs items)
   lengths_all i past = take_all i (lengths_of (map pairs items)) (omega (arith, past, length-map (map pairs items) length, length-map items pairs))
+
+-- the shard of a key is there, and its length is
+pub ruleset routing = (routed_within, routed_counted)

@@ -7,6 +7,7 @@ use Rattle.std.specs.Cmp.{IsTotalOrder}
 use Rattle.std.specs.List.{AllByRecursion, sum}
 use Rattle.std.specs.Map.{keys_of}
 use Rattle.std.proofs.lemmas.List.{take-append-drop, length-take, length-map, map-set}
+use Rattle.std.proofs.lemmas.List.Edits.{length-remove}
 use Rattle.std.proofs.lemmas.Cmp.{alike_right}
 use Rattle.std.proofs.lemmas.Map.Keys.{sorted_head, sorted_tail}
 use Rattle.bptree_keys.specs.Contents.{IsAscending}
@@ -29,7 +30,7 @@ use Rattle.bptree_shards.proofs.RangeLemmas.{shards_count}
 use Rattle.bptree_shards.proofs.PartLemmas.{flatten_set}
 use Rattle.bptree_shards.proofs.ShardLemmas.{stand_set}
 use Rattle.bptree_sharded.specs.Whole.{IsWhole, descends_at}
-use Rattle.bptree_sharded.proofs.Asked.{asked, in_range, changed, counted}
+use Rattle.bptree_sharded.proofs.Asked.{asked, lengths-set, same_count, routed_within, changed, counted, read_back}
 
 -- ---- pairs that are put back
 
@@ -130,13 +131,17 @@ module _ {X Y : Type 0} (f : X → Y) where
 
 -- ---- a shard that is cut in two
 
-module _ {T K V : Type 0} (cmp : K → K → Ordering) (order : IsTotalOrder cmp) (pairs : T → List (K × V)) (bounds : List K) (items : List T) (lengths : List ℕ)
-    (whole : IsWhole cmp bounds (map pairs items) lengths) (k : K) (i : ℕ) (is : i ≡ shard_of cmp bounds k) (x : T) (here : x ≡ get_or items i x) where
+module _ {T K V : Type 0} {cmp : K → K → Ordering} (order : IsTotalOrder cmp) (pairs : T → List (K × V)) {bounds : List K} (items : List T) {lengths : List ℕ}
+    (whole : IsWhole cmp bounds (map pairs items) lengths) (k : K) (i : ℕ) {read : List K} (route : i ≡ shard_of cmp read k) (same : read ≡ bounds)
+    (x : T) (here : x ≡ get_or items i x) where
   abbrev shards : List (List (K × V))
   shards = map pairs items
 
+  is : i ≡ shard_of cmp bounds k
+  is = route ∙ ap (λ l. shard_of cmp l k) same
+
   short : i < length items
-  short = in_range cmp order pairs bounds items lengths whole k i is
+  short = routed_within order pairs items whole k i route same
 
   within : i < length shards
   within = omega (arith, short, length-map items pairs)
@@ -184,12 +189,14 @@ module _ {T K V : Type 0} (cmp : K → K → Ordering) (order : IsTotalOrder cmp
     pub split_list : flatten (map pairs (insert (set items i y) (i + 1) z)) ≡ flatten shards
     split_list = ap flatten new_shards ∙ laws.1 ∙ ap (λ l. flatten (take i shards ++ l ∷ drop (suc i) shards)) both ∙ ap flatten (parted shards i [] within)
 
-    module _ (n m : ℕ) (long : n ≡ length (pairs y)) (long_too : m ≡ length (pairs z)) where
+    -- how many pairs each has, the first of them asked where it was written
+    module _ (n : ℕ) (w : T) (long : n ≡ length (pairs w)) (back : w ≡ get_or (set items i y) i w) (m : ℕ) (long_too : m ≡ length (pairs z)) where
       split_counts : insert (set lengths i n) (i + 1) m ≡ lengths_of (map pairs (insert (set items i y) (i + 1) z))
       split_counts =
           let one : i + 1 ≡ suc i = omega arith in
-          ap (λ j. insert (set lengths i n) j m) one ∙ ap (λ l. insert (set l i n) (suc i) m) whole.counted
-          ∙ ap (λ o. insert (set (lengths_of shards) i o) (suc i) m) long ∙ ap (insert (set (lengths_of shards) i (length (pairs y))) (suc i)) long_too
+          ap (λ j. insert (set lengths i n) j m) one
+          ∙ ap (λ l. insert l (suc i) m) (counted order pairs items whole k i route same x here y n w long back ∙ lengths-set pairs items i y)
+          ∙ ap (insert (set (lengths_of shards) i (length (pairs y))) (suc i)) long_too
           ∙ sym (ap (λ j. lengths_of (map pairs (insert (set items i y) j z))) one ∙ ap lengths_of (map-insert-set pairs items i y z) ∙ map-insert-set length shards i (pairs y) (pairs z))
 
       pub split_whole : IsWhole cmp (insert bounds i k) (map pairs (insert (set items i y) (i + 1) z)) (insert (set lengths i n) (i + 1) m)
@@ -214,15 +221,15 @@ module _ {T K V : Type 0} (cmp : K → K → Ordering) (order : IsTotalOrder cmp
     pub early_list : put_all (put_pair cmp) (flatten (map pairs (set items i y))) gone ≡ flatten shards
     early_list = ap (λ l. put_all (put_pair cmp) l gone) left_whole ∙ back.0 ∙ sym full
 
-    pub early_whole : (n : ℕ) → n ≡ length (pairs y) → IsWhole cmp bounds (map pairs (set items i y)) (set lengths i n)
-    early_whole n long =
+    pub early_whole : (n : ℕ) (w : T) → n ≡ length (pairs w) → w ≡ get_or (set items i y) i w → IsWhole cmp bounds (map pairs (set items i y)) (set lengths i n)
+    early_whole n w long written =
         let at : shard_of cmp bounds k ≡ i = sym is in
         let kept = λ (P : K → Type 0) (own_holds : P k) (every : AllByRecursion (λ pair. P pair.0) (piece_at shards (shard_of cmp bounds k))).
         AllByRecursion-left (λ pair. P pair.0) (pairs y) gone (subst (AllByRecursion (λ pair. P pair.0)) (ap (piece_at shards) at ∙ sym own ∙ all) every) in
-        let counts = counted cmp order pairs bounds items lengths whole k i is x here y n long in
+        let counts = counted order pairs items whole k i route same x here y n w long written in
         record {
           are = record {
-            between = subst (StandBetween cmp bounds) (sym (changed cmp order pairs bounds items lengths whole k i is x here y (pairs y) refl)) (stand_set cmp k (pairs y) bounds shards whole.are.between kept);
+            between = subst (StandBetween cmp bounds) (sym (changed order pairs items whole k i route same x here y (pairs y) refl)) (stand_set cmp k (pairs y) bounds shards whole.are.between kept);
             ascending = subst (IsAscending cmp) (sym left_whole) back.1;
           };
           counted = counts;
@@ -330,7 +337,7 @@ module _ {K V : Type 0} (cmp : K → K → Ordering) (order : IsTotalOrder cmp) 
       subst (λ bs. StandBetween cmp bs (p ∷ set (remove pieces (suc i)) i new)) (sym (later_step bound bounds i (descends_at cmp bounds i)))
       (stand.0, holds_on (λ pair. is_lt (cmp pair.0 bound) ≡ false) pieces i less holds stand.1, merge_stands bounds pieces i within less holds stand.2)
 
-module _ {T K V : Type 0} (cmp : K → K → Ordering) (order : IsTotalOrder cmp) (pairs : T → List (K × V)) (bounds : List K) (items : List T) (lengths : List ℕ)
+module _ {T K V : Type 0} {cmp : K → K → Ordering} (order : IsTotalOrder cmp) (pairs : T → List (K × V)) {bounds : List K} (items : List T) {lengths : List ℕ}
     (whole : IsWhole cmp bounds (map pairs items) lengths) (i : ℕ) (inside : i < length bounds) where
   abbrev pieces : List (List (K × V))
   pieces = map pairs items
@@ -344,11 +351,15 @@ module _ {T K V : Type 0} (cmp : K → K → Ordering) (order : IsTotalOrder cmp
   pub next_there : i + 1 < length items
   next_there = omega (arith, two, length-map items pairs)
 
-  module _ (x next : T) (here : x ≡ get_or (remove items (i + 1)) i x) (there : next ≡ get_or items (i + 1) next) where
+  pub next_counted : i + 1 < length lengths
+  next_counted = omega (arith, next_there, same_count order pairs items whole)
+
+  -- those that are left once the second of them is taken out
+  module _ (x next : T) {rest : List T} (taken : rest ≡ remove items (i + 1)) (here : x ≡ get_or rest i x) (there : next ≡ get_or items (i + 1) next) where
     first_is : pairs x ≡ piece_at pieces i
     first_is =
         let short : i < length items = omega (arith, next_there) in
-        asked pairs items i x short (here ∙ ap (λ j. get_or (remove items j) i x) one ∙ get-removed items i x)
+        asked pairs items i x short (here ∙ ap (λ l. get_or l i x) taken ∙ ap (λ j. get_or (remove items j) i x) one ∙ get-removed items i x)
 
     second_is : pairs next ≡ piece_at pieces (suc i)
     second_is = asked pairs items (i + 1) next next_there there ∙ ap (piece_at pieces) one
@@ -375,35 +386,37 @@ module _ {T K V : Type 0} (cmp : K → K → Ordering) (order : IsTotalOrder cmp
       full_is =
           all_are ∙ ap (λ l. front ++ ((l ++ left) ++ rear)) (sym new_is) ∙ ap (λ l. front ++ l) (append_assoc (pairs y) left rear) ∙ sym (append_assoc front (pairs y) (left ++ rear))
 
-      merged : map pairs (set (remove items (i + 1)) i y) ≡ set (remove pieces (suc i)) i (pairs y)
-      merged = ap (λ j. map pairs (set (remove items j) i y)) one ∙ map-set pairs (remove items (suc i)) i y ∙ ap (λ l. set l i (pairs y)) (map-remove pairs items (suc i))
+      merged : map pairs (set rest i y) ≡ set (remove pieces (suc i)) i (pairs y)
+      merged = ap (λ l. map pairs (set l i y)) taken ∙ ap (λ j. map pairs (set (remove items j) i y)) one ∙ map-set pairs (remove items (suc i)) i y ∙ ap (λ l. set l i (pairs y)) (map-remove pairs items (suc i))
 
-      rest_is : flatten (map pairs (set (remove items (i + 1)) i y)) ≡ (front ++ pairs y) ++ rear
+      rest_is : flatten (map pairs (set rest i y)) ≡ (front ++ pairs y) ++ rear
       rest_is = ap flatten merged ∙ one-cut pieces i (pairs y) two ∙ sym (append_assoc front (pairs y) rear)
 
       put_in : (put_all (put_pair cmp) ((front ++ pairs y) ++ rear) left ≡ (front ++ pairs y) ++ (left ++ rear)) × IsAscending cmp ((front ++ pairs y) ++ rear)
       put_in = put_back cmp order left (front ++ pairs y) rear (subst (IsAscending cmp) full_is whole.are.ascending)
 
-      pub merge_list : put_all (put_pair cmp) (flatten (map pairs (set (remove items (i + 1)) i y))) left ≡ flatten pieces
+      pub merge_list : put_all (put_pair cmp) (flatten (map pairs (set rest i y))) left ≡ flatten pieces
       merge_list = ap (λ l. put_all (put_pair cmp) l left) rest_is ∙ put_in.0 ∙ sym full_is
 
-      pub merge_whole : (bound n : ℕ) → bound ≡ cond (descends_at cmp bounds i) (i + 1) i → n ≡ length (pairs y)
-          → IsWhole cmp (remove bounds bound) (map pairs (set (remove items (i + 1)) i y)) (set (remove lengths (i + 1)) i n)
-      merge_whole bound n goes long =
+      pub merge_whole : (n : ℕ) (w : T) → n ≡ length (pairs w) → w ≡ get_or (set rest i y) i w → {kept : List K} (bound : ℕ) → kept ≡ remove bounds bound → bound ≡ cond (descends_at cmp bounds i) (i + 1) i
+          → {counts : List ℕ} → counts ≡ remove lengths (i + 1) → IsWhole cmp kept (map pairs (set rest i y)) (set counts i n)
+      merge_whole n w asked_length written {kept} bound goes bound_is {counts} fewer =
           let holds = λ (P : K × V → Type 0) (every : AllByRecursion P (piece_at pieces i ++ piece_at pieces (suc i))).
           subst (AllByRecursion P) (sym new_is) (AllByRecursion-left P (pairs x ++ moved) left (subst (AllByRecursion P) both_are every)) in
-          let bounds_are : remove bounds bound ≡ remove bounds (cond (descends_at cmp bounds i) (suc i) i) = ap (remove bounds) (goes ∙ ap (λ j. cond (descends_at cmp bounds i) j i) one) in
-          let counts : set (remove lengths (i + 1)) i n ≡ lengths_of (map pairs (set (remove items (i + 1)) i y)) =
-          ap (λ j. set (remove lengths j) i n) one ∙ ap (λ l. set (remove l (suc i)) i n) whole.counted ∙ ap (set (remove (lengths_of pieces) (suc i)) i) long
+          let bounds_are : kept ≡ remove bounds (cond (descends_at cmp bounds i) (suc i) i) = goes ∙ ap (remove bounds) (bound_is ∙ ap (λ j. cond (descends_at cmp bounds i) j i) one) in
+          let short : i < length rest = omega (arith, next_there, ap length taken, length-remove items (i + 1) next_there) in
+          let long : n ≡ length (pairs y) = asked_length ∙ ap (λ shard. length (pairs shard)) (read_back rest i w y short written) in
+          let counts_are : set counts i n ≡ lengths_of (map pairs (set rest i y)) =
+          ap (λ l. set l i n) fewer ∙ ap (λ j. set (remove lengths j) i n) one ∙ ap (λ l. set (remove l (suc i)) i n) whole.counted ∙ ap (set (remove (lengths_of pieces) (suc i)) i) long
           ∙ sym (ap lengths_of merged ∙ map-set length (remove pieces (suc i)) i (pairs y) ∙ ap (λ l. set l i (length (pairs y))) (map-remove length pieces (suc i))) in
           let stands = merge_stands cmp order (pairs y) bounds pieces i inside two holds whole.are.between in
           record {
             are = record {
-              between = subst (λ b. StandBetween cmp b (map pairs (set (remove items (i + 1)) i y))) (sym bounds_are) (subst (StandBetween cmp (remove bounds (cond (descends_at cmp bounds i) (suc i) i))) (sym merged) stands);
+              between = subst (λ b. StandBetween cmp b (map pairs (set rest i y))) (sym bounds_are) (subst (StandBetween cmp (remove bounds (cond (descends_at cmp bounds i) (suc i) i))) (sym merged) stands);
               ascending = subst (IsAscending cmp) (sym rest_is) put_in.1;
             };
-            counted = counts;
-            fits = omega (arith, ap sum counts, total (map pairs (set (remove items (i + 1)) i y)), ap length rest_is, ap length full_is, length-append (front ++ pairs y) rear, length-append (front ++ pairs y) (left ++ rear), length-append left rear, ap sum whole.counted, total pieces, whole.fits);
+            counted = counts_are;
+            fits = omega (arith, ap sum counts_are, total (map pairs (set rest i y)), ap length rest_is, ap length full_is, length-append (front ++ pairs y) rear, length-append (front ++ pairs y) (left ++ rear), length-append left rear, ap sum whole.counted, total pieces, whole.fits);
           }
 
 -- ---- the bound that goes

@@ -1,7 +1,7 @@
 -- The first pairs that are left go behind those that were taken.
-use Rattle.std.proofs.Common.{◌≡◌, suc, ◌+◌, ◌-◌, ◌<◌, ◌≤◌, ℕ, List, [], ◌∷◌, ◌++◌, take, reverse, refl, ap, ◌∙◌, append_assoc, append-nil, arith, length, drop, sym, Some, None}
+use Rattle.std.proofs.Common.{◌≡◌, suc, ◌+◌, ◌-◌, ◌<◌, ◌≤◌, ℕ, List, [], ◌∷◌, ◌++◌, take, refl, ap, ◌∙◌, append_assoc, append-nil, arith, length, drop, sym, Some, None}
 use Rattle.std.proofs.Math.Seq.{take-nil}
-use Rattle.std.proofs.lemmas.List.{reverse-append, drop_all, take-take}
+use Rattle.std.proofs.lemmas.List.{drop_all, take-take}
 use Rattle.std.proofs.lemmas.Map.Entries.{length-keys_of}
 use Rattle.bptree_arguments.specs.CountLaws.{SelectsPlace}
 use Rattle.bptree_keys.specs.Ranges.{part}
@@ -18,12 +18,6 @@ module _ {X : Type 0} (found s : List X) (n i : ℕ) where
 
   pub all-taken : n ≤ i → found ++ take (n - i) s ≡ found
   all-taken past = let zero_left : n - i ≡ 0 = omega (arith, past) in rw zero_left (append-nil found)
-
-pub last-first : {X : Type 0} (s t : List X) (x : X) → s ≡ t ++ x ∷ [] → reverse s ≡ x ∷ reverse t
-last-first s t x is = ap reverse is ∙ reverse-append t (x ∷ [])
-
-pub none-turned : {X : Type 0} (s : List X) → s ≡ [] → reverse s ≡ []
-none-turned s none = ap reverse none
 
 -- the pairs from a place on, as a count of keys selects them
 pub part-found : {K V : Type 0} (l : List (K × V)) (i n : ℕ) (found : List (K × V)) → IsPartSelected SelectsPlace i l n found → take n found ≡ part l i n

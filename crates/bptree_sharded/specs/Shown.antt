@@ -1,5 +1,5 @@
 -- What pairs that are lent show.
-use Rattle.std.specs.Prelude.{◌≡◌, ◌++◌, List, map}
+use Rattle.std.specs.Prelude.{◌≡◌, ◌++◌, Bool, true, false, List, [], ◌∷◌, Option, MatchOption, map, reverse}
 use Rattle.std.specs.declared.cmp.Ordering.{Ordering}
 use Rattle.std.specs.Borrow.{Bor}
 use Rattle.std.specs.Map.Iter.{deref_pair}
@@ -15,6 +15,15 @@ shown found = map deref_pair found
 -- references to pairs are pushed behind those that a vector has
 abbrev pub Pushes : {K V : Type 0} → List (K × V) → List (Bor K × Bor V) → List (Bor K × Bor V) → Type 0
 Pushes pairs old new = shown new ≡ shown old ++ pairs
+
+-- from the first member on, or from the last one back
+abbrev pub turned : {X : Type 0} → Bool → List X → List X
+turned false l = l
+turned true l = reverse l
+
+-- the first pair of the list has left it, or there was none
+abbrev pub IsTaken : {K V : Type 0} → List (K × V) → Option (Bor K × Bor V) → List (K × V) → Type 0
+IsTaken old pair new = MatchOption pair (old ≡ []) (λ at. old ≡ deref_pair at ∷ new)
 
 -- a whole is as it was once what is handed back is put again
 abbrev pub GivesBack : {S K V : Type 0} → (K → K → Ordering) → (S → List (K × V)) → List (K × V) → List (K × V) → SplitError S (MoveError K V) → Type 0

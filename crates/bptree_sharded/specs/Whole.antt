@@ -1,8 +1,10 @@
 -- What the parts of a whole over shards are to each other.
-use Rattle.std.specs.Prelude.{◌≡◌, ◌<◌, ◌^◌, ℕ, zero, suc, Bool, false, List, [], ◌∷◌}
+use Rattle.std.specs.Prelude.{◌≡◌, ◌<◌, ◌^◌, ℕ, zero, suc, Bool, false, List, [], ◌∷◌, Option, map, take}
 use Rattle.std.specs.declared.cmp.Ordering.{Ordering}
 use Rattle.std.specs.Ordering.{is_gt}
 use Rattle.std.specs.List.{sum}
+use Rattle.bptree_keys.specs.Contents.{last_member}
+use Rattle.bptree_keys.specs.Pieces.{flatten}
 use Rattle.bptree_shards.specs.Lengths.{lengths_of}
 use Rattle.bptree_shards.specs.Shards.{AreShards}
 
@@ -24,3 +26,7 @@ module _ {K : Type 0} (cmp : K → K → Ordering) where
   descends_at [] i = false
   descends_at (bound ∷ bounds) zero = is_above_first bound bounds
   descends_at (bound ∷ bounds) (suc i) = descends_at bounds i
+
+-- the last pair of the shards before one
+abbrev pub last_pair_before : {T X : Type 0} → (T → List X) → List T → ℕ → Option X
+last_pair_before pairs items end = last_member (flatten (take end (map pairs items)))

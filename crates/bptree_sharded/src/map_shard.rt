@@ -1,9 +1,9 @@
 //! A map in memory that counts its keys is a shard.
-ghost use Rattle.std.specs.Prelude.{◌≡◌, ◌++◌, ◌<◌, ◌^◌, [], length, take, reverse, IfOk, OnOk};
+ghost use Rattle.std.specs.Prelude.{◌≡◌, ◌<◌, ◌^◌, [], length, take, IfOk, OnOk};
 ghost use Rattle.std.specs.Map.{keys_of};
 ghost use Rattle.bptree_arguments.specs.CountLaws.{count_below};
 ghost use Rattle.bptree_keys.specs.Contents.{IsAscending, has};
-ghost use Rattle.bptree_sharded.specs.Shown.{shown, Pushes};
+ghost use Rattle.bptree_sharded.specs.Shown.{Pushes, IsTaken, turned};
 
 use crate::shard::Shard;
 use crate::whole::Shards;
@@ -30,35 +30,32 @@ fn rank_in<K: Key, V: Drop>(map: &BPlusTreeMap<K, V, Count>, k: &K) -> (usize, b
     }
 }
 
-// Puts the first `n` pairs that are left behind those of a vector.
-fn put_first<'a, K: Key, V: Drop>(
-    pairs: Iter<'a, K, V, Count>,
-    n: usize,
-    found: &mut Vec<(&'a K, &'a V)>,
-) -> Result<(), AllocError>
-    ensures { OnOk result (shown found.new.items ≡ shown found.old.items ++ take n pairs.entry) }
+// Takes the first pair that is left, or the last one.
+fn take_pair<'a, K: Key, V: Drop>(
+    pairs: &mut Iter<'a, K, V, Count>,
+    is_back: bool,
+) -> Option<(&'a K, &'a V)>
+    ensures { IsTaken (turned is_back pairs.old) result (turned is_back pairs.new) }
 {
-    let mut pairs = pairs;
-    for _ in 0..n {
-        match pairs.next() {
-            None => return Ok(()),
-            Some(pair) => found.push(pair)?,
-        }
+    if is_back {
+        return pairs.next_back();
     }
-    Ok(())
+    pairs.next()
 }
 
-// Puts the last `n` of them, the last one first.
-fn put_last<'a, K: Key, V: Drop>(
+// Puts `n` of the pairs that are left behind those of a vector: the first, or the last ones, the
+// last one first.
+fn put_from<'a, K: Key, V: Drop>(
     pairs: Iter<'a, K, V, Count>,
+    is_back: bool,
     n: usize,
     found: &mut Vec<(&'a K, &'a V)>,
 ) -> Result<(), AllocError>
-    ensures { OnOk result (Pushes (take n (reverse pairs.entry)) found.old.items found.new.items) }
+    ensures { OnOk result (Pushes (take n (turned is_back pairs.entry)) found.old.items found.new.items) }
 {
     let mut pairs = pairs;
     for _ in 0..n {
-        match pairs.next_back() {
+        match take_pair(&mut pairs, is_back) {
             None => return Ok(()),
             Some(pair) => found.push(pair)?,
         }
@@ -141,7 +138,7 @@ impl<K: Key, V: Drop> Shard for BPlusTreeMap<K, V, Count> {
         found: &mut Vec<(&'a K, &'a V)>,
     ) -> Result<(), AllocError> {
         let pairs = self.range_by_argument(from, count)?;
-        put_first(pairs, count, found)
+        put_from(pairs, false, count, found)
     }
 
     fn range<'a, 'b>(
@@ -151,7 +148,7 @@ impl<K: Key, V: Drop> Shard for BPlusTreeMap<K, V, Count> {
         n: usize,
         found: &mut Vec<(&'a K, &'a V)>,
     ) -> Result<(), AllocError> {
-        put_first(BPlusTreeMap::range(self, lo, hi), n, found)
+        put_from(BPlusTreeMap::range(self, lo, hi), false, n, found)
     }
 
     fn back<'a>(
@@ -160,8 +157,9 @@ impl<K: Key, V: Drop> Shard for BPlusTreeMap<K, V, Count> {
         n: usize,
         found: &mut Vec<(&'a K, &'a V)>,
     ) -> Result<(), AllocError> {
-        put_last(
+        put_from(
             self.range_bounds(Bound::Unbounded, Bound::Included(k)),
+            true,
             n,
             found,
         )

@@ -1,13 +1,14 @@
 //! The whole over several shards, which answers as one map.
-ghost use Rattle.std.specs.Prelude.{◌≡◌, ◌+◌, ◌^◌, ◌<◌, ◌≤◌, List, length, vec_len, vec_capacity, map, take, insert, slice_get, if◌then◌else◌, IfOk, IfErr, OnOk, OnErr};
+ghost use Rattle.std.specs.Prelude.{◌≡◌, ◌+◌, ◌^◌, ◌<◌, ◌≤◌, List, length, vec_len, vec_capacity, map, take, insert, slice_get, true, if◌then◌else◌, IfOk, IfErr, OnOk, OnErr};
 ghost use Rattle.std.specs.List.{sum};
 ghost use Rattle.std.specs.Option.{option_copied, option_map};
 ghost use Rattle.bptree_keys.specs.Contents.{IsAscending, value, put, del, next, previous, pairs_below, last_member};
 ghost use Rattle.bptree_keys.specs.Pieces.{flatten};
 ghost use Rattle.bptree_keys.specs.Ranges.{between, part};
+ghost use Rattle.bptree_shards.specs.Lengths.{lengths_of};
 ghost use Rattle.bptree_shards.specs.Shards.{AreShards, back_from};
 ghost use Rattle.bptree_sharded.specs.Shown.{shown, GivesBack};
-ghost use Rattle.bptree_sharded.specs.Whole.{descends_at};
+ghost use Rattle.bptree_sharded.specs.Whole.{descends_at, last_pair_before};
 ghost use Rattle.bptree_tree.specs.Entries.{pairs_between};
 ghost use Rattle.std.specs.Map.Iter.{deref_pair};
 
@@ -15,7 +16,7 @@ use crate::shard::Shard;
 use bptree_keys::key::Key;
 use bptree_maps::map::{MoveError, SplitError};
 use bptree_shards::combining::{
-    first_full, last_full, len_of_whole, locate, next_full, next_part, prev_full, rank_of_whole,
+    len_of_whole, locate, next_full, next_part, prev_full, rank_of_whole,
 };
 use bptree_shards::routing::{route, route_below, route_range};
 use std::alloc::{AllocError, Global};
@@ -30,6 +31,18 @@ fn insert_reserved<T: Drop>(to: &mut Vec<T>, at: usize, element: T)
     to.insert(at, element).unwrap();
 }
 
+// Whether a bound is above the next one.
+fn descends<K: Key>(bounds: &[K], at: usize) -> bool
+    requires { at < length bounds.now }
+    ensures value { result ≡ descends_at K.cmp bounds.now at }
+    ensures next { result ≡ true → at + 1 < length bounds.now }
+{
+    if at + 1 == bounds.len() {
+        return false;
+    }
+    bounds[at].cmp(&bounds[at + 1]).is_gt()
+}
+
 // The bound that goes where a shard and the next one become one. It is the one between them; but
 // where that is above the bound behind it, the next shard is empty, and the bound behind it goes.
 fn bound_to_go<K: Key>(bounds: &[K], shard: usize) -> usize
@@ -37,13 +50,27 @@ fn bound_to_go<K: Key>(bounds: &[K], shard: usize) -> usize
     ensures bound { result ≡ (if descends_at K.cmp bounds.now shard then shard + 1 else shard) }
     ensures in_range { result < length bounds.now }
 {
-    if shard + 1 == bounds.len() {
-        return shard;
-    }
-    if bounds[shard].cmp(&bounds[shard + 1]).is_gt() {
+    if descends(bounds, shard) {
         return shard + 1;
     }
     shard
+}
+
+// The last pair of the shards before one.
+#[tactic(auto, using(crate::proofs::Asked::last_none, crate::proofs::Asked::in_lengths))]
+fn last_before<'a, S: Shard>(
+    shards: &'a [S],
+    lengths: &[usize],
+    end: usize,
+) -> Option<(&'a S::K, &'a S::V)>
+    requires counted { lengths.now ≡ lengths_of (map (λ shard. S.pairs shard) shards.now) }
+    requires in_range { end ≤ length shards.now }
+    ensures { option_map deref_pair result ≡ last_pair_before (λ shard. S.pairs shard) shards.now end }
+{
+    match prev_full(lengths, end) {
+        None => None,
+        Some(shard) => shards[shard].at(lengths[shard] - 1),
+    }
 }
 
 /// Several shards that are one map: which of them is asked is told by their bounds and by how many
@@ -106,6 +133,7 @@ impl<S: Shard> Shards<S> {
     }
 
     /// The value at a key. The shard of the key is asked.
+    #[tactic(auto, using(crate::proofs::Asked::routing))]
     pub fn get(&self, k: &S::K) -> Option<&S::V>
         ensures { option_copied result ≡ value S.K.cmp self.now k.now }
     {
@@ -115,6 +143,7 @@ impl<S: Shard> Shards<S> {
     /// Puts a value at a key, and gives what was there. The shard of the key is asked. Where it
     /// refuses, the pair comes back and the whole is as it was; and so it is where there are as
     /// many pairs as a `usize` counts.
+    #[tactic(auto, using(crate::proofs::Asked::routing))]
     pub fn put(&mut self, k: S::K, v: S::V) -> Result<Option<S::V>, (S::K, S::V)>
         ensures old { IfOk result (λ old. old ≡ value S.K.cmp self.old k) }
         ensures ok { IfOk result (λ old. self.new ≡ put S.K.cmp self.old k v) }
@@ -132,6 +161,7 @@ impl<S: Shard> Shards<S> {
 
     /// Takes out the pair at a key, and gives its value. The shard of the key is asked. Where it
     /// refuses, the whole is as it was.
+    #[tactic(auto, using(crate::proofs::Asked::routing))]
     pub fn del(&mut self, k: &S::K) -> Result<Option<S::V>, AllocError>
         ensures old { IfOk result (λ old. old ≡ value S.K.cmp self.old k.now) }
         ensures ok { IfOk result (λ old. self.new ≡ del S.K.cmp self.old k.now) }
@@ -144,6 +174,7 @@ impl<S: Shard> Shards<S> {
     }
 
     /// The number of smaller keys. The shard of the key is asked.
+    #[tactic(auto, using(crate::proofs::Asked::routing))]
     pub fn rank(&self, k: &S::K) -> usize
         ensures { result ≡ length (pairs_below S.K.cmp self.now k.now) }
     {
@@ -166,24 +197,19 @@ impl<S: Shard> Shards<S> {
     pub fn first(&self) -> Option<(&S::K, &S::V)>
         ensures { option_map deref_pair result ≡ slice_get self.now 0 }
     {
-        match first_full(&self.lengths) {
-            None => None,
-            Some(shard) => self.shards[shard].at(0),
-        }
+        self.at(0)
     }
 
     /// The pair with the greatest key. The last shard that has a pair is asked.
     pub fn last(&self) -> Option<(&S::K, &S::V)>
         ensures { option_map deref_pair result ≡ last_member self.now }
     {
-        match last_full(&self.lengths) {
-            None => None,
-            Some(shard) => self.shards[shard].at(self.lengths[shard] - 1),
-        }
+        last_before(&self.shards, &self.lengths, self.shards.len())
     }
 
     /// The pair with the least greater key. The shard of the key is asked, and where that has none,
     /// the first shard behind it that has a pair.
+    #[tactic(auto, using(crate::proofs::Asked::routing))]
     pub fn next(&self, k: &S::K) -> Option<(&S::K, &S::V)>
         ensures { option_map deref_pair result ≡ next S.K.cmp self.now k.now }
     {
@@ -200,17 +226,14 @@ impl<S: Shard> Shards<S> {
 
     /// The pair with the greatest smaller key. The last shard that may have one is asked, and where
     /// that has none, the last shard before it that has a pair.
+    #[tactic(auto, using(crate::proofs::Asked::below_routed_within))]
     pub fn prev(&self, k: &S::K) -> Option<(&S::K, &S::V)>
         ensures { option_map deref_pair result ≡ previous S.K.cmp self.now k.now }
     {
         let at = route_below(&self.bounds, k);
-        let own = self.shards[at].prev(k);
-        if own.is_some() {
-            return own;
-        }
-        match prev_full(&self.lengths, at) {
-            None => None,
-            Some(before) => self.shards[before].at(self.lengths[before] - 1),
+        match self.shards[at].prev(k) {
+            Some(pair) => Some(pair),
+            None => last_before(&self.shards, &self.lengths, at),
         }
     }
 
@@ -262,6 +285,7 @@ impl<S: Shard> Shards<S> {
 
     /// At most `n` of the pairs whose keys are not above `k`, the greatest first. The shard of the
     /// key is asked, and then each shard before it that has one of them.
+    #[tactic(auto, using(crate::proofs::Asked::routing))]
     pub fn back(&self, alloc: Global, k: &S::K, n: usize) -> Result<Vec<(&S::K, &S::V)>, AllocError>
         ensures { IfOk result (λ it. shown it.items ≡ take n (back_from S.K.cmp self.now k.now)) }
     {
@@ -281,6 +305,7 @@ impl<S: Shard> Shards<S> {
     /// Room for one more shard comes first: where that is refused, nothing has changed. Where a
     /// pair could not move, the greatest pairs of the shard have left the list, and are handed
     /// back.
+    #[tactic(auto, using(crate::proofs::Asked::routed_within))]
     pub fn split(&mut self, k: S::K) -> Result<(), SplitError<S, MoveError<S::K, S::V>>>
         ensures ok { OnOk result (self.new ≡ self.old) }
         ensures err { IfErr result (GivesBack S.K.cmp (λ shard. S.pairs shard) self.old self.new) }
@@ -295,18 +320,16 @@ impl<S: Shard> Shards<S> {
             return Err(SplitError::NotMade);
         }
         let at = route(&self.bounds, &k);
-        match self.shards[at].split_off(&k) {
+        let cut = self.shards[at].split_off(&k);
+        self.lengths[at] = self.shards[at].len();
+        match cut {
             Ok(there) => {
-                self.lengths[at] = self.shards[at].len();
                 insert_reserved(&mut self.lengths, at + 1, there.len());
                 insert_reserved(&mut self.shards, at + 1, there);
                 insert_reserved(&mut self.bounds, at, k);
                 Ok(())
             }
-            Err(refusal) => {
-                self.lengths[at] = self.shards[at].len();
-                Err(refusal)
-            }
+            Err(refusal) => Err(refusal),
         }
     }
 
@@ -327,15 +350,12 @@ impl<S: Shard> Shards<S> {
         self.bounds.remove(bound);
         self.lengths.remove(shard + 1);
         let mut next = self.shards.remove(shard + 1);
-        match self.shards[shard].append(&mut next) {
-            Ok(()) => {
-                self.lengths[shard] = self.shards[shard].len();
-                Ok(())
-            }
-            Err(refusal) => {
-                self.lengths[shard] = self.shards[shard].len();
-                Err(SplitError::NotAll(next, refusal))
-            }
+        let moved = self.shards[shard].append(&mut next);
+        self.lengths[shard] = self.shards[shard].len();
+        match moved {
+            Ok(()) => {}
+            Err(refusal) => return Err(SplitError::NotAll(next, refusal)),
         }
+        Ok(())
     }
 }

@@ -44,15 +44,14 @@ impl From<ServeError> for Stop {
     }
 }
 
-impl From<Stop> for ServeError {
-    ghost from_gives = { λ stop error. error ≡ error_of stop };
-
-    fn from(stop: Stop) -> ServeError {
-        match stop {
-            Stop::Reader => ServeError::Io,
-            Stop::Writer => ServeError::Io,
-            Stop::NoEnd => ServeError::Io,
+impl Stop {
+    // The error that tells of it.
+    fn error(self) -> ServeError
+        ensures { result ≡ error_of self }
+    {
+        match self {
             Stop::OutOfMemory => ServeError::OutOfMemory,
+            Stop::Reader | Stop::Writer | Stop::NoEnd => ServeError::Io,
         }
     }
 }
@@ -152,7 +151,10 @@ pub fn serve<R: Read, W: Write>(
     let mut out = Output::new(writer);
     let served = serve_pieces(alloc, reader, &mut out);
     let _ = out.into_writer();
-    Ok(served?)
+    match served {
+        Ok(()) => Ok(()),
+        Err(stop) => Err(stop.error()),
+    }
 }
 
 /// The lines of an input are the parts between its line feeds: those that a line feed ends, and

@@ -7,15 +7,15 @@ use Rattle.bptree_script.proofs.FeedLemmas.{length-clipped_rest, found_feed, no_
 use Rattle.bptree_script.proofs.lines.take_lines.Goals as goal
 
 -- the answer to the line that a feed ends broke off
-pub returns-in_err-answer_kept-clause-replies : goal.returns-in_err-answer_kept-clause-replies
-returns-in_err-answer_kept-clause-replies g c =
+pub returns-in_err-answer_line-clause-replies : goal.returns-in_err-answer_line-clause-replies
+returns-in_err-answer_line-clause-replies g c =
     let p = err_from_is_err_and c.from_residual.result c.from_residual.ensures.1 in
     let inv = c.loop-at.invariant in
     let few = length-clipped_rest c.args.line.now.items inv.0 c.requires in
     let at = found_feed c.loop-at.rest.now c.in-Some.at (sym c.in-Some.ensures) in
     rw (p.1, p.2) (stops_in_line _ _ c.loop-at.out _ c.args.tree.now.contents c.args.line.now.items c.args.bytes.now inv.0 (take c.in-Some.at c.loop-at.rest.now) _
     (inv.1 ∙ ap (λ r. inv.0 ++ r) (cut_at_feed c.loop-at.rest.now c.in-Some.at at.0 at.1)) few (no_feed_before c.loop-at.rest.now c.in-Some.at at.2) inv.2
-    (rw (inv.3, inv.4) at c.in_err-answer_kept.ensures.replies))
+    (rw (c.ended_line.ensures, inv.3, inv.4) at c.in_err-answer_line.ensures.replies))
 
 -- one more line was answered
 pub loop-at-preserved : goal.loop-at-preserved
@@ -27,11 +27,11 @@ loop-at-preserved g c =
     let none = no_feed_before c.loop-at.rest.now c.in-Some.at at.2 in (
       inv.0 ++ (piece ++ 10 ∷ []),
       inv.1 ∙ ap (λ r. inv.0 ++ r) (cut_at_feed c.loop-at.rest.now c.in-Some.at at.0 at.1) ∙ sym (append_assoc inv.0 (piece ++ 10 ∷ []) _),
-      sent_end _ c.loop-at.out _ c.args.tree.now.contents c.args.line.now.items inv.0 piece few none inv.2 (rw (inv.3, inv.4) at c.in_ok-answer_kept.ensures.replies),
-      c.in_ok-answer_kept.ensures.pairs ∙ ap (λ ps. pairs_after ps (take KEPT (c.loop-at.line.items ++ piece))) inv.3
+      sent_end _ c.loop-at.out _ c.args.tree.now.contents c.args.line.now.items inv.0 piece few none inv.2 (rw (c.ended_line.ensures, inv.3, inv.4) at c.in_ok-answer_line.ensures.replies),
+      c.in_ok-answer_line.ensures.pairs ∙ ap (pairs_after c.loop-at.tree.contents) c.ended_line.ensures ∙ ap (λ ps. pairs_after ps (take KEPT (c.loop-at.line.items ++ piece))) inv.3
           ∙ ap (λ l. pairs_after (pairs_after_all c.args.tree.now.contents (clipped_after c.args.line.now.items inv.0)) (take KEPT (l ++ piece))) inv.4
           ∙ sym (pairs_end c.args.tree.now.contents c.args.line.now.items inv.0 piece few none),
-      c.in_ok-answer_kept.ensures.line ∙ sym (rest_ends c.args.line.now.items inv.0 piece),
+      c.clear.ensures ∙ sym (rest_ends c.args.line.now.items inv.0 piece),
     )
 
 -- no feed is left

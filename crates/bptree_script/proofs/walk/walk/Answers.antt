@@ -1,5 +1,4 @@
-use Rattle.std.proofs.Common.{refl}
 use Rattle.bptree_script.proofs.walk.walk.Goals as goal
 
 pub returns-in-Ok : goal.returns-in-Ok
-returns-in-Ok g c = (rw (c.iter.ensures.rest, c.as_slice.ensures.value) at c.in-Ok.ensures, refl)
+returns-in-Ok g c = rw c.as_slice.ensures.value at c.in-Ok.ensures

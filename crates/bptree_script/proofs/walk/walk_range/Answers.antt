@@ -1,5 +1,7 @@
-use Rattle.std.proofs.Common.{refl}
+use Rattle.std.proofs.Common.{rules}
 use Rattle.bptree_script.proofs.walk.walk_range.Goals as goal
 
-pub returns-in-Ok : goal.returns-in-Ok
-returns-in-Ok g c = (rw (c.range-pairs.ensures.rest, c.as_ref.ensures.value, c.as_ref-2.ensures.value, c.as_slice.ensures.value) at c.in-Ok.ensures, refl)
+pub returns : goal.returns
+returns g c =
+    let walked = rw (c.range-pairs.ensures.rest, c.as_ref.ensures.value, c.as_ref-2.ensures.value) at c.walk.ensures in
+    search rules

@@ -4,24 +4,11 @@ use Rattle.std.specs.List.{sum}
 use Rattle.std.proofs.lemmas.List.{length-map, length-take, map-append}
 use Rattle.bptree_keys.specs.Pieces.{flatten}
 use Rattle.bptree_keys.specs.Ranges.{part}
-use Rattle.bptree_shards.specs.Shards.{back_from}
+use Rattle.bptree_shards.specs.Shards.{shard_of, back_from}
 use Rattle.bptree_sharded.specs.Shown.{shown}
-use Rattle.bptree_sharded.proofs.Asked.{same_count, routed_to, routed_within}
+use Rattle.bptree_sharded.proofs.Asked.{routed_within}
 use Rattle.bptree_sharded.proofs.Pages.{back_more, map-reverse}
 use Rattle.bptree_sharded.proofs.whole.Shards.back.Goals as goal
-
-pub index-requires : goal.index-requires
-index-requires g c =
-    let it = c.self.inside in
-    let short = routed_within g.S.K.Ord.cmp g.met.S.K.Ord.total g.S.Shard.pairs it.bounds.items it.shards.items it.lengths.items c.self.invariant c.args.k.now c.route-at.result _ c.route-at.ensures.shard c.deref.ensures.value in
-    omega (arith, short)
-
-pub rank_of_whole-end-requires-clause-in_range : goal.rank_of_whole-end-requires-clause-in_range
-rank_of_whole-end-requires-clause-in_range g c =
-    let it = c.self.inside in
-    let short = routed_within g.S.K.Ord.cmp g.met.S.K.Ord.total g.S.Shard.pairs it.bounds.items it.shards.items it.lengths.items c.self.invariant c.args.k.now c.route-at.result _ c.route-at.ensures.shard c.deref.ensures.value in
-    let same = same_count g.S.K.Ord.cmp g.met.S.K.Ord.total g.S.Shard.pairs it.bounds.items it.shards.items it.lengths.items c.self.invariant in
-    omega (arith, short, same, ap length c.deref-2.ensures.value)
 
 pub overflow_sub-n : goal.overflow_sub-n
 overflow_sub-n g c =
@@ -32,8 +19,8 @@ overflow_sub-n g c =
 pub returns : goal.returns
 returns g c =
     let it = c.self.inside in
-    let is = routed_to g.S.K.Ord.cmp g.met.S.K.Ord.total g.S.Shard.pairs it.bounds.items it.shards.items it.lengths.items c.self.invariant c.args.k.now c.route-at.result _ c.route-at.ensures.shard c.deref.ensures.value in
-    let short = routed_within g.S.K.Ord.cmp g.met.S.K.Ord.total g.S.Shard.pairs it.bounds.items it.shards.items it.lengths.items c.self.invariant c.args.k.now c.route-at.result _ c.route-at.ensures.shard c.deref.ensures.value in
+    let is = c.route-at.ensures.shard ∙ ap (λ bounds. shard_of g.S.K.Ord.cmp bounds c.args.k.now) c.deref.ensures.value in
+    let short = routed_within g.met.S.K.Ord.total g.S.Shard.pairs it.shards.items c.self.invariant c.args.k.now c.route-at.result c.route-at.ensures.shard c.deref.ensures.value in
     let own = take c.args.n (back_from g.S.K.Ord.cmp (g.S.Shard.pairs c.index.result.now) c.args.k.now) in
     let found = shown c.back.new.found.items in
     let found_is : found ≡ own = c.in_ok-back.ensures ∙ ap (λ l. shown l ++ own) c.new-found.ensures.items in

@@ -5,6 +5,5 @@ use Rattle.bptree_sharded.proofs.whole.Shards.len.Goals as goal
 
 pub returns-clause-value : goal.returns-clause-value
 returns-clause-value g c =
-    let it = c.self.inside in
     c.len_of_whole.ensures ∙ ap sum c.deref.ensures.value
-    ∙ len_whole g.S.K.Ord.cmp g.met.S.K.Ord.total g.S.Shard.pairs it.bounds.items it.shards.items it.lengths.items c.self.invariant ∙ ap length c.self.view_is
+    ∙ len_whole g.met.S.K.Ord.total g.S.Shard.pairs c.self.inside.shards.items c.self.invariant ∙ ap length c.self.view_is

@@ -1,7 +1,0 @@
-use Rattle.std.proofs.Common.{◌≡◌, ◌++◌, ◌-◌, take}
-use Rattle.bptree_sharded.specs.Shown.{shown}
-use Rattle.bptree_sharded.proofs.map_shard.put_first.Given as goal
-
--- what is found, and those of the first n that are left
-abbrev pub invariant-loop : goal.invariant-loop
-invariant-loop g l = shown l.found.items ++ take (l.n - l.counter) l.pairs ≡ shown l.fn.found.items ++ take l.fn.n l.fn.pairs
