@@ -1,10 +1,10 @@
 -- What callers say of lists, trees and what a call told.
-use Rattle.std.specs.Prelude.{◌≡◌, ◌<◌, ◌||◌, ℕ, Bool, true, false, List, [], ◌∷◌, ◌++◌, Option, Some, None, Result, IfOk, IfSome, length, slice_get}
+use Rattle.std.specs.Prelude.{◌≡◌, ◌<◌, ◌-◌, ◌||◌, ℕ, Bool, true, false, List, [], ◌∷◌, ◌++◌, Option, Some, None, Result, IfOk, IfSome, length, slice_get}
 use Rattle.std.specs.Borrow.{Bor}
 use Rattle.std.specs.declared.cmp.Ordering.{Ordering}
 use Rattle.std.specs.Map.{keys_of}
 use Rattle.std.specs.Map.Iter.{deref_pair}
-use Rattle.std.specs.Option.{option_map, IsSomeAnd}
+use Rattle.std.specs.Option.{option_copied, option_map, IsSomeAnd}
 use Rattle.bptree_ascent.specs.NodeTree.{NodeTree}
 use Rattle.bptree_keys.specs.Contents.{has, value, put, pairs_below, pairs_above, previous}
 use Rattle.bptree_keys.specs.Neighbours.{IsBefore}
@@ -15,7 +15,7 @@ use Rattle.bptree_sets.specs.Union.{union}
 use Rattle.bptree_nodes.specs.Inner.{Inner}
 use Rattle.bptree_nodes.specs.Leaf.{Leaf, set_value_at}
 use Rattle.bptree_nodes.specs.Slot.{Slots, IsPresent}
-use Rattle.bptree_shape.specs.Shape.{leaf_count, inner_count, leaf_pairs}
+use Rattle.bptree_shape.specs.Shape.{leaf_count, inner_count, leaf_pairs, pairs_at}
 use Rattle.bptree_tree.specs.Whole.{HasSameNodes}
 
 -- ---- what a call answered
@@ -54,6 +54,10 @@ module _ {X : Type 0} where
   -- of two members the first and the last were told
   abbrev pub AreEndsOfTwo : List X → Option X → Option X → Type 0
   AreEndsOfTwo l first last = (a b : X) → l ≡ a ∷ b ∷ [] → (first ≡ Some a) × (last ≡ Some b)
+
+  -- of a list of two or more the first and the last were lent, and so many are left
+  abbrev pub LendsEnds : List X → Option (Bor X) × Option (Bor X) × ℕ → Type 0
+  LendsEnds l told = (option_copied told.0 ≡ slice_get l 0) × (option_copied told.1 ≡ slice_get l (length l - 1)) × (told.2 ≡ length l - 2)
 
 -- the pair that was told is one of the list
 abbrev pub IsOneOf : {X : Type 0} → List X → X → Type 0
@@ -144,6 +148,13 @@ module _ {K V A : Type 0} (slots : Slots (Inner K A) (Leaf K V)) where
   count_in number = length (leaf_pairs (slots.leaf number))
 
 module _ {S K V A : Type 0} (slots : S → Slots (Inner K A) (Leaf K V)) where
+  -- the pairs of the nodes below a root, of a height, in a store that was lent, and their keys
+  abbrev pub lent_pairs : Bor S × NodeId × ℕ → List (K × V)
+  lent_pairs lent = pairs_at (slots lent.0.now) lent.2 lent.1
+
+  abbrev pub lent_keys : Bor S × NodeId × ℕ → List K
+  lent_keys lent = keys_of (lent_pairs lent)
+
   -- the contents, and what stands under each number of the store, are what they were
   abbrev pub HoldsTheSame : NodeTree S K V A → NodeTree S K V A → Type 0
   HoldsTheSame new old = (new.contents ≡ old.contents) × (slots new.store ≡ slots old.store)

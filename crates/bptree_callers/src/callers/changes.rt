@@ -130,19 +130,18 @@ fn takes_the_pair_of_a_key<S: NodeStore>(
     tree.remove_entry(k)
 }
 
+// A pair that has left, if there was one.
+type Gone<S> = Result<Option<(<S as NodeStore>::K, <S as NodeStore>::V)>, AllocError>;
+
 // The first of two pairs leaves as it was stored, and so does the last.
-fn pops_the_first_of_two<S: NodeStore>(
-    tree: &mut BPlusTree<S>,
-) -> Result<Option<(S::K, S::V)>, AllocError>
+fn pops_the_first_of_two<S: NodeStore>(tree: &mut BPlusTree<S>) -> Gone<S>
     ensures popped { IfOk result (PopsFirstOfTwo tree.old.contents tree.new.contents) }
     ensures refused { OnErr result (S.slots tree.new.store ≡ S.slots tree.old.store) }
 {
     tree.pop_first()
 }
 
-fn pops_the_last_of_two<S: NodeStore>(
-    tree: &mut BPlusTree<S>,
-) -> Result<Option<(S::K, S::V)>, AllocError>
+fn pops_the_last_of_two<S: NodeStore>(tree: &mut BPlusTree<S>) -> Gone<S>
     ensures popped { IfOk result (PopsLastOfTwo tree.old.contents tree.new.contents) }
     ensures refused { OnErr result (S.slots tree.new.store ≡ S.slots tree.old.store) }
 {

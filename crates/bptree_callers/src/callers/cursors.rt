@@ -50,6 +50,16 @@ fn key_of(cursor: Option<Cursor<u64>>) -> Option<u64>
     }
 }
 
+// And its pair, if it has one.
+fn pair_of(found: Option<(Cursor<u64>, &u64)>) -> Option<(u64, u64)>
+    ensures { result ≡ option_map (λ it. (cursor_key it.0, it.1.now)) found.entry }
+{
+    match found {
+        Some((there, value)) => Some((*there.key(), *value)),
+        None => None,
+    }
+}
+
 // The first pair and the last one, and the key that a cursor starts on.
 fn stands_on_the_first<S: NodeStore<K = u64, V = u64>>(
     tree: &BPlusTree<S>,
@@ -127,27 +137,17 @@ fn copies_without_memory(cursor: &Cursor<u64>) -> Cursor<u64>
     }
 }
 
-fn goes_on_with_the_value<S: NodeStore<K = u64, V = u64>>(
+// The same with the values. Neither step tells of the other.
+fn goes_either_way_with_the_value<S: NodeStore<K = u64, V = u64>>(
     cursor: &Cursor<u64>,
     tree: &BPlusTree<S>,
-) -> Result<Option<(u64, u64)>, AllocError>
-    ensures { IfOk result (λ it. it ≡ pair_after nat_cmp tree.now.contents cursor.now) }
+) -> (Option<(u64, u64)>, Option<(u64, u64)>)
+    ensures on { result.0 ≡ pair_after nat_cmp tree.now.contents cursor.now }
+    ensures back { result.1 ≡ pair_before nat_cmp tree.now.contents cursor.now }
 {
-    match cursor.next_with_value(tree)? {
-        Some((there, value)) => Ok(Some((*there.key(), *value))),
-        None => Ok(None),
-    }
-}
-
-fn goes_back_with_the_value<S: NodeStore<K = u64, V = u64>>(
-    cursor: &Cursor<u64>,
-    tree: &BPlusTree<S>,
-) -> Result<Option<(u64, u64)>, AllocError>
-    ensures { IfOk result (λ it. it ≡ pair_before nat_cmp tree.now.contents cursor.now) }
-{
-    match cursor.prev_with_value(tree)? {
-        Some((there, value)) => Ok(Some((*there.key(), *value))),
-        None => Ok(None),
+    match (cursor.next_with_value(tree), cursor.prev_with_value(tree)) {
+        (Ok(after), Ok(before)) => (pair_of(after), pair_of(before)),
+        _ => unreachable!(),
     }
 }
 

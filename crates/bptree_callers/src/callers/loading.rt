@@ -2,6 +2,7 @@
 ghost use Rattle.std.specs.Prelude.{◌≡◌, IfOk};
 ghost use Rattle.std.specs.Map.{keys_of};
 ghost use Rattle.bptree_keys.specs.Contents.{IsAscending, value, load};
+ghost use Rattle.bptree_loading.specs.Cuts.{first_of};
 ghost use Rattle.bptree_loading.specs.Loading.{IsInLoadOrder, last_value};
 
 use bptree_loading::cuts::first_of_layer;
@@ -10,17 +11,24 @@ use bptree_stores::node_stores::NodeStore;
 use bptree_tree::BPlusTree;
 use std::alloc::AllocError;
 
+// How many the first of the leaves takes of so many pairs.
+fn first_leaf(pairs: usize) -> usize
+    ensures { result ≡ first_of pairs 64 16 }
+{
+    first_of_layer(pairs, 64, 16)
+}
+
 // As many as a leaf holds are one leaf, and one more is shared between two. So of 4161 pairs the
 // last two leaves share the 65 behind 64 full ones.
 fn one_leaf_or_two() -> (usize, usize, usize, usize, usize)
     ensures { result ≡ (1, 64, 33, 32, 64) }
 {
     (
-        first_of_layer(1, 64, 16),
-        first_of_layer(64, 64, 16),
-        first_of_layer(65, 64, 16),
-        first_of_layer(32, 64, 16),
-        first_of_layer(4161, 64, 16),
+        first_leaf(1),
+        first_leaf(64),
+        first_leaf(65),
+        first_leaf(32),
+        first_leaf(4161),
     )
 }
 
@@ -29,10 +37,10 @@ fn shared_or_full() -> (usize, usize, usize, usize)
     ensures { result ≡ (40, 39, 64, 16) }
 {
     (
-        first_of_layer(79, 64, 16),
-        first_of_layer(39, 64, 16),
-        first_of_layer(80, 64, 16),
-        first_of_layer(16, 64, 16),
+        first_leaf(79),
+        first_leaf(39),
+        first_leaf(80),
+        first_leaf(16),
     )
 }
 

@@ -2,6 +2,7 @@
 ghost use Rattle.std.specs.Prelude.{◌≡◌, ◌<◌, ◌≤◌, ◌-◌, ◌^◌, ◌∷◌, ◌↔◌, [], length, min, true, false, slice_get, remove, IfOk, IfErr, OnErr, OnOk, IfSome, IsTrue, Some, None, Ok};
 ghost use Rattle.std.specs.declared.cmp.Ordering.TheVariants.{Equal, Greater};
 ghost use Rattle.std.specs.Map.{keys_of, values_of};
+ghost use Rattle.std.specs.Map.Iter.{deref_pair};
 ghost use Rattle.std.specs.Option.{option_copied, option_map};
 ghost use Rattle.std.specs.Ordering.{is_lt};
 ghost use Rattle.bptree_arguments.specs.CountLaws.{count_below};
@@ -14,8 +15,7 @@ ghost use Rattle.bptree_tree.specs.Cursor.{cursor_key};
 ghost use Rattle.bptree_tree.specs.Entries.{entry};
 ghost use Rattle.bptree_maps.specs.Gathering.{AreFewFor};
 ghost use Rattle.bptree_tree.specs.Selected.{SelectsNone};
-ghost use Rattle.std.specs.Map.Iter.{deref_pair};
-ghost use Rattle.bptree_callers.specs.Words.{FindsOne, IfFound, IsOneOf, PopsFirstOfTwo, PopsLastOfTwo, ShowsEndsOfTwo, TakesMiddleOfThree, WritesSome, told_value, between_keys};
+ghost use Rattle.bptree_callers.specs.Words.{FindsOne, IfFound, IsOneOf, LendsEnds, PopsFirstOfTwo, PopsLastOfTwo, ShowsEndsOfTwo, TakesMiddleOfThree, WritesSome, told_value, between_keys};
 
 use bptree_arguments::argument::{Argument, CloneArgument, RankArgument, SearchArgument};
 use bptree_arguments::count::Count;
@@ -422,6 +422,7 @@ fn finds_just_what_is_there<K: Key, V: Drop, A: Argument<K>>(
 
 // A pair that is found has a key that equals the one asked for, and is one of the pairs; its value
 // is the one at the key.
+#[tactic(auto, using(crate::proofs::EntryLemmas::found_value))]
 fn finds_the_pair_of_a_key<'a, K: Key, V: Drop, A: Argument<K>>(
     map: &'a BPlusTreeMap<K, V, A>,
     k: &K,
@@ -459,56 +460,44 @@ fn finds_a_greater_key<K: Key, V: Drop, A: Argument<K>>(
     }
 }
 
+// The first and the last that were lent, and how many are left.
+type Ends<X> = (Option<X>, Option<X>, usize);
+
 // The keys come in order, from both ends; and so do the values.
-fn gives_the_keys_at_both_ends<K: Key, V: Drop, A: Argument<K>>(
+fn gives_keys_and_values_at_both_ends<K: Key, V: Drop, A: Argument<K>>(
     map: &BPlusTreeMap<K, V, A>,
-) -> (Option<&K>, Option<&K>, usize)
+) -> (Ends<&K>, Ends<&V>)
     requires { 1 < length map.now }
-    ensures front { option_copied result.0 ≡ slice_get (keys_of map.now) 0 }
-    ensures back { option_copied result.1 ≡ slice_get (keys_of map.now) (length map.now - 1) }
-    ensures left { result.2 ≡ length map.now - 2 }
+    ensures keys { LendsEnds (keys_of map.now) result.0 }
+    ensures values { LendsEnds (values_of map.now) result.1 }
 {
-    let mut keys = map.keys();
-    let first = keys.next();
-    let last = keys.next_back();
-    (first, last, keys.len())
+    let (mut keys, mut values) = (map.keys(), map.values());
+    (
+        (keys.next(), keys.next_back(), keys.len()),
+        (values.next(), values.next_back(), values.len()),
+    )
 }
 
-fn gives_the_values_at_both_ends<K: Key, V: Drop, A: Argument<K>>(
-    map: &BPlusTreeMap<K, V, A>,
-) -> (Option<&V>, Option<&V>, usize)
-    requires { 1 < length map.now }
-    ensures front { option_copied result.0 ≡ slice_get (values_of map.now) 0 }
-    ensures back { option_copied result.1 ≡ slice_get (values_of map.now) (length map.now - 1) }
-    ensures left { result.2 ≡ length map.now - 2 }
-{
-    let mut values = map.values();
-    let first = values.next();
-    let last = values.next_back();
-    (first, last, values.len())
-}
-
-// The same of a map that is handed over.
-fn hands_over_two_keys<K: Key, V: Drop, A: Argument<K>>(map: BPlusTreeMap<K, V, A>) -> (K, K, usize)
-    requires { length (keys_of map) ≡ 2 }
-    ensures { (keys_of map ≡ result.0 ∷ result.1 ∷ []) × (result.2 ≡ 0) }
-{
-    let mut keys = map.into_keys();
-    match (keys.next(), keys.next_back()) {
-        (Some(first), Some(last)) => (first, last, keys.len()),
-        _ => unreachable!(),
-    }
-}
-
-fn hands_over_two_values<K: Key, V: Drop, A: Argument<K>>(
+// The same of maps that are handed over.
+fn hands_over_two_keys_and_values<K: Key, V: Drop, A: Argument<K>>(
     map: BPlusTreeMap<K, V, A>,
-) -> (V, V, usize)
-    requires { length (values_of map) ≡ 2 }
-    ensures { (values_of map ≡ result.0 ∷ result.1 ∷ []) × (result.2 ≡ 0) }
+    other: BPlusTreeMap<K, V, A>,
+) -> ((K, K, usize), (V, V, usize))
+    requires map { length (keys_of map) ≡ 2 }
+    requires other { length (values_of other) ≡ 2 }
+    ensures keys { (keys_of map ≡ result.0.0 ∷ result.0.1 ∷ []) × (result.0.2 ≡ 0) }
+    ensures values { (values_of other ≡ result.1.0 ∷ result.1.1 ∷ []) × (result.1.2 ≡ 0) }
 {
-    let mut values = map.into_values();
-    match (values.next(), values.next_back()) {
-        (Some(first), Some(last)) => (first, last, values.len()),
+    let (mut keys, mut values) = (map.into_keys(), other.into_values());
+    match (
+        keys.next(),
+        keys.next_back(),
+        values.next(),
+        values.next_back(),
+    ) {
+        (Some(first), Some(last), Some(low), Some(high)) => {
+            ((first, last, keys.len()), (low, high, values.len()))
+        }
         _ => unreachable!(),
     }
 }

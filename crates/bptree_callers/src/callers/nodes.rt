@@ -1,13 +1,11 @@
 //! Callers of the nodes that are lent: whatever changed the list before, they hold it, and none is
 //! idle beside it.
 ghost use Rattle.std.specs.Prelude.{◌≡◌, IfOk, IsTrue, Some, false};
-ghost use Rattle.std.specs.Map.{keys_of};
 ghost use Rattle.bptree_ascent.specs.Lending.{written};
 ghost use Rattle.bptree_keys.specs.Contents.{put};
-ghost use Rattle.bptree_shape.specs.Shape.{pairs_at};
 ghost use Rattle.bptree_stores.specs.StoreSlabs.{slots};
 ghost use Rattle.bptree_tree.specs.Whole.{IsUntouched, pairs_of_nodes};
-ghost use Rattle.bptree_callers.specs.Words.{EachInnerStandsOnce, EachLeafStandsOnce, count_in};
+ghost use Rattle.bptree_callers.specs.Words.{EachInnerStandsOnce, EachLeafStandsOnce, count_in, lent_keys, lent_pairs};
 
 use crate::callers::changes::writes;
 use crate::callers::reads::shows_its_nodes;
@@ -22,7 +20,7 @@ use bptree_tree::{BPlusTree, InsertError};
 
 // The nodes below the root, of its height, have the pairs of the list.
 fn lends_the_list<S: NodeStore>(tree: &BPlusTree<S>) -> (&S, NodeId, usize)
-    ensures { pairs_at (S.slots result.0.now) result.2 result.1 ≡ tree.now.contents }
+    ensures { lent_pairs S.slots result ≡ tree.now.contents }
 {
     (tree.node_store(), tree.root_id(), tree.height())
 }
@@ -40,7 +38,7 @@ fn lends_what_was_written<S: NodeStore>(tree: &mut BPlusTree<S>, k: &S::K, v: S:
 fn lends_the_pairs_of_a_map<K: Key, V: Drop, A: Argument<K>>(
     map: &BPlusTreeMap<K, V, A>,
 ) -> (&NodeStoreVec<K, V, A>, NodeId, usize)
-    ensures { pairs_at (slots result.0.now) result.2 result.1 ≡ map.now }
+    ensures { lent_pairs slots result ≡ map.now }
 {
     lends_the_list(map.tree())
 }
@@ -123,7 +121,7 @@ fn shows_the_same_unless_taken<S: NodeStore>(
 
 // The nodes of a set's tree have its keys.
 fn lends_the_keys_of_a_set<K: Key>(set: &BPlusTreeSet<K>) -> (&NodeStoreVec<K, ()>, NodeId, usize)
-    ensures { keys_of (pairs_at (slots result.0.now) result.2 result.1) ≡ set.now }
+    ensures { lent_keys slots result ≡ set.now }
 {
     lends_the_list(set.tree())
 }

@@ -18,6 +18,11 @@ use bptree_sets::set::{
 use bptree_tree::InsertError;
 use std::alloc::{AllocError, Global};
 
+type Set<K> = BPlusTreeSet<K>;
+
+// A clone, where it was not refused.
+type Cloned<T> = Result<T, AllocError>;
+
 // A new set holds nothing.
 fn holds_nothing<K: Key>(alloc: Global, k: &K) -> Result<bool, AllocError>
     ensures { IfOk result (λ it. it ≡ false) }
@@ -28,12 +33,12 @@ fn holds_nothing<K: Key>(alloc: Global, k: &K) -> Result<bool, AllocError>
 fn has_no_keys<K: Key>(alloc: Global, k: K) -> Result<(K, usize, bool), AllocError>
     ensures { IfOk result (λ all. (all.1 ≡ 0) × (all.2 ≡ true)) }
 {
-    let set: BPlusTreeSet<K> = BPlusTreeSet::default(alloc)?;
+    let set: Set<K> = BPlusTreeSet::default(alloc)?;
     Ok((k, set.len(), set.is_empty()))
 }
 
 // A set of a vector's keys, and of no keys.
-fn gathers<K: Key>(alloc: Global, keys: Vec<K>) -> Result<BPlusTreeSet<K>, AllocError>
+fn gathers<K: Key>(alloc: Global, keys: Vec<K>) -> Result<Set<K>, AllocError>
     ensures { IfOk result (λ set. set ≡ gathered K.cmp keys.items) }
 {
     BPlusTreeSet::from_iter(alloc, keys)
@@ -41,7 +46,7 @@ fn gathers<K: Key>(alloc: Global, keys: Vec<K>) -> Result<BPlusTreeSet<K>, Alloc
 
 // The answer says whether the key is new, and a key that is there is never refused. In a set of
 // fewer keys than there can be, the one refusal is for want of memory, and hands the key back.
-fn puts_in<K: Key>(set: &mut BPlusTreeSet<K>, k: K) -> Result<bool, InsertError<K, ()>>
+fn puts_in<K: Key>(set: &mut Set<K>, k: K) -> Result<bool, InsertError<K, ()>>
     ensures fresh { holds K.cmp set.old k ≡ false → IfOk result (λ is_new. is_new ≡ true) }
     ensures there { holds K.cmp set.old k ≡ true → (result ≡ Ok false) × (set.new ≡ set.old) }
     ensures back { length set.old ≡ 2 → IfErr result (λ it. it ≡ InsertError.OutOfMemory k tt) }
@@ -52,7 +57,7 @@ fn puts_in<K: Key>(set: &mut BPlusTreeSet<K>, k: K) -> Result<bool, InsertError<
 
 // The key and its like are held from then on, and others as before.
 fn holds_what_was_put_in<K: Key>(
-    set: &mut BPlusTreeSet<K>,
+    set: &mut Set<K>,
     k: K,
     other: &K,
 ) -> Result<bool, InsertError<K, ()>>
@@ -65,18 +70,14 @@ fn holds_what_was_put_in<K: Key>(
 }
 
 // The answer says whether there was a key, and where there was none nothing is refused.
-fn takes_out<K: Key>(set: &mut BPlusTreeSet<K>, k: &K) -> Result<bool, AllocError>
+fn takes_out<K: Key>(set: &mut Set<K>, k: &K) -> Result<bool, AllocError>
     ensures there { holds K.cmp set.old k.now ≡ true → IfOk result (λ was. was ≡ true) }
     ensures absent { holds K.cmp set.old k.now ≡ false → result ≡ Ok false }
 {
     set.remove(k)
 }
 
-fn lacks_what_was_taken_out<K: Key>(
-    set: &mut BPlusTreeSet<K>,
-    k: &K,
-    other: &K,
-) -> Result<bool, AllocError>
+fn lacks_what_was_taken_out<K: Key>(set: &mut Set<K>, k: &K, other: &K) -> Result<bool, AllocError>
     ensures { IfOk result (λ it. it ≡ not (is_eq (K.cmp k.now other.now)) && holds K.cmp set.old other.now) }
 {
     laws_of_keys::<K>();
@@ -86,7 +87,7 @@ fn lacks_what_was_taken_out<K: Key>(
 }
 
 // After a set was cleared it has no keys.
-fn counts_none_when_cleared<K: Key>(set: &mut BPlusTreeSet<K>) -> Result<usize, AllocError>
+fn counts_none_when_cleared<K: Key>(set: &mut Set<K>) -> Result<usize, AllocError>
     ensures { IfOk result (λ len. len ≡ 0) }
 {
     set.clear()?;
@@ -94,14 +95,14 @@ fn counts_none_when_cleared<K: Key>(set: &mut BPlusTreeSet<K>) -> Result<usize, 
 }
 
 // The least and the greatest of two keys.
-fn gives_both_ends<K: Key>(set: &BPlusTreeSet<K>) -> (Option<&K>, Option<&K>)
+fn gives_both_ends<K: Key>(set: &Set<K>) -> (Option<&K>, Option<&K>)
     ensures { AreEndsOfTwo set.now (option_copied result.0) (option_copied result.1) }
 {
     (set.first(), set.last())
 }
 
 // The keys of a set come in order, and it tells how many.
-fn starts_with_all<K: Key>(set: &BPlusTreeSet<K>) -> (Iter<'_, K>, usize)
+fn starts_with_all<K: Key>(set: &Set<K>) -> (Iter<'_, K>, usize)
     ensures keys { result.0 ≡ set.now }
     ensures len { result.1 ≡ length set.now }
 {
@@ -111,11 +112,7 @@ fn starts_with_all<K: Key>(set: &BPlusTreeSet<K>) -> (Iter<'_, K>, usize)
 }
 
 // It tells how many keys are between two, and the first of them comes first.
-fn gives_the_first_between<'a, K: Key>(
-    set: &'a BPlusTreeSet<K>,
-    lo: &K,
-    hi: &K,
-) -> (usize, Option<&'a K>)
+fn gives_the_first_between<'a, K: Key>(set: &'a Set<K>, lo: &K, hi: &K) -> (usize, Option<&'a K>)
     ensures len { result.0 ≡ length (keys_between K.cmp set.now (Some lo.now) (Some hi.now)) }
     ensures first { option_copied result.1 ≡ slice_get (keys_between K.cmp set.now (Some lo.now) (Some hi.now)) 0 }
 {
@@ -145,14 +142,14 @@ fn counts_what_is_left<K: Key>(keys: &mut Iter<'_, K>) -> (usize, Option<usize>)
 }
 
 // A clone has the same keys left, and is never refused.
-fn clones_what_is_left<'a, K: Key>(keys: &Iter<'a, K>) -> Result<Iter<'a, K>, AllocError>
+fn clones_what_is_left<'a, K: Key>(keys: &Iter<'a, K>) -> Cloned<Iter<'a, K>>
     ensures { result ≡ Ok keys.now }
 {
     keys.clone()
 }
 
 // The keys of an owned set, from both ends.
-fn hands_over_two<K: Key>(set: BPlusTreeSet<K>) -> (K, K, usize)
+fn hands_over_two<K: Key>(set: Set<K>) -> (K, K, usize)
     requires { length set ≡ 2 }
     ensures { (set ≡ result.0 ∷ result.1 ∷ []) × (result.2 ≡ 0) }
 {
@@ -164,7 +161,7 @@ fn hands_over_two<K: Key>(set: BPlusTreeSet<K>) -> (K, K, usize)
 }
 
 // The keys of both sets come in their order, and each key of either set is among them.
-fn joins<'a, K: Key>(first: &'a BPlusTreeSet<K>, second: &'a BPlusTreeSet<K>) -> Union<'a, K>
+fn joins<'a, K: Key>(first: &'a Set<K>, second: &'a Set<K>) -> Union<'a, K>
     ensures keys { union K.cmp result.0 result.1 ≡ union K.cmp first.now second.now }
     ensures holds { HoldsEither K.cmp first.now second.now (union K.cmp result.0 result.1) }
 {
@@ -188,17 +185,14 @@ fn counts_both<K: Key>(keys: &Union<'_, K>) -> (usize, Option<usize>)
 }
 
 // A clone of a union has the same keys left, and is never refused.
-fn clones_a_union<'a, K: Key>(keys: &Union<'a, K>) -> Result<Union<'a, K>, AllocError>
+fn clones_a_union<'a, K: Key>(keys: &Union<'a, K>) -> Cloned<Union<'a, K>>
     ensures { result ≡ Ok keys.now }
 {
     keys.clone()
 }
 
 // The keys that the first set alone holds come in its order.
-fn gives_the_first_left<'a, K: Key>(
-    first: &'a BPlusTreeSet<K>,
-    second: &'a BPlusTreeSet<K>,
-) -> Option<&'a K>
+fn gives_the_first_left<'a, K: Key>(first: &'a Set<K>, second: &'a Set<K>) -> Option<&'a K>
     ensures first { option_copied result ≡ slice_get (keys_without K.cmp first.now second.now) 0 }
     ensures alone { IfSome result (λ key. holds K.cmp second.now key.now ≡ false) }
 {
@@ -206,10 +200,7 @@ fn gives_the_first_left<'a, K: Key>(
 }
 
 // The first key that both sets hold is one of the first set's own.
-fn gives_the_first_shared<'a, K: Key>(
-    first: &'a BPlusTreeSet<K>,
-    second: &'a BPlusTreeSet<K>,
-) -> Option<&'a K>
+fn gives_the_first_shared<'a, K: Key>(first: &'a Set<K>, second: &'a Set<K>) -> Option<&'a K>
     ensures first { option_copied result ≡ slice_get (keys_within K.cmp first.now second.now) 0 }
     ensures shared { IfSome result (λ key. IsTrue (holds K.cmp second.now key.now)) }
     ensures own { IfSome result (λ key. Contains first.now key.now) }
@@ -219,8 +210,8 @@ fn gives_the_first_shared<'a, K: Key>(
 
 // What the first set holds is shared or its alone.
 fn parts<'a, K: Key>(
-    first: &'a BPlusTreeSet<K>,
-    second: &'a BPlusTreeSet<K>,
+    first: &'a Set<K>,
+    second: &'a Set<K>,
 ) -> (Difference<'a, K>, Intersection<'a, K>)
     ensures difference { IsDifference K.cmp first.now second.now result.0 }
     ensures intersection { IsIntersection K.cmp first.now second.now result.1 }
@@ -230,10 +221,7 @@ fn parts<'a, K: Key>(
 }
 
 // What one of two sets holds and the other does not.
-fn sets_apart<'a, K: Key>(
-    first: &'a BPlusTreeSet<K>,
-    second: &'a BPlusTreeSet<K>,
-) -> SymmetricDifference<'a, K>
+fn sets_apart<'a, K: Key>(first: &'a Set<K>, second: &'a Set<K>) -> SymmetricDifference<'a, K>
     ensures { IsSymmetricDifference K.cmp first.now second.now (symmetric K.cmp result.0 result.1) }
 {
     laws_of_two_sets::<K>();
@@ -272,17 +260,13 @@ fn gives_the_first_of_either<'a, K: Key>(keys: &mut SymmetricDifference<'a, K>) 
 }
 
 // Clones have the same keys left, and are never refused.
-fn clones_a_difference<'a, K: Key>(
-    keys: &Difference<'a, K>,
-) -> Result<Difference<'a, K>, AllocError>
+fn clones_a_difference<'a, K: Key>(keys: &Difference<'a, K>) -> Cloned<Difference<'a, K>>
     ensures { result ≡ Ok keys.now }
 {
     keys.clone()
 }
 
-fn clones_an_intersection<'a, K: Key>(
-    keys: &Intersection<'a, K>,
-) -> Result<Intersection<'a, K>, AllocError>
+fn clones_an_intersection<'a, K: Key>(keys: &Intersection<'a, K>) -> Cloned<Intersection<'a, K>>
     ensures { result ≡ Ok keys.now }
 {
     keys.clone()
@@ -290,14 +274,14 @@ fn clones_an_intersection<'a, K: Key>(
 
 fn clones_a_symmetric_difference<'a, K: Key>(
     keys: &SymmetricDifference<'a, K>,
-) -> Result<SymmetricDifference<'a, K>, AllocError>
+) -> Cloned<SymmetricDifference<'a, K>>
     ensures { result ≡ Ok keys.now }
 {
     keys.clone()
 }
 
 // A key is found exactly where the set holds it: one of the set's own, and equal.
-fn finds_the_stored_key<'a, K: Key>(set: &'a BPlusTreeSet<K>, k: &K) -> Option<&'a K>
+fn finds_the_stored_key<'a, K: Key>(set: &'a Set<K>, k: &K) -> Option<&'a K>
     ensures there { is_some result ≡ holds K.cmp set.now k.now }
     ensures own { IfSome result (λ key. Contains set.now key.now) }
     ensures equal { IfSome result (λ key. K.cmp key.now k.now ≡ Equal) }
@@ -306,11 +290,7 @@ fn finds_the_stored_key<'a, K: Key>(set: &'a BPlusTreeSet<K>, k: &K) -> Option<&
 }
 
 // A set that holds a key which another lacks is no subset of it, and each set is one of itself.
-fn tells_what_is_lacking<K: Key>(
-    few: &BPlusTreeSet<K>,
-    many: &BPlusTreeSet<K>,
-    k: &K,
-) -> (bool, bool, bool)
+fn tells_what_is_lacking<K: Key>(few: &Set<K>, many: &Set<K>, k: &K) -> (bool, bool, bool)
     ensures lacking { result.1 ≡ true → result.2 ≡ false → result.0 ≡ false }
     ensures none { many.now ≡ few.now → result.0 ≡ true }
 {
@@ -318,7 +298,7 @@ fn tells_what_is_lacking<K: Key>(
 }
 
 // Every set has all keys of a set of none.
-fn has_all_of_none<K: Key>(set: &BPlusTreeSet<K>, none: &BPlusTreeSet<K>) -> bool
+fn has_all_of_none<K: Key>(set: &Set<K>, none: &Set<K>) -> bool
     requires { none.now ≡ [] }
     ensures { result ≡ true }
 {
@@ -327,11 +307,7 @@ fn has_all_of_none<K: Key>(set: &BPlusTreeSet<K>, none: &BPlusTreeSet<K>) -> boo
 
 // Two sets that share a key, be it the last of either, are not disjoint, and a set of no keys
 // shares none.
-fn tells_what_is_shared<K: Key>(
-    first: &BPlusTreeSet<K>,
-    second: &BPlusTreeSet<K>,
-    k: &K,
-) -> (bool, bool, bool)
+fn tells_what_is_shared<K: Key>(first: &Set<K>, second: &Set<K>, k: &K) -> (bool, bool, bool)
     ensures shared { result.1 ≡ true → result.2 ≡ true → result.0 ≡ false }
     ensures none { second.now ≡ [] → result.0 ≡ true }
 {
@@ -344,7 +320,7 @@ fn tells_what_is_shared<K: Key>(
 
 // To tell whether a set holds a key, at most seven keys are compared on each of sixteen levels, and
 // two of the remembered leaf.
-fn counts_a_search<K: Key>(set: &BPlusTreeSet<K>, k: &K) -> (bool, usize)
+fn counts_a_search<K: Key>(set: &Set<K>, k: &K) -> (bool, usize)
     ensures value { result.0 ≡ holds K.cmp set.now k.now }
     ensures most { result.1 ≤ 114 }
 {
@@ -352,14 +328,14 @@ fn counts_a_search<K: Key>(set: &BPlusTreeSet<K>, k: &K) -> (bool, usize)
 }
 
 // The first of two keys leaves as it was put in, and so does the last.
-fn pops_the_first_key_of_two<K: Key>(set: &mut BPlusTreeSet<K>) -> Result<Option<K>, AllocError>
+fn pops_the_first_key_of_two<K: Key>(set: &mut Set<K>) -> Result<Option<K>, AllocError>
     ensures popped { IfOk result (PopsFirstOfTwo set.old set.new) }
     ensures refused { OnErr result (set.new ≡ set.old) }
 {
     set.pop_first()
 }
 
-fn pops_the_last_key_of_two<K: Key>(set: &mut BPlusTreeSet<K>) -> Result<Option<K>, AllocError>
+fn pops_the_last_key_of_two<K: Key>(set: &mut Set<K>) -> Result<Option<K>, AllocError>
     ensures popped { IfOk result (PopsLastOfTwo set.old set.new) }
     ensures refused { OnErr result (set.new ≡ set.old) }
 {

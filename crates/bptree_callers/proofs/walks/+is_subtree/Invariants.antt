@@ -1,5 +1,4 @@
-use Rattle.std.proofs.Common.{◌≡◌, ◌<◌, length}
-use Rattle.bptree_nodes.specs.Inner.{Fits}
+use Rattle.bptree_callers.proofs.WalkedNodes.{IsWalked}
 use Rattle.bptree_callers.proofs.walks.+is_subtree.Given as goal
 
 -- one level lower with each call
@@ -7,9 +6,4 @@ abbrev pub decreases-is_subtree : goal.decreases-is_subtree
 decreases-is_subtree g l = l.height
 
 abbrev pub invariant-loop-place : goal.invariant-loop-place
-invariant-loop-place g l = record {
-  end : l.place-end ≡ length l.node.keys;
-  fits : Fits l.node;
-  height : l.height ≡ l.fn.height;
-  below : 0 < l.height;
-}
+invariant-loop-place g l = record { walked : IsWalked l.node l.place-end l.height l.fn.height }
