@@ -40,6 +40,14 @@ pub trait Sample: Key {
     fn number(&self) -> u64;
 }
 
+/// The key that a number makes, if there is one.
+pub fn key_of<K: Sample>(alloc: Global, number: Option<u64>) -> Result<Option<K>, AllocError> {
+    match number {
+        Some(number) => Ok(Some(K::sample(alloc, number)?)),
+        None => Ok(None),
+    }
+}
+
 impl Sample for u64 {
     fn sample(_alloc: Global, number: u64) -> Result<u64, AllocError> {
         Ok(number)

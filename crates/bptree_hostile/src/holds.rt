@@ -1,18 +1,18 @@
 //! Trees, maps and sets, each asked by lists of commands on numbers.
 
 use crate::calls::carry_out;
-use crate::dice::{Sample, Text};
+use crate::dice::{Sample, Text, key_of};
 use crate::drawing::{Kinds, Talk, are_same, numbers, own_numbers};
 use crate::entries::{are_found, leave_and_return};
+use crate::parting::leave_and_join;
 use crate::plain::{Asked, Plain};
 use crate::rows::loaded;
 use crate::whole::{
-    is_mended, is_thinned, keys_are_thinned, keys_leave_and_join, keys_leave_and_return,
-    leave_and_join, number, shows_keys, shows_parts,
+    is_mended, is_thinned, keys_are_thinned, keys_leave_and_return, number, shows_keys, shows_parts,
 };
 use std::alloc::{AllocError, Global};
 use std::mem;
-use sweep_bptree::script::{Command, run};
+use sweep_bptree::script::{Command, End, run};
 use sweep_bptree::tree::count::Count;
 use sweep_bptree::tree::{
     Argument, BPlusTree, CloneArgument, Iter, NodeStore, RankArgument, SearchArgument,
@@ -35,14 +35,6 @@ pub trait Holds: Drop {
 
     /// Whether the pairs are those of the list.
     fn shows(&self, alloc: Global, plain: &Plain) -> bool;
-}
-
-// The key that a number makes, if there is one.
-fn some_key<K: Sample>(alloc: Global, number: &Option<u64>) -> Result<Option<K>, AllocError> {
-    match number {
-        Some(number) => Ok(Some(K::sample(alloc, *number)?)),
-        None => Ok(None),
-    }
 }
 
 // The command on keys that are made of the numbers.
@@ -69,7 +61,7 @@ fn on_keys<K: Sample>(alloc: Global, asked: Asked) -> Result<Command<K, u64, usi
         Command::Value(number) => Command::Value(number),
         Command::Walk(word) => Command::Walk(word),
         Command::Range(lo, hi, word) => {
-            Command::Range(some_key(alloc, &lo)?, some_key(alloc, &hi)?, word)
+            Command::Range(key_of(alloc, lo)?, key_of(alloc, hi)?, word)
         }
         Command::RangeAt(place, count, word) => Command::RangeAt(place, count, word),
     })
@@ -132,65 +124,54 @@ where
     well && pairs.next().is_none() && pairs.next_back().is_none()
 }
 
-// Whether the next pair is that of a list at a place, if there is one before the end; and the place
-// behind it.
-fn takes_next<S: NodeStore<V = u64>>(
+// A part of a list: from one place up to another.
+type Part = (usize, usize);
+
+// Whether the next pair from an end is that of a part of a list, if there is one; and the part that
+// the others are.
+fn takes_one<S: NodeStore<V = u64>>(
     pairs: &mut Iter<'_, S>,
     plain: &Plain,
-    front: usize,
-    back: usize,
-) -> (bool, usize)
+    (front, back): Part,
+    end: End,
+) -> (bool, Part)
 where
     S::K: Sample,
 {
     if front >= back {
-        return (true, front);
+        return (true, (front, back));
     }
-    let is_right = plain.pair_at(front) == numbers(pairs.next());
-    (is_right, front.saturating_add(1))
+    match end {
+        End::Front => {
+            let is_right = plain.pair_at(front) == numbers(pairs.next());
+            (is_right, (front.saturating_add(1), back))
+        }
+        End::Back => {
+            let last = back.saturating_sub(1);
+            let is_right = plain.pair_at(last) == numbers(pairs.next_back());
+            (is_right, (front, last))
+        }
+    }
 }
 
-// The same of the last pair, and the place before it.
-fn takes_last<S: NodeStore<V = u64>>(
-    pairs: &mut Iter<'_, S>,
-    plain: &Plain,
-    front: usize,
-    back: usize,
-) -> (bool, usize)
-where
-    S::K: Sample,
-{
-    if front >= back {
-        return (true, back);
-    }
-    let last = back.saturating_sub(1);
-    (plain.pair_at(last) == numbers(pairs.next_back()), last)
-}
-
-// Whether the last of some pairs and the first two are those of a list between two places, as far
-// as there are so many; and the places between which the others stand.
+// Whether the last of some pairs and the first two are those of a part of a list, as far as there
+// are so many; and the part that the others are.
 fn takes_three<S: NodeStore<V = u64>>(
     pairs: &mut Iter<'_, S>,
     plain: &Plain,
-    from: usize,
-    to: usize,
-) -> (bool, usize, usize)
+    part: Part,
+) -> (bool, Part)
 where
     S::K: Sample,
 {
-    let (last, back) = takes_last(pairs, plain, from, to);
-    let (first, front) = takes_next(pairs, plain, from, back);
-    let (second, front) = takes_next(pairs, plain, front, back);
-    (last && first && second, front, back)
+    let (last, part) = takes_one(pairs, plain, part, End::Back);
+    let (first, part) = takes_one(pairs, plain, part, End::Front);
+    let (second, part) = takes_one(pairs, plain, part, End::Front);
+    (last && first && second, part)
 }
 
-// Whether the pairs that are left are those of a list from one place up to another.
-fn is_rest<S: NodeStore<V = u64>>(
-    rest: Iter<'_, S>,
-    plain: &Plain,
-    front: usize,
-    back: usize,
-) -> bool
+// Whether the pairs that are left are those of a part of a list.
+fn is_rest<S: NodeStore<V = u64>>(rest: Iter<'_, S>, plain: &Plain, (front, back): Part) -> bool
 where
     S::K: Sample,
 {
@@ -203,22 +184,22 @@ where
     well && rest.next().is_none() && rest.next_back().is_none()
 }
 
-// Whether pairs are those of a list from one place up to another: one is taken from the back, two
-// from the front, and the rest of a clone. How many are left is asked before and after.
-fn is_part<S: NodeStore<V = u64>>(pairs: Iter<'_, S>, plain: &Plain, from: usize, to: usize) -> bool
+// Whether pairs are those of a part of a list: one is taken from the back, two from the front, and
+// the rest of a clone. How many are left is asked before and after.
+fn is_part<S: NodeStore<V = u64>>(pairs: Iter<'_, S>, plain: &Plain, (from, to): Part) -> bool
 where
     S::K: Sample,
 {
     let mut pairs = pairs;
     let mut well = pairs.len() == to.saturating_sub(from);
-    let (are_right, front, back) = takes_three(&mut pairs, plain, from, to);
+    let (are_right, (front, back)) = takes_three(&mut pairs, plain, (from, to));
     let left = back.saturating_sub(front);
     well &= are_right;
     well &= pairs.len() == left;
     let Ok(rest) = pairs.clone() else {
         return false;
     };
-    well &= is_rest(rest, plain, front, back);
+    well &= is_rest(rest, plain, (front, back));
     pairs.len() == left && well
 }
 
@@ -226,16 +207,15 @@ where
 fn is_found_part<S: NodeStore<V = u64>>(
     pairs: Result<Iter<'_, S>, AllocError>,
     plain: &Plain,
-    from: usize,
-    to: usize,
+    part: Part,
 ) -> bool
 where
     S::K: Sample,
 {
-    let Ok(pairs) = pairs else {
-        return false;
-    };
-    is_part(pairs, plain, from, to)
+    match pairs {
+        Ok(pairs) => is_part(pairs, plain, part),
+        Err(_) => false,
+    }
 }
 
 // Whether a summary tells that there are so many keys.
@@ -246,9 +226,9 @@ fn tells<S: NodeStore>(summary: Result<S::Argument, AllocError>, many: usize) ->
     summary.key_count() == Some(many)
 }
 
-// Whether the summaries of the keys from one place up to another, and up to the end, tell how many
-// there are.
-fn is_summed<S: NodeStore<V = u64>>(tree: &BPlusTree<S>, from: usize, to: usize) -> bool
+// Whether the summaries of the keys of a part, and from its start up to the end, tell how many there
+// are.
+fn is_summed<S: NodeStore<V = u64>>(tree: &BPlusTree<S>, (from, to): Part) -> bool
 where
     S::K: Sample,
     S::Argument: SearchArgument<S::K, Query = usize>,
@@ -259,65 +239,58 @@ where
     well
 }
 
-// Whether the pairs of a tree between two keys are those of a list between two places, and their
-// summary tells how many there are.
+// Whether the pairs of a tree between two keys are those of a part of a list, and their summary
+// tells how many there are.
 fn is_between<S: NodeStore<V = u64>>(
     tree: &BPlusTree<S>,
     plain: &Plain,
     (lo, hi): (Option<&S::K>, Option<&S::K>),
-    from: usize,
-    to: usize,
+    (from, to): Part,
 ) -> bool
 where
     S::K: Sample,
 {
-    let mut well = is_part(tree.range(lo, hi), plain, from, to);
+    let mut well = is_part(tree.range(lo, hi), plain, (from, to));
     well &= tells::<S>(tree.range_argument(lo, hi), to.saturating_sub(from));
     well
 }
 
-// Whether so many pairs from a place on, and all from there on, are those of a list.
-fn is_behind<S: NodeStore<V = u64>>(
-    tree: &BPlusTree<S>,
-    plain: &Plain,
-    from: usize,
-    to: usize,
-) -> bool
+// Whether as many pairs as a part has, from its start on, and all from there on, are those of a
+// list.
+fn is_behind<S: NodeStore<V = u64>>(tree: &BPlusTree<S>, plain: &Plain, (from, to): Part) -> bool
 where
     S::K: Sample,
     S::Argument: SearchArgument<S::K, Query = usize>,
 {
     let part = tree.range_by_argument(from, to.saturating_sub(from));
-    let mut well = is_found_part(part, plain, from, to);
+    let mut well = is_found_part(part, plain, (from, to));
     let rest = tree.range_by_argument(from, usize::MAX);
-    well &= is_found_part(rest, plain, from, plain.len().max(from));
+    well &= is_found_part(rest, plain, (from, plain.len().max(from)));
     well
 }
 
-// Whether a tree has the part of a list from one place up to another, by keys and by places. An end
-// at the end of the list is open.
+// Whether a tree has a part of a list, by keys and by places. An end at the end of the list is open.
 fn has_part<S: NodeStore<V = u64>>(
     alloc: Global,
     tree: &BPlusTree<S>,
     plain: &Plain,
-    from: usize,
-    to: usize,
+    (from, to): Part,
 ) -> bool
 where
     S::K: Sample,
     S::Argument: SearchArgument<S::K, Query = usize>,
 {
     let first = if from == 0 { None } else { plain.key_at(from) };
-    let Ok(lo) = some_key::<S::K>(alloc, &first) else {
+    let Ok(lo) = key_of::<S::K>(alloc, first) else {
         return false;
     };
-    let Ok(hi) = some_key::<S::K>(alloc, &plain.key_at(to)) else {
+    let Ok(hi) = key_of::<S::K>(alloc, plain.key_at(to)) else {
         return false;
     };
-    let end = to.min(plain.len()).max(from);
-    let mut well = is_between(tree, plain, (lo.as_ref(), hi.as_ref()), from, end);
-    well &= is_behind(tree, plain, from, end);
-    well &= is_summed(tree, from, end);
+    let part = (from, to.min(plain.len()).max(from));
+    let mut well = is_between(tree, plain, (lo.as_ref(), hi.as_ref()), part);
+    well &= is_behind(tree, plain, part);
+    well &= is_summed(tree, part);
     well
 }
 
@@ -344,7 +317,7 @@ where
     for (from, to) in places {
         // No key stands at the end, so none can begin there.
         if from == 0 || from < len {
-            well &= has_part(alloc, tree, plain, from, to);
+            well &= has_part(alloc, tree, plain, (from, to));
         }
     }
     well
@@ -579,8 +552,8 @@ impl Holds for BPlusTreeSet<Text> {
     fn renews(&mut self, alloc: Global, plain: &Plain, turn: u64) -> bool {
         match turn % 5 {
             0 => keys_leave_and_return(alloc, self, plain),
-            1 => keys_leave_and_join(alloc, self, plain, plain.len() / 2),
-            2 => keys_leave_and_join(alloc, self, plain, 0),
+            1 => leave_and_join(alloc, self, plain, plain.len() / 2),
+            2 => leave_and_join(alloc, self, plain, 0),
             3 => keys_are_thinned(alloc, self, plain, true),
             _ => keys_are_thinned(alloc, self, plain, false),
         }

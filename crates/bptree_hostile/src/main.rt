@@ -10,6 +10,7 @@ mod drawing;
 mod entries;
 mod forgetful;
 mod holds;
+mod parting;
 mod plain;
 mod rounds;
 mod routes;

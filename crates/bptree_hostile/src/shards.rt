@@ -270,69 +270,54 @@ where
     }
 }
 
-// The pair beside another one, where there is one.
-fn next_of<'a, S: Shard<V = u64>>(
+// The pair beside a key: behind it from the front on, before it from the back on.
+fn beside<'a, S: Shard<V = u64>>(
     whole: &'a Shards<S>,
-    pair: Option<(&'a S::K, &'a u64)>,
-) -> Option<(&'a S::K, &'a u64)>
-where
-    S::K: Sample,
-{
-    let (key, _) = pair?;
-    whole.next(key)
-}
-
-fn prev_of<'a, S: Shard<V = u64>>(
-    whole: &'a Shards<S>,
-    pair: Option<(&'a S::K, &'a u64)>,
-) -> Option<(&'a S::K, &'a u64)>
-where
-    S::K: Sample,
-{
-    let (key, _) = pair?;
-    whole.prev(key)
-}
-
-// So many steps from a key on, of which the first one comes to a place.
-fn steps_on<S: Shard<V = u64>>(
-    whole: &Shards<S>,
-    plain: &Plain,
     key: &S::K,
-    place: usize,
-    many: u64,
-) -> bool
-where
-    S::K: Sample,
-{
-    let mut found = whole.next(key);
-    let mut place = place;
-    let mut well = true;
-    for _ in 0..many {
-        well &= numbers(found) == plain.pair_at(place);
-        found = next_of(whole, found);
-        place = place.saturating_add(1);
+    end: End,
+) -> Option<(&'a S::K, &'a u64)> {
+    match end {
+        End::Front => whole.next(key),
+        End::Back => whole.prev(key),
     }
-    well
 }
 
-// The same back from a key. There is no pair before the first place, nor at the greatest ones.
-fn steps_back<S: Shard<V = u64>>(
+// The same beside a pair, where there is one.
+fn beside_of<'a, S: Shard<V = u64>>(
+    whole: &'a Shards<S>,
+    pair: Option<(&'a S::K, &'a u64)>,
+    end: End,
+) -> Option<(&'a S::K, &'a u64)> {
+    let (key, _) = pair?;
+    beside(whole, key, end)
+}
+
+// The place beside another one. There is no pair before the first place, nor at the greatest ones.
+fn place_beside(place: usize, end: End) -> usize {
+    match end {
+        End::Front => place.saturating_add(1),
+        End::Back => place.wrapping_sub(1),
+    }
+}
+
+// So many steps from a key on, or back from it, of which the first one comes to a place.
+fn steps_to<S: Shard<V = u64>>(
     whole: &Shards<S>,
     plain: &Plain,
     key: &S::K,
-    place: usize,
+    (place, end): (usize, End),
     many: u64,
 ) -> bool
 where
     S::K: Sample,
 {
-    let mut found = whole.prev(key);
+    let mut found = beside(whole, key, end);
     let mut place = place;
     let mut well = true;
     for _ in 0..many {
         well &= numbers(found) == plain.pair_at(place);
-        found = prev_of(whole, found);
-        place = place.wrapping_sub(1);
+        found = beside_of(whole, found, end);
+        place = place_beside(place, end);
     }
     well
 }
@@ -347,19 +332,16 @@ where
         return false;
     };
     let (many, is_back) = (cuts.below(8), cuts.below(2) == 0);
-    let plain = &cuts.plain;
-    if is_back {
-        steps_back(whole, plain, &key, plain.beside(number, End::Back), many)
-    } else {
-        steps_on(whole, plain, &key, plain.beside(number, End::Front), many)
-    }
+    let end = if is_back { End::Back } else { End::Front };
+    let place = cuts.plain.beside(number, end);
+    steps_to(whole, &cuts.plain, &key, (place, end), many)
 }
 
-// Whether pairs that a call found are so many of the list, from a place on.
-fn are_from<K: Sample>(
+// Whether pairs that a call found are so many of the list, from a place on or back from it.
+fn are_listed<K: Sample>(
     found: Result<Vec<(&K, &u64)>, AllocError>,
     plain: &Plain,
-    place: usize,
+    (place, end): (usize, End),
     many: usize,
 ) -> bool {
     let Ok(found) = found else {
@@ -369,26 +351,7 @@ fn are_from<K: Sample>(
     let mut well = found.len() == many;
     for pair in &found {
         well &= numbers(Some(*pair)) == plain.pair_at(place);
-        place = place.saturating_add(1);
-    }
-    well
-}
-
-// The same back from where they end.
-fn are_back<K: Sample>(
-    found: Result<Vec<(&K, &u64)>, AllocError>,
-    plain: &Plain,
-    end: usize,
-    many: usize,
-) -> bool {
-    let Ok(found) = found else {
-        return false;
-    };
-    let mut place = end;
-    let mut well = found.len() == many;
-    for pair in &found {
-        place = place.wrapping_sub(1);
-        well &= numbers(Some(*pair)) == plain.pair_at(place);
+        place = place_beside(place, end);
     }
     well
 }
@@ -411,12 +374,13 @@ where
     if kind == 0 {
         let found = whole.page(cuts.alloc, place, n);
         let many = plain.len().saturating_sub(place).min(n);
-        return are_from(found, plain, place, many);
+        return are_listed(found, plain, (place, End::Front), many);
     }
     if kind == 1 {
         let found = whole.back(cuts.alloc, &lo, n);
-        let end = plain.beside(low, End::Front);
-        return are_back(found, plain, end, end.min(n));
+        let many = plain.beside(low, End::Front);
+        let last = place_beside(many, End::Back);
+        return are_listed(found, plain, (last, End::Back), many.min(n));
     }
     let (from, lo) = match kind {
         2 | 3 => (plain.rank(low), Some(&lo)),
@@ -427,7 +391,12 @@ where
         _ => (plain.len(), None),
     };
     let found = whole.range(cuts.alloc, lo, hi, n);
-    are_from(found, plain, from, to.saturating_sub(from).min(n))
+    are_listed(
+        found,
+        plain,
+        (from, End::Front),
+        to.saturating_sub(from).min(n),
+    )
 }
 
 // A shard is cut in two at a key, or it and the next one become one. There may be no such shards.
@@ -461,8 +430,8 @@ where
         well &= numbers(whole.at(place)) == plain.pair_at(place);
         well &= numbers(front) == plain.pair_at(place);
         well &= numbers(back) == plain.pair_at(left);
-        front = next_of(whole, front);
-        back = prev_of(whole, back);
+        front = beside_of(whole, front, End::Front);
+        back = beside_of(whole, back, End::Back);
     }
     well && front.is_none() && back.is_none() && whole.at(plain.len()).is_none()
 }

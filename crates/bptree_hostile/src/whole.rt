@@ -1,7 +1,7 @@
 //! Calls of a whole map or set: its keys and values alone, a part between two bounds, many pairs
 //! that come or leave at once, and a comparison with another.
 
-use crate::dice::{Sample, Text};
+use crate::dice::{Sample, Text, key_of};
 use crate::drawing::numbers;
 use crate::entries::is_at;
 use crate::plain::Plain;
@@ -14,6 +14,8 @@ use sweep_bptree::tree::{BPlusTree, InsertError, NodeStore};
 use sweep_bptree::{BPlusTreeMap, BPlusTreeSet};
 
 type Map = BPlusTreeMap<Text, u64, Count>;
+
+type Set = BPlusTreeSet<Text>;
 
 /// The number of a key.
 pub fn number(key: Option<&Text>) -> Option<u64> {
@@ -80,14 +82,6 @@ fn bound_at(key: &Option<Text>, is_in: bool) -> Bound<&Text> {
     }
 }
 
-// The key of a place, if there is one.
-fn key_of(alloc: Global, plain: &Plain, place: usize) -> Result<Option<Text>, AllocError> {
-    match plain.key_at(place) {
-        Some(key) => Ok(Some(Text::sample(alloc, key)?)),
-        None => Ok(None),
-    }
-}
-
 // The keys of two places.
 fn keys_of(
     alloc: Global,
@@ -95,8 +89,8 @@ fn keys_of(
     from: usize,
     to: usize,
 ) -> Result<(Option<Text>, Option<Text>), AllocError> {
-    let lo = key_of(alloc, plain, from)?;
-    let hi = key_of(alloc, plain, to)?;
+    let lo = key_of(alloc, plain.key_at(from))?;
+    let hi = key_of(alloc, plain.key_at(to))?;
     Ok((lo, hi))
 }
 
@@ -150,6 +144,9 @@ where
     pairs.len() == few && (few == 0 || numbers(pairs.next_back()) == plain.pair_at(last))
 }
 
+// Whether the first of two bounds takes the pair of its key in, and the second.
+const TAKEN_IN: [(bool, bool); 4] = [(true, true), (false, true), (true, false), (false, false)];
+
 // Whether the pairs of a map between bounds at two places are those of a list; and those of its
 // tree.
 fn is_bounded(alloc: Global, map: &Map, plain: &Plain, from: usize, to: usize) -> bool {
@@ -157,8 +154,7 @@ fn is_bounded(alloc: Global, map: &Map, plain: &Plain, from: usize, to: usize) -
         return false;
     };
     let mut well = true;
-    for turn in 0..4 {
-        let (from_in, to_in) = (turn % 2 == 0, turn < 2);
+    for (from_in, to_in) in TAKEN_IN {
         let few = places(plain, (from, from_in), (to, to_in));
         let pairs = map.range_bounds(bound_at(&lo, from_in), bound_at(&hi, to_in));
         well &= begins_at(pairs, plain, few);
@@ -176,21 +172,27 @@ fn is_pointed_at(map: &Map, plain: &Plain, place: usize) -> bool {
     well
 }
 
-/// Whether a map shows a list by its keys and values, between bounds, and by cursors on places.
-pub fn shows_parts(alloc: Global, map: &Map, plain: &Plain) -> bool {
-    let len = plain.len();
+// The places between which keys are bounded: of the middle, behind the end, up to it, at one place,
+// and two that fall.
+fn bounded_places(len: usize) -> [(usize, usize); 5] {
     let (third, late) = (len / 3, len.saturating_sub(2));
-    let mut well = has_halves(map, plain);
-    for (from, to) in [
+    [
         (third, late),
         (len, third),
         (late, len),
         (third, third),
         (late, third),
-    ] {
+    ]
+}
+
+/// Whether a map shows a list by its keys and values, between bounds, and by cursors on places.
+pub fn shows_parts(alloc: Global, map: &Map, plain: &Plain) -> bool {
+    let len = plain.len();
+    let mut well = has_halves(map, plain);
+    for (from, to) in bounded_places(len) {
         well &= is_bounded(alloc, map, plain, from, to);
     }
-    for place in [0, third, late, len, usize::MAX] {
+    for place in [0, len / 3, len.saturating_sub(2), len, usize::MAX] {
         well &= is_pointed_at(map, plain, place);
     }
     well
@@ -314,25 +316,6 @@ fn has_them_again(alloc: Global, map: &mut Map, other: Map, plain: &Plain) -> bo
     well &= gives_keys(&mut other.into_keys(), plain);
     well &= gives_values(&mut third.into_values(), plain);
     well
-}
-
-/// The pairs from a place on leave for a map of their own, and come back.
-pub fn leave_and_join(alloc: Global, map: &mut Map, plain: &Plain, place: usize) -> bool {
-    let Some(key) = plain.key_at(place) else {
-        return true;
-    };
-    let Ok(key) = Text::sample(alloc, key) else {
-        return false;
-    };
-    let Ok(mut left) = map.split_off(&key) else {
-        return false;
-    };
-    let few = plain.len().saturating_sub(place);
-    let mut well = map.len() == place && left.len() == few;
-    well &= numbers(left.first()) == plain.pair_at(place);
-    well &= numbers(left.last()) == plain.pair_at(plain.len().saturating_sub(1));
-    well &= map.append(&mut left).is_ok();
-    left.is_empty() && well
 }
 
 // Whether the pairs of a map are those of a list whose keys' numbers are no multiples of three,
@@ -465,19 +448,12 @@ pub fn is_thinned(alloc: Global, map: &mut Map, plain: &Plain, by_range: bool) -
 }
 
 // Whether the keys of a set between bounds at two places are those of a list.
-fn are_keys_bounded(
-    alloc: Global,
-    set: &BPlusTreeSet<Text>,
-    plain: &Plain,
-    from: usize,
-    to: usize,
-) -> bool {
+fn are_keys_bounded(alloc: Global, set: &Set, plain: &Plain, from: usize, to: usize) -> bool {
     let Ok((lo, hi)) = keys_of(alloc, plain, from, to) else {
         return false;
     };
     let mut well = true;
-    for turn in 0..4 {
-        let (from_in, to_in) = (turn % 2 == 0, turn < 2);
+    for (from_in, to_in) in TAKEN_IN {
         let (start, end) = places(plain, (from, from_in), (to, to_in));
         let mut keys = set.range_bounds(bound_at(&lo, from_in), bound_at(&hi, to_in));
         let few = end.saturating_sub(start);
@@ -490,17 +466,9 @@ fn are_keys_bounded(
 }
 
 /// Whether a set shows the keys of a list between bounds.
-pub fn shows_keys(alloc: Global, set: &BPlusTreeSet<Text>, plain: &Plain) -> bool {
-    let len = plain.len();
-    let (third, late) = (len / 3, len.saturating_sub(2));
+pub fn shows_keys(alloc: Global, set: &Set, plain: &Plain) -> bool {
     let mut well = true;
-    for (from, to) in [
-        (third, late),
-        (len, third),
-        (late, len),
-        (third, third),
-        (late, third),
-    ] {
+    for (from, to) in bounded_places(plain.len()) {
         well &= are_keys_bounded(alloc, set, plain, from, to);
     }
     well
@@ -510,7 +478,7 @@ pub fn shows_keys(alloc: Global, set: &BPlusTreeSet<Text>, plain: &Plain) -> boo
 fn own_keys(alloc: Global, plain: &Plain) -> Result<Vec<Text>, AllocError> {
     let mut keys = Vec::new(alloc);
     for place in 0..plain.len() {
-        if let Some(key) = key_of(alloc, plain, place)? {
+        if let Some(key) = key_of(alloc, plain.key_at(place))? {
             keys.push(key)?;
         }
     }
@@ -518,12 +486,12 @@ fn own_keys(alloc: Global, plain: &Plain) -> Result<Vec<Text>, AllocError> {
 }
 
 // A set of them.
-fn set_of(alloc: Global, plain: &Plain) -> Result<BPlusTreeSet<Text>, AllocError> {
+fn set_of(alloc: Global, plain: &Plain) -> Result<Set, AllocError> {
     BPlusTreeSet::from_iter(alloc, own_keys(alloc, plain)?)
 }
 
 // The keys of a list come to a set, again where they were there.
-fn keys_come_again(alloc: Global, set: &mut BPlusTreeSet<Text>, plain: &Plain) -> bool {
+fn keys_come_again(alloc: Global, set: &mut Set, plain: &Plain) -> bool {
     let Ok(keys) = own_keys(alloc, plain) else {
         return false;
     };
@@ -531,12 +499,12 @@ fn keys_come_again(alloc: Global, set: &mut BPlusTreeSet<Text>, plain: &Plain) -
 }
 
 // Whether a set is ordered so beside what it was, and equal to it just where it is ordered so.
-fn is_ordered(set: &BPlusTreeSet<Text>, before: &BPlusTreeSet<Text>, wanted: Ordering) -> bool {
+fn is_ordered(set: &Set, before: &Set, wanted: Ordering) -> bool {
     (*set == *before) == wanted.is_eq() && before.cmp(set) == wanted
 }
 
 // The first key of a set leaves, or the last.
-fn end_leaves(set: &mut BPlusTreeSet<Text>, is_last: bool, wanted: Option<u64>) -> bool {
+fn end_leaves(set: &mut Set, is_last: bool, wanted: Option<u64>) -> bool {
     let gone = if is_last {
         set.pop_last()
     } else {
@@ -549,7 +517,7 @@ fn end_leaves(set: &mut BPlusTreeSet<Text>, is_last: bool, wanted: Option<u64>) 
 }
 
 // A key leaves, where it is there.
-fn takes(set: &mut BPlusTreeSet<Text>, key: &Text, wanted: Option<u64>) -> bool {
+fn takes(set: &mut Set, key: &Text, wanted: Option<u64>) -> bool {
     let Ok(gone) = set.take(key) else {
         return false;
     };
@@ -557,7 +525,7 @@ fn takes(set: &mut BPlusTreeSet<Text>, key: &Text, wanted: Option<u64>) -> bool 
 }
 
 // A key is put in the place of the one that equals it, where there is one.
-fn replaces(set: &mut BPlusTreeSet<Text>, key: Text, wanted: Option<u64>) -> bool {
+fn replaces(set: &mut Set, key: Text, wanted: Option<u64>) -> bool {
     let Ok(gone) = set.replace(key) else {
         return false;
     };
@@ -565,12 +533,7 @@ fn replaces(set: &mut BPlusTreeSet<Text>, key: Text, wanted: Option<u64>) -> boo
 }
 
 // A key leaves and is not there a second time; it comes again, and takes its own place.
-fn leaves_by_itself(
-    alloc: Global,
-    set: &mut BPlusTreeSet<Text>,
-    plain: &Plain,
-    place: usize,
-) -> bool {
+fn leaves_by_itself(alloc: Global, set: &mut Set, plain: &Plain, place: usize) -> bool {
     let Some(number) = plain.key_at(place) else {
         return true;
     };
@@ -588,12 +551,7 @@ fn leaves_by_itself(
 
 // The first key of a set leaves, and of more than two the last as well, and another by itself. What
 // is left is less than what there was.
-fn some_leave(
-    alloc: Global,
-    set: &mut BPlusTreeSet<Text>,
-    before: &BPlusTreeSet<Text>,
-    plain: &Plain,
-) -> bool {
+fn some_leave(alloc: Global, set: &mut Set, before: &Set, plain: &Plain) -> bool {
     let mut well = end_leaves(set, false, plain.key_at(0));
     if plain.len() <= 2 {
         return well;
@@ -606,7 +564,7 @@ fn some_leave(
 }
 
 /// Its first key and its last leave a set, and another by itself, and all come again.
-pub fn keys_leave_and_return(alloc: Global, set: &mut BPlusTreeSet<Text>, plain: &Plain) -> bool {
+pub fn keys_leave_and_return(alloc: Global, set: &mut Set, plain: &Plain) -> bool {
     let Ok(before) = set_of(alloc, plain) else {
         return false;
     };
@@ -617,13 +575,7 @@ pub fn keys_leave_and_return(alloc: Global, set: &mut BPlusTreeSet<Text>, plain:
 }
 
 // The keys between two places leave, of which there are so many.
-fn keys_between_leave(
-    alloc: Global,
-    set: &mut BPlusTreeSet<Text>,
-    plain: &Plain,
-    from: usize,
-    to: usize,
-) -> bool {
+fn keys_between_leave(alloc: Global, set: &mut Set, plain: &Plain, from: usize, to: usize) -> bool {
     let Ok((lo, hi)) = keys_of(alloc, plain, from, to) else {
         return false;
     };
@@ -634,7 +586,7 @@ fn keys_between_leave(
 }
 
 // A closure keeps the keys whose numbers are no multiples of three.
-fn most_keys_stay(set: &mut BPlusTreeSet<Text>, plain: &Plain) -> bool {
+fn most_keys_stay(set: &mut Set, plain: &Plain) -> bool {
     let mut well = set.retain(|key: &Text| key.number() % 3 != 0).is_ok();
     let mut keys = set.iter();
     for place in 0..plain.len() {
@@ -647,12 +599,7 @@ fn most_keys_stay(set: &mut BPlusTreeSet<Text>, plain: &Plain) -> bool {
 }
 
 /// Keys leave a set as a closure says, or those between two keys do, and come again.
-pub fn keys_are_thinned(
-    alloc: Global,
-    set: &mut BPlusTreeSet<Text>,
-    plain: &Plain,
-    by_range: bool,
-) -> bool {
+pub fn keys_are_thinned(alloc: Global, set: &mut Set, plain: &Plain, by_range: bool) -> bool {
     let (from, to) = (plain.len() / 3, plain.len().saturating_sub(2));
     let mut well = if by_range && from < to {
         keys_between_leave(alloc, set, plain, from, to)
@@ -661,27 +608,4 @@ pub fn keys_are_thinned(
     };
     well &= keys_come_again(alloc, set, plain);
     well
-}
-
-/// The keys from a place on leave for a set of their own, and come back.
-pub fn keys_leave_and_join(
-    alloc: Global,
-    set: &mut BPlusTreeSet<Text>,
-    plain: &Plain,
-    place: usize,
-) -> bool {
-    let Some(key) = plain.key_at(place) else {
-        return true;
-    };
-    let Ok(key) = Text::sample(alloc, key) else {
-        return false;
-    };
-    let Ok(mut left) = set.split_off(&key) else {
-        return false;
-    };
-    let few = plain.len().saturating_sub(place);
-    let mut well = set.len() == place && left.len() == few;
-    well &= number(left.first()) == plain.key_at(place);
-    well &= set.append(&mut left).is_ok();
-    left.is_empty() && well
 }

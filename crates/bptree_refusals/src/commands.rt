@@ -8,7 +8,7 @@ use crate::shapes::{State, state_of};
 use crate::trees::tree_of;
 use crate::trial::Subject;
 use std::alloc::{AllocError, Global};
-use sweep_bptree::script::{Command, CommandOn, End, Reply, run};
+use sweep_bptree::script::{Command, End, Reply, run};
 use sweep_bptree::tree::count::Count;
 use sweep_bptree::tree::group::{GroupCount, Tuple2};
 use sweep_bptree::tree::{
@@ -177,180 +177,143 @@ fn number_at(place: u64) -> u64 {
     place.wrapping_mul(4)
 }
 
-// A key that is drawn.
-fn key_of<K: Sample>(alloc: Global, base: Base, seed: u64) -> Result<K, AllocError> {
-    K::sample(alloc, drawn(seed, 1) % base.bound().max(1))
-}
-
-// A place that is asked for.
-fn query_of<K: Sample, A: Asked<K>>(
-    alloc: Global,
-    base: Base,
-    seed: u64,
-) -> Result<A::Query, AllocError> {
-    let place = (drawn(seed, 2) % 80) as usize;
-    A::query(alloc, drawn(seed, 1) % base.bound().max(1), place)
-}
-
-// A command that may change a tree: most put pairs while it grows, and most remove some later.
-fn change_of<S: NodeStore<V = u64>>(
+// A turn, or a turn more, for which commands are drawn.
+#[derive(Clone, Copy)]
+struct Draw {
     alloc: Global,
     base: Base,
     turn: u64,
-) -> Result<CommandOn<S>, AllocError>
-where
-    S::K: Sample,
-    S::Argument: Asked<S::K>,
-{
-    let word = drawn(turn, 0) % 64;
-    if word < 42 || base == Base::Short && word < 56 {
-        return near_change_of::<S>(alloc, base, turn);
+}
+
+// A command on keys of a type, which summaries of another find and rank.
+type CommandOf<K, A> = Command<K, u64, <A as SearchArgument<K>>::Query>;
+
+impl Draw {
+    // A key.
+    fn key<K: Sample>(self) -> Result<K, AllocError> {
+        K::sample(self.alloc, drawn(self.turn, 1) % self.base.bound().max(1))
     }
-    if word == 63 && base == Base::Empty {
-        return Ok(Command::Clear);
+
+    // A place that is asked for.
+    fn query<K: Sample, A: Asked<K>>(self) -> Result<A::Query, AllocError> {
+        let place = (drawn(self.turn, 2) % 80) as usize;
+        let number = drawn(self.turn, 1) % self.base.bound().max(1);
+        A::query(self.alloc, number, place)
     }
-    match word % 16 {
-        5..=9 | 12 | 13 => {
-            let query = query_of::<S::K, S::Argument>(alloc, base, turn)?;
-            Ok(if word % 16 < 10 {
-                Command::RemoveAt(query)
-            } else {
-                Command::SetAt(query, turn)
-            })
+
+    // A command that may change a tree: most put pairs while it grows, and most remove some later.
+    fn change<K: Sample, A: Asked<K>>(self) -> Result<CommandOf<K, A>, AllocError> {
+        let word = drawn(self.turn, 0) % 64;
+        if word < 42 || self.base == Base::Short && word < 56 {
+            return self.near_change::<K, A>();
         }
-        kind => {
-            let key = key_of(alloc, base, turn)?;
-            Ok(match kind {
-                0..=4 => Command::Remove(key),
-                10 | 11 => Command::Set(key, turn),
-                _ => Command::Insert(key, turn),
-            })
+        if word == 63 && self.base == Base::Empty {
+            return Ok(Command::Clear);
+        }
+        match word % 16 {
+            5..=9 | 12 | 13 => {
+                let query = self.query::<K, A>()?;
+                Ok(if word % 16 < 10 {
+                    Command::RemoveAt(query)
+                } else {
+                    Command::SetAt(query, self.turn)
+                })
+            }
+            kind => {
+                let key = self.key()?;
+                Ok(match kind {
+                    0..=4 => Command::Remove(key),
+                    10 | 11 => Command::Set(key, self.turn),
+                    _ => Command::Insert(key, self.turn),
+                })
+            }
         }
     }
-}
 
-// One at a key that most changes of the turn put or remove.
-fn near_change_of<S: NodeStore<V = u64>>(
-    alloc: Global,
-    base: Base,
-    turn: u64,
-) -> Result<CommandOn<S>, AllocError>
-where
-    S::K: Sample,
-    S::Argument: Asked<S::K>,
-{
-    let key = S::K::sample(alloc, base.number_of(turn))?;
-    if base.grows(turn) {
-        return Ok(Command::Insert(key, turn));
-    }
-    if base != Base::Low {
-        return Ok(Command::Remove(key));
-    }
-    match query_of::<S::K, S::Argument>(alloc, base, turn) {
-        Ok(query) => Ok(Command::RemoveAt(query)),
-        Err(_) => Err(AllocError),
-    }
-}
-
-// A command that changes no tree.
-fn read_of<S: NodeStore<V = u64>>(
-    alloc: Global,
-    base: Base,
-    seed: u64,
-) -> Result<CommandOn<S>, AllocError>
-where
-    S::K: Sample,
-    S::Argument: Asked<S::K>,
-{
-    Ok(match drawn(seed, 0) % 9 {
-        0 => Command::Get(key_of(alloc, base, seed)?),
-        1 => Command::First,
-        2 => Command::Last,
-        3 => Command::Len,
-        4 => Command::At(query_of::<S::K, S::Argument>(alloc, base, seed)?),
-        5 => Command::Rank(key_of(alloc, base, seed)?),
-        6 => {
-            let key = key_of(alloc, base, seed)?;
-            Command::Range(Some(key), None, vec![in alloc; End::Front]?)
+    // One at a key that most changes of the turn put or remove.
+    fn near_change<K: Sample, A: Asked<K>>(self) -> Result<CommandOf<K, A>, AllocError> {
+        let key = K::sample(self.alloc, self.base.number_of(self.turn))?;
+        if self.base.grows(self.turn) {
+            return Ok(Command::Insert(key, self.turn));
         }
-        7 => {
-            let query = query_of::<S::K, S::Argument>(alloc, base, seed)?;
-            Command::RangeAt(query, 3, vec![in alloc; End::Front]?)
+        if self.base != Base::Low {
+            return Ok(Command::Remove(key));
         }
-        _ => Command::Walk(vec![in alloc; End::Front, End::Back]?),
-    })
-}
-
-// A command that holds a cursor.
-fn hold_of<S: NodeStore<V = u64>>(
-    alloc: Global,
-    base: Base,
-    seed: u64,
-) -> Result<CommandOn<S>, AllocError>
-where
-    S::K: Sample,
-    S::Argument: Asked<S::K>,
-{
-    Ok(match drawn(seed, 0) % 4 {
-        0 => Command::CursorFirst,
-        1 => Command::CursorLast,
-        _ => Command::Cursor(key_of(alloc, base, seed)?),
-    })
-}
-
-// A command on the cursor that is held.
-fn move_of<S: NodeStore<V = u64>>(seed: u64) -> CommandOn<S>
-where
-    S::K: Sample,
-    S::Argument: Asked<S::K>,
-{
-    match drawn(seed, 0) % 6 {
-        0 => Command::Exists(0),
-        1 => Command::Value(0),
-        2 | 3 => Command::Next(0),
-        _ => Command::Prev(0),
+        match self.query::<K, A>() {
+            Ok(query) => Ok(Command::RemoveAt(query)),
+            Err(_) => Err(AllocError),
+        }
     }
-}
 
-// The commands of a turn: one change, or else commands that change no tree, with those on one
-// cursor.
-fn listed<S: NodeStore<V = u64>>(
-    alloc: Global,
-    base: Base,
-    turn: u64,
-) -> Result<Vec<CommandOn<S>>, AllocError>
-where
-    S::K: Sample,
-    S::Argument: Asked<S::K>,
-{
-    let mut commands = Vec::new(alloc);
-    match lists::<S>(alloc, &mut commands, base, turn) {
-        Ok(()) => Ok(commands),
-        Err(_) => Err(AllocError),
+    // A command that changes no tree.
+    fn read<K: Sample, A: Asked<K>>(self) -> Result<CommandOf<K, A>, AllocError> {
+        Ok(match drawn(self.turn, 0) % 9 {
+            0 => Command::Get(self.key()?),
+            1 => Command::First,
+            2 => Command::Last,
+            3 => Command::Len,
+            4 => Command::At(self.query::<K, A>()?),
+            5 => Command::Rank(self.key()?),
+            6 => {
+                let key = self.key()?;
+                Command::Range(Some(key), None, vec![in self.alloc; End::Front]?)
+            }
+            7 => {
+                let query = self.query::<K, A>()?;
+                Command::RangeAt(query, 3, vec![in self.alloc; End::Front]?)
+            }
+            _ => Command::Walk(vec![in self.alloc; End::Front, End::Back]?),
+        })
     }
-}
 
-// Adds them to a list.
-fn lists<S: NodeStore<V = u64>>(
-    alloc: Global,
-    commands: &mut Vec<CommandOn<S>>,
-    base: Base,
-    turn: u64,
-) -> Result<(), AllocError>
-where
-    S::K: Sample,
-    S::Argument: Asked<S::K>,
-{
-    if base.is_change(turn) {
-        return adds(commands, change_of::<S>(alloc, base, turn));
+    // A command that holds a cursor.
+    fn hold<K: Sample, A: Asked<K>>(self) -> Result<CommandOf<K, A>, AllocError> {
+        Ok(match drawn(self.turn, 0) % 4 {
+            0 => Command::CursorFirst,
+            1 => Command::CursorLast,
+            _ => Command::Cursor(self.key()?),
+        })
     }
-    adds(commands, hold_of::<S>(alloc, base, turn))?;
-    for more in 1..3u64 {
-        let seed = turn.wrapping_add(more.wrapping_mul(400));
-        adds(commands, read_of::<S>(alloc, base, seed))?;
-        adds(commands, Ok(move_of::<S>(seed)))?;
+
+    // A command on the cursor that is held.
+    fn step<K: Sample, A: Asked<K>>(self) -> CommandOf<K, A> {
+        match drawn(self.turn, 0) % 6 {
+            0 => Command::Exists(0),
+            1 => Command::Value(0),
+            2 | 3 => Command::Next(0),
+            _ => Command::Prev(0),
+        }
     }
-    Ok(())
+
+    // The commands of a turn: one change, or else commands that change no tree, with those on one
+    // cursor.
+    fn list<K: Sample, A: Asked<K>>(self) -> Result<Vec<CommandOf<K, A>>, AllocError> {
+        let mut commands = Vec::new(self.alloc);
+        match self.adds_to::<K, A>(&mut commands) {
+            Ok(()) => Ok(commands),
+            Err(_) => Err(AllocError),
+        }
+    }
+
+    // Adds them to a list.
+    fn adds_to<K: Sample, A: Asked<K>>(
+        self,
+        commands: &mut Vec<CommandOf<K, A>>,
+    ) -> Result<(), AllocError> {
+        if self.base.is_change(self.turn) {
+            return adds(commands, self.change::<K, A>());
+        }
+        adds(commands, self.hold::<K, A>())?;
+        for more in 1..3u64 {
+            let other = Draw {
+                turn: self.turn.wrapping_add(more.wrapping_mul(400)),
+                ..self
+            };
+            adds(commands, other.read::<K, A>())?;
+            adds(commands, Ok(other.step::<K, A>()))?;
+        }
+        Ok(())
+    }
 }
 
 // Adds what was made to a list.
@@ -373,7 +336,7 @@ where
     S::K: Sample,
     S::Argument: Asked<S::K>,
 {
-    let commands = listed::<S>(alloc, base, turn)?;
+    let commands = Draw { alloc, base, turn }.list::<S::K, S::Argument>()?;
     let (replies, error) = run(alloc, tree, commands);
     if error.is_none() {
         told_of::<S::K, S::Argument>(&replies)

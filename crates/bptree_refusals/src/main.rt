@@ -26,7 +26,7 @@ mod trial;
 
 use crate::commands::{Asked, Commanded};
 use crate::groups::Grouped;
-use crate::moved::{Moved, MovedKeys};
+use crate::moved::{MovedKeys, MovedPairs};
 use crate::parts::{Made, Numbered, Reserved};
 use crate::plans::{Plan, plan_of};
 use crate::pointed::Pointed;
@@ -61,7 +61,7 @@ where
 fn on_trees<K: Sample, A: Asked<K>>(trial: &mut Trial, letter: u8, plan: &Plan) {
     match letter {
         b'm' | b'p' if plan.many > 0 => trial.carry_out::<Reserved<K, A>>(plan),
-        b'o' if plan.size > 1 && plan.size < 5 => trial.carry_out::<Moved<K, A>>(plan),
+        b'o' if plan.size > 1 && plan.size < 5 => trial.carry_out::<MovedPairs<K, A>>(plan),
         b'n' | b'o' => trial.carry_out::<BPlusTreeMap<K, u64, A>>(plan),
         _ => on_store::<NodeStoreVec<K, u64, A>>(trial, letter, plan),
     }

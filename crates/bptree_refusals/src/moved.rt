@@ -13,14 +13,6 @@ use sweep_bptree::set::ReplaceError;
 use sweep_bptree::tree::{Argument, InsertError};
 use sweep_bptree::{BPlusTreeMap, BPlusTreeSet, map, set};
 
-/// A map, what left it, and how many pairs both had at first.
-#[derive(Drop)]
-pub struct Moved<K: Sample, A: Argument<K> + Told> {
-    here: BPlusTreeMap<K, u64, A>,
-    there: BPlusTreeMap<K, u64, A>,
-    many: u64,
-}
-
 // The number from which on keys leave: half of a few, and the last 20 of many.
 fn first_to_leave(many: u64) -> u64 {
     many.saturating_sub((many / 2).min(20))
@@ -34,17 +26,255 @@ pub fn handed_back<K: Drop, V: Drop>(refusal: InsertError<K, V>) -> (K, V) {
     }
 }
 
-// Puts the pair in hand into a map again, where there is one.
-fn comes_back<K: Sample, A: Argument<K>>(
-    map: &mut BPlusTreeMap<K, u64, A>,
-    in_hand: MoveError<K, u64>,
-) -> bool {
+/// A map or a set, of which many leave and come back.
+pub trait Moves: Drop + Sized {
+    type Key: Sample;
+    /// What stands at a key.
+    type Value: Drop;
+
+    /// One with the keys of so many numbers, and an empty one.
+    fn both(alloc: Global, many: u64) -> Result<(Self, Self), AllocError>;
+
+    fn count(&self) -> usize;
+
+    /// What stands at the key of a number.
+    fn value_of(number: u64) -> Self::Value;
+
+    /// Whether a key comes, with what stands at it.
+    fn puts(&mut self, key: Self::Key, value: Self::Value) -> bool;
+
+    /// Whether a key leaves, where it is there.
+    fn loses(&mut self, key: &Self::Key) -> bool;
+
+    /// Whether the keys of the numbers up to an end come, of which the first so many are there.
+    fn grows_to(&mut self, alloc: Global, many: u64, end: u64) -> Result<bool, AllocError>;
+
+    /// All from a key on leave.
+    fn splits_at(
+        &mut self,
+        key: &Self::Key,
+    ) -> Result<Self, SplitError<Self, MoveError<Self::Key, Self::Value>>>;
+
+    /// All of another one come. It is to be answered that it is empty then.
+    fn takes_all(&mut self, other: &mut Self) -> Result<bool, MoveError<Self::Key, Self::Value>>;
+
+    /// Tells its keys, and what stands at each.
+    fn tell_all(&self, digest: &mut Digest);
+
+    /// What is told of it, with its nodes where they are looked at, beside what left it.
+    fn state_beside(&self, there: &Self, looks: bool) -> State;
+}
+
+impl<K: Sample, A: Argument<K> + Told> Moves for BPlusTreeMap<K, u64, A> {
+    type Key = K;
+
+    type Value = u64;
+
+    fn both(alloc: Global, many: u64) -> Result<(Self, Self), AllocError> {
+        let here = map_of(alloc, many, Order::Ascending)?;
+        Ok((here, BPlusTreeMap::new(alloc)?))
+    }
+
+    fn count(&self) -> usize {
+        self.len()
+    }
+
+    fn value_of(number: u64) -> u64 {
+        number
+    }
+
+    fn puts(&mut self, key: K, value: u64) -> bool {
+        self.insert(key, value).is_ok()
+    }
+
+    fn loses(&mut self, key: &K) -> bool {
+        self.remove(key).is_ok()
+    }
+
+    // Those that are there do not come again.
+    fn grows_to(&mut self, alloc: Global, many: u64, end: u64) -> Result<bool, AllocError> {
+        let pairs = pairs_of(alloc, many, end, Order::Ascending)?;
+        Ok(self.extend(pairs).is_ok())
+    }
+
+    fn splits_at(&mut self, key: &K) -> Result<Self, SplitError<Self, MoveError<K, u64>>> {
+        self.split_off(key)
+    }
+
+    fn takes_all(&mut self, other: &mut Self) -> Result<bool, MoveError<K, u64>> {
+        self.append(other)?;
+        Ok(other.is_empty())
+    }
+
+    fn tell_all(&self, digest: &mut Digest) {
+        for (key, value) in self.iter() {
+            key.tell(digest);
+            digest.add(*value);
+        }
+    }
+
+    fn state_beside(&self, there: &Self, looks: bool) -> State {
+        let mut state = map_state(self, looks);
+        state.is_tidy &= map_state(there, looks).is_tidy;
+        state
+    }
+}
+
+impl<K: Sample> Moves for BPlusTreeSet<K> {
+    type Key = K;
+
+    type Value = ();
+
+    fn both(alloc: Global, many: u64) -> Result<(Self, Self), AllocError> {
+        let here = set_of(alloc, many, Order::Ascending)?;
+        Ok((here, BPlusTreeSet::new(alloc)?))
+    }
+
+    fn count(&self) -> usize {
+        self.len()
+    }
+
+    fn value_of(_number: u64) {}
+
+    fn puts(&mut self, key: K, _value: ()) -> bool {
+        self.insert(key).is_ok()
+    }
+
+    fn loses(&mut self, key: &K) -> bool {
+        self.remove(key).is_ok()
+    }
+
+    // All come again.
+    fn grows_to(&mut self, alloc: Global, _many: u64, end: u64) -> Result<bool, AllocError> {
+        let keys = keys_of(alloc, end, Order::Ascending)?;
+        Ok(self.extend(keys).is_ok())
+    }
+
+    fn splits_at(&mut self, key: &K) -> Result<Self, SplitError<Self, MoveError<K, ()>>> {
+        self.split_off(key)
+    }
+
+    fn takes_all(&mut self, other: &mut Self) -> Result<bool, MoveError<K, ()>> {
+        self.append(other)?;
+        Ok(other.is_empty())
+    }
+
+    fn tell_all(&self, digest: &mut Digest) {
+        for key in self.iter() {
+            key.tell(digest);
+        }
+    }
+
+    fn state_beside(&self, _there: &Self, looks: bool) -> State {
+        state_of(self.tree(), looks)
+    }
+}
+
+/// A map or a set, what left it, and how many keys both had at first.
+#[derive(Drop)]
+pub struct Moved<C: Moves> {
+    here: C,
+    there: C,
+    many: u64,
+}
+
+/// Pairs that are moved between maps.
+pub type MovedPairs<K, A> = Moved<BPlusTreeMap<K, u64, A>>;
+
+/// Keys that are moved between sets.
+pub type MovedKeys<K> = Moved<BPlusTreeSet<K>>;
+
+// What is in hand comes back, where there is something.
+fn comes_back<C: Moves>(to: &mut C, in_hand: MoveError<C::Key, C::Value>) -> bool {
     match in_hand {
         MoveError::NotStored(back) => {
             let (key, value) = handed_back(back);
-            map.insert(key, value).is_ok()
+            to.puts(key, value)
         }
         MoveError::NotTaken => true,
+    }
+}
+
+impl<C: Moves> Moved<C> {
+    fn begun(alloc: Global, many: u64) -> Result<Self, AllocError> {
+        let (here, there) = C::both(alloc, many)?;
+        Ok(Moved { here, there, many })
+    }
+
+    // The last keys leave. Where that is refused, those that left come back.
+    fn splits(&mut self, alloc: Global) -> Result<bool, AllocError> {
+        let first = first_to_leave(self.many);
+        let key = C::Key::sample(alloc, first)?;
+        match self.here.splits_at(&key) {
+            Ok(there) => {
+                self.there = there;
+                let left = self.many.saturating_sub(first) as usize;
+                Ok(self.here.count() == first as usize && self.there.count() == left)
+            }
+            Err(SplitError::NotMade) => Err(AllocError),
+            Err(SplitError::NotAll(there, in_hand)) => {
+                self.there = there;
+                let is_back = comes_back(&mut self.here, in_hand);
+                refusal(self.here.takes_all(&mut self.there).is_ok() && is_back)
+            }
+        }
+    }
+
+    // They come back. Where that is refused, the others are still there.
+    fn joins(&mut self) -> Result<bool, AllocError> {
+        match self.here.takes_all(&mut self.there) {
+            Ok(is_empty) => Ok(is_empty && self.here.count() == self.many as usize),
+            Err(in_hand) => refusal(comes_back(&mut self.there, in_hand)),
+        }
+    }
+
+    // Three more keys come, behind all others. Where one is refused, those that came leave again.
+    fn grows(&mut self, alloc: Global) -> Result<bool, AllocError> {
+        let end = self.many.saturating_add(3);
+        if self.here.grows_to(alloc, self.many, end)? {
+            return Ok(self.here.count() == end as usize);
+        }
+        let mut is_well = true;
+        for number in self.many..end {
+            is_well &= self.loses(alloc, number);
+        }
+        refusal(is_well)
+    }
+
+    // The key of a number leaves, where it is there.
+    fn loses(&mut self, alloc: Global, number: u64) -> bool {
+        match C::Key::sample(alloc, number) {
+            Ok(key) => self.here.loses(&key),
+            Err(_) => false,
+        }
+    }
+
+    // The key of a number comes, which may be there.
+    fn puts(&mut self, alloc: Global, number: u64) -> bool {
+        match C::Key::sample(alloc, number) {
+            Ok(key) => self.here.puts(key, C::value_of(number)),
+            Err(_) => false,
+        }
+    }
+
+    // The call of one of the first three turns.
+    fn moves(&mut self, alloc: Global, turn: u64) -> Result<bool, AllocError> {
+        match turn {
+            0 => self.splits(alloc),
+            1 => self.joins(),
+            _ => self.grows(alloc),
+        }
+    }
+
+    // What both hold, since what is refused may leave some of it in other nodes.
+    fn both_states(&self, looks: bool) -> State {
+        let mut digest = Digest::new();
+        self.here.tell_all(&mut digest);
+        self.there.tell_all(&mut digest);
+        let len = self.here.count().saturating_add(self.there.count());
+        let mut state = self.here.state_beside(&self.there, looks);
+        state.told = (digest.value(), len);
+        state
     }
 }
 
@@ -79,59 +309,10 @@ fn takes_in<K: Sample, A: Argument<K>>(
     is_well
 }
 
-impl<K: Sample, A: Argument<K> + Told> Moved<K, A> {
-    // The last pairs leave. Where that is refused, those that left come back.
-    fn splits(&mut self, alloc: Global) -> Result<bool, AllocError> {
-        let first = first_to_leave(self.many);
-        let key = K::sample(alloc, first)?;
-        match self.here.split_off(&key) {
-            Ok(there) => {
-                self.there = there;
-                let left = self.many.saturating_sub(first) as usize;
-                Ok(self.here.len() == first as usize && self.there.len() == left)
-            }
-            Err(SplitError::NotMade) => Err(AllocError),
-            Err(SplitError::NotAll(there, in_hand)) => {
-                self.there = there;
-                let is_back = comes_back(&mut self.here, in_hand);
-                refusal(self.here.append(&mut self.there).is_ok() && is_back)
-            }
-        }
-    }
-
-    // They come back. Where that is refused, the others are still there.
-    fn joins(&mut self) -> Result<bool, AllocError> {
-        match self.here.append(&mut self.there) {
-            Ok(()) => Ok(self.there.is_empty() && self.here.len() == self.many as usize),
-            Err(in_hand) => refusal(comes_back(&mut self.there, in_hand)),
-        }
-    }
-
-    // Three more pairs come, behind all others. Where one is refused, those that came leave again.
-    fn grows(&mut self, alloc: Global) -> Result<bool, AllocError> {
-        let end = self.many.saturating_add(3);
-        let pairs = pairs_of(alloc, self.many, end, Order::Ascending)?;
-        if self.here.extend(pairs).is_ok() {
-            return Ok(self.here.len() == end as usize);
-        }
-        let mut is_well = true;
-        for number in self.many..end {
-            is_well &= self.loses(alloc, number);
-        }
-        refusal(is_well)
-    }
-
-    // The pair of a number leaves, where it is there.
-    fn loses(&mut self, alloc: Global, number: u64) -> bool {
-        match K::sample(alloc, number) {
-            Ok(key) => self.here.remove(&key).is_ok(),
-            Err(_) => false,
-        }
-    }
-
+impl<K: Sample, A: Argument<K> + Told> Moved<BPlusTreeMap<K, u64, A>> {
     // Closures change all values and change them back, without a request. Then one keeps all pairs.
     // Where that is refused, the pair in hand comes back, and those that were not asked.
-    fn keeps(&mut self) -> Result<bool, AllocError> {
+    fn keeps_pairs(&mut self) -> Result<bool, AllocError> {
         let len = self.here.len();
         add_to_each(&mut self.here, 1);
         add_to_each(&mut self.here, u64::MAX);
@@ -186,14 +367,6 @@ impl<K: Sample, A: Argument<K> + Told> Moved<K, A> {
         is_well
     }
 
-    // Puts the pair of a number, which may be there.
-    fn puts(&mut self, alloc: Global, number: u64) -> bool {
-        match K::sample(alloc, number) {
-            Ok(key) => self.here.insert(key, number).is_ok(),
-            Err(_) => false,
-        }
-    }
-
     // A value is changed where the key of a number is, or else put there. It is to be answered
     // whether it was put.
     fn updates(&mut self, alloc: Global, is_new: bool) -> Result<bool, AllocError> {
@@ -222,65 +395,24 @@ impl<K: Sample, A: Argument<K> + Told> Moved<K, A> {
     }
 }
 
-impl<K: Sample, A: Argument<K> + Told> Subject for Moved<K, A> {
-    fn made(alloc: Global, plan: &Plan) -> Result<Moved<K, A>, AllocError> {
-        Ok(Moved {
-            here: map_of(alloc, plan.many, Order::Ascending)?,
-            there: BPlusTreeMap::new(alloc)?,
-            many: plan.many,
-        })
+impl<K: Sample, A: Argument<K> + Told> Subject for Moved<BPlusTreeMap<K, u64, A>> {
+    fn made(alloc: Global, plan: &Plan) -> Result<Self, AllocError> {
+        Moved::begun(alloc, plan.many)
     }
 
     fn answers(&mut self, alloc: Global, call: Call) -> Result<bool, AllocError> {
         match call {
-            Call::Own(0) => self.splits(alloc),
-            Call::Own(1) => self.joins(),
-            Call::Own(2) => self.grows(alloc),
+            Call::Own(turn) if turn < 3 => self.moves(alloc, turn),
             Call::Own(turn) if turn < 5 => self.updates(alloc, turn == 3),
             Call::Own(turn) if turn < 7 => self.lends(alloc, turn == 5),
-            Call::Own(7) => self.keeps(),
+            Call::Own(7) => self.keeps_pairs(),
             Call::Own(_) => self.empties(alloc),
             _ => Ok(false),
         }
     }
 
-    // The pairs of both, since what is refused may leave some of them in other nodes.
     fn state(&self, looks: bool) -> State {
-        let mut digest = Digest::new();
-        tell_pairs(&self.here, &mut digest);
-        tell_pairs(&self.there, &mut digest);
-        let len = self.here.len().saturating_add(self.there.len());
-        let mut state = map_state(&self.here, looks);
-        state.told = (digest.value(), len);
-        state.is_tidy &= map_state(&self.there, looks).is_tidy;
-        state
-    }
-}
-
-// Tells the pairs of a map.
-fn tell_pairs<K: Sample, A: Argument<K>>(map: &BPlusTreeMap<K, u64, A>, digest: &mut Digest) {
-    for (key, value) in map.iter() {
-        key.tell(digest);
-        digest.add(*value);
-    }
-}
-
-/// A set, what left it, and how many keys both had at first.
-#[derive(Drop)]
-pub struct MovedKeys<K: Sample> {
-    here: BPlusTreeSet<K>,
-    there: BPlusTreeSet<K>,
-    many: u64,
-}
-
-// Puts a key into a set again, where there is one.
-fn key_comes_back<K: Sample>(set: &mut BPlusTreeSet<K>, in_hand: MoveError<K, ()>) -> bool {
-    match in_hand {
-        MoveError::NotStored(back) => {
-            let (key, ()) = handed_back(back);
-            set.insert(key).is_ok()
-        }
-        MoveError::NotTaken => true,
+        self.both_states(looks)
     }
 }
 
@@ -293,67 +425,10 @@ fn takes_keys_in<K: Sample>(set: &mut BPlusTreeSet<K>, keys: set::IntoIter<K>) -
     is_well
 }
 
-impl<K: Sample> MovedKeys<K> {
-    // The last keys leave. Where that is refused, those that left come back.
-    fn splits(&mut self, alloc: Global) -> Result<bool, AllocError> {
-        let first = first_to_leave(self.many);
-        let key = K::sample(alloc, first)?;
-        match self.here.split_off(&key) {
-            Ok(there) => {
-                self.there = there;
-                let left = self.many.saturating_sub(first) as usize;
-                Ok(self.here.len() == first as usize && self.there.len() == left)
-            }
-            Err(SplitError::NotMade) => Err(AllocError),
-            Err(SplitError::NotAll(there, in_hand)) => {
-                self.there = there;
-                let is_back = key_comes_back(&mut self.here, in_hand);
-                refusal(self.here.append(&mut self.there).is_ok() && is_back)
-            }
-        }
-    }
-
-    // They come back. Where that is refused, the others are still there.
-    fn joins(&mut self) -> Result<bool, AllocError> {
-        match self.here.append(&mut self.there) {
-            Ok(()) => Ok(self.there.is_empty() && self.here.len() == self.many as usize),
-            Err(in_hand) => refusal(key_comes_back(&mut self.there, in_hand)),
-        }
-    }
-
-    // All keys come again, and so do three more. Where one is refused, those leave again that came.
-    fn grows(&mut self, alloc: Global) -> Result<bool, AllocError> {
-        let many = self.many.saturating_add(3);
-        let keys = keys_of(alloc, many, Order::Ascending)?;
-        if self.here.extend(keys).is_ok() {
-            return Ok(self.here.len() == many as usize);
-        }
-        let mut is_well = true;
-        for number in self.many..many {
-            is_well &= self.loses(alloc, number);
-        }
-        refusal(is_well)
-    }
-
-    // The key of a number leaves, where it is there.
-    fn loses(&mut self, alloc: Global, number: u64) -> bool {
-        match K::sample(alloc, number) {
-            Ok(key) => self.here.remove(&key).is_ok(),
-            Err(_) => false,
-        }
-    }
-
-    // The key of a number comes.
-    fn puts(&mut self, alloc: Global, number: u64) -> bool {
-        match K::sample(alloc, number) {
-            Ok(key) => self.here.insert(key).is_ok(),
-            Err(_) => false,
-        }
-    }
-
+impl<K: Sample> Moved<BPlusTreeSet<K>> {
     // A closure keeps all keys. Where that is refused, the key in hand comes back, and those that
     // were not asked.
-    fn keeps(&mut self) -> Result<bool, AllocError> {
+    fn keeps_keys(&mut self) -> Result<bool, AllocError> {
         let len = self.here.len();
         match self.here.retain(|_key: &K| true) {
             Ok(()) => Ok(self.here.len() == len),
@@ -413,43 +488,23 @@ impl<K: Sample> MovedKeys<K> {
     }
 }
 
-impl<K: Sample> Subject for MovedKeys<K> {
-    fn made(alloc: Global, plan: &Plan) -> Result<MovedKeys<K>, AllocError> {
-        Ok(MovedKeys {
-            here: set_of(alloc, plan.many, Order::Ascending)?,
-            there: BPlusTreeSet::new(alloc)?,
-            many: plan.many,
-        })
+impl<K: Sample> Subject for Moved<BPlusTreeSet<K>> {
+    fn made(alloc: Global, plan: &Plan) -> Result<Self, AllocError> {
+        Moved::begun(alloc, plan.many)
     }
 
     fn answers(&mut self, alloc: Global, call: Call) -> Result<bool, AllocError> {
         match call {
-            Call::Own(0) => self.splits(alloc),
-            Call::Own(1) => self.joins(),
-            Call::Own(2) => self.grows(alloc),
             Call::Own(3) => self.takes(alloc, 7),
             Call::Own(4) => self.replaces(alloc, 5),
-            Call::Own(5) => self.keeps(),
+            Call::Own(5) => self.keeps_keys(),
+            Call::Own(turn) if turn < 3 => self.moves(alloc, turn),
             Call::Own(_) => self.removes(alloc),
             _ => Ok(false),
         }
     }
 
-    // The keys of both, since what is refused may leave some of them in other nodes.
     fn state(&self, looks: bool) -> State {
-        let mut digest = Digest::new();
-        tell_keys(&self.here, &mut digest);
-        tell_keys(&self.there, &mut digest);
-        let len = self.here.len().saturating_add(self.there.len());
-        let mut state = state_of(self.here.tree(), looks);
-        state.told = (digest.value(), len);
-        state
-    }
-}
-
-// Tells the keys of a set.
-fn tell_keys<K: Sample>(set: &BPlusTreeSet<K>, digest: &mut Digest) {
-    for key in set.iter() {
-        key.tell(digest);
+        self.both_states(looks)
     }
 }

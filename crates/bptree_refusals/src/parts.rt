@@ -134,26 +134,18 @@ impl<K: Sample, A: Argument<K>> Subject for Reserved<K, A> {
 
 // Whether a leaf's number is held with no node, and released.
 fn holds_leaf<S: NodeStore>(store: &mut S) -> Result<bool, AllocError> {
-    match store.reserve_leaf() {
-        Ok(id) => {
-            let is_held = store.try_get_leaf(id).is_none();
-            store.release_leaf(id);
-            Ok(is_held)
-        }
-        Err(_) => Err(AllocError),
-    }
+    let id = store.reserve_leaf()?;
+    let is_held = store.try_get_leaf(id).is_none();
+    store.release_leaf(id);
+    Ok(is_held)
 }
 
 // The same of an inner node's number.
 fn holds_inner<S: NodeStore>(store: &mut S) -> Result<bool, AllocError> {
-    match store.reserve_inner() {
-        Ok(id) => {
-            let is_held = store.try_get_inner(id).is_none();
-            store.release_inner(id);
-            Ok(is_held)
-        }
-        Err(_) => Err(AllocError),
-    }
+    let id = store.reserve_inner()?;
+    let is_held = store.try_get_inner(id).is_none();
+    store.release_inner(id);
+    Ok(is_held)
 }
 
 // Whether an empty node has a number then. A refusal hands it back.

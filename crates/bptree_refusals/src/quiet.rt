@@ -1,4 +1,5 @@
 //! Calls that take no memory.
+ghost use Rattle.std.specs.Iterator.{IsFiniteIterable};
 
 use crate::collections::set_of;
 use crate::digest::{Told, digest_of};
@@ -207,10 +208,14 @@ pub struct SetReadings<K: Sample> {
     gone: K,
 }
 
-// How many keys a set hands over.
-fn given_out<K: Sample>(set: BPlusTreeSet<K>) -> usize {
+// How many keys come.
+fn count_of<I: IntoIterator>(keys: I) -> usize
+where
+    I::Item: Drop,
+    requires { IsFiniteIterable I.into_iter_gives I.IntoIter.can_next I.IntoIter.remaining keys }
+{
     let mut count: usize = 0;
-    for _key in set {
+    for _key in keys {
         count = count.saturating_add(1);
     }
     count
@@ -224,26 +229,12 @@ fn are_alike<K: Sample>(one: &BPlusTreeSet<K>, other: &BPlusTreeSet<K>) -> bool 
 
 // How many keys are in one of them, and in both.
 fn together<K: Sample>(one: &BPlusTreeSet<K>, other: &BPlusTreeSet<K>) -> usize {
-    let mut count: usize = 0;
-    for _key in one.union(other) {
-        count = count.saturating_add(1);
-    }
-    for _key in one.intersection(other) {
-        count = count.saturating_add(1);
-    }
-    count
+    count_of(one.union(other)).saturating_add(count_of(one.intersection(other)))
 }
 
 // How many keys one of them has alone.
 fn apart<K: Sample>(one: &BPlusTreeSet<K>, other: &BPlusTreeSet<K>) -> usize {
-    let mut count: usize = 0;
-    for _key in one.difference(other) {
-        count = count.saturating_add(1);
-    }
-    for _key in one.symmetric_difference(other) {
-        count = count.saturating_add(1);
-    }
-    count
+    count_of(one.difference(other)).saturating_add(count_of(one.symmetric_difference(other)))
 }
 
 // Whether a key is there, and greater than all others, and a greater one is not.
@@ -266,7 +257,7 @@ fn is_counted<K: Sample>(set: &BPlusTreeSet<K>, other: BPlusTreeSet<K>) -> bool 
     let is_equal = are_alike(set, &other)
         && apart(set, &other) == 0
         && together(set, &other) == set.len().saturating_mul(2);
-    given_out(other) == set.len() && is_equal
+    count_of(other) == set.len() && is_equal
 }
 
 impl<K: Sample> Subject for SetReadings<K> {

@@ -3,17 +3,31 @@
 use crate::digest::{NUMBERS, Told, digest_of, holds_none};
 use sweep_bptree::tree::{BPlusTree, CloneStore, InnerNodeId, LeafNodeId, NodeStore};
 
-/// The height of a tree, the number of its nodes, and how often it was rebalanced by rotations and
-/// by merges.
+/// How many leaves a tree has, or inner nodes, and how often they were rotated and merged.
+#[derive(Clone, Copy)]
+pub struct Level {
+    nodes: usize,
+    rotated: u64,
+    merged: u64,
+}
+
+impl Level {
+    // So many nodes, with the rotations and the merges of either side.
+    fn of(nodes: usize, rotated: (u64, u64), merged: (u64, u64)) -> Level {
+        Level {
+            nodes,
+            rotated: rotated.0.saturating_add(rotated.1),
+            merged: merged.0.saturating_add(merged.1),
+        }
+    }
+}
+
+/// The height of a tree, and what is told of its leaves and of its inner nodes.
 #[derive(Clone, Copy)]
 pub struct Shape {
     height: usize,
-    leaves: usize,
-    inners: usize,
-    rotated_leaves: u64,
-    rotated_inners: u64,
-    merged_leaves: u64,
-    merged_inners: u64,
+    leaves: Level,
+    inners: Level,
 }
 
 // The shape of a tree.
@@ -29,23 +43,19 @@ fn shape_of<S: NodeStore>(tree: &BPlusTree<S>) -> Shape {
         leaves = leaves.saturating_add(is_leaf as usize);
         inners = inners.saturating_add(is_inner as usize);
     }
-    let rebalanced = tree.statistic();
+    let by = tree.statistic();
     Shape {
         height: tree.height(),
-        leaves,
-        inners,
-        rotated_leaves: rebalanced
-            .rotate_right_leaf
-            .saturating_add(rebalanced.rotate_left_leaf),
-        rotated_inners: rebalanced
-            .rotate_right_inner
-            .saturating_add(rebalanced.rotate_left_inner),
-        merged_leaves: rebalanced
-            .merge_with_left_leaf
-            .saturating_add(rebalanced.merge_with_right_leaf),
-        merged_inners: rebalanced
-            .merge_with_left_inner
-            .saturating_add(rebalanced.merge_with_right_inner),
+        leaves: Level::of(
+            leaves,
+            (by.rotate_right_leaf, by.rotate_left_leaf),
+            (by.merge_with_left_leaf, by.merge_with_right_leaf),
+        ),
+        inners: Level::of(
+            inners,
+            (by.rotate_right_inner, by.rotate_left_inner),
+            (by.merge_with_left_inner, by.merge_with_right_inner),
+        ),
     }
 }
 
@@ -98,6 +108,19 @@ where
     state
 }
 
+// The word for what a call does to nodes: a merge, a rotation, a split, or nothing.
+fn word_of(before: Level, after: Level, is_split: bool, words: [&'static str; 3]) -> &'static str {
+    if after.merged > before.merged {
+        words[0]
+    } else if after.rotated > before.rotated {
+        words[1]
+    } else if is_split {
+        words[2]
+    } else {
+        ""
+    }
+}
+
 /// A call that was refused, and then was made again: how the nodes stood before and behind it.
 #[derive(Clone, Copy)]
 pub struct Seen {
@@ -119,35 +142,24 @@ impl Seen {
 
     /// What it does to the leaves.
     pub fn of_leaves(&self) -> &'static str {
-        let Seen { before, after } = self;
-        if after.merged_leaves > before.merged_leaves {
-            ", leaf merge"
-        } else if after.rotated_leaves > before.rotated_leaves {
-            ", leaf rotation"
-        } else if after.leaves > before.leaves {
-            ", leaf split"
-        } else {
-            ""
-        }
+        let (before, after) = (self.before.leaves, self.after.leaves);
+        let is_split = after.nodes > before.nodes;
+        let words = [", leaf merge", ", leaf rotation", ", leaf split"];
+        word_of(before, after, is_split, words)
     }
 
     /// What it does to the inner nodes.
     pub fn of_inners(&self) -> &'static str {
-        let Seen { before, after } = self;
-        if after.merged_inners > before.merged_inners {
-            ", inner merge"
-        } else if after.rotated_inners > before.rotated_inners {
-            ", inner rotation"
-        } else if after.inners > before.inners.saturating_add(1) || self.is_split_alone() {
-            ", inner split"
-        } else {
-            ""
-        }
+        let (before, after) = (self.before.inners, self.after.inners);
+        let is_split = after.nodes > before.nodes.saturating_add(1) || self.is_split_alone();
+        let words = [", inner merge", ", inner rotation", ", inner split"];
+        word_of(before, after, is_split, words)
     }
 
     // Whether a node was split below a root that stays.
     fn is_split_alone(&self) -> bool {
-        self.after.inners > self.before.inners && self.after.height == self.before.height
+        self.after.inners.nodes > self.before.inners.nodes
+            && self.after.height == self.before.height
     }
 
     /// Whether the root is taken away, or a new one is put above it.
