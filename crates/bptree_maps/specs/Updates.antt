@@ -1,5 +1,5 @@
 -- What a closure leaves of the values of a map, and the value that one makes.
-use Rattle.std.specs.Prelude.{◌≡◌, List, Some}
+use Rattle.std.specs.Prelude.{◌≡◌, ℕ, List, Some, Result, Err, length}
 use Rattle.std.specs.Borrow.{MutBor}
 use Rattle.std.specs.declared.cmp.Ordering.{Ordering}
 use Rattle.std.specs.Fn.{FnOnceReturnsAtMut, Once}
@@ -7,6 +7,7 @@ use Rattle.std.specs.Option.{UnwrapsOrElse}
 use Rattle.bptree_keys.specs.Contents.{put, value}
 use Rattle.bptree_tree.specs.Refusal.{pair_of}
 use Rattle.bptree_tree.specs.declared.InsertError.{InsertError}
+use Rattle.bptree_tree.specs.declared.InsertError.TheVariants.{Full}
 
 -- the value at k is what a call of f leaves of the one that was there; nothing else changes
 pub record IsUpdatedAt {F K V : Type 0} (calls : Once F (MutBor V × Unit {0}) (Unit {0} × (MutBor V × Unit {0}))) (f : F) (cmp : K → K → Ordering) (old : List (K × V)) (k : K) (new : List (K × V)) : Type 0 where
@@ -30,3 +31,7 @@ module _ {K V : Type 0} (makes : V → Type 0) where
   -- k was not stored, and a value that is made
   abbrev pub IsRefusedAt : K → InsertError K V → Type 0
   IsRefusedAt k refusal = ((pair_of refusal).0 ≡ k) × makes (pair_of refusal).1
+
+-- where a pair with k is refused for their number, as many stand as can
+abbrev pub IsFullIfTold : {K V R X : Type 0} → ℕ → K → List X → Result R (InsertError K V) → Type 0
+IsFullIfTold {V = V} most k l result = (v : V) → result ≡ Err (Full k v) → length l ≡ most

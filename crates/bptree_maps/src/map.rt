@@ -1,5 +1,5 @@
 //! An ordered map.
-ghost use Rattle.std.specs.Prelude.{◌≡◌, ◌≤◌, List, [], None, Some, Ok, length, slice_get, false, IfOk, IfErr, OnErr, IsOk, IsTrue, ◌↔◌, is_ok};
+ghost use Rattle.std.specs.Prelude.{◌≡◌, ◌≤◌, List, [], None, Some, Ok, length, slice_get, false, IfOk, IfErr, OnErr, IsOk, IsOkUnless, IsTrue, ◌↔◌, is_ok};
 ghost use Rattle.std.specs.Borrow.{Lends, LendsIf, LendsSoOk, sem};
 ghost use Rattle.std.specs.Map.{keys_of, values_of};
 ghost use Rattle.std.specs.Iterator.{IsFiniteIterable as AreFinite};
@@ -14,15 +14,14 @@ ghost use Rattle.bptree_ascent.specs.Lending.{written};
 ghost use Rattle.bptree_descents.specs.ByArgument.{IsPartSelected, IsTaken};
 ghost use Rattle.bptree_keys.specs.Contents.{IsAscending, has, value, gather, next, last_member};
 ghost use Rattle.bptree_keys.specs.Ranges.{part};
-ghost use Rattle.bptree_maps.specs.contracts.map.BPlusTreeMap.{the_row};
 ghost use Rattle.bptree_maps.specs.Gathering.{AreFewFor, IsMapOf};
 ghost use Rattle.bptree_maps.specs.Places.{place};
 ghost use Rattle.bptree_maps.specs.Popping.{IsPopped};
-ghost use Rattle.bptree_maps.specs.Rows.{inner_row, count_row, count_argument, count_clone, count_default};
-ghost use Rattle.bptree_maps.specs.Writing.{WritesAt};
+ghost use Rattle.bptree_maps.specs.Rows.{map_row, inner_row, count_map_row};
+ghost use Rattle.bptree_maps.specs.Writing.{WritesLent};
 ghost use Rattle.bptree_nodes.specs.Leaf.{set_value_at};
 ghost use Rattle.bptree_ranges.specs.Summaries.{IsPartSummary};
-ghost use Rattle.bptree_tree.specs.Changes.{EitherWay, IsFull, PopsFirst, PopsLast, Puts, Removes, RemovesEntry, RemovesTold};
+ghost use Rattle.bptree_tree.specs.Changes.{EitherWay, IsRefusedWhereFull, PopsFirst, PopsLast, Puts, Removes, RemovesEntry, RemovesTold};
 ghost use Rattle.bptree_tree.specs.Cursor.{PointsAt, ShowsValueOf};
 ghost use Rattle.bptree_tree.specs.Entries.{entry, at_least, SumsUpBetween, pairs_between};
 ghost use Rattle.bptree_tree.specs.Refusal.{HandsBack};
@@ -163,7 +162,7 @@ impl<K: Key, V: Drop, A: Argument<K>> BPlusTreeMap<K, V, A> {
 
     /// The value at a key equal to `k`, for writing.
     pub fn get_mut(&mut self, k: &K) -> Option<&mut V>
-        ensures* writes_back { sem 𝓛 (LendsIf (the_row K.row V.row A.row K.Key.own K.Clone K.Ord.own K.Eq.own K.PartialEq K.PartialOrd.own A.Argument.own A.Clone A.Default) V.row self.entry result (written K.cmp k.now self.old) self.old) }
+        ensures* writes_back { sem 𝓛 (LendsIf (map_row K.row V.row A.row K.Key A.Argument) V.row self.entry result (written K.cmp k.now self.old) self.old) }
         ensures value { option_copied_mut result ≡ value K.cmp self.old k.now }
     {
         self.inner.get_mut(k)
@@ -178,7 +177,7 @@ impl<K: Key, V: Drop, A: Argument<K>> BPlusTreeMap<K, V, A> {
         ensures ok { IfOk result (Puts K.cmp k v self.old self.new) }
         ensures err { IfErr result (HandsBack (k, v) self.old self.new) }
         ensures present { IsTrue (has K.cmp self.old k) → IsOk result }
-        ensures full { (result ≡ Err (InsertError.Full k v)) ↔ IsFull K.cmp usize.MAX self.old k }
+        ensures full { IsRefusedWhereFull K.cmp usize.MAX self.old k v result }
     {
         self.inner.insert(k, v)
     }
@@ -327,10 +326,10 @@ impl<K: Key, V: Drop, A: Argument<K>> BPlusTreeMap<K, V, A> {
     ) -> Result<&mut V, SelectError>
     where
         A: SearchArgument<K>,
-        ensures* writes_back { sem 𝓛 (LendsSoOk (the_row K.row V.row A.row K.Key.own K.Clone K.Ord.own K.Eq.own K.PartialEq K.PartialOrd.own A.Argument.own A.Clone A.Default) V.row self.entry result (λ n w. IfOk result (λ r. WritesAt A.selects query self.old r.now w n)) (λ n. n ≡ self.old)) }
+        ensures* writes_back { sem 𝓛 (LendsSoOk (map_row K.row V.row A.row K.Key A.Argument) V.row self.entry result (WritesLent A.selects query self.old result) (λ n. n ≡ self.old)) }
         ensures value { IfOk result (LendsSelected A.selects query self.old) }
         ensures absent { IfErr result (SelectsNone A.selects query self.old) }
-        ensures sure { A.needs_no_memory → IfErr result (λ e. e ≡ SelectError.NotFound) }
+        ensures sure { A.needs_no_memory → IsOkUnless result SelectError.NotFound }
     {
         self.inner.get_mut_by_argument(query)
     }
@@ -506,7 +505,7 @@ impl<K: Key, V: Drop, A: Argument<K>> BPlusTreeMap<K, V, A> {
         &self,
         group: &G,
     ) -> Result<Iter<'_, K, V, A>, AllocError>
-        ensures rest { IfOk result (λ pairs. pairs ≡ of_group G.cmp G.group_of group.now self.now) }
+        ensures rest { IfOk result (λ it. it ≡ of_group G.cmp G.group_of group.now self.now) }
         ensures ascending { IfOk result (λ pairs. IsAscending K.cmp pairs) }
         ensures runs { ShowsInOrder (deref_pair {K = K} {X = V}) }
     {
@@ -540,7 +539,7 @@ impl<K: Key, V: Drop, A: Argument<K>> BPlusTreeMap<K, V, A> {
     /// The tree inside, for writing: once it is given back, the map has what the tree's contents
     /// are then.
     pub fn tree_mut(&mut self) -> &mut BPlusTree<NodeStoreVec<K, V, A>>
-        ensures* writes_back { sem 𝓛 (Lends (the_row K.row V.row A.row K.Key.own K.Clone K.Ord.own K.Eq.own K.PartialEq K.PartialOrd.own A.Argument.own A.Clone A.Default) (inner_row K.row V.row A.row K.Key.own K.Clone K.Ord.own K.Eq.own K.PartialEq K.PartialOrd.own A.Argument.own A.Clone A.Default) self.entry result (λ tree. tree.contents)) }
+        ensures* writes_back { sem 𝓛 (Lends (map_row K.row V.row A.row K.Key A.Argument) (inner_row K.row V.row A.row K.Key A.Argument) self.entry result (λ tree. tree.contents)) }
         ensures value { result.now.contents ≡ self.old }
     {
         &mut self.inner
@@ -582,7 +581,7 @@ impl<K: Key, V: Drop> BPlusTreeMap<K, V, Count> {
     /// The value at a place in the order of the keys, for writing. It is one way down, takes no
     /// memory, and fails with `NotFound` alone, past the end; then nothing has changed.
     pub fn get_mut_at(&mut self, i: usize) -> Result<&mut V, SelectError>
-        ensures* writes_back { sem 𝓛 (LendsSoOk (the_row K.row V.row count_row K.Key.own K.Clone K.Ord.own K.Eq.own K.PartialEq K.PartialOrd.own (count_argument K.row K.Key.own K.Clone K.Ord.own K.Eq.own K.PartialEq K.PartialOrd.own) count_clone count_default) V.row self.entry result (λ n w. n ≡ set_value_at self.old i w) (λ n. n ≡ self.old)) }
+        ensures* writes_back { sem 𝓛 (LendsSoOk (count_map_row K.row V.row K.Key) V.row self.entry result (λ n w. n ≡ set_value_at self.old i w) (λ n. n ≡ self.old)) }
         ensures value { IfOk result (λ lent. slice_get (values_of self.old) i ≡ Some lent.now) }
         ensures past { IfErr result (λ e. (e ≡ SelectError.NotFound) × (length self.old ≤ i)) }
     {

@@ -8,8 +8,8 @@ ghost use Rattle.std.specs.Map.Iter.{ShowsInOrder, GivesInOrder, GivesInReverse,
 ghost use Rattle.std.specs.Option.{option_copied, option_copied as given};
 ghost use Rattle.bptree_tree.specs.Refusal.{pair_of};
 ghost use Rattle.bptree_maps.specs.Keys.{holds, key_found, keys_between, keys_within, keys_without, IsDisjoint, IsSubset};
-ghost use Rattle.bptree_sets.specs.contracts.set.BPlusTreeSet.{the_row};
 ghost use Rattle.bptree_maps.specs.Rows.{inner_row_of_set};
+ghost use Rattle.bptree_sets.specs.Rows.{set_row};
 ghost use Rattle.bptree_maps.specs.Gathering.{AreFewFor, IsSetOf};
 ghost use Rattle.bptree_maps.specs.KeyChanges.{IsFullForKey, PutsKey, RemovesKey};
 ghost use Rattle.bptree_keys.specs.Contents.{last_member};
@@ -333,7 +333,7 @@ impl<K: Key> BPlusTreeSet<K> {
     /// The tree inside, for writing: once it is given back, the set has the keys of what the tree's
     /// contents are then.
     pub fn tree_mut(&mut self) -> &mut BPlusTree<NodeStoreVec<K, ()>>
-        ensures* writes_back { sem 𝓛 (Lends (the_row K.row K.Key.own K.Clone K.Ord.own K.Eq.own K.PartialEq K.PartialOrd.own) (inner_row_of_set K.row K.Key.own K.Clone K.Ord.own K.Eq.own K.PartialEq K.PartialOrd.own) self.entry result (λ tree. keys_of tree.contents)) }
+        ensures* writes_back { sem 𝓛 (Lends (set_row K.row K.Key) (inner_row_of_set K.row K.Key) self.entry result (λ tree. keys_of tree.contents)) }
         ensures value { keys_of result.now.contents ≡ self.old }
     {
         self.map.tree_mut()

@@ -1,8 +1,10 @@
 -- What a call that changes a list of pairs answers, beside the list that it leaves.
-use Rattle.std.specs.Prelude.{◌≡◌, ℕ, Bool, cond, false, List, Option, MatchOption, length, Result, MatchResult}
+use Rattle.std.specs.Prelude.{◌≡◌, ℕ, Bool, cond, false, List, Option, MatchOption, length, Result, Err, MatchResult, ◌↔◌}
 use Rattle.std.specs.declared.cmp.Ordering.{Ordering}
 use Rattle.bptree_keys.specs.Contents.{has, value, put, del}
 use Rattle.bptree_tree.specs.Entries.{entry}
+use Rattle.bptree_tree.specs.declared.InsertError.{InsertError}
+use Rattle.bptree_tree.specs.declared.InsertError.TheVariants.{Full}
 use Rattle.std.specs.Map.Iter.{TakesFirst, TakesLast}
 
 module _ {K V : Type 0} (cmp : K → K → Ordering) where
@@ -25,6 +27,10 @@ module _ {K V : Type 0} (cmp : K → K → Ordering) where
   -- as many pairs stand as can, and none at the key
   abbrev pub IsFull : ℕ → List (K × V) → K → Type 0
   IsFull most l k = (length l ≡ most) × (has cmp l k ≡ false)
+
+  -- a pair is handed back for their number exactly there
+  abbrev pub IsRefusedWhereFull : {R : Type 0} → ℕ → List (K × V) → K → V → Result R (InsertError K V) → Type 0
+  IsRefusedWhereFull most l k v result = (result ≡ Err (Full k v)) ↔ IsFull most l k
 
 module _ {X : Type 0} where
   -- the first member leaves and is told, or there is none

@@ -37,6 +37,19 @@ module _ {K V : Type 0} where
   abbrev pub pair_before : (K → K → Ordering) → List (K × V) → Cursor K → Option (K × V)
   pair_before cmp l cursor = previous cmp l (cursor_key cursor)
 
+  -- a cursor stands on the pair after the key of another, or before it; alone, or beside the value there
+  abbrev pub StandsAfter : (K → K → Ordering) → List (K × V) → Cursor K → Option (Cursor K) → Type 0
+  StandsAfter cmp l from cursor = StandsAt cmp (pair_after cmp l from) cursor
+
+  abbrev pub StandsBefore : (K → K → Ordering) → List (K × V) → Cursor K → Option (Cursor K) → Type 0
+  StandsBefore cmp l from cursor = StandsAt cmp (pair_before cmp l from) cursor
+
+  abbrev pub PointsAfter : (K → K → Ordering) → List (K × V) → Cursor K → Option (Cursor K × Bor V) → Type 0
+  PointsAfter cmp l from answer = PointsAt cmp (pair_after cmp l from) answer
+
+  abbrev pub PointsBefore : (K → K → Ordering) → List (K × V) → Cursor K → Option (Cursor K × Bor V) → Type 0
+  PointsBefore cmp l from answer = PointsAt cmp (pair_before cmp l from) answer
+
   -- the pair that is lent beside its place
   abbrev pub found_pair : {P : Type 0} → Option (P × (Bor K × Bor V)) → Option (K × V)
   found_pair found = option_map (λ at. deref_pair at.1) found

@@ -3,7 +3,7 @@ ghost use Rattle.std.specs.Prelude.{◌≡◌, [], slice_get, IfOk, IsOk, Ok, No
 ghost use Rattle.std.specs.declared.cmp.Ordering.TheVariants.{Equal};
 ghost use Rattle.std.specs.Option.{option_copied};
 ghost use Rattle.bptree_keys.specs.Contents.{has, next, value, last_member};
-ghost use Rattle.bptree_tree.specs.Cursor.{cursor_key, StandsAt, PointsAt, ShowsValueOf, pair_after, pair_before};
+ghost use Rattle.bptree_tree.specs.Cursor.{cursor_key, StandsAfter, StandsBefore, PointsAt, PointsAfter, PointsBefore, ShowsValueOf, pair_after, pair_before};
 
 use crate::tree::BPlusTree;
 use bptree_keys::key::Key;
@@ -74,7 +74,7 @@ impl<K: Key> Cursor<K> {
     /// A cursor on the least greater key, where there is one. It takes what a clone of that key
     /// takes, and where there is none it takes nothing.
     pub fn next<S: NodeStore<K = K>>(&self, tree: &BPlusTree<S>) -> Result<Option<Self>, AllocError>
-        ensures cursor { IfOk result (StandsAt K.cmp (pair_after K.cmp tree.now.contents self.now)) }
+        ensures cursor { IfOk result (StandsAfter K.cmp tree.now.contents self.now) }
         ensures end { pair_after K.cmp tree.now.contents self.now ≡ None → result ≡ Ok None }
         ensures sure { ((key : K) → K.is_infallible key) → IsOk result }
     {
@@ -87,7 +87,7 @@ impl<K: Key> Cursor<K> {
     /// A cursor on the greatest smaller key, where there is one. It takes what a clone of that key
     /// takes, and where there is none it takes nothing.
     pub fn prev<S: NodeStore<K = K>>(&self, tree: &BPlusTree<S>) -> Result<Option<Self>, AllocError>
-        ensures cursor { IfOk result (StandsAt K.cmp (pair_before K.cmp tree.now.contents self.now)) }
+        ensures cursor { IfOk result (StandsBefore K.cmp tree.now.contents self.now) }
         ensures end { pair_before K.cmp tree.now.contents self.now ≡ None → result ≡ Ok None }
         ensures sure { ((key : K) → K.is_infallible key) → IsOk result }
     {
@@ -102,7 +102,7 @@ impl<K: Key> Cursor<K> {
         &self,
         tree: &'t BPlusTree<S>,
     ) -> Result<Option<(Self, &'t S::V)>, AllocError>
-        ensures cursor { IfOk result (PointsAt K.cmp (pair_after K.cmp tree.now.contents self.now)) }
+        ensures cursor { IfOk result (PointsAfter K.cmp tree.now.contents self.now) }
         ensures value { IfOk result (ShowsValueOf (pair_after K.cmp tree.now.contents self.now)) }
         ensures end { pair_after K.cmp tree.now.contents self.now ≡ None → result ≡ Ok None }
         ensures sure { ((key : K) → K.is_infallible key) → IsOk result }
@@ -115,7 +115,7 @@ impl<K: Key> Cursor<K> {
         &self,
         tree: &'t BPlusTree<S>,
     ) -> Result<Option<(Self, &'t S::V)>, AllocError>
-        ensures cursor { IfOk result (PointsAt K.cmp (pair_before K.cmp tree.now.contents self.now)) }
+        ensures cursor { IfOk result (PointsBefore K.cmp tree.now.contents self.now) }
         ensures value { IfOk result (ShowsValueOf (pair_before K.cmp tree.now.contents self.now)) }
         ensures end { pair_before K.cmp tree.now.contents self.now ≡ None → result ≡ Ok None }
         ensures sure { ((key : K) → K.is_infallible key) → IsOk result }

@@ -8,7 +8,7 @@ ghost use Rattle.bptree_nodes.specs.Slot.{IsEmpty};
 ghost use Rattle.bptree_tree.specs.Refusal.{HandsBack};
 ghost use Rattle.bptree_shape.specs.Shape.{pairs_at, IsWellShaped};
 ghost use Rattle.bptree_tree.specs.Whole.{IsWhole, IsUntouched, HasSameNodes, HasShape, pairs_of_nodes};
-ghost use Rattle.bptree_tree.specs.Changes.{IsFull, Puts, Removes};
+ghost use Rattle.bptree_tree.specs.Changes.{IsRefusedWhereFull, Puts, Removes};
 
 mod bounds;
 mod cloning;
@@ -166,7 +166,7 @@ impl<S: NodeStore> BPlusTree<S> {
         ensures unchanged { IfErr result (λ _. IsUntouched S.slots self.new self.old) }
         ensures present { IsTrue (has S.K.cmp self.old.contents k) → IsOk result }
         ensures whole { IsWhole S.K.cmp S.Argument.is_summary S.slots self.new }
-        ensures full { (result ≡ Err (InsertError.Full k v)) ↔ IsFull S.K.cmp usize.MAX self.old.contents k }
+        ensures full { IsRefusedWhereFull S.K.cmp usize.MAX self.old.contents k v result }
     {
         if is_full(self.len) && self.get(&k).is_none() {
             return Err(InsertError::Full(k, v));
@@ -257,15 +257,14 @@ impl<S: NodeStore> BPlusTree<S> {
 }
 
 impl<S: NodeStore> BPlusTree<S> {
-    ghost use Rattle.std.specs.Borrow.{LendsIf, sem};
+    ghost use Rattle.std.specs.Borrow.{sem};
     ghost use Rattle.std.specs.Option.{option_copied_mut};
     ghost use Rattle.bptree_keys.specs.Contents.{value};
-    ghost use Rattle.bptree_ascent.specs.Lending.{tree_written};
-    ghost use Rattle.bptree_tree.specs.contracts.tree.BPlusTree.{the_row};
+    ghost use Rattle.bptree_tree.specs.Rows.{lends_written};
 
     /// The value at a key equal to `k`, for writing.
     pub fn get_mut(&mut self, k: &S::K) -> Option<&mut S::V>
-        ensures* writes_back { sem 𝓛 (LendsIf (the_row S.row S.K.row S.V.row S.Argument.row S.NodeStore S.K.Clone S.K.Ord.own S.K.PartialEq S.K.PartialOrd.own S.Argument.Argument.own S.Argument.Clone S.Argument.Default) S.V.row self.entry result (tree_written S.K.cmp S.slots S.with_leaf self.old k.now) self.old) }
+        ensures* writes_back { sem 𝓛 (lends_written S.row S.K.row S.V.row S.Argument.row S.NodeStore S.K.Key S.Argument.Argument self.entry k.now result) }
         ensures value { option_copied_mut result ≡ value S.K.cmp self.old.contents k.now }
     {
         let leaf = reading::leaf_for(&self.store, self.root, self.height, k);

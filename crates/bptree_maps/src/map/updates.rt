@@ -1,15 +1,15 @@
 //! Values of a map that a closure changes in place, or makes.
-ghost use Rattle.std.specs.Prelude.{◌≡◌, ◌↔◌, false, true, length, Err, IfErr, IfOk, IsOk, Ok, OnErr, OnOk, Some};
+ghost use Rattle.std.specs.Prelude.{◌≡◌, false, true, IfErr, IfOk, IsOk, Ok, OnErr, OnOk, Some};
 ghost use Rattle.std.specs.Borrow.{Lends, LendsIfOk, sem};
 ghost use Rattle.std.specs.declared.cmp.Ordering.TheVariants.{Equal};
 ghost use Rattle.bptree_ascent.specs.Lending.{written};
 ghost use Rattle.bptree_keys.specs.Contents.{has, put, value};
-ghost use Rattle.bptree_maps.specs.contracts.map.BPlusTreeMap.{the_row};
-ghost use Rattle.bptree_maps.specs.Updates.{IsPutIfAbsent, IsRefusedAt, IsThereOrMade, IsUpdatedAt};
+ghost use Rattle.bptree_maps.specs.Rows.{map_row};
+ghost use Rattle.bptree_maps.specs.Updates.{IsFullIfTold, IsPutIfAbsent, IsRefusedAt, IsThereOrMade, IsUpdatedAt};
 ghost use Rattle.bptree_nodes.specs.Updating.{ChangesInTurn};
 ghost use Rattle.bptree_tree.specs.Refusal.{HandsBack};
 ghost use Rattle.bptree_tree.specs.Updating.{UpdatesBetween};
-ghost use Rattle.bptree_tree.specs.Changes.{IsFull};
+ghost use Rattle.bptree_tree.specs.Changes.{IsRefusedWhereFull};
 
 use super::BPlusTreeMap;
 use bptree_arguments::argument::Argument;
@@ -35,7 +35,7 @@ impl<K: Key, V: Drop, A: Argument<K>> BPlusTreeMap<K, V, A> {
         ensures changed { has K.cmp self.old k ≡ true → IsUpdatedAt F.FnOnce f K.cmp self.old k self.new }
         ensures absent { has K.cmp self.old k ≡ false → IfOk result (λ added. (added ≡ true) × (self.new ≡ put K.cmp self.old k v)) }
         ensures err { IfErr result (HandsBack (k, v) self.old self.new) }
-        ensures full { (result ≡ Err (InsertError.Full k v)) ↔ IsFull K.cmp usize.MAX self.old k }
+        ensures full { IsRefusedWhereFull K.cmp usize.MAX self.old k v result }
     {
         match self.get_mut(&k) {
             Some(value) => {
@@ -64,11 +64,11 @@ impl<K: Key, V: Drop, A: Argument<K>> BPlusTreeMap<K, V, A> {
         f: F,
     ) -> Result<&mut V, InsertError<K, V>>
         requires { has K.cmp self.old k ≡ false → F.pre f }
-        ensures* writes_back { sem 𝓛 (LendsIfOk (the_row K.row V.row A.row K.Key.own K.Clone K.Ord.own K.Eq.own K.PartialEq K.PartialOrd.own A.Argument.own A.Clone A.Default) V.row self.entry result (put K.cmp self.old k) self.old) }
+        ensures* writes_back { sem 𝓛 (LendsIfOk (map_row K.row V.row A.row K.Key A.Argument) V.row self.entry result (put K.cmp self.old k) self.old) }
         ensures value { IfOk result (λ lent. IsThereOrMade (F.post f) K.cmp self.old k lent.now) }
         ensures present { has K.cmp self.old k ≡ true → IsOk result }
         ensures err { IfErr result (IsRefusedAt (F.post f) k) }
-        ensures full { (v : V) → result ≡ Err (InsertError.Full k v) → length self.old ≡ usize.MAX }
+        ensures full { IsFullIfTold usize.MAX k self.old result }
     {
         let key = self.put_absent(k, f)?;
         Ok(self.value_at_mut(&key))
@@ -83,7 +83,7 @@ impl<K: Key, V: Drop, A: Argument<K>> BPlusTreeMap<K, V, A> {
         ensures present { has K.cmp self.old k ≡ true → IsOk result }
         ensures err { IfErr result (IsRefusedAt (F.post f) k) }
         ensures unchanged { OnErr result (self.new ≡ self.old) }
-        ensures full { (v : V) → result ≡ Err (InsertError.Full k v) → length self.old ≡ usize.MAX }
+        ensures full { IsFullIfTold usize.MAX k self.old result }
     {
         if self.contains_key(&k) {
             return Ok(k);
@@ -98,7 +98,7 @@ impl<K: Key, V: Drop, A: Argument<K>> BPlusTreeMap<K, V, A> {
     // The value at a key that is there, for writing.
     fn value_at_mut(&mut self, k: &K) -> &mut V
         requires { has K.cmp self.old k.now ≡ true }
-        ensures* writes_back { sem 𝓛 (Lends (the_row K.row V.row A.row K.Key.own K.Clone K.Ord.own K.Eq.own K.PartialEq K.PartialOrd.own A.Argument.own A.Clone A.Default) V.row self.entry result (written K.cmp k.now self.old)) }
+        ensures* writes_back { sem 𝓛 (Lends (map_row K.row V.row A.row K.Key A.Argument) V.row self.entry result (written K.cmp k.now self.old)) }
         ensures value { value K.cmp self.old k.now ≡ Some result.now }
     {
         self.get_mut(k).unwrap()

@@ -133,11 +133,9 @@ impl<S: NodeStore> BPlusTree<S> {
 }
 
 impl<S: NodeStore> BPlusTree<S> {
-    ghost use Rattle.std.specs.Prelude.{ℕ, None, Some, IfErr, slice_get};
-    ghost use Rattle.std.specs.Map.{values_of};
-    ghost use Rattle.std.specs.Borrow.{sem, LendsSoOk};
-    ghost use Rattle.bptree_tree.specs.Writing.{WritesSelected};
-    ghost use Rattle.bptree_tree.specs.contracts.tree.BPlusTree.{the_row};
+    ghost use Rattle.std.specs.Prelude.{IsOkUnless};
+    ghost use Rattle.std.specs.Borrow.{sem};
+    ghost use Rattle.bptree_tree.specs.Rows.{lends_selected};
 
     /// The value at a place that is allowed for the query, for writing. It takes no memory but what
     /// the argument takes.
@@ -151,10 +149,10 @@ impl<S: NodeStore> BPlusTree<S> {
     ) -> Result<&mut S::V, SelectError>
     where
         S::Argument: SearchArgument<S::K>,
-        ensures* writes_back { sem 𝓛 (LendsSoOk (the_row S.row S.K.row S.V.row S.Argument.row S.NodeStore S.K.Clone S.K.Ord.own S.K.PartialEq S.K.PartialOrd.own S.Argument.Argument.own S.Argument.Clone S.Argument.Default) S.V.row self.entry result (λ n w. IfOk result (λ r. WritesSelected S.Argument.selects S.slots S.with_leaf query self.old r.now w n)) (λ n. n ≡ self.old)) }
+        ensures* writes_back { sem 𝓛 (lends_selected S.row S.K.row S.V.row S.Argument.row S.NodeStore S.K.Key S.Argument.Argument self.entry S.Argument.selects query result) }
         ensures value { IfOk result (LendsSelected S.Argument.selects query self.old.contents) }
         ensures absent { IfErr result (SelectsNone S.Argument.selects query self.old.contents) }
-        ensures sure { S.Argument.needs_no_memory → IfErr result (λ e. e ≡ SelectError.NotFound) }
+        ensures sure { S.Argument.needs_no_memory → IsOkUnless result SelectError.NotFound }
     {
         // Read, so that it is known to fit.
         let _len = self.len;
