@@ -1,5 +1,5 @@
 -- An edit below a node of a path, and what it becomes at the root.
-use Rattle.std.specs.Prelude.{◌≡◌, ℕ, suc, ◌<◌, ◌≤◌, ◌^◌, Bool, true, false, List, [], ◌∷◌, length, Option, Some, None}
+use Rattle.std.specs.Prelude.{◌≡◌, ℕ, suc, ◌<◌, ◌≤◌, ◌^◌, Bool, true, false, List, [], ◌∷◌, length, Option, Some, None, Result, IfOk}
 use Rattle.std.specs.declared.cmp.Ordering.{Ordering}
 use Rattle.std.specs.Map.{keys_of}
 use Rattle.bptree_keys.specs.Contents.{IsAscending}
@@ -107,3 +107,7 @@ module _ {K V A : Type 0} {cmp : K → K → Ordering} {is_summary : A → List 
   abbrev pub Reaches : Option InnerNodeId → A → Type 0
   Reaches None a = Risen a
   Reaches (Some id) a = RisenByOne id a
+
+  -- the new root and the summary that were answered, where they were, are what it reaches
+  abbrev pub ReachesTop : {E : Type 0} → Result (Option InnerNodeId × A) E → Type 0
+  ReachesTop result = IfOk result (λ top. Reaches top.0 top.1)

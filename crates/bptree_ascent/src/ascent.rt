@@ -6,7 +6,7 @@ ghost use Rattle.bptree_nodes.specs.Slot.{Free, IsPresent};
 ghost use Rattle.bptree_keys.specs.declared.node_id.NodeId.{NodeId};
 ghost use Rattle.bptree_keys.specs.declared.node_id.NodeId.TheVariants as kind;
 ghost use Rattle.bptree_ascent.specs.Change.{Links, Splits, GrowsRoot, TakesSummary};
-ghost use Rattle.bptree_ascent.specs.Climb.{Climbs, ClimbsTwo, Risen, Reaches};
+ghost use Rattle.bptree_ascent.specs.Climb.{Climbs, ClimbsTwo, Risen, ReachesTop};
 ghost use Rattle.bptree_ascent.specs.Sums.{SumsUp, PlaceAt, HasKeysAt, LinksChild, SplitsNode, SumsUpAbove, SumsUpLeft, SumsUpRight, SumsUpRoot};
 ghost use Rattle.bptree_ascent.specs.Sums.{HasPlaceAbove, IsKeptAbove, SumsUpChanged};
 ghost use Rattle.bptree_shape.specs.Shape.{inner_keys, inner_arguments};
@@ -253,7 +253,7 @@ pub fn ascend_split<S: NodeStore>(
     division: Division<S::K, S::Argument>,
 ) -> Result<(Option<InnerNodeId>, S::Argument), Division<S::K, S::Argument>>
     requires climbs { ClimbsTwo S.K.cmp S.Argument.is_summary (S.slots store.old) path.old division }
-    ensures rises { (c : ClimbsTwo S.K.cmp S.Argument.is_summary (S.slots store.old) path.old division) → c.climb.root ≡ root → IfOk result (λ top. Reaches c.climb (S.slots store.new) top.0 top.1) }
+    ensures rises { (c : ClimbsTwo S.K.cmp S.Argument.is_summary (S.slots store.old) path.old division) → c.climb.root ≡ root → ReachesTop c.climb (S.slots store.new) result }
     ensures refused { OnErr result (S.slots store.new ≡ S.slots store.old) }
     ensures handed_back { IfErr result (λ back. back ≡ division) }
 {
