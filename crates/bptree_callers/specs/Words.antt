@@ -57,7 +57,7 @@ module _ {E : Type 0} where
 abbrev pub IsOkOrRefused : {X : Type 0} → Result X DescendError → Type 0
 IsOkOrRefused result = IsOkUnless result OutOfMemory
 
--- a visitor may go down into no child that is not there
+-- no child that is not there is allowed for a visitor
 abbrev pub NeverMisses : {W P R : Type 0} → (W → List P → VisitAnswer R → Type 0) → W → List P → Type 0
 NeverMisses answers visitor l = answers visitor l invalid_child → ⊥
 
@@ -215,7 +215,7 @@ module _ {S K V A : Type 0} where
     abbrev pub Loses : NodeTree S K V A → NodeTree S K V A → Type 0
     Loses old new = new.contents ≡ del cmp old.contents k
 
-    -- a value was written at the key
+    -- the value was written at the key, if it is there
     abbrev pub WritesAt : V → NodeTree S K V A → NodeTree S K V A → Type 0
     WritesAt v old new = new.contents ≡ written cmp k old.contents v
 

@@ -22,7 +22,7 @@ module _ (cmp : Entry → Entry → Ordering) where
   abbrev pub StaysOrPuts : List (Entry × ⊤) → List (Entry × ⊤) → Entry → Type 0
   StaysOrPuts before after new = (after ≡ before) ⊎ (after ≡ put cmp before new tt)
 
-  -- where a row has another value than now, the entry with now takes the place of the one with that
+  -- where a row has another value, the entry with its new one takes the place of the entry with that
   abbrev pub FollowsRow : List (ℕ × ℕ) → ℕ → ℕ → List (Entry × ⊤) → List (Entry × ⊤) → Type 0
   FollowsRow rows row now before after =
       (old : ℕ) → HasValue rows row old → old ≢ now → after ≡ moved cmp tt before (entry_of old row) (entry_of now row)
