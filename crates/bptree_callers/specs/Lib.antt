@@ -1,3 +1,5 @@
 pub mod Depths
+pub mod Groups
 pub mod Numbers
+pub mod Summaries
 pub mod Words

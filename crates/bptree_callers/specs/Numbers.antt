@@ -1,9 +1,15 @@
 -- What callers make of the values of a map.
-use Rattle.std.specs.Prelude.{◌+◌, ◌/◌, ◌%◌, ◌^◌, ℕ, Option, unwrap_or}
+use Rattle.std.specs.Prelude.{◌+◌, ◌/◌, ◌%◌, ◌^◌, ℕ, List, Option, unwrap_or}
+use Rattle.std.specs.declared.cmp.Ordering.{Ordering}
+use Rattle.bptree_keys.specs.Contents.{put, value}
 
 -- a count that goes up by one, from 0 where there is none
 abbrev pub one_more : Option ℕ → ℕ
 one_more count = (unwrap_or count 0 + 1) % 2 ^ 64
+
+-- with the count at a key one more
+abbrev pub counted_on : {K : Type 0} → (K → K → Ordering) → List (K × ℕ) → K → List (K × ℕ)
+counted_on cmp l k = put cmp l k (one_more (value cmp l k))
 
 -- with half the value
 abbrev pub halved : {K : Type 0} → K × ℕ → K × ℕ

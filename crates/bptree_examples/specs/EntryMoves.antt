@@ -1,7 +1,8 @@
 -- An entry of an index that takes the place of another.
-use Rattle.std.specs.Prelude.{ℕ, List}
+use Rattle.std.specs.Prelude.{◌≡◌, ◌≢◌, ◌⊎◌, ℕ, List, Some, ⊤}
 use Rattle.std.specs.declared.cmp.Ordering.{Ordering}
-use Rattle.bptree_keys.specs.Contents.{put, del}
+use Rattle.std.specs.Ordering.{nat_cmp}
+use Rattle.bptree_keys.specs.Contents.{put, del, value as value_of}
 use Rattle.bptree_examples.specs.declared.uses.secondary_index.Entry.{Entry}
 
 -- the entry of a row with a value
@@ -11,3 +12,17 @@ entry_of value row = record { value = value; row = row }
 -- the new entry is put, and then the old one leaves
 abbrev pub moved : {V : Type 0} → (Entry → Entry → Ordering) → V → List (Entry × V) → Entry → Entry → List (Entry × V)
 moved cmp value entries old new = del cmp (put cmp entries new value) old
+
+-- a row has a value
+abbrev pub HasValue : List (ℕ × ℕ) → ℕ → ℕ → Type 0
+HasValue rows row value = value_of nat_cmp rows row ≡ Some value
+
+module _ (cmp : Entry → Entry → Ordering) where
+  -- the entries are as before, or the new one is put among them
+  abbrev pub StaysOrPuts : List (Entry × ⊤) → List (Entry × ⊤) → Entry → Type 0
+  StaysOrPuts before after new = (after ≡ before) ⊎ (after ≡ put cmp before new tt)
+
+  -- where a row has another value, the entry with its new one takes the place of the entry with that
+  abbrev pub FollowsRow : List (ℕ × ℕ) → ℕ → ℕ → List (Entry × ⊤) → List (Entry × ⊤) → Type 0
+  FollowsRow rows row now before after =
+      (old : ℕ) → HasValue rows row old → old ≢ now → after ≡ moved cmp tt before (entry_of old row) (entry_of now row)

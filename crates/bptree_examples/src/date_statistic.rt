@@ -1,10 +1,10 @@
 //! How many keys of a calendar lie in a year, by summaries that know the first and the last date
 //! below a node.
-ghost use Rattle.std.specs.Prelude.{◌≡◌, ◌+◌, ◌-◌, ◌^◌, cond, min, Some, IfOk, IfErr};
+ghost use Rattle.std.specs.Prelude.{◌≡◌, Some, IfOk, IfErr};
 ghost use Rattle.bptree_arguments.specs.declared.visit.DescendError.TheVariants.{OutOfMemory};
 ghost use Rattle.std.specs.Map.{keys_of};
 ghost use Rattle.std.proofs.Common.{rules};
-ghost use Rattle.bptree_examples.specs.Dates.{in_year, same_year, same_month, same_day, IsEntry, IsStatistic, IsYearAnswer};
+ghost use Rattle.bptree_examples.specs.Dates.{day_with, in_year, month_with, year_with, IsEntry, IsStatistic, IsYearAnswer};
 
 use crate::calendar::day_count;
 use crate::filling::{filled, removed};
@@ -51,9 +51,9 @@ impl Counter {
     // With the counters of an entry added, as far as its date shares the year of a date, its month
     // and its day.
     fn with(self, date: Date, entry: &DateStatisticEntry) -> Counter
-        ensures year { result.year ≡ min (self.year + cond (same_year date entry.now.date) entry.now.counter.year 0) (2 ^ 64 - 1) }
-        ensures month { result.month ≡ min (self.month + cond (same_month date entry.now.date) entry.now.counter.month 0) (2 ^ 64 - 1) }
-        ensures day { result.day ≡ min (self.day + cond (same_day date entry.now.date) entry.now.counter.day 0) (2 ^ 64 - 1) }
+        ensures year { result.year ≡ year_with self date entry.now }
+        ensures month { result.month ≡ month_with self date entry.now }
+        ensures day { result.day ≡ day_with self date entry.now }
     {
         let other = entry.date;
         if date.year != other.year {

@@ -4,7 +4,7 @@ ghost use Rattle.std.specs.declared.cmp.Ordering.TheVariants.{Equal};
 ghost use Rattle.bptree_keys.specs.Contents.{has, value as value_of, put, del};
 ghost use Rattle.bptree_ascent.specs.Lending.{written};
 ghost use Rattle.bptree_tree.specs.Whole.{HasSameTop};
-ghost use Rattle.bptree_callers.specs.Words.{AddsBetween, HoldsTheSame, PopsFirstOfTwo, PopsLastOfTwo, told_value, StaysWhole};
+ghost use Rattle.bptree_callers.specs.Words.{AddsBetween, HoldsTheSame, KeepsSlots, Lacks, Loses, PopsFirstOfTwo, PopsLastOfTwo, WritesAt, told_value, StaysWhole};
 
 use bptree_stores::node_stores::NodeStore;
 use bptree_tree::{BPlusTree, InsertError};
@@ -71,8 +71,9 @@ fn has_room<S: NodeStore>(tree: &mut BPlusTree<S>, k: S::K, v: S::V) -> Option<(
 fn removes<S: NodeStore>(tree: &mut BPlusTree<S>, k: &S::K) -> Result<Option<S::V>, AllocError>
     ensures value { IfOk result (λ gone. gone ≡ value_of S.K.cmp tree.old.contents k.now) }
     ensures rest { OnOk result (tree.new.contents ≡ del S.K.cmp tree.old.contents k.now) }
-    ensures absent { has S.K.cmp tree.old.contents k.now ≡ false → (result ≡ Ok None) × (tree.new.contents ≡ del S.K.cmp tree.old.contents k.now) }
-    ensures slots { has S.K.cmp tree.old.contents k.now ≡ false → S.slots tree.new.store ≡ S.slots tree.old.store }
+    ensures absent { Lacks S.K.cmp k.now tree.old → result ≡ Ok None }
+    ensures less { Lacks S.K.cmp k.now tree.old → Loses S.K.cmp k.now tree.old tree.new }
+    ensures slots { Lacks S.K.cmp k.now tree.old → KeepsSlots S.slots tree.new tree.old }
     ensures refused { OnErr result (StaysWhole S.slots tree.new tree.old) }
 {
     tree.remove(k)
@@ -91,7 +92,7 @@ fn clears<S: NodeStore>(tree: &mut BPlusTree<S>) -> Result<(), AllocError>
 // A value is written just where the key is, and nothing else is changed.
 pub(crate) fn writes<S: NodeStore>(tree: &mut BPlusTree<S>, k: &S::K, v: S::V) -> bool
     ensures there { result ≡ has S.K.cmp tree.old.contents k.now }
-    ensures put { IsTrue result → tree.new.contents ≡ written S.K.cmp k.now tree.old.contents v }
+    ensures put { IsTrue result → WritesAt S.K.cmp k.now v tree.old tree.new }
     ensures absent { result ≡ false → tree.new ≡ tree.old }
     ensures shape { HasSameTop tree.new tree.old }
 {

@@ -1,7 +1,6 @@
 //! Callers of a clone.
 ghost use Rattle.std.specs.Prelude.{◌≡◌, length, IfOk};
-ghost use Rattle.bptree_shape.specs.Shape.{IsWellShaped};
-ghost use Rattle.bptree_callers.specs.Words.{AgreesOn, HasLeavesAsLong};
+ghost use Rattle.bptree_callers.specs.Words.{HasLeavesAsLong, HasSameKeys, StandsWhole};
 
 use bptree_arguments::argument::CloneArgument;
 use bptree_keys::node_id::NodeId;
@@ -15,7 +14,7 @@ fn has_the_same_keys<S: CloneStore>(tree: &BPlusTree<S>) -> Result<BPlusTree<S>,
 where
     S::V: Clone,
     S::Argument: CloneArgument<S::K>,
-    ensures keys { IfOk result (λ it. (k : S.K) → AgreesOn S.K.cmp tree.now.contents it.contents k) }
+    ensures keys { IfOk result (λ copy. HasSameKeys S.K.cmp tree.now.contents copy.contents) }
     ensures len { IfOk result (λ copy. length copy.contents ≡ length tree.now.contents) }
     ensures leaves { IfOk result (HasLeavesAsLong S.slots tree.now) }
 {
@@ -30,7 +29,7 @@ fn stands_as_the_original<S: CloneStore>(
 where
     S::V: Clone,
     S::Argument: CloneArgument<S::K>,
-    ensures { IfOk result (λ it. IsWellShaped S.K.cmp S.Argument.is_summary (S.slots it.0.store) it.2 it.1) }
+    ensures { IfOk result (StandsWhole S.slots S.K.cmp S.Argument.is_summary) }
 {
     Ok((tree.clone()?, tree.root_id(), tree.height()))
 }

@@ -1,11 +1,11 @@
 //! Callers of cursors.
 ghost use Rattle.std.specs.Prelude.{◌≡◌, ◌∷◌, [], true, false, slice_get, IfOk, Ok, Some, None};
 ghost use Rattle.std.specs.Ordering.{nat_cmp};
-ghost use Rattle.std.specs.Option.{option_copied, option_map};
-ghost use Rattle.bptree_keys.specs.Contents.{has, next, value as value_of, last_member};
+ghost use Rattle.std.specs.Option.{option_map};
+ghost use Rattle.bptree_keys.specs.Contents.{has, next, last_member};
 ghost use Rattle.bptree_keys.specs.Neighbours.{IsAfter};
 ghost use Rattle.bptree_tree.specs.Cursor.{cursor_key, pair_after, pair_before};
-ghost use Rattle.bptree_callers.specs.Words.{StepsBackTo, told_key};
+ghost use Rattle.bptree_callers.specs.Words.{ReadsAt, StepsBackTo, told_key};
 
 use bptree_keys::contents::laws_of_neighbours;
 use bptree_keys::key::Key;
@@ -18,7 +18,8 @@ fn stands_on_its_key<S: NodeStore<K = u64>>(
     tree: &BPlusTree<S>,
     k: u64,
 ) -> Result<(u64, Option<&S::V>), AllocError>
-    ensures { IfOk result (λ found. (found.0 ≡ k) × (option_copied found.1 ≡ value_of nat_cmp tree.now.contents k)) }
+    ensures key { IfOk result (λ found. found.0 ≡ k) }
+    ensures value { IfOk result (λ found. ReadsAt nat_cmp tree.now.contents k found.1) }
 {
     match tree.get_cursor(&k)? {
         Some((cursor, value)) => Ok((*cursor.key(), value)),

@@ -1,5 +1,5 @@
 //! Callers of an iterator.
-ghost use Rattle.std.specs.Prelude.{◌≡◌, ◌∷◌, [], length, true, slice_get, Some, Ok};
+ghost use Rattle.std.specs.Prelude.{◌≡◌, ◌∷◌, [], length, map, true, slice_get, Some, Ok};
 ghost use Rattle.std.specs.Option.{option_map};
 ghost use Rattle.std.specs.Map.Iter.{deref_pair};
 
@@ -35,7 +35,7 @@ fn gives_three_from_both_ends<'a, S: NodeStore>(
     (&'a S::K, &'a S::V),
 )
     requires { length pairs.old ≡ 3 }
-    ensures all { pairs.old ≡ deref_pair result.0 ∷ deref_pair result.1 ∷ deref_pair result.2 ∷ [] }
+    ensures all { pairs.old ≡ map deref_pair (result.0 ∷ result.1 ∷ result.2 ∷ []) }
     ensures over { pairs.new ≡ [] }
 {
     match (pairs.next(), pairs.next_back(), pairs.next()) {

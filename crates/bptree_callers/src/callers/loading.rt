@@ -1,9 +1,11 @@
 //! Callers of loading, and of how a layer of nodes is cut.
 ghost use Rattle.std.specs.Prelude.{◌≡◌, IfOk};
 ghost use Rattle.std.specs.Map.{keys_of};
-ghost use Rattle.bptree_keys.specs.Contents.{IsAscending, value, load};
+ghost use Rattle.bptree_keys.specs.Contents.{IsAscending, load};
 ghost use Rattle.bptree_loading.specs.Cuts.{first_of};
-ghost use Rattle.bptree_loading.specs.Loading.{IsInLoadOrder, last_value};
+ghost use Rattle.bptree_loading.specs.Loading.{IsInLoadOrder};
+ghost use Rattle.bptree_callers.specs.Summaries.{RootSumsUp};
+ghost use Rattle.bptree_callers.specs.Words.{HasLastValues};
 
 use bptree_loading::cuts::first_of_layer;
 use bptree_loading::loading::laws_of_load;
@@ -69,7 +71,7 @@ fn loads_all<S: NodeStore>(pairs: Vec<(S::K, S::V)>) -> Result<BPlusTree<S>, All
 // At each key stands the value of the last pair with an equal key.
 fn loads_the_last<S: NodeStore>(pairs: Vec<(S::K, S::V)>) -> Result<BPlusTree<S>, AllocError>
     requires { IsInLoadOrder S.K.cmp pairs.items }
-    ensures { IfOk result (λ tree. (k : S.K) → value S.K.cmp tree.contents k ≡ last_value S.K.cmp pairs.items k) }
+    ensures { IfOk result (λ tree. HasLastValues S.K.cmp pairs.items tree.contents) }
 {
     laws_of_load::<S::K, S::V>();
     BPlusTree::bulk_load(pairs)
@@ -78,7 +80,7 @@ fn loads_the_last<S: NodeStore>(pairs: Vec<(S::K, S::V)>) -> Result<BPlusTree<S>
 // The root's argument is a summary of what was loaded.
 fn loads_with_a_summary<S: NodeStore>(pairs: Vec<(S::K, S::V)>) -> Result<BPlusTree<S>, AllocError>
     requires { IsInLoadOrder S.K.cmp pairs.items }
-    ensures { IfOk result (λ tree. S.Argument.is_summary tree.root_argument (keys_of (load S.K.cmp pairs.items))) }
+    ensures { IfOk result (RootSumsUp S.Argument.is_summary (keys_of (load S.K.cmp pairs.items))) }
 {
     BPlusTree::bulk_load(pairs)
 }

@@ -15,7 +15,7 @@ ghost use Rattle.bptree_tree.specs.Cursor.{cursor_key};
 ghost use Rattle.bptree_tree.specs.Entries.{entry};
 ghost use Rattle.bptree_maps.specs.Gathering.{AreFewFor};
 ghost use Rattle.bptree_tree.specs.Selected.{SelectsNone};
-ghost use Rattle.bptree_callers.specs.Words.{FindsOne, IfFound, IsOneOf, LendsEnds, PopsFirstOfTwo, PopsLastOfTwo, ShowsEndsOfTwo, TakesMiddleOfThree, WritesSome, told_value, between_keys};
+ghost use Rattle.bptree_callers.specs.Words.{FindsOne, IfFound, IsOneOf, LendsAt, LendsEnds, PopsFirstOfTwo, PopsLastOfTwo, ShowsEndsOfTwo, StandsOn, TakesMiddleOfThree, WritesSome, told_value, between_keys, pairs_upto};
 
 use bptree_arguments::argument::{Argument, CloneArgument, RankArgument, SearchArgument};
 use bptree_arguments::count::Count;
@@ -163,7 +163,8 @@ fn removes<K: Key, V: Drop, A: Argument<K>>(
 ) -> Result<Option<V>, AllocError>
     ensures value { IfOk result (λ gone. gone ≡ value_of K.cmp map.old k.now) }
     ensures pairs { OnOk result (map.new ≡ del K.cmp map.old k.now) }
-    ensures absent { has K.cmp map.old k.now ≡ false → (result ≡ Ok None) × (map.new ≡ del K.cmp map.old k.now) }
+    ensures absent { has K.cmp map.old k.now ≡ false → result ≡ Ok None }
+    ensures less { has K.cmp map.old k.now ≡ false → map.new ≡ del K.cmp map.old k.now }
     ensures refused { OnErr result (map.new ≡ map.old) }
 {
     map.remove(k)
@@ -233,8 +234,8 @@ fn gives_the_last_below<'a, K: Key, V: Drop, A: Argument<K>>(
     map: &'a BPlusTreeMap<K, V, A>,
     hi: &K,
 ) -> (usize, Option<(&'a K, &'a V)>)
-    ensures len { result.0 ≡ length (between K.cmp map.now None (Some hi.now)) }
-    ensures last { option_map deref_pair result.1 ≡ slice_get (between K.cmp map.now None (Some hi.now)) (result.0 - 1) }
+    ensures len { result.0 ≡ length (pairs_upto K.cmp map.now hi.now) }
+    ensures last { LendsAt result.1 (pairs_upto K.cmp map.now hi.now) (result.0 - 1) }
 {
     let mut pairs = map.range(None, Some(hi));
     let len = pairs.len();
@@ -440,7 +441,7 @@ fn begins_at_its_key<'a, K: Key, V: Drop, A: Argument<K>>(
     k: &K,
 ) -> Result<Option<(Cursor<K>, &'a V)>, AllocError>
     ensures least { IfFound result (λ it. is_lt (K.cmp (cursor_key it.0) k.now) ≡ false) }
-    ensures there { has K.cmp map.now k.now ≡ true → FindsOne result (λ it. K.cmp (cursor_key it.0) k.now ≡ Equal) }
+    ensures there { has K.cmp map.now k.now ≡ true → FindsOne result (StandsOn K.cmp k.now) }
 {
     // Read, so that the keys are known to ascend.
     let _len = map.len();
@@ -569,7 +570,7 @@ fn pops_the_first_of_two<K: Key, V: Drop, A: Argument<K>>(
     map: &mut BPlusTreeMap<K, V, A>,
 ) -> Result<Option<(K, V)>, AllocError>
     ensures popped { IfOk result (PopsFirstOfTwo map.old map.new) }
-    ensures others { 0 < length map.old → FindsOne result (λ pair. map.old ≡ pair ∷ map.new) }
+    ensures others { 0 < length map.old → FindsOne result (λ it. map.old ≡ it ∷ map.new) }
     ensures refused { OnErr result (map.new ≡ map.old) }
 {
     map.pop_first()

@@ -1,11 +1,11 @@
 //! Callers of the nodes that are lent: whatever changed the list before, they hold it, and none is
 //! idle beside it.
-ghost use Rattle.std.specs.Prelude.{◌≡◌, IfOk, IsTrue, Some, false};
+ghost use Rattle.std.specs.Prelude.{◌≡◌, IsTrue, OnOk, Some, false};
 ghost use Rattle.bptree_ascent.specs.Lending.{written};
 ghost use Rattle.bptree_keys.specs.Contents.{put};
 ghost use Rattle.bptree_stores.specs.StoreSlabs.{slots};
-ghost use Rattle.bptree_tree.specs.Whole.{IsUntouched, pairs_of_nodes};
-ghost use Rattle.bptree_callers.specs.Words.{EachInnerStandsOnce, EachLeafStandsOnce, count_in, lent_keys, lent_pairs};
+ghost use Rattle.bptree_tree.specs.Whole.{IsUntouched};
+ghost use Rattle.bptree_callers.specs.Words.{EachInnerStandsOnce, EachLeafStandsOnce, NodesHave, lent_keys, lent_pairs, shown};
 
 use crate::callers::changes::writes;
 use crate::callers::reads::shows_its_nodes;
@@ -27,7 +27,7 @@ fn lends_the_list<S: NodeStore>(tree: &BPlusTree<S>) -> (&S, NodeId, usize)
 
 // After a value is written at a key they have it there.
 fn lends_what_was_written<S: NodeStore>(tree: &mut BPlusTree<S>, k: &S::K, v: S::V) -> bool
-    ensures { IsTrue result → pairs_of_nodes S.slots tree.new ≡ written S.K.cmp k.now tree.old.contents v }
+    ensures { IsTrue result → NodesHave S.slots tree.new (written S.K.cmp k.now tree.old.contents v) }
 {
     let there = writes(tree, k, v);
     tree.node_store();
@@ -60,7 +60,7 @@ fn leaves_no_node_idle<S: NodeStore>(
 ) -> Result<Option<S::V>, InsertError<S::K, S::V>>
     ensures leaves { EachLeafStandsOnce (S.slots tree.new.store) tree.new.height tree.new.root }
     ensures inners { EachInnerStandsOnce (S.slots tree.new.store) tree.new.height tree.new.root }
-    ensures list { IfOk result (λ _. pairs_of_nodes S.slots tree.new ≡ put S.K.cmp tree.old.contents k v) }
+    ensures list { OnOk result (NodesHave S.slots tree.new (put S.K.cmp tree.old.contents k v)) }
 {
     tree.insert(k, v)
 }
@@ -70,7 +70,7 @@ fn leaves_no_node_idle<S: NodeStore>(
 type Shown = (NodeId, usize, usize);
 
 fn shows<S: NodeStore>(tree: &BPlusTree<S>, leaf: LeafNodeId) -> Shown
-    ensures { result ≡ (tree.now.root, tree.now.height, count_in (S.slots tree.now.store) leaf.0) }
+    ensures { result ≡ shown S.slots tree.now leaf.0 }
 {
     let held = match tree.node_store().try_get_leaf(leaf) {
         Some(node) => node.len(),

@@ -1,12 +1,11 @@
 //! Callers of pages.
-ghost use Rattle.std.specs.Prelude.{◌≡◌, ◌≤◌, ◌/◌, ◌-◌, ◌*◌, IfOk, filter, length, min, slice_get, true};
-ghost use Rattle.std.specs.Ordering.{is_eq};
+ghost use Rattle.std.specs.Prelude.{◌≡◌, ◌≤◌, ◌/◌, ◌-◌, ◌*◌, IfOk, filter, length, min, true};
 ghost use Rattle.std.specs.Map.{keys_of};
-ghost use Rattle.std.specs.Map.Iter.{deref_pair};
-ghost use Rattle.std.specs.Option.{option_map};
 ghost use Rattle.bptree_arguments.specs.CountLaws.{count_below};
 ghost use Rattle.bptree_arguments.specs.Groups.{of_group};
 ghost use Rattle.bptree_keys.specs.Contents.{has};
+ghost use Rattle.bptree_callers.specs.Groups.{is_of_group};
+ghost use Rattle.bptree_callers.specs.Words.{LendsAt, OkIs};
 
 use bptree_arguments::argument::Argument;
 use bptree_arguments::count::Count;
@@ -36,7 +35,7 @@ fn begins_with_the_first<K: Key, V: Drop>(
 ) -> Result<(usize, Option<(&K, &V)>), AllocError>
     requires { 1 ≤ s }
     ensures len { IfOk result (λ answer. answer.0 ≡ min s (length map.now)) }
-    ensures first { IfOk result (λ answer. option_map deref_pair answer.1 ≡ slice_get map.now 0) }
+    ensures first { IfOk result (λ answer. LendsAt answer.1 map.now 0) }
 {
     let mut pairs = page(map, 0, s)?;
     let len = pairs.len();
@@ -63,7 +62,7 @@ fn holds_what_is_left_of_a_group<K: Key, V: Drop, A: Argument<K>, G: FromRef<K> 
     s: usize,
 ) -> Result<usize, AllocError>
     requires { 1 ≤ s }
-    ensures { IfOk result (λ len. len ≡ min s (length (of_group G.cmp G.group_of group.now map.now) - p * s)) }
+    ensures { OkIs result (min s (length (of_group G.cmp G.group_of group.now map.now) - p * s)) }
 {
     Ok(group_page(map, group, p, s)?.len())
 }
@@ -73,7 +72,7 @@ fn holds_a_group<K: Key, V: Drop, A: Argument<K>, G: FromRef<K> + Key>(
     map: &BPlusTreeMap<K, V, A>,
     group: &G,
 ) -> Result<usize, AllocError>
-    ensures { IfOk result (λ len. len ≡ length (filter (λ pair. is_eq (G.cmp (G.group_of pair.0) group.now)) map.now)) }
+    ensures { OkIs result (length (filter (is_of_group G.cmp G.group_of group.now) map.now)) }
 {
     Ok(map.group_range(group)?.len())
 }

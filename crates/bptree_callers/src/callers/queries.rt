@@ -1,10 +1,9 @@
 //! Callers that read, write and remove by summaries: of any argument, and of counts.
-ghost use Rattle.std.specs.Prelude.{◌≡◌, ◌<◌, ◌≤◌, length, remove, IfOk, IfErr, OnErr, OnOk, Some, None, IfSome, IsSome};
+ghost use Rattle.std.specs.Prelude.{◌≡◌, ◌<◌, ◌≤◌, length, remove, IfErr, OnErr, OnOk, Some, None, IfSome, IsOkUnless, IsSome};
 ghost use Rattle.std.specs.Map.{keys_of};
-ghost use Rattle.bptree_keys.specs.Contents.{del};
 ghost use Rattle.bptree_tree.specs.Whole.{IsUntouched};
 ghost use Rattle.bptree_tree.specs.Selected.{SelectsNone};
-ghost use Rattle.bptree_callers.specs.Words.{AllowsSome, OnFalse, OnTrue, StaysWhole, WritesSome};
+ghost use Rattle.bptree_callers.specs.Words.{AllowsNone, AllowsSome, Loses, OnFalse, OnTrue, StaysWhole, WritesSomeIn};
 
 use bptree_arguments::argument::{RankArgument, SearchArgument};
 use bptree_arguments::count::Count;
@@ -20,7 +19,7 @@ fn finds_an_allowed_place<S: NodeStore>(
 where
     S::Argument: SearchArgument<S::K>,
     ensures found { OnTrue result (AllowsSome S.Argument.selects query tree.now.contents) }
-    ensures absent { OnFalse result (S.Argument.selects query (keys_of tree.now.contents) None) }
+    ensures absent { OnFalse result (AllowsNone S.Argument.selects query tree.now.contents) }
 {
     Ok(tree.get_by_argument(query)?.is_some())
 }
@@ -51,7 +50,7 @@ fn takes_a_pair<S: NodeStore>(
 ) -> Option<S::K>
 where
     S::Argument: SearchArgument<S::K>,
-    ensures taken { (k : S.K) → result ≡ Some k → tree.new.contents ≡ del S.K.cmp tree.old.contents k }
+    ensures taken { (k : S.K) → result ≡ Some k → Loses S.K.cmp k tree.old tree.new }
     ensures stays { result ≡ None → StaysWhole S.slots tree.new tree.old }
 {
     match tree.remove_by_argument(query) {
@@ -86,11 +85,11 @@ fn writes_by_a_query<S: NodeStore>(
 ) -> Result<(), SelectError>
 where
     S::Argument: SearchArgument<S::K>,
-    ensures written { OnOk result (WritesSome S.Argument.selects query v tree.old.contents tree.new.contents) }
+    ensures written { OnOk result (WritesSomeIn S.Argument.selects query v tree.old tree.new) }
     ensures refused { OnErr result (tree.new ≡ tree.old) }
     ensures unchanged { OnErr result (IsUntouched S.slots tree.new tree.old) }
     ensures absent { IfErr result (SelectsNone S.Argument.selects query tree.old.contents) }
-    ensures sure { S.Argument.needs_no_memory → IfErr result (λ it. it ≡ SelectError.NotFound) }
+    ensures sure { S.Argument.needs_no_memory → IsOkUnless result SelectError.NotFound }
 {
     match tree.get_mut_by_argument(query) {
         Ok(there) => {

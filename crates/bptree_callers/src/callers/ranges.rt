@@ -1,13 +1,9 @@
 //! Callers of parts of a tree.
-ghost use Rattle.std.specs.Prelude.{◌≡◌, ◌<◌, ◌≤◌, ◌-◌, length, min, slice_get, None, Some, IfOk, IfSome};
-ghost use Rattle.std.specs.declared.cmp.Ordering.TheVariants.{Equal};
-ghost use Rattle.std.specs.Map.{keys_of};
-ghost use Rattle.std.specs.Option.{option_map};
-ghost use Rattle.bptree_arguments.specs.Groups.{group};
-ghost use Rattle.bptree_keys.specs.Contents.{below};
-ghost use Rattle.bptree_keys.specs.Ranges.{between, part};
-ghost use Rattle.std.specs.Map.Iter.{deref_pair};
-ghost use Rattle.bptree_callers.specs.Words.{between_keys, keys_from};
+ghost use Rattle.std.specs.Prelude.{◌≡◌, ◌<◌, ◌≤◌, ◌-◌, length, min, IfOk};
+ghost use Rattle.bptree_keys.specs.Ranges.{part};
+ghost use Rattle.bptree_callers.specs.Groups.{LendsOneOf, group_len};
+ghost use Rattle.bptree_callers.specs.Summaries.{SumsBelow, SumsFrom};
+ghost use Rattle.bptree_callers.specs.Words.{AllowsNone, LendsAt, OnZero, between_keys};
 
 use bptree_arguments::argument::SearchArgument;
 use bptree_arguments::count::Count;
@@ -26,7 +22,7 @@ fn gives_the_first_between<'a, S: NodeStore>(
     hi: &S::K,
 ) -> (usize, Option<(&'a S::K, &'a S::V)>)
     ensures len { result.0 ≡ length (between_keys S.K.cmp tree.now.contents lo.now hi.now) }
-    ensures first { option_map deref_pair result.1 ≡ slice_get (between_keys S.K.cmp tree.now.contents lo.now hi.now) 0 }
+    ensures first { LendsAt result.1 (between_keys S.K.cmp tree.now.contents lo.now hi.now) 0 }
 {
     let mut pairs = tree.range(Some(lo), Some(hi));
     let len = pairs.len();
@@ -43,7 +39,7 @@ fn gives_no_more_than_asked<S: NodeStore>(
 where
     S::Argument: SearchArgument<S::K>,
     ensures most { IfOk result (λ len. len ≤ n) }
-    ensures none { 0 < n → IfOk result (λ len. len ≡ 0 → S.Argument.selects query (keys_of tree.now.contents) None) }
+    ensures none { 0 < n → OnZero result (AllowsNone S.Argument.selects query tree.now.contents) }
 {
     Ok(tree.range_by_argument(query, n)?.len())
 }
@@ -64,8 +60,8 @@ fn gives_the_pairs_of_a_group<'a, S: NodeStore, G: FromRef<S::K> + Key>(
     tree: &'a BPlusTree<S>,
     g: &G,
 ) -> Result<(usize, Option<(&'a S::K, &'a S::V)>), AllocError>
-    ensures len { IfOk result (λ told. told.0 ≡ length (group G.cmp G.group_of g.now (keys_of tree.now.contents))) }
-    ensures first { IfOk result (λ told. IfSome told.1 (λ pair. G.cmp (G.group_of pair.0.now) g.now ≡ Equal)) }
+    ensures len { IfOk result (λ it. it.0 ≡ group_len G.cmp G.group_of g.now tree.now.contents) }
+    ensures first { IfOk result (λ it. LendsOneOf G.cmp G.group_of g.now it.1) }
 {
     let mut pairs = tree.group_range(g)?;
     let len = pairs.len();
@@ -77,8 +73,8 @@ fn sums_up_both_sides<S: NodeStore>(
     tree: &BPlusTree<S>,
     k: &S::K,
 ) -> Result<(S::Argument, S::Argument), AllocError>
-    ensures below { IfOk result (λ sums. S.Argument.is_summary sums.0 (below S.K.cmp tree.now.contents k.now)) }
-    ensures from { IfOk result (λ sums. S.Argument.is_summary sums.1 (keys_from S.K.cmp tree.now.contents k.now)) }
+    ensures below { IfOk result (SumsBelow S.K.cmp S.Argument.is_summary tree.now.contents k.now) }
+    ensures from { IfOk result (SumsFrom S.K.cmp S.Argument.is_summary tree.now.contents k.now) }
 {
     let below = tree.range_argument(None, Some(k))?;
     let from = tree.range_argument(Some(k), None)?;

@@ -7,7 +7,7 @@ ghost use Rattle.std.specs.Option.{option_copied, option_map};
 ghost use Rattle.bptree_keys.specs.Contents.{IsAscending, has, value as value_of, last_member};
 ghost use Rattle.bptree_nodes.specs.Slot.{IsEmpty};
 ghost use Rattle.bptree_shape.specs.Shape.{IsWellShaped};
-ghost use Rattle.bptree_callers.specs.Words.{ShowsEndsOfTwo};
+ghost use Rattle.bptree_callers.specs.Words.{ShowsEndsOfTwo, ShowsTheSame};
 
 use bptree_keys::node_id::NodeId;
 use bptree_stores::node_stores::NodeStore;
@@ -45,7 +45,7 @@ fn gives_both_ends<S: NodeStore>(
     ensures first { slice_get tree.now.contents 0 ≡ option_map deref_pair result.0.0 }
     ensures last { last_member tree.now.contents ≡ option_map deref_pair result.0.1 }
     ensures ends { ShowsEndsOfTwo tree.now.contents result.0 }
-    ensures same { (option_map deref_pair result.1.0 ≡ option_map deref_pair result.0.0) × (option_map deref_pair result.1.1 ≡ option_map deref_pair result.0.1) }
+    ensures same { ShowsTheSame result.1 result.0 }
 {
     (
         (tree.first(), tree.last()),

@@ -1,14 +1,14 @@
 //! Callers of sets, of their iterators and of unions.
-ghost use Rattle.std.specs.Prelude.{◌≡◌, ◌∷◌, ◌≤◌, [], ◌||◌, ◌&&◌, length, not, true, false, slice_get, is_some, Contains, IfOk, IfErr, IfSome, IsTrue, OnErr, Ok, Some, None};
+ghost use Rattle.std.specs.Prelude.{◌≡◌, ◌∷◌, ◌≤◌, [], ◌||◌, ◌&&◌, length, not, true, false, slice_get, is_some, Contains, IfOk, IfSome, IsOkUnless, IsTrue, OnErr, Ok, Some, None};
 ghost use Rattle.std.specs.declared.cmp.Ordering.TheVariants.{Equal};
 ghost use Rattle.std.specs.Map.Iter.{TakesFirst, deref};
 ghost use Rattle.std.specs.Option.{option_copied};
 ghost use Rattle.std.specs.Ordering.{is_eq};
-ghost use Rattle.bptree_maps.specs.Keys.{holds, gathered, keys_between, keys_within, keys_without};
+ghost use Rattle.bptree_maps.specs.Keys.{holds, gathered, keys_within, keys_without};
 ghost use Rattle.bptree_sets.specs.Symmetric.{symmetric};
 ghost use Rattle.bptree_sets.specs.TwoSets.{IsDifference, IsIntersection, IsSymmetricDifference};
 ghost use Rattle.bptree_sets.specs.Union.{union};
-ghost use Rattle.bptree_callers.specs.Words.{AreEndsOfTwo, HoldsEither, PopsFirstOfTwo, PopsLastOfTwo, union_of};
+ghost use Rattle.bptree_callers.specs.Words.{AreEndsOfTwo, HoldsEither, LendsKeyAt, OkIs, PopsFirstOfTwo, PopsLastOfTwo, held_between, union_of};
 
 use bptree_keys::key::Key;
 use bptree_sets::set::{
@@ -48,8 +48,9 @@ fn gathers<K: Key>(alloc: Global, keys: Vec<K>) -> Result<Set<K>, AllocError>
 // fewer keys than there can be, the one refusal is for want of memory, and hands the key back.
 fn puts_in<K: Key>(set: &mut Set<K>, k: K) -> Result<bool, InsertError<K, ()>>
     ensures fresh { holds K.cmp set.old k ≡ false → IfOk result (λ is_new. is_new ≡ true) }
-    ensures there { holds K.cmp set.old k ≡ true → (result ≡ Ok false) × (set.new ≡ set.old) }
-    ensures back { length set.old ≡ 2 → IfErr result (λ it. it ≡ InsertError.OutOfMemory k tt) }
+    ensures there { holds K.cmp set.old k ≡ true → result ≡ Ok false }
+    ensures same { holds K.cmp set.old k ≡ true → set.new ≡ set.old }
+    ensures back { length set.old ≡ 2 → IsOkUnless result (InsertError.OutOfMemory k tt) }
     ensures stays { OnErr result (set.new ≡ set.old) }
 {
     set.insert(k)
@@ -61,7 +62,7 @@ fn holds_what_was_put_in<K: Key>(
     k: K,
     other: &K,
 ) -> Result<bool, InsertError<K, ()>>
-    ensures { IfOk result (λ it. it ≡ is_eq (K.cmp k other.now) || holds K.cmp set.old other.now) }
+    ensures { OkIs result (is_eq (K.cmp k other.now) || holds K.cmp set.old other.now) }
 {
     laws_of_keys::<K>();
     let _len = set.len();
@@ -78,7 +79,7 @@ fn takes_out<K: Key>(set: &mut Set<K>, k: &K) -> Result<bool, AllocError>
 }
 
 fn lacks_what_was_taken_out<K: Key>(set: &mut Set<K>, k: &K, other: &K) -> Result<bool, AllocError>
-    ensures { IfOk result (λ it. it ≡ not (is_eq (K.cmp k.now other.now)) && holds K.cmp set.old other.now) }
+    ensures { OkIs result (not (is_eq (K.cmp k.now other.now)) && holds K.cmp set.old other.now) }
 {
     laws_of_keys::<K>();
     let _len = set.len();
@@ -113,8 +114,8 @@ fn starts_with_all<K: Key>(set: &Set<K>) -> (Iter<'_, K>, usize)
 
 // It tells how many keys are between two, and the first of them comes first.
 fn gives_the_first_between<'a, K: Key>(set: &'a Set<K>, lo: &K, hi: &K) -> (usize, Option<&'a K>)
-    ensures len { result.0 ≡ length (keys_between K.cmp set.now (Some lo.now) (Some hi.now)) }
-    ensures first { option_copied result.1 ≡ slice_get (keys_between K.cmp set.now (Some lo.now) (Some hi.now)) 0 }
+    ensures len { result.0 ≡ length (held_between K.cmp set.now lo.now hi.now) }
+    ensures first { LendsKeyAt result.1 (held_between K.cmp set.now lo.now hi.now) 0 }
 {
     let mut keys = set.range(Some(lo), Some(hi));
     let len = keys.len();

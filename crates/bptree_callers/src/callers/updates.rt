@@ -2,11 +2,11 @@
 ghost use Rattle.std.specs.Prelude.{◌≡◌, [], true, false, None, Ok, Some, IfErr, OnOk, map as each, slice_get};
 ghost use Rattle.std.specs.Map.{keys_of};
 ghost use Rattle.std.specs.Option.{option_map};
-ghost use Rattle.bptree_keys.specs.Contents.{has, put, value as value_of};
+ghost use Rattle.bptree_keys.specs.Contents.{has};
 ghost use Rattle.bptree_keys.specs.Ranges.{between};
-ghost use Rattle.bptree_callers.specs.Numbers.{one_more};
+ghost use Rattle.bptree_callers.specs.Numbers.{counted_on};
 ghost use Rattle.bptree_tree.specs.Refusal.{HandsBack};
-ghost use Rattle.bptree_callers.specs.Words.{between_keys};
+ghost use Rattle.bptree_callers.specs.Words.{HasValue, between_keys};
 
 use bptree_arguments::argument::Argument;
 use bptree_arguments::count::Count;
@@ -23,7 +23,7 @@ fn begins_at<K: Key, A: Argument<K>>(
     map: &mut BPlusTreeMap<K, u64, A>,
     k: K,
 ) -> Result<bool, InsertError<K, u64>>
-    ensures begins { has K.cmp map.old k ≡ false → OnOk result (value_of K.cmp map.new k ≡ Some 1) }
+    ensures begins { has K.cmp map.old k ≡ false → OnOk result (HasValue K.cmp map.new k 1) }
     ensures goes_on { has K.cmp map.old k ≡ true → result ≡ Ok false }
 {
     map.upsert_with(k, 1, |count: &mut u64| *count = count.wrapping_add(1))
@@ -35,7 +35,7 @@ fn counts_at<K: Key, A: Argument<K>>(
     map: &mut BPlusTreeMap<K, u64, A>,
     k: K,
 ) -> Result<(), InsertError<K, u64>>
-    ensures sum { OnOk result (map.new ≡ put K.cmp map.old k (one_more (value_of K.cmp map.old k))) }
+    ensures sum { OnOk result (map.new ≡ counted_on K.cmp map.old k) }
     ensures refused { IfErr result (HandsBack (k, 0) map.old map.new) }
 {
     let count = map.get_or_insert_with(k, || 0)?;
@@ -46,7 +46,7 @@ fn counts_at<K: Key, A: Argument<K>>(
 // A count that is there goes up. Nothing is refused, and no value is made.
 fn counts_on<K: Key, A: Argument<K>>(map: &mut BPlusTreeMap<K, u64, A>, k: K)
     requires { has K.cmp map.old k ≡ true }
-    ensures { map.new ≡ put K.cmp map.old k (one_more (value_of K.cmp map.old k)) }
+    ensures { map.new ≡ counted_on K.cmp map.old k }
 {
     match map.get_or_insert_with(k, || unreachable!()) {
         Ok(count) => *count = count.wrapping_add(1),

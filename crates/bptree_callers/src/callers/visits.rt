@@ -1,9 +1,8 @@
 //! Callers of visits.
-ghost use Rattle.std.specs.Prelude.{◌≡◌, IfOk, IfErr, Some, length};
-ghost use Rattle.std.specs.Map.{keys_of};
-ghost use Rattle.bptree_arguments.specs.Groups.{group};
-ghost use Rattle.bptree_arguments.specs.Visits.{answered, invalid_child};
-ghost use Rattle.bptree_arguments.specs.declared.visit.DescendError.TheVariants.{OutOfMemory};
+ghost use Rattle.std.specs.Prelude.{IfOk, Some};
+ghost use Rattle.bptree_arguments.specs.Visits.{answered};
+ghost use Rattle.bptree_callers.specs.Groups.{group_len};
+ghost use Rattle.bptree_callers.specs.Words.{IsOkOrRefused, NeverMisses, OkIs};
 
 use crate::firsts::First;
 use bptree_arguments::group::{GroupCount, laws_of_groups};
@@ -19,7 +18,7 @@ fn visits<S: NodeStore, W: DescendVisit<S::K, S::V, S::Argument>>(
     visitor: W,
 ) -> Result<Option<W::Result>, DescendError>
     ensures allowed { IfOk result (λ it. W.answers visitor tree.now.contents (answered it)) }
-    ensures children { (W.answers visitor tree.now.contents invalid_child → ⊥) → IfErr result (λ error. error ≡ OutOfMemory) }
+    ensures children { NeverMisses W.answers visitor tree.now.contents → IsOkOrRefused result }
 {
     tree.descend_visit(visitor)
 }
@@ -29,8 +28,8 @@ fn sizes_a_group<S: NodeStore<K = (u64, u64), Argument = GroupCount<First>>>(
     tree: &BPlusTree<S>,
     g: First,
 ) -> Result<Option<usize>, DescendError>
-    ensures counted { IfOk result (λ size. size ≡ Some (length (group ⟦<First as Ord>⟧.cmp (λ pair. record { 0 = pair.0 }) g (keys_of tree.now.contents)))) }
-    ensures refused { IfErr result (λ error. error ≡ OutOfMemory) }
+    ensures counted { OkIs result (Some (group_len ⟦<First as Ord>⟧.cmp (λ pair. record { 0 = pair.0 }) g tree.now.contents)) }
+    ensures refused { IsOkOrRefused result }
 {
     laws_of_groups::<(u64, u64), First>();
     // Read, so that it is known to fit.

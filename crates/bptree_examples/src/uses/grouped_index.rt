@@ -1,10 +1,8 @@
 //! An index of items in groups: keys of two parts, of which the first is the group.
-ghost use Rattle.std.specs.Prelude.{◌≡◌, IfOk, IfErr, Some, length, slice_get};
-ghost use Rattle.std.specs.Map.{keys_of};
-ghost use Rattle.std.specs.Option.{option_map};
+ghost use Rattle.std.specs.Prelude.{◌≡◌, IfOk, IfErr, Some, length};
 ghost use Rattle.std.proofs.Common.{rules};
 ghost use Rattle.bptree_arguments.specs.declared.visit.DescendError.TheVariants.{OutOfMemory};
-ghost use Rattle.bptree_examples.specs.Items.{items_of};
+ghost use Rattle.bptree_examples.specs.Items.{items_in, number_at};
 
 use crate::filling::filled;
 use std::alloc::{AllocError, Global};
@@ -65,7 +63,7 @@ pub fn new_items(alloc: Global, all: &[(u32, u32)]) -> Result<Items, AllocError>
 /// compares at most two groups a child and goes down one way. It is refused only where a group that
 /// is made of a key is refused memory, here never.
 pub fn group_len(items: &Items, group: u32) -> Result<Option<usize>, DescendError>
-    ensures counted { IfOk result (λ it. it ≡ Some (length (items_of group (keys_of items.now)))) }
+    ensures counted { IfOk result (λ it. it ≡ Some (length (items_in group items.now))) }
     ensures refused { IfErr result (λ error. error ≡ OutOfMemory) }
 {
     // Read, so that it is known to fit.
@@ -79,7 +77,7 @@ pub fn group_len(items: &Items, group: u32) -> Result<Option<usize>, DescendErro
 /// a child and goes down one way. It is refused only where a group that is made of a key is refused
 /// memory, here never.
 pub fn item_at(items: &Items, group: u32, place: usize) -> Result<Option<u32>, AllocError>
-    ensures { IfOk result (λ number. number ≡ option_map (λ item. item.number) (slice_get (items_of group (keys_of items.now)) place)) }
+    ensures { IfOk result (λ number. number ≡ number_at group items.now place) }
 {
     match items.get_by_argument((Group(group), place))? {
         Some((item, _)) => Ok(Some(item.number)),

@@ -1,10 +1,8 @@
 //! A leaderboard: ranks of players, and players by their ranks.
-ghost use Rattle.std.specs.Prelude.{◌≡◌, Some, None, cond, slice_get};
-ghost use Rattle.std.specs.Map.{keys_of};
+ghost use Rattle.std.specs.Prelude.{◌≡◌, slice_get};
 ghost use Rattle.std.specs.Option.{option_map};
 ghost use Rattle.std.proofs.Common.{rules};
-ghost use Rattle.bptree_arguments.specs.CountLaws.{count_below};
-ghost use Rattle.bptree_keys.specs.Contents.{has};
+ghost use Rattle.bptree_examples.specs.Ranks.{rank_in};
 
 use crate::filling::filled;
 use std::alloc::{AllocError, Global};
@@ -48,7 +46,7 @@ pub fn new_board(alloc: Global, scores: &[(u32, u32)]) -> Result<Board, AllocErr
 /// level, and one addition a child before the one on the way. It takes no memory, and no call is
 /// refused.
 pub fn rank_of(board: &Board, standing: &Standing) -> Option<usize>
-    ensures { result ≡ cond (has ⟦<Standing as Ord>⟧.cmp board.now standing.now) (Some (count_below ⟦<Standing as Ord>⟧.cmp standing.now (keys_of board.now))) None }
+    ensures { result ≡ rank_in ⟦<Standing as Ord>⟧.cmp board.now standing.now }
 {
     match board.rank_by_argument(standing) {
         Ok(Ok(rank)) => Some(rank),

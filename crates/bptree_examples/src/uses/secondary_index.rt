@@ -1,9 +1,9 @@
 //! An index of rows by a value of theirs, kept in step with the rows.
-ghost use Rattle.std.specs.Prelude.{◌≡◌, ◌≢◌, ◌⊎◌, ℕ, OnErr, OnOk, IfOk, IsTrue, None, Some};
+ghost use Rattle.std.specs.Prelude.{◌≡◌, ◌≢◌, OnErr, OnOk, IfOk, IsTrue, None};
 ghost use Rattle.std.specs.Ordering.{nat_cmp};
 ghost use Rattle.std.proofs.Common.{rules};
 ghost use Rattle.bptree_keys.specs.Contents.{has, put, value};
-ghost use Rattle.bptree_examples.specs.EntryMoves.{entry_of, moved};
+ghost use Rattle.bptree_examples.specs.EntryMoves.{FollowsRow, HasValue, StaysOrPuts, moved};
 
 use crate::filling::filled;
 use std::alloc::{AllocError, Global};
@@ -51,7 +51,7 @@ pub fn new_index(alloc: Global, values: &[(u64, u64)]) -> Result<Index, AllocErr
 pub fn move_entry(index: &mut Index, old: Entry, new: Entry) -> Result<(), AllocError>
     ensures moved { OnOk result (old ≢ new → index.new ≡ moved ⟦<Entry as Ord>⟧.cmp tt index.old old new) }
     ensures kept { OnOk result (old ≡ new → index.new ≡ put ⟦<Entry as Ord>⟧.cmp index.old new tt) }
-    ensures refused { OnErr result ((index.new ≡ index.old) ⊎ (index.new ≡ put ⟦<Entry as Ord>⟧.cmp index.old new tt)) }
+    ensures refused { OnErr result (StaysOrPuts ⟦<Entry as Ord>⟧.cmp index.old index.new new) }
 {
     // Read, so that it is known to ascend.
     let _len = index.len();
@@ -78,11 +78,11 @@ pub fn move_entry(index: &mut Index, old: Entry, new: Entry) -> Result<(), Alloc
 /// It needs `get`, `move_entry` and `insert`, which searches once and is never refused for a row
 /// that is there. So the index is changed first: where that is refused, the row keeps its value.
 pub fn set_value(rows: &mut Rows, index: &mut Index, row: u64, now: u64) -> Result<bool, AllocError>
-    ensures there { IfOk result (λ there. there ≡ has nat_cmp rows.old row) }
-    ensures row { IfOk result (λ there. IsTrue there → rows.new ≡ put nat_cmp rows.old row now) }
-    ensures entry { OnOk result ((old : ℕ) → value nat_cmp rows.old row ≡ Some old → old ≢ now → index.new ≡ moved ⟦<Entry as Ord>⟧.cmp tt index.old (entry_of old row) (entry_of now row)) }
+    ensures there { IfOk result (λ it. it ≡ has nat_cmp rows.old row) }
+    ensures row { IfOk result (λ it. IsTrue it → rows.new ≡ put nat_cmp rows.old row now) }
+    ensures entry { OnOk result (FollowsRow ⟦<Entry as Ord>⟧.cmp rows.old row now index.old index.new) }
     ensures absent { OnOk result (value nat_cmp rows.old row ≡ None → index.new ≡ index.old) }
-    ensures same { OnOk result (value nat_cmp rows.old row ≡ Some now → index.new ≡ index.old) }
+    ensures same { OnOk result (HasValue rows.old row now → index.new ≡ index.old) }
     ensures refused { OnErr result (rows.new ≡ rows.old) }
 {
     let Some(old) = rows.get(&row).copied() else {

@@ -2,7 +2,7 @@
 ghost use Rattle.std.specs.Prelude.{◌≡◌, IfOk};
 ghost use Rattle.std.specs.Ordering.{nat_cmp};
 ghost use Rattle.std.specs.Option.{option_map};
-ghost use Rattle.bptree_keys.specs.Contents.{next, previous};
+ghost use Rattle.bptree_examples.specs.Beside.{values_beside};
 
 use crate::filling::filled;
 use std::alloc::{AllocError, Global};
@@ -24,7 +24,7 @@ pub fn new_line(alloc: Global, segments: &[(u64, u32)]) -> Result<Line, AllocErr
 /// the pair. Each takes what a clone of a key takes, here nothing; no call is
 /// refused.
 pub fn beside(line: &Line, height: u64) -> Result<(Option<u32>, Option<u32>), AllocError>
-    ensures { IfOk result (λ both. both ≡ (option_map (λ pair. pair.1) (previous nat_cmp line.now height), option_map (λ pair. pair.1) (next nat_cmp line.now height))) }
+    ensures { IfOk result (λ both. both ≡ values_beside nat_cmp line.now height) }
 {
     beside_in(line.tree(), height)
 }
@@ -34,7 +34,7 @@ fn beside_in<S: NodeStore<K = u64, V = u32>>(
     tree: &BPlusTree<S>,
     height: u64,
 ) -> Result<(Option<u32>, Option<u32>), AllocError>
-    ensures { IfOk result (λ both. both ≡ (option_map (λ pair. pair.1) (previous nat_cmp tree.now.contents height), option_map (λ pair. pair.1) (next nat_cmp tree.now.contents height))) }
+    ensures { IfOk result (λ both. both ≡ values_beside nat_cmp tree.now.contents height) }
 {
     match tree.get_cursor(&height)? {
         Some((cursor, _)) => Ok((

@@ -1,9 +1,7 @@
 //! Takings over a span of days, by sums of amounts that stand in the keys.
-ghost use Rattle.std.specs.Prelude.{◌≡◌, IfOk, Some};
-ghost use Rattle.std.specs.Map.{keys_of};
+ghost use Rattle.std.specs.Prelude.{◌≡◌, IfOk};
 ghost use Rattle.std.proofs.Common.{rules};
-ghost use Rattle.bptree_keys.specs.Ranges.{between};
-ghost use Rattle.bptree_examples.specs.Sales.{start_of_day, sum_of_amounts};
+ghost use Rattle.bptree_examples.specs.Sales.{start_of_day, sum_of_amounts, taken_between};
 
 use crate::filling::filled;
 use std::alloc::{AllocError, Global};
@@ -98,7 +96,7 @@ fn start_of(day: u32) -> Sale
 /// and adds up one sum a child between the ways. However many sales there are, it looks at those of
 /// two leaves. It is refused only where room for two sums is.
 pub fn taken(ledger: &Ledger, from: u32, to: u32) -> Result<u64, AllocError>
-    ensures { IfOk result (λ total. total ≡ sum_of_amounts (keys_of (between ⟦<Sale as Ord>⟧.cmp ledger.now (Some (start_of_day from)) (Some (start_of_day to))))) }
+    ensures { IfOk result (λ it. it ≡ taken_between ⟦<Sale as Ord>⟧.cmp ledger.now from to) }
 {
     let lo = start_of(from);
     let hi = start_of(to);

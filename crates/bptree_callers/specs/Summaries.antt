@@ -1,0 +1,18 @@
+-- What callers say of summaries of keys.
+use Rattle.std.specs.Prelude.{List}
+use Rattle.std.specs.declared.cmp.Ordering.{Ordering}
+use Rattle.bptree_ascent.specs.NodeTree.{NodeTree}
+use Rattle.bptree_keys.specs.Contents.{below}
+use Rattle.bptree_callers.specs.Words.{keys_from}
+
+module _ {K V A : Type 0} (cmp : K → K → Ordering) (is_summary : A → List K → Type 0) (l : List (K × V)) (k : K) where
+  -- of two summaries the first is of the keys below a key, and the second of those from it on
+  abbrev pub SumsBelow : A × A → Type 0
+  SumsBelow sums = is_summary sums.0 (below cmp l k)
+
+  abbrev pub SumsFrom : A × A → Type 0
+  SumsFrom sums = is_summary sums.1 (keys_from cmp l k)
+
+-- the argument of a tree's root is a summary of the keys
+abbrev pub RootSumsUp : {S K V A : Type 0} → (A → List K → Type 0) → List K → NodeTree S K V A → Type 0
+RootSumsUp is_summary keys tree = is_summary tree.root_argument keys
