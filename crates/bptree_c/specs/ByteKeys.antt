@@ -21,6 +21,18 @@ abbrev pub IsTold : Option (List ℕ) → Bool → List ℕ × ℕ → List ℕ 
 IsTold None found old new = (found ≡ false) × (new ≡ old)
 IsTold (Some key) found old new = (found ≡ true) × (new ≡ (take (length old.0) key ++ drop (length key) old.0, length key))
 
+-- the same of the least greater key, and of the greatest smaller key
+module _ (keys : List (List ℕ)) (k : List ℕ) (found : Bool) (old : List ℕ) (old_len : ℕ) (new : List ℕ) (new_len : ℕ) where
+  abbrev pub TellsAfter : Type 0
+  TellsAfter = IsTold (key_after keys k) found (old, old_len) (new, new_len)
+
+  abbrev pub TellsBefore : Type 0
+  TellsBefore = IsTold (key_before keys k) found (old, old_len) (new, new_len)
+
+-- the key was held or not, and the set is left as it was
+abbrev pub IsHeldStill : List (List ℕ) → List ℕ → Bool → Option (List (List ℕ)) → Type 0
+IsHeldStill keys key was held = (holds by_bytes keys key ≡ was) × (held ≡ Some keys)
+
 -- the key was held or not, and the set is left with it, or without it
 abbrev pub IsHeldWith : List (List ℕ) → List ℕ → Bool → Option (List (List ℕ)) → Type 0
 IsHeldWith keys key was held = (holds by_bytes keys key ≡ was) × (held ≡ Some (with_key by_bytes keys key))

@@ -1,12 +1,22 @@
 -- Pairs as C has them, and what is copied into a caller's array.
-use Rattle.std.specs.Prelude.{◌≡◌, ℕ, List, [], ◌∷◌, ◌++◌, Option, MatchOption, length, map, take, drop}
+use Rattle.std.specs.Prelude.{◌≡◌, ℕ, Bool, true, false, List, [], ◌∷◌, ◌++◌, Option, MatchOption, length, map, take, drop}
+use Rattle.std.specs.Ordering.{nat_cmp}
 use Rattle.bptree_c.specs.declared.pair.Pair.{Pair}
+use Rattle.bptree_keys.specs.Contents.{gather}
 
 abbrev pub as_tuple : Pair → ℕ × ℕ
 as_tuple pair = (pair.key, pair.value)
 
 abbrev pub as_pair : ℕ × ℕ → Pair
 as_pair pair = record { key = pair.0; value = pair.1 }
+
+-- the list of the pairs of an array in any order: of equal keys the last
+abbrev pub gathered : List Pair → List (ℕ × ℕ)
+gathered given = gather nat_cmp (map as_tuple given)
+
+-- the answer is true where there is a pair, which stands where C reads it
+abbrev pub IsAnswered : Option (ℕ × ℕ) → Bool → Pair → Type 0
+IsAnswered found answer place = MatchOption found (answer ≡ false) (λ pair. (answer ≡ true) × (pair ≡ as_tuple place))
 
 -- the first pairs of the list, as many as the array takes, stand at its beginning, and the rest of the array is as it was
 abbrev pub IsCopied : List (ℕ × ℕ) → List Pair → List Pair → ℕ → Type 0

@@ -19,6 +19,10 @@ LeftFirst old new told = (rest : List (ℕ × ℕ)) × (old ≡ as_tuple told �
 abbrev pub LeftLast : List (ℕ × ℕ) → Option (List (ℕ × ℕ)) → Pair → Type 0
 LeftLast old new told = (rest : List (ℕ × ℕ)) × (old ≡ rest ++ as_tuple told ∷ []) × (new ≡ Some rest)
 
+-- the pair at a place has left the list, if there is one, and is what is given
+abbrev pub TakesAt : List (ℕ × ℕ) → ℕ → List (ℕ × ℕ) → Option (ℕ × ℕ) → Type 0
+TakesAt old i new taken = (taken ≡ slice_get old i) × (new ≡ remove old i)
+
 -- 0 for none, 1 for what stands where C reads it, and 2 for a refusal
 abbrev pub IsToldAs : {X Y : Type 0} → (Y → X) → Result (Option X) AllocError → ℕ → Y → Type 0
 IsToldAs read answer code place = MatchResult answer

@@ -3,7 +3,7 @@
 ghost use Rattle.std.specs.Prelude.{◌≡◌, ◌-◌, ◌≤◌, ℕ, List, [], Option, Some, None, IfOk, OnErr, IsTrue, ◌++◌, true, false, not, length, slice_get, take, drop};
 ghost use Rattle.std.specs.Option.{option_copied, option_map};
 ghost use Rattle.bptree_arguments.specs.CountLaws.{count_below};
-ghost use Rattle.bptree_c.specs.ByteKeys.{by_bytes, key_after, key_before, IsHeldWith, IsHeldWithout, IsTold};
+ghost use Rattle.bptree_c.specs.ByteKeys.{by_bytes, key_after, key_before, IsHeldStill, IsHeldWith, IsHeldWithout, IsTold, TellsAfter, TellsBefore};
 ghost use Rattle.bptree_maps.specs.Keys.{holds};
 ghost use Rattle.bptree_maps.specs.KeyChanges.{PutsKey, RemovesKey};
 ghost use Rattle.bptree_keys.specs.Contents.{last_member};
@@ -153,8 +153,7 @@ pub extern "C" fn bptree_bytes_insert(alloc: Global, set: &mut ByteHandle, key: 
     ensures codes { result ≤ 2 }
     ensures added { result ≡ 0 →
         IsHeldWith keys key.now false set.new.held }
-    ensures there { result ≡ 1 →
-        (holds by_bytes keys key.now ≡ true) × (set.new.held ≡ Some keys) }
+    ensures there { result ≡ 1 → IsHeldStill keys key.now true set.new.held }
     ensures refused { result ≡ 2 → set.new.held ≡ Some keys }
 {
     let Ok(copy) = Bytes::copy_of(alloc, key) else {
@@ -188,8 +187,7 @@ pub extern "C" fn bptree_bytes_remove(alloc: Global, set: &mut ByteHandle, key: 
     ghost keys: { List (List ℕ) }
     requires open { set.old.held ≡ Some keys }
     ensures codes { result ≤ 2 }
-    ensures none { result ≡ 0 →
-        (holds by_bytes keys key.now ≡ false) × (set.new.held ≡ Some keys) }
+    ensures none { result ≡ 0 → IsHeldStill keys key.now false set.new.held }
     ensures removed { result ≡ 1 →
         IsHeldWithout keys key.now true set.new.held }
     ensures refused { result ≡ 2 → set.new.held ≡ Some keys }
@@ -335,8 +333,8 @@ pub extern "C" fn bptree_bytes_next(
     requires open { set.old.held ≡ Some keys }
     ensures codes { result ≤ 2 }
     ensures kept { set.new.held ≡ Some keys }
-    ensures none { result ≡ 0 → IsTold (key_after keys key.now) false (out.old, len.old) (out.new, len.new) }
-    ensures found { result ≡ 1 → IsTold (key_after keys key.now) true (out.old, len.old) (out.new, len.new) }
+    ensures none { result ≡ 0 → TellsAfter keys key.now false out.old len.old out.new len.new }
+    ensures found { result ≡ 1 → TellsAfter keys key.now true out.old len.old out.new len.new }
     ensures refused { result ≡ 2 → (out.new ≡ out.old) × (len.new ≡ len.old) }
 {
     let Ok(copy) = Bytes::copy_of(alloc, key) else {
@@ -380,8 +378,8 @@ pub extern "C" fn bptree_bytes_prev(
     requires open { set.old.held ≡ Some keys }
     ensures codes { result ≤ 2 }
     ensures kept { set.new.held ≡ Some keys }
-    ensures none { result ≡ 0 → IsTold (key_before keys key.now) false (out.old, len.old) (out.new, len.new) }
-    ensures found { result ≡ 1 → IsTold (key_before keys key.now) true (out.old, len.old) (out.new, len.new) }
+    ensures none { result ≡ 0 → TellsBefore keys key.now false out.old len.old out.new len.new }
+    ensures found { result ≡ 1 → TellsBefore keys key.now true out.old len.old out.new len.new }
     ensures refused { result ≡ 2 → (out.new ≡ out.old) × (len.new ≡ len.old) }
 {
     let Ok(copy) = Bytes::copy_of(alloc, key) else {

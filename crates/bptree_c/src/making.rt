@@ -1,8 +1,6 @@
 //! How a map is made, filled at once, emptied and freed.
 ghost use Rattle.std.specs.Prelude.{◌≡◌, ℕ, List, [], Some, None, IsTrue, false, IfOk, OnErr, map as each};
-ghost use Rattle.bptree_c.specs.Pairs.{as_tuple};
-ghost use Rattle.bptree_keys.specs.Contents.{gather};
-ghost use Rattle.std.specs.Ordering.{nat_cmp};
+ghost use Rattle.bptree_c.specs.Pairs.{as_tuple, gathered};
 
 use crate::handle::{Handle, Map};
 use crate::pair::Pair;
@@ -61,7 +59,7 @@ pub extern "C" fn bptree_clear(alloc: Global, map: &mut Handle) -> bool
 pub extern "C" fn bptree_load(alloc: Global, map: &mut Handle, given: &[Pair]) -> bool
     ghost pairs: { List (ℕ × ℕ) }
     requires open { map.old.held ≡ Some pairs }
-    ensures all { IsTrue result → map.new.held ≡ Some (gather nat_cmp (each as_tuple given.now)) }
+    ensures all { IsTrue result → map.new.held ≡ Some (gathered given.now) }
     ensures refused { result ≡ false → map.new.held ≡ Some pairs }
 {
     let mut whole = map.take(alloc);
@@ -71,7 +69,7 @@ pub extern "C" fn bptree_load(alloc: Global, map: &mut Handle, given: &[Pair]) -
 }
 
 fn load_into(alloc: Global, map: &mut Map, given: &[Pair]) -> Result<(), AllocError>
-    ensures ok { IfOk result (λ _. map.new ≡ gather nat_cmp (each as_tuple given.now)) }
+    ensures ok { IfOk result (λ _. map.new ≡ gathered given.now) }
     ensures err { OnErr result (map.new ≡ map.old) }
 {
     map.pairs = gathered(alloc, given)?;
@@ -79,7 +77,7 @@ fn load_into(alloc: Global, map: &mut Map, given: &[Pair]) -> Result<(), AllocEr
 }
 
 fn gathered(alloc: Global, given: &[Pair]) -> Result<BPlusTreeMap<u64, u64, Count>, AllocError>
-    ensures { IfOk result (λ pairs. pairs ≡ gather nat_cmp (each as_tuple given.now)) }
+    ensures { IfOk result (λ pairs. pairs ≡ gathered given.now) }
 {
     let copied = tuples(alloc, given)?;
     BPlusTreeMap::from_iter(alloc, copied)

@@ -1,11 +1,11 @@
 //! Calls that read a map. None of them is ever refused.
-ghost use Rattle.std.specs.Prelude.{◌≡◌, ◌-◌, ℕ, List, Option, Some, None, IsTrue, true, false, MatchOption, length, slice_get};
+ghost use Rattle.std.specs.Prelude.{◌≡◌, ℕ, List, Option, Some, None, IsTrue, false, length, slice_get};
 ghost use Rattle.std.specs.Map.{keys_of};
 ghost use Rattle.std.specs.Option.{option_map};
 ghost use Rattle.std.specs.Ordering.{nat_cmp};
 ghost use Rattle.bptree_arguments.specs.CountLaws.{count_below};
-ghost use Rattle.bptree_c.specs.Pairs.{as_tuple};
-ghost use Rattle.bptree_keys.specs.Contents.{has, value, next, previous};
+ghost use Rattle.bptree_c.specs.Pairs.{IsAnswered, as_tuple};
+ghost use Rattle.bptree_keys.specs.Contents.{has, last_member, value, next, previous};
 ghost use Rattle.bptree_keys.specs.Ranges.{between};
 ghost use Rattle.std.specs.Map.Iter.{deref_pair};
 
@@ -96,7 +96,7 @@ fn owned(pair: Option<(&u64, &u64)>) -> Option<(u64, u64)>
 
 // Whether there is a pair, which is written where there is one.
 fn is_told(answer: Option<(u64, u64)>, pair: &mut Pair) -> bool
-    ensures { MatchOption answer (result ≡ false) (λ p. (result ≡ true) × (p ≡ as_tuple pair.new)) }
+    ensures { IsAnswered answer result pair.new }
 {
     match answer {
         Some((key, value)) => {
@@ -113,8 +113,8 @@ pub extern "C" fn bptree_last(alloc: Global, map: &mut Handle, pair: &mut Pair) 
     ghost pairs: { List (ℕ × ℕ) }
     requires open { map.old.held ≡ Some pairs }
     ensures kept { map.new.held ≡ Some pairs }
-    ensures found { IsTrue result → slice_get pairs (length pairs - 1) ≡ Some (as_tuple pair.new) }
-    ensures empty { result ≡ false → slice_get pairs (length pairs - 1) ≡ None }
+    ensures found { IsTrue result → last_member pairs ≡ Some (as_tuple pair.new) }
+    ensures empty { result ≡ false → last_member pairs ≡ None }
 {
     let whole = map.take(alloc);
     let answer = last_in(&whole);
@@ -123,7 +123,7 @@ pub extern "C" fn bptree_last(alloc: Global, map: &mut Handle, pair: &mut Pair) 
 }
 
 fn last_in(map: &Map) -> Option<(u64, u64)>
-    ensures { result ≡ slice_get map.now (length map.now - 1) }
+    ensures { result ≡ last_member map.now }
 {
     owned(map.pairs.last())
 }

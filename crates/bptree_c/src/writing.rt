@@ -1,9 +1,8 @@
 //! Calls that change a map: a refused one leaves it as it was.
-ghost use Rattle.std.specs.Prelude.{◌≡◌, ◌≤◌, ℕ, List, [], Option, Some, None, Ok, IfOk, OnErr, IsOk, IsTrue, false, length, slice_get};
-ghost use Rattle.std.specs.List.{remove};
+ghost use Rattle.std.specs.Prelude.{◌≡◌, ◌≤◌, ℕ, List, [], Option, Some, None, Ok, IfOk, OnErr, IsOk, IsTrue, false, length};
 ghost use Rattle.std.specs.Map.Iter.{TakesFirst, TakesLast};
 ghost use Rattle.std.specs.Ordering.{nat_cmp};
-ghost use Rattle.bptree_c.specs.Popped.{IsGoneAt, IsPutAt, IsTold, IsToldAs, LeftAt, LeftFirst, LeftLast};
+ghost use Rattle.bptree_c.specs.Popped.{IsGoneAt, IsPutAt, IsTold, IsToldAs, LeftAt, LeftFirst, LeftLast, TakesAt};
 ghost use Rattle.bptree_keys.specs.Contents.{has, value};
 ghost use Rattle.bptree_tree.specs.Changes.{Puts, Removes};
 
@@ -117,8 +116,7 @@ pub extern "C" fn bptree_remove_at(
 }
 
 fn remove_in(map: &mut Map, place: usize) -> Result<Option<(u64, u64)>, AllocError>
-    ensures ok { IfOk result (λ gone.
-        (gone ≡ slice_get map.old place) × (map.new ≡ remove map.old place)) }
+    ensures ok { IfOk result (TakesAt map.old place map.new) }
     ensures past { length map.old ≤ place → (result ≡ Ok None) × (map.new ≡ map.old) }
     ensures err { OnErr result (map.new ≡ map.old) }
 {

@@ -24,6 +24,10 @@ abbrev pub gone_text : Option ℕ → List ℕ
 gone_text None = codes "none"
 gone_text (Some gone) = codes "gone " ++ decimal gone
 
+-- the answer to the removal of the key
+abbrev pub del_text : List (ℕ × ℕ) → ℕ → List ℕ
+del_text pairs key = gone_text (value nat_cmp pairs key)
+
 -- the key is absent, and no number counts one pair more
 abbrev pub has_no_place : List (ℕ × ℕ) → ℕ → Bool
 has_no_place pairs key = (length pairs == 2 ^ 64 - 1) && not (has nat_cmp pairs key)
@@ -47,6 +51,10 @@ abbrev pub rank_text : Bool → ℕ → List ℕ
 rank_text true smaller = codes "in " ++ decimal smaller
 rank_text false smaller = codes "out " ++ decimal smaller
 
+-- the same of a key among pairs
+abbrev pub key_rank_text : List (ℕ × ℕ) → ℕ → List ℕ
+key_rank_text pairs key = rank_text (has nat_cmp pairs key) (count_below nat_cmp key (keys_of pairs))
+
 -- all pairs, with a comma between two
 abbrev pub pairs_text : List (ℕ × ℕ) → List ℕ
 pairs_text [] = codes "empty"
@@ -66,14 +74,14 @@ item_text false pair = 44 ∷ pair_text pair
 abbrev pub reply_to : List (ℕ × ℕ) → Option Request → List ℕ
 reply_to pairs None = codes "bad"
 reply_to pairs (Some (Put key new)) = put_text pairs key
-reply_to pairs (Some (Del key)) = gone_text (value nat_cmp pairs key)
+reply_to pairs (Some (Del key)) = del_text pairs key
 reply_to pairs (Some (Get key)) = value_text (value nat_cmp pairs key)
 reply_to pairs (Some Len) = decimal (length pairs)
 reply_to pairs (Some All) = pairs_text pairs
 reply_to pairs (Some First) = found_text (slice_get pairs 0)
 reply_to pairs (Some Last) = found_text (slice_get pairs (length pairs - 1))
 reply_to pairs (Some (At i)) = found_text (slice_get pairs i)
-reply_to pairs (Some (Rank key)) = rank_text (has nat_cmp pairs key) (count_below nat_cmp key (keys_of pairs))
+reply_to pairs (Some (Rank key)) = key_rank_text pairs key
 reply_to pairs (Some (Next key)) = found_text (next nat_cmp pairs key)
 reply_to pairs (Some (Prev key)) = found_text (previous nat_cmp pairs key)
 reply_to pairs (Some Back) = pairs_text (reverse pairs)
@@ -100,9 +108,12 @@ pairs_with pairs (Some Clear) = []
 pairs_with pairs (Some (Range lo hi)) = pairs
 pairs_with pairs (Some (Page p s)) = pairs
 
--- the answer to a line, and the pairs after it
+-- the answer to a line without a line feed, and with it, and the pairs after it
+abbrev pub answer_text : List (ℕ × ℕ) → List ℕ → List ℕ
+answer_text pairs line = reply_to pairs (request_of line)
+
 unfoldable pub answer : List (ℕ × ℕ) → List ℕ → List ℕ
-answer pairs line = reply_to pairs (request_of line) ++ 10 ∷ []
+answer pairs line = answer_text pairs line ++ 10 ∷ []
 
 unfoldable pub pairs_after : List (ℕ × ℕ) → List ℕ → List (ℕ × ℕ)
 pairs_after pairs line = pairs_with pairs (request_of line)

@@ -1,4 +1,5 @@
 pub mod Answers
+pub mod Carried
 pub mod Clipped
 pub mod Ends
 pub mod Faults

@@ -17,6 +17,10 @@ pub record Sent : Type 0 where
 abbrev pub AppendsBeginning : Option (List ℕ) → Option (List ℕ) → List ℕ → Type 0
 AppendsBeginning old new text = (front : List ℕ) × (rest : List ℕ) × (text ≡ front ++ rest) × Appends old new front
 
+-- the error tells that the writer failed, by what is known of it before and after: a beginning of the text went to it
+abbrev pub BreaksOff : {W : Type 0} → (W → Option (List ℕ)) → W → W → List ℕ → ServeError → Type 0
+BreaksOff contents old new text e = (e ≡ Io) × AppendsBeginning (contents old) (contents new) text
+
 -- what was held and then the text went to the writer, up to what is held now
 abbrev pub Sends : Sent → Sent → List ℕ → Type 0
 Sends old new text = (new.writer ≡ old.writer) × (front : List ℕ) × (old.held ++ text ≡ front ++ new.held) × Appends old.written new.written front

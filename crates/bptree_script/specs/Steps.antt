@@ -41,9 +41,13 @@ module _ {K V : Type 0} (cmp : K → K → Ordering) where
   RepliesCopy pair OutOfMemory = Unit {0}
   RepliesCopy pair reply = ⊥
 
+  -- the answers are copies of what was taken
+  abbrev pub AreCopies : List (Option (K × V)) → List (Option (K × V)) → Type 0
+  AreCopies taken answers = AllZip IsCopyOf taken answers
+
   -- the reply has copies of what was taken, or there was no memory
   abbrev pub RepliesWalk : {R : Type 0} → List (Option (K × V)) → Reply K V R → Type 0
-  RepliesWalk taken (Walked answers) = AllZip IsCopyOf taken answers.items
+  RepliesWalk taken (Walked answers) = AreCopies taken answers.items
   RepliesWalk taken OutOfMemory = Unit {0}
   RepliesWalk taken reply = ⊥
 
@@ -53,16 +57,16 @@ module _ {K V : Type 0} (cmp : K → K → Ordering) where
   pair_beside false l k = previous cmp l k
 
   -- of a cursor beside a value that is lent: it stands at the pair beside another cursor's key, and the value is that pair's
-  module _ (is_next : Bool) (l : List (K × V)) (cursor : CursorOf K) where
+  module _ {S A : Type 0} (is_next : Bool) (tree : NodeTree S K V A) (cursor : CursorOf K) where
     abbrev pub PointsBeside : Option (CursorOf K × Bor V) → Type 0
-    PointsBeside answer = PointsAt cmp (pair_beside is_next l (cursor_key cursor)) answer
+    PointsBeside answer = PointsAt cmp (pair_beside is_next tree.contents (cursor_key cursor)) answer
 
     abbrev pub ShowsBeside : Option (CursorOf K × Bor V) → Type 0
-    ShowsBeside answer = ShowsValueOf (pair_beside is_next l (cursor_key cursor)) answer
+    ShowsBeside answer = ShowsValueOf (pair_beside is_next tree.contents (cursor_key cursor)) answer
 
     -- or there is no such pair
     abbrev pub HasNoneBeside : Type 0
-    HasNoneBeside = pair_beside is_next l (cursor_key cursor) ≡ None
+    HasNoneBeside = pair_beside is_next tree.contents (cursor_key cursor) ≡ None
 
   -- the list has the greatest length, and the key would make it longer
   abbrev pub HasNoRoomFor : List (K × V) → K → Type 0
@@ -155,11 +159,11 @@ module _ {K V Q R : Type 0} (cmp : K → K → Ordering) (selects : Q → List K
   TreeStep old (At q) OutOfMemory new = new ≡ old
   TreeStep old (RankOf k) (Rank rank) new = MatchResult rank (ranks k (keys_of old)) (ranks k (keys_of old)) × (is_ok rank ≡ has cmp old k) × (new ≡ old)
   TreeStep old (RankOf k) OutOfMemory new = new ≡ old
-  TreeStep old (Walk word) (Walked answers) new = AllZip (IsCopyOf cmp) (walked word.items old) answers.items × (new ≡ old)
+  TreeStep old (Walk word) (Walked answers) new = AreCopies cmp (walked word.items old) answers.items × (new ≡ old)
   TreeStep old (Walk word) OutOfMemory new = new ≡ old
-  TreeStep old (Range lo hi word) (Walked answers) new = AllZip (IsCopyOf cmp) (walked word.items (between cmp old lo hi)) answers.items × (new ≡ old)
+  TreeStep old (Range lo hi word) (Walked answers) new = AreCopies cmp (walked word.items (between cmp old lo hi)) answers.items × (new ≡ old)
   TreeStep old (Range lo hi word) OutOfMemory new = new ≡ old
-  TreeStep old (RangeAt q n word) (Walked answers) new = ((part : List (K × V)) × IsPartSelected selects q old n part × AllZip (IsCopyOf cmp) (walked word.items part) answers.items) × (new ≡ old)
+  TreeStep old (RangeAt q n word) (Walked answers) new = ((part : List (K × V)) × IsPartSelected selects q old n part × AreCopies cmp (walked word.items part) answers.items) × (new ≡ old)
   TreeStep old (RangeAt q n word) OutOfMemory new = new ≡ old
   -- no other reply is given
   TreeStep old command reply new = ⊥
@@ -188,6 +192,10 @@ module _ {K V Q R : Type 0} (cmp : K → K → Ordering) (selects : Q → List K
 
 -- ---- what calls on a tree reply
 
+-- the keys of the held cursors
+abbrev pub held_keys : {K : Type 0} → List (CursorOf K) → List K
+held_keys cursors = map cursor_key cursors
+
 module _ {S K V Q R A : Type 0} (cmp : K → K → Ordering) (selects : Q → List K → Option ℕ → Type 0) (ranks : K → List K → R → Type 0) where
   -- a call that reads a tree replies as the command does
   abbrev pub Reads : NodeTree S K V A → Command K V Q → Reply K V R → Type 0
@@ -197,20 +205,34 @@ module _ {S K V Q R A : Type 0} (cmp : K → K → Ordering) (selects : Q → Li
   abbrev pub Changes : NodeTree S K V A → NodeTree S K V A → Command K V Q → Reply K V R → Type 0
   Changes old new command reply = TreeStep cmp selects ranks old.contents command reply new.contents
 
--- the keys of the held cursors
-abbrev pub held_keys : {K : Type 0} → List (CursorOf K) → List K
-held_keys cursors = map cursor_key cursors
+  -- the same of calls with the cursors that are held
+  abbrev pub ChangesWith : NodeTree S K V A → List (CursorOf K) → Command K V Q → Reply K V R → NodeTree S K V A → List (CursorOf K) → Type 0
+  ChangesWith old held command reply new held_after = Step cmp selects ranks old.contents (held_keys held) command reply new.contents (held_keys held_after)
+
+  abbrev pub ReadsWith : NodeTree S K V A → List (CursorOf K) → Command K V Q → Reply K V R → List (CursorOf K) → Type 0
+  ReadsWith tree held command reply held_after = ChangesWith tree held command reply tree held_after
+
+  -- one call after another with them, and all calls, with none held at first
+  abbrev pub RunsWith : NodeTree S K V A → List (CursorOf K) → List (Command K V Q) → List (Reply K V R) → NodeTree S K V A → List (CursorOf K) → Type 0
+  RunsWith old held commands replies new held_after = Run cmp selects ranks old.contents (held_keys held) commands replies new.contents (held_keys held_after)
+
+  abbrev pub RunsAll : NodeTree S K V A → List (Command K V Q) → List (Reply K V R) → NodeTree S K V A → Type 0
+  RunsAll old commands replies new = (held : List K) × Run cmp selects ranks old.contents [] commands replies new.contents held
 
 module _ {K V : Type 0} where
   -- the pair that a cursor beside a value tells
   abbrev pub told_pair : Option (CursorOf K × Bor V) → Option (K × V)
   told_pair found = option_map (λ at. (cursor_key at.0, at.1.now)) found
 
+  -- the cursor joins the held ones, and its number is told with a value; or there is no memory for it
+  abbrev pub CursorJoins : {R : Type 0} → CursorOf K → Option V → List (CursorOf K) → Reply K V R → List (CursorOf K) → Type 0
+  CursorJoins cursor told held reply held_after = JoinsOrStays (cursor_key cursor) told (held_keys held) reply (held_keys held_after)
+
   module _ {R : Type 0} (cmp : K → K → Ordering) (found : Option (CursorOf K × Bor V)) where
     -- of whatever pair this is a copy, a held cursor goes to it as to a neighbour
-    abbrev pub GoesTo : List K → ℕ → Reply K V R → List K → Type 0
-    GoesTo held n reply held_after = (pair : Option (K × V)) → IsCopyOf cmp pair (told_pair found) → NeighbourStep cmp pair held n reply held_after
+    abbrev pub GoesTo : List (CursorOf K) → ℕ → Reply K V R → List (CursorOf K) → Type 0
+    GoesTo held n reply held_after = (pair : Option (K × V)) → IsCopyOf cmp pair (told_pair found) → NeighbourStep cmp pair (held_keys held) n reply (held_keys held_after)
 
     -- or it joins the held ones there, as at an end
-    abbrev pub JoinsAt : List K → Reply K V R → List K → Type 0
-    JoinsAt held reply held_after = (pair : Option (K × V)) → IsCopyOf cmp pair (told_pair found) → EndStep cmp pair held reply held_after
+    abbrev pub JoinsAt : List (CursorOf K) → Reply K V R → List (CursorOf K) → Type 0
+    JoinsAt held reply held_after = (pair : Option (K × V)) → IsCopyOf cmp pair (told_pair found) → EndStep cmp pair (held_keys held) reply (held_keys held_after)

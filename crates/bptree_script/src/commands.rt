@@ -1,7 +1,8 @@
 //! Commands on a tree, and their replies.
-ghost use Rattle.std.specs.Prelude.{◌≡◌, ◌≤◌, ◌↔◌, [], List, IfOk, IsNone, IsSome, vec_capacity, vec_len};
+ghost use Rattle.std.specs.Prelude.{◌≡◌, ◌≤◌, ◌↔◌, [], IfOk, IsNone, IsSome, vec_capacity, vec_len};
 ghost use Rattle.std.specs.Option.{option_map};
-ghost use Rattle.bptree_script.specs.Steps.{IsCopyOf, RepliesCopy, Step, Run, reply_to_refusal, Changes, Reads, held_keys};
+ghost use Rattle.bptree_script.specs.Steps.{IsCopyOf, RepliesCopy, reply_to_refusal, Changes, ChangesWith, Reads, RunsAll, RunsWith};
+ghost use Rattle.bptree_script.specs.declared.commands.Command.TheVariants.{Insert, Remove, RemoveAt, Clear, Get, Set, SetAt, At, Rank};
 ghost use Rattle.std.specs.Map.Iter.{deref_pair};
 
 use crate::held;
@@ -137,7 +138,7 @@ fn copied<K: Key, V: Copy, R>(pair: Option<(&K, &V)>) -> Reply<K, V, R>
 fn insert<S: NodeStore>(tree: &mut BPlusTree<S>, key: S::K, value: S::V) -> ReplyOf<S>
 where
     S::Argument: SearchArgument<S::K> + RankArgument<S::K>,
-    ensures { Changes S.K.cmp S.Argument.selects S.Argument.ranks tree.old tree.new (Command.Insert key value) result }
+    ensures { Changes S.K.cmp S.Argument.selects S.Argument.ranks tree.old tree.new (Insert key value) result }
 {
     match tree.insert(key, value) {
         Ok(before) => Reply::Value(before),
@@ -148,7 +149,7 @@ where
 fn remove<S: NodeStore>(tree: &mut BPlusTree<S>, key: S::K) -> ReplyOf<S>
 where
     S::Argument: SearchArgument<S::K> + RankArgument<S::K>,
-    ensures { Changes S.K.cmp S.Argument.selects S.Argument.ranks tree.old tree.new (Command.Remove key) result }
+    ensures { Changes S.K.cmp S.Argument.selects S.Argument.ranks tree.old tree.new (Remove key) result }
 {
     match tree.remove(&key) {
         Ok(gone) => Reply::Value(gone),
@@ -162,7 +163,7 @@ fn remove_at<S: NodeStore>(
 ) -> ReplyOf<S>
 where
     S::Argument: SearchArgument<S::K> + RankArgument<S::K>,
-    ensures { Changes S.K.cmp S.Argument.selects S.Argument.ranks tree.old tree.new (Command.RemoveAt query) result }
+    ensures { Changes S.K.cmp S.Argument.selects S.Argument.ranks tree.old tree.new (RemoveAt query) result }
 {
     match tree.remove_by_argument(query) {
         Ok(pair) => Reply::Pair(pair),
@@ -173,7 +174,7 @@ where
 fn clear<S: NodeStore>(tree: &mut BPlusTree<S>) -> ReplyOf<S>
 where
     S::Argument: SearchArgument<S::K> + RankArgument<S::K>,
-    ensures { Changes S.K.cmp S.Argument.selects S.Argument.ranks tree.old tree.new Command.Clear result }
+    ensures { Changes S.K.cmp S.Argument.selects S.Argument.ranks tree.old tree.new Clear result }
 {
     match tree.clear() {
         Ok(()) => Reply::Done(true),
@@ -185,7 +186,7 @@ fn get<S: NodeStore>(tree: &BPlusTree<S>, key: S::K) -> ReplyOf<S>
 where
     S::V: Copy,
     S::Argument: SearchArgument<S::K> + RankArgument<S::K>,
-    ensures { Reads S.K.cmp S.Argument.selects S.Argument.ranks tree.now (Command.Get key) result }
+    ensures { Reads S.K.cmp S.Argument.selects S.Argument.ranks tree.now (Get key) result }
 {
     Reply::Value(tree.get(&key).copied())
 }
@@ -194,7 +195,7 @@ fn set<S: NodeStore>(tree: &mut BPlusTree<S>, key: S::K, value: S::V) -> ReplyOf
 where
     S::V: Copy,
     S::Argument: SearchArgument<S::K> + RankArgument<S::K>,
-    ensures { Changes S.K.cmp S.Argument.selects S.Argument.ranks tree.old tree.new (Command.Set key value) result }
+    ensures { Changes S.K.cmp S.Argument.selects S.Argument.ranks tree.old tree.new (Set key value) result }
 {
     let Some(held) = tree.get_mut(&key) else {
         return Reply::Done(false);
@@ -211,7 +212,7 @@ fn set_at<S: NodeStore>(
 where
     S::V: Copy,
     S::Argument: SearchArgument<S::K> + RankArgument<S::K>,
-    ensures { Changes S.K.cmp S.Argument.selects S.Argument.ranks tree.old tree.new (Command.SetAt query value) result }
+    ensures { Changes S.K.cmp S.Argument.selects S.Argument.ranks tree.old tree.new (SetAt query value) result }
 {
     match tree.get_mut_by_argument(query) {
         Ok(found) => {
@@ -230,7 +231,7 @@ fn at<S: NodeStore>(
 where
     S::V: Copy,
     S::Argument: SearchArgument<S::K> + RankArgument<S::K>,
-    ensures { Reads S.K.cmp S.Argument.selects S.Argument.ranks tree.now (Command.At query) result }
+    ensures { Reads S.K.cmp S.Argument.selects S.Argument.ranks tree.now (At query) result }
 {
     match tree.get_by_argument(query) {
         Ok(pair) => copied(pair),
@@ -241,7 +242,7 @@ where
 fn rank<S: NodeStore>(tree: &BPlusTree<S>, key: S::K) -> ReplyOf<S>
 where
     S::Argument: SearchArgument<S::K> + RankArgument<S::K>,
-    ensures { Reads S.K.cmp S.Argument.selects S.Argument.ranks tree.now (Command.Rank key) result }
+    ensures { Reads S.K.cmp S.Argument.selects S.Argument.ranks tree.now (Rank key) result }
 {
     match tree.rank_by_argument(&key) {
         Ok(rank) => Reply::Rank(rank),
@@ -259,7 +260,7 @@ fn carry_out<S: NodeStore>(
 where
     S::V: Copy,
     S::Argument: SearchArgument<S::K> + RankArgument<S::K>,
-    ensures { Step S.K.cmp S.Argument.selects S.Argument.ranks tree.old.contents (held_keys cursors.old.items) command result tree.new.contents (held_keys cursors.new.items) }
+    ensures { ChangesWith S.K.cmp S.Argument.selects S.Argument.ranks tree.old cursors.old.items command result tree.new cursors.new.items }
 {
     match command {
         Command::Insert(key, value) => insert(tree, key, value),
@@ -304,7 +305,7 @@ where
     requires none { replies.old.items ≡ [] }
     requires empty { vec_len replies.old ≡ 0 }
     requires room { vec_len commands ≤ vec_capacity replies.old }
-    ensures run { Run S.K.cmp S.Argument.selects S.Argument.ranks tree.old.contents (held_keys cursors.old.items) commands.items replies.new.items tree.new.contents (held_keys cursors.new.items) }
+    ensures run { RunsWith S.K.cmp S.Argument.selects S.Argument.ranks tree.old cursors.old.items commands.items replies.new.items tree.new cursors.new.items }
     ensures all { vec_len replies.new ≡ vec_len commands }
 {
     for command in commands {
@@ -325,7 +326,7 @@ pub fn run<S: NodeStore>(
 where
     S::V: Copy,
     S::Argument: SearchArgument<S::K> + RankArgument<S::K>,
-    ensures run { IsNone result.1 → (held : List S.K) × Run S.K.cmp S.Argument.selects S.Argument.ranks tree.old.contents [] commands.items result.0.items tree.new.contents held }
+    ensures run { IsNone result.1 → RunsAll S.K.cmp S.Argument.selects S.Argument.ranks tree.old commands.items result.0.items tree.new }
     ensures refused { IsSome result.1 → (result.0.items ≡ []) × (tree.new ≡ tree.old) }
     ensures all { IsNone result.1 ↔ (vec_len result.0 ≡ vec_len commands) }
 {

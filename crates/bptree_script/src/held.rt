@@ -1,7 +1,7 @@
 //! Commands on the cursors that are held.
 ghost use Rattle.std.specs.Prelude.{◌≡◌, ◌<◌, Option, None, Ok, IfOk, IsOk, vec_len};
-ghost use Rattle.bptree_tree.specs.Cursor.{cursor_key, PointsAt, ShowsValueOf};
-ghost use Rattle.bptree_script.specs.Steps.{JoinsOrStays, Step, GoesTo, JoinsAt, held_keys, PointsBeside, ShowsBeside, HasNoneBeside, pair_at_end, cursor_at_end, step_of, reading_of};
+ghost use Rattle.bptree_tree.specs.Cursor.{PointsAt, ShowsValueOf};
+ghost use Rattle.bptree_script.specs.Steps.{CursorJoins, ReadsWith, GoesTo, JoinsAt, PointsBeside, ShowsBeside, HasNoneBeside, pair_at_end, cursor_at_end, step_of, reading_of};
 
 use crate::commands::{Command, Reply, ReplyOf};
 use bptree_arguments::argument::{RankArgument, SearchArgument};
@@ -17,7 +17,7 @@ fn join<K: Key, V: Drop, R>(
     cursor: Cursor<K>,
     value: Option<V>,
 ) -> Reply<K, V, R>
-    ensures { JoinsOrStays (cursor_key cursor) value (held_keys cursors.old.items) result (held_keys cursors.new.items) }
+    ensures { CursorJoins cursor value cursors.old.items result cursors.new.items }
 {
     let number = cursors.len();
     match cursors.push(cursor) {
@@ -35,7 +35,7 @@ pub(crate) fn hold<S: NodeStore>(
 where
     S::V: Copy,
     S::Argument: SearchArgument<S::K> + RankArgument<S::K>,
-    ensures { Step S.K.cmp S.Argument.selects S.Argument.ranks tree.now.contents (held_keys cursors.old.items) (Command.Cursor key) result tree.now.contents (held_keys cursors.new.items) }
+    ensures { ReadsWith S.K.cmp S.Argument.selects S.Argument.ranks tree.now cursors.old.items (Command.Cursor key) result cursors.new.items }
 {
     match tree.get_cursor(&key) {
         Ok(Some((cursor, value))) => join(cursors, cursor, value.copied()),
@@ -48,7 +48,7 @@ fn hold_found<K: Key, V: Copy, R>(
     cursors: &mut Vec<Cursor<K>>,
     found: Option<(Cursor<K>, &V)>,
 ) -> Reply<K, V, R>
-    ensures { JoinsAt K.cmp found.entry (held_keys cursors.old.items) result (held_keys cursors.new.items) }
+    ensures { JoinsAt K.cmp found.entry cursors.old.items result cursors.new.items }
 {
     match found {
         None => Reply::Pair(None),
@@ -79,7 +79,7 @@ pub(crate) fn hold_end<S: NodeStore>(
 where
     S::V: Copy,
     S::Argument: SearchArgument<S::K> + RankArgument<S::K>,
-    ensures { Step S.K.cmp S.Argument.selects S.Argument.ranks tree.now.contents (held_keys cursors.old.items) (cursor_at_end is_first) result tree.now.contents (held_keys cursors.new.items) }
+    ensures { ReadsWith S.K.cmp S.Argument.selects S.Argument.ranks tree.now cursors.old.items (cursor_at_end is_first) result cursors.new.items }
 {
     match at_end(tree, is_first) {
         Ok(found) => hold_found(cursors, found),
@@ -95,7 +95,7 @@ fn move_to<K: Key, V: Copy, R>(
     moved: Option<(Cursor<K>, &V)>,
 ) -> Reply<K, V, R>
     requires { number < vec_len cursors.old }
-    ensures { GoesTo K.cmp moved.entry (held_keys cursors.old.items) number result (held_keys cursors.new.items) }
+    ensures { GoesTo K.cmp moved.entry cursors.old.items number result cursors.new.items }
 {
     let Some((cursor, value)) = moved else {
         return Reply::Pair(None);
@@ -116,9 +116,9 @@ pub(crate) fn beside<'t, S: NodeStore>(
     cursor: &Cursor<S::K>,
     is_next: bool,
 ) -> Result<Option<(Cursor<S::K>, &'t S::V)>, AllocError>
-    ensures cursor { IfOk result (PointsBeside S.K.cmp is_next tree.now.contents cursor.now) }
-    ensures value { IfOk result (ShowsBeside S.K.cmp is_next tree.now.contents cursor.now) }
-    ensures end { HasNoneBeside S.K.cmp is_next tree.now.contents cursor.now → result ≡ Ok None }
+    ensures cursor { IfOk result (PointsBeside S.K.cmp is_next tree.now cursor.now) }
+    ensures value { IfOk result (ShowsBeside S.K.cmp is_next tree.now cursor.now) }
+    ensures end { HasNoneBeside S.K.cmp is_next tree.now cursor.now → result ≡ Ok None }
     ensures sure { ((key : S.K) → S.K.is_infallible key) → IsOk result }
 {
     if is_next {
@@ -137,7 +137,7 @@ pub(crate) fn step<S: NodeStore>(
 where
     S::V: Copy,
     S::Argument: SearchArgument<S::K> + RankArgument<S::K>,
-    ensures { Step S.K.cmp S.Argument.selects S.Argument.ranks tree.now.contents (held_keys cursors.old.items) (step_of is_next number) result tree.now.contents (held_keys cursors.new.items) }
+    ensures { ReadsWith S.K.cmp S.Argument.selects S.Argument.ranks tree.now cursors.old.items (step_of is_next number) result cursors.new.items }
 {
     let Some(cursor) = cursors.get(number) else {
         return Reply::NoCursor;
@@ -158,7 +158,7 @@ pub(crate) fn read<S: NodeStore>(
 where
     S::V: Copy,
     S::Argument: SearchArgument<S::K> + RankArgument<S::K>,
-    ensures { Step S.K.cmp S.Argument.selects S.Argument.ranks tree.now.contents (held_keys cursors.now) (reading_of is_value number) result tree.now.contents (held_keys cursors.now) }
+    ensures { ReadsWith S.K.cmp S.Argument.selects S.Argument.ranks tree.now cursors.now (reading_of is_value number) result cursors.now }
 {
     let Some(cursor) = cursors.get(number) else {
         return Reply::NoCursor;

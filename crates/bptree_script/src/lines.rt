@@ -2,8 +2,9 @@
 ghost use Rattle.std.specs.Prelude.{◌≡◌, ◌≤◌, ◌==◌, [], ◌++◌, take, OnOk};
 ghost use Rattle.std.specs.List.{position};
 ghost use Rattle.arrayvec.specs.ArrayVec.{array_vec_len};
-ghost use Rattle.bptree_script.specs.Answers.{answer, pairs_after, pairs_after_all};
-ghost use Rattle.bptree_script.specs.Clipped.{clipped_after, clipped_rest};
+ghost use Rattle.bptree_script.specs.Answers.{answer, pairs_after};
+ghost use Rattle.bptree_script.specs.Carried.{CarriesOutAll};
+ghost use Rattle.bptree_script.specs.Clipped.{clipped_rest};
 ghost use Rattle.bptree_script.specs.Sent.{Replies, RepliesTo};
 
 use crate::error::ServeError;
@@ -54,8 +55,7 @@ pub fn take_lines<W: Write>(
 ) -> Result<(), ServeError>
     requires { array_vec_len line.old ≤ KEPT }
     ensures replies { RepliesTo out.old out.new tree.old.contents line.old.items bytes.now result }
-    ensures pairs { OnOk result (tree.new.contents
-        ≡ pairs_after_all tree.old.contents (clipped_after line.old.items bytes.now)) }
+    ensures pairs { CarriesOutAll tree.old tree.new line.old.items bytes.now result }
     ensures line { OnOk result (line.new.items ≡ clipped_rest line.old.items bytes.now) }
 {
     let mut rest = bytes;

@@ -1,7 +1,7 @@
 //! Bytes on their way to a writer.
 ghost use Rattle.std.specs.Prelude.{◌≡◌, ◌≤◌, [], length, OnOk, IfErr};
 ghost use Rattle.std.specs.Io.KnownBytes.{Appends};
-ghost use Rattle.bptree_script.specs.Sent.{AppendsBeginning, SendsOrFails, Drains, Flushes};
+ghost use Rattle.bptree_script.specs.Sent.{BreaksOff, SendsOrFails, Drains, Flushes};
 
 use crate::error::ServeError;
 use arrayvec::ArrayVec;
@@ -83,8 +83,7 @@ impl<'a, W: Write> Output<'a, W> {
 // Writes all the bytes. A write that takes none is a fault.
 fn write_whole<W: Write>(writer: &mut W, bytes: &[u8]) -> Result<(), ServeError>
     ensures ok { OnOk result (Appends (W.contents writer.old) (W.contents writer.new) bytes.now) }
-    ensures err { IfErr result (λ e. (e ≡ ServeError.Io)
-        × AppendsBeginning (W.contents writer.old) (W.contents writer.new) bytes.now) }
+    ensures err { IfErr result (BreaksOff W.contents writer.old writer.new bytes.now) }
 {
     let mut rest = bytes;
     while !rest.is_empty() {

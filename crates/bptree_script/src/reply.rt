@@ -1,12 +1,11 @@
 //! The answers to lines.
 ghost use Rattle.std.specs.Prelude.{◌≡◌, ◌≤◌, [], ◌++◌, codes, decimal, length, OnOk, option_map, slice_get};
-ghost use Rattle.std.specs.Map.{keys_of};
 ghost use Rattle.std.specs.Ordering.{nat_cmp};
-ghost use Rattle.bptree_arguments.specs.CountLaws.{count_below};
-ghost use Rattle.bptree_keys.specs.Contents.{has, value, del};
+ghost use Rattle.bptree_keys.specs.Contents.{del};
 ghost use Rattle.bptree_requests.specs.Request.{request_of};
 ghost use Rattle.bptree_tree.specs.Cursor.{cursor_key};
-ghost use Rattle.bptree_script.specs.Answers.{pair_text, found_text, item_text, pairs_text, page_text, rank_text, old_text, gone_text, value_text, put_text, pairs_with_put, reply_to, pairs_with, answer, pairs_after};
+ghost use Rattle.bptree_script.specs.Answers.{pair_text, found_text, item_text, pairs_text, page_text, key_rank_text, old_text, gone_text, del_text, value_text, put_text, pairs_with_put, reply_to, answer_text, answer, pairs_after};
+ghost use Rattle.bptree_script.specs.Carried.{CarriesOut};
 ghost use Rattle.bptree_script.specs.Ends.{seen_from};
 ghost use Rattle.bptree_script.specs.Sent.{SendsOrFails, Replies};
 ghost use Rattle.bptree_script.specs.Steps.{pair_beside, told_pair};
@@ -217,7 +216,7 @@ fn send_rank<S: NodeStore<K = u64, V = u64, Argument = Count>, W: Write>(
     tree: &BPlusTree<S>,
     key: u64,
 ) -> Result<(), ServeError>
-    ensures { SendsOrFails out.old out.new (rank_text (has nat_cmp tree.now.contents key) (count_below nat_cmp key (keys_of tree.now.contents))) result }
+    ensures { SendsOrFails out.old out.new (key_rank_text tree.now.contents key) result }
 {
     match tree.rank_by_argument(&key) {
         Ok(Ok(smaller)) => send_labelled(out, b"in ", smaller as u64),
@@ -247,7 +246,7 @@ fn delete_pair<S: NodeStore<K = u64, V = u64, Argument = Count>, W: Write>(
     key: u64,
     out: &mut Output<W>,
 ) -> Result<(), ServeError>
-    ensures replies { Replies out.old out.new (gone_text (value nat_cmp tree.old.contents key)) result }
+    ensures replies { Replies out.old out.new (del_text tree.old.contents key) result }
     ensures pairs { OnOk result (tree.new.contents ≡ del nat_cmp tree.old.contents key) }
 {
     match tree.remove(&key) {
@@ -275,8 +274,7 @@ fn carry_out<S: NodeStore<K = u64, V = u64, Argument = Count>, W: Write>(
     out: &mut Output<W>,
 ) -> Result<(), ServeError>
     ensures replies { Replies out.old out.new (reply_to tree.old.contents (Some request)) result }
-    ensures pairs { OnOk result
-        (tree.new.contents ≡ pairs_with tree.old.contents (Some request)) }
+    ensures pairs { CarriesOut tree.old tree.new (Some request) result }
 {
     match request {
         Request::Put(key, value) => put_pair(tree, key, value, out),
@@ -302,9 +300,8 @@ fn reply_line<S: NodeStore<K = u64, V = u64, Argument = Count>, W: Write>(
     line: &[u8],
     out: &mut Output<W>,
 ) -> Result<(), ServeError>
-    ensures replies { Replies out.old out.new (reply_to tree.old.contents (request_of line.now)) result }
-    ensures pairs { OnOk result
-        (tree.new.contents ≡ pairs_with tree.old.contents (request_of line.now)) }
+    ensures replies { Replies out.old out.new (answer_text tree.old.contents line.now) result }
+    ensures pairs { CarriesOut tree.old tree.new (request_of line.now) result }
 {
     match read_request(line) {
         None => out.send(b"bad"),

@@ -1,9 +1,9 @@
 //! Pairs taken from both ends.
 ghost use Rattle.std.specs.Prelude.{IfOk};
-ghost use Rattle.std.specs.List.{AllZip};
 ghost use Rattle.std.specs.Map.Iter.{deref_pair};
 ghost use Rattle.bptree_script.specs.Ends.{TakesFrom, walked};
-ghost use Rattle.bptree_script.specs.Steps.{IsCopyOf, RepliesWalk, Reads};
+ghost use Rattle.bptree_script.specs.Steps.{AreCopies, RepliesWalk, Reads};
+ghost use Rattle.bptree_script.specs.declared.commands.Command.TheVariants.{Range};
 
 use crate::commands::{Command, Reply, ReplyOf, copy_of};
 use bptree_arguments::argument::{RankArgument, SearchArgument};
@@ -42,7 +42,7 @@ fn taken<S: NodeStore>(
 ) -> Result<Vec<Option<(S::K, S::V)>>, AllocError>
 where
     S::V: Copy,
-    ensures { IfOk result (λ it. AllZip (IsCopyOf S.K.cmp) (walked word.now pairs.entry) it.items) }
+    ensures { IfOk result (λ it. AreCopies S.K.cmp (walked word.now pairs.entry) it.items) }
 {
     let mut answers = Vec::with_capacity(alloc, word.len())?;
     let mut pairs = pairs;
@@ -82,7 +82,7 @@ pub(crate) fn walk_range<S: NodeStore>(
 where
     S::V: Copy,
     S::Argument: SearchArgument<S::K> + RankArgument<S::K>,
-    ensures { Reads S.K.cmp S.Argument.selects S.Argument.ranks tree.now (Command.Range lo hi word) result }
+    ensures { Reads S.K.cmp S.Argument.selects S.Argument.ranks tree.now (Range lo hi word) result }
 {
     let pairs = tree.range(lo.as_ref(), hi.as_ref());
     walk(alloc, pairs, word)

@@ -1,12 +1,14 @@
 -- What pairs that are lent show.
-use Rattle.std.specs.Prelude.{◌≡◌, ◌++◌, Bool, true, false, List, [], ◌∷◌, Option, MatchOption, map, reverse}
+use Rattle.std.specs.Prelude.{◌≡◌, ◌++◌, ℕ, Bool, true, false, List, [], ◌∷◌, Option, MatchOption, Result, OnOk, IfErr, Vec, map, reverse, take}
 use Rattle.std.specs.declared.cmp.Ordering.{Ordering}
 use Rattle.std.specs.Borrow.{Bor}
 use Rattle.std.specs.Map.Iter.{deref_pair}
-use Rattle.bptree_maps.specs.Moving.{put_all, put_pair}
-use Rattle.bptree_maps.specs.Splitting.{gone}
+use Rattle.bptree_maps.specs.Moving.{AllMove, MovesPairs, put_all, put_pair}
+use Rattle.bptree_maps.specs.Splitting.{SplitsOff, gone}
 use Rattle.bptree_maps.specs.declared.refusals.MoveError.{MoveError}
 use Rattle.bptree_maps.specs.declared.refusals.SplitError.{SplitError}
+use Rattle.bptree_shards.specs.Shards.{back_from}
+use Rattle.bptree_tree.specs.Entries.{pairs_between}
 
 -- the pairs that a vector of references shows
 abbrev pub shown : {K V : Type 0} → List (Bor K × Bor V) → List (K × V)
@@ -15,6 +17,23 @@ shown found = map deref_pair found
 -- references to pairs are pushed behind those that a vector has
 abbrev pub Pushes : {K V : Type 0} → List (K × V) → List (Bor K × Bor V) → List (Bor K × Bor V) → Type 0
 Pushes pairs old new = shown new ≡ shown old ++ pairs
+
+module _ {K V Z : Type 0} where
+  -- a vector of references shows these pairs
+  abbrev pub Shows : List (K × V) → Vec (Bor K × Bor V) Z → Type 0
+  Shows pairs found = shown found.items ≡ pairs
+
+  module _ {T E : Type 0} where
+    -- where the call was not refused, these pairs are pushed
+    abbrev pub PushesAll : List (K × V) → Vec (Bor K × Bor V) Z → Vec (Bor K × Bor V) Z → Result T E → Type 0
+    PushesAll pairs old new r = OnOk r (Pushes pairs old.items new.items)
+
+    -- the first n of those between two keys are, and the last n of those up to a key, the last one first
+    abbrev pub PushesBetween : (K → K → Ordering) → List (K × V) → Option (Bor K) → Option (Bor K) → ℕ → Vec (Bor K × Bor V) Z → Vec (Bor K × Bor V) Z → Result T E → Type 0
+    PushesBetween cmp pairs lo hi n old new r = PushesAll (take n (pairs_between cmp pairs lo hi)) old new r
+
+    abbrev pub PushesBack : (K → K → Ordering) → List (K × V) → K → ℕ → Vec (Bor K × Bor V) Z → Vec (Bor K × Bor V) Z → Result T E → Type 0
+    PushesBack cmp pairs k n old new r = PushesAll (take n (back_from cmp pairs k)) old new r
 
 -- from the first member on, or from the last one back
 abbrev pub turned : {X : Type 0} → Bool → List X → List X
@@ -28,3 +47,17 @@ IsTaken old pair new = MatchOption pair (old ≡ []) (λ at. old ≡ deref_pair 
 -- a whole is as it was once what is handed back is put again
 abbrev pub GivesBack : {S K V : Type 0} → (K → K → Ordering) → (S → List (K × V)) → List (K × V) → List (K × V) → SplitError S (MoveError K V) → Type 0
 GivesBack cmp pairs old new refusal = put_all (put_pair cmp) new (gone pairs refusal) ≡ old
+
+-- ---- what becomes of a shard, by the list of its pairs
+
+module _ {S K V : Type 0} (pairs : S → List (K × V)) (cmp : K → K → Ordering) where
+  -- the pairs of a shard that are not below k are those of another one now
+  abbrev pub SplitsShard : K → S → S → S → Type 0
+  SplitsShard k old new there = SplitsOff cmp k (pairs old) (pairs new) (pairs there)
+
+  -- all pairs of another shard came, where the call was not refused; else the first of them
+  abbrev pub AppendsAll : {T E : Type 0} → S → S → S → S → Result T E → Type 0
+  AppendsAll old other new rest r = OnOk r (AllMove (put_pair cmp) (pairs old) (pairs other) (pairs new) (pairs rest))
+
+  abbrev pub AppendsSome : {T : Type 0} → S → S → S → S → Result T (MoveError K V) → Type 0
+  AppendsSome old other new rest r = IfErr r (MovesPairs cmp (pairs old) (pairs other) (pairs new) (pairs rest))

@@ -1,9 +1,9 @@
 //! A map in memory that counts its keys is a shard.
-ghost use Rattle.std.specs.Prelude.{◌≡◌, ◌<◌, ◌^◌, [], length, take, IfOk, OnOk};
+ghost use Rattle.std.specs.Prelude.{◌≡◌, ◌<◌, ◌^◌, [], length, take, IfOk};
 ghost use Rattle.std.specs.Map.{keys_of};
 ghost use Rattle.bptree_arguments.specs.CountLaws.{count_below};
 ghost use Rattle.bptree_keys.specs.Contents.{IsAscending, has};
-ghost use Rattle.bptree_sharded.specs.Shown.{Pushes, IsTaken, turned};
+ghost use Rattle.bptree_sharded.specs.Shown.{PushesAll, IsTaken, turned};
 
 use crate::shard::Shard;
 use crate::whole::Shards;
@@ -51,7 +51,7 @@ fn put_from<'a, K: Key, V: Drop>(
     n: usize,
     found: &mut Vec<(&'a K, &'a V)>,
 ) -> Result<(), AllocError>
-    ensures { OnOk result (Pushes (take n (turned is_back pairs.entry)) found.old.items found.new.items) }
+    ensures { PushesAll (take n (turned is_back pairs.entry)) found.old found.new result }
 {
     let mut pairs = pairs;
     for _ in 0..n {

@@ -1,13 +1,10 @@
 //! What is asked of a shard.
-ghost use Rattle.std.specs.Prelude.{◌≡◌, ◌++◌, List, length, take, slice_get, IfOk, IfErr, OnOk, OnErr};
+ghost use Rattle.std.specs.Prelude.{◌≡◌, ◌++◌, List, length, slice_get, IfOk, IfErr, OnErr};
 ghost use Rattle.std.specs.Option.{option_copied, option_map};
 ghost use Rattle.bptree_keys.specs.Contents.{value, put, del, next, previous, pairs_below};
 ghost use Rattle.bptree_keys.specs.Ranges.{part};
-ghost use Rattle.bptree_shards.specs.Shards.{back_from};
-ghost use Rattle.bptree_maps.specs.Moving.{put_pair, AllMove, MovesPairs};
-ghost use Rattle.bptree_maps.specs.Splitting.{gone, SplitsOff};
-ghost use Rattle.bptree_sharded.specs.Shown.{Pushes};
-ghost use Rattle.bptree_tree.specs.Entries.{pairs_between};
+ghost use Rattle.bptree_maps.specs.Splitting.{gone};
+ghost use Rattle.bptree_sharded.specs.Shown.{PushesAll, PushesBetween, PushesBack, SplitsShard, AppendsAll, AppendsSome};
 ghost use Rattle.std.specs.Map.Iter.{deref_pair};
 
 use bptree_keys::key::Key;
@@ -37,14 +34,14 @@ pub trait Shard: Drop {
     /// Puts a value at a key, and gives what was there. A refusal hands the pair back.
     fn put(&mut self, k: Self::K, v: Self::V) -> Result<Option<Self::V>, (Self::K, Self::V)>
         ensures old { IfOk result (λ old. old ≡ value Self.K.cmp (pairs self.old) k) }
-        ensures ok { IfOk result (λ old. pairs self.new ≡ put Self.K.cmp (pairs self.old) k v) }
+        ensures ok { IfOk result (λ _. pairs self.new ≡ put Self.K.cmp (pairs self.old) k v) }
         ensures returned { IfErr result (λ pair. pair ≡ (k, v)) }
         ensures err { OnErr result (pairs self.new ≡ pairs self.old) };
 
     /// Takes out the pair at a key, and gives its value.
     fn del(&mut self, k: &Self::K) -> Result<Option<Self::V>, AllocError>
         ensures old { IfOk result (λ old. old ≡ value Self.K.cmp (pairs self.old) k.now) }
-        ensures ok { IfOk result (λ old. pairs self.new ≡ del Self.K.cmp (pairs self.old) k.now) }
+        ensures ok { IfOk result (λ _. pairs self.new ≡ del Self.K.cmp (pairs self.old) k.now) }
         ensures err { OnErr result (pairs self.new ≡ pairs self.old) };
 
     /// The number of smaller keys.
@@ -70,7 +67,7 @@ pub trait Shard: Drop {
         count: usize,
         found: &mut Vec<(&'a Self::K, &'a Self::V)>,
     ) -> Result<(), AllocError>
-        ensures { OnOk result (Pushes (part (pairs self.now) from count) found.old.items found.new.items) };
+        ensures { PushesAll (part (pairs self.now) from count) found.old found.new result };
 
     /// At most `n` of the pairs whose keys are not below `lo` and are below `hi`, where they are
     /// given, are put behind those of a vector, the least first.
@@ -81,7 +78,7 @@ pub trait Shard: Drop {
         n: usize,
         found: &mut Vec<(&'a Self::K, &'a Self::V)>,
     ) -> Result<(), AllocError>
-        ensures { OnOk result (Pushes (take n (pairs_between Self.K.cmp (pairs self.now) lo.entry hi.entry)) found.old.items found.new.items) };
+        ensures { PushesBetween Self.K.cmp (pairs self.now) lo.entry hi.entry n found.old found.new result };
 
     /// At most `n` of the pairs whose keys are not above `k` are put behind those of a vector, the
     /// greatest first.
@@ -91,7 +88,7 @@ pub trait Shard: Drop {
         n: usize,
         found: &mut Vec<(&'a Self::K, &'a Self::V)>,
     ) -> Result<(), AllocError>
-        ensures { OnOk result (Pushes (take n (back_from Self.K.cmp (pairs self.now) k.now)) found.old.items found.new.items) };
+        ensures { PushesBack Self.K.cmp (pairs self.now) k.now n found.old found.new result };
 
     /// The pairs whose keys are not below `k` leave for a shard of their own. Where not all of them
     /// could, those that left are handed back: the greatest, and the pair in hand, if there is one.
@@ -99,12 +96,12 @@ pub trait Shard: Drop {
         &mut self,
         k: &Self::K,
     ) -> Result<Self, SplitError<Self, MoveError<Self::K, Self::V>>>
-        ensures ok { IfOk result (λ there. SplitsOff Self.K.cmp k.now (pairs self.old) (pairs self.new) (pairs there)) }
+        ensures ok { IfOk result (SplitsShard pairs Self.K.cmp k.now self.old self.new) }
         ensures err { IfErr result (λ r. pairs self.old ≡ pairs self.new ++ gone pairs r) };
 
     /// All pairs of another shard come here, one after another. Where one could not, those before
     /// it have come, and the others stay there; the pair in hand is handed back, if there is one.
     fn append(&mut self, other: &mut Self) -> Result<(), MoveError<Self::K, Self::V>>
-        ensures ok { OnOk result (AllMove (put_pair Self.K.cmp) (pairs self.old) (pairs other.old) (pairs self.new) (pairs other.new)) }
-        ensures err { IfErr result (MovesPairs Self.K.cmp (pairs self.old) (pairs other.old) (pairs self.new) (pairs other.new)) };
+        ensures ok { AppendsAll pairs Self.K.cmp self.old other.old self.new other.new result }
+        ensures err { AppendsSome pairs Self.K.cmp self.old other.old self.new other.new result };
 }

@@ -7,7 +7,7 @@ ghost use Rattle.bptree_keys.specs.Pieces.{flatten};
 ghost use Rattle.bptree_keys.specs.Ranges.{between, part};
 ghost use Rattle.bptree_shards.specs.Lengths.{lengths_of};
 ghost use Rattle.bptree_shards.specs.Shards.{AreShards, back_from};
-ghost use Rattle.bptree_sharded.specs.Shown.{shown, GivesBack};
+ghost use Rattle.bptree_sharded.specs.Shown.{Shows, GivesBack};
 ghost use Rattle.bptree_sharded.specs.Whole.{descends_at, last_pair_before};
 ghost use Rattle.bptree_tree.specs.Entries.{pairs_between};
 ghost use Rattle.std.specs.Map.Iter.{deref_pair};
@@ -65,7 +65,7 @@ fn last_before<'a, S: Shard>(
 ) -> Option<(&'a S::K, &'a S::V)>
     requires counted { lengths.now ≡ lengths_of (map (λ shard. S.pairs shard) shards.now) }
     requires in_range { end ≤ length shards.now }
-    ensures { option_map deref_pair result ≡ last_pair_before (λ shard. S.pairs shard) shards.now end }
+    ensures { option_map deref_pair result ≡ last_pair_before S.pairs shards.now end }
 {
     match prev_full(lengths, end) {
         None => None,
@@ -244,7 +244,7 @@ impl<S: Shard> Shards<S> {
         place: usize,
         n: usize,
     ) -> Result<Vec<(&S::K, &S::V)>, AllocError>
-        ensures { IfOk result (λ it. shown it.items ≡ part self.now place n) }
+        ensures { IfOk result (Shows (part self.now place n)) }
     {
         let mut found = Vec::new(alloc);
         let mut from = place;
@@ -267,7 +267,7 @@ impl<S: Shard> Shards<S> {
         hi: Option<&'b S::K>,
         n: usize,
     ) -> Result<Vec<(&S::K, &S::V)>, AllocError>
-        ensures { IfOk result (λ it. shown it.items ≡ take n (pairs_between S.K.cmp self.now lo.entry hi.entry)) }
+        ensures { IfOk result (Shows (take n (pairs_between S.K.cmp self.now lo.entry hi.entry))) }
     {
         let mut found = Vec::new(alloc);
         let (first, last) = route_range(&self.bounds, lo, hi);
@@ -287,7 +287,7 @@ impl<S: Shard> Shards<S> {
     /// key is asked, and then each shard before it that has one of them.
     #[tactic(auto, using(crate::proofs::Asked::routing))]
     pub fn back(&self, alloc: Global, k: &S::K, n: usize) -> Result<Vec<(&S::K, &S::V)>, AllocError>
-        ensures { IfOk result (λ it. shown it.items ≡ take n (back_from S.K.cmp self.now k.now)) }
+        ensures { IfOk result (Shows (take n (back_from S.K.cmp self.now k.now))) }
     {
         let at = route(&self.bounds, k);
         let mut found = Vec::new(alloc);

@@ -1,5 +1,5 @@
 -- What serving an input is.
-use Rattle.std.specs.Prelude.{◌≡◌, ◌≤◌, ◌-◌, ◌^◌, ◌⊎◌, ℕ, List, [], length, take, Option, Result, MatchResult}
+use Rattle.std.specs.Prelude.{◌≡◌, ◌≤◌, ◌-◌, ◌^◌, ◌⊎◌, ℕ, List, [], length, take, Option, Result, MatchResult, OnOk, IfSome, IsErrOf}
 use Rattle.std.specs.Io.KnownBytes.{Appends, Consumes, IsAtEnd}
 use Rattle.bptree_script.specs.declared.error.ServeError.{ServeError}
 use Rattle.bptree_script.specs.declared.error.ServeError.TheVariants as error
@@ -48,11 +48,26 @@ stop_of error.OutOfMemory = OutOfMemory
 abbrev pub EndedBy : ServeError → Option (List ℕ) → Option (List ℕ) → Option (List ℕ) → Option (List ℕ) → Type 0
 EndedBy e input left old new = (stop : Stop) × (e ≡ error_of stop) × StoppedBy stop input left old new
 
--- the input was answered, or serving ended early
-abbrev pub Serves : {T : Type 0} → Option (List ℕ) → Option (List ℕ) → Option (List ℕ) → Option (List ℕ)
-    → Result T Stop → Type 0
-Serves input left old new r =
-    MatchResult r (λ _. Answered input left old new) (λ stop. StoppedBy stop input left old new)
+-- the input was answered, or serving ended early, by what is known of a reader before and after
+abbrev pub Serves : {X T : Type 0} → (X → Option (List ℕ)) → X → X → Sent → Sent → Result T Stop → Type 0
+Serves remaining reader rest old new r =
+    MatchResult r (λ _. Answered (remaining reader) (remaining rest) old.written new.written)
+    (λ stop. StoppedBy stop (remaining reader) (remaining rest) old.written new.written)
+
+-- by what is known of a reader and of a writer, before and after
+module _ {X Y T : Type 0} (remaining : X → Option (List ℕ)) where
+  module _ (reader rest : X) (contents : Y → Option (List ℕ)) (old new : Y) where
+    -- where serving did not end early, the input was answered
+    abbrev pub Answers : Result T ServeError → Type 0
+    Answers r = OnOk r (Answered (remaining reader) (remaining rest) (contents old) (contents new))
+
+    -- where it ended with this error, it did so by one of the ways that the error tells of
+    abbrev pub EndsBy : ServeError → Result T ServeError → Type 0
+    EndsBy e r = IsErrOf r e → EndedBy e (remaining reader) (remaining rest) (contents old) (contents new)
+
+  -- where it did not end early and the whole input is known, its text was written
+  abbrev pub AnswersKnown : X → (Y → Option (List ℕ)) → Y → Y → Result T ServeError → Type 0
+  AnswersKnown reader contents old new r = OnOk r (IfSome (remaining reader) (λ input. Appends (contents old) (contents new) (text input)))
 
 -- a text was written, or a beginning of it after `Io`
 abbrev pub EndsAt : ServeError → Option (List ℕ) → Option (List ℕ) → List ℕ → Type 0

@@ -1,11 +1,10 @@
 //! An input in, its answers out.
-ghost use Rattle.std.specs.Prelude.{◌≡◌, ◌≤◌, [], OnOk, IfSome, IsErrOf};
-ghost use Rattle.std.specs.Io.KnownBytes.{Appends};
+ghost use Rattle.std.specs.Prelude.{◌≡◌, ◌≤◌, [], OnOk};
 ghost use Rattle.arrayvec.specs.ArrayVec.{array_vec_len};
-ghost use Rattle.bptree_script.specs.Answers.{pairs_after_all, text};
-ghost use Rattle.bptree_script.specs.Clipped.{clipped_after, clipped_rest};
+ghost use Rattle.bptree_script.specs.Carried.{CarriesOutAll};
+ghost use Rattle.bptree_script.specs.Clipped.{clipped_rest};
 ghost use Rattle.bptree_script.specs.Lines.{PartsAreLines};
-ghost use Rattle.sweep_bptree.specs.Served.{Serves, Answered, EndedBy, AnswersPiece, AnswersLast, stop_of, error_of};
+ghost use Rattle.sweep_bptree.specs.Served.{Serves, Answers, AnswersKnown, EndsBy, AnswersPiece, AnswersLast, stop_of, error_of};
 
 use arrayvec::ArrayVec;
 use bptree_arguments::count::Count;
@@ -67,8 +66,7 @@ fn answer_piece<W: Write>(
     requires kept { array_vec_len line.old ≤ KEPT }
     ensures answers { AnswersPiece out.old out.new tree.old.contents line.old.items bytes.now result }
     ensures empty { OnOk result (out.new.held ≡ []) }
-    ensures pairs { OnOk result (tree.new.contents
-        ≡ pairs_after_all tree.old.contents (clipped_after line.old.items bytes.now)) }
+    ensures pairs { CarriesOutAll tree.old tree.new line.old.items bytes.now result }
     ensures line { OnOk result (line.new.items ≡ clipped_rest line.old.items bytes.now) }
 {
     match take_lines(tree, line, bytes, out) {
@@ -104,8 +102,7 @@ fn serve_pieces<R: Read, W: Write>(
     out: &mut Output<W>,
 ) -> Result<(), Stop>
     requires { out.old.held ≡ [] }
-    ensures serves { Serves (R.remaining reader.old) (R.remaining reader.new)
-        out.old.written out.new.written result }
+    ensures serves { Serves R.remaining reader.old reader.new out.old out.new result }
     ensures writer { out.new.writer ≡ out.old.writer }
 {
     let Ok(mut map) = BPlusTreeMap::<u64, u64, Count>::new(alloc) else {
@@ -139,14 +136,11 @@ pub fn serve<R: Read, W: Write>(
     reader: &mut R,
     writer: &mut W,
 ) -> Result<(), ServeError>
-    ensures ok { OnOk result (Answered (R.remaining reader.old) (R.remaining reader.new)
-        (W.contents writer.old) (W.contents writer.new)) }
-    ensures known { OnOk result (IfSome (R.remaining reader.old) (λ input.
-        Appends (W.contents writer.old) (W.contents writer.new) (text input))) }
-    ensures io { IsErrOf result ServeError.Io → EndedBy ServeError.Io (R.remaining reader.old)
-        (R.remaining reader.new) (W.contents writer.old) (W.contents writer.new) }
-    ensures out_of_memory { IsErrOf result ServeError.OutOfMemory → EndedBy ServeError.OutOfMemory
-        (R.remaining reader.old) (R.remaining reader.new) (W.contents writer.old) (W.contents writer.new) }
+    ensures ok { Answers R.remaining reader.old reader.new W.contents writer.old writer.new result }
+    ensures known { AnswersKnown R.remaining reader.old W.contents writer.old writer.new result }
+    ensures io { EndsBy R.remaining reader.old reader.new W.contents writer.old writer.new ServeError.Io result }
+    ensures out_of_memory { EndsBy R.remaining reader.old reader.new
+        W.contents writer.old writer.new ServeError.OutOfMemory result }
 {
     let mut out = Output::new(writer);
     let served = serve_pieces(alloc, reader, &mut out);
