@@ -1,5 +1,7 @@
 //! Times of the calls of a tree. A line for each call and round has the number of pairs, the tree's
 //! kind, the call, the time of one in hundredths of a nanosecond, and a sum of what was answered.
+//! Steps of a nanosecond or two are timed in functions of their own, which are not inlined, so that
+//! less hangs on where their loops lie.
 
 mod kit;
 mod maps;
@@ -128,6 +130,7 @@ fn add_keys<S: NodeStore<K = u64, V = u64>>(before: u64, pairs: Iter<'_, S>) -> 
     sum
 }
 
+#[inline(never)]
 fn step_through<S: NodeStore<K = u64, V = u64>>(
     rt: &HostRuntime,
     kind: &str,
@@ -159,6 +162,7 @@ fn remove_all<S: NodeStore<K = u64, V = u64>>(
 }
 
 // A cursor goes from the first key to the last.
+#[inline(never)]
 fn walk_through<S: NodeStore<K = u64, V = u64>>(
     rt: &HostRuntime,
     kind: &str,
@@ -183,6 +187,7 @@ fn walk_through<S: NodeStore<K = u64, V = u64>>(
     true
 }
 
+#[inline(never)]
 fn drain<S: NodeStore<K = u64, V = u64>>(rt: &HostRuntime, kind: &str, tree: BPlusTree<S>) {
     let many = tree.len();
     let start = now(rt);

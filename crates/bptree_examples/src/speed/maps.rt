@@ -20,6 +20,7 @@ fn contain_all(rt: &HostRuntime, map: &Plain, others: &[u64]) {
     tell(rt, "plain", "contains", start, others.len(), sum);
 }
 
+#[inline(never)]
 fn step_over_keys(rt: &HostRuntime, map: &Plain) {
     let start = now(rt);
     let mut sum = 0u64;
@@ -29,6 +30,7 @@ fn step_over_keys(rt: &HostRuntime, map: &Plain) {
     tell(rt, "plain", "keys", start, map.len(), sum);
 }
 
+#[inline(never)]
 fn step_over_values(rt: &HostRuntime, map: &Plain) {
     let start = now(rt);
     let mut sum = 0u64;

@@ -38,6 +38,7 @@ fn every_second(
 }
 
 // The sum of the keys of the union of two sets, and how many there are.
+#[inline(never)]
 fn sum_of_union(first: &BPlusTreeSet<u64>, second: &BPlusTreeSet<u64>) -> (u64, usize) {
     let mut sum = 0u64;
     let mut many = 0usize;
