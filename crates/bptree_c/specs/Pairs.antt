@@ -11,8 +11,8 @@ abbrev pub as_pair : ℕ × ℕ → Pair
 as_pair pair = record { key = pair.0; value = pair.1 }
 
 -- the list of the pairs of an array in any order: of equal keys the last
-abbrev pub gathered : List Pair → List (ℕ × ℕ)
-gathered given = gather nat_cmp (map as_tuple given)
+abbrev pub pairs_gathered : List Pair → List (ℕ × ℕ)
+pairs_gathered given = gather nat_cmp (map as_tuple given)
 
 -- the answer is true where there is a pair, which stands where C reads it
 abbrev pub IsAnswered : Option (ℕ × ℕ) → Bool → Pair → Type 0

@@ -1,6 +1,6 @@
 //! How a map is made, filled at once, emptied and freed.
 ghost use Rattle.std.specs.Prelude.{◌≡◌, ℕ, List, [], Some, None, IsTrue, false, IfOk, OnErr, map as each};
-ghost use Rattle.bptree_c.specs.Pairs.{as_tuple, gathered};
+ghost use Rattle.bptree_c.specs.Pairs.{as_tuple, pairs_gathered};
 
 use crate::handle::{Handle, Map};
 use crate::pair::Pair;
@@ -59,7 +59,7 @@ pub extern "C" fn bptree_clear(alloc: Global, map: &mut Handle) -> bool
 pub extern "C" fn bptree_load(alloc: Global, map: &mut Handle, given: &[Pair]) -> bool
     ghost pairs: { List (ℕ × ℕ) }
     requires open { map.old.held ≡ Some pairs }
-    ensures all { IsTrue result → map.new.held ≡ Some (gathered given.now) }
+    ensures all { IsTrue result → map.new.held ≡ Some (pairs_gathered given.now) }
     ensures refused { result ≡ false → map.new.held ≡ Some pairs }
 {
     let mut whole = map.take(alloc);
@@ -69,15 +69,18 @@ pub extern "C" fn bptree_load(alloc: Global, map: &mut Handle, given: &[Pair]) -
 }
 
 fn load_into(alloc: Global, map: &mut Map, given: &[Pair]) -> Result<(), AllocError>
-    ensures ok { IfOk result (λ _. map.new ≡ gathered given.now) }
+    ensures ok { IfOk result (λ _. map.new ≡ pairs_gathered given.now) }
     ensures err { OnErr result (map.new ≡ map.old) }
 {
-    map.pairs = gathered(alloc, given)?;
+    map.pairs = pairs_gathered(alloc, given)?;
     Ok(())
 }
 
-fn gathered(alloc: Global, given: &[Pair]) -> Result<BPlusTreeMap<u64, u64, Count>, AllocError>
-    ensures { IfOk result (λ pairs. pairs ≡ gathered given.now) }
+fn pairs_gathered(
+    alloc: Global,
+    given: &[Pair],
+) -> Result<BPlusTreeMap<u64, u64, Count>, AllocError>
+    ensures { IfOk result (λ pairs. pairs ≡ pairs_gathered given.now) }
 {
     let copied = tuples(alloc, given)?;
     BPlusTreeMap::from_iter(alloc, copied)

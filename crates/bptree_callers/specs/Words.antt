@@ -216,8 +216,8 @@ module _ {S K V A : Type 0} where
     Loses old new = new.contents ≡ del cmp old.contents k
 
     -- the value was written at the key, if it is there
-    abbrev pub WritesAt : V → NodeTree S K V A → NodeTree S K V A → Type 0
-    WritesAt v old new = new.contents ≡ written cmp k old.contents v
+    abbrev pub WritesValue : V → NodeTree S K V A → NodeTree S K V A → Type 0
+    WritesValue v old new = new.contents ≡ written cmp k old.contents v
 
 module _ {K V A : Type 0} (slots : Slots (Inner K A) (Leaf K V)) where
   -- each leaf of a store stands once in a tree, and each inner node

@@ -40,6 +40,7 @@ fn place_of<'a, S: NodeStore>(
 
 /// The leaf that a key belongs to, and the key's place in it, or else the number of smaller keys.
 /// The leaf is searched for, and then the key in it.
+#[inline(always)]
 pub fn locate_key<'a, S: NodeStore>(
     store: &'a S,
     root: NodeId,

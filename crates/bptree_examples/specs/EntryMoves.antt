@@ -14,8 +14,8 @@ abbrev pub moved : {V : Type 0} → (Entry → Entry → Ordering) → V → Lis
 moved cmp value entries old new = del cmp (put cmp entries new value) old
 
 -- a row has a value
-abbrev pub HasValue : List (ℕ × ℕ) → ℕ → ℕ → Type 0
-HasValue rows row value = value_of nat_cmp rows row ≡ Some value
+abbrev pub RowHas : List (ℕ × ℕ) → ℕ → ℕ → Type 0
+RowHas rows row value = value_of nat_cmp rows row ≡ Some value
 
 module _ (cmp : Entry → Entry → Ordering) where
   -- the entries are as before, or the new one is put among them
@@ -25,4 +25,4 @@ module _ (cmp : Entry → Entry → Ordering) where
   -- where a row has another value, the entry with its new one takes the place of the entry with that
   abbrev pub FollowsRow : List (ℕ × ℕ) → ℕ → ℕ → List (Entry × ⊤) → List (Entry × ⊤) → Type 0
   FollowsRow rows row now before after =
-      (old : ℕ) → HasValue rows row old → old ≢ now → after ≡ moved cmp tt before (entry_of old row) (entry_of now row)
+      (old : ℕ) → RowHas rows row old → old ≢ now → after ≡ moved cmp tt before (entry_of old row) (entry_of now row)

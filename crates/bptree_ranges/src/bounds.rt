@@ -66,6 +66,7 @@ pub(crate) fn can_hold<K: Ord>(lo: Bound<&K>, hi: Bound<&K>) -> bool
 
 /// Where the keys end that are not behind an end, or else where those begin that are not before a
 /// start. Where the bound is open, that is behind the last of all, or at the first.
+#[inline(always)]
 pub(crate) fn place_of_bound<S: NodeStore>(
     store: &S,
     root: NodeId,

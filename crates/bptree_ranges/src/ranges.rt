@@ -17,6 +17,7 @@ use std::alloc::AllocError;
 ///
 /// One descent for each end, and no step from the one to the other. Where `lo` is not below `hi`,
 /// that is told by one comparison.
+#[inline(always)]
 pub fn part_between<S: NodeStore>(
     store: &S,
     root: NodeId,

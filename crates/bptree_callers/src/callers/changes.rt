@@ -4,7 +4,7 @@ ghost use Rattle.std.specs.declared.cmp.Ordering.TheVariants.{Equal};
 ghost use Rattle.bptree_keys.specs.Contents.{has, value as value_of, put, del};
 ghost use Rattle.bptree_ascent.specs.Lending.{written};
 ghost use Rattle.bptree_tree.specs.Whole.{HasSameTop};
-ghost use Rattle.bptree_callers.specs.Words.{AddsBetween, HoldsTheSame, KeepsSlots, Lacks, Loses, PopsFirstOfTwo, PopsLastOfTwo, WritesAt, told_value, StaysWhole};
+ghost use Rattle.bptree_callers.specs.Words.{AddsBetween, HoldsTheSame, KeepsSlots, Lacks, Loses, PopsFirstOfTwo, PopsLastOfTwo, WritesValue, told_value, StaysWhole};
 
 use bptree_stores::node_stores::NodeStore;
 use bptree_tree::{BPlusTree, InsertError};
@@ -92,7 +92,7 @@ fn clears<S: NodeStore>(tree: &mut BPlusTree<S>) -> Result<(), AllocError>
 // A value is written just where the key is, and nothing else is changed.
 pub(crate) fn writes<S: NodeStore>(tree: &mut BPlusTree<S>, k: &S::K, v: S::V) -> bool
     ensures there { result ≡ has S.K.cmp tree.old.contents k.now }
-    ensures put { IsTrue result → WritesAt S.K.cmp k.now v tree.old tree.new }
+    ensures put { IsTrue result → WritesValue S.K.cmp k.now v tree.old tree.new }
     ensures absent { result ≡ false → tree.new ≡ tree.old }
     ensures shape { HasSameTop tree.new tree.old }
 {

@@ -3,7 +3,7 @@ ghost use Rattle.std.specs.Prelude.{◌≡◌, ◌≢◌, OnErr, OnOk, IfOk, IsT
 ghost use Rattle.std.specs.Ordering.{nat_cmp};
 ghost use Rattle.std.proofs.Common.{rules};
 ghost use Rattle.bptree_keys.specs.Contents.{has, put, value};
-ghost use Rattle.bptree_examples.specs.EntryMoves.{FollowsRow, HasValue, StaysOrPuts, moved};
+ghost use Rattle.bptree_examples.specs.EntryMoves.{FollowsRow, RowHas, StaysOrPuts, moved};
 
 use crate::filling::filled;
 use std::alloc::{AllocError, Global};
@@ -82,7 +82,7 @@ pub fn set_value(rows: &mut Rows, index: &mut Index, row: u64, now: u64) -> Resu
     ensures row { IfOk result (λ it. IsTrue it → rows.new ≡ put nat_cmp rows.old row now) }
     ensures entry { OnOk result (FollowsRow ⟦<Entry as Ord>⟧.cmp rows.old row now index.old index.new) }
     ensures absent { OnOk result (value nat_cmp rows.old row ≡ None → index.new ≡ index.old) }
-    ensures same { OnOk result (HasValue rows.old row now → index.new ≡ index.old) }
+    ensures same { OnOk result (RowHas rows.old row now → index.new ≡ index.old) }
     ensures refused { OnErr result (rows.new ≡ rows.old) }
 {
     let Some(old) = rows.get(&row).copied() else {
