@@ -35,6 +35,20 @@ fn place_of<'a, S: NodeStore>(
             return (hint, leaf, place_in(leaf, offset, key));
         }
     }
+    locate_apart(store, root, height, key)
+}
+
+// The same as `locate_key`, in a function of its own: where the hint serves, nothing of it is needed.
+#[inline(never)]
+fn locate_apart<'a, S: NodeStore>(
+    store: &'a S,
+    root: NodeId,
+    height: usize,
+    key: &S::K,
+) -> (LeafNodeId, &'a LeafNode<S::K, S::V>, Result<usize, usize>)
+    requires { IsWellShaped S.K.cmp S.Argument.is_summary (S.slots store.now) height root }
+    ensures { LocatesKey S.K.cmp (S.slots store.now) height root key.now result }
+{
     locate_key(store, root, height, key)
 }
 

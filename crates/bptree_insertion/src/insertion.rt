@@ -194,6 +194,15 @@ fn undo_split_at<S: NodeStore>(
     pair
 }
 
+// Where a leaf was split by a pair that went into the right half, the store is to remember that one at
+// once. It remembers a leaf that is given twice in turn.
+fn remember_right<S: NodeStore>(store: &S, right: LeafNodeId, slot: usize) {
+    if slot >= 32 && S::Argument::is_zst() {
+        store.cache_leaf(right);
+        store.cache_leaf(right);
+    }
+}
+
 // Puts a pair with a new key into the leaf at the end of a path, which is split where it is full. It
 // answers the number of a new root, where the root was split too, and a summary of all keys.
 fn put_new<S: NodeStore>(
@@ -220,6 +229,7 @@ fn put_new<S: NodeStore>(
     match ascend_split(store, path, root, division) {
         Ok(top) => {
             relink_next(store, fresh, next);
+            remember_right(store, fresh, slot);
             Ok(top)
         }
         Err(_) => Err(undo_split_at(store, id, fresh, slot)),
