@@ -38,7 +38,8 @@ fn place_of<'a, S: NodeStore>(
     locate_apart(store, root, height, key)
 }
 
-// The same as `locate_key`, in a function of its own: where the hint serves, nothing of it is needed.
+// The same as `locate_key`, in a function of its own: where the hint serves, nothing of it is
+// needed.
 #[inline(never)]
 fn locate_apart<'a, S: NodeStore>(
     store: &'a S,

@@ -1,8 +1,8 @@
 //! Four examples of a map and a set, short uses of their reads and changes, and a tree that is
 //! drawn. Where standard input has lines, these are carried out instead. A line with a number of
 //! pairs and a number of rounds takes times of the calls of a tree. A line of the program `bptree`
-//! changes a map, whose tree is drawn at the end, as text for Graphviz; lines behind it that ask for
-//! nothing are passed over.
+//! changes a map, whose tree is drawn at the end, as text for Graphviz; lines behind it that ask
+//! for nothing are passed over.
 #![tactic(auto)]
 
 mod argument;

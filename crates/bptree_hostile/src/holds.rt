@@ -226,8 +226,8 @@ fn tells<S: NodeStore>(summary: Result<S::Argument, AllocError>, many: usize) ->
     summary.key_count() == Some(many)
 }
 
-// Whether the summaries of the keys of a part, and from its start up to the end, tell how many there
-// are.
+// Whether the summaries of the keys of a part, and from its start up to the end, tell how many
+// there are.
 fn is_summed<S: NodeStore<V = u64>>(tree: &BPlusTree<S>, (from, to): Part) -> bool
 where
     S::K: Sample,
@@ -269,7 +269,8 @@ where
     well
 }
 
-// Whether a tree has a part of a list, by keys and by places. An end at the end of the list is open.
+// Whether a tree has a part of a list, by keys and by places. An end at the end of the list is
+// open.
 fn has_part<S: NodeStore<V = u64>>(
     alloc: Global,
     tree: &BPlusTree<S>,

@@ -194,8 +194,8 @@ fn undo_split_at<S: NodeStore>(
     pair
 }
 
-// Where a leaf was split by a pair that went into the right half, the store is to remember that one at
-// once. It remembers a leaf that is given twice in turn.
+// Where a leaf was split by a pair that went into the right half, the store is to remember that one
+// at once. It remembers a leaf that is given twice in turn.
 fn remember_right<S: NodeStore>(store: &S, right: LeafNodeId, slot: usize) {
     if slot >= 32 && S::Argument::is_zst() {
         store.cache_leaf(right);
@@ -203,8 +203,8 @@ fn remember_right<S: NodeStore>(store: &S, right: LeafNodeId, slot: usize) {
     }
 }
 
-// Puts a pair with a new key into the leaf at the end of a path, which is split where it is full. It
-// answers the number of a new root, where the root was split too, and a summary of all keys.
+// Puts a pair with a new key into the leaf at the end of a path, which is split where it is full.
+// It answers the number of a new root, where the root was split too, and a summary of all keys.
 fn put_new<S: NodeStore>(
     store: &mut S,
     path: &mut VisitStack,
@@ -266,8 +266,8 @@ pub fn is_full(len: usize) -> bool
     len == usize::MAX
 }
 
-// The place of a key in a leaf below so many levels, or how many of its keys are smaller. In the last
-// of several leaves a key that is to be put likely stands behind all others.
+// The place of a key in a leaf below so many levels, or how many of its keys are smaller. In the
+// last of several leaves a key that is to be put likely stands behind all others.
 #[inline(always)]
 fn slot_for<K: Key, V: Drop>(leaf: &LeafNode<K, V>, levels: usize, key: &K) -> Result<usize, usize>
     ensures in_range { IsSearchInRange result (length leaf.now.pairs) }

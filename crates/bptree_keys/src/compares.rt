@@ -106,9 +106,9 @@ impl Compares {
     }
 }
 
-// Finds `key` where its place is among the `width` keys from `base` on. It halves them, and each step
-// moves by a product, so that the compiler makes no branch on a comparison, which would be foreseen
-// wrongly each second time.
+// Finds `key` where its place is among the `width` keys from `base` on. It halves them, and each
+// step moves by a product, so that the compiler makes no branch on a comparison, which would be
+// foreseen wrongly each second time.
 #[inline(always)]
 fn search_among<K: Ord>(
     keys: &[K],
@@ -141,8 +141,8 @@ fn search_among<K: Ord>(
     }
 }
 
-// Finds `key` among so many keys, or up to twice as many: in the first ones or in the last, which may
-// have some in common. So each step's width is known when the search is compiled.
+// Finds `key` among so many keys, or up to twice as many: in the first ones or in the last, which
+// may have some in common. So each step's width is known when the search is compiled.
 #[inline(always)]
 fn search_ends<K: Ord>(
     keys: &[K],
@@ -162,9 +162,9 @@ fn search_ends<K: Ord>(
     search_among(keys, key, usize::from(is_past) * rest, width, compares)
 }
 
-// Finds `key` among 16 keys or more: in the first 32 of them or the last, and of those in the first 16
-// or the last, which may have some in common. So each later step's width is known when the search is
-// compiled, and nothing branches on how many keys there are.
+// Finds `key` among 16 keys or more: in the first 32 of them or the last, and of those in the first
+// 16 or the last, which may have some in common. So each later step's width is known when the
+// search is compiled, and nothing branches on how many keys there are.
 #[inline(always)]
 fn search_many<K: Ord>(keys: &[K], key: &K, compares: &mut Compares) -> Result<usize, usize>
     requires { (16 ≤ length keys.now) × (length keys.now ≤ 64) }
@@ -224,8 +224,8 @@ fn search_few<K: Ord>(keys: &[K], key: &K, compares: &mut Compares) -> Result<us
     }
 }
 
-// The same as `search_later`, but the step branches, and each way goes on by itself: so the next key
-// can be fetched before the comparison is done.
+// The same as `search_later`, but the step branches, and each way goes on by itself: so the next
+// key can be fetched before the comparison is done.
 #[inline(always)]
 fn search_by_branch<K: Ord>(
     keys: &[K],
@@ -271,9 +271,9 @@ fn search_far<K: Ord>(keys: &[K], key: &K, compares: &mut Compares) -> Result<us
     }
 }
 
-// Finds `key` among the first `end` keys, behind which all are greater. Each step leaves the key out
-// that it looked at, and an equal one ends the search. So it makes the fewest comparisons, for keys
-// that are long or point elsewhere.
+// Finds `key` among the first `end` keys, behind which all are greater. Each step leaves the key
+// out that it looked at, and an equal one ends the search. So it makes the fewest comparisons, for
+// keys that are long or point elsewhere.
 #[inline(never)]
 fn search_halves<K: Ord>(
     keys: &[K],
@@ -391,8 +391,8 @@ fn count_among<K: Ord>(
     first
 }
 
-// How many of many ascending `keys` are not greater than `key`. The last one is compared first, so a
-// key behind all others needs no further comparison.
+// How many of many ascending `keys` are not greater than `key`. The last one is compared first, so
+// a key behind all others needs no further comparison.
 #[inline(always)]
 fn count_upto_many<K: Ord>(keys: &[K], key: &K, compares: &mut Compares) -> usize
     requires { (16 < length keys.now) × (length keys.now ≤ 64) }
@@ -411,8 +411,8 @@ fn count_upto_many<K: Ord>(keys: &[K], key: &K, compares: &mut Compares) -> usiz
     count_later(keys, key, usize::from(is_past) * rest, step, compares)
 }
 
-// How many of ascending `keys` are not greater than `key`, where that is one of 16 numbers and `step`
-// more from `base` on.
+// How many of ascending `keys` are not greater than `key`, where that is one of 16 numbers and
+// `step` more from `base` on.
 #[inline(always)]
 fn count_later<K: Ord>(
     keys: &[K],

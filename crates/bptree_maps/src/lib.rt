@@ -1,5 +1,5 @@
-//! An ordered map over a B+ tree of its own; pages of a map by rank, through its contracts alone; and
-//! what maps and sets share: how pairs are gathered, and what a refusal leaves.
+//! An ordered map over a B+ tree of its own; pages of a map by rank, through its contracts alone;
+//! and what maps and sets share: how pairs are gathered, and what a refusal leaves.
 #![tactic(auto)]
 
 mod comparing;

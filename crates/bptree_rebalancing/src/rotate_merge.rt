@@ -128,9 +128,9 @@ pub fn take_joint<K: Key, A: Argument<K>>(
     }
 }
 
-// Asks for the summaries of two inner nodes, and puts them with the separator between the two and the
-// number of the right one into a node without that entry. It answers the node's summary and the left
-// node's old one. Refused, it hands the separator back.
+// Asks for the summaries of two inner nodes, and puts them with the separator between the two and
+// the number of the right one into a node without that entry. It answers the node's summary and the
+// left node's old one. Refused, it hands the separator back.
 fn ask_inners<K: Key, A: Argument<K>>(
     node: &mut InnerNode<K, A>,
     slot: usize,
@@ -263,9 +263,9 @@ pub fn undo_merge_leaves<K: Key, V: Drop, A: Argument<K>>(
     left.set_next(next);
 }
 
-/// Rotates a child from one inner node to its sibling. The separator goes down to the one, and a key
-/// of the other comes up. It answers the parent's summary, and what stood in the parent; refused, all
-/// three are as they were.
+/// Rotates a child from one inner node to its sibling. The separator goes down to the one, and a
+/// key of the other comes up. It answers the parent's summary, and what stood in the parent;
+/// refused, all three are as they were.
 pub fn rotate_inners<K: Key, A: Argument<K>>(
     node: &mut InnerNode<K, A>,
     slot: usize,

@@ -24,8 +24,8 @@ use std::alloc::AllocError;
 /// gives, where one can; else they merge.
 pub type SiblingChoice = (usize, Option<Sibling>);
 
-// What is chosen for a child at a place. `gives` is whether the sibling before it gives, and `after`
-// how many the one behind it has, or 0 where none stands.
+// What is chosen for a child at a place. `gives` is whether the sibling before it gives, and
+// `after` how many the one behind it has, or 0 where none stands.
 fn choose_sibling(place: usize, gives: bool, after: usize) -> SiblingChoice
     requires { IsTrue gives → 0 < place }
     ensures { ChosenSibling place gives after result.0 result.1 }
@@ -59,8 +59,8 @@ fn child_len<S: NodeStore>(store: &S, id: InnerNodeId, place: usize) -> usize
     }
 }
 
-// Which sibling the child at a place of a node rotates or merges with. The one before it gives where
-// it can, and of leaves also has more than the one behind.
+// Which sibling the child at a place of a node rotates or merges with. The one before it gives
+// where it can, and of leaves also has more than the one behind.
 fn sibling<S: NodeStore>(store: &S, id: InnerNodeId, place: usize, leaves: bool) -> SiblingChoice
     requires children { NodesBelow (S.slots store.now) id }
     requires long { HasOneChildMore (S.slots store.now) id }

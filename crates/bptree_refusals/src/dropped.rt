@@ -102,9 +102,9 @@ impl Key for Tallied {
     ghost clone_is_equal = { Prim.search rules };
 }
 
-// The number of the key at a place of those that are given: those below 100 come three times. A tree
-// is given them in their order, and the others in three runs, so that they take memory as they are
-// sorted.
+// The number of the key at a place of those that are given: those below 100 come three times. A
+// tree is given them in their order, and the others in three runs, so that they take memory as they
+// are sorted.
 fn number_at(letter: u8, place: u64) -> u64 {
     if letter == b'g' {
         place / 3

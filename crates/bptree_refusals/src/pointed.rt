@@ -1,5 +1,5 @@
-//! Maps with counts that are asked for cursors on places, and lose their first pairs by a place, one
-//! by its key, and the last one.
+//! Maps with counts that are asked for cursors on places, and lose their first pairs by a place,
+//! one by its key, and the last one.
 
 use crate::bounds::stands_on;
 use crate::collections::{map_of, map_state};

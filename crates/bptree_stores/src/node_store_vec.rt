@@ -26,8 +26,9 @@ fn is_vacant<H>(places: &Slab<Place<H>>) -> bool
 
 /// Nodes under the numbers of two slabs: inner nodes in boxes, and leaves beside the emptied memory
 /// of theirs. A released number is given out again, the last released first; where none is left of
-/// these, the next number is the least one that was never given out. So each number is less than the
-/// most that were taken at a time, and a remembered number can stand for another leaf than it did.
+/// these, the next number is the least one that was never given out. So each number is less than
+/// the most that were taken at a time, and a remembered number can stand for another leaf than it
+/// did.
 ///
 /// A new number takes amortised constant time, moves no key and no value, and takes no memory where
 /// a released one is left. A clone copies every node; `try_cache` compares the key with at most two

@@ -136,7 +136,8 @@ pub trait Ranked: Tested {
     /// Whether this pair was taken from a place, or none.
     fn takes_at(&mut self, place: usize, wanted: Option<Pair>) -> bool;
 
-    /// A cursor for a key, where it came with the key's value, or with none as the key is not there.
+    /// A cursor for a key, where it came with the key's value, or with none as the key is not
+    /// there.
     fn hold(&self, key: u64, there: bool) -> Option<Self::Held>;
 
     fn hold_first(&self) -> Result<Option<Self::Held>, AllocError>;

@@ -49,8 +49,8 @@ impl<K: Key, V: Drop, A: Argument<K>> BPlusTreeMap<K, V, A> {
         }
     }
 
-    /// The value at `k`, for writing. Where no key equals `k`, a closure makes a value, and the pair
-    /// is put first.
+    /// The value at `k`, for writing. Where no key equals `k`, a closure makes a value, and the
+    /// pair is put first.
     ///
     /// Where a key equals `k`, it stays, `k` is dropped, and the closure is not called. That takes
     /// no memory and is never refused. It costs what `contains_key` and `get_mut` do.

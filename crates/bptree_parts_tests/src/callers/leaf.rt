@@ -22,8 +22,8 @@ fn starts_empty<K: Drop, V: Drop>(
     Ok((leaf.len(), leaf.prev(), leaf.next()))
 }
 
-// Whether a leaf is at its minimum, can lend a pair, and is full: around 16 pairs and around 64. And
-// how many pairs more there is room for.
+// Whether a leaf is at its minimum, can lend a pair, and is full: around 16 pairs and around 64.
+// And how many pairs more there is room for.
 fn tells_its_bounds<K: Drop, V: Drop>(leaf: &LeafNode<K, V>) -> ((bool, bool, bool), usize)
     ensures below_minimum { length leaf.now.pairs ≡ 15 → result.0 ≡ (false, false, false) }
     ensures minimum { length leaf.now.pairs ≡ 16 → result.0 ≡ (true, false, false) }
