@@ -26,27 +26,6 @@ struct Filled<K, V, A> {
     summary: A,
 }
 
-// Moves the first `count` of the items into an empty leaf.
-fn take_pairs<K: Drop, V: Drop>(
-    leaf: &mut LeafNode<K, V>,
-    items: &mut IntoIter<(K, V)>,
-    count: usize,
-)
-    requires empty { leaf.old.pairs ≡ [] }
-    requires room { count ≤ 64 }
-    requires some { count ≤ length (into_iter_items items.old) }
-    requires counted { into_iter_len items.old ≡ length (into_iter_items items.old) }
-    ensures len { length leaf.new.pairs ≡ count }
-    ensures taken { into_iter_items items.old ≡ leaf.new.pairs ++ into_iter_items items.new }
-    ensures links { leaf.new ≡ record leaf.old { pairs = leaf.new.pairs } }
-    ensures counted { into_iter_len items.new ≡ length (into_iter_items items.new) }
-{
-    'fill: while leaf.len() < count {
-        let (key, value) = items.next().unwrap();
-        leaf.push(key, value);
-    }
-}
-
 // A clone of a leaf's first key.
 fn first_key<K: Key, V: Drop>(leaf: &LeafNode<K, V>) -> Result<K, AllocError>
     requires { 0 < length leaf.now.pairs }
@@ -68,7 +47,7 @@ fn fill<K: Key, V: Drop, A: Argument<K>>(
     ensures { IfOk result (λ filled. TakesPairs K.cmp A.is_summary items.old count prev filled.leaf.value filled.first filled.summary items.new) }
 {
     let mut leaf = LeafNode::new(alloc)?;
-    take_pairs(leaf.as_mut(), items, count);
+    leaf.as_mut().fill_from(items, count);
     leaf.set_prev(prev);
     let summary = A::from_leaf(leaf.keys())?;
     let first = first_key(leaf.as_ref())?;

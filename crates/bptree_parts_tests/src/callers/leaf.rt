@@ -1,8 +1,9 @@
 //! Callers of a leaf.
-ghost use Rattle.std.specs.Prelude.{◌≡◌, ◌<◌, ◌≤◌, ◌+◌, ◌-◌, ◌∷◌, ◌++◌, [], List, Some, None, true, false, length, take, slice_get, remove, IfOk, IfSome, IsSomeAnd, option_copied};
+ghost use Rattle.std.specs.Prelude.{◌≡◌, ◌<◌, ◌≤◌, ◌+◌, ◌-◌, ◌∷◌, ◌++◌, [], List, Some, None, true, false, length, take, drop, slice_get, remove, IfOk, IfSome, IsSomeAnd, option_copied};
 ghost use Rattle.std.specs.declared.cmp.Ordering.TheVariants.{Less, Equal, Greater};
 ghost use Rattle.std.specs.List.{AllZip};
 ghost use Rattle.std.specs.Iterator.{Yields, YieldsThen};
+ghost use Rattle.std.specs.Vec.Iter.{into_iter_items};
 ghost use Rattle.bptree_keys.specs.Contents.{IsAscending, below, has, value as value_of, put};
 ghost use Rattle.bptree_keys.specs.declared.node_id.LeafNodeId.{LeafNodeId};
 
@@ -11,6 +12,7 @@ use bptree_keys::node_id::LeafNodeId;
 use bptree_nodes::leaf_node::{LeafDeleteResult, LeafNode, LeafUpsertResult};
 use std::alloc::{AllocError, Global};
 use std::cmp::Ordering;
+use std::vec::IntoIter;
 
 // A new leaf has no pairs and no neighbours.
 fn starts_empty<K: Drop, V: Drop>(
@@ -92,6 +94,23 @@ fn fills_a_new_leaf<K: Drop, V: Drop, I: Iterator<Item = (K, V)>>(
     let mut leaf = LeafNode::new(alloc)?;
     leaf.set_data(items);
     Ok(leaf)
+}
+
+// A new leaf takes the first items, as many as it is told, and leaves the others.
+fn fills_with_some<K: Drop, V: Drop>(
+    alloc: Global,
+    items: Vec<(K, V)>,
+    count: usize,
+) -> Result<(Box<LeafNode<K, V>>, IntoIter<(K, V)>), AllocError>
+    requires { (count ≤ 64) × (count ≤ length items.items) }
+    ensures taken { IfOk result (λ done. done.0.value.pairs ≡ take count items.items) }
+    ensures left { IfOk result (λ done. into_iter_items done.1 ≡ drop count items.items) }
+    ensures links { IfOk result (λ done. (done.0.value.prev ≡ None) × (done.0.value.next ≡ None)) }
+{
+    let mut leaf = LeafNode::new(alloc)?;
+    let mut left = items.into_iter();
+    leaf.fill_from(&mut left, count);
+    Ok((leaf, left))
 }
 
 // The second pair, and that there is none behind the last.
