@@ -40,33 +40,27 @@ fn set_at<S: NodeStore>(
 
 // The summary that the last node of a path keeps of the child that the path goes on to; none where
 // the path is empty.
-fn kept_above<'a, S: NodeStore>(store: &'a S, path: &mut VisitStack) -> Option<&'a S::Argument>
-    requires { HasPlaceAbove (S.slots store.now) path.old }
-    ensures path { path.new ≡ path.old }
-    ensures kept { IfSome result (λ kept. IsKeptAbove (S.slots store.now) path.old kept.now) }
+fn kept_above<'a, S: NodeStore>(store: &'a S, path: &VisitStack) -> Option<&'a S::Argument>
+    requires { HasPlaceAbove (S.slots store.now) path.now }
+    ensures { IfSome result (λ kept. IsKeptAbove (S.slots store.now) path.now kept.now) }
 {
-    // Read, so that it is known to fit.
-    let _ = path.len();
-    let (id, place, child) = path.pop()?;
-    let kept = &store.get_inner(id).arguments()[place];
-    path.push(id, place, child);
-    Some(kept)
+    let (id, place, _) = path.last()?;
+    Some(&store.get_inner(id).arguments()[place])
 }
 
 // A node's summary after that of one child was replaced. It is told by the node's old one, which
 // the node above keeps, and the child's two, where these tell it. Else it is asked for anew.
 fn sum_of_changed<S: NodeStore>(
     store: &S,
-    path: &mut VisitStack,
+    path: &VisitStack,
     id: InnerNodeId,
     place: usize,
     old: &S::Argument,
 ) -> Result<S::Argument, AllocError>
     requires present { IsPresent ((S.slots store.now).inner id.0) }
     requires place { place < length (inner_arguments ((S.slots store.now).inner id.0)) }
-    requires above { HasPlaceAbove (S.slots store.now) path.old }
-    ensures path { path.new ≡ path.old }
-    ensures sums { IfOk result (SumsUpChanged (S.slots store.now) S.K.cmp S.Argument.is_summary path.old id place old.now) }
+    requires above { HasPlaceAbove (S.slots store.now) path.now }
+    ensures { IfOk result (SumsUpChanged (S.slots store.now) S.K.cmp S.Argument.is_summary path.now id place old.now) }
 {
     let node = store.get_inner(id);
     if let Some(whole) = kept_above(store, path) {

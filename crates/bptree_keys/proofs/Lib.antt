@@ -8,6 +8,7 @@ pub mod Laws
 pub mod Locating
 pub mod Neighbours
 pub mod Parted
+pub mod Paths
 pub mod PieceLemmas
 pub mod Steps
 pub mod Updates

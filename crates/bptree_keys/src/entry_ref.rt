@@ -1,5 +1,5 @@
 //! The path from the root to an entry of a leaf.
-ghost use Rattle.std.specs.Prelude.{◌≡◌, ◌==◌, ◌<◌, ◌≤◌, ◌∷◌, ◌++◌, [], length, IsSome, IfSome, IfNone, ◌↔◌};
+ghost use Rattle.std.specs.Prelude.{◌≡◌, ◌==◌, ◌<◌, ◌≤◌, ◌-◌, ◌∷◌, ◌++◌, [], length, take, slice_get, IsSome, IfSome, IfNone, ◌↔◌};
 
 use crate::node_id::{InnerNodeId, LeafNodeId, NodeId};
 use arrayvec::ArrayVec;
@@ -62,6 +62,15 @@ impl VisitStack {
         ensures { self.new ≡ [] }
     {
         self.entries.clear();
+    }
+
+    /// The last inner node of the path, if there is one.
+    #[tactic(auto, using(crate::proofs::Paths::last_behind))]
+    pub fn last(&self) -> Option<(InnerNodeId, usize, NodeId)>
+        ensures value { result ≡ slice_get self.now (length self.now - 1) }
+        ensures some { IfSome result (λ entry. self.now ≡ take (length self.now - 1) self.now ++ entry ∷ []) }
+    {
+        self.entries.last().copied()
     }
 
     /// Takes the last inner node off the path, if there is one.

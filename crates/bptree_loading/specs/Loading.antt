@@ -22,6 +22,10 @@ module _ {K V : Type 0} (cmp : K → K → Ordering) where
   abbrev pub TellsIfLast : List (K × V) → ℕ → Bool → Type 0
   TellsIfLast pairs at last = load cmp (drop at pairs) ≡ (if last then take 1 (drop at pairs) else []) ++ load cmp (drop (at + 1) pairs)
 
+  -- the pairs before a place stay, and those from there on are still to be loaded
+  abbrev pub StayBefore : List (K × V) → ℕ → Type 0
+  StayBefore pairs at = load cmp pairs ≡ take at pairs ++ load cmp (drop at pairs)
+
   -- the value of the last pair whose key equals k
   abbrev pub last_value : List (K × V) → K → Option V
   last_value [] k = None

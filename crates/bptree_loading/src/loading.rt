@@ -1,7 +1,7 @@
 //! Pairs whose keys do not descend, and of each run of pairs with equal keys the last.
 ghost use Rattle.std.specs.Prelude.{◌≡◌, ◌+◌, ◌<◌, ◌≤◌, ◌++◌, List, ◌↔◌, IsTrue, length, take, drop, OnOk, OnErr};
 ghost use Rattle.bptree_keys.specs.Contents.{IsAscending, load, gather};
-ghost use Rattle.bptree_loading.specs.Loading.{IsInLoadOrder, LoadGivesLast, LoadKeepsLast, TellsIfLast};
+ghost use Rattle.bptree_loading.specs.Loading.{IsInLoadOrder, LoadGivesLast, LoadKeepsLast, StayBefore, TellsIfLast};
 
 use bptree_keys::key::Key;
 use std::alloc::AllocError;
@@ -37,6 +37,18 @@ fn is_last_of_run<K: Key, V>(pairs: &[(K, V)], at: usize) -> bool
     !pairs[at + 1].0.cmp(&pairs[at].0).is_eq()
 }
 
+// How many pairs come before the first with an equal key right after it.
+fn kept_at_start<K: Key, V>(pairs: &[(K, V)]) -> usize
+    ensures within { result ≤ length pairs.now }
+    ensures stay { StayBefore K.cmp pairs.now result }
+{
+    let mut at = 0;
+    while at < pairs.len() && is_last_of_run(pairs, at) {
+        at += 1;
+    }
+    at
+}
+
 // Moves the item at `at` down to the place `kept`, if it doesn't stand there.
 fn move_down<T>(items: &mut Vec<T>, kept: usize, at: usize)
     requires { (kept ≤ at) × (at < length items.old.items) }
@@ -56,8 +68,8 @@ pub fn keep_last_of_each_run<K: Key, V: Drop>(pairs: &mut Vec<(K, V)>)
     ensures items { pairs.new.items ≡ load K.cmp pairs.old.items }
     ensures order { IsAscending K.cmp pairs.new.items }
 {
-    let mut kept = 0;
-    let mut at = 0;
+    let mut kept = kept_at_start(pairs.as_slice());
+    let mut at = kept;
     while at < pairs.len() {
         if is_last_of_run(pairs.as_slice(), at) {
             move_down(pairs, kept, at);

@@ -38,11 +38,12 @@ fn path_of_three() -> VisitStack {
 // Whether the path is taken off from its end, until none is left.
 fn pops(mut stack: VisitStack) -> bool {
     for (id, offset, child) in [(3, 3, 30), (2, 2, 20), (1, 1, 10)] {
-        if stack.pop() != Some((InnerNodeId::from_usize(id), offset, inner(child))) {
+        let entry = Some((InnerNodeId::from_usize(id), offset, inner(child)));
+        if stack.last() != entry || stack.pop() != entry {
             return false;
         }
     }
-    stack.is_empty() && stack.pop().is_none()
+    stack.is_empty() && stack.last().is_none() && stack.pop().is_none()
 }
 
 #[test]

@@ -28,6 +28,33 @@ fn pops_what_was_pushed(
     stack.pop()
 }
 
+// What was put on last is what the path ends with.
+fn shows_what_was_pushed(
+    stack: &mut VisitStack,
+    id: InnerNodeId,
+    offset: usize,
+    child: NodeId,
+) -> Option<(InnerNodeId, usize, NodeId)>
+    requires { length stack.old < 15 }
+    ensures { result ≡ Some (id, offset, child) }
+{
+    stack.push(id, offset, child);
+    stack.last()
+}
+
+// What a path ends with is taken off next, and neither is there where it is empty.
+fn pops_what_it_shows(
+    mut stack: VisitStack,
+) -> (
+    Option<(InnerNodeId, usize, NodeId)>,
+    Option<(InnerNodeId, usize, NodeId)>,
+)
+    ensures { result.0 ≡ result.1 }
+{
+    let last = stack.last();
+    (last, stack.pop())
+}
+
 // A path with a node on it is not empty, and is one longer.
 fn grows_by_one(
     stack: &mut VisitStack,

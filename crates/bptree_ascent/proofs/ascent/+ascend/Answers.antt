@@ -46,8 +46,8 @@ returns-in_default-sum_of_changed-clause-handed_back g t c =
 
 pub ascend-requires : goal.ascend-requires
 ascend-requires g t c κs within = (
-  omega (arith, ap length c.in-Ok.ensures.path, ap length c.in-Some.ensures.some, length-append c.pop.new.self ((c.in-Some.id, c.in-Some.place, c.in-Some.field-0-2) ∷ [])),
-  (within.0, (within.1.0, (within.1.1.0, (within.1.1.1, rw c.in-Ok.ensures.path (climbs_keeps g.met.S.K.Ord.total g.S.Argument.Argument.is_summary (g.S.NodeStore.slots c.args.store.now) (g.S.NodeStore.slots c.set_at-old.new.store) c.args.path.now c.args.summary c.requires c.pop.new.self c.in-Some.id c.in-Some.place c.in-Some.field-0-2 c.in-Some.ensures.some c.set_at-old.result c.set_at-old.ensures.keeps c.in-Ok.above c.in-Ok.ensures.sums))))),
+  omega (arith, ap length c.in-Some.ensures.some, length-append c.pop.new.self ((c.in-Some.id, c.in-Some.place, c.in-Some.field-0-2) ∷ [])),
+  (within.0, (within.1.0, (within.1.1.0, (within.1.1.1, climbs_keeps g.met.S.K.Ord.total g.S.Argument.Argument.is_summary (g.S.NodeStore.slots c.args.store.now) (g.S.NodeStore.slots c.set_at-old.new.store) c.args.path.now c.args.summary c.requires c.pop.new.self c.in-Some.id c.in-Some.place c.in-Some.field-0-2 c.in-Some.ensures.some c.set_at-old.result c.set_at-old.ensures.keeps c.in-Ok.above c.in-Ok.ensures)))),
 )
 
 pub set_at-requires-in-Err-clause-present : goal.set_at-requires-in-Err-clause-present
@@ -58,8 +58,8 @@ set_at-requires-in-Err-clause-place g t c = rw c.in-Err.ensures.refused (place_a
 
 pub returns-in-Ok-ascend-clause-rises : goal.returns-in-Ok-ascend-clause-rises
 returns-in-Ok-ascend-clause-rises g t c climbs =
-    risen_keeps g.met.S.K.Ord.total g.S.Argument.Argument.is_summary (g.S.NodeStore.slots c.args.store.now) (g.S.NodeStore.slots c.set_at-old.new.store) c.args.path.now c.args.summary climbs c.pop.new.self c.in-Some.id c.in-Some.place c.in-Some.field-0-2 c.in-Some.ensures.some c.set_at-old.result c.set_at-old.ensures.keeps c.in-Ok.above c.in-Ok.ensures.sums
-    (g.S.NodeStore.slots c.ascend.new.store) c.in-Ok-ascend.top (rw c.in-Ok.ensures.path at c.in-Ok-ascend.ensures.rises)
+    risen_keeps g.met.S.K.Ord.total g.S.Argument.Argument.is_summary (g.S.NodeStore.slots c.args.store.now) (g.S.NodeStore.slots c.set_at-old.new.store) c.args.path.now c.args.summary climbs c.pop.new.self c.in-Some.id c.in-Some.place c.in-Some.field-0-2 c.in-Some.ensures.some c.set_at-old.result c.set_at-old.ensures.keeps c.in-Ok.above c.in-Ok.ensures
+    (g.S.NodeStore.slots c.ascend.new.store) c.in-Ok-ascend.top c.in-Ok-ascend.ensures.rises
 
 pub returns-in-Err-clause-refused : goal.returns-in-Err-clause-refused
 returns-in-Err-clause-refused g t c =

@@ -1,21 +1,19 @@
-use Rattle.std.proofs.Common.{◌≡◌, ◌∷◌, ◌<◌, [], length, length-append, arith, ap, sym, subst, refl, ◌∙◌, slice_get, Some}
+use Rattle.std.proofs.Common.{◌≡◌, ◌<◌, ◌-◌, length, take, ap, sym, subst, refl, ◌∙◌, slice_get, Some}
 use Rattle.std.proofs.lemmas.Option.{slice_get_read}
 use Rattle.bptree_shape.specs.Shape.{inner_arguments}
 use Rattle.bptree_ascent.proofs.ascent.kept_above.Goals as goal
 
-pub push-requires : goal.push-requires
-push-requires g c = omega (arith, c.len.ensures.fits, ap length c.in_ok-id.ensures.some, length-append c.pop.new.self ((c.in_ok-id.id, c.in_ok-id.place, c.in_ok-id.child) ∷ []))
-
-pub returns-clause-kept : goal.returns-clause-kept
-returns-clause-kept g c =
+pub returns : goal.returns
+returns g c =
+    let path = c.args.path.now in
     let xs = c.arguments.result.now in
-    let there = (c.requires c.pop.new.self c.in_ok-id.id c.in_ok-id.place c.in_ok-id.child c.in_ok-id.ensures.some).1 in
+    let there = (c.requires (take (length path - 1) path) c.in_ok-id.id c.in_ok-id.place c.in_ok-id.field-0-2 c.in_ok-id.ensures.some).1 in
     let same : inner_arguments ((g.S.NodeStore.slots c.args.store.now).inner c.in_ok-id.id.0) ≡ xs = ap inner_arguments {x = (g.S.NodeStore.slots c.args.store.now).inner c.in_ok-id.id.0} c.get_inner.ensures ∙ sym c.arguments.ensures.value in
     record {
-      rest = c.pop.new.self;
+      rest = take (length path - 1) path;
       id = c.in_ok-id.id;
       i = c.in_ok-id.place;
-      child = c.in_ok-id.child;
+      child = c.in_ok-id.field-0-2;
       last = c.in_ok-id.ensures.some;
       kept = subst (λ l. slice_get l c.in_ok-id.place ≡ Some c.index-arguments-place.result) (sym same)
           (slice_get_read xs (length xs) c.in_ok-id.place c.index-arguments-place.result refl (subst (λ l. c.in_ok-id.place < length l) same there) c.index-arguments-place.is);

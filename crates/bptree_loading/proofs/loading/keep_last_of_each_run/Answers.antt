@@ -10,12 +10,12 @@ loop-at-preserved g c = elim c.if-is_last_of_run.branch [
   | then-is_last_of_run w ↦ rw (w.pairs-is, w.kept-is) (record {
     in_order = omega arith;
     in_range = omega (arith, w.move_down.ensures.len);
-    so_far = kept_more g.K.Ord.cmp _ c.loop-at.pairs.items _ c.loop-at.kept c.loop-at.at c.loop-at.invariant.so_far (rw (c.as_slice.ensures.value, w.if-is_last_of_run.true) at c.is_last_of_run.ensures) w.move_down.ensures.kept w.move_down.ensures.rest;
+    so_far = kept_more g.K.Ord.cmp _ c.loop-at.pairs.items _ c.loop-at.kept c.loop-at.at c.loop-at.invariant.so_far (rw (c.as_slice-in-loop-at.ensures.value, w.if-is_last_of_run.true) at c.is_last_of_run.ensures) w.move_down.ensures.kept w.move_down.ensures.rest;
   })
   | else-is_last_of_run w ↦ rw (w.pairs-is, w.kept-is) (record {
     in_order = omega arith;
     in_range = omega arith;
-    so_far = kept_same g.K.Ord.cmp _ c.loop-at.pairs.items c.loop-at.kept c.loop-at.at c.loop-at.invariant.so_far (rw (c.as_slice.ensures.value, w.if-is_last_of_run.false) at c.is_last_of_run.ensures);
+    so_far = kept_same g.K.Ord.cmp _ c.loop-at.pairs.items c.loop-at.kept c.loop-at.at c.loop-at.invariant.so_far (rw (c.as_slice-in-loop-at.ensures.value, w.if-is_last_of_run.false) at c.is_last_of_run.ensures);
   })
 ]
 
