@@ -356,7 +356,8 @@ pub fn upsert<S: NodeStore>(
     if S::Argument::is_zst() {
         store.cache_leaf(leaf);
     }
-    let found = slot_for(store.get_leaf(leaf), height, &k);
+    // What it moves waits for the search, so this begins with branches one level sooner.
+    let found = slot_for(store.get_leaf(leaf), height.saturating_add(1), &k);
     match found {
         Ok(slot) => Ok(Put::Replaced(replace_at(store, leaf, slot, v))),
         Err(slot) => match put_new(store, path, root, leaf, slot, k, v) {

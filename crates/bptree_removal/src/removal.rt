@@ -208,7 +208,8 @@ pub fn find_entry<S: NodeStore>(
 {
     path.clear();
     let leaf = find_path(store, root, height, k, path);
-    let mut compares = Compares::below(height);
+    // What a removal moves waits for the search, so this begins with branches one level sooner.
+    let mut compares = Compares::below(height.saturating_add(1));
     match store.get_leaf(leaf).locate_slot_counted(k, &mut compares) {
         Ok(slot) => Some((leaf, slot)),
         Err(_) => None,
