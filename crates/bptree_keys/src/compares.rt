@@ -141,6 +141,43 @@ fn search_among<K: Ord>(
     }
 }
 
+// The same as `search_among`, but both of the last two keys are compared at once, so that one
+// comparison fewer is waited for. There is no branch on either of them.
+#[inline(always)]
+fn search_beside<K: Ord>(
+    keys: &[K],
+    key: &K,
+    base: usize,
+    width: usize,
+    compares: &mut Compares,
+) -> Result<usize, usize>
+    requires several { 1 < width }
+    requires within { base + width ≤ length keys.now }
+    requires among { IsAmong (λ y. K.cmp y key.now) keys.now base width }
+    ensures in_range { IsSearchInRange result (length keys.now) }
+    ensures position { IsBinarySearchResult (λ y. K.cmp y key.now) keys.now result }
+    ensures counts_on { compares.old ≤ compares.new }
+    ensures count { (steps : ℕ) → width ≤ 2 ^ steps → compares.new ≤ compares.old + steps + 1 }
+{
+    let mut first = base;
+    let mut left = width;
+    'halves: while left > 2 {
+        let half = left / 2;
+        let is_past = compares.compare(&keys[first + half], key).is_le();
+        first += usize::from(is_past) * half;
+        left -= half;
+    }
+    let lower = compares.compare(&keys[first], key);
+    let upper = compares.compare(&keys[first + 1], key);
+    let slot = first + usize::from(lower.is_lt()) + usize::from(upper.is_lt());
+    let past = first + usize::from(lower.is_le()) + usize::from(upper.is_le());
+    if past > slot {
+        Ok(first + usize::from(upper.is_eq()))
+    } else {
+        Err(slot)
+    }
+}
+
 // Finds `key` among so many keys, or up to twice as many: in the first ones or in the last, which
 // may have some in common. So each step's width is known when the search is compiled.
 #[inline(always)]
@@ -242,10 +279,10 @@ fn search_by_branch<K: Ord>(
     ensures counts_on { compares.old ≤ compares.new }
     ensures count { compares.new ≤ compares.old + 6 }
 {
-    match compares.compare(&keys[base + step], key) {
-        Ordering::Less => search_among(keys, key, base + step, 16, compares),
-        Ordering::Equal => Ok(base + step),
-        Ordering::Greater => search_among(keys, key, base, 16, compares),
+    if compares.compare(&keys[base + step], key).is_le() {
+        search_beside(keys, key, base + step, 16, compares)
+    } else {
+        search_beside(keys, key, base, 16, compares)
     }
 }
 
@@ -264,10 +301,10 @@ fn search_far<K: Ord>(keys: &[K], key: &K, compares: &mut Compares) -> Result<us
     }
     let rest = count.saturating_sub(32);
     let step = count - rest - 16;
-    match compares.compare(&keys[rest], key) {
-        Ordering::Less => search_by_branch(keys, key, rest, step, compares),
-        Ordering::Equal => Ok(rest),
-        Ordering::Greater => search_by_branch(keys, key, 0, step, compares),
+    if compares.compare(&keys[rest], key).is_le() {
+        search_by_branch(keys, key, rest, step, compares)
+    } else {
+        search_by_branch(keys, key, 0, step, compares)
     }
 }
 
@@ -433,6 +470,24 @@ fn count_later<K: Ord>(
     count_among(keys, key, base + usize::from(is_past) * step, 16, compares)
 }
 
+// How many of few `keys` are not greater than `key`. No comparison waits for another one.
+#[inline(never)]
+fn count_upto_few<K: Ord>(keys: &[K], key: &K, compares: &mut Compares) -> usize
+    requires { length keys.now ≤ 7 }
+    ensures in_range { result ≤ length keys.now }
+    ensures ascending { CountsUpTo K.cmp key.now keys.now result }
+    ensures counts_on { compares.old ≤ compares.new }
+    ensures count { compares.new ≤ compares.old + 7 }
+{
+    let mut upto = 0usize;
+    let mut at = 0usize;
+    'keys: while at < keys.len() {
+        upto += usize::from(compares.compare(&keys[at], key).is_le());
+        at += 1;
+    }
+    upto
+}
+
 /// How many of ascending `keys` are not greater than `key`.
 #[inline(always)]
 pub fn count_upto_counted<K: Ord>(keys: &[K], key: &K, compares: &mut Compares) -> usize
@@ -442,8 +497,13 @@ pub fn count_upto_counted<K: Ord>(keys: &[K], key: &K, compares: &mut Compares) 
     ensures counts_on { compares.old ≤ compares.new }
     ensures count { compares.new ≤ compares.old + 7 }
 {
-    if size_of_val(key) <= LONG && keys.len() > 16 {
-        return count_upto_many(keys, key, compares);
+    if size_of_val(key) <= LONG {
+        if keys.len() > 16 {
+            return count_upto_many(keys, key, compares);
+        }
+        if keys.len() < 8 {
+            return count_upto_few(keys, key, compares);
+        }
     }
     match locate_counted(keys, key, compares) {
         Ok(slot) => slot + 1,

@@ -1,0 +1,15 @@
+use Rattle.std.proofs.Common.{◌+◌, ◌-◌, ◌≤◌, ◌<◌, length}
+use Rattle.bptree_keys.specs.Searches.{IsAmong}
+use Rattle.bptree_keys.proofs.Steps.{Halves}
+use Rattle.bptree_keys.proofs.compares.search_beside.Given as goal
+
+abbrev pub invariant-halves : goal.invariant-halves
+invariant-halves g l = record {
+  several : 1 < l.left;
+  within : l.first + l.left ≤ length l.keys;
+  among : IsAmong (λ y. g.K.Ord.cmp y l.key) l.keys l.first l.left;
+  counted : Halves l.fn.compares l.fn.width l.left l.compares;
+}
+
+abbrev pub decreases-halves : goal.decreases-halves
+decreases-halves g l = l.left - 2
