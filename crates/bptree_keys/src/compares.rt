@@ -471,7 +471,7 @@ fn count_later<K: Ord>(
 }
 
 // How many of few `keys` are not greater than `key`. No comparison waits for another one.
-#[inline(never)]
+#[inline(always)]
 fn count_upto_few<K: Ord>(keys: &[K], key: &K, compares: &mut Compares) -> usize
     requires { length keys.now ≤ 7 }
     ensures in_range { result ≤ length keys.now }
