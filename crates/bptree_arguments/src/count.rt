@@ -33,13 +33,17 @@ const FEW: usize = 128;
 // The least number that isn't small.
 const SMALL: usize = 1 << 57;
 
-/// The counts added to a number, or the greatest `usize` where that is less. Where the bits of all
-/// counts of a node tell that they are small, these are added without a look at each sum, and so
-/// some at a time. Else they are added one after another.
+// So many counts are added one after another: what loads some of them at a time would wait for the
+// one that was written last.
+const ALONE: usize = 16;
+
+/// The counts added to a number, or the greatest `usize` where that is less. Where there are more
+/// than a few, and the bits of all tell that they are small, they are added without a look at each
+/// sum, and so some at a time. Else they are added one after another.
 pub fn total_of(start: usize, arguments: &[Count]) -> usize
     ensures { result ≡ min (start + sum_by (λ b. b.0) arguments.now) (2 ^ 64 - 1) }
 {
-    if arguments.len() < FEW {
+    if arguments.len() > ALONE && arguments.len() < FEW {
         let mut total = start;
         let mut bits = start;
         for argument in arguments {
