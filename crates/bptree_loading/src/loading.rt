@@ -1,5 +1,5 @@
 //! Pairs whose keys do not descend, and of each run of pairs with equal keys the last.
-ghost use Rattle.std.specs.Prelude.{◌≡◌, ◌+◌, ◌<◌, ◌≤◌, ◌++◌, List, ◌↔◌, IsTrue, length, take, drop, OnOk, OnErr};
+ghost use Rattle.std.specs.Prelude.{◌≡◌, ◌+◌, ◌<◌, ◌≤◌, ◌++◌, List, ◌↔◌, IsTrue, false, length, take, drop, OnOk, OnErr};
 ghost use Rattle.bptree_keys.specs.Contents.{IsAscending, load, gather};
 ghost use Rattle.bptree_loading.specs.Loading.{IsInLoadOrder, LoadGivesLast, LoadKeepsLast, StayBefore, TellsIfLast};
 
@@ -41,6 +41,7 @@ fn is_last_of_run<K: Key, V>(pairs: &[(K, V)], at: usize) -> bool
 fn kept_at_start<K: Key, V>(pairs: &[(K, V)]) -> usize
     ensures within { result ≤ length pairs.now }
     ensures stay { StayBefore K.cmp pairs.now result }
+    ensures stops { result < length pairs.now → TellsIfLast K.cmp pairs.now result false }
 {
     let mut at = 0;
     while at < pairs.len() && is_last_of_run(pairs, at) {
