@@ -1,5 +1,5 @@
 -- What stands beside the place of a key in a tree.
-use Rattle.std.proofs.Common.{◌≡◌, ℕ, zero, suc, ◌-◌, ◌<◌, ◌≤◌, Bool, true, false, List, [], ◌∷◌, ◌++◌, length, take, drop, refl, sym, ap, subst, ◌∙◌, arith, Option, Some, None, Result, Ok, Err, append_assoc, append-nil, length-append, slice_get, IsSomeAnd}
+use Rattle.std.proofs.Common.{◌≡◌, ℕ, zero, suc, ◌-◌, ◌<◌, ◌≤◌, Bool, true, false, List, [], ◌∷◌, ◌++◌, length, take, drop, refl, sym, ap, subst, ◌∙◌, arith, Option, Some, None, Result, Ok, Err, append_assoc, append-nil, length-append, slice_get, slice_index_or, IsSomeAnd, not, is_none}
 use mathlib.Core.Bool.{true≢false}
 use Rattle.std.proofs.lemmas.List.{drop_all}
 use Rattle.std.specs.declared.cmp.Ordering.{Ordering}
@@ -7,13 +7,15 @@ use Rattle.std.specs.declared.cmp.Ordering.TheVariants.{Equal}
 use Rattle.std.specs.Cmp.{IsTotalOrder}
 use Rattle.std.specs.List.{AllByRecursion}
 use Rattle.std.specs.List.Sorted.{IsSearchInRange}
-use Rattle.std.specs.Ordering.{is_gt}
+use Rattle.std.specs.Ordering.{is_gt, is_lt, ordering_reverse}
+use Rattle.std.specs.Map.{keys_of}
+use Rattle.std.proofs.Math.Bool.{or-true}
 use Rattle.std.proofs.lemmas.List.Elements.{filter-append}
 use Rattle.std.proofs.lemmas.Option.{get_or_from_slice_get, slice_get_within}
 use Rattle.std.specs.declared.cmp.Ordering.TheVariants.{Less, Greater}
 use Rattle.bptree_keys.specs.Contents.{IsAscending, pairs_below, pairs_above, next, previous, value}
 use Rattle.bptree_keys.specs.Locate.{child_place}
-use Rattle.bptree_keys.specs.Places.{IsHit, IsPlaceOf}
+use Rattle.bptree_keys.specs.Places.{AllAnswer, IsHit, IsPlaceOf}
 use Rattle.bptree_keys.specs.declared.node_id.LeafNodeId.{LeafNodeId}
 use Rattle.bptree_keys.specs.declared.node_id.NodeId.{NodeId}
 use Rattle.bptree_keys.specs.declared.node_id.NodeId.TheVariants as kind
@@ -22,8 +24,9 @@ use Rattle.bptree_keys.proofs.Found.{hit_at, gap_at}
 use Rattle.bptree_keys.proofs.Parted.{filter_all, filter_none, pairs_below_hit, pairs_below_gap, pairs_above_gap, value_hit, value_gap}
 use Rattle.bptree_keys.proofs.PieceLemmas.{AllByRecursion-left, AllByRecursion-right}
 use Rattle.bptree_nodes.specs.Inner.{Inner}
-use Rattle.bptree_nodes.specs.Leaf.{Leaf, leaf_in_range}
-use Rattle.bptree_nodes.specs.LeafResults.{place_of}
+use Rattle.bptree_nodes.specs.Leaf.{Leaf, leaf_in_range, leaf_keys, reaches_first, reaches_last}
+use Rattle.bptree_nodes.specs.LeafResults.{place_of, HasEqualAt}
+use Rattle.bptree_shape.proofs.Hinted.{present_stands}
 use Rattle.bptree_nodes.specs.Slot.{Slot, Slots, Present}
 use Rattle.bptree_stores.specs.Hint.{HoldsKey}
 use Rattle.bptree_shape.specs.Leaves.{pairs_of, StandsIn, IsLeafFor}
@@ -143,6 +146,39 @@ module _ {K V A : Type 0} {cmp : K → K → Ordering} (total : IsTotalOrder cmp
   hinted_at k id leaf place within here range true' found fits =
       let holds : HoldsKey cmp (slots.leaf id.0) k = subst (λ (s : Slot (Leaf K V)). HoldsKey cmp s k) (sym here) (sym range ∙ true') in
       found_at k id leaf place (hinted total is_summary slots h root shape k id holds) here found fits
+
+  -- a leaf's range holds a key that stands in it
+  turned : (x y : K) (o : Ordering) → cmp x y ≡ o → cmp y x ≡ ordering_reverse o
+  turned x y o is = total.antisymm y x ∙ ap ordering_reverse is
+
+  first_reached : (k : K) (ps : List (K × V)) (i : ℕ) → HasEqualAt cmp ps k i → AllAnswer cmp k Less (take i ps) → reaches_first cmp (keys_of ps) k ≡ true
+  first_reached k [] i equal smaller = absurd equal
+  first_reached k (p ∷ ps) zero equal smaller = ap (λ o. not (is_lt o)) (turned p.0 k Equal equal)
+  first_reached k (p ∷ ps) (suc i) equal smaller = ap (λ o. not (is_lt o)) (turned p.0 k Less smaller.0)
+
+  last_greater : (k d : K) (p : K × V) (ps : List (K × V)) → AllAnswer cmp k Greater (p ∷ ps) → not (is_gt (cmp k (slice_index_or (keys_of (p ∷ ps)) (length (keys_of ps)) d))) ≡ true
+  last_greater k d p [] greater = ap (λ o. not (is_gt o)) (turned p.0 k Greater greater.0)
+  last_greater k d p (q ∷ ps) greater = last_greater k d q ps greater.1
+
+  last_reached : (k d : K) (p : K × V) (ps : List (K × V)) (i : ℕ) → HasEqualAt cmp (p ∷ ps) k i → AllAnswer cmp k Greater (drop (suc i) (p ∷ ps)) → not (is_gt (cmp k (slice_index_or (keys_of (p ∷ ps)) (length (keys_of ps)) d))) ≡ true
+  last_reached k d p [] zero equal greater = ap (λ o. not (is_gt o)) (turned p.0 k Equal equal)
+  last_reached k d p [] (suc i) equal greater = absurd equal
+  last_reached k d p (q ∷ ps) zero equal greater = last_greater k d q ps greater
+  last_reached k d p (q ∷ ps) (suc i) equal greater = last_reached k d q ps i equal greater
+
+  in_range_of : (k : K) (leaf : Leaf K V) (ps : List (K × V)) (i : ℕ) → leaf.pairs ≡ ps → IsAscending cmp ps → HasEqualAt cmp ps k i → leaf_in_range cmp leaf k ≡ true
+  in_range_of k leaf [] i is ascending equal = absurd equal
+  in_range_of k leaf (p ∷ ps) i is ascending equal =
+      let hit = (hit_at cmp total (p ∷ ps) ascending k i p equal).1 in
+      let first : reaches_first cmp (leaf_keys leaf) k ≡ true = rw is (first_reached k (p ∷ ps) i equal hit.smaller) in
+      let last : reaches_last cmp (leaf_keys leaf) k ≡ true = rw is (last_reached k p.0 p ps i equal hit.greater) in
+      rw (first, last, or-true (is_none leaf.prev), or-true (is_none leaf.next)) refl
+
+  -- so an equal key at a place of a present leaf tells the key's place
+  pub equal_at : (k : K) (id : LeafNodeId) (leaf : Leaf K V) (i : ℕ) → slots.leaf id.0 ≡ Present leaf → HasEqualAt cmp leaf.pairs k i → length leaf.pairs ≤ 64 → IsPlaceAt cmp slots h root k id leaf (Ok i)
+  equal_at k id leaf i here equal fits =
+      let sorted : IsAscending cmp leaf.pairs = ascends id leaf (present_stands total is_summary slots h root shape id leaf here) here in
+      hinted_at k id leaf (Ok i) true here (sym (in_range_of k leaf leaf.pairs i refl sorted equal)) refl (λ up. equal) fits
 
   module _ (k : K) (id : LeafNodeId) (leaf : Leaf K V) (place : Result ℕ ℕ) (at : IsPlaceAt cmp slots h root k id leaf place) where
     abbrev in' : StandsIn slots h root id

@@ -1,10 +1,10 @@
 //! Places of keys in a tree that stands in a store, and the pairs beside them.
-ghost use Rattle.std.specs.Prelude.{◌≡◌, ◌≤◌, length, slice_get};
+ghost use Rattle.std.specs.Prelude.{◌≡◌, ◌≤◌, true, length, slice_get};
 ghost use Rattle.std.specs.Option.{option_copied, option_map};
 ghost use Rattle.bptree_keys.specs.Contents.{last_member};
 ghost use Rattle.bptree_descents.specs.Neighbours.{beside, leaf_pairs_of, LocatesKey, ReadsNext, ReadsPrevious, first_from, last_upto, pair_read};
 ghost use Rattle.bptree_shape.specs.Shape.{pairs_at, IsWellShaped, value_in};
-ghost use Rattle.bptree_nodes.specs.LeafResults.{place_of, IsPlaceInLeaf};
+ghost use Rattle.bptree_nodes.specs.LeafResults.{place_of, HasEqualAt};
 
 use bptree_keys::compares::Compares;
 use bptree_keys::node_id::{LeafNodeId, NodeId};
@@ -12,13 +12,12 @@ use bptree_nodes::leaf_node::LeafNode;
 use bptree_shape::descent::{first_leaf, last_leaf};
 use bptree_shape::reading::leaf_for;
 use bptree_stores::node_stores::NodeStore;
-use std::cmp::Ordering;
 
 /// The leaf that a key belongs to, and the key's place in it, or else the number of smaller keys.
 ///
 /// Where `hint` is that leaf and the key stands at its place `offset`, nothing is searched: that
-/// costs three comparisons. Where it is the leaf alone, the leaf is searched. Else the tree is,
-/// from the root.
+/// costs one comparison. Where it is the leaf alone, the leaf is searched. Else the tree is, from
+/// the root.
 fn place_of<'a, S: NodeStore>(
     store: &'a S,
     root: NodeId,
@@ -31,25 +30,13 @@ fn place_of<'a, S: NodeStore>(
     ensures { LocatesKey S.K.cmp (S.slots store.now) height root key.now result }
 {
     if let Some(leaf) = store.try_get_leaf(hint) {
+        if stands_at(leaf, offset, key) {
+            return (hint, leaf, Ok(offset));
+        }
         if leaf.in_range(key) {
-            return (hint, leaf, place_in(leaf, offset, key));
+            return (hint, leaf, leaf.locate_slot(key));
         }
     }
-    locate_apart(store, root, height, key)
-}
-
-// The same as `locate_key`, in a function of its own: where the hint serves, nothing of it is
-// needed.
-#[inline(never)]
-fn locate_apart<'a, S: NodeStore>(
-    store: &'a S,
-    root: NodeId,
-    height: usize,
-    key: &S::K,
-) -> (LeafNodeId, &'a LeafNode<S::K, S::V>, Result<usize, usize>)
-    requires { IsWellShaped S.K.cmp S.Argument.is_summary (S.slots store.now) height root }
-    ensures { LocatesKey S.K.cmp (S.slots store.now) height root key.now result }
-{
     locate_key(store, root, height, key)
 }
 
@@ -71,23 +58,15 @@ pub fn locate_key<'a, S: NodeStore>(
     (id, leaf, leaf.locate_slot_counted(key, &mut compares))
 }
 
-// The place of a key in a leaf, without a search where the key stands at the place that is tried
-// first.
-fn place_in<K: Ord + Drop, V: Drop>(
-    leaf: &LeafNode<K, V>,
-    offset: usize,
-    key: &K,
-) -> Result<usize, usize>
-    ensures place { IsPlaceInLeaf K.cmp leaf.now key.now result }
+// Whether an equal key stands at a place of a leaf.
+fn stands_at<K: Ord + Drop, V: Drop>(leaf: &LeafNode<K, V>, offset: usize, key: &K) -> bool
+    ensures equal { result ≡ true → HasEqualAt K.cmp leaf.now.pairs key.now offset }
     ensures fits { length leaf.now.pairs ≤ 64 }
 {
-    if let Some((there, _)) = leaf.try_data_at(offset) {
-        match there.cmp(key) {
-            Ordering::Equal => return Ok(offset),
-            Ordering::Less | Ordering::Greater => {}
-        }
+    match leaf.try_data_at(offset) {
+        Some((there, _)) => there.cmp(key).is_eq(),
+        None => false,
     }
-    leaf.locate_slot(key)
 }
 
 /// The slot that a search told, or the one behind it, where the key is there and that is asked.

@@ -106,9 +106,38 @@ impl Compares {
     }
 }
 
-// Finds `key` where its place is among the `width` keys from `base` on. It halves them, and each
-// step moves by a product, so that the compiler makes no branch on a comparison, which would be
-// foreseen wrongly each second time.
+// Leaves of the `width` keys from `base` on, among which the place of `key` is, as `few` as are
+// wanted, and answers where they begin. It halves them, and each step moves by a product, so that
+// the compiler makes no branch on a comparison, which would be foreseen wrongly each second time.
+#[inline(always)]
+fn halved<K: Ord>(
+    keys: &[K],
+    key: &K,
+    base: usize,
+    width: usize,
+    few: usize,
+    compares: &mut Compares,
+) -> usize
+    requires few { (0 < few) × (few ≤ 2) × (few ≤ width) }
+    requires within { base + width ≤ length keys.now }
+    requires among { IsAmong (λ y. K.cmp y key.now) keys.now base width }
+    ensures within { result + few ≤ length keys.now }
+    ensures among { IsAmong (λ y. K.cmp y key.now) keys.now result few }
+    ensures counts_on { compares.old ≤ compares.new }
+    ensures count { (steps : ℕ) → width ≤ 2 ^ steps → compares.new + few ≤ compares.old + steps + 1 }
+{
+    let mut first = base;
+    let mut left = width;
+    'halves: while left > few {
+        let half = left / 2;
+        let is_past = compares.compare(&keys[first + half], key).is_le();
+        first += usize::from(is_past) * half;
+        left -= half;
+    }
+    first
+}
+
+// Finds `key` where its place is among the `width` keys from `base` on.
 #[inline(always)]
 fn search_among<K: Ord>(
     keys: &[K],
@@ -125,14 +154,7 @@ fn search_among<K: Ord>(
     ensures counts_on { compares.old ≤ compares.new }
     ensures count { (steps : ℕ) → width ≤ 2 ^ steps → compares.new ≤ compares.old + steps + 1 }
 {
-    let mut first = base;
-    let mut left = width;
-    'halves: while left > 1 {
-        let half = left / 2;
-        let is_past = compares.compare(&keys[first + half], key).is_le();
-        first += usize::from(is_past) * half;
-        left -= half;
-    }
+    let first = halved(keys, key, base, width, 1, compares);
     let ordering = compares.compare(&keys[first], key);
     if ordering.is_eq() {
         Ok(first)
@@ -159,14 +181,7 @@ fn search_beside<K: Ord>(
     ensures counts_on { compares.old ≤ compares.new }
     ensures count { (steps : ℕ) → width ≤ 2 ^ steps → compares.new ≤ compares.old + steps + 1 }
 {
-    let mut first = base;
-    let mut left = width;
-    'halves: while left > 2 {
-        let half = left / 2;
-        let is_past = compares.compare(&keys[first + half], key).is_le();
-        first += usize::from(is_past) * half;
-        left -= half;
-    }
+    let first = halved(keys, key, base, width, 2, compares);
     let lower = compares.compare(&keys[first], key);
     let upper = compares.compare(&keys[first + 1], key);
     let slot = first + usize::from(lower.is_lt()) + usize::from(upper.is_lt());

@@ -1,19 +1,7 @@
-use Rattle.std.proofs.Common.{◌+◌, ◌-◌, ◌*◌, ◌/◌, sym, refl, arith, ◌∙◌}
-use Rattle.bptree_keys.proofs.Steps.{window_then, window_end, half_taken}
+use Rattle.std.proofs.Common.{sym, arith, ◌∙◌}
+use Rattle.bptree_keys.proofs.Steps.{window_end}
 use Rattle.bptree_keys.proofs.compares.search_among.Goals as goal
-
-pub halves-preserved : goal.halves-preserved
-halves-preserved g c =
-    let half = c.halves.left / 2 in
-    let next = c.halves.first + c.from.result * half in
-    let s = window_then (λ (y : g.row.K.Denot). g.K.Ord.cmp y c.args.key.now) c.args.keys.now c.halves.first next half c.halves.left (c.halves.left - half) c.from.result c.index-keys-first.result c.compare.result c.is_le-is_past.result (omega (arith, c.halves.invariant.within)) c.index-keys-first.is c.compare.ensures.order c.is_le-is_past.ensures c.from.ensures refl (omega arith) (omega arith) c.halves.invariant.among in
-    record {
-      positive = omega arith;
-      within = omega (arith, s.0, c.halves.invariant.within);
-      among = s.1;
-      counted = half_taken c.args.compares.now c.args.width c.halves.left (c.halves.left - half) c.halves.compares c.compare.new.self c.halves.invariant.counted c.compare.ensures.counts_on (omega (arith, c.compare.ensures.count)) (omega arith) (omega arith);
-    }
 
 pub returns-else-is_eq-clause-position : goal.returns-else-is_eq-clause-position
 returns-else-is_eq-clause-position g c =
-    window_end (λ (y : g.row.K.Denot). g.K.Ord.cmp y c.args.key.now) c.args.keys.now c.halves.first c.halves.left c.from-else-is_eq.result c.index-keys-first-2.result c.compare-ordering.result c.is_eq.result c.is_lt.result (omega arith) (omega (arith, c.halves.invariant.within)) c.index-keys-first-2.is c.compare-ordering.ensures.order c.is_eq.ensures (c.is_eq.ensures ∙ sym c.if-is_eq.ensures) c.is_lt.ensures c.from-else-is_eq.ensures c.halves.invariant.among
+    window_end (λ (y : g.row.K.Denot). g.K.Ord.cmp y c.args.key.now) c.args.keys.now c.halved-first.result 1 c.from.result c.index-keys-first.result c.compare-ordering.result c.is_eq.result c.is_lt.result (omega arith) (omega (arith, c.halved-first.ensures.within)) c.index-keys-first.is c.compare-ordering.ensures.order c.is_eq.ensures (c.is_eq.ensures ∙ sym c.if-is_eq.ensures) c.is_lt.ensures c.from.ensures c.halved-first.ensures.among

@@ -1,0 +1,15 @@
+use Rattle.std.proofs.Common.{◌+◌, ◌-◌, ◌*◌, ◌/◌, refl, arith}
+use Rattle.bptree_keys.proofs.Steps.{window_then, half_taken}
+use Rattle.bptree_keys.proofs.compares.halved.Goals as goal
+
+pub halves-preserved : goal.halves-preserved
+halves-preserved g c =
+    let half = c.halves.left / 2 in
+    let next = c.halves.first + c.from.result * half in
+    let s = window_then (λ (y : g.row.K.Denot). g.K.Ord.cmp y c.args.key.now) c.args.keys.now c.halves.first next half c.halves.left (c.halves.left - half) c.from.result c.index-keys-first.result c.compare.result c.is_le-is_past.result (omega (arith, c.halves.invariant.within)) c.index-keys-first.is c.compare.ensures.order c.is_le-is_past.ensures c.from.ensures refl (omega arith) (omega arith) c.halves.invariant.among in
+    record {
+      enough = omega arith;
+      within = omega (arith, s.0, c.halves.invariant.within);
+      among = s.1;
+      counted = half_taken c.args.compares.now c.args.width c.halves.left (c.halves.left - half) c.halves.compares c.compare.new.self c.halves.invariant.counted c.compare.ensures.counts_on (omega (arith, c.compare.ensures.count)) (omega arith) (omega arith);
+    }
