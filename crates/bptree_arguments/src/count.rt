@@ -33,8 +33,8 @@ const FEW: usize = 128;
 // The least number that isn't small.
 const SMALL: usize = 1 << 57;
 
-// So many counts are added one after another: what loads some of them at a time would wait for the
-// one that was written last.
+// So many counts are added one after another: what loads some of them at a time likely waits for
+// the one that was written last.
 const ALONE: usize = 16;
 
 /// The counts added to a number, or the greatest `usize` where that is less. Where there are more

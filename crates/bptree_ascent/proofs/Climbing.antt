@@ -1,5 +1,5 @@
 -- An edit is carried from a node to the one above it.
-use Rattle.std.proofs.Common.{◌≡◌, ℕ, zero, suc, ◌<◌, Bool, true, false, ◌≤◌, ◌^◌, inl, inr, List, [], ◌∷◌, ◌++◌, length, map, refl, sym, ap, subst, ◌∙◌, arith, Option, Some, None, slice_get}
+use Rattle.std.proofs.Common.{◌≡◌, ℕ, zero, suc, ◌<◌, Bool, true, false, ◌≤◌, ◌^◌, inl, inr, List, [], ◌∷◌, ◌++◌, length, map, refl, sym, ap, subst, ◌∙◌, arith, Option, Some, None, IfSome, slice_get}
 use Rattle.std.specs.declared.cmp.Ordering.{Ordering}
 use Rattle.std.specs.Cmp.{IsTotalOrder}
 use Rattle.std.specs.List.{AllZip}
@@ -19,13 +19,13 @@ use Rattle.bptree_keys.specs.declared.node_id.NodeId.{NodeId}
 use Rattle.bptree_keys.specs.declared.node_id.NodeId.TheVariants as kind
 use Rattle.bptree_keys.proofs.PieceLemmas.{AllZip-length}
 use Rattle.bptree_ascent.specs.Change.{Keeps, TakesSummary}
-use Rattle.bptree_ascent.specs.Climb.{is_held, HeldAre, NoneHeld, least_at, Climb, Climbs, Risen}
+use Rattle.bptree_ascent.specs.Climb.{is_held, HeldAre, NoneHeld, least_at, Climb, Climbs, ClimbsFrom, Risen}
 use Rattle.bptree_shape.specs.Edit.{CanReach, Turn, Edits}
 use Rattle.bptree_shape.specs.Outcome.{Outcome, Done}
 use Rattle.bptree_shape.specs.Order.{flat}
 use Rattle.bptree_shape.specs.Path.{Way}
 use Rattle.bptree_shape.specs.Shape.{inner_children, inner_arguments, pairs_at, root_least, IsSummed, IsTree}
-use Rattle.bptree_ascent.specs.Sums.{SumsUpAt, HasPlace, with_summary, HasPlaceAbove, SumsUpChanged}
+use Rattle.bptree_ascent.specs.Sums.{SumsUpAt, HasPlace, with_summary, HasPlaceAbove, IsKept, SumsUpChanged}
 use Rattle.bptree_ascent.proofs.Lift.{node_keeps}
 use Rattle.bptree_ascent.proofs.NodeChanges.{set_long, get_set, some_same}
 use Rattle.bptree_shape.proofs.NodePieces.{child_keys, node_keys_flat, node_pieces, node_summaries}
@@ -229,23 +229,36 @@ module _ {K V A : Type 0} {cmp : K → K → Ordering} (total : IsTotalOrder cmp
           let zip = subst (λ (s : Slot (Inner K A)). AllZip is_summary (inner_arguments s) (map (λ d. keys_of (pairs_at slots h d)) (inner_children s))) is summed.0 in
           zip_reads is_summary (λ d. keys_of (pairs_at slots h d)) node.arguments node.children j b below zip got read
 
+      -- what is kept of the node, above it or of the whole tree, is a summary of the keys that it had
+      kept_of_node : (whole : Option A) → IfSome whole (λ w. is_summary w (keys_of (pairs_at c.climb.old c.climb.top c.climb.root))) → (kept : A) → IsKept after rest whole kept
+          → is_summary kept (keys_of (pairs_at c.climb.old (suc c.climb.height) (kind.Inner number)))
+      kept_of_node whole had kept (inl k) =
+          let d = c.climb in
+          let up = climb_keeps in
+          let t = last after rest Done up k.rest k.id k.i k.child k.last in
+          kept_told d.old (suc d.height) k.id t.node k.i (kind.Inner number) kept t.is (summed_there after rest Done up k.rest k.id k.i k.child k.last)
+          (subst (λ (slot : Slot (Inner K A)). slice_get (inner_arguments slot) k.i ≡ Some kept) (stays after rest Done up k.rest k.id k.i k.child k.last) k.kept) t.read
+      kept_of_node whole had kept (inr given) =
+          let d = c.climb in
+          let way : (d.top ≡ suc d.height) × (d.root ≡ kind.Inner number) = subst (λ p. Way cmp d.old d.k d.top d.root p (suc d.height) (kind.Inner number)) given.0 (last now path Done d rest number i child e).way in
+          subst (λ n. is_summary kept (keys_of (pairs_at d.old n (kind.Inner number)))) way.0
+          (subst (λ x. is_summary kept (keys_of (pairs_at d.old d.top x))) way.1 (subst (λ o. IfSome o (λ w. is_summary w (keys_of (pairs_at d.old d.top d.root)))) given.1 had))
+
       -- what the node answers, anew or by what was replaced, is a summary of its keys
-      pub told_changed : (above : A) → SumsUpChanged after cmp is_summary rest number i old above → is_summary above (keys_of (pairs_at after (suc c.climb.height) (kind.Inner number)))
-      told_changed above (inl sums) =
+      pub told_changed : (whole : Option A) → IfSome whole (λ w. is_summary w (keys_of (pairs_at c.climb.old c.climb.top c.climb.root))) → (above : A) → SumsUpChanged after cmp is_summary rest whole number i old above
+          → is_summary above (keys_of (pairs_at after (suc c.climb.height) (kind.Inner number)))
+      told_changed whole had above (inl sums) =
           let d = c.climb in
           let up = climb_keeps in
           let at = can now path Done d rest number i child e in
           told_up after 0 d.height number at.low at.high above tree_after (up.edits.summed (summed_there now path Done d rest number i child e))
           (subst (λ l. length l < 2 ^ 64) (sym up.edits.pairs) (few_there now path Done d rest number i child e)) sums
-      told_changed above (inr told) =
+      told_changed whole had above (inr told) =
           let d = c.climb in
           let up = climb_keeps in
           let at = can now path Done d rest number i child e in
           let s = last now path Done d rest number i child e in
-          let k = told.above in
-          let t = last after rest Done up k.rest k.id k.i k.child k.last in
-          let whole_told = kept_told d.old (suc d.height) k.id t.node k.i (kind.Inner number) told.whole t.is (summed_there after rest Done up k.rest k.id k.i k.child k.last)
-          (subst (λ (slot : Slot (Inner K A)). slice_get (inner_arguments slot) k.i ≡ Some told.whole) (stays after rest Done up k.rest k.id k.i k.child k.last) k.kept) t.read in
+          let was_whole = kept_of_node whole had told.kept told.above in
           let was_told = kept_told d.old d.height number s.node i d.id old s.is (summed_there now path Done d rest number i child e) kept_there.1 s.read in
           let h = has_place now path Done d rest number i child e in
           let new_is : a ≡ told.new = some_same a told.new
@@ -253,23 +266,27 @@ module _ {K V A : Type 0} {cmp : K → K → Ordering} (total : IsTotalOrder cmp
           let flat_is = ap (λ (slot : Slot (Inner K A)). flat (pairs_at d.old d.height) (inner_children slot)) s.is in
           let edited_is = up.edits.pairs ∙ ap d.edit flat_is in
           subst (λ l. is_summary above (keys_of l)) (sym edited_is)
-          (replaced_around total is_summary d.edit d.kept d.old now d.height number d.k s.node i d.id d.leaf d.turn d.local at s.is s.leads s.read d.edits told.whole old a above
-          (subst (λ l. is_summary told.whole (keys_of l)) flat_is whole_told) was_told c.told
+          (replaced_around total is_summary d.edit d.kept d.old now d.height number d.k s.node i d.id d.leaf d.turn d.local at s.is s.leads s.read d.edits told.kept old a above
+          (subst (λ l. is_summary told.kept (keys_of l)) flat_is was_whole) was_told c.told
           (subst (λ l. IsAscending cmp l) edited_is (tree_ascends total after 0 (suc d.height) (kind.Inner number) at.low at.high tree_after))
           (subst (λ l. length (d.edit l) < 2 ^ 64) flat_is (few_there now path Done d rest number i child e))
-          (subst (λ b. SumsUpReplaced is_summary cmp told.whole old b above) (sym new_is) told.replaced))
+          (subst (λ b. SumsUpReplaced is_summary cmp told.kept old b above) (sym new_is) told.replaced))
 
-      abbrev pub climbs_keeps : (above : A) → SumsUpChanged after cmp is_summary rest number i old above → Climbs cmp is_summary after rest above
-      climbs_keeps above sums =
-          let up = climb_keeps in
-          record {
-            climb = up;
-            enough = least_most up.top rest;
-            told = told_changed above sums;
-          }
+      module _ (whole : Option A) (had : IfSome whole (λ w. is_summary w (keys_of (pairs_at c.climb.old c.climb.top c.climb.root)))) (above : A) (sums : SumsUpChanged after cmp is_summary rest whole number i old above) where
+        abbrev pub climbs_keeps : ClimbsFrom cmp is_summary after rest whole above
+        climbs_keeps =
+            let up = climb_keeps in
+            record {
+              climbs = record {
+                climb = up;
+                enough = least_most up.top rest;
+                told = told_changed whole had above sums;
+              };
+              had = had;
+            }
 
-      pub risen_keeps : (above : A) (sums : SumsUpChanged after cmp is_summary rest number i old above) (new : Slots (Inner K A) (Leaf K V)) (top : A) → ((up : Climbs cmp is_summary after rest above) → Risen up.climb new top) → Risen c.climb new top
-      risen_keeps above sums new top rises = let r = rises (climbs_keeps above sums) in record { edits = r.edits; free = r.free; told = r.told }
+        pub risen_keeps : (new : Slots (Inner K A) (Leaf K V)) (top : A) → ((up : ClimbsFrom cmp is_summary after rest whole above) → Risen up.climbs.climb new top) → Risen c.climb new top
+        risen_keeps new top rises = let r = rises climbs_keeps in record { edits = r.edits; free = r.free; told = r.told }
 
       pub present_after : IsPresent (after.inner number.0)
       present_after = rw keeps.sets.changed tt

@@ -1,5 +1,5 @@
 -- An edit below a node of a path, and what it becomes at the root.
-use Rattle.std.specs.Prelude.{◌≡◌, ℕ, suc, ◌<◌, ◌≤◌, ◌^◌, Bool, true, false, List, [], ◌∷◌, length, Option, Some, None, Result, IfOk}
+use Rattle.std.specs.Prelude.{◌≡◌, ℕ, suc, ◌<◌, ◌≤◌, ◌^◌, Bool, true, false, List, [], ◌∷◌, length, Option, Some, None, Result, IfOk, IfSome}
 use Rattle.std.specs.declared.cmp.Ordering.{Ordering}
 use Rattle.std.specs.Map.{keys_of}
 use Rattle.bptree_keys.specs.Contents.{IsAscending}
@@ -78,6 +78,11 @@ pub record Climbs {K V A : Type 0} (cmp : K → K → Ordering) (is_summary : A 
   pub enough : least_at climb.top path ≤ climb.kept
   pub told : is_summary a (keys_of (pairs_at now climb.height climb.id))
 
+-- and with a summary of the keys that the whole tree had, where one is given
+pub record ClimbsFrom {K V A : Type 0} (cmp : K → K → Ordering) (is_summary : A → List K → Type 0) (now : Slots (Inner K A) (Leaf K V)) (path : List (InnerNodeId × ℕ × NodeId)) (whole : Option A) (a : A) : Type 0 where
+  pub climbs : Climbs cmp is_summary now path a
+  pub had : IfSome whole (λ w. is_summary w (keys_of (pairs_at climbs.climb.old climbs.climb.top climbs.climb.root)))
+
 pub record ClimbsTwo {K V A : Type 0} (cmp : K → K → Ordering) (is_summary : A → List K → Type 0) (now : Slots (Inner K A) (Leaf K V)) (path : List (InnerNodeId × ℕ × NodeId)) (division : Division K A) : Type 0 where
   pub climb : Climb cmp is_summary now path (Split division.separator division.node)
   pub enough : least_at climb.top path ≤ climb.kept
@@ -111,3 +116,8 @@ module _ {K V A : Type 0} {cmp : K → K → Ordering} {is_summary : A → List 
   -- the new root and the summary that were answered, where they were, are what it reaches
   abbrev pub ReachesTop : {E : Type 0} → Result (Option InnerNodeId × A) E → Type 0
   ReachesTop result = IfOk result (λ top. Reaches top.0 top.1)
+
+module _ {K V A : Type 0} (cmp : K → K → Ordering) (is_summary : A → List K → Type 0) (old new : Slots (Inner K A) (Leaf K V)) (path : List (InnerNodeId × ℕ × NodeId)) (whole : Option A) (a : A) where
+  -- the summary that was answered, where one was, is what each edit below the path reaches
+  abbrev pub RisesFrom : {E : Type 0} → Result A E → Type 0
+  RisesFrom result = (c : ClimbsFrom cmp is_summary old path whole a) → IfOk result (λ top. Risen c.climbs.climb new top)

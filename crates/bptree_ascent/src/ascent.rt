@@ -1,14 +1,15 @@
 //! A changed child's summary, or the node that it was split into, carried up a path to the root.
 //! What can't be had on the way is refused, and then every node of the path is again what it was.
 ghost use Rattle.std.specs.Prelude.{◌≡◌, ◌+◌, ◌<◌, ◌≤◌, List, ◌∷◌, [], length, IfOk, IfErr, IfSome, OnErr};
+ghost use Rattle.std.specs.Option.{option_copied};
 ghost use Rattle.bptree_nodes.specs.Inner.{HasKeys};
 ghost use Rattle.bptree_nodes.specs.Slot.{Free, IsPresent};
 ghost use Rattle.bptree_keys.specs.declared.node_id.NodeId.{NodeId};
 ghost use Rattle.bptree_keys.specs.declared.node_id.NodeId.TheVariants as kind;
 ghost use Rattle.bptree_ascent.specs.Change.{Links, Splits, GrowsRoot, TakesSummary};
-ghost use Rattle.bptree_ascent.specs.Climb.{Climbs, ClimbsTwo, Risen, ReachesTop};
+ghost use Rattle.bptree_ascent.specs.Climb.{Climbs, ClimbsFrom, ClimbsTwo, RisesFrom, Risen, ReachesTop};
 ghost use Rattle.bptree_ascent.specs.Sums.{SumsUp, PlaceAt, HasKeysAt, LinksChild, SplitsNode, SumsUpAbove, SumsUpLeft, SumsUpRight, SumsUpRoot};
-ghost use Rattle.bptree_ascent.specs.Sums.{HasPlaceAbove, IsKeptAbove, SumsUpChanged};
+ghost use Rattle.bptree_ascent.specs.Sums.{HasPlaceAbove, IsKept, SumsUpChanged};
 ghost use Rattle.bptree_shape.specs.Shape.{inner_keys, inner_arguments};
 ghost use Rattle.bptree_ascent.specs.Undoing.{UndoesLink, UndoesSplitInner};
 
@@ -38,21 +39,29 @@ fn set_at<S: NodeStore>(
     store.get_mut_inner(id).set_argument(place, summary)
 }
 
-// The summary that the last node of a path keeps of the child that the path goes on to; none where
-// the path is empty.
-fn kept_above<'a, S: NodeStore>(store: &'a S, path: &VisitStack) -> Option<&'a S::Argument>
+// The summary that the last node of a path keeps of the child that the path goes on to. Where the
+// path is empty, it is that of the whole tree, if one is given.
+fn kept_above<'a, S: NodeStore>(
+    store: &'a S,
+    path: &VisitStack,
+    whole: Option<&'a S::Argument>,
+) -> Option<&'a S::Argument>
     requires { HasPlaceAbove (S.slots store.now) path.now }
-    ensures { IfSome result (λ kept. IsKeptAbove (S.slots store.now) path.now kept.now) }
+    ensures { IfSome result (λ kept. IsKept (S.slots store.now) path.now (option_copied whole.entry) kept.now) }
 {
-    let (id, place, _) = path.last()?;
-    Some(&store.get_inner(id).arguments()[place])
+    match path.last() {
+        Some((id, place, _)) => Some(&store.get_inner(id).arguments()[place]),
+        None => whole,
+    }
 }
 
 // A node's summary after that of one child was replaced. It is told by the node's old one, which
-// the node above keeps, and the child's two, where these tell it. Else it is asked for anew.
+// the node above keeps or which is that of the whole tree, and the child's two, where these tell
+// it. Else it is asked for anew.
 fn sum_of_changed<S: NodeStore>(
     store: &S,
     path: &VisitStack,
+    whole: Option<&S::Argument>,
     id: InnerNodeId,
     place: usize,
     old: &S::Argument,
@@ -60,15 +69,43 @@ fn sum_of_changed<S: NodeStore>(
     requires present { IsPresent ((S.slots store.now).inner id.0) }
     requires place { place < length (inner_arguments ((S.slots store.now).inner id.0)) }
     requires above { HasPlaceAbove (S.slots store.now) path.now }
-    ensures { IfOk result (SumsUpChanged (S.slots store.now) S.K.cmp S.Argument.is_summary path.now id place old.now) }
+    ensures { IfOk result (SumsUpChanged (S.slots store.now) S.K.cmp S.Argument.is_summary path.now (option_copied whole.entry) id place old.now) }
 {
     let node = store.get_inner(id);
-    if let Some(whole) = kept_above(store, path) {
-        if let Some(above) = S::Argument::from_replaced(whole, old, &node.arguments()[place]) {
+    if let Some(kept) = kept_above(store, path, whole) {
+        if let Some(above) = S::Argument::from_replaced(kept, old, &node.arguments()[place]) {
             return Ok(above);
         }
     }
     S::Argument::from_inner(node.keys(), node.arguments())
+}
+
+// The same as `ascend_below`, one node a call.
+fn climb<S: NodeStore>(
+    store: &mut S,
+    path: &mut VisitStack,
+    whole: Option<&S::Argument>,
+    summary: S::Argument,
+) -> Result<S::Argument, S::Argument>
+    requires { ClimbsFrom S.K.cmp S.Argument.is_summary (S.slots store.old) path.old (option_copied whole) summary }
+    ensures rises { RisesFrom S.K.cmp S.Argument.is_summary (S.slots store.old) (S.slots store.new) path.old (option_copied whole.entry) summary result }
+    ensures refused { OnErr result (S.slots store.new ≡ S.slots store.old) }
+    ensures handed_back { IfErr result (λ back. back ≡ summary) }
+{
+    if S::Argument::is_zst() {
+        return Ok(summary);
+    }
+    let Some((id, place, _)) = path.pop() else {
+        return Ok(summary);
+    };
+    let old = set_at(store, id, place, summary);
+    let Ok(above) = sum_of_changed(store, path, whole, id, place, &old) else {
+        return Err(set_at(store, id, place, old));
+    };
+    match climb(store, path, whole, above) {
+        Ok(top) => Ok(top),
+        Err(_) => Err(set_at(store, id, place, old)),
+    }
 }
 
 /// Carries a node's new summary up the path above it. It answers that of the root. Refused, it
@@ -85,20 +122,25 @@ pub fn ascend<S: NodeStore>(
     ensures refused { OnErr result (S.slots store.new ≡ S.slots store.old) }
     ensures handed_back { IfErr result (λ back. back ≡ summary) }
 {
-    if S::Argument::is_zst() {
-        return Ok(summary);
-    }
-    let Some((id, place, _)) = path.pop() else {
-        return Ok(summary);
-    };
-    let old = set_at(store, id, place, summary);
-    let Ok(above) = sum_of_changed(store, path, id, place, &old) else {
-        return Err(set_at(store, id, place, old));
-    };
-    match ascend(store, path, above) {
-        Ok(top) => Ok(top),
-        Err(_) => Err(set_at(store, id, place, old)),
-    }
+    ascend_below(store, path, None, summary)
+}
+
+/// The same, where a summary of the whole tree as it was may be given. Then that of the root is told
+/// by what changed, too.
+// The path and the summary have one lifetime: with one each, the borrow checker refuses a caller
+// that is generic in the store and gives none.
+pub fn ascend_below<'a, S: NodeStore>(
+    store: &mut S,
+    path: &'a mut VisitStack,
+    whole: Option<&'a S::Argument>,
+    summary: S::Argument,
+) -> Result<S::Argument, S::Argument>
+    requires { ClimbsFrom S.K.cmp S.Argument.is_summary (S.slots store.old) path.old (option_copied whole) summary }
+    ensures rises { RisesFrom S.K.cmp S.Argument.is_summary (S.slots store.old) (S.slots store.new) path.old (option_copied whole.entry) summary result }
+    ensures refused { OnErr result (S.slots store.new ≡ S.slots store.old) }
+    ensures handed_back { IfErr result (λ back. back ≡ summary) }
+{
+    climb(store, path, whole, summary)
 }
 
 // Puts the node to the right of a child that was split into its node, which has room.

@@ -19,7 +19,7 @@ use Rattle.bptree_shape.proofs.Remembered.{way_hinted}
 use Rattle.bptree_ascent.specs.LeafChange.{Adds, SumsUpLeaf}
 use Rattle.bptree_ascent.proofs.AnySummary.{risen_untouched}
 use Rattle.bptree_insertion.specs.Puts.{HasRoomFor, IsPlaced, SaysNothing}
-use Rattle.bptree_insertion.proofs.Placed.{placed_added}
+use Rattle.bptree_insertion.proofs.Placed.{climbs_added, placed_added}
 use Rattle.bptree_insertion.proofs.Upserted.{absent, added}
 
 module _ {K V A : Type 0} {cmp : K → K → Ordering} (total : IsTotalOrder cmp) (is_summary : A → List K → Type 0) (old : Slots (Inner K A) (Leaf K V)) (h : ℕ) (root : NodeId) (k : K) (leaf : LeafNodeId) (node : Leaf K V)
@@ -39,4 +39,4 @@ module _ {K V A : Type 0} {cmp : K → K → Ordering} (total : IsTotalOrder cmp
         → length (leaf_pairs (old.leaf leaf.0)) < 64 → (a : A) → SumsUpLeaf cmp is_summary (leaf_pairs (mid.leaf leaf.0)) a → (value cmp (pairs_at old h root) k ≡ None) × IsPlaced cmp is_summary old mid h root k v h root a
     added_at_hand room v mid any add few a sums =
         added total is_summary old h root k leaf node shape leaf_at_hand read slot place room way.0 way.1 mid v None a (root, h) refl
-        (λ due same. subst (λ x. IsPlaced cmp is_summary old mid due.top x k v due.top x a) same (placed_added total is_summary old way.0 leaf slot k due v mid add few a sums mid a (λ c. risen_untouched total is_summary any mid way.0 a c)))
+        (λ due same. subst (λ x. IsPlaced cmp is_summary old mid due.top x k v due.top x a) same (placed_added total is_summary old way.0 leaf slot k due v mid add few mid a (risen_untouched total is_summary any mid way.0 a (climbs_added total is_summary old way.0 leaf slot k due v mid add few a sums))))

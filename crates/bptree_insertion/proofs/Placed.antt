@@ -157,15 +157,12 @@ module _ {K V A : Type 0} {cmp : K → K → Ordering} (total : IsTotalOrder cmp
       abbrev pub climbs_added : (a : A) → SumsUpLeaf cmp is_summary (leaf_pairs (mid.leaf leaf.0)) a → Climbs cmp is_summary mid path a
       climbs_added a sums = record { climb = climb_added; enough = least_most due.top path; told = told_added a sums }
 
-      pub placed_added : (a : A) → SumsUpLeaf cmp is_summary (leaf_pairs (mid.leaf leaf.0)) a → (new : Slots (Inner K A) (Leaf K V)) (top : A) → ((c : Climbs cmp is_summary mid path a) → Risen c.climb new top)
-          → IsPlaced cmp is_summary old new due.top due.root k v due.top due.root top
-      placed_added a sums new top rises =
-          let r = rises (climbs_added a sums) in
-          record {
-            shape = whole_done cmp is_summary (λ l. put cmp l k v) old new due.top due.root k leaf due.shape (none_are_held r.free (λ n. (refl, refl))) r.edits;
-            pairs = r.edits.pairs;
-            told = r.told;
-          }
+      pub placed_added : (new : Slots (Inner K A) (Leaf K V)) (top : A) → Risen climb_added new top → IsPlaced cmp is_summary old new due.top due.root k v due.top due.root top
+      placed_added new top r = record {
+        shape = whole_done cmp is_summary (λ l. put cmp l k v) old new due.top due.root k leaf due.shape (none_are_held r.free (λ n. (refl, refl))) r.edits;
+        pairs = r.edits.pairs;
+        told = r.told;
+      }
 
       pub present_added : IsPresent (mid.leaf leaf.0)
       present_added = rw adds.leaf.changed tt

@@ -1,8 +1,8 @@
 -- A pair with a key that is in the whole tree, or is not.
-use Rattle.std.proofs.Common.{◌≡◌, ℕ, refl, true, false, None, List, length, sym, ap, ◌∙◌, Some, is_some, slice_get, Option, suc, ◌+◌, subst, arith}
+use Rattle.std.proofs.Common.{◌≡◌, ℕ, refl, true, false, None, List, [], ◌∷◌, zero, length, sym, ap, ◌∙◌, Some, is_some, slice_get, Option, suc, ◌+◌, subst, arith}
 use Rattle.std.specs.declared.cmp.Ordering.{Ordering}
 use Rattle.std.specs.Cmp.{IsTotalOrder}
-use Rattle.std.specs.Map.{values_of}
+use Rattle.std.specs.Map.{keys_of, values_of}
 use Rattle.bptree_keys.specs.Contents.{IsAscending, below, has, value}
 use Rattle.bptree_nodes.specs.Inner.{Inner}
 use Rattle.bptree_nodes.specs.Leaf.{Leaf, set_value_at}
@@ -15,7 +15,7 @@ use Rattle.bptree_keys.specs.declared.node_id.NodeId.TheVariants as kind
 use Rattle.bptree_keys.proofs.Equal.{has_where_value}
 use Rattle.bptree_nodes.proofs.LeafContents.{value_at_place}
 use Rattle.bptree_shape.specs.Leaves.{IsLeafFor}
-use Rattle.bptree_insertion.specs.Puts.{HasRoomFor, IsDue, IsReplaced, IsPlaced, IsPlacedUpTo, risen}
+use Rattle.bptree_insertion.specs.Puts.{HasRoomFor, IsDue, IsReplaced, IsPlaced, IsPlacedUpTo, SumsUpDue, risen}
 use Rattle.bptree_shape.specs.Shape.{pairs_at, IsWellShaped, LacksKey}
 use Rattle.bptree_shape.specs.Path.{Way}
 use Rattle.bptree_ascent.proofs.Lent.{keys_stay, none_if_absent, set_shape, set_keys, lent_pairs}
@@ -28,6 +28,15 @@ placed_at cmp is_summary old new h root k v None a at e placed = rw e placed
 placed_at cmp is_summary old new h root k v (Some id) a at e placed =
     let up : suc h ≡ h + 1 = omega arith in
     rw e (subst (λ n. IsPlaced cmp is_summary old new h root k v n (kind.Inner id) a) up placed)
+
+-- a path and its end tell the root and its height
+way_tells : {K V A : Type 0} (cmp : K → K → Ordering) (slots : Slots (Inner K A) (Leaf K V)) (k : K) (path : List (InnerNodeId × ℕ × NodeId)) (top other : ℕ) (root at : NodeId) (h : ℕ) (id : NodeId) → Way cmp slots k top root path h id → Way cmp slots k other at path h id
+    → (top ≡ other) × (root ≡ at)
+way_tells cmp slots k [] top other root at h id way same = (way.0 ∙ sym same.0, way.1 ∙ sym same.1)
+way_tells cmp slots k (x ∷ path) zero other root at h id way same = absurd way
+way_tells cmp slots k (x ∷ path) (suc m) zero root at h id way same = absurd same
+way_tells cmp slots k ((n, i, c) ∷ path) (suc m) (suc other) root at h id (e, node, is, leads, read, below) (e', node', is', leads', read', below') =
+    (ap suc (way_tells cmp slots k path m other c c h id below below').0, e ∙ sym e')
 
 module _ {K V A : Type 0} {cmp : K → K → Ordering} (total : IsTotalOrder cmp) (is_summary : A → List K → Type 0) (old : Slots (Inner K A) (Leaf K V)) (h : ℕ) (root : NodeId) (k : K) (leaf : LeafNodeId) (node : Leaf K V)
     (shape : IsWellShaped cmp is_summary old h root) (for' : IsLeafFor cmp old h root k leaf) (read : old.leaf leaf.0 ≡ Present node) where
@@ -66,6 +75,11 @@ module _ {K V A : Type 0} {cmp : K → K → Ordering} (total : IsTotalOrder cmp
     module _ (room : HasRoomFor cmp (pairs_at old h root) k) (path : List (InnerNodeId × ℕ × NodeId)) (way : Way cmp old k h root path 0 (kind.Leaf leaf)) where
       pub due : (due : IsDue cmp is_summary old path leaf slot k) × (due.root ≡ root) × (due.top ≡ h)
       due = (record { top = h; root = root; shape = shape; few = room absent; way = way; absent = rw read placed.0; place = rw read placed.1 }, refl, refl)
+
+      pub sums_up_due : (a : A) → is_summary a (keys_of (pairs_at old h root)) → SumsUpDue cmp is_summary old path leaf slot k a
+      sums_up_due a told given =
+          let same = way_tells cmp old k path h given.top root given.root 0 (kind.Leaf leaf) way given.way in
+          subst (λ x. is_summary a (keys_of (pairs_at old given.top x))) same.1 (subst (λ n. is_summary a (keys_of (pairs_at old n root))) same.0 told)
 
       -- what came of it is named by a root and a height
       pub added : (new : Slots (Inner K A) (Leaf K V)) (v : V) (top : Option InnerNodeId) (a : A) (at : NodeId × ℕ) → at ≡ risen root h top → ((given : IsDue cmp is_summary old path leaf slot k) → given.root ≡ root → IsPlacedUpTo cmp is_summary old new given.top root k v top a)

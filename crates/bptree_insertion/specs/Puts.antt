@@ -110,6 +110,10 @@ module _ {K V A : Type 0} (cmp : K → K → Ordering) (is_summary : A → List 
   abbrev pub RightSumsUp : Slots (Inner K A) (Leaf K V) → Division K A × LeafNodeId → Type 0
   RightSumsUp slots parts = SumsUpLeaf cmp is_summary (leaf_pairs (slots.leaf parts.1.0)) parts.0.right
 
+  -- the value is a summary of the keys of the tree that the key is due in
+  abbrev pub SumsUpDue : Slots (Inner K A) (Leaf K V) → List (InnerNodeId × ℕ × NodeId) → LeafNodeId → ℕ → K → A → Type 0
+  SumsUpDue slots path leaf slot k a = (due : IsDue cmp is_summary slots path leaf slot k) → is_summary a (keys_of (pairs_at slots due.top due.root))
+
   -- the key is due, in a tree with this root
   abbrev pub IsDueBelow : Slots (Inner K A) (Leaf K V) → NodeId → List (InnerNodeId × ℕ × NodeId) → LeafNodeId → ℕ → K → Type 0
   IsDueBelow slots root path leaf slot k = (due : IsDue cmp is_summary slots path leaf slot k) × (due.root ≡ root)

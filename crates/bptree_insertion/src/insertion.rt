@@ -1,15 +1,16 @@
 //! Insertion into a tree that stands in a store.
 ghost use Rattle.std.specs.Prelude.{◌≡◌, ◌≤◌, ◌<◌, ◌^◌, ◌≢◌, IfOk, IfErr, OnErr, IfSome, false, true, length};
 ghost use Rattle.std.specs.List.Sorted.{IsSearchInRange};
+ghost use Rattle.std.specs.Map.{keys_of};
 ghost use Rattle.bptree_keys.specs.declared.node_id.NodeId.TheVariants as kind;
 ghost use Rattle.bptree_nodes.specs.LeafResults.{HasEqualAt, IsPlaceInLeaf};
 ghost use Rattle.bptree_nodes.specs.Slot.{IsPresent};
 ghost use Rattle.bptree_ascent.specs.LeafChange.{SumsUpLeaf, HasSlotAt, AreHalves, SumsUpLeafAt};
-ghost use Rattle.bptree_insertion.specs.Puts.{IsAtHand, IsDue, IsPut, risen, AddsPair, Divides, HasRoomFor, HasValueAt, IsDueBelow, LeftSumsUp, PlacesDue, PlacesDueUpTo, Rejoins, RightSumsUp, SeparatesHalves, SetsValue, UndoesAdd};
+ghost use Rattle.bptree_insertion.specs.Puts.{IsAtHand, IsDue, IsPut, risen, AddsPair, Divides, HasRoomFor, HasValueAt, IsDueBelow, LeftSumsUp, PlacesDue, PlacesDueUpTo, Rejoins, RightSumsUp, SeparatesHalves, SetsValue, SumsUpDue, UndoesAdd};
 ghost use Rattle.bptree_shape.specs.Shape.{leaf_pairs, pairs_at, IsWellShaped, LacksKey};
 
 use bptree_arguments::argument::Argument;
-use bptree_ascent::ascent::{ascend, ascend_split};
+use bptree_ascent::ascent::{ascend_below, ascend_split};
 use bptree_ascent::links::relink_next;
 use bptree_ascent::node_changes::Division;
 use bptree_keys::compares::Compares;
@@ -89,19 +90,21 @@ fn take_back<S: NodeStore>(store: &mut S, id: LeafNodeId, slot: usize) -> (S::K,
 fn put_in_room<S: NodeStore>(
     store: &mut S,
     path: &mut VisitStack,
+    whole: &S::Argument,
     id: LeafNodeId,
     slot: usize,
     key: S::K,
     value: S::V,
 ) -> Result<S::Argument, (S::K, S::V)>
     requires due { IsDue S.K.cmp S.Argument.is_summary (S.slots store.old) path.old id slot key }
+    requires told { SumsUpDue S.K.cmp S.Argument.is_summary (S.slots store.old) path.old id slot key whole.now }
     requires room { length (leaf_pairs ((S.slots store.old).leaf id.0)) < 64 }
     ensures placed { PlacesDue S.K.cmp S.Argument.is_summary (S.slots store.old) (S.slots store.new) path.old id slot key value result }
     ensures refused { OnErr result (S.slots store.new ≡ S.slots store.old) }
     ensures handed_back { IfErr result (λ pair. pair ≡ (key, value)) }
 {
     let summary = add_at(store, id, slot, key, value)?;
-    match ascend(store, path, summary) {
+    match ascend_below(store, path, Some(whole), summary) {
         Ok(top) => Ok(top),
         Err(_) => Err(take_back(store, id, slot)),
     }
@@ -208,6 +211,7 @@ fn remember_right<S: NodeStore>(store: &S, right: LeafNodeId, slot: usize) {
 fn put_new<S: NodeStore>(
     store: &mut S,
     path: &mut VisitStack,
+    whole: &S::Argument,
     root: NodeId,
     id: LeafNodeId,
     slot: usize,
@@ -215,13 +219,14 @@ fn put_new<S: NodeStore>(
     value: S::V,
 ) -> Result<(Option<InnerNodeId>, S::Argument), (S::K, S::V)>
     requires due { IsDueBelow S.K.cmp S.Argument.is_summary (S.slots store.old) root path.old id slot key }
+    requires told { SumsUpDue S.K.cmp S.Argument.is_summary (S.slots store.old) path.old id slot key whole.now }
     ensures placed { PlacesDueUpTo S.K.cmp S.Argument.is_summary (S.slots store.old) (S.slots store.new) path.old id slot key value root result }
     ensures refused { OnErr result (S.slots store.new ≡ S.slots store.old) }
     ensures handed_back { IfErr result (λ pair. pair ≡ (key, value)) }
 {
     let leaf = store.get_leaf(id);
     if !leaf.is_full() {
-        let summary = put_in_room(store, path, id, slot, key, value)?;
+        let summary = put_in_room(store, path, whole, id, slot, key, value)?;
         return Ok((None, summary));
     }
     let next = leaf.next();
@@ -325,7 +330,7 @@ fn put_at_hand<S: NodeStore>(
     }
 }
 
-/// Puts a pair into a whole tree.
+/// Puts a pair into a whole tree, of whose keys a summary is given.
 ///
 /// An equal key stays, and its value alone is replaced. A new key's leaf, and each node above it,
 /// takes a new summary; each of them that is full is split. A refusal hands the pair back, and no
@@ -335,12 +340,14 @@ fn put_at_hand<S: NodeStore>(
 pub fn upsert<S: NodeStore>(
     store: &mut S,
     path: &mut VisitStack,
+    whole: &S::Argument,
     root: NodeId,
     height: usize,
     k: S::K,
     v: S::V,
 ) -> Result<Put<S::V, S::Argument>, (S::K, S::V)>
     requires shape { IsWellShaped S.K.cmp S.Argument.is_summary (S.slots store.old) height root }
+    requires told { S.Argument.is_summary whole.now (keys_of (pairs_at (S.slots store.old) height root)) }
     requires few { length (pairs_at (S.slots store.old) height root) < 2 ^ 64 }
     requires room { HasRoomFor S.K.cmp (pairs_at (S.slots store.old) height root) k }
     ensures put { IfOk result (IsPut S.K.cmp S.Argument.is_summary (S.slots store.old) (S.slots store.new) height root k v) }
@@ -360,7 +367,7 @@ pub fn upsert<S: NodeStore>(
     let found = slot_for(store.get_leaf(leaf), height.saturating_add(1), &k);
     match found {
         Ok(slot) => Ok(Put::Replaced(replace_at(store, leaf, slot, v))),
-        Err(slot) => match put_new(store, path, root, leaf, slot, k, v) {
+        Err(slot) => match put_new(store, path, whole, root, leaf, slot, k, v) {
             Ok((top, summary)) => {
                 let (root, height) = top_of(root, height, top);
                 Ok(Put::Added(root, height, summary))

@@ -13,8 +13,8 @@ fn place_among_evens(number: usize, len: usize) -> Result<usize, usize> {
 }
 
 // Whether each of these keys, which are 2, 4, 6 and so on, is found, and each number beside them
-// has its place, after at most seven comparisons: in a leaf below so many levels or, where there
-// are none, in one whose keys are likely all smaller. And whether the child of each is found.
+// has its place, after at most seven comparisons. The leaf is below so many levels or, where there
+// are none, its keys are likely all smaller. And whether the child of each is found.
 fn finds_each(keys: &[usize], levels: Option<usize>) -> bool {
     let len = keys.len();
     let mut well = len <= 64;

@@ -174,6 +174,7 @@ impl<S: NodeStore> BPlusTree<S> {
         match upsert(
             &mut self.store,
             &mut self.path,
+            &self.root_argument,
             self.root,
             self.height,
             k,

@@ -1,20 +1,44 @@
-use Rattle.std.proofs.Common.{◌≡◌, ◌<◌, ◌-◌, length, take, ap, sym, subst, refl, ◌∙◌, slice_get, Some}
+use Rattle.std.proofs.Common.{◌≡◌, ℕ, ◌<◌, ◌-◌, Bor, List, [], ◌∷◌, length, take, ap, inl, inr, sym, subst, refl, ◌∙◌, slice_get, Option, Some, None, IfSome}
+use native.Mathlib.Numerals.{unary_clauses}
+use Rattle.std.specs.Option.{option_copied}
 use Rattle.std.proofs.lemmas.Option.{slice_get_read}
+use Rattle.bptree_keys.specs.declared.node_id.InnerNodeId.{InnerNodeId}
+use Rattle.bptree_keys.specs.declared.node_id.NodeId.{NodeId}
+use Rattle.bptree_nodes.specs.Inner.{Inner}
+use Rattle.bptree_nodes.specs.Leaf.{Leaf}
+use Rattle.bptree_nodes.specs.Slot.{Slots}
 use Rattle.bptree_shape.specs.Shape.{inner_arguments}
+use Rattle.bptree_ascent.specs.Sums.{IsKept}
 use Rattle.bptree_ascent.proofs.ascent.kept_above.Goals as goal
 
-pub returns : goal.returns
-returns g c =
+-- a list with no last member is empty
+has_last : {X : Type 0} (x : X) (xs : List X) → slice_get (x ∷ xs) (length xs) ≡ None → ⊥
+has_last x [] none = cc
+has_last x (y ∷ ys) none = has_last y ys none
+
+empty_of : {X : Type 0} (xs : List X) → slice_get xs (length xs - 1) ≡ None → xs ≡ []
+empty_of [] none = refl
+empty_of (x ∷ xs) none = absurd (has_last x xs (simp unary_clauses at none))
+
+kept_whole : {K V A : Type 0} (slots : Slots (Inner K A) (Leaf K V)) (path : List (InnerNodeId × ℕ × NodeId)) (whole : Option (Bor A)) → path ≡ [] → IfSome whole (λ kept. IsKept slots path (option_copied whole) kept.now)
+kept_whole slots path None e = tt
+kept_whole slots path (Some r) e = inr (e, refl)
+
+pub returns-in-None : goal.returns-in-None
+returns-in-None g c = kept_whole (g.S.NodeStore.slots c.args.store.now) c.args.path.now c.args.whole (empty_of c.args.path.now (sym c.in-None.ensures.value))
+
+pub returns-in-Some : goal.returns-in-Some
+returns-in-Some g c =
     let path = c.args.path.now in
     let xs = c.arguments.result.now in
-    let there = (c.requires (take (length path - 1) path) c.in_ok-id.id c.in_ok-id.place c.in_ok-id.field-0-2 c.in_ok-id.ensures.some).1 in
-    let same : inner_arguments ((g.S.NodeStore.slots c.args.store.now).inner c.in_ok-id.id.0) ≡ xs = ap inner_arguments {x = (g.S.NodeStore.slots c.args.store.now).inner c.in_ok-id.id.0} c.get_inner.ensures ∙ sym c.arguments.ensures.value in
-    record {
+    let there = (c.requires (take (length path - 1) path) c.in-Some.id c.in-Some.place c.in-Some.field-0-2 c.in-Some.ensures.some).1 in
+    let same : inner_arguments ((g.S.NodeStore.slots c.args.store.now).inner c.in-Some.id.0) ≡ xs = ap inner_arguments {x = (g.S.NodeStore.slots c.args.store.now).inner c.in-Some.id.0} c.get_inner.ensures ∙ sym c.arguments.ensures.value in
+    inl (record {
       rest = take (length path - 1) path;
-      id = c.in_ok-id.id;
-      i = c.in_ok-id.place;
-      child = c.in_ok-id.field-0-2;
-      last = c.in_ok-id.ensures.some;
-      kept = subst (λ l. slice_get l c.in_ok-id.place ≡ Some c.index-arguments-place.result) (sym same)
-          (slice_get_read xs (length xs) c.in_ok-id.place c.index-arguments-place.result refl (subst (λ l. c.in_ok-id.place < length l) same there) c.index-arguments-place.is);
-    }
+      id = c.in-Some.id;
+      i = c.in-Some.place;
+      child = c.in-Some.field-0-2;
+      last = c.in-Some.ensures.some;
+      kept = subst (λ l. slice_get l c.in-Some.place ≡ Some c.index-arguments-place.result) (sym same)
+          (slice_get_read xs (length xs) c.in-Some.place c.index-arguments-place.result refl (subst (λ l. c.in-Some.place < length l) same there) c.index-arguments-place.is);
+    })

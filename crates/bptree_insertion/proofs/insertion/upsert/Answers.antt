@@ -1,6 +1,6 @@
 use Rattle.std.proofs.Common.{refl, ap, length, arith}
 use Rattle.bptree_ascent.proofs.Rooted.{low_tree}
-use Rattle.bptree_insertion.proofs.Upserted.{replaced, absent, due, added}
+use Rattle.bptree_insertion.proofs.Upserted.{replaced, absent, due, sums_up_due, added}
 use Rattle.bptree_insertion.proofs.insertion.upsert.Goals as goal
 
 pub find_path-leaf-requires-clause-room : goal.find_path-leaf-requires-clause-room
@@ -10,7 +10,8 @@ find_path-leaf-requires-clause-room g c =
 pub put_new-requires : goal.put_new-requires
 put_new-requires g c =
     let there = due g.met.S.K.Ord.total g.S.Argument.Argument.is_summary (g.S.NodeStore.slots c.args.store.now) c.args.height c.args.root c.args.k c.find_path-leaf.result c.get_leaf.result.now c.requires.shape c.find_path-leaf.ensures.leaf c.get_leaf.ensures c.in-Err.slot c.in-Err.ensures.place c.requires.room c.find_path-leaf.new.path (c.find_path-leaf.ensures.way c.args.height c.args.root (rw c.clear.ensures (refl, refl))) in
-    record { due = (there.0, there.1) }
+    let told = sums_up_due g.met.S.K.Ord.total g.S.Argument.Argument.is_summary (g.S.NodeStore.slots c.args.store.now) c.args.height c.args.root c.args.k c.find_path-leaf.result c.get_leaf.result.now c.requires.shape c.find_path-leaf.ensures.leaf c.get_leaf.ensures c.in-Err.slot c.in-Err.ensures.place c.requires.room c.find_path-leaf.new.path (c.find_path-leaf.ensures.way c.args.height c.args.root (rw c.clear.ensures (refl, refl))) c.args.whole.now c.requires.told in
+    record { due = (there.0, there.1); told = told }
 
 pub returns-in-Ok-clause-put : goal.returns-in-Ok-clause-put
 returns-in-Ok-clause-put g c =
