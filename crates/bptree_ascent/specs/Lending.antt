@@ -9,7 +9,7 @@ use Rattle.bptree_nodes.specs.Leaf.{Leaf}
 use Rattle.bptree_nodes.specs.Slot.{Slot, Slots, Free, Held, Present}
 use Rattle.bptree_keys.specs.declared.node_id.LeafNodeId.{LeafNodeId}
 use Rattle.bptree_shape.specs.Shape.{leaf_pairs, leaves_at}
-use Rattle.bptree_ascent.specs.NodeTree.{NodeTree}
+use Rattle.bptree_shape.specs.NodeTree.{NodeTree}
 
 module _ {K V A : Type 0} (cmp : K → K → Ordering) (slots : Slots (Inner K A) (Leaf K V)) where
   -- the leaf that holds the key

@@ -2,6 +2,6 @@ pub mod Change
 pub mod Climb
 pub mod LeafChange
 pub mod Lending
-pub mod NodeTree
 pub mod Sums
 pub mod Undoing
+pub use Rattle.bptree_shape.specs.NodeTree

@@ -16,8 +16,9 @@ use Rattle.bptree_keys.specs.declared.node_id.LeafNodeId.{LeafNodeId}
 use Rattle.bptree_keys.specs.declared.node_id.NodeId.{NodeId}
 use Rattle.bptree_keys.specs.declared.node_id.NodeId.TheVariants as kind
 use Rattle.bptree_shape.specs.Leaves.{pairs_of, StandsIn, Stands}
+use Rattle.bptree_shape.specs.NodeTree.{NodeTree}
 use Rattle.bptree_shape.specs.Path.{Way}
-use Rattle.bptree_shape.specs.Shape.{leaf_pairs, pairs_at, IsSummed, IsWellShaped}
+use Rattle.bptree_shape.specs.Shape.{leaf_pairs, pairs_at, IsSummed}
 
 -- a tree below a number, with its summaries
 pub record IsSubtree {K V A : Type 0} (cmp : K → K → Ordering) (is_summary : A → List K → Type 0) (slots : Slots (Inner K A) (Leaf K V)) (height : ℕ) (id : NodeId) : Type 0 where
@@ -48,15 +49,6 @@ module _ {Q K V : Type 0} (selects : Q → List K → Option ℕ → Type 0) (qu
   abbrev pub IsTaken : List (K × V) → List (K × V) → Option (K × V) → Type 0
   IsTaken old new answer = (place : Option ℕ) × IsPlaceIn old place × selects query (keys_of old) place × (answer ≡ option_and_then (λ i. slice_get old i) place) × (new ≡ without_place old place)
 
-  -- the pair at some allowed place left a whole tree, and the tree that a root and a height then name is well shaped
-  pub record IsWithdrawn {A : Type 0} (cmp : K → K → Ordering) (is_summary : A → List K → Type 0) (old new : Slots (Inner K A) (Leaf K V)) (height : ℕ) (root : NodeId) (pair : K × V) (top : NodeId) (top_height : ℕ) (a : A) : Type 0 where
-    pub place : ℕ
-    pub was : slice_get (pairs_at old height root) place ≡ Some pair
-    pub selected : selects query (keys_of (pairs_at old height root)) (Some place)
-    pub shape : IsWellShaped cmp is_summary new top_height top
-    pub pairs : pairs_at new top_height top ≡ remove (pairs_at old height root) place
-    pub told : is_summary a (keys_of (pairs_at new top_height top))
-
 -- a search for the key that was found, come to a node by a path, goes on from there to the key's leaf by a longer one
 abbrev pub GoesOn : {K V A : Type 0} → (K → K → Ordering) → Slots (Inner K A) (Leaf K V) → ℕ → NodeId → List (InnerNodeId × ℕ × NodeId) → List (InnerNodeId × ℕ × NodeId) → Option (LeafNodeId × ℕ) → Type 0
 GoesOn cmp slots height id path longer None = Unit {0}
@@ -69,10 +61,14 @@ RanksAmong {K = K} cmp stands_for ranks k rank keys answer =
     (before after : List K) → IsStrictlySortedBy cmp (before ++ (keys ++ after)) → AllBelow cmp k before → AllAbove cmp k after → length (before ++ (keys ++ after)) < 2 ^ 64 → stands_for rank k before
     → MatchResult answer (ranks k (before ++ (keys ++ after))) (ranks k (before ++ (keys ++ after)))
 
--- a rank of k among the keys of a tree
-abbrev pub RanksKey : {R K V A : Type 0} → (K → List K → R → Type 0) → K → Slots (Inner K A) (Leaf K V) → ℕ → NodeId → Result R R → Type 0
-RanksKey ranks k slots height root answer = MatchResult answer (ranks k (keys_of (pairs_at slots height root))) (ranks k (keys_of (pairs_at slots height root)))
+-- the leaf and the slot of some allowed place of a whole tree, or none where none is allowed
+abbrev pub IsSelectedIn : {S K V A Q : Type 0} → (S → Slots (Inner K A) (Leaf K V)) → NodeTree S K V A → (Q → List K → Option ℕ → Type 0) → Q → Option (LeafNodeId × ℕ) → Type 0
+IsSelectedIn slots tree selects query at = IsSelectedAt selects query (slots tree.store) tree.height tree.root at
 
--- an answer is `Ok` where some key of a tree equals k
-abbrev pub TellsIfThere : {R K V A : Type 0} → (K → K → Ordering) → Slots (Inner K A) (Leaf K V) → ℕ → NodeId → K → Result R R → Type 0
-TellsIfThere cmp slots height root k answer = is_ok answer ≡ has cmp (pairs_at slots height root) k
+-- a rank of k among the keys of a list
+abbrev pub RanksKey : {R K V : Type 0} → (K → List K → R → Type 0) → K → List (K × V) → Result R R → Type 0
+RanksKey ranks k pairs answer = MatchResult answer (ranks k (keys_of pairs)) (ranks k (keys_of pairs))
+
+-- an answer is `Ok` where some key of a list equals k
+abbrev pub TellsIfThere : {R K V : Type 0} → (K → K → Ordering) → List (K × V) → K → Result R R → Type 0
+TellsIfThere cmp pairs k answer = is_ok answer ≡ has cmp pairs k

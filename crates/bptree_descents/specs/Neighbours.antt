@@ -2,8 +2,7 @@
 use Rattle.std.specs.Prelude.{◌≡◌, ℕ, ◌+◌, ◌≤◌, ◌++◌, Bool, true, false, List, [], drop, length, slice_get, take, Option, Some, None, Result, Ok, Err}
 use Rattle.std.specs.Borrow.{Bor}
 use Rattle.std.specs.declared.cmp.Ordering.{Ordering}
-use Rattle.std.specs.Option.{option_map}
-use Rattle.bptree_keys.specs.Contents.{last_member, next, previous}
+use Rattle.bptree_keys.specs.Contents.{last_member}
 use Rattle.bptree_keys.specs.Places.{IsPlaceOf}
 use Rattle.bptree_keys.specs.declared.node_id.LeafNodeId.{LeafNodeId}
 use Rattle.bptree_keys.specs.declared.node_id.NodeId.{NodeId}
@@ -11,7 +10,8 @@ use Rattle.bptree_nodes.specs.Inner.{Inner}
 use Rattle.bptree_nodes.specs.Leaf.{Leaf}
 use Rattle.bptree_nodes.specs.Slot.{Slots, Present}
 use Rattle.bptree_shape.specs.Leaves.{IsLeafFor}
-use Rattle.bptree_shape.specs.Shape.{leaf_pairs, pairs_at}
+use Rattle.bptree_shape.specs.NodeTree.{NodeTree}
+use Rattle.bptree_shape.specs.Shape.{leaf_pairs}
 
 -- the pairs of the leaf that a link names; none where it names none
 abbrev pub leaf_pairs_of : {K V A : Type 0} → Slots (Inner K A) (Leaf K V) → Option LeafNodeId → List (K × V)
@@ -32,8 +32,8 @@ pub record IsPlaceAt {K V A : Type 0} (cmp : K → K → Ordering) (slots : Slot
   pub fits : length leaf.pairs ≤ 64
 
 -- the same of a search's answer, by the leaf that a reference shows
-abbrev pub LocatesKey : {K V A : Type 0} → (K → K → Ordering) → Slots (Inner K A) (Leaf K V) → ℕ → NodeId → K → LeafNodeId × Bor (Leaf K V) × Result ℕ ℕ → Type 0
-LocatesKey cmp slots h root k found = IsPlaceAt cmp slots h root k found.0 found.1.now found.2
+abbrev pub LocatesKey : {S K V A : Type 0} → (S → Slots (Inner K A) (Leaf K V)) → NodeTree S K V A → (K → K → Ordering) → K → LeafNodeId × Bor (Leaf K V) × Result ℕ ℕ → Type 0
+LocatesKey slots tree cmp k found = IsPlaceAt cmp (slots tree.store) tree.height tree.root k found.0 found.1.now found.2
 
 -- the pair that was read, by the keys and values that references show
 abbrev pub pair_read : {K V X : Type 0} → X × (Bor K × Bor V) → K × V
@@ -46,11 +46,3 @@ module _ {K V A : Type 0} (slots : Slots (Inner K A) (Leaf K V)) (leaf : Leaf K 
 
   abbrev pub last_upto : ℕ → Option (K × V)
   last_upto to = last_member (leaf_pairs_of slots leaf.prev ++ take to leaf.pairs)
-
-module _ {K V A : Type 0} (cmp : K → K → Ordering) (slots : Slots (Inner K A) (Leaf K V)) (height : ℕ) (root : NodeId) (k : K) where
-  -- the pair that was read is the one after k in the tree, or the one before
-  abbrev pub ReadsNext : {X : Type 0} → Option (X × (Bor K × Bor V)) → Type 0
-  ReadsNext found = option_map pair_read found ≡ next cmp (pairs_at slots height root) k
-
-  abbrev pub ReadsPrevious : {X : Type 0} → Option (X × (Bor K × Bor V)) → Type 0
-  ReadsPrevious found = option_map pair_read found ≡ previous cmp (pairs_at slots height root) k

@@ -1,9 +1,9 @@
-//! Reads of a tree that stands in a store, by the summaries of its keys.
+//! Reads of a tree by the summaries of its keys.
 ghost use Rattle.std.specs.Prelude.{◌≡◌, ◌+◌, ◌≤◌, length, IfOk, IsOk, is_ok};
 ghost use Rattle.std.specs.Map.{keys_of};
 ghost use Rattle.bptree_arguments.specs.Selection.{LeadsOver};
 ghost use Rattle.bptree_keys.specs.Contents.{has};
-ghost use Rattle.bptree_descents.specs.ByArgument.{IsSubtree, IsSelectedAt, GoesOn, RanksAmong, RanksKey, TellsIfThere};
+ghost use Rattle.bptree_descents.specs.ByArgument.{IsSubtree, IsSelectedAt, IsSelectedIn, GoesOn, RanksAmong, RanksKey, TellsIfThere};
 ghost use Rattle.bptree_shape.specs.Shape.{pairs_at};
 
 use bptree_arguments::argument::{RankArgument, SearchArgument};
@@ -11,15 +11,30 @@ use bptree_keys::entry_ref::VisitStack;
 use bptree_keys::key::Key;
 use bptree_keys::node_id::{LeafNodeId, NodeId};
 use bptree_nodes::inner_node::InnerNode;
+use bptree_shape::nodes::Nodes;
 use bptree_stores::node_stores::NodeStore;
 use std::alloc::AllocError;
 
-/// The leaf and the slot of a place that is allowed for the query, in the tree of a height under a
-/// number; or none.
+/// The leaf and the slot of a place that is allowed for the query; or none.
 ///
 /// The query is asked once on each level: of an inner node by its separators and summaries, and of
 /// one leaf by its keys.
 pub fn find_by_argument<S: NodeStore>(
+    tree: &Nodes<S>,
+    query: <S::Argument as SearchArgument<S::K>>::Query,
+) -> Result<Option<(LeafNodeId, usize)>, AllocError>
+where
+    S::Argument: SearchArgument<S::K>,
+    ensures selected { IfOk result (IsSelectedIn S.slots tree.now S.Argument.selects query) }
+    ensures sure { S.Argument.needs_no_memory → IsOk result }
+{
+    // Read, so that it is known to fit.
+    let _len = tree.len;
+    find_below(&tree.store, tree.root, tree.height, query)
+}
+
+// The same in the tree of a height under a number.
+fn find_below<S: NodeStore>(
     store: &S,
     id: NodeId,
     height: usize,
@@ -43,9 +58,7 @@ where
             let node = store.get_inner(inner);
             match lead_on(node, query)? {
                 None => Ok(None),
-                Some((place, next)) => {
-                    find_by_argument(store, node.child_id(place), height - 1, next)
-                }
+                Some((place, next)) => find_below(store, node.child_id(place), height - 1, next),
             }
         }
     }
@@ -80,7 +93,7 @@ where
     ensures sure { S.Argument.needs_no_memory → IsOk result }
 {
     match id {
-        NodeId::Leaf(_) => find_by_argument(store, id, height, query),
+        NodeId::Leaf(_) => find_below(store, id, height, query),
         NodeId::Inner(inner) => {
             let node = store.get_inner(inner);
             match lead_on(node, query)? {
@@ -98,25 +111,24 @@ where
 /// A rank: `Ok` where the key is present.
 type RankResult<R> = Result<R, R>;
 
-/// The rank of a key in the tree of a height under a number: `Ok` where the key is present.
+/// The rank of a key: `Ok` where the key is present.
 ///
 /// One descent: on each level the summaries of the children before the one for the key are folded,
 /// and then the leaf.
 pub fn rank_by_argument<S: NodeStore>(
-    store: &S,
-    root: NodeId,
-    height: usize,
+    tree: &Nodes<S>,
     k: &S::K,
 ) -> Result<RankResult<<S::Argument as RankArgument<S::K>>::Rank>, AllocError>
 where
     S::Argument: RankArgument<S::K>,
-    requires { IsSubtree S.K.cmp S.Argument.is_summary (S.slots store.now) height root }
-    ensures ranked { IfOk result (RanksKey S.Argument.ranks k.now (S.slots store.now) height root) }
-    ensures present { IfOk result (TellsIfThere S.K.cmp (S.slots store.now) height root k.now) }
+    ensures ranked { IfOk result (RanksKey S.Argument.ranks k.now tree.now.contents) }
+    ensures present { IfOk result (TellsIfThere S.K.cmp tree.now.contents k.now) }
     ensures sure { S.Argument.needs_no_memory → IsOk result }
 {
+    // Read, so that it is known to fit.
+    let _len = tree.len;
     let rank = <S::Argument as RankArgument<S::K>>::initial_value();
-    rank_below(store, root, height, k, rank)
+    rank_below(&tree.store, tree.root, tree.height, k, rank)
 }
 
 // The same below a node, carried on from the rank that stands for the keys before it.

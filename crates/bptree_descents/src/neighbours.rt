@@ -1,60 +1,53 @@
-//! Places of keys in a tree that stands in a store, and the pairs beside them.
+//! Places of keys in a tree, and the pairs beside them.
 ghost use Rattle.std.specs.Prelude.{◌≡◌, ◌≤◌, true, length, slice_get};
 ghost use Rattle.std.specs.Option.{option_copied, option_map};
-ghost use Rattle.bptree_keys.specs.Contents.{last_member};
-ghost use Rattle.bptree_descents.specs.Neighbours.{beside, leaf_pairs_of, LocatesKey, ReadsNext, ReadsPrevious, first_from, last_upto, pair_read};
-ghost use Rattle.bptree_shape.specs.Shape.{pairs_at, IsWellShaped, value_in};
+ghost use Rattle.bptree_keys.specs.Contents.{last_member, next, previous, value};
+ghost use Rattle.bptree_descents.specs.Neighbours.{beside, leaf_pairs_of, LocatesKey, first_from, last_upto, pair_read};
 ghost use Rattle.bptree_nodes.specs.LeafResults.{place_of, HasEqualAt};
 
 use bptree_keys::compares::Compares;
-use bptree_keys::node_id::{LeafNodeId, NodeId};
+use bptree_keys::node_id::LeafNodeId;
 use bptree_nodes::leaf_node::LeafNode;
-use bptree_shape::descent::{first_leaf, last_leaf};
-use bptree_shape::reading::leaf_for;
+use bptree_shape::nodes::{Nodes, Position};
 use bptree_stores::node_stores::NodeStore;
+
+/// A pair and where it stands, where there is one.
+pub type Found<'a, K, V> = Option<(Position, (&'a K, &'a V))>;
 
 /// The leaf that a key belongs to, and the key's place in it, or else the number of smaller keys.
 ///
-/// Where `hint` is that leaf and the key stands at its place `offset`, nothing is searched: that
-/// costs one comparison. Where it is the leaf alone, the leaf is searched. Else the tree is, from
-/// the root.
+/// Where `hint` names that leaf and the key stands at its slot, nothing is searched: that costs one
+/// comparison. Where it is the leaf alone, the leaf is searched. Else the tree is, from the root.
 fn place_of<'a, S: NodeStore>(
-    store: &'a S,
-    root: NodeId,
-    height: usize,
-    hint: LeafNodeId,
-    offset: usize,
+    tree: &'a Nodes<S>,
+    hint: Position,
     key: &S::K,
 ) -> (LeafNodeId, &'a LeafNode<S::K, S::V>, Result<usize, usize>)
-    requires { IsWellShaped S.K.cmp S.Argument.is_summary (S.slots store.now) height root }
-    ensures { LocatesKey S.K.cmp (S.slots store.now) height root key.now result }
+    ensures { LocatesKey S.slots tree.now S.K.cmp key.now result }
 {
-    if let Some(leaf) = store.try_get_leaf(hint) {
-        if stands_at(leaf, offset, key) {
-            return (hint, leaf, Ok(offset));
+    if let Some(leaf) = tree.store.try_get_leaf(hint.leaf) {
+        if stands_at(leaf, hint.slot, key) {
+            return (hint.leaf, leaf, Ok(hint.slot));
         }
         if leaf.in_range(key) {
-            return (hint, leaf, leaf.locate_slot(key));
+            return (hint.leaf, leaf, leaf.locate_slot(key));
         }
     }
-    locate_key(store, root, height, key)
+    locate_key(tree, key)
 }
 
 /// The leaf that a key belongs to, and the key's place in it, or else the number of smaller keys.
 /// The leaf is searched for, and then the key in it.
 #[inline(always)]
 pub fn locate_key<'a, S: NodeStore>(
-    store: &'a S,
-    root: NodeId,
-    height: usize,
+    tree: &'a Nodes<S>,
     key: &S::K,
 ) -> (LeafNodeId, &'a LeafNode<S::K, S::V>, Result<usize, usize>)
-    requires { IsWellShaped S.K.cmp S.Argument.is_summary (S.slots store.now) height root }
-    ensures { LocatesKey S.K.cmp (S.slots store.now) height root key.now result }
+    ensures { LocatesKey S.slots tree.now S.K.cmp key.now result }
 {
-    let id = leaf_for(store, root, height, key);
-    let leaf = store.get_leaf(id);
-    let mut compares = Compares::below(height);
+    let id = tree.leaf_for(key);
+    let leaf = tree.store.get_leaf(id);
+    let mut compares = Compares::below(tree.height);
     (id, leaf, leaf.locate_slot_counted(key, &mut compares))
 }
 
@@ -83,15 +76,11 @@ pub fn slot_beside(place: Result<usize, usize>, behind: bool) -> usize
 }
 
 // The pair at a place of a leaf, where there is one.
-fn read_at<K: Drop, V: Drop>(
-    id: LeafNodeId,
-    leaf: &LeafNode<K, V>,
-    offset: usize,
-) -> Option<((LeafNodeId, usize), (&K, &V))>
-    ensures { option_map pair_read result ≡ slice_get leaf.now.pairs offset }
+fn read_at<K: Drop, V: Drop>(id: LeafNodeId, leaf: &LeafNode<K, V>, slot: usize) -> Found<'_, K, V>
+    ensures { option_map pair_read result ≡ slice_get leaf.now.pairs slot }
 {
-    match leaf.try_data_at(offset) {
-        Some(pair) => Some(((id, offset), pair)),
+    match leaf.try_data_at(slot) {
+        Some(pair) => Some((Position { leaf: id, slot }, pair)),
         None => None,
     }
 }
@@ -102,20 +91,23 @@ fn pair_from<'a, S: NodeStore>(
     id: LeafNodeId,
     leaf: &'a LeafNode<S::K, S::V>,
     from: usize,
-) -> Option<((LeafNodeId, usize), (&'a S::K, &'a S::V))>
+) -> Found<'a, S::K, S::V>
     ensures { option_map pair_read result ≡ first_from (S.slots store.now) leaf.now from }
 {
     match leaf.try_data_at(from) {
-        Some(pair) => Some(((id, from), pair)),
+        Some(pair) => Some((
+            Position {
+                leaf: id,
+                slot: from,
+            },
+            pair,
+        )),
         None => first_of(store, leaf.next()),
     }
 }
 
 // The first pair of a leaf, where there is one.
-fn first_of<S: NodeStore>(
-    store: &S,
-    id: Option<LeafNodeId>,
-) -> Option<((LeafNodeId, usize), (&S::K, &S::V))>
+fn first_of<S: NodeStore>(store: &S, id: Option<LeafNodeId>) -> Found<'_, S::K, S::V>
     ensures { option_map pair_read result ≡ slice_get (leaf_pairs_of (S.slots store.now) id) 0 }
 {
     let id = id?;
@@ -128,21 +120,24 @@ fn pair_upto<'a, S: NodeStore>(
     id: LeafNodeId,
     leaf: &'a LeafNode<S::K, S::V>,
     to: usize,
-) -> Option<((LeafNodeId, usize), (&'a S::K, &'a S::V))>
+) -> Found<'a, S::K, S::V>
     requires { to ≤ length leaf.now.pairs }
     ensures { option_map pair_read result ≡ last_upto (S.slots store.now) leaf.now to }
 {
     match to {
         0 => last_of(store, leaf.prev()),
-        _ => Some(((id, to - 1), leaf.data_at(to - 1))),
+        _ => Some((
+            Position {
+                leaf: id,
+                slot: to - 1,
+            },
+            leaf.data_at(to - 1),
+        )),
     }
 }
 
 // The last pair of a leaf, where there is one.
-fn last_of<S: NodeStore>(
-    store: &S,
-    id: Option<LeafNodeId>,
-) -> Option<((LeafNodeId, usize), (&S::K, &S::V))>
+fn last_of<S: NodeStore>(store: &S, id: Option<LeafNodeId>) -> Found<'_, S::K, S::V>
     ensures { option_map pair_read result ≡ last_member (leaf_pairs_of (S.slots store.now) id) }
 {
     let id = id?;
@@ -152,55 +147,45 @@ fn last_of<S: NodeStore>(
 
 /// The pair with the least greater key, and where it stands. The key need not be there.
 ///
-/// A leaf and a place of it are tried first for the key.
+/// A place is tried first for the key.
 pub fn pair_after<'a, S: NodeStore>(
-    store: &'a S,
-    root: NodeId,
-    height: usize,
-    hint: LeafNodeId,
-    offset: usize,
+    tree: &'a Nodes<S>,
+    hint: Position,
     key: &S::K,
-) -> Option<((LeafNodeId, usize), (&'a S::K, &'a S::V))>
-    requires { IsWellShaped S.K.cmp S.Argument.is_summary (S.slots store.now) height root }
-    ensures { ReadsNext S.K.cmp (S.slots store.now) height root key.now result }
+) -> Found<'a, S::K, S::V>
+    ensures { option_map pair_read result ≡ next S.K.cmp tree.now.contents key.now }
 {
-    let (id, leaf, place) = place_of(store, root, height, hint, offset, key);
-    pair_from(store, id, leaf, slot_beside(place, true))
+    let (id, leaf, place) = place_of(tree, hint, key);
+    pair_from(&tree.store, id, leaf, slot_beside(place, true))
 }
 
 /// The pair with the greatest smaller key, and where it stands. The key need not be there.
 ///
-/// A leaf and a place of it are tried first for the key.
+/// A place is tried first for the key.
 pub fn pair_before<'a, S: NodeStore>(
-    store: &'a S,
-    root: NodeId,
-    height: usize,
-    hint: LeafNodeId,
-    offset: usize,
+    tree: &'a Nodes<S>,
+    hint: Position,
     key: &S::K,
-) -> Option<((LeafNodeId, usize), (&'a S::K, &'a S::V))>
-    requires { IsWellShaped S.K.cmp S.Argument.is_summary (S.slots store.now) height root }
-    ensures { ReadsPrevious S.K.cmp (S.slots store.now) height root key.now result }
+) -> Found<'a, S::K, S::V>
+    ensures { option_map pair_read result ≡ previous S.K.cmp tree.now.contents key.now }
 {
-    let (id, leaf, place) = place_of(store, root, height, hint, offset, key);
-    pair_upto(store, id, leaf, slot_beside(place, false))
+    let (id, leaf, place) = place_of(tree, hint, key);
+    pair_upto(&tree.store, id, leaf, slot_beside(place, false))
 }
 
 /// The value at a key.
 ///
-/// A leaf and a place of it are tried first for the key.
+/// A place is tried first for the key.
 pub fn value_at<'a, S: NodeStore>(
-    store: &'a S,
-    root: NodeId,
-    height: usize,
-    hint: LeafNodeId,
-    offset: usize,
+    tree: &'a Nodes<S>,
+    hint: Position,
     key: &S::K,
 ) -> Option<&'a S::V>
-    requires { IsWellShaped S.K.cmp S.Argument.is_summary (S.slots store.now) height root }
-    ensures { option_copied result ≡ value_in S.K.cmp (S.slots store.now) height root key.now }
+    ensures { option_copied result ≡ value S.K.cmp tree.now.contents key.now }
 {
-    let (_, leaf, place) = place_of(store, root, height, hint, offset, key);
+    // Read, so that the tree is known to be right.
+    let _height = tree.height;
+    let (_, leaf, place) = place_of(tree, hint, key);
     match place {
         Ok(slot) => Some(leaf.data_at(slot).1),
         Err(_) => None,
@@ -208,28 +193,18 @@ pub fn value_at<'a, S: NodeStore>(
 }
 
 /// The pair with the least key, and where it stands.
-pub fn first_pair<S: NodeStore>(
-    store: &S,
-    root: NodeId,
-    height: usize,
-) -> Option<((LeafNodeId, usize), (&S::K, &S::V))>
-    requires { IsWellShaped S.K.cmp S.Argument.is_summary (S.slots store.now) height root }
-    ensures { option_map pair_read result ≡ slice_get (pairs_at (S.slots store.now) height root) 0 }
+pub fn first_pair<S: NodeStore>(tree: &Nodes<S>) -> Found<'_, S::K, S::V>
+    ensures { option_map pair_read result ≡ slice_get tree.now.contents 0 }
 {
-    let id = first_leaf(store, root, height);
-    read_at(id, store.get_leaf(id), 0)
+    let id = tree.first_leaf();
+    read_at(id, tree.store.get_leaf(id), 0)
 }
 
 /// The pair with the greatest key, and where it stands.
-pub fn last_pair<S: NodeStore>(
-    store: &S,
-    root: NodeId,
-    height: usize,
-) -> Option<((LeafNodeId, usize), (&S::K, &S::V))>
-    requires { IsWellShaped S.K.cmp S.Argument.is_summary (S.slots store.now) height root }
-    ensures { option_map pair_read result ≡ last_member (pairs_at (S.slots store.now) height root) }
+pub fn last_pair<S: NodeStore>(tree: &Nodes<S>) -> Found<'_, S::K, S::V>
+    ensures { option_map pair_read result ≡ last_member tree.now.contents }
 {
-    let id = last_leaf(store, root, height);
-    let leaf = store.get_leaf(id);
+    let id = tree.last_leaf();
+    let leaf = tree.store.get_leaf(id);
     read_at(id, leaf, leaf.len().saturating_sub(1))
 }

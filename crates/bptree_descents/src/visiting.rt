@@ -1,17 +1,30 @@
-//! Visits of a tree that stands in a store.
+//! Visits of a tree.
 ghost use Rattle.bptree_descents.specs.ByArgument.{IsSubtree};
 ghost use Rattle.bptree_shape.specs.Shape.{pairs_at};
 ghost use Rattle.bptree_descents.specs.Visiting.{IsAllowedAnswer};
 
 use bptree_arguments::visit::{DescendError, DescendVisit, DescendVisitResult};
 use bptree_keys::node_id::NodeId;
+use bptree_shape::nodes::Nodes;
 use bptree_stores::node_stores::NodeStore;
 
-/// What a visitor answers on the tree of a height under a number.
+/// What a visitor answers on a tree.
 ///
 /// It sees one inner node a level, with that node's own separators and summaries, until it ends or
 /// has seen one leaf.
 pub fn descend_visit<S: NodeStore, W: DescendVisit<S::K, S::V, S::Argument>>(
+    tree: &Nodes<S>,
+    visitor: W,
+) -> Result<Option<W::Result>, DescendError>
+    ensures { IsAllowedAnswer W.answers visitor tree.now.contents result }
+{
+    // Read, so that it is known to fit.
+    let _len = tree.len;
+    visit_below(&tree.store, tree.root, tree.height, visitor)
+}
+
+// The same on the tree of a height under a number.
+fn visit_below<S: NodeStore, W: DescendVisit<S::K, S::V, S::Argument>>(
     store: &S,
     id: NodeId,
     height: usize,
@@ -39,7 +52,7 @@ pub fn descend_visit<S: NodeStore, W: DescendVisit<S::K, S::V, S::Argument>>(
                         return Err(DescendError::InvalidChild);
                     }
                     let child = node.child_id(place);
-                    descend_visit(store, child, height - 1, visitor)
+                    visit_below(store, child, height - 1, visitor)
                 }
             }
         }

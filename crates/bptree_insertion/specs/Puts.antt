@@ -56,6 +56,10 @@ module _ {K V A : Type 0} (cmp : K → K → Ordering) (is_summary : A → List 
   IsPut (Replaced was) = IsReplaced was
   IsPut (Added top top_height a) = (value cmp (pairs_at old height root) k ≡ None) × IsPlaced top_height top a
 
+-- a value is put at a key, and what stood there is told
+abbrev pub PutsPair : {K V : Type 0} → (K → K → Ordering) → K → V → List (K × V) → List (K × V) → Option V → Type 0
+PutsPair cmp k v old new told = (told ≡ value cmp old k) × (new ≡ put cmp old k v)
+
 -- a list has the key, or has room for one more
 abbrev pub HasRoomFor : {K V : Type 0} → (K → K → Ordering) → List (K × V) → K → Type 0
 HasRoomFor cmp l k = has cmp l k ≡ false → length l + 1 < 2 ^ 64

@@ -2,11 +2,13 @@
 ghost use Rattle.std.specs.Prelude.{◌≡◌, ◌≤◌, ◌<◌, ◌^◌, ◌≢◌, IfOk, IfErr, OnErr, IfSome, false, true, length};
 ghost use Rattle.std.specs.List.Sorted.{IsSearchInRange};
 ghost use Rattle.std.specs.Map.{keys_of};
+ghost use Rattle.bptree_keys.specs.Contents.{has};
 ghost use Rattle.bptree_keys.specs.declared.node_id.NodeId.TheVariants as kind;
 ghost use Rattle.bptree_nodes.specs.LeafResults.{HasEqualAt, IsPlaceInLeaf};
 ghost use Rattle.bptree_nodes.specs.Slot.{IsPresent};
 ghost use Rattle.bptree_ascent.specs.LeafChange.{SumsUpLeaf, HasSlotAt, AreHalves, SumsUpLeafAt};
-ghost use Rattle.bptree_insertion.specs.Puts.{IsAtHand, IsDue, IsPut, risen, AddsPair, Divides, HasRoomFor, HasValueAt, IsDueBelow, LeftSumsUp, PlacesDue, PlacesDueUpTo, Rejoins, RightSumsUp, SeparatesHalves, SetsValue, SumsUpDue, UndoesAdd};
+ghost use Rattle.bptree_insertion.specs.Puts.{PutsPair, IsAtHand, IsDue, IsPut, risen, AddsPair, Divides, HasRoomFor, HasValueAt, IsDueBelow, LeftSumsUp, PlacesDue, PlacesDueUpTo, Rejoins, RightSumsUp, SeparatesHalves, SetsValue, SumsUpDue, UndoesAdd};
+ghost use Rattle.bptree_shape.specs.NodeTree.{IsUntouched, IsWhole};
 ghost use Rattle.bptree_shape.specs.Shape.{leaf_pairs, pairs_at, IsWellShaped, LacksKey};
 
 use bptree_arguments::argument::Argument;
@@ -19,15 +21,16 @@ use bptree_keys::key::Key;
 use bptree_keys::node_id::{InnerNodeId, LeafNodeId, NodeId};
 use bptree_nodes::leaf_node::LeafNode;
 use bptree_shape::descent::find_path;
+use bptree_shape::nodes::Nodes;
 use bptree_stores::node_stores::NodeStore;
 use std::alloc::AllocError;
 
-/// What came of a pair that was put into a tree.
+// What came of a pair that was put into a tree.
 #[derive(Drop)]
-pub enum Put<V, A> {
-    /// An equal key stood there, whose old value this is.
+enum Put<V, A> {
+    // An equal key stood there, whose old value this is.
     Replaced(V),
-    /// The key is new: the root, the height, and a summary of all keys.
+    // The key is new: the root, the height, and a summary of all keys.
     Added(NodeId, usize, A),
 }
 
@@ -330,7 +333,7 @@ fn put_at_hand<S: NodeStore>(
     }
 }
 
-/// Puts a pair into a whole tree, of whose keys a summary is given.
+/// Puts a pair into a tree, and answers the value that was there.
 ///
 /// An equal key stays, and its value alone is replaced. A new key's leaf, and each node above it,
 /// takes a new summary; each of them that is full is split. A refusal hands the pair back, and no
@@ -338,6 +341,41 @@ fn put_at_hand<S: NodeStore>(
 /// made. Where no summary is kept, the leaf is given to the store to remember. A pair that belongs
 /// into the remembered leaf takes no way down, as long as that leaf has room.
 pub fn upsert<S: NodeStore>(
+    tree: &mut Nodes<S>,
+    path: &mut VisitStack,
+    k: S::K,
+    v: S::V,
+) -> Result<Option<S::V>, (S::K, S::V)>
+    requires { HasRoomFor S.K.cmp tree.old.contents k }
+    ensures put { IfOk result (PutsPair S.K.cmp k v tree.old.contents tree.new.contents) }
+    ensures whole { IsWhole S.K.cmp S.Argument.is_summary S.slots tree.new }
+    ensures refused { OnErr result (IsUntouched S.slots tree.new tree.old) }
+    ensures handed_back { IfErr result (λ pair. pair ≡ (k, v)) }
+    ensures absent { OnErr result (has S.K.cmp tree.old.contents k ≡ false) }
+{
+    match put_below(
+        &mut tree.store,
+        path,
+        &tree.summary,
+        tree.root,
+        tree.height,
+        k,
+        v,
+    ) {
+        Ok(Put::Replaced(was)) => Ok(Some(was)),
+        Ok(Put::Added(root, height, summary)) => {
+            tree.root = root;
+            tree.height = height;
+            tree.len += 1;
+            tree.summary = summary;
+            Ok(None)
+        }
+        Err(pair) => Err(pair),
+    }
+}
+
+// The same, without what the tree keeps of itself.
+fn put_below<S: NodeStore>(
     store: &mut S,
     path: &mut VisitStack,
     whole: &S::Argument,

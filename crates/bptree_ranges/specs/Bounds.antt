@@ -1,5 +1,5 @@
 -- The part of the contents between two bounds, each of which takes its key in, leaves it out, or is open.
-use Rattle.std.specs.Prelude.{◌≡◌, ℕ, Bool, true, false, not, ◌&&◌, List, Option, Some, None, filter, length}
+use Rattle.std.specs.Prelude.{◌≡◌, Bool, true, false, not, ◌&&◌, List, Option, Some, None, filter}
 use Rattle.std.specs.Borrow.{Bor}
 use Rattle.std.specs.declared.cmp.Ordering.{Ordering}
 use Rattle.std.specs.declared.ops.Bound.{Bound}
@@ -7,14 +7,6 @@ use Rattle.std.specs.declared.ops.Bound.TheVariants.{Included, Excluded, Unbound
 use Rattle.std.specs.Option.{option_map}
 use Rattle.std.specs.Ordering.{is_lt, is_gt}
 use Rattle.std.specs.Range.Bound.{bound_map}
-use Rattle.bptree_iteration.specs.declared.part.Part.{Part}
-use Rattle.bptree_keys.specs.declared.node_id.LeafNodeId.{LeafNodeId}
-use Rattle.bptree_keys.specs.declared.node_id.NodeId.{NodeId}
-use Rattle.bptree_nodes.specs.Inner.{Inner}
-use Rattle.bptree_nodes.specs.Leaf.{Leaf}
-use Rattle.bptree_nodes.specs.Slot.{Slots}
-use Rattle.bptree_ranges.specs.Ranges.{place_on, IsPart}
-use Rattle.bptree_shape.specs.Shape.{pairs_at}
 
 -- the bound by the key that a reference shows
 abbrev pub bound_copied : {K : Type 0} → Bound (Bor K) → Bound K
@@ -70,12 +62,3 @@ module _ {K : Type 0} (cmp : K → K → Ordering) where
   may_hold (Excluded lo) Unbounded = true
   may_hold (Excluded lo) (Included hi) = is_lt (cmp lo hi)
   may_hold (Excluded lo) (Excluded hi) = is_lt (cmp lo hi)
-
-module _ {K V A : Type 0} (cmp : K → K → Ordering) (slots : Slots (Inner K A) (Leaf K V)) (height : ℕ) (root : NodeId) where
-  -- the part between two bounds, which references show
-  abbrev pub IsPartInBounds : Bound (Bor K) → Bound (Bor K) → Part → Type 0
-  IsPartInBounds lo hi p = IsPart slots height root p (between_bounds cmp (pairs_at slots height root) (bound_copied lo) (bound_copied hi))
-
-  -- before the place stand the pairs that do not come behind an end, or else those that come before a start
-  abbrev pub IsBoundPlace : Bool → Bound (Bor K) → LeafNodeId × ℕ → Type 0
-  IsBoundPlace end bound at = place_on slots height root at ≡ length (filter (λ pair. is_before_bound cmp end (bound_copied bound) pair.0) (pairs_at slots height root))

@@ -9,9 +9,7 @@ use Rattle.bptree_keys.specs.declared.node_id.NodeId.TheVariants as kind
 use Rattle.bptree_nodes.specs.Inner.{Inner}
 use Rattle.bptree_nodes.specs.Leaf.{Leaf}
 use Rattle.bptree_nodes.specs.Slot.{Slots}
-use Rattle.bptree_keys.specs.Ranges.{part}
-use Rattle.bptree_iteration.specs.declared.part.Part.{Part}
-use Rattle.bptree_ranges.specs.Ranges.{start, IsPart, IsPlaceOn}
+use Rattle.bptree_ranges.specs.Ranges.{start, IsPlaceOn}
 use Rattle.bptree_ranges.specs.declared.places.Skipped.{Skipped}
 use Rattle.bptree_ranges.specs.declared.places.Skipped.TheVariants.{Found, Short}
 use Rattle.bptree_shape.specs.Leaves.{pairs_of, IsBorderLeaf, StandsIn}
@@ -52,16 +50,6 @@ module _ {K V A G : Type 0} (cmp : G → G → Ordering) (group_of : K → G) (g
   abbrev pub SkipsInto : ℕ → Skipped → Type 0
   SkipsInto i skipped = IsSkipped slots h root (before_group cmp group_of g (pairs_at slots h root)) i skipped
 
-  -- the part of a group, and of n pairs of it from place i of the group on
-  abbrev pub IsGroupPart : Part → Type 0
-  IsGroupPart p = IsPart slots h root p (of_group cmp group_of g (pairs_at slots h root))
-
-  abbrev pub IsPartInGroup : ℕ → ℕ → Part → Type 0
-  IsPartInGroup i n p = IsPart slots h root p (part (of_group cmp group_of g (pairs_at slots h root)) i n)
-
-  -- the place where a group ends, or begins, and the leaf
-  abbrev pub Borders : Bool → LeafNodeId × ℕ → Type 0
-  Borders end at = IsPlaceOn slots h root at.0 at.1 × (start slots h root at.0 + at.1 ≡ length (filter (λ pair. is_before end (cmp (group_of pair.0) g)) (pairs_at slots h root)))
-
+  -- the leaf in which a group ends, or begins
   abbrev pub BordersLeaf : Bool → LeafNodeId → Type 0
   BordersLeaf end leaf = IsBorderLeaf slots (λ k. is_before end (cmp (group_of k) g)) h root leaf

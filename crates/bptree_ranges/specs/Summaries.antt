@@ -43,12 +43,12 @@ IsPartSummary is_summary selects from to keys a =
     (i : Option ℕ) × selects from keys i × MatchOption i (is_summary a []) (λ _. (j : Option ℕ) × selects to keys j × is_summary a (run_of keys i j))
 
 module _ {K V A : Type 0} (cmp : K → K → Ordering) (is_summary : A → List K → Type 0) where
-  module _ (slots : Slots (Inner K A) (Leaf K V)) (height : ℕ) (root : NodeId) (lo hi : Option (Bor K)) where
-    -- a summary of the keys of a tree between two ends, each of which a reference shows, where it is given; and the same where
-    -- there is none of no keys
-    abbrev pub SumsUpBetween : A → Type 0
-    SumsUpBetween a = is_summary a (keys_of (between cmp (pairs_at slots height root) (option_copied lo) (option_copied hi)))
+  -- a summary of the keys of a list between two ends, each of which a reference shows, where it is given
+  abbrev pub SumsUpBetween : List (K × V) → Option (Bor K) → Option (Bor K) → A → Type 0
+  SumsUpBetween l lo hi a = is_summary a (keys_of (between cmp l (option_copied lo) (option_copied hi)))
 
+  module _ (slots : Slots (Inner K A) (Leaf K V)) (height : ℕ) (root : NodeId) (lo hi : Option (Bor K)) where
+    -- the same of a tree, where there is none of no keys
     abbrev pub SumsUpSomeBetween : Option A → Type 0
     SumsUpSomeBetween found = SumsUpSome is_summary (keys_of (between cmp (pairs_at slots height root) (option_copied lo) (option_copied hi))) found
 

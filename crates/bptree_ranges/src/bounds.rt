@@ -1,41 +1,36 @@
 //! Where a part of the contents begins and ends that is told by two bounds.
-ghost use Rattle.std.specs.Prelude.{◌≡◌, ◌≤◌, length};
+ghost use Rattle.std.specs.Prelude.{◌≡◌};
 ghost use Rattle.std.specs.Option.{option_copied};
-ghost use Rattle.bptree_ranges.specs.Bounds.{bound_copied, end_bound, may_hold, start_bound, IsBoundPlace, IsPartInBounds, TellsKey};
-ghost use Rattle.bptree_ranges.specs.Ranges.{IsPlaceOn};
-ghost use Rattle.bptree_shape.specs.Shape.{pairs_at, IsWellShaped};
+ghost use Rattle.bptree_ranges.specs.Bounds.{bound_copied, end_bound, may_hold, start_bound, TellsKey};
+ghost use Rattle.bptree_ranges.specs.InTree.{HasBound, HasPartInBounds, HasPlace};
 
 use crate::ranges::{end_of_all, no_part, part_of_places};
 use bptree_descents::neighbours::{locate_key, slot_beside};
 use bptree_iteration::part::{Extent, Part};
-use bptree_keys::node_id::{LeafNodeId, NodeId};
-use bptree_shape::descent::first_leaf;
+use bptree_keys::node_id::LeafNodeId;
+use bptree_shape::nodes::Nodes;
 use bptree_stores::node_stores::NodeStore;
 use std::ops::Bound;
 
-/// The pairs whose key is neither before the start nor behind the end, of a tree of at most `len`
-/// pairs.
+/// The pairs whose key is neither before the start nor behind the end.
 ///
 /// One descent for each bound, and no step from the one to the other. Where no key can be between
 /// them, that is told by one comparison.
 pub fn part_between_bounds<S: NodeStore>(
-    store: &S,
-    root: NodeId,
-    height: usize,
-    len: usize,
+    tree: &Nodes<S>,
     lo: Bound<&S::K>,
     hi: Bound<&S::K>,
 ) -> Part
-    requires shape { IsWellShaped S.K.cmp S.Argument.is_summary (S.slots store.now) height root }
-    requires fits { length (pairs_at (S.slots store.now) height root) ≤ len }
-    ensures { IsPartInBounds S.K.cmp (S.slots store.now) height root lo.entry hi.entry result }
+    ensures { HasPartInBounds S.slots tree.now S.K.cmp lo.entry hi.entry result }
 {
-    let front = place_of_bound(store, root, height, lo, false);
+    // Read, so that the tree is known to be right.
+    let len = tree.len;
+    let front = place_of_bound(tree, lo, false);
     if !can_hold(lo, hi) {
         return no_part(front);
     }
-    let back = place_of_bound(store, root, height, hi, true);
-    part_of_places(store, root, height, front, back, len, Extent::Open)
+    let back = place_of_bound(tree, hi, true);
+    part_of_places(tree, front, back, len, Extent::Open)
 }
 
 /// The bounds of the keys that are not below `lo` and are below `hi`, where they are given.
@@ -68,23 +63,22 @@ pub(crate) fn can_hold<K: Ord>(lo: Bound<&K>, hi: Bound<&K>) -> bool
 /// start. Where the bound is open, that is behind the last of all, or at the first.
 #[inline(always)]
 pub(crate) fn place_of_bound<S: NodeStore>(
-    store: &S,
-    root: NodeId,
-    height: usize,
+    tree: &Nodes<S>,
     bound: Bound<&S::K>,
     end: bool,
 ) -> (LeafNodeId, usize)
-    requires { IsWellShaped S.K.cmp S.Argument.is_summary (S.slots store.now) height root }
-    ensures place { IsPlaceOn (S.slots store.now) height root result.0 result.1 }
-    ensures before { IsBoundPlace S.K.cmp (S.slots store.now) height root end bound.entry result }
+    ensures place { HasPlace S.slots tree.now result }
+    ensures before { HasBound S.slots tree.now S.K.cmp end bound.entry result }
 {
+    // Read, so that the tree is known to be right.
+    let _len = tree.len;
     match key_of_bound(bound, end) {
         Some((key, behind)) => {
-            let (leaf, _, place) = locate_key(store, root, height, key);
+            let (leaf, _, place) = locate_key(tree, key);
             (leaf, slot_beside(place, behind))
         }
-        None if end => end_of_all(store, root, height),
-        None => (first_leaf(store, root, height), 0),
+        None if end => end_of_all(tree),
+        None => (tree.first_leaf(), 0),
     }
 }
 

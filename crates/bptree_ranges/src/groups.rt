@@ -1,8 +1,8 @@
-//! The pairs of one group of keys, in a tree that stands in a store.
-ghost use Rattle.std.specs.Prelude.{◌<◌, ◌≤◌, ◌^◌, IfOk, length};
+//! The pairs of one group of keys.
+ghost use Rattle.std.specs.Prelude.{IfOk};
 ghost use Rattle.bptree_shape.specs.Leaves.{Stands};
-ghost use Rattle.bptree_shape.specs.Shape.{pairs_at, IsWellShaped};
-ghost use Rattle.bptree_ranges.specs.Places.{Borders, BordersLeaf, IsGroupPart, IsPartInGroup};
+ghost use Rattle.bptree_ranges.specs.InTree.{HasBorder, HasGroup, HasPartOfGroup};
+ghost use Rattle.bptree_ranges.specs.Places.{BordersLeaf};
 
 use crate::places::place_in_group;
 use crate::ranges::{no_part, part_of_places};
@@ -11,28 +11,25 @@ use bptree_arguments::group_order::keys_before;
 use bptree_iteration::part::{Extent, Part};
 use bptree_keys::key::Key;
 use bptree_keys::node_id::{LeafNodeId, NodeId};
-use bptree_shape::descent::first_leaf;
+use bptree_shape::nodes::Nodes;
 use bptree_stores::node_stores::NodeStore;
 use std::alloc::AllocError;
 
-/// The pairs whose key's group equals the group, of a tree of at most `len` pairs.
+/// The pairs whose key's group equals the group.
 ///
 /// Two descents, for where the group begins and where it ends, which make the groups of at most 7
 /// keys or separators of each node. It fails only where one of these groups does.
 pub fn part_of_group<S: NodeStore, G: FromRef<S::K> + Key>(
-    store: &S,
-    root: NodeId,
-    height: usize,
-    len: usize,
+    tree: &Nodes<S>,
     group: &G,
 ) -> Result<Part, AllocError>
-    requires shape { IsWellShaped S.K.cmp S.Argument.is_summary (S.slots store.now) height root }
-    requires fits { length (pairs_at (S.slots store.now) height root) ≤ len }
-    ensures { IfOk result (IsGroupPart G.cmp G.group_of group.now (S.slots store.now) height root) }
+    ensures { IfOk result (HasGroup S.slots tree.now G.cmp G.group_of group.now) }
 {
-    let front = place_of_group(store, root, height, group, false)?;
-    let back = place_of_group(store, root, height, group, true)?;
-    Ok(part_of_places(store, root, height, front, back, len, Extent::Open))
+    // Read, so that the tree is known to be right.
+    let len = tree.len;
+    let front = place_of_group(tree, group, false)?;
+    let back = place_of_group(tree, group, true)?;
+    Ok(part_of_places(tree, front, back, len, Extent::Open))
 }
 
 /// So many pairs of a group, or all where there are fewer, without its first `i`.
@@ -41,39 +38,34 @@ pub fn part_of_group<S: NodeStore, G: FromRef<S::K> + Key>(
 /// most 7 keys or separators of each node. Where the summaries tell how many keys they stand for,
 /// the pairs before the first one cost no step; else they are walked over.
 pub fn part_within_group<S: NodeStore, G: FromRef<S::K> + Key>(
-    store: &S,
-    root: NodeId,
-    height: usize,
+    tree: &Nodes<S>,
     group: &G,
     i: usize,
     n: usize,
 ) -> Result<Part, AllocError>
-    requires shape { IsWellShaped S.K.cmp S.Argument.is_summary (S.slots store.now) height root }
-    requires fits { length (pairs_at (S.slots store.now) height root) < 2 ^ 64 }
-    ensures { IfOk result (IsPartInGroup G.cmp G.group_of group.now (S.slots store.now) height root i n) }
+    ensures { IfOk result (HasPartOfGroup S.slots tree.now G.cmp G.group_of group.now i n) }
 {
-    match place_in_group(store, root, height, group, i)? {
-        None => Ok(no_part((first_leaf(store, root, height), 0))),
+    // Read, so that the tree is known to be right.
+    let _len = tree.len;
+    match place_in_group(tree, group, i)? {
+        None => Ok(no_part((tree.first_leaf(), 0))),
         Some(front) => {
-            let back = place_of_group(store, root, height, group, true)?;
-            Ok(part_of_places(store, root, height, front, back, n, Extent::Cut))
+            let back = place_of_group(tree, group, true)?;
+            Ok(part_of_places(tree, front, back, n, Extent::Cut))
         }
     }
 }
 
 // Where a group ends, or else where it begins.
 fn place_of_group<S: NodeStore, G: FromRef<S::K> + Key>(
-    store: &S,
-    root: NodeId,
-    height: usize,
+    tree: &Nodes<S>,
     group: &G,
     end: bool,
 ) -> Result<(LeafNodeId, usize), AllocError>
-    requires { IsWellShaped S.K.cmp S.Argument.is_summary (S.slots store.now) height root }
-    ensures { IfOk result (Borders G.cmp G.group_of group.now (S.slots store.now) height root end) }
+    ensures { IfOk result (HasBorder S.slots tree.now G.cmp G.group_of group.now end) }
 {
-    let leaf = leaf_of_group(store, root, height, group, end)?;
-    let offset = keys_before(store.get_leaf(leaf).keys(), group, end)?;
+    let leaf = leaf_of_group(&tree.store, tree.root, tree.height, group, end)?;
+    let offset = keys_before(tree.store.get_leaf(leaf).keys(), group, end)?;
     Ok((leaf, offset))
 }
 

@@ -1,8 +1,7 @@
-//! Places in a tree that stands in a store, by the summaries that tell how many keys they stand
-//! for.
-ghost use Rattle.std.specs.Prelude.{◌<◌, ◌≤◌, ◌^◌, IfOk, IfSome, length};
-ghost use Rattle.bptree_ranges.specs.Places.{IsPlaceInGroup, IsSkippedFrom, SkipsInto};
-ghost use Rattle.bptree_shape.specs.Shape.{pairs_at, IsWellShaped};
+//! Places in a tree, by the summaries that tell how many keys they stand for.
+ghost use Rattle.std.specs.Prelude.{◌≤◌, IfOk, IfSome};
+ghost use Rattle.bptree_ranges.specs.InTree.{HasPlaceOfGroup};
+ghost use Rattle.bptree_ranges.specs.Places.{IsSkippedFrom, SkipsInto};
 ghost use Rattle.bptree_descents.specs.ByArgument.{IsSubtree};
 ghost use Rattle.bptree_arguments.specs.Sums.{TellsLength};
 
@@ -11,6 +10,7 @@ use bptree_arguments::group::FromRef;
 use bptree_arguments::group_order::keys_before;
 use bptree_keys::key::Key;
 use bptree_keys::node_id::{LeafNodeId, NodeId};
+use bptree_shape::nodes::Nodes;
 use bptree_stores::node_stores::NodeStore;
 use std::alloc::AllocError;
 
@@ -30,20 +30,18 @@ pub(crate) enum Skipped {
 /// keys they stand for, and goes down into one that has more. Where no summary tells, it goes down
 /// into each child on the way.
 pub(crate) fn place_in_group<S: NodeStore, G: FromRef<S::K> + Key>(
-    store: &S,
-    root: NodeId,
-    height: usize,
+    tree: &Nodes<S>,
     group: &G,
     i: usize,
 ) -> Result<Option<(LeafNodeId, usize)>, AllocError>
-    requires shape { IsWellShaped S.K.cmp S.Argument.is_summary (S.slots store.now) height root }
-    requires fits { length (pairs_at (S.slots store.now) height root) < 2 ^ 64 }
-    ensures { IfOk result (IsPlaceInGroup (S.slots store.now) G.cmp G.group_of group.now height root i) }
+    ensures { IfOk result (HasPlaceOfGroup S.slots tree.now G.cmp G.group_of group.now i) }
 {
-    match skip_from_group(store, root, height, group, i)? {
+    // Read, so that it is known to fit.
+    let _len = tree.len;
+    match skip_from_group(&tree.store, tree.root, tree.height, group, i)? {
         Skipped::Short(_) => Ok(None),
         Skipped::Found(leaf, slot) => {
-            let end = keys_before(store.get_leaf(leaf).keys(), group, true)?;
+            let end = keys_before(tree.store.get_leaf(leaf).keys(), group, true)?;
             if slot < end {
                 Ok(Some((leaf, slot)))
             } else {

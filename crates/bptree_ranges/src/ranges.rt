@@ -1,62 +1,51 @@
-//! Parts of the contents of a tree that stands in a store, by the places where they begin and end.
-ghost use Rattle.std.specs.Prelude.{◌≡◌, ◌<◌, ◌≤◌, ◌^◌, IfOk, IsOk, length};
-ghost use Rattle.bptree_ranges.specs.Ranges.{empty_at, IsPlaceOn, AreInOrder, HoldsBetween, IsEndOfAll, IsPartBetween, IsPartFrom, IsPartUpTo, IsSelectedPart, Settles, TellsBetween};
-ghost use Rattle.bptree_shape.specs.Shape.{pairs_at, IsWellShaped};
+//! Parts of the contents of a tree, by the places where they begin and end.
+ghost use Rattle.std.specs.Prelude.{◌≡◌, IfOk, IsOk};
+ghost use Rattle.bptree_ranges.specs.InTree.{EndsAt, HasAsMany, HasInOrder, HasPartBetween, HasPartFrom, HasPartUpTo, HasPlace, HasPlacesBetween, HasSelectedPart, HasSettled};
+ghost use Rattle.bptree_ranges.specs.Ranges.{empty_at};
 
 use crate::bounds::{bounds_of, can_hold, part_between_bounds, place_of_bound};
 use bptree_arguments::argument::SearchArgument;
 use bptree_descents::by_argument::find_by_argument;
 use bptree_iteration::part::{Extent, Part};
-use bptree_keys::node_id::{LeafNodeId, NodeId};
-use bptree_shape::descent::{first_leaf, last_leaf};
+use bptree_keys::node_id::LeafNodeId;
+use bptree_shape::nodes::Nodes;
 use bptree_stores::node_stores::NodeStore;
 use std::alloc::AllocError;
 
-/// The pairs whose key is not below `lo` and is below `hi`, where they are given, of a tree of at
-/// most `len` pairs.
+/// The pairs whose key is not below `lo` and is below `hi`, where they are given.
 ///
 /// One descent for each end, and no step from the one to the other. Where `lo` is not below `hi`,
 /// that is told by one comparison.
 #[inline(always)]
-pub fn part_between<S: NodeStore>(
-    store: &S,
-    root: NodeId,
-    height: usize,
-    len: usize,
-    lo: Option<&S::K>,
-    hi: Option<&S::K>,
-) -> Part
-    requires shape { IsWellShaped S.K.cmp S.Argument.is_summary (S.slots store.now) height root }
-    requires fits { length (pairs_at (S.slots store.now) height root) ≤ len }
-    ensures { IsPartBetween S.K.cmp (S.slots store.now) height root lo.entry hi.entry result }
+pub fn part_between<S: NodeStore>(tree: &Nodes<S>, lo: Option<&S::K>, hi: Option<&S::K>) -> Part
+    ensures { HasPartBetween S.slots tree.now S.K.cmp lo.entry hi.entry result }
 {
     let (start, end) = bounds_of(lo, hi);
-    part_between_bounds(store, root, height, len, start, end)
+    part_between_bounds(tree, start, end)
 }
 
 /// The places where the pairs begin and end whose key is not below `lo` and is below `hi`, where
 /// they are given. It costs what `part_between` does.
 pub fn places_between<S: NodeStore>(
-    store: &S,
-    root: NodeId,
-    height: usize,
+    tree: &Nodes<S>,
     lo: Option<&S::K>,
     hi: Option<&S::K>,
 ) -> ((LeafNodeId, usize), (LeafNodeId, usize))
-    requires { IsWellShaped S.K.cmp S.Argument.is_summary (S.slots store.now) height root }
-    ensures front { Settles (S.slots store.now) height root result.0 result.0 }
-    ensures back { Settles (S.slots store.now) height root result.1 result.1 }
-    ensures rises { AreInOrder (S.slots store.now) height root result.0 result.1 }
-    ensures pairs { HoldsBetween S.K.cmp (S.slots store.now) height root lo.entry hi.entry result }
+    ensures front { HasSettled S.slots tree.now result.0 result.0 }
+    ensures back { HasSettled S.slots tree.now result.1 result.1 }
+    ensures rises { HasInOrder S.slots tree.now result.0 result.1 }
+    ensures pairs { HasPlacesBetween S.slots tree.now S.K.cmp lo.entry hi.entry result }
 {
     let (start, end) = bounds_of(lo, hi);
-    let first = place_of_bound(store, root, height, start, false);
-    let front = settled(store, root, height, first);
+    // Read, so that the tree is known to be right.
+    let _len = tree.len;
+    let first = place_of_bound(tree, start, false);
+    let front = settled(tree, first);
     if !can_hold(start, end) {
         return (front, front);
     }
-    let behind = place_of_bound(store, root, height, end, true);
-    let back = settled(store, root, height, behind);
+    let behind = place_of_bound(tree, end, true);
+    let back = settled(tree, behind);
     (front, back)
 }
 
@@ -77,23 +66,22 @@ pub(crate) fn no_part(at: (LeafNodeId, usize)) -> Part
 /// The pairs between two places, of which the second is not before the first; or the first `limit`
 /// of them.
 pub(crate) fn part_of_places<S: NodeStore>(
-    store: &S,
-    root: NodeId,
-    height: usize,
+    tree: &Nodes<S>,
     front: (LeafNodeId, usize),
     back: (LeafNodeId, usize),
     limit: usize,
     extent: Extent,
 ) -> Part
-    requires shape { IsWellShaped S.K.cmp S.Argument.is_summary (S.slots store.now) height root }
-    requires front { IsPlaceOn (S.slots store.now) height root front.0 front.1 }
-    requires back { IsPlaceOn (S.slots store.now) height root back.0 back.1 }
-    requires rises { AreInOrder (S.slots store.now) height root front back }
-    requires tells { TellsBetween (S.slots store.now) height root front back limit extent }
-    ensures { IsPartUpTo (S.slots store.now) height root front back limit result }
+    requires front { HasPlace S.slots tree.now front }
+    requires back { HasPlace S.slots tree.now back }
+    requires rises { HasInOrder S.slots tree.now front back }
+    requires tells { HasAsMany S.slots tree.now front back limit extent }
+    ensures { HasPartUpTo S.slots tree.now front back limit result }
 {
-    let front = settled(store, root, height, front);
-    let back = settled(store, root, height, back);
+    // Read, so that the tree is known to be right.
+    let _len = tree.len;
+    let front = settled(tree, front);
+    let back = settled(tree, back);
     Part {
         front: front.0,
         from: front.1,
@@ -105,17 +93,11 @@ pub(crate) fn part_of_places<S: NodeStore>(
 }
 
 /// The same place, at a pair: the end of a leaf is the start of the next one, where there is one.
-pub fn settled<S: NodeStore>(
-    store: &S,
-    root: NodeId,
-    height: usize,
-    at: (LeafNodeId, usize),
-) -> (LeafNodeId, usize)
-    requires shape { IsWellShaped S.K.cmp S.Argument.is_summary (S.slots store.now) height root }
-    requires place { IsPlaceOn (S.slots store.now) height root at.0 at.1 }
-    ensures { Settles (S.slots store.now) height root at result }
+pub fn settled<S: NodeStore>(tree: &Nodes<S>, at: (LeafNodeId, usize)) -> (LeafNodeId, usize)
+    requires { HasPlace S.slots tree.now at }
+    ensures { HasSettled S.slots tree.now at result }
 {
-    let leaf = store.get_leaf(at.0);
+    let leaf = tree.store.get_leaf(at.0);
     if at.1 < leaf.len() {
         return at;
     }
@@ -126,17 +108,12 @@ pub fn settled<S: NodeStore>(
 }
 
 /// The place behind the last pair of all.
-pub(crate) fn end_of_all<S: NodeStore>(
-    store: &S,
-    root: NodeId,
-    height: usize,
-) -> (LeafNodeId, usize)
-    requires { IsWellShaped S.K.cmp S.Argument.is_summary (S.slots store.now) height root }
-    ensures place { IsPlaceOn (S.slots store.now) height root result.0 result.1 }
-    ensures end { IsEndOfAll (S.slots store.now) height root result }
+pub(crate) fn end_of_all<S: NodeStore>(tree: &Nodes<S>) -> (LeafNodeId, usize)
+    ensures place { HasPlace S.slots tree.now result }
+    ensures end { EndsAt S.slots tree.now result }
 {
-    let leaf = last_leaf(store, root, height);
-    (leaf, store.get_leaf(leaf).len())
+    let leaf = tree.last_leaf();
+    (leaf, tree.store.get_leaf(leaf).len())
 }
 
 /// The first `n` pairs, or all where there are fewer, from a place on that is allowed for the
@@ -144,37 +121,30 @@ pub(crate) fn end_of_all<S: NodeStore>(
 ///
 /// One descent for the query, and one to the last leaf.
 pub fn part_by_argument<S: NodeStore>(
-    store: &S,
-    root: NodeId,
-    height: usize,
+    tree: &Nodes<S>,
     query: <S::Argument as SearchArgument<S::K>>::Query,
     n: usize,
 ) -> Result<Part, AllocError>
 where
     S::Argument: SearchArgument<S::K>,
-    requires shape { IsWellShaped S.K.cmp S.Argument.is_summary (S.slots store.now) height root }
-    requires fits { length (pairs_at (S.slots store.now) height root) < 2 ^ 64 }
-    ensures part { IfOk result (IsSelectedPart (S.slots store.now) height root S.Argument.selects query n) }
+    ensures part { IfOk result (HasSelectedPart S.slots tree.now S.Argument.selects query n) }
     ensures sure { S.Argument.needs_no_memory → IsOk result }
 {
-    match find_by_argument(store, root, height, query)? {
-        None => Ok(no_part((first_leaf(store, root, height), 0))),
-        Some(front) => Ok(part_from(store, root, height, front, n)),
+    // Read, so that the tree is known to be right.
+    let _len = tree.len;
+    match find_by_argument(tree, query)? {
+        None => Ok(no_part((tree.first_leaf(), 0))),
+        Some(front) => Ok(part_from(tree, front, n)),
     }
 }
 
 /// So many pairs from a place on, or all where there are fewer.
-pub(crate) fn part_from<S: NodeStore>(
-    store: &S,
-    root: NodeId,
-    height: usize,
-    front: (LeafNodeId, usize),
-    n: usize,
-) -> Part
-    requires shape { IsWellShaped S.K.cmp S.Argument.is_summary (S.slots store.now) height root }
-    requires place { IsPlaceOn (S.slots store.now) height root front.0 front.1 }
-    ensures { IsPartFrom (S.slots store.now) height root front n result }
+pub(crate) fn part_from<S: NodeStore>(tree: &Nodes<S>, front: (LeafNodeId, usize), n: usize) -> Part
+    requires { HasPlace S.slots tree.now front }
+    ensures { HasPartFrom S.slots tree.now front n result }
 {
-    let back = end_of_all(store, root, height);
-    part_of_places(store, root, height, front, back, n, Extent::Cut)
+    // Read, so that the tree is known to be right.
+    let _len = tree.len;
+    let back = end_of_all(tree);
+    part_of_places(tree, front, back, n, Extent::Cut)
 }

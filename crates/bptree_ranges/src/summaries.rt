@@ -1,4 +1,4 @@
-//! Summaries of the keys between two ends, in a tree that stands in a store.
+//! Summaries of the keys between two ends.
 ghost use Rattle.std.specs.Prelude.{◌≡◌, ◌≤◌, None, Some, IfOk, length};
 ghost use Rattle.std.specs.Map.{keys_of};
 ghost use Rattle.std.specs.declared.cmp.Ordering.TheVariants.{Less};
@@ -13,6 +13,7 @@ use bptree_descents::neighbours::slot_beside;
 use bptree_keys::key::Key;
 use bptree_keys::node_id::NodeId;
 use bptree_nodes::leaf_node::LeafNode;
+use bptree_shape::nodes::Nodes;
 use bptree_stores::node_stores::NodeStore;
 use std::alloc::{AllocError, Global};
 use std::cmp::Ordering;
@@ -24,16 +25,15 @@ use std::cmp::Ordering;
 /// keys of one leaf for each end. It fails only where the argument does, or where room for two
 /// summaries is refused.
 pub fn summary_between<S: NodeStore>(
-    store: &S,
-    root: NodeId,
-    height: usize,
+    tree: &Nodes<S>,
     lo: Option<&S::K>,
     hi: Option<&S::K>,
 ) -> Result<S::Argument, AllocError>
-    requires { IsSubtree S.K.cmp S.Argument.is_summary (S.slots store.now) height root }
-    ensures { IfOk result (SumsUpBetween S.K.cmp S.Argument.is_summary (S.slots store.now) height root lo.entry hi.entry) }
+    ensures { IfOk result (SumsUpBetween S.K.cmp S.Argument.is_summary tree.now.contents lo.entry hi.entry) }
 {
-    match some_between(store, root, height, lo, hi)? {
+    // Read, so that it is known to fit.
+    let _len = tree.len;
+    match some_between(&tree.store, tree.root, tree.height, lo, hi)? {
         Some(summary) => Ok(summary),
         None => Ok(Default::default()),
     }

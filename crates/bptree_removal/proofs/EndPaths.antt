@@ -1,26 +1,29 @@
 -- A way down to an end leads a search for any key of its leaf there, and a pair that is taken there is the first or the last.
-use Rattle.std.proofs.Common.{◌≡◌, ℕ, ◌+◌, ◌-◌, ◌<◌, ◌^◌, List, [], ◌∷◌, ◌++◌, length, refl, sym, ap, subst, ◌∙◌, arith, None, Some, slice_get}
+use Rattle.std.proofs.Common.{◌≡◌, ℕ, ◌+◌, ◌-◌, ◌<◌, ◌^◌, List, [], ◌∷◌, ◌++◌, length, refl, sym, subst, ◌∙◌, arith, None, Some, slice_get}
 use Rattle.std.specs.Prelude.{Bool, true, false, cond}
 use Rattle.std.specs.declared.cmp.Ordering.{Ordering}
 use Rattle.std.specs.declared.cmp.Ordering.TheVariants.{Equal}
 use Rattle.std.specs.Cmp.{IsTotalOrder}
 use Rattle.std.specs.Map.{keys_of}
-use Rattle.bptree_keys.specs.Contents.{IsAscending}
+use Rattle.bptree_keys.specs.Contents.{IsAscending, del}
 use Rattle.bptree_keys.specs.declared.node_id.InnerNodeId.{InnerNodeId}
 use Rattle.bptree_keys.specs.declared.node_id.LeafNodeId.{LeafNodeId}
 use Rattle.bptree_keys.specs.declared.node_id.NodeId.{NodeId}
 use Rattle.bptree_keys.specs.declared.node_id.NodeId.TheVariants as kind
 use Rattle.bptree_nodes.specs.Inner.{Inner}
 use Rattle.bptree_nodes.specs.Leaf.{Leaf}
-use Rattle.bptree_nodes.specs.Slot.{Slots, Present}
+use Rattle.bptree_nodes.specs.LeafResults.{HasEqualAt}
+use Rattle.bptree_nodes.specs.Slot.{Slot, Slots, Free, Held, Present}
 use Rattle.bptree_shape.specs.Leaves.{StandsIn, pairs_of}
 use Rattle.bptree_shape.specs.Shape.{leaf_pairs, pairs_at, root_least, IsWellShaped}
 use Rattle.bptree_shape.proofs.ListReads.{read_below, read_some}
 use Rattle.bptree_shape.proofs.Walk.{tree_ascends}
 use Rattle.bptree_descents.specs.ByArgument.{IsSubtree, GoesOn}
+use Rattle.bptree_ascent.proofs.LeafClimb.{leaf_fits}
+use Rattle.bptree_descents.proofs.Beside.{equal_at}
 use Rattle.bptree_descents.proofs.Selected.{goes_on, place_read}
 use Rattle.bptree_removal.proofs.Deleted.{alike, deleted_by}
-use Rattle.bptree_removal.specs.Removal.{IsThere, Leaves, IsFound, IsEntryAt, IsTakenFrom, IsTakenAt, IsEntryTaken, LeadsOn}
+use Rattle.bptree_removal.specs.Removal.{IsThere, Leaves, IsFound, IsEntryAt, IsTakenFrom, IsTakenAt, IsEntryTaken, LeadsOn, LeftAt}
 
 module _ {K V A : Type 0} {cmp : K → K → Ordering} (total : IsTotalOrder cmp) (is_summary : A → List K → Type 0) (slots : Slots (Inner K A) (Leaf K V)) where
   -- with the entry for the child, a search goes on from the node
@@ -67,6 +70,16 @@ entry_taken {cmp = cmp} total is_summary old new h root path leaf slot k pair to
       taken_at total is_summary old new h root at.0.shape leaf slot k pair top top_height a place taken equal (place_read old h root leaf at.1.stands slot pair taken.pair_was),
     )
 
+-- a length that a number of the machine tells fits
+pub few_of : {X : Type 0} (n : ℕ) (l : List X) → n ≡ length l → n < 2 ^ 64 → length l < 2 ^ 64
+few_of n l is fits = omega (arith, is, fits)
+
+-- the leaf that has a pair at a slot
+node_of : {K V : Type 0} (s : Slot (Leaf K V)) (i : ℕ) → i < length (leaf_pairs s) → (node : Leaf K V) × (s ≡ Present node)
+node_of Free i within = absurd (omega arith)
+node_of Held i within = absurd (omega arith)
+node_of (Present node) i within = (node, refl)
+
 -- a place within a list, and the ends of an empty one
 pub none_here : {X : Type 0} (xs : List X) (i : ℕ) → length xs ≡ 0 → slice_get xs i ≡ None
 none_here [] i none = refl
@@ -94,9 +107,17 @@ module _ {K V A : Type 0} {cmp : K → K → Ordering} (total : IsTotalOrder cmp
     found = rw pair_there.1 (alike total pair_there.0.0);
   }
 
+  -- no other leaf can hold it
+  pub entry_there : IsEntryAt cmp is_summary old h root longer leaf slot pair_there.0.0
+  entry_there =
+      let node = node_of (old.leaf leaf.0) slot within in
+      let equal = subst (λ (s : Slot (Leaf K V)). HasEqualAt cmp (leaf_pairs s) pair_there.0.0 slot) node.1 found_there.found in
+      let fits = leaf_fits is_summary old longer leaf pair_there.0.0 h root shape found_there.way node.0 node.1 in
+      (found_there, (equal_at total is_summary old h root shape pair_there.0.0 leaf node.0 slot node.1 equal fits).for_key)
+
   -- and its pair leaves from its place
-  pub taken_there : (new : Slots (Inner K A) (Leaf K V)) (pair : K × V) (top : NodeId) (top_height : ℕ) (a : A) (place : ℕ) → slice_get (leaf_pairs (old.leaf leaf.0)) slot ≡ slice_get (pairs_at old h root) place → IsTakenFrom cmp is_summary old new h root leaf slot pair_there.0.0 pair top top_height a → IsTakenAt cmp is_summary old new h root place pair top top_height a
-  taken_there new pair top top_height a place at taken =
-      let both : Some pair ≡ Some pair_there.0 = sym taken.pair_was ∙ pair_there.1 in
-      let same : pair ≡ pair_there.0 = cc in
-      taken_at total is_summary old new h root shape leaf slot pair_there.0.0 pair top top_height a place taken (ap (λ (p : K × V). cmp p.0 pair_there.0.0) same ∙ alike total pair_there.0.0) (sym at ∙ taken.pair_was)
+  pub left_there : (pair : K × V) (new : List (K × V)) (place : ℕ) → slice_get (leaf_pairs (old.leaf leaf.0)) slot ≡ slice_get (pairs_at old h root) place → slice_get (leaf_pairs (old.leaf leaf.0)) slot ≡ Some pair → cmp pair.0 pair_there.0.0 ≡ Equal → new ≡ del cmp (pairs_at old h root) pair_there.0.0
+      → LeftAt (pairs_at old h root) new place pair
+  left_there pair new place at was equal is =
+      let all = tree_ascends total old (root_least h) h root None None shape.tree in
+      (sym at ∙ was, is ∙ sym (deleted_by total (pairs_at old h root) place pair pair_there.0.0 all (sym at ∙ was) equal))

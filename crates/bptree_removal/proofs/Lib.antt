@@ -1,5 +1,6 @@
 pub mod Deleted
 pub mod EndPaths
+pub mod OneFewer
 pub mod Removals
 pub mod RemovedLeaf
 pub mod ShrunkRoot

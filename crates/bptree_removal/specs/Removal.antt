@@ -13,8 +13,9 @@ use Rattle.bptree_keys.specs.declared.node_id.LeafNodeId.{LeafNodeId}
 use Rattle.bptree_keys.specs.declared.node_id.NodeId.{NodeId}
 use Rattle.bptree_keys.specs.declared.node_id.NodeId.TheVariants as kind
 use Rattle.bptree_shape.specs.Leaves.{IsLeafFor}
+use Rattle.bptree_shape.specs.NodeTree.{NodeTree}
 use Rattle.bptree_shape.specs.Path.{Way}
-use Rattle.bptree_descents.specs.ByArgument.{GoesOn, IsWithdrawn}
+use Rattle.bptree_descents.specs.ByArgument.{GoesOn}
 use Rattle.bptree_shape.specs.Shape.{leaf_pairs, pairs_at, IsWellShaped}
 use Rattle.bptree_rebalancing.specs.Trim.{IsLoose}
 use Rattle.bptree_removal.specs.declared.removal.Removed.{Removed}
@@ -112,16 +113,31 @@ module _ {K V A : Type 0} (cmp : K → K → Ordering) (is_summary : A → List 
       TakesEntry path leaf slot done =
           (k : K) → IsEntryAt cmp is_summary old height root path leaf slot k → IfOk done (λ r. IsEntryTaken cmp is_summary old new height root k r.value r.root r.height r.summary)
 
-      -- the pair with a key left the tree, or no key equals it and nothing changed
-      abbrev pub RemovesEntry : K → Option (Removed (K × V) A) → Type 0
-      RemovesEntry k gone = MatchOption gone ((new ≡ old) × (has cmp (pairs_at old height root) k ≡ false)) (λ r. IsEntryTaken cmp is_summary old new height root k r.value r.root r.height r.summary)
+module _ {S K V A : Type 0} (slots : S → Slots (Inner K A) (Leaf K V)) (cmp : K → K → Ordering) (is_summary : A → List K → Type 0) where
+  -- a key stands at a slot of the only leaf of a tree that can hold it, at the end of a path
+  abbrev pub IsEntryIn : NodeTree S K V A → List (InnerNodeId × ℕ × NodeId) → K → LeafNodeId × ℕ → Type 0
+  IsEntryIn tree path k at = IsEntryAt cmp is_summary (slots tree.store) tree.height tree.root path at.0 at.1 k
 
-      -- the first pair left, or the last one, or there was none and nothing changed
-      abbrev pub RemovesEnd : Bool → Option (Removed (K × V) A) → Type 0
-      RemovesEnd is_last gone =
-          MatchOption gone ((new ≡ old) × (pairs_at old height root ≡ [])) (λ r. IsTakenAt cmp is_summary old new height root (cond is_last (length (pairs_at old height root) - 1) 0) r.value r.root r.height r.summary)
+  -- where a call was not refused, the pair that stood there left the tree
+  abbrev pub TakesAt : {E : Type 0} → NodeTree S K V A → NodeTree S K V A → List (InnerNodeId × ℕ × NodeId) → LeafNodeId × ℕ → Result (K × V) E → Type 0
+  TakesAt old new path at done =
+      (k : K) → IsEntryIn old path k at → IfOk done (λ pair. (slice_get (leaf_pairs ((slots old.store).leaf at.0.0)) at.1 ≡ Some pair) × (cmp pair.0 k ≡ Equal) × (new.contents ≡ del cmp old.contents k))
 
-      -- the pair at a place that is allowed for a query left, or none is allowed and nothing changed
-      abbrev pub RemovesSelected : {Q : Type 0} → (Q → List K → Option ℕ → Type 0) → Q → Option (Removed (K × V) A) → Type 0
-      RemovesSelected selects query gone =
-          MatchOption gone ((new ≡ old) × selects query (keys_of (pairs_at old height root)) None) (λ r. IsWithdrawn selects query cmp is_summary old new height root r.value r.root r.height r.summary)
+-- the member at a place left a list
+abbrev pub LeftAt : {X : Type 0} → List X → List X → ℕ → X → Type 0
+LeftAt old new place x = (slice_get old place ≡ Some x) × (new ≡ remove old place)
+
+module _ {K V : Type 0} (old new : List (K × V)) where
+  -- the pair with a key left, or no key equals it and nothing changed
+  abbrev pub RemovesKey : (K → K → Ordering) → K → Option (K × V) → Type 0
+  RemovesKey cmp k gone =
+      MatchOption gone ((has cmp old k ≡ false) × (new ≡ old)) (λ pair. (place : ℕ) × (slice_get old place ≡ Some pair) × (cmp pair.0 k ≡ Equal) × (new ≡ del cmp old k))
+
+  -- the first pair left, or the last one, or there was none and nothing changed
+  abbrev pub RemovesEnd : Bool → Option (K × V) → Type 0
+  RemovesEnd is_last gone = MatchOption gone ((old ≡ []) × (new ≡ old)) (LeftAt old new (cond is_last (length old - 1) 0))
+
+  -- the pair at a place that is allowed for a query left, or none is allowed and nothing changed
+  abbrev pub RemovesSelected : {Q : Type 0} → (Q → List K → Option ℕ → Type 0) → Q → Option (K × V) → Type 0
+  RemovesSelected selects query gone =
+      MatchOption gone (selects query (keys_of old) None × (new ≡ old)) (λ pair. (place : ℕ) × selects query (keys_of old) (Some place) × LeftAt old new place pair)

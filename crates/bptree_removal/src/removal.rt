@@ -1,12 +1,13 @@
 //! Removal from a tree that stands in a store.
-ghost use Rattle.std.specs.Prelude.{◌≡◌, ◌<◌, ◌≤◌, ◌^◌, IfOk, OnErr, IfSome, Some, length, slice_get, [], Ok, None};
+ghost use Rattle.std.specs.Prelude.{◌≡◌, false, ◌<◌, ◌≤◌, ◌^◌, IfOk, OnErr, IfSome, Some, length, slice_get, [], Ok, None};
 ghost use Rattle.std.specs.Option.{is_some};
 ghost use Rattle.bptree_keys.specs.Contents.{has};
 ghost use Rattle.bptree_nodes.specs.Slot.{IsPresent};
 ghost use Rattle.bptree_ascent.specs.LeafChange.{SumsUpLeafAt};
-ghost use Rattle.bptree_shape.specs.Shape.{leaf_pairs, pairs_at, IsWellShaped, LacksKey};
+ghost use Rattle.bptree_shape.specs.NodeTree.{IsUntouched, IsWhole};
+ghost use Rattle.bptree_shape.specs.Shape.{leaf_pairs, pairs_at, IsWellShaped};
 ghost use Rattle.bptree_rebalancing.specs.Trim.{LeafUnderflow, IsLoose, Trims};
-ghost use Rattle.bptree_removal.specs.Removal.{IsFound, IsEntryAt, NoPairIn, HasPair, HasSpare, KeepsPairs, PutsPairBack, RemovesEnd, RemovesEntry, RemovesSelected, TakesEntry, TakesFound, TakesOut, TakesPair};
+ghost use Rattle.bptree_removal.specs.Removal.{IsFound, IsEntryAt, IsEntryIn, NoPairIn, HasPair, HasSpare, KeepsPairs, PutsPairBack, RemovesEnd, RemovesKey, RemovesSelected, TakesAt, TakesEntry, TakesFound, TakesOut, TakesPair};
 
 use crate::ends::end_path;
 use bptree_arguments::argument::{Argument, SearchArgument};
@@ -22,16 +23,17 @@ use bptree_rebalancing::siblings::{
 use bptree_rebalancing::statistics::Statistic;
 use bptree_rebalancing::underflow::{ascend_underflow, leaf_sibling, leaves_at};
 use bptree_shape::descent::{end_place, find_path};
+use bptree_shape::nodes::Nodes;
 use bptree_stores::node_stores::NodeStore;
 use std::alloc::AllocError;
 
-/// A value, or a pair, that left a tree, with the root, the height, and a summary of all keys.
+// A value, or a pair, that left a tree, with the root, the height, and a summary of all keys.
 #[derive(Drop)]
-pub struct Removed<V, A> {
-    pub value: V,
-    pub root: NodeId,
-    pub height: usize,
-    pub summary: A,
+struct Removed<V, A> {
+    value: V,
+    root: NodeId,
+    height: usize,
+    summary: A,
 }
 
 // Rebalances a leaf that underflowed, at a place of a node: it rotates a pair or merges with its
@@ -192,9 +194,9 @@ fn shrink_root<S: NodeStore>(store: &mut S, root: NodeId, height: usize) -> (Nod
     (child, height - 1)
 }
 
-/// The leaf and the slot of the key that equals `k` in a whole tree, where there is one, and at the
-/// end of the path the way there. It takes no memory. What the path held before plays no part.
-pub fn find_entry<S: NodeStore>(
+// The leaf and the slot of the key that equals `k` below a root, where there is one, and at the end
+// of the path the way there.
+fn find_below<S: NodeStore>(
     store: &S,
     path: &mut VisitStack,
     root: NodeId,
@@ -216,9 +218,8 @@ pub fn find_entry<S: NodeStore>(
     }
 }
 
-/// Takes the pair at a slot of the leaf at the end of a path out of a whole tree. `find_entry`
-/// answers the leaf and the slot, and leaves such a path. A refusal changes no slot.
-pub fn take_entry<S: NodeStore>(
+// Takes the pair at a slot of the leaf at the end of a path out of the tree below a root.
+fn take_below<S: NodeStore>(
     store: &mut S,
     path: &mut VisitStack,
     root: NodeId,
@@ -242,83 +243,116 @@ pub fn take_entry<S: NodeStore>(
     })
 }
 
-/// Removes the pair with a key equal to `k` from a whole tree, where there is one, and hands it out
-/// with the key that stood there. It takes no memory where there is none; a refusal changes no
-/// slot. What the path held before plays no part: it is lent, so that none need be made.
-pub fn remove_entry<S: NodeStore>(
-    store: &mut S,
+/// The leaf and the slot of the key that equals `k` in a tree, where there is one, and at the end of
+/// the path the way there. It takes no memory. What the path held before plays no part.
+pub fn find_entry<S: NodeStore>(
+    tree: &Nodes<S>,
     path: &mut VisitStack,
-    root: NodeId,
-    height: usize,
+    k: &S::K,
+) -> Option<(LeafNodeId, usize)>
+    ensures way { IfSome result (IsEntryIn S.slots S.K.cmp S.Argument.is_summary tree.now path.new k.now) }
+    ensures there { is_some result ≡ has S.K.cmp tree.now.contents k.now }
+{
+    // Read, so that it is known to fit.
+    let _len = tree.len;
+    find_below(&tree.store, path, tree.root, tree.height, k)
+}
+
+/// Takes the pair at a slot of the leaf at the end of a path out of a tree. `find_entry` answers
+/// the leaf and the slot, and leaves such a path. A refusal changes no slot.
+pub fn take_entry<S: NodeStore>(
+    tree: &mut Nodes<S>,
+    path: &mut VisitStack,
+    at: (LeafNodeId, usize),
+    statistic: &mut Statistic,
+) -> Result<(S::K, S::V), AllocError>
+    requires { (k : S.K) × IsEntryIn S.slots S.K.cmp S.Argument.is_summary tree.old path.old k at }
+    ensures taken { TakesAt S.slots S.K.cmp S.Argument.is_summary tree.old tree.new path.old at result }
+    ensures whole { IsWhole S.K.cmp S.Argument.is_summary S.slots tree.new }
+    ensures refused { OnErr result (IsUntouched S.slots tree.new tree.old) }
+{
+    let gone = take_below(
+        &mut tree.store,
+        path,
+        tree.root,
+        tree.height,
+        at.0,
+        at.1,
+        statistic,
+    )?;
+    tree.root = gone.root;
+    tree.height = gone.height;
+    tree.len -= 1;
+    tree.summary = gone.summary;
+    Ok(gone.value)
+}
+
+/// Removes the pair with a key equal to `k` from a tree, where there is one, and hands it out with
+/// the key that stood there. It takes no memory where there is none; a refusal changes no slot.
+/// What the path held before plays no part: it is lent, so that none need be made.
+pub fn remove_entry<S: NodeStore>(
+    tree: &mut Nodes<S>,
+    path: &mut VisitStack,
     k: &S::K,
     statistic: &mut Statistic,
-) -> Result<Option<Removed<(S::K, S::V), S::Argument>>, AllocError>
-    requires shape { IsWellShaped S.K.cmp S.Argument.is_summary (S.slots store.old) height root }
-    requires few { length (pairs_at (S.slots store.old) height root) < 2 ^ 64 }
-    ensures removed { IfOk result (RemovesEntry S.K.cmp S.Argument.is_summary (S.slots store.old) (S.slots store.new) height root k.now) }
-    ensures absent { LacksKey S.K.cmp (S.slots store.old) height root k.now → result ≡ Ok None }
-    ensures refused { OnErr result (S.slots store.new ≡ S.slots store.old) }
+) -> Result<Option<(S::K, S::V)>, AllocError>
+    ensures removed { IfOk result (RemovesKey tree.old.contents tree.new.contents S.K.cmp k.now) }
+    ensures absent { has S.K.cmp tree.old.contents k.now ≡ false → result ≡ Ok None }
+    ensures whole { IsWhole S.K.cmp S.Argument.is_summary S.slots tree.new }
+    ensures untouched { has S.K.cmp tree.old.contents k.now ≡ false → IsUntouched S.slots tree.new tree.old }
+    ensures refused { OnErr result (IsUntouched S.slots tree.new tree.old) }
 {
-    match find_entry(store, path, root, height, k) {
-        Some((leaf, slot)) => {
-            let gone = take_entry(store, path, root, height, leaf, slot, statistic)?;
-            Ok(Some(gone))
-        }
+    // Read, so that the tree is known to be right.
+    let _len = tree.len();
+    match find_entry(tree, path, k) {
+        Some(at) => Ok(Some(take_entry(tree, path, at, statistic)?)),
         None => Ok(None),
     }
 }
 
-/// Removes the pair with the least key from a whole tree, or the one with the greatest, where there
-/// is one, and hands it out. No key is compared or cloned on the way down. It takes no memory where
+/// Removes the pair with the least key from a tree, or the one with the greatest, where there is
+/// one, and hands it out. No key is compared or cloned on the way down. It takes no memory where
 /// there is none; a refusal changes no slot. The path is lent as to `remove_entry`.
 pub fn remove_end<S: NodeStore>(
-    store: &mut S,
+    tree: &mut Nodes<S>,
     path: &mut VisitStack,
-    root: NodeId,
-    height: usize,
     is_last: bool,
     statistic: &mut Statistic,
-) -> Result<Option<Removed<(S::K, S::V), S::Argument>>, AllocError>
-    requires shape { IsWellShaped S.K.cmp S.Argument.is_summary (S.slots store.old) height root }
-    requires few { length (pairs_at (S.slots store.old) height root) < 2 ^ 64 }
-    ensures removed { IfOk result (RemovesEnd S.K.cmp S.Argument.is_summary (S.slots store.old) (S.slots store.new) height root is_last) }
-    ensures empty { pairs_at (S.slots store.old) height root ≡ [] → result ≡ Ok None }
-    ensures refused { OnErr result (S.slots store.new ≡ S.slots store.old) }
+) -> Result<Option<(S::K, S::V)>, AllocError>
+    ensures removed { IfOk result (RemovesEnd tree.old.contents tree.new.contents is_last) }
+    ensures empty { tree.old.contents ≡ [] → result ≡ Ok None }
+    ensures whole { IsWhole S.K.cmp S.Argument.is_summary S.slots tree.new }
+    ensures untouched { tree.old.contents ≡ [] → IsUntouched S.slots tree.new tree.old }
+    ensures refused { OnErr result (IsUntouched S.slots tree.new tree.old) }
 {
     path.clear();
-    let leaf = end_path(store, root, height, is_last, path);
-    let len = store.get_leaf(leaf).len();
+    let leaf = end_path(&tree.store, tree.root, tree.height, is_last, path);
+    let len = tree.store.get_leaf(leaf).len();
     if len == 0 {
         return Ok(None);
     }
     let slot = end_place(len, is_last);
-    let gone = take_entry(store, path, root, height, leaf, slot, statistic)?;
-    Ok(Some(gone))
+    Ok(Some(take_entry(tree, path, (leaf, slot), statistic)?))
 }
 
-/// Removes the pair at a place that is allowed for the query from a whole tree, where one is found;
-/// a refusal changes no slot. The path is lent as to `remove_entry`.
+/// Removes the pair at a place that is allowed for the query from a tree, where one is found; a
+/// refusal changes no slot. The path is lent as to `remove_entry`.
 pub fn remove_by_argument<S: NodeStore>(
-    store: &mut S,
+    tree: &mut Nodes<S>,
     path: &mut VisitStack,
-    root: NodeId,
-    height: usize,
     query: <S::Argument as SearchArgument<S::K>>::Query,
     statistic: &mut Statistic,
-) -> Result<Option<Removed<(S::K, S::V), S::Argument>>, AllocError>
+) -> Result<Option<(S::K, S::V)>, AllocError>
 where
     S::Argument: SearchArgument<S::K>,
-    requires shape { IsWellShaped S.K.cmp S.Argument.is_summary (S.slots store.old) height root }
-    requires few { length (pairs_at (S.slots store.old) height root) < 2 ^ 64 }
-    ensures removed { IfOk result (RemovesSelected S.K.cmp S.Argument.is_summary (S.slots store.old) (S.slots store.new) height root S.Argument.selects query) }
-    ensures refused { OnErr result (S.slots store.new ≡ S.slots store.old) }
+    ensures removed { IfOk result (RemovesSelected tree.old.contents tree.new.contents S.Argument.selects query) }
+    ensures whole { IsWhole S.K.cmp S.Argument.is_summary S.slots tree.new }
+    ensures untouched { result ≡ Ok None → IsUntouched S.slots tree.new tree.old }
+    ensures refused { OnErr result (IsUntouched S.slots tree.new tree.old) }
 {
     path.clear();
-    match find_path_by_argument(store, root, height, query, path)? {
+    match find_path_by_argument(&tree.store, tree.root, tree.height, query, path)? {
         None => Ok(None),
-        Some((leaf, slot)) => {
-            let gone = take_entry(store, path, root, height, leaf, slot, statistic)?;
-            Ok(Some(gone))
-        }
+        Some(at) => Ok(Some(take_entry(tree, path, at, statistic)?)),
     }
 }

@@ -13,4 +13,5 @@ pub mod Remembered
 pub mod Spot
 pub mod Walk
 pub mod Ways
+pub mod Whole
 pub mod Widen

@@ -1,5 +1,6 @@
 pub mod Edit
 pub mod Leaves
+pub mod NodeTree
 pub mod Order
 pub mod Outcome
 pub mod Path

@@ -89,7 +89,7 @@ fn end_leaf<S: NodeStore>(store: &S, id: NodeId, height: usize, is_last: bool) -
 }
 
 /// The first leaf of the tree of a height under a number.
-pub fn first_leaf<S: NodeStore>(store: &S, id: NodeId, height: usize) -> LeafNodeId
+pub(crate) fn first_below<S: NodeStore>(store: &S, id: NodeId, height: usize) -> LeafNodeId
     requires { Stands S.K.cmp (S.slots store.now) height id }
     ensures { IsFirstLeaf (S.slots store.now) height id result }
 {
@@ -97,7 +97,7 @@ pub fn first_leaf<S: NodeStore>(store: &S, id: NodeId, height: usize) -> LeafNod
 }
 
 /// The last leaf of the tree of a height under a number.
-pub fn last_leaf<S: NodeStore>(store: &S, id: NodeId, height: usize) -> LeafNodeId
+pub(crate) fn last_below<S: NodeStore>(store: &S, id: NodeId, height: usize) -> LeafNodeId
     requires { Stands S.K.cmp (S.slots store.now) height id }
     ensures { IsLastLeaf (S.slots store.now) height id result }
 {

@@ -3,4 +3,5 @@
 #![tactic(auto)]
 
 pub mod descent;
+pub mod nodes;
 pub mod reading;

@@ -1,101 +1,104 @@
-//! Reads of a tree that stands in a store.
-ghost use Rattle.std.specs.Prelude.{◌≡◌, ◌+◌, ◌*◌, ◌≤◌, Some, slice_get};
+//! Reads of the nodes of a tree.
+ghost use Rattle.std.specs.Prelude.{◌≡◌, ◌+◌, ◌*◌, ◌≤◌, length, slice_get};
 ghost use Rattle.std.specs.Option.{option_copied, option_map};
-ghost use Rattle.bptree_keys.specs.Contents.{last_member};
-ghost use Rattle.bptree_shape.specs.Leaves.{Stands, IsLeafFor};
-ghost use Rattle.bptree_shape.specs.Shape.{pairs_at, IsWellShaped, value_in};
-ghost use Rattle.std.specs.Map.Iter.{deref_pair as shown};
+ghost use Rattle.std.specs.Map.Iter.{deref_pair};
+ghost use Rattle.bptree_keys.specs.Contents.{IsAscending, last_member, value};
+ghost use Rattle.bptree_shape.specs.NodeTree.{BeginsWith, EndsWith, IsWhole, LeadsTo};
 
-use crate::descent::{find_leaf_counted, first_leaf, last_leaf};
+use crate::descent::{find_leaf_counted, first_below, last_below};
+use crate::nodes::Nodes;
 use bptree_keys::compares::Compares;
-use bptree_keys::node_id::{LeafNodeId, NodeId};
+use bptree_keys::node_id::LeafNodeId;
 use bptree_stores::node_stores::NodeStore;
 
-/// The leaf that a key belongs to: the remembered one where it is that, else it is searched for
-/// from the root.
-///
-/// The leaf is then remembered.
-#[inline(always)]
-pub fn leaf_for<S: NodeStore>(store: &S, root: NodeId, height: usize, key: &S::K) -> LeafNodeId
-    requires { IsWellShaped S.K.cmp S.Argument.is_summary (S.slots store.now) height root }
-    ensures { IsLeafFor S.K.cmp (S.slots store.now) height root key.now result }
-{
-    leaf_for_counted(store, root, height, key, &mut Compares::new())
-}
-
-/// The same as `leaf_for`, with its comparisons counted. Where the leaf was searched for, the next
-/// search is taken to be one in it.
-#[inline(always)]
-pub fn leaf_for_counted<S: NodeStore>(
-    store: &S,
-    root: NodeId,
-    height: usize,
-    key: &S::K,
-    compares: &mut Compares,
-) -> LeafNodeId
-    requires { IsWellShaped S.K.cmp S.Argument.is_summary (S.slots store.now) height root }
-    ensures leaf { IsLeafFor S.K.cmp (S.slots store.now) height root key.now result }
-    ensures counts_on { compares.old ≤ compares.new }
-    ensures count { compares.new ≤ compares.old + (7 * height + S.HINT_COMPARES) }
-{
-    if let Some(leaf) = store.try_cache_counted(key, compares) {
-        return leaf;
+impl<S: NodeStore> Nodes<S> {
+    /// The number of pairs.
+    pub fn len(&self) -> usize
+        ensures value { result ≡ length self.now.contents }
+        ensures ascending { IsAscending S.K.cmp self.now.contents }
+        ensures whole { IsWhole S.K.cmp S.Argument.is_summary S.slots self.now }
+    {
+        self.len
     }
-    let leaf = find_leaf_counted(store, root, height, key, compares);
-    compares.go_below(height);
-    store.cache_leaf(leaf);
-    leaf
-}
 
-/// The value at a key.
-#[inline(always)]
-pub fn get<'a, S: NodeStore>(
-    store: &'a S,
-    root: NodeId,
-    height: usize,
-    key: &S::K,
-) -> Option<&'a S::V>
-    requires { IsWellShaped S.K.cmp S.Argument.is_summary (S.slots store.now) height root }
-    ensures { option_copied result ≡ value_in S.K.cmp (S.slots store.now) height root key.now }
-{
-    get_counted(store, root, height, key, &mut Compares::new())
-}
+    /// The leaf that a key belongs to: the remembered one where it is that, else it is searched for
+    /// from the root.
+    ///
+    /// The leaf is then remembered.
+    #[inline(always)]
+    pub fn leaf_for(&self, key: &S::K) -> LeafNodeId
+        ensures { LeadsTo S.slots self.now S.K.cmp key.now result }
+    {
+        self.leaf_for_counted(key, &mut Compares::new())
+    }
 
-/// The same as `get`, with its comparisons counted.
-#[inline(always)]
-pub fn get_counted<'a, S: NodeStore>(
-    store: &'a S,
-    root: NodeId,
-    height: usize,
-    key: &S::K,
-    compares: &mut Compares,
-) -> Option<&'a S::V>
-    requires { IsWellShaped S.K.cmp S.Argument.is_summary (S.slots store.now) height root }
-    ensures value { option_copied result ≡ value_in S.K.cmp (S.slots store.now) height root key.now }
-    ensures counts_on { compares.old ≤ compares.new }
-    ensures count { compares.new ≤ compares.old + (7 * (height + 1) + S.HINT_COMPARES) }
-{
-    let leaf = leaf_for_counted(store, root, height, key, compares);
-    let (_, value) = store
-        .get_leaf(leaf)
-        .locate_slot_with_value_counted(key, compares);
-    value
-}
+    /// The same as `leaf_for`, with its comparisons counted. Where the leaf was searched for, the
+    /// next search is taken to be one in it.
+    #[inline(always)]
+    pub fn leaf_for_counted(&self, key: &S::K, compares: &mut Compares) -> LeafNodeId
+        ensures leaf { LeadsTo S.slots self.now S.K.cmp key.now result }
+        ensures counts_on { compares.old ≤ compares.new }
+        ensures count { compares.new ≤ compares.old + (7 * self.now.height + S.HINT_COMPARES) }
+    {
+        if let Some(leaf) = self.store.try_cache_counted(key, compares) {
+            return leaf;
+        }
+        let leaf = find_leaf_counted(&self.store, self.root, self.height, key, compares);
+        compares.go_below(self.height);
+        self.store.cache_leaf(leaf);
+        leaf
+    }
 
-/// The pair with the least key.
-pub fn first<S: NodeStore>(store: &S, root: NodeId, height: usize) -> Option<(&S::K, &S::V)>
-    requires { IsWellShaped S.K.cmp S.Argument.is_summary (S.slots store.now) height root }
-    ensures { option_map shown result ≡ slice_get (pairs_at (S.slots store.now) height root) 0 }
-{
-    let leaf = first_leaf(store, root, height);
-    store.get_leaf(leaf).try_data_at(0)
-}
+    /// The value at a key.
+    #[inline(always)]
+    pub fn get(&self, key: &S::K) -> Option<&S::V>
+        ensures { option_copied result ≡ value S.K.cmp self.now.contents key.now }
+    {
+        self.get_counted(key, &mut Compares::new())
+    }
 
-/// The pair with the greatest key.
-pub fn last<S: NodeStore>(store: &S, root: NodeId, height: usize) -> Option<(&S::K, &S::V)>
-    requires { IsWellShaped S.K.cmp S.Argument.is_summary (S.slots store.now) height root }
-    ensures { option_map shown result ≡ last_member (pairs_at (S.slots store.now) height root) }
-{
-    let leaf = store.get_leaf(last_leaf(store, root, height));
-    leaf.try_data_at(leaf.len().saturating_sub(1))
+    /// The same as `get`, with its comparisons counted.
+    #[inline(always)]
+    pub fn get_counted<'a>(&'a self, key: &S::K, compares: &mut Compares) -> Option<&'a S::V>
+        ensures value { option_copied result ≡ value S.K.cmp self.now.contents key.now }
+        ensures counts_on { compares.old ≤ compares.new }
+        ensures count { compares.new ≤ compares.old + (7 * (self.now.height + 1) + S.HINT_COMPARES) }
+    {
+        let leaf = self.leaf_for_counted(key, compares);
+        let (_, value) = self
+            .store
+            .get_leaf(leaf)
+            .locate_slot_with_value_counted(key, compares);
+        value
+    }
+
+    /// The first leaf.
+    pub fn first_leaf(&self) -> LeafNodeId
+        ensures { BeginsWith S.slots self.now result }
+    {
+        first_below(&self.store, self.root, self.height)
+    }
+
+    /// The last leaf.
+    pub fn last_leaf(&self) -> LeafNodeId
+        ensures { EndsWith S.slots self.now result }
+    {
+        last_below(&self.store, self.root, self.height)
+    }
+
+    /// The pair with the least key.
+    pub fn first(&self) -> Option<(&S::K, &S::V)>
+        ensures { option_map deref_pair result ≡ slice_get self.now.contents 0 }
+    {
+        let leaf = self.first_leaf();
+        self.store.get_leaf(leaf).try_data_at(0)
+    }
+
+    /// The pair with the greatest key.
+    pub fn last(&self) -> Option<(&S::K, &S::V)>
+        ensures { option_map deref_pair result ≡ last_member self.now.contents }
+    {
+        let leaf = self.store.get_leaf(self.last_leaf());
+        leaf.try_data_at(leaf.len().saturating_sub(1))
+    }
 }

@@ -5,9 +5,9 @@ pub mod EndLemmas
 pub mod EntryLemmas
 pub mod Heights
 pub mod LentAt
-pub mod OneFewer
 pub mod PartSpans
 pub mod RangeRemovalLemmas
+pub mod Removed
 pub mod Spans
 pub mod Started
 pub mod UpdateLemmas

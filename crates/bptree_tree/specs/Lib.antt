@@ -4,6 +4,7 @@ pub mod Cursor
 pub mod Entries
 pub mod RangeRemoval
 pub mod Refusal
+pub mod NodeRows
 pub mod Rows
 pub mod Selected
 pub mod Updating

@@ -1,29 +1,16 @@
 -- What holds of each tree that a call leaves.
 use Rattle.std.specs.Prelude.{◌≡◌, List}
 use Rattle.std.specs.declared.cmp.Ordering.{Ordering}
-use Rattle.std.specs.Map.{keys_of}
 use Rattle.bptree_nodes.specs.Inner.{Inner}
 use Rattle.bptree_nodes.specs.Leaf.{Leaf}
 use Rattle.bptree_nodes.specs.Slot.{Slots}
-use Rattle.bptree_ascent.specs.NodeTree.{NodeTree}
+use Rattle.bptree_shape.specs.NodeTree.{NodeTree}
+pub use Rattle.bptree_shape.specs.NodeTree.{IsUntouched, IsWhole}
 use Rattle.bptree_shape.specs.Shape.{pairs_at, IsWellShaped}
 use Rattle.std.specs.List.{AllZip}
 use Rattle.std.specs.declared.cmp.Ordering.TheVariants.{Equal}
 use Rattle.bptree_nodes.specs.Clones.{IsInnerClone, IsLeafClone}
 use Rattle.bptree_stores.specs.Clones.{IsSlotsClone}
-
--- the nodes of its store are those of one right tree of its height and root, the contents are the pairs of that tree, and
--- its root's argument is a summary of their keys
-pub record IsWhole {S K V A : Type 0} (cmp : K → K → Ordering) (is_summary : A → List K → Type 0) (slots : S → Slots (Inner K A) (Leaf K V)) (tree : NodeTree S K V A) : Type 0 where
-  pub shape : IsWellShaped cmp is_summary (slots tree.store) tree.height tree.root
-  pub contents : tree.contents ≡ pairs_at (slots tree.store) tree.height tree.root
-  pub summary : is_summary tree.root_argument (keys_of tree.contents)
-
--- one tree is what another was: what stands under each number of its store, its root, its height, its root's argument and
--- its contents
-abbrev pub IsUntouched : {S K V A : Type 0} → (S → Slots (Inner K A) (Leaf K V)) → NodeTree S K V A → NodeTree S K V A → Type 0
-IsUntouched slots new old = (slots new.store ≡ slots old.store) × (new.root ≡ old.root) × (new.height ≡ old.height)
-    × (new.root_argument ≡ old.root_argument) × (new.contents ≡ old.contents)
 
 module _ {S K V A : Type 0} (slots : S → Slots (Inner K A) (Leaf K V)) where
   -- the same but for the contents: what stands under each number of its store, its root, its height and its root's argument

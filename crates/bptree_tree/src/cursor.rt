@@ -7,7 +7,7 @@ ghost use Rattle.bptree_tree.specs.Cursor.{cursor_key, StandsAfter, StandsBefore
 
 use crate::tree::BPlusTree;
 use bptree_keys::key::Key;
-use bptree_keys::node_id::LeafNodeId;
+use bptree_shape::nodes::Position;
 use bptree_stores::node_stores::NodeStore;
 use std::alloc::AllocError;
 
@@ -20,21 +20,18 @@ use std::alloc::AllocError;
 #[derive(Clone, Copy, Debug, Drop)]
 pub struct Cursor<K> {
     key: K,
-    leaf: LeafNodeId,
-    offset: usize,
+    place: Position,
 }
 
 impl<K: Key> Cursor<K> {
     // A cursor on a clone of a key, which remembers a place.
-    pub(crate) fn at(place: (LeafNodeId, usize), key: &K) -> Result<Self, AllocError>
+    pub(crate) fn at(place: Position, key: &K) -> Result<Self, AllocError>
         ensures cursor { IfOk result (λ cursor. K.cmp (cursor_key cursor) key.now ≡ Equal) }
         ensures sure { K.is_infallible key.now → IsOk result }
     {
-        let (leaf, offset) = place;
         Ok(Cursor {
             key: key.clone()?,
-            leaf,
-            offset,
+            place,
         })
     }
 
@@ -107,7 +104,7 @@ impl<K: Key> Cursor<K> {
         ensures end { pair_after K.cmp tree.now.contents self.now ≡ None → result ≡ Ok None }
         ensures sure { ((key : K) → K.is_infallible key) → IsOk result }
     {
-        tree.cursor_after((self.leaf, self.offset), &self.key)
+        tree.cursor_after(self.place, &self.key)
     }
 
     /// As `prev`, with the value there.
@@ -120,7 +117,7 @@ impl<K: Key> Cursor<K> {
         ensures end { pair_before K.cmp tree.now.contents self.now ≡ None → result ≡ Ok None }
         ensures sure { ((key : K) → K.is_infallible key) → IsOk result }
     {
-        tree.cursor_before((self.leaf, self.offset), &self.key)
+        tree.cursor_before(self.place, &self.key)
     }
 
     /// Whether a key of the tree equals the cursor's. It takes no memory.
@@ -135,6 +132,6 @@ impl<K: Key> Cursor<K> {
     pub fn value<'t, S: NodeStore<K = K>>(&self, tree: &'t BPlusTree<S>) -> Option<&'t S::V>
         ensures { option_copied result ≡ value K.cmp tree.now.contents (cursor_key self.now) }
     {
-        tree.value_near(self.leaf, self.offset, &self.key)
+        tree.value_near(self.place, &self.key)
     }
 }

@@ -14,6 +14,7 @@ mod bounds;
 mod cloning;
 mod cursors;
 mod entries;
+mod lending;
 mod loading;
 mod owning;
 mod places;
@@ -24,15 +25,15 @@ mod removals;
 mod updating;
 
 use crate::InsertError;
-use bptree_insertion::insertion::{Put, is_full, upsert};
+use crate::tree::lending::value_mut;
+use bptree_insertion::insertion::{is_full, upsert};
 use bptree_iteration::iterator::Iter;
 use bptree_iteration::part::{Extent, Part};
 use bptree_keys::compares::Compares;
 use bptree_keys::entry_ref::VisitStack;
 use bptree_keys::node_id::NodeId;
 use bptree_rebalancing::statistics::Statistic;
-use bptree_shape::descent::{first_leaf, last_leaf};
-use bptree_shape::reading;
+use bptree_shape::nodes::Nodes;
 use bptree_stores::node_stores::NodeStore;
 pub use owning::IntoIter;
 use std::alloc::AllocError;
@@ -42,32 +43,32 @@ use std::marker::Model;
 /// store.
 #[derive(Drop)]
 pub struct BPlusTree<S: NodeStore> {
-    store: S,
-    root: NodeId,
-    height: usize,
-    len: usize,
-    root_argument: S::Argument,
+    nodes: Nodes<S>,
     statistic: Statistic,
     // Lent to each change, which begins with none of what it holds.
     path: VisitStack,
 }
 
 impl<S: NodeStore> Model for BPlusTree<S> {
-    ghost use Rattle.std.specs.Prelude.{◌≡◌, length};
-    ghost use Rattle.std.specs.Map.{keys_of};
-    ghost use Rattle.bptree_shape.specs.Shape.{pairs_at, IsWellShaped};
     ghost use Rattle.bptree_ascent.specs.NodeTree.{NodeTree};
 
     ghost Value = { NodeTree S S.K S.V S.Argument };
 
-    ghost view = { λ tree. record { contents = pairs_at (S.slots tree.store) tree.height tree.root; store = tree.store; root = tree.root; height = tree.height; root_argument = tree.root_argument } };
-
-    ghost invariant = { λ tree. IsWellShaped S.K.cmp S.Argument.is_summary (S.slots tree.store) tree.height tree.root
-        × (tree.len ≡ length (pairs_at (S.slots tree.store) tree.height tree.root))
-        × S.Argument.is_summary tree.root_argument (keys_of (pairs_at (S.slots tree.store) tree.height tree.root)) };
+    ghost view = { λ tree. tree.nodes };
 }
 
 impl<S: NodeStore> BPlusTree<S> {
+    // The tree of these nodes. It has counted no rebalanced nodes.
+    pub(crate) fn of_nodes(nodes: Nodes<S>) -> Self
+        ensures { result ≡ nodes }
+    {
+        BPlusTree {
+            nodes,
+            statistic: Statistic::default(),
+            path: VisitStack::new(),
+        }
+    }
+
     /// A tree with no pairs. Its one leaf takes memory.
     pub fn new(mut store: S) -> Result<Self, AllocError>
         requires { IsEmpty (S.slots store) }
@@ -75,15 +76,14 @@ impl<S: NodeStore> BPlusTree<S> {
         ensures whole { IfOk result (IsWhole S.K.cmp S.Argument.is_summary S.slots) }
     {
         let leaf = store.new_empty_leaf()?;
-        Ok(BPlusTree {
+        let nodes = Nodes {
             store,
             root: NodeId::Leaf(leaf),
             height: 0,
             len: 0,
-            root_argument: S::Argument::default(),
-            statistic: Statistic::default(),
-            path: VisitStack::new(),
-        })
+            summary: S::Argument::default(),
+        };
+        Ok(BPlusTree::of_nodes(nodes))
     }
 
     /// The number of pairs.
@@ -91,21 +91,21 @@ impl<S: NodeStore> BPlusTree<S> {
         ensures value { result ≡ length self.now.contents }
         ensures ascending { IsAscending S.K.cmp self.now.contents }
     {
-        self.len
+        self.nodes.len()
     }
 
     /// Whether there are no pairs.
     pub fn is_empty(&self) -> bool
         ensures { IsTrue result ↔ (self.now.contents ≡ []) }
     {
-        self.len == 0
+        self.nodes.len() == 0
     }
 
     /// The value at a key equal to `k`.
     pub fn get(&self, k: &S::K) -> Option<&S::V>
         ensures { option_copied result ≡ value S.K.cmp self.now.contents k.now }
     {
-        reading::get(&self.store, self.root, self.height, k)
+        self.nodes.get(k)
     }
 
     /// The same as `get`, and how many comparisons of keys it made.
@@ -114,7 +114,7 @@ impl<S: NodeStore> BPlusTree<S> {
         ensures count { result.1 ≤ 7 * (self.now.height + 1) + S.HINT_COMPARES }
     {
         let mut compares = Compares::new();
-        let value = reading::get_counted(&self.store, self.root, self.height, k, &mut compares);
+        let value = self.nodes.get_counted(k, &mut compares);
         (value, compares.count())
     }
 
@@ -122,14 +122,14 @@ impl<S: NodeStore> BPlusTree<S> {
     pub fn first(&self) -> Option<(&S::K, &S::V)>
         ensures { option_map deref_pair result ≡ slice_get self.now.contents 0 }
     {
-        reading::first(&self.store, self.root, self.height)
+        self.nodes.first()
     }
 
     /// The pair with the greatest key.
     pub fn last(&self) -> Option<(&S::K, &S::V)>
         ensures { option_map deref_pair result ≡ last_member self.now.contents }
     {
-        reading::last(&self.store, self.root, self.height)
+        self.nodes.last()
     }
 
     /// The pairs in the order of their keys. It takes no memory, and neither do its steps.
@@ -138,18 +138,19 @@ impl<S: NodeStore> BPlusTree<S> {
         ensures ascending { IsAscending S.K.cmp self.now.contents }
         ensures runs { ShowsInOrder (deref_pair {K = S.K} {X = S.V}) }
     {
-        let front = first_leaf(&self.store, self.root, self.height);
-        let back = last_leaf(&self.store, self.root, self.height);
-        let to = self.store.get_leaf(back).len();
+        let nodes = &self.nodes;
+        let front = nodes.first_leaf();
+        let back = nodes.last_leaf();
+        let to = nodes.store.get_leaf(back).len();
         let part = Part {
             front,
             from: 0,
             back,
             to,
-            limit: self.len,
+            limit: nodes.len,
             extent: Extent::Exact,
         };
-        Iter::new(&self.store, part)
+        Iter::new(&nodes.store, part)
     }
 
     /// Puts `v` at `k`, and hands back the value that was there.
@@ -168,26 +169,11 @@ impl<S: NodeStore> BPlusTree<S> {
         ensures whole { IsWhole S.K.cmp S.Argument.is_summary S.slots self.new }
         ensures full { IsRefusedWhereFull S.K.cmp usize.MAX self.old.contents k v result }
     {
-        if is_full(self.len) && self.get(&k).is_none() {
+        if is_full(self.nodes.len()) && self.get(&k).is_none() {
             return Err(InsertError::Full(k, v));
         }
-        match upsert(
-            &mut self.store,
-            &mut self.path,
-            &self.root_argument,
-            self.root,
-            self.height,
-            k,
-            v,
-        ) {
-            Ok(Put::Replaced(was)) => Ok(Some(was)),
-            Ok(Put::Added(root, height, summary)) => {
-                self.root = root;
-                self.height = height;
-                self.len += 1;
-                self.root_argument = summary;
-                Ok(None)
-            }
+        match upsert(&mut self.nodes, &mut self.path, k, v) {
+            Ok(was) => Ok(was),
             Err((k, v)) => Err(InsertError::OutOfMemory(k, v)),
         }
     }
@@ -220,7 +206,8 @@ impl<S: NodeStore> BPlusTree<S> {
         ensures value { result.now ≡ self.now.root_argument }
         ensures summary { S.Argument.is_summary result.now (keys_of self.now.contents) }
     {
-        &self.root_argument
+        let nodes = &self.nodes;
+        &nodes.summary
     }
 
     /// How often nodes that underflowed were rebalanced. A tree that is new, or was just cleared,
@@ -235,14 +222,16 @@ impl<S: NodeStore> BPlusTree<S> {
         ensures shape { HasShape S.slots S.K.cmp S.Argument.is_summary self.now }
         ensures contents { self.now.contents ≡ pairs_of_nodes S.slots self.now }
     {
-        &self.store
+        let nodes = &self.nodes;
+        &nodes.store
     }
 
     /// The number of the root.
     pub fn root_id(&self) -> NodeId
         ensures { result ≡ self.now.root }
     {
-        self.root
+        let nodes = &self.nodes;
+        nodes.root
     }
 
     /// The number of levels of inner nodes.
@@ -251,9 +240,10 @@ impl<S: NodeStore> BPlusTree<S> {
         ensures levels { result ≤ 15 }
         ensures enough { 0 < result → 32 * 17 ^ (result - 1) ≤ length self.now.contents }
     {
+        let nodes = &self.nodes;
         // Read, so that it is known to fit.
-        let _len = self.len;
-        self.height
+        let _len = nodes.len;
+        nodes.height
     }
 }
 
@@ -268,15 +258,6 @@ impl<S: NodeStore> BPlusTree<S> {
         ensures* writes_back { sem 𝓛 (lends_written S.row S.K.row S.V.row S.Argument.row S.NodeStore S.K.Key S.Argument.Argument self.entry k.now result) }
         ensures value { option_copied_mut result ≡ value S.K.cmp self.old.contents k.now }
     {
-        let leaf = reading::leaf_for(&self.store, self.root, self.height, k);
-        let mut compares = Compares::below(self.height);
-        match self
-            .store
-            .get_leaf(leaf)
-            .locate_slot_counted(k, &mut compares)
-        {
-            Ok(slot) => Some(self.store.get_mut_leaf(leaf).value_at_mut(slot)),
-            Err(_) => None,
-        }
+        value_mut(&mut self.nodes, k)
     }
 }

@@ -5,6 +5,7 @@ ghost use Rattle.bptree_keys.specs.Contents.{IsAscending};
 ghost use Rattle.bptree_tree.specs.Entries.{pairs_within};
 
 use crate::tree::BPlusTree;
+use crate::tree::ranges::pairs_from;
 use bptree_iteration::iterator::Iter;
 use bptree_ranges::bounds::part_between_bounds;
 use bptree_stores::node_stores::NodeStore;
@@ -21,7 +22,7 @@ impl<S: NodeStore> BPlusTree<S> {
         ensures ascending { IsAscending S.K.cmp result }
         ensures runs { ShowsInOrder (deref_pair {K = S.K} {X = S.V}) }
     {
-        let part = part_between_bounds(&self.store, self.root, self.height, self.len, lo, hi);
-        self.iter_part(part)
+        let part = part_between_bounds(&self.nodes, lo, hi);
+        pairs_from(&self.nodes, part)
     }
 }

@@ -4,8 +4,7 @@ ghost use Rattle.bptree_tree.specs.Whole.{IsWhole, AreNodesCloned, HasSameRoot, 
 
 use crate::tree::BPlusTree;
 use bptree_arguments::argument::CloneArgument;
-use bptree_keys::entry_ref::VisitStack;
-use bptree_rebalancing::statistics::Statistic;
+use bptree_shape::nodes::Nodes;
 use bptree_stores::node_stores::CloneStore;
 use std::alloc::AllocError;
 
@@ -26,16 +25,16 @@ where
         ensures nodes { IfOk result (AreNodesCloned S.slots S.K.is_clone S.V.is_clone S.Argument.is_clone self.now) }
         ensures shape { IfOk result (HasSameRoot self.now) }
     {
-        let store = self.store.clone()?;
-        let root_argument = self.root_argument.clone()?;
-        Ok(BPlusTree {
+        let nodes = &self.nodes;
+        let store = nodes.store.clone()?;
+        let summary = nodes.summary.clone()?;
+        let copy = Nodes {
             store,
-            root: self.root,
-            height: self.height,
-            len: self.len,
-            root_argument,
-            statistic: Statistic::default(),
-            path: VisitStack::new(),
-        })
+            root: nodes.root,
+            height: nodes.height,
+            len: nodes.len,
+            summary,
+        };
+        Ok(BPlusTree::of_nodes(copy))
     }
 }

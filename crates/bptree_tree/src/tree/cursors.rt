@@ -7,15 +7,11 @@ ghost use Rattle.bptree_tree.specs.Entries.{at_least};
 
 use crate::cursor::Cursor;
 use crate::tree::BPlusTree;
-use bptree_descents::neighbours;
+use bptree_descents::neighbours::{self, Found};
 use bptree_keys::compares::Compares;
-use bptree_keys::node_id::LeafNodeId;
-use bptree_shape::reading;
+use bptree_shape::nodes::Position;
 use bptree_stores::node_stores::NodeStore;
 use std::alloc::AllocError;
-
-// A pair beside the leaf and the slot where it stands, where one was found.
-pub(crate) type Found<'t, K, V> = Option<((LeafNodeId, usize), (&'t K, &'t V))>;
 
 // A cursor and the value at its key, where there is a pair for it.
 pub(crate) type Shown<'t, K, V> = Result<Option<(Cursor<K>, &'t V)>, AllocError>;
@@ -40,13 +36,14 @@ impl<S: NodeStore> BPlusTree<S> {
         ensures cursor { IfOk result (λ answer. IsSomeAnd answer (PointsAtKey S.K.cmp self.now.contents k.now)) }
         ensures sure { S.K.is_infallible k.now → IsOk result }
     {
-        let leaf = reading::leaf_for(&self.store, self.root, self.height, k);
-        let mut compares = Compares::below(self.height);
-        let (offset, value) = self
+        let nodes = &self.nodes;
+        let leaf = nodes.leaf_for(k);
+        let mut compares = Compares::below(nodes.height);
+        let (slot, value) = nodes
             .store
             .get_leaf(leaf)
             .locate_slot_with_value_counted(k, &mut compares);
-        Ok(Some((Cursor::at((leaf, offset), k)?, value)))
+        Ok(Some((Cursor::at(Position { leaf, slot }, k)?, value)))
     }
 
     /// A cursor on the least key that is not below `k`, and the value there. It takes what a clone
@@ -72,8 +69,8 @@ impl<S: NodeStore> BPlusTree<S> {
         ensures end { next S.K.cmp self.now.contents k.now ≡ None → result ≡ Ok None }
         ensures sure { ((key : S.K) → S.K.is_infallible key) → IsOk result }
     {
-        let leaf = reading::leaf_for(&self.store, self.root, self.height, k);
-        self.cursor_after((leaf, 0), k)
+        let leaf = self.nodes.leaf_for(k);
+        self.cursor_after(Position { leaf, slot: 0 }, k)
     }
 
     // A cursor on a clone of the key of a pair that was found, and the value there.
@@ -101,13 +98,13 @@ impl<S: NodeStore> BPlusTree<S> {
         Self::cursor_on(self.last_place())
     }
 
-    pub(crate) fn cursor_after(&self, at: (LeafNodeId, usize), key: &S::K) -> Shown<'_, S::K, S::V>
+    pub(crate) fn cursor_after(&self, at: Position, key: &S::K) -> Shown<'_, S::K, S::V>
         ensures { AnswersNext S.K.cmp S.K.is_infallible self.now.contents key.now result }
     {
         Self::cursor_on(self.place_after(at, key))
     }
 
-    pub(crate) fn cursor_before(&self, at: (LeafNodeId, usize), key: &S::K) -> Shown<'_, S::K, S::V>
+    pub(crate) fn cursor_before(&self, at: Position, key: &S::K) -> Shown<'_, S::K, S::V>
         ensures { AnswersPrevious S.K.cmp S.K.is_infallible self.now.contents key.now result }
     {
         Self::cursor_on(self.place_before(at, key))
@@ -118,19 +115,19 @@ impl<S: NodeStore> BPlusTree<S> {
     fn first_place(&self) -> Found<'_, S::K, S::V>
         ensures { found_pair result ≡ slice_get self.now.contents 0 }
     {
-        neighbours::first_pair(&self.store, self.root, self.height)
+        neighbours::first_pair(&self.nodes)
     }
 
     fn last_place(&self) -> Found<'_, S::K, S::V>
         ensures { found_pair result ≡ last_member self.now.contents }
     {
-        neighbours::last_pair(&self.store, self.root, self.height)
+        neighbours::last_pair(&self.nodes)
     }
 
-    fn place_after(&self, at: (LeafNodeId, usize), key: &S::K) -> Found<'_, S::K, S::V>
+    fn place_after(&self, at: Position, key: &S::K) -> Found<'_, S::K, S::V>
         ensures { found_pair result ≡ next S.K.cmp self.now.contents key.now }
     {
-        neighbours::pair_after(&self.store, self.root, self.height, at.0, at.1, key)
+        neighbours::pair_after(&self.nodes, at, key)
     }
 
     // The pair with the least key that is not below a key.
@@ -143,16 +140,16 @@ impl<S: NodeStore> BPlusTree<S> {
         }
     }
 
-    fn place_before(&self, at: (LeafNodeId, usize), key: &S::K) -> Found<'_, S::K, S::V>
+    fn place_before(&self, at: Position, key: &S::K) -> Found<'_, S::K, S::V>
         ensures { found_pair result ≡ previous S.K.cmp self.now.contents key.now }
     {
-        neighbours::pair_before(&self.store, self.root, self.height, at.0, at.1, key)
+        neighbours::pair_before(&self.nodes, at, key)
     }
 
     // The value at a key, which is tried at a place first.
-    pub(crate) fn value_near(&self, leaf: LeafNodeId, offset: usize, key: &S::K) -> Option<&S::V>
+    pub(crate) fn value_near(&self, at: Position, key: &S::K) -> Option<&S::V>
         ensures { option_copied result ≡ value S.K.cmp self.now.contents key.now }
     {
-        neighbours::value_at(&self.store, self.root, self.height, leaf, offset, key)
+        neighbours::value_at(&self.nodes, at, key)
     }
 }

@@ -7,8 +7,7 @@ ghost use Rattle.std.specs.Map.Iter.{deref_pair};
 
 use crate::tree::BPlusTree;
 use bptree_keys::compares::Compares;
-use bptree_keys::node_id::LeafNodeId;
-use bptree_shape::reading;
+use bptree_shape::nodes::Position;
 use bptree_stores::node_stores::NodeStore;
 
 impl<S: NodeStore> BPlusTree<S> {
@@ -32,18 +31,16 @@ impl<S: NodeStore> BPlusTree<S> {
     // The pair whose key equals `k`, with the leaf and the slot where it stands; else the leaf that
     // can hold the key, and the slot where it would stand.
     #[inline(always)]
-    pub(crate) fn find(
-        &self,
-        k: &S::K,
-    ) -> Result<((LeafNodeId, usize), (&S::K, &S::V)), (LeafNodeId, usize)>
+    pub(crate) fn find(&self, k: &S::K) -> Result<(Position, (&S::K, &S::V)), Position>
         ensures found { IfOk result (IsFoundAt S.K.cmp self.now.contents k.now) }
         ensures absent { IfErr result (λ _. has S.K.cmp self.now.contents k.now ≡ false) }
     {
-        let id = reading::leaf_for(&self.store, self.root, self.height, k);
-        let leaf = self.store.get_leaf(id);
-        match leaf.locate_slot_counted(k, &mut Compares::below(self.height)) {
-            Ok(slot) => Ok(((id, slot), leaf.data_at(slot))),
-            Err(slot) => Err((id, slot)),
+        let nodes = &self.nodes;
+        let id = nodes.leaf_for(k);
+        let leaf = nodes.store.get_leaf(id);
+        match leaf.locate_slot_counted(k, &mut Compares::below(nodes.height)) {
+            Ok(slot) => Ok((Position { leaf: id, slot }, leaf.data_at(slot))),
+            Err(slot) => Err(Position { leaf: id, slot }),
         }
     }
 

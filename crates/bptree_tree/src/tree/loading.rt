@@ -6,9 +6,8 @@ ghost use Rattle.bptree_tree.specs.Whole.{IsWhole};
 
 use crate::tree::BPlusTree;
 use bptree_building::building::{Built, build};
-use bptree_keys::entry_ref::VisitStack;
 use bptree_loading::loading::keep_last_of_each_run;
-use bptree_rebalancing::statistics::Statistic;
+use bptree_shape::nodes::Nodes;
 use bptree_stores::node_stores::NodeStore;
 use std::alloc::AllocError;
 
@@ -36,14 +35,13 @@ impl<S: NodeStore> BPlusTree<S> {
             height,
             summary,
         } = build(&mut store, pairs)?;
-        Ok(BPlusTree {
+        let nodes = Nodes {
             store,
             root,
             height,
             len,
-            root_argument: summary,
-            statistic: Statistic::default(),
-            path: VisitStack::new(),
-        })
+            summary,
+        };
+        Ok(BPlusTree::of_nodes(nodes))
     }
 }

@@ -10,7 +10,7 @@ use crate::chain::Chain;
 use crate::tree::BPlusTree;
 use bptree_nodes::leaf_node::LeafNode;
 use bptree_nodes::leaf_pairs::LeafPairs;
-use bptree_shape::descent::{first_leaf, last_leaf};
+use bptree_shape::nodes::Nodes;
 use bptree_stores::node_stores::NodeStore;
 use std::iter::{ExactSizeIterator, FusedIterator};
 use std::marker::Model;
@@ -48,16 +48,19 @@ impl<S: NodeStore> IntoIter<S> {
         ensures runs_back { GivesInReverse (S.K × S.V) }
     {
         let BPlusTree {
-            store,
-            root,
-            height,
-            len,
-            root_argument: _,
+            nodes,
             statistic: _,
             path: _,
         } = tree;
-        let first = first_leaf(&store, root, height);
-        let last = last_leaf(&store, root, height);
+        let first = nodes.first_leaf();
+        let last = nodes.last_leaf();
+        let Nodes {
+            store,
+            root: _,
+            height: _,
+            len,
+            summary: _,
+        } = nodes;
         let alloc = store.allocator();
         IntoIter {
             leaves: Chain::new(store, first, last, len),

@@ -7,9 +7,10 @@ ghost use Rattle.std.specs.Map.Iter.{deref_pair};
 
 use crate::cursor::Cursor;
 use crate::tree::BPlusTree;
-use crate::tree::cursors::Found;
 use bptree_arguments::argument::SearchArgument;
 use bptree_descents::by_argument;
+use bptree_descents::neighbours::Found;
+use bptree_shape::nodes::Position;
 use bptree_stores::node_stores::NodeStore;
 use std::alloc::AllocError;
 
@@ -41,11 +42,13 @@ impl<S: NodeStore> BPlusTree<S> {
         ensures selected { IfOk result (λ answer. IsSelected S.Argument.selects query self.now.contents (option_map (λ found. deref_pair found.1) answer)) }
         ensures sure { S.Argument.needs_no_memory → IsOk result }
     {
-        // Read, so that it is known to fit.
-        let _len = self.len;
-        match by_argument::find_by_argument(&self.store, self.root, self.height, query)? {
+        let nodes = &self.nodes;
+        match by_argument::find_by_argument(nodes, query)? {
             None => Ok(None),
-            Some(place) => Ok(Some((place, self.store.get_leaf(place.0).data_at(place.1)))),
+            Some((leaf, slot)) => {
+                let pair = nodes.store.get_leaf(leaf).data_at(slot);
+                Ok(Some((Position { leaf, slot }, pair)))
+            }
         }
     }
 }

@@ -10,6 +10,7 @@ ghost use Rattle.bptree_tree.specs.Selected.{LendsSelected, SelectsNone, ShowsSe
 
 use crate::SelectError;
 use crate::tree::BPlusTree;
+use crate::tree::lending::selected_mut;
 use bptree_arguments::argument::{RankArgument, SearchArgument};
 use bptree_arguments::count::Count;
 use bptree_arguments::visit::{DescendError, DescendVisit};
@@ -63,9 +64,7 @@ impl<S: NodeStore> BPlusTree<S> {
         ensures present { IfOk result (λ a. is_ok a ≡ has S.K.cmp self.now.contents k.now) }
         ensures sure { S.Argument.needs_no_memory → IsOk result }
     {
-        // Read, so that it is known to fit.
-        let _len = self.len;
-        by_argument::rank_by_argument(&self.store, self.root, self.height, k)
+        by_argument::rank_by_argument(&self.nodes, k)
     }
 
     /// A summary of the keys that are not below `lo` and are below `hi`, where they are given; of
@@ -82,9 +81,7 @@ impl<S: NodeStore> BPlusTree<S> {
     ) -> Result<S::Argument, AllocError>
         ensures { IfOk result (SumsUpBetween S.Argument.is_summary S.K.cmp self.now.contents lo.entry hi.entry) }
     {
-        // Read, so that it is known to fit.
-        let _len = self.len;
-        summary_between(&self.store, self.root, self.height, lo, hi)
+        summary_between(&self.nodes, lo, hi)
     }
 
     /// A summary of the keys from a place that is allowed for one query on, up to a place that is
@@ -126,9 +123,7 @@ impl<S: NodeStore> BPlusTree<S> {
         ensures answer { IfOk result (λ a. W.answers visitor self.now.contents (answered a)) }
         ensures error { IfErr result (IsAllowedError W.answers visitor self.now.contents) }
     {
-        // Read, so that it is known to fit.
-        let _len = self.len;
-        visiting::descend_visit(&self.store, self.root, self.height, visitor)
+        visiting::descend_visit(&self.nodes, visitor)
     }
 }
 
@@ -154,13 +149,7 @@ impl<S: NodeStore> BPlusTree<S> {
         ensures absent { IfErr result (SelectsNone S.Argument.selects query self.old.contents) }
         ensures sure { S.Argument.needs_no_memory → IsOkUnless result SelectError.NotFound }
     {
-        // Read, so that it is known to fit.
-        let _len = self.len;
-        match by_argument::find_by_argument(&self.store, self.root, self.height, query) {
-            Ok(Some((leaf, slot))) => Ok(self.store.get_mut_leaf(leaf).value_at_mut(slot)),
-            Ok(None) => Err(SelectError::NotFound),
-            Err(_) => Err(SelectError::OutOfMemory),
-        }
+        selected_mut(&mut self.nodes, query)
     }
 }
 
@@ -173,6 +162,7 @@ impl<K: Key, V: Drop> BPlusTree<NodeStoreVec<K, V, Count>> {
     pub fn range_len<'b>(&self, lo: Option<&'b K>, hi: Option<&'b K>) -> usize
         ensures { result ≡ length (pairs_between K.cmp self.now.contents lo.entry hi.entry) }
     {
-        len_between(&self.store, self.root, self.height, self.len, lo, hi)
+        let nodes = &self.nodes;
+        len_between(&nodes.store, nodes.root, nodes.height, nodes.len, lo, hi)
     }
 }

@@ -6,10 +6,39 @@ ghost use Rattle.bptree_tree.specs.Whole.{IsWhole, IsUntouched};
 ghost use Rattle.bptree_tree.specs.Entries.{pairs_between};
 
 use crate::tree::BPlusTree;
+use crate::tree::ranges::pairs_from;
 use bptree_keys::entry_ref::VisitStack;
+use bptree_ranges::ranges::part_between;
+use bptree_rebalancing::statistics::Statistic;
 use bptree_removal::removal;
+use bptree_shape::nodes::Nodes;
 use bptree_stores::node_stores::NodeStore;
 use std::alloc::AllocError;
+
+// Removes the first pair between two ends from the nodes of a tree. It answers whether there was
+// one.
+fn drop_first_of<'b, S: NodeStore>(
+    tree: &mut Nodes<S>,
+    lo: Option<&'b S::K>,
+    hi: Option<&'b S::K>,
+    statistic: &mut Statistic,
+) -> Result<bool, AllocError>
+    ensures whole { IsWhole S.K.cmp S.Argument.is_summary S.slots tree.new }
+    ensures ok { IfOk result (FirstBetweenLeaves S.K.cmp lo.entry hi.entry tree.old.contents tree.new.contents) }
+    ensures unchanged { OnErr result (IsUntouched S.slots tree.new tree.old) }
+{
+    // Read, so that the keys are known to ascend.
+    let _len = tree.len();
+    let Some((k, _)) = pairs_from(tree, part_between(tree, lo, hi)).next() else {
+        return Ok(false);
+    };
+    let mut path = VisitStack::new();
+    let Some(at) = removal::find_entry(tree, &mut path, k) else {
+        return Ok(false);
+    };
+    removal::take_entry(tree, &mut path, at, statistic)?;
+    Ok(true)
+}
 
 impl<S: NodeStore> BPlusTree<S> {
     // Removes the pair with the least key that is not below `lo` and is below `hi`, where they are
@@ -24,35 +53,7 @@ impl<S: NodeStore> BPlusTree<S> {
         ensures unchanged { OnErr result (IsUntouched S.slots self.new self.old) }
         ensures err { OnErr result (self.new.contents ≡ self.old.contents) }
     {
-        // Read, so that it is known to fit.
-        let _len = self.len;
-        let Some((k, _)) = self.range(lo, hi).next() else {
-            return Ok(false);
-        };
-        let mut path = VisitStack::new();
-        let Some((leaf, slot)) = removal::find_entry(
-            &self.store,
-            &mut path,
-            self.root,
-            self.height,
-            k,
-        ) else {
-            return Ok(false);
-        };
-        let gone = removal::take_entry(
-            &mut self.store,
-            &mut path,
-            self.root,
-            self.height,
-            leaf,
-            slot,
-            &mut self.statistic,
-        )?;
-        self.len -= 1;
-        self.root = gone.root;
-        self.height = gone.height;
-        self.root_argument = gone.summary;
-        Ok(true)
+        drop_first_of(&mut self.nodes, lo, hi, &mut self.statistic)
     }
 
     /// Removes the pairs whose key is not below `lo` and is below `hi`, where they are given, and
@@ -72,7 +73,7 @@ impl<S: NodeStore> BPlusTree<S> {
         ensures err { OnErr result (FirstsBetweenLeft S.K.cmp lo.entry hi.entry self.old.contents self.new.contents) }
     {
         // Read, so that it is known to fit.
-        let _len = self.len;
+        let _len = self.nodes.len();
         let mut gone = 0;
         'pairs: while self.drop_first_between(lo, hi)? {
             gone += 1;

@@ -15,20 +15,21 @@ use bptree_iteration::part::Part;
 use bptree_keys::key::Key;
 use bptree_ranges::groups::{part_of_group, part_within_group};
 use bptree_ranges::ranges::{part_between, part_by_argument};
+use bptree_shape::nodes::Nodes;
 use bptree_stores::node_stores::NodeStore;
 use std::alloc::AllocError;
 
-impl<S: NodeStore> BPlusTree<S> {
-    // The pairs of a part of the tree.
-    pub(crate) fn iter_part(&self, part: Part) -> Iter<'_, S>
-        requires { (pairs : List (S.K × S.V)) × IsPartOf S.slots self.now part pairs }
-        ensures rest { (pairs : List (S.K × S.V)) → IsPartOf S.slots self.now part pairs → result ≡ pairs }
-        ensures ascending { IsAscending S.K.cmp result }
-        ensures runs { ShowsInOrder (deref_pair {K = S.K} {X = S.V}) }
-    {
-        Iter::new(&self.store, part)
-    }
+// The pairs of a part of a tree.
+pub(crate) fn pairs_from<S: NodeStore>(tree: &Nodes<S>, part: Part) -> Iter<'_, S>
+    requires { (pairs : List (S.K × S.V)) × IsPartOf S.slots tree.now part pairs }
+    ensures rest { (pairs : List (S.K × S.V)) → IsPartOf S.slots tree.now part pairs → result ≡ pairs }
+    ensures ascending { IsAscending S.K.cmp result }
+    ensures runs { ShowsInOrder (deref_pair {K = S.K} {X = S.V}) }
+{
+    Iter::new(&tree.store, part)
+}
 
+impl<S: NodeStore> BPlusTree<S> {
     /// The pairs whose key is not below `lo` and is below `hi`, where they are given, in the order
     /// of their keys. It takes no memory, and neither do its steps.
     ///
@@ -39,8 +40,8 @@ impl<S: NodeStore> BPlusTree<S> {
         ensures ascending { IsAscending S.K.cmp result }
         ensures runs { ShowsInOrder (deref_pair {K = S.K} {X = S.V}) }
     {
-        let part = part_between(&self.store, self.root, self.height, self.len, lo, hi);
-        self.iter_part(part)
+        let part = part_between(&self.nodes, lo, hi);
+        pairs_from(&self.nodes, part)
     }
 
     /// The first `n` pairs, or all where there are fewer, from a place on that is allowed for the
@@ -62,10 +63,8 @@ impl<S: NodeStore> BPlusTree<S> {
         ensures sure { S.Argument.needs_no_memory → IsOk result }
         ensures runs { ShowsInOrder (deref_pair {K = S.K} {X = S.V}) }
     {
-        // Read, so that it is known to fit.
-        let _len = self.len;
-        let part = part_by_argument(&self.store, self.root, self.height, query, n)?;
-        Ok(self.iter_part(part))
+        let part = part_by_argument(&self.nodes, query, n)?;
+        Ok(pairs_from(&self.nodes, part))
     }
 
     /// The pairs whose key's group equals the group, in the order of their keys. Its steps take no
@@ -80,8 +79,8 @@ impl<S: NodeStore> BPlusTree<S> {
         ensures ascending { IfOk result (λ it. IsAscending S.K.cmp it) }
         ensures runs { ShowsInOrder (deref_pair {K = S.K} {X = S.V}) }
     {
-        let part = part_of_group(&self.store, self.root, self.height, self.len, group)?;
-        Ok(self.iter_part(part))
+        let part = part_of_group(&self.nodes, group)?;
+        Ok(pairs_from(&self.nodes, part))
     }
 
     /// So many pairs of a group, or all where there are fewer, without its first `i`: a page of the
@@ -101,9 +100,7 @@ impl<S: NodeStore> BPlusTree<S> {
         ensures ascending { IfOk result (λ it. IsAscending S.K.cmp it) }
         ensures runs { ShowsInOrder (deref_pair {K = S.K} {X = S.V}) }
     {
-        // Read, so that it is known to fit.
-        let _len = self.len;
-        let part = part_within_group(&self.store, self.root, self.height, group, i, n)?;
-        Ok(self.iter_part(part))
+        let part = part_within_group(&self.nodes, group, i, n)?;
+        Ok(pairs_from(&self.nodes, part))
     }
 }

@@ -32,25 +32,9 @@ impl<S: NodeStore> BPlusTree<S> {
         ensures err { OnErr result (self.new.contents ≡ self.old.contents) }
         ensures unchanged { OnErr result (IsUntouched S.slots self.new self.old) }
     {
-        // Read, so that it is known to fit.
-        let _len = self.len;
-        match removal::remove_by_argument(
-            &mut self.store,
-            &mut self.path,
-            self.root,
-            self.height,
-            query,
-            &mut self.statistic,
-        )? {
-            None => Ok(None),
-            Some(gone) => {
-                self.len -= 1;
-                self.root = gone.root;
-                self.height = gone.height;
-                self.root_argument = gone.summary;
-                Ok(Some(gone.value))
-            }
-        }
+        // Read, so that the keys are known to ascend.
+        let _len = self.nodes.len();
+        removal::remove_by_argument(&mut self.nodes, &mut self.path, query, &mut self.statistic)
     }
 
     /// Removes the pair whose key equals `k`, and hands it back with the key that was stored. Where
@@ -65,25 +49,9 @@ impl<S: NodeStore> BPlusTree<S> {
         ensures err { OnErr result (self.new.contents ≡ self.old.contents) }
         ensures unchanged { OnErr result (IsUntouched S.slots self.new self.old) }
     {
-        // Read, so that it is known to fit.
-        let _len = self.len;
-        match removal::remove_entry(
-            &mut self.store,
-            &mut self.path,
-            self.root,
-            self.height,
-            k,
-            &mut self.statistic,
-        )? {
-            None => Ok(None),
-            Some(gone) => {
-                self.len -= 1;
-                self.root = gone.root;
-                self.height = gone.height;
-                self.root_argument = gone.summary;
-                Ok(Some(gone.value))
-            }
-        }
+        // Read, so that the keys are known to ascend.
+        let _len = self.nodes.len();
+        removal::remove_entry(&mut self.nodes, &mut self.path, k, &mut self.statistic)
     }
 
     // Removes the pair with the least key, or the one with the greatest, and hands it back.
@@ -95,25 +63,12 @@ impl<S: NodeStore> BPlusTree<S> {
         ensures err { OnErr result (self.new.contents ≡ self.old.contents) }
         ensures unchanged { OnErr result (IsUntouched S.slots self.new self.old) }
     {
-        // Read, so that it is known to fit.
-        let _len = self.len;
-        match removal::remove_end(
-            &mut self.store,
+        removal::remove_end(
+            &mut self.nodes,
             &mut self.path,
-            self.root,
-            self.height,
             is_last,
             &mut self.statistic,
-        )? {
-            None => Ok(None),
-            Some(gone) => {
-                self.len -= 1;
-                self.root = gone.root;
-                self.height = gone.height;
-                self.root_argument = gone.summary;
-                Ok(Some(gone.value))
-            }
-        }
+        )
     }
 
     /// Removes the pair with the least key, and hands it back: none of an empty tree, where nothing
@@ -156,7 +111,8 @@ impl<S: NodeStore> BPlusTree<S> {
         ensures err { OnErr result (self.new.contents ≡ self.old.contents) }
         ensures unchanged { OnErr result (IsUntouched S.slots self.new self.old) }
     {
-        let fresh = BPlusTree::new(S::empty(self.store.allocator()))?;
+        let nodes = &self.nodes;
+        let fresh = BPlusTree::new(S::empty(nodes.store.allocator()))?;
         *self = fresh;
         Ok(())
     }

@@ -8,6 +8,7 @@ ghost use Rattle.bptree_tree.specs.Updating.{IsNotBehind, IsSettledAt, UpdatesBe
 use crate::tree::BPlusTree;
 use bptree_keys::node_id::{LeafNodeId, NodeId};
 use bptree_ranges::ranges::places_between;
+use bptree_shape::nodes::Nodes;
 use bptree_stores::node_stores::NodeStore;
 
 // Changes the values of the slots of a leaf from one on and below another by a closure.
@@ -58,6 +59,20 @@ fn update_leaves<S: NodeStore, F: FnMut(&S::K, &mut S::V)>(
     update_leaf(store, at, from, back.1, f);
 }
 
+// Changes the values between two ends, which are lent no longer than the tree.
+fn update_within<'a, S: NodeStore, F: FnMut(&S::K, &mut S::V)>(
+    tree: &'a mut Nodes<S>,
+    lo: Option<&'a S::K>,
+    hi: Option<&'a S::K>,
+    f: F,
+)
+    requires { F.IsAlwaysCallable f }
+    ensures { UpdatesBetween F.FnMut f S.K.cmp lo.entry hi.entry tree.old.contents tree.new.contents }
+{
+    let (front, back) = places_between(tree, lo, hi);
+    update_leaves(&mut tree.store, tree.root, tree.height, front, back, f);
+}
+
 impl<S: NodeStore> BPlusTree<S> {
     /// Changes each value by a closure, in the order of the keys.
     ///
@@ -67,7 +82,7 @@ impl<S: NodeStore> BPlusTree<S> {
         requires { F.IsAlwaysCallable f }
         ensures { (after : F) × ChangesInTurn F.FnMut f self.old.contents after self.new.contents }
     {
-        self.update_within(None, None, f);
+        update_within(&mut self.nodes, None, None, f);
     }
 
     /// Changes the value of each pair by a closure whose key is not below `lo` and is below `hi`,
@@ -85,20 +100,6 @@ impl<S: NodeStore> BPlusTree<S> {
         requires { F.IsAlwaysCallable f }
         ensures { UpdatesBetween F.FnMut f S.K.cmp lo.entry hi.entry self.old.contents self.new.contents }
     {
-        self.update_within(lo, hi, f);
-    }
-
-    // The same, where the ends are lent no longer than the tree.
-    fn update_within<'a, F: FnMut(&S::K, &mut S::V)>(
-        &'a mut self,
-        lo: Option<&'a S::K>,
-        hi: Option<&'a S::K>,
-        f: F,
-    )
-        requires { F.IsAlwaysCallable f }
-        ensures { UpdatesBetween F.FnMut f S.K.cmp lo.entry hi.entry self.old.contents self.new.contents }
-    {
-        let (front, back) = places_between(&self.store, self.root, self.height, lo, hi);
-        update_leaves(&mut self.store, self.root, self.height, front, back, f);
+        update_within(&mut self.nodes, lo, hi, f);
     }
 }

@@ -32,7 +32,7 @@ returns-in-Some-clause-selected g t c =
 
 pub returns-in-Leaf-clause-way : goal.returns-in-Leaf-clause-way
 returns-in-Leaf-clause-way g t c =
-    ends_here g.met.S.K.Ord.total g.S.Argument.Argument.is_summary (g.S.NodeStore.slots c.args.store.now) g.S.Argument.SearchArgument.selects c.args.query c.args.height c.args.id c.in-Leaf.field-0 c.requires.subtree c.in-Leaf.is c.find_by_argument.result c.find_by_argument.ensures.selected c.args.path.now
+    ends_here g.met.S.K.Ord.total g.S.Argument.Argument.is_summary (g.S.NodeStore.slots c.args.store.now) g.S.Argument.SearchArgument.selects c.args.query c.args.height c.args.id c.in-Leaf.field-0 c.requires.subtree c.in-Leaf.is c.find_below.result c.find_below.ensures.selected c.args.path.now
 
 pub returns-in-Some-clause-way : goal.returns-in-Some-clause-way
 returns-in-Some-clause-way g t c =

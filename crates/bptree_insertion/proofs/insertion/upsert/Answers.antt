@@ -1,31 +1,29 @@
-use Rattle.std.proofs.Common.{refl, ap, length, arith}
-use Rattle.bptree_ascent.proofs.Rooted.{low_tree}
-use Rattle.bptree_insertion.proofs.Upserted.{replaced, absent, due, sums_up_due, added}
+use Rattle.std.proofs.Common.{◌≡◌, ◌∙◌, ◌+◌, false, sym, refl, ap, arith, is_some, None}
+use Rattle.bptree_keys.specs.Contents.{has}
+use Rattle.bptree_keys.proofs.Equal.{has_where_value}
+use Rattle.bptree_keys.proofs.Updates.{length_put}
+use Rattle.bptree_shape.specs.Shape.{root_least, pairs_at}
+use Rattle.bptree_shape.proofs.Walk.{tree_ascends}
 use Rattle.bptree_insertion.proofs.insertion.upsert.Goals as goal
 
-pub find_path-leaf-requires-clause-room : goal.find_path-leaf-requires-clause-room
-find_path-leaf-requires-clause-room g c =
-    omega (arith, low_tree g.S.K.Ord.cmp g.S.Argument.Argument.is_summary (g.S.NodeStore.slots c.args.store.now) c.args.height c.args.root c.requires.shape c.requires.few, ap length c.clear.ensures)
+pub overflow_add-tree : goal.overflow_add-tree
+overflow_add-tree g c =
+    let tree = c.tree.inside in
+    let pairs = pairs_at (g.S.NodeStore.slots tree.store) tree.height tree.root in
+    let put = rw c.in-Ok-Added.field-0-is at c.in-Ok-Added.ensures.put in
+    let absent : has g.S.K.Ord.cmp pairs c.args.k ≡ false = sym (has_where_value g.S.K.Ord.cmp pairs c.args.k) ∙ ap is_some put.0 in
+    omega (arith, (rw (← c.tree.view_is) at c.requires) absent, c.tree.invariant.1)
 
-pub put_new-requires : goal.put_new-requires
-put_new-requires g c =
-    let there = due g.met.S.K.Ord.total g.S.Argument.Argument.is_summary (g.S.NodeStore.slots c.args.store.now) c.args.height c.args.root c.args.k c.find_path-leaf.result c.get_leaf.result.now c.requires.shape c.find_path-leaf.ensures.leaf c.get_leaf.ensures c.in-Err.slot c.in-Err.ensures.place c.requires.room c.find_path-leaf.new.path (c.find_path-leaf.ensures.way c.args.height c.args.root (rw c.clear.ensures (refl, refl))) in
-    let told = sums_up_due g.met.S.K.Ord.total g.S.Argument.Argument.is_summary (g.S.NodeStore.slots c.args.store.now) c.args.height c.args.root c.args.k c.find_path-leaf.result c.get_leaf.result.now c.requires.shape c.find_path-leaf.ensures.leaf c.get_leaf.ensures c.in-Err.slot c.in-Err.ensures.place c.requires.room c.find_path-leaf.new.path (c.find_path-leaf.ensures.way c.args.height c.args.root (rw c.clear.ensures (refl, refl))) c.args.whole.now c.requires.told in
-    record { due = (there.0, there.1); told = told }
-
-pub returns-in-Ok-clause-put : goal.returns-in-Ok-clause-put
-returns-in-Ok-clause-put g c =
-    replaced g.met.S.K.Ord.total g.S.Argument.Argument.is_summary (g.S.NodeStore.slots c.args.store.now) c.args.height c.args.root c.args.k c.find_path-leaf.result c.get_leaf.result.now c.requires.shape c.find_path-leaf.ensures.leaf c.get_leaf.ensures c.in-Ok.slot c.in-Ok.ensures.found c.args.v c.replace_at.result
-    (rw c.get_leaf.ensures at c.replace_at.ensures.old) (g.S.NodeStore.slots c.replace_at.new.store) (c.replace_at.ensures.sets c.get_leaf.result.now c.get_leaf.ensures)
-
-pub returns-in-Ok-put_new-clause-put : goal.returns-in-Ok-put_new-clause-put
-returns-in-Ok-put_new-clause-put g c =
-    added g.met.S.K.Ord.total g.S.Argument.Argument.is_summary (g.S.NodeStore.slots c.args.store.now) c.args.height c.args.root c.args.k c.find_path-leaf.result c.get_leaf.result.now c.requires.shape c.find_path-leaf.ensures.leaf c.get_leaf.ensures c.in-Err.slot c.in-Err.ensures.place c.requires.room c.find_path-leaf.new.path (c.find_path-leaf.ensures.way c.args.height c.args.root (rw c.clear.ensures (refl, refl)))
-    (g.S.NodeStore.slots c.put_new.new.store) c.args.v c.in-Ok-put_new.top c.in-Ok-put_new.summary c.top_of-root.result c.top_of-root.ensures c.in-Ok-put_new.ensures.placed
-
-pub top_of-root-requires : goal.top_of-root-requires
-top_of-root-requires g c =
-    low_tree g.S.K.Ord.cmp g.S.Argument.Argument.is_summary (g.S.NodeStore.slots c.args.store.now) c.args.height c.args.root c.requires.shape c.requires.few
-
-pub returns-in-Err-put_new-clause-absent : goal.returns-in-Err-put_new-clause-absent
-returns-in-Err-put_new-clause-absent g c = absent g.met.S.K.Ord.total g.S.Argument.Argument.is_summary (g.S.NodeStore.slots c.args.store.now) c.args.height c.args.root c.args.k c.find_path-leaf.result c.get_leaf.result.now c.requires.shape c.find_path-leaf.ensures.leaf c.get_leaf.ensures c.in-Err.slot c.in-Err.ensures.place
+pub invariant_of-tree-in-Ok-Added : goal.invariant_of-tree-in-Ok-Added
+invariant_of-tree-in-Ok-Added g c =
+    let total = g.met.S.K.Ord.total in
+    let tree = c.tree.inside in
+    let slots = g.S.NodeStore.slots tree.store in
+    let pairs = pairs_at slots tree.height tree.root in
+    let sorted = tree_ascends total slots (root_least tree.height) tree.height tree.root None None c.tree.invariant.0.tree in
+    let put = rw c.in-Ok-Added.field-0-is at c.in-Ok-Added.ensures.put in
+    let absent : has g.S.K.Ord.cmp pairs c.args.k ≡ false = sym (has_where_value g.S.K.Ord.cmp pairs c.args.k) ∙ ap is_some put.0 in (
+      put.1.shape,
+      rw put.1.pairs (ap (λ n. n + 1) c.tree.invariant.1 ∙ sym (length_put g.S.K.Ord.cmp total pairs sorted c.args.k c.args.v ∙ rw absent refl)),
+      put.1.told,
+    )

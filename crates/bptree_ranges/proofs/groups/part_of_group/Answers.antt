@@ -1,30 +1,34 @@
-use Rattle.std.proofs.Common.{◌≡◌, ◌-◌, ◌∙◌, ap, arith, min, subst, sym}
+use Rattle.std.proofs.Common.{◌≡◌, ◌-◌, ◌∙◌, ap, arith, length, min, subst, sym, refl}
 use Rattle.bptree_keys.specs.Ranges.{part}
 use Rattle.bptree_ranges.specs.Ranges.{place_on, IsPart}
 use Rattle.bptree_shape.specs.Shape.{pairs_at}
 use Rattle.bptree_ranges.proofs.Bordered.{of_group_is, group_rises}
 use Rattle.bptree_ranges.proofs.Ranged.{contents_ascend, reached}
+use Rattle.bptree_shape.proofs.Whole.{contents_of, right}
 use Rattle.bptree_ranges.proofs.groups.part_of_group.Goals as goal
 
 pub part_of_places-requires-clause-rises : goal.part_of_places-requires-clause-rises
 part_of_places-requires-clause-rises g c =
-    let slots = g.S.NodeStore.slots c.args.store.now in
-    let few = group_rises g.G.Ord.cmp g.G.FromRef.group_of c.args.group.now (pairs_at slots c.args.height c.args.root) in
+    let slots = g.S.NodeStore.slots c.args.tree.now.store in
+    let few = group_rises g.G.Ord.cmp g.G.FromRef.group_of c.args.group.now (pairs_at slots c.args.tree.now.height c.args.tree.now.root) in
     omega (arith, few, c.in_ok-front.ensures.1, c.in_ok-back.ensures.1)
 
 pub part_of_places-requires-clause-tells : goal.part_of_places-requires-clause-tells
 part_of_places-requires-clause-tells g c =
-    let slots = g.S.NodeStore.slots c.args.store.now in
-    omega (arith, c.requires.fits, c.in_ok-back.ensures.0.within, reached g.S.Argument.Argument.is_summary slots c.args.height c.args.root c.requires.shape c.in_ok-back.back.0 c.in_ok-back.ensures.0.stands)
+    let slots = g.S.NodeStore.slots c.args.tree.now.store in
+    let fits : c.tree.inside.len ≡ length (pairs_at slots c.args.tree.now.height c.args.tree.now.root) = rw (← c.tree.view_is) c.tree.invariant.1 in
+    omega (arith, fits, c.in_ok-back.ensures.0.within, reached g.S.Argument.Argument.is_summary slots c.args.tree.now.height c.args.tree.now.root (right g.S.NodeStore.slots c.tree.view_is c.tree.invariant.0) c.in_ok-back.back.0 c.in_ok-back.ensures.0.stands)
 
 pub returns : goal.returns
 returns g c =
     let total = g.met.S.K.Ord.total in
-    let slots = g.S.NodeStore.slots c.args.store.now in
-    let pairs = pairs_at slots c.args.height c.args.root in
-    let i = place_on slots c.args.height c.args.root c.in_ok-front.front in
-    let j = place_on slots c.args.height c.args.root c.in_ok-back.back in
-    let ends = reached g.S.Argument.Argument.is_summary slots c.args.height c.args.root c.requires.shape c.in_ok-back.back.0 c.in_ok-back.ensures.0.stands in
-    let all : min c.args.len (j - i) ≡ j - i = omega (arith, c.requires.fits, c.in_ok-back.ensures.0.within, ends) in
-    let is = of_group_is total g.met.G.Ord.total g.G.FromRef.group_of g.met.G.FromRef.keeps_order c.args.group.now pairs i j (contents_ascend g.S.Argument.Argument.is_summary slots c.args.height c.args.root c.requires.shape total) c.in_ok-front.ensures.1 c.in_ok-back.ensures.1 in
-    subst (IsPart slots c.args.height c.args.root c.part_of_places.result) (ap (part pairs i) all ∙ sym is) c.part_of_places.ensures
+    let slots = g.S.NodeStore.slots c.args.tree.now.store in
+    let pairs = pairs_at slots c.args.tree.now.height c.args.tree.now.root in
+    let i = place_on slots c.args.tree.now.height c.args.tree.now.root c.in_ok-front.front in
+    let j = place_on slots c.args.tree.now.height c.args.tree.now.root c.in_ok-back.back in
+    let ends = reached g.S.Argument.Argument.is_summary slots c.args.tree.now.height c.args.tree.now.root (right g.S.NodeStore.slots c.tree.view_is c.tree.invariant.0) c.in_ok-back.back.0 c.in_ok-back.ensures.0.stands in
+    let fits : c.tree.inside.len ≡ length (pairs_at slots c.args.tree.now.height c.args.tree.now.root) = rw (← c.tree.view_is) c.tree.invariant.1 in
+    let all : min c.tree.inside.len (j - i) ≡ j - i = omega (arith, fits, c.in_ok-back.ensures.0.within, ends) in
+    let is = of_group_is total g.met.G.Ord.total g.G.FromRef.group_of g.met.G.FromRef.keeps_order c.args.group.now pairs i j (contents_ascend g.S.Argument.Argument.is_summary slots c.args.tree.now.height c.args.tree.now.root (right g.S.NodeStore.slots c.tree.view_is c.tree.invariant.0) total) c.in_ok-front.ensures.1 c.in_ok-back.ensures.1 in
+    rw (contents_of g.S.NodeStore.slots c.tree.view_is refl)
+    (subst (IsPart slots c.args.tree.now.height c.args.tree.now.root c.part_of_places.result) (ap (part pairs i) all ∙ sym is) c.part_of_places.ensures)

@@ -8,7 +8,9 @@ returns g c =
     let keeps = g.met.G.FromRef.keeps_order in
     let group_of = g.G.FromRef.group_of in
     let sum = g.S.Argument.Argument.is_summary in
-    let slots = g.S.NodeStore.slots c.args.store.now in
+    let tree = c.tree.inside in
+    let slots = g.S.NodeStore.slots tree.store in
     let border = c.in_ok-leaf.ensures in
-    let parts = leaf_cut total order group_of keeps c.args.group.now sum slots c.args.height c.args.root c.requires c.in_ok-leaf.leaf c.get_leaf.result.now border.stands c.get_leaf.ensures c.args.end c.keys.result.now c.in_ok-offset.offset c.keys.ensures.value c.in_ok-offset.ensures.in_range c.in_ok-offset.ensures.border in
-    border_place total (is_key_before total order group_of keeps c.args.group.now c.args.end) (key_falls total order group_of keeps c.args.group.now c.args.end) slots sum c.args.height c.args.root c.requires c.in_ok-leaf.leaf c.get_leaf.result.now border c.get_leaf.ensures c.in_ok-offset.offset parts
+    let parts = leaf_cut total order group_of keeps c.args.group.now sum slots tree.height tree.root c.tree.invariant.0 c.in_ok-leaf.leaf c.get_leaf.result.now border.stands c.get_leaf.ensures c.args.end c.keys.result.now c.in_ok-offset.offset c.keys.ensures.value c.in_ok-offset.ensures.in_range c.in_ok-offset.ensures.border in
+    rw (← c.tree.view_is)
+    (border_place total (is_key_before total order group_of keeps c.args.group.now c.args.end) (key_falls total order group_of keeps c.args.group.now c.args.end) slots sum tree.height tree.root c.tree.invariant.0 c.in_ok-leaf.leaf c.get_leaf.result.now border c.get_leaf.ensures c.in_ok-offset.offset parts)

@@ -3,68 +3,82 @@ use Rattle.bptree_ascent.proofs.Rooted.{low_tree}
 use Rattle.bptree_shape.specs.Shape.{leaf_pairs, pairs_at}
 use Rattle.bptree_shape.proofs.Ends.{end_pair, end_within}
 use Rattle.bptree_descents.proofs.Summed.{whole_subtree}
-use Rattle.bptree_removal.proofs.EndPaths.{found_there, none_at_end, none_here, pair_there, some_here, taken_there}
+use Rattle.bptree_removal.proofs.EndPaths.{entry_there, few_of, left_there, none_at_end, none_here, pair_there, some_here}
 use Rattle.bptree_removal.proofs.removal.remove_end.Goals as goal
 
 pub end_path-leaf-requires-clause-subtree : goal.end_path-leaf-requires-clause-subtree
 end_path-leaf-requires-clause-subtree g c =
-    whole_subtree g.met.S.K.Ord.total g.S.Argument.Argument.is_summary (g.S.NodeStore.slots c.args.store.now) c.args.height c.args.root _ c.requires.shape refl c.requires.few
+    whole_subtree g.met.S.K.Ord.total g.S.Argument.Argument.is_summary (g.S.NodeStore.slots c.tree.inside.store) c.tree.inside.height c.tree.inside.root _ c.tree.invariant.0 refl (few_of c.tree.inside.len _ c.tree.invariant.1 (omega arith))
 
 pub end_path-leaf-requires-clause-room : goal.end_path-leaf-requires-clause-room
 end_path-leaf-requires-clause-room g c =
-    let low = low_tree g.S.K.Ord.cmp g.S.Argument.Argument.is_summary (g.S.NodeStore.slots c.args.store.now) c.args.height c.args.root c.requires.shape c.requires.few in
+    let low = low_tree g.S.K.Ord.cmp g.S.Argument.Argument.is_summary (g.S.NodeStore.slots c.tree.inside.store) c.tree.inside.height c.tree.inside.root c.tree.invariant.0 (few_of c.tree.inside.len _ c.tree.invariant.1 (omega arith)) in
     omega (arith, low, ap length c.clear.ensures)
 
 pub take_entry-requires : goal.take_entry-requires
 take_entry-requires g c =
     let total = g.met.S.K.Ord.total in
     let sum = g.S.Argument.Argument.is_summary in
-    let old = g.S.NodeStore.slots c.args.store.now in
+    let tree = c.tree.inside in
+    let old = g.S.NodeStore.slots tree.store in
     let leaf = c.end_path-leaf.result in
     let slot = c.end_place-slot.result in
+    let few = few_of c.tree.inside.len _ c.tree.invariant.1 (omega arith) in
     let some : 0 < length c.get_leaf.result.now.pairs = omega (arith, c.len-len.ensures.value) in
-    let within : slot < length (leaf_pairs (old.leaf leaf.0)) = rw c.get_leaf.ensures (end_within c.args.is_last (length c.get_leaf.result.now.pairs) slot some (rw c.len-len.ensures.value at c.end_place-slot.ensures)) in (
-      (pair_there total sum old c.args.height c.args.root c.requires.shape c.requires.few leaf slot within c.clear.new.self c.end_path-leaf.new.path c.clear.ensures (c.end_path-leaf.ensures.way slot)).0.0,
-      found_there total sum old c.args.height c.args.root c.requires.shape c.requires.few leaf slot within c.clear.new.self c.end_path-leaf.new.path c.clear.ensures (c.end_path-leaf.ensures.way slot),
+    let within : slot < length (leaf_pairs (old.leaf leaf.0)) = rw c.get_leaf.ensures (end_within c.args.is_last (length c.get_leaf.result.now.pairs) slot some (rw c.len-len.ensures.value at c.end_place-slot.ensures)) in
+    rw (← c.tree.view_is) (
+      (pair_there total sum old tree.height tree.root c.tree.invariant.0 few leaf slot within c.clear.new.self c.end_path-leaf.new.path c.clear.ensures (c.end_path-leaf.ensures.way slot)).0.0,
+      entry_there total sum old tree.height tree.root c.tree.invariant.0 few leaf slot within c.clear.new.self c.end_path-leaf.new.path c.clear.ensures (c.end_path-leaf.ensures.way slot),
     )
 
 pub returns-then-len-eq0-clause-removed : goal.returns-then-len-eq0-clause-removed
 returns-then-len-eq0-clause-removed g c =
-    let old = g.S.NodeStore.slots c.args.store.now in
+    let old = g.S.NodeStore.slots c.tree.inside.store in
     let node = c.get_leaf.result.now in
-    let at = end_pair g.S.K.Ord.cmp old c.args.height c.args.root c.requires.shape.tree c.end_path-leaf.result node c.get_leaf.ensures c.args.is_last c.end_path-leaf.ensures.leaf in
-    (refl, none_at_end c.args.is_last _ (sym at ∙ none_here node.pairs _ (omega (arith, c.len-len.ensures.value))))
+    let at = end_pair g.S.K.Ord.cmp old c.tree.inside.height c.tree.inside.root c.tree.invariant.0.tree c.end_path-leaf.result node c.get_leaf.ensures c.args.is_last c.end_path-leaf.ensures.leaf in
+    rw (← c.tree.view_is) (none_at_end c.args.is_last _ (sym at ∙ none_here node.pairs _ (omega (arith, c.len-len.ensures.value))), refl)
 
 pub returns-clause-removed : goal.returns-clause-removed
 returns-clause-removed g c =
     let total = g.met.S.K.Ord.total in
     let sum = g.S.Argument.Argument.is_summary in
-    let slots = g.S.NodeStore.slots in
-    let old = slots c.args.store.now in
+    let tree = c.tree.inside in
+    let old = g.S.NodeStore.slots tree.store in
     let leaf = c.end_path-leaf.result in
     let node = c.get_leaf.result.now in
     let slot = c.end_place-slot.result in
-    let gone = c.in_ok-gone.gone in
-    let place = cond c.args.is_last (length (pairs_at old c.args.height c.args.root) - 1) 0 in
+    let few = few_of c.tree.inside.len _ c.tree.invariant.1 (omega arith) in
+    let place = cond c.args.is_last (length (pairs_at old tree.height tree.root) - 1) 0 in
     let some : 0 < length node.pairs = omega (arith, c.len-len.ensures.value) in
     let stands : slot ≡ cond c.args.is_last (length node.pairs - 1) 0 = rw c.len-len.ensures.value at c.end_place-slot.ensures in
     let within : slot < length (leaf_pairs (old.leaf leaf.0)) = rw c.get_leaf.ensures (end_within c.args.is_last (length node.pairs) slot some stands) in
-    let at = end_pair g.S.K.Ord.cmp old c.args.height c.args.root c.requires.shape.tree leaf node c.get_leaf.ensures c.args.is_last c.end_path-leaf.ensures.leaf in
-    let here : slice_get (leaf_pairs (old.leaf leaf.0)) slot ≡ slice_get (pairs_at old c.args.height c.args.root) place = rw (c.get_leaf.ensures, stands) at in
-    let pair = pair_there total sum old c.args.height c.args.root c.requires.shape c.requires.few leaf slot within c.clear.new.self c.end_path-leaf.new.path c.clear.ensures (c.end_path-leaf.ensures.way slot) in
-    let found = found_there total sum old c.args.height c.args.root c.requires.shape c.requires.few leaf slot within c.clear.new.self c.end_path-leaf.new.path c.clear.ensures (c.end_path-leaf.ensures.way slot) in
-    taken_there total sum old c.args.height c.args.root c.requires.shape c.requires.few leaf slot within c.clear.new.self c.end_path-leaf.new.path c.clear.ensures (c.end_path-leaf.ensures.way slot) (slots c.take_entry.new.store) gone.value gone.root gone.height gone.summary place here (c.in_ok-gone.ensures.found pair.0.0 found)
+    let at = end_pair g.S.K.Ord.cmp old tree.height tree.root c.tree.invariant.0.tree leaf node c.get_leaf.ensures c.args.is_last c.end_path-leaf.ensures.leaf in
+    let here : slice_get (leaf_pairs (old.leaf leaf.0)) slot ≡ slice_get (pairs_at old tree.height tree.root) place = rw (c.get_leaf.ensures, stands) at in
+    let pair = pair_there total sum old tree.height tree.root c.tree.invariant.0 few leaf slot within c.clear.new.self c.end_path-leaf.new.path c.clear.ensures (c.end_path-leaf.ensures.way slot) in
+    let there = entry_there total sum old tree.height tree.root c.tree.invariant.0 few leaf slot within c.clear.new.self c.end_path-leaf.new.path c.clear.ensures (c.end_path-leaf.ensures.way slot) in
+    let taken = c.in_ok-take_entry.ensures.taken pair.0.0 (rw (← c.tree.view_is) there) in
+    rw (← c.tree.view_is) (left_there total sum old tree.height tree.root c.tree.invariant.0 few leaf slot within c.clear.new.self c.end_path-leaf.new.path c.clear.ensures (c.end_path-leaf.ensures.way slot) _ _ place here (rw (← c.tree.view_is) at taken.0) taken.1 (rw (← c.tree.view_is) at taken.2))
 
-pub returns-in_err-gone-clause-empty : goal.returns-in_err-gone-clause-empty
-returns-in_err-gone-clause-empty g c empty =
+pub returns-in_err-take_entry-clause-empty : goal.returns-in_err-take_entry-clause-empty
+returns-in_err-take_entry-clause-empty g c empty =
+    let tree = c.tree.inside in
     let node = c.get_leaf.result.now in
-    let at = end_pair g.S.K.Ord.cmp (g.S.NodeStore.slots c.args.store.now) c.args.height c.args.root c.requires.shape.tree c.end_path-leaf.result node c.get_leaf.ensures c.args.is_last c.end_path-leaf.ensures.leaf in
+    let at = end_pair g.S.K.Ord.cmp (g.S.NodeStore.slots tree.store) tree.height tree.root c.tree.invariant.0.tree c.end_path-leaf.result node c.get_leaf.ensures c.args.is_last c.end_path-leaf.ensures.leaf in
     let some : 0 < length node.pairs = omega (arith, c.len-len.ensures.value) in
-    absurd (some_here node.pairs _ (end_within c.args.is_last (length node.pairs) _ some refl) (at ∙ none_here _ _ (ap length empty)))
+    absurd (some_here node.pairs _ (end_within c.args.is_last (length node.pairs) _ some refl) (at ∙ none_here _ _ (ap length (rw (← c.tree.view_is) at empty))))
 
 pub returns-clause-empty : goal.returns-clause-empty
 returns-clause-empty g c empty =
+    let tree = c.tree.inside in
     let node = c.get_leaf.result.now in
-    let at = end_pair g.S.K.Ord.cmp (g.S.NodeStore.slots c.args.store.now) c.args.height c.args.root c.requires.shape.tree c.end_path-leaf.result node c.get_leaf.ensures c.args.is_last c.end_path-leaf.ensures.leaf in
+    let at = end_pair g.S.K.Ord.cmp (g.S.NodeStore.slots tree.store) tree.height tree.root c.tree.invariant.0.tree c.end_path-leaf.result node c.get_leaf.ensures c.args.is_last c.end_path-leaf.ensures.leaf in
     let some : 0 < length node.pairs = omega (arith, c.len-len.ensures.value) in
-    absurd (some_here node.pairs _ (end_within c.args.is_last (length node.pairs) _ some refl) (at ∙ none_here _ _ (ap length empty)))
+    absurd (some_here node.pairs _ (end_within c.args.is_last (length node.pairs) _ some refl) (at ∙ none_here _ _ (ap length (rw (← c.tree.view_is) at empty))))
+
+pub returns-clause-untouched : goal.returns-clause-untouched
+returns-clause-untouched g c empty =
+    let tree = c.tree.inside in
+    let node = c.get_leaf.result.now in
+    let at = end_pair g.S.K.Ord.cmp (g.S.NodeStore.slots tree.store) tree.height tree.root c.tree.invariant.0.tree c.end_path-leaf.result node c.get_leaf.ensures c.args.is_last c.end_path-leaf.ensures.leaf in
+    let some : 0 < length node.pairs = omega (arith, c.len-len.ensures.value) in
+    absurd (some_here node.pairs _ (end_within c.args.is_last (length node.pairs) _ some refl) (at ∙ none_here _ _ (ap length (rw (← c.tree.view_is) at empty))))

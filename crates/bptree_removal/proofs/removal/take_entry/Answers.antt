@@ -1,16 +1,16 @@
-use Rattle.bptree_removal.proofs.EndPaths.{there_of, taken_from, entry_taken}
+use Rattle.bptree_removal.proofs.OneFewer.{one_fewer}
 use Rattle.bptree_removal.proofs.removal.take_entry.Goals as goal
 
-pub take_out-requires : goal.take_out-requires
-take_out-requires g c = (c.requires.0, there_of c.requires.1)
+pub take_below-requires : goal.take_below-requires
+take_below-requires g c = (c.requires.0, (rw (← c.tree.view_is) at c.requires.1).0)
 
-pub shrink_root-root-requires : goal.shrink_root-root-requires
-shrink_root-root-requires g c = (c.in_ok-value.ensures.leaves c.requires.0 (there_of c.requires.1)).loose
-
-pub returns-clause-found : goal.returns-clause-found
-returns-clause-found g c k found =
-    taken_from _ _ _ _ _ _ _ _ k _ _ _ _ (c.in_ok-value.ensures.leaves k (there_of found)) c.shrink_root-root.ensures.shape c.shrink_root-root.ensures.pairs
+pub invariant_of-tree-2 : goal.invariant_of-tree-2
+invariant_of-tree-2 g c =
+    let r = c.in_ok-gone.ensures.taken c.requires.0 (rw (← c.tree.view_is) at c.requires.1) in
+    one_fewer r.2 c.tree.inside.len c.tree.invariant.1
 
 pub returns-clause-taken : goal.returns-clause-taken
-returns-clause-taken g c k at =
-    entry_taken g.met.S.K.Ord.total _ _ _ _ _ _ _ _ k _ _ _ _ at (taken_from _ _ _ _ _ _ _ _ k _ _ _ _ (c.in_ok-value.ensures.leaves k (there_of at.0)) c.shrink_root-root.ensures.shape c.shrink_root-root.ensures.pairs)
+returns-clause-taken g c k there =
+    let at = rw (← c.tree.view_is) at there in
+    let found = c.in_ok-gone.ensures.found k at.0 in
+    rw (← c.tree.view_is) (found.pair_was, (c.in_ok-gone.ensures.taken k at).1, found.pairs)

@@ -4,11 +4,11 @@ use Rattle.std.specs.Map.Iter.{TakesFirst, deref_pair}
 use Rattle.bptree_arguments.specs.Groups.{of_group}
 use Rattle.bptree_tree.proofs.tree.BPlusTree.group_range.Goals as goal
 
-pub iter_part-requires : goal.iter_part-requires
-iter_part-requires g c = (of_group g.G.Ord.cmp g.G.FromRef.group_of c.args.group.now c.args.self.now.contents, rw (← c.self.view_is) c.in_ok-part.ensures)
+pub pairs_from-requires : goal.pairs_from-requires
+pairs_from-requires g c = (of_group g.G.Ord.cmp g.G.FromRef.group_of c.args.group.now c.self.inside.nodes.contents, c.in_ok-part.ensures)
 
 pub returns-clause-rest : goal.returns-clause-rest
-returns-clause-rest g c = c.iter_part.ensures.rest _ (rw (← c.self.view_is) c.in_ok-part.ensures)
+returns-clause-rest g c = rw (← c.self.view_is) (c.pairs_from.ensures.rest _ (c.in_ok-part.ensures))
 
 -- each step gives the first of what is left
 pub returns-in_err-part-clause-runs : goal.returns-in_err-part-clause-runs

@@ -8,21 +8,21 @@ use Rattle.bptree_tree.proofs.tree.BPlusTree.iter.Goals as goal
 
 pub new-requires : goal.new-requires
 new-requires g c =
-    let slots = g.S.NodeStore.slots c.self.inside.store in
-    let tree = c.self.inside in
-    rw c.len-to.ensures.value (whole_between g.S.Argument.Argument.is_summary slots tree.height tree.root c.self.invariant.0 c.first_leaf-front.result c.last_leaf-back.result c.get_leaf.result.now tree.len c.first_leaf-front.ensures c.last_leaf-back.ensures c.get_leaf.ensures c.self.invariant.1).0
+    let slots = g.S.NodeStore.slots c.nodes.inside.store in
+    let tree = c.nodes.inside in
+    rw c.len-to.ensures.value (whole_between g.S.Argument.Argument.is_summary slots tree.height tree.root c.nodes.invariant.0 c.first_leaf-front.result c.last_leaf-back.result c.get_leaf.result.now tree.len (rw (← c.nodes.view_is) at c.first_leaf-front.ensures) (rw (← c.nodes.view_is) at c.last_leaf-back.ensures) c.get_leaf.ensures c.nodes.invariant.1).0
 
 pub returns-clause-rest : goal.returns-clause-rest
 returns-clause-rest g c =
-    let slots = g.S.NodeStore.slots c.self.inside.store in
-    let tree = c.self.inside in
-    let shown = (whole_between g.S.Argument.Argument.is_summary slots tree.height tree.root c.self.invariant.0 c.first_leaf-front.result c.last_leaf-back.result c.get_leaf.result.now tree.len c.first_leaf-front.ensures c.last_leaf-back.ensures c.get_leaf.ensures c.self.invariant.1).1 in
-    rw (← c.self.view_is) (c.new.ensures ∙ rw c.len-to.ensures.value shown)
+    let slots = g.S.NodeStore.slots c.nodes.inside.store in
+    let tree = c.nodes.inside in
+    let shown = (whole_between g.S.Argument.Argument.is_summary slots tree.height tree.root c.nodes.invariant.0 c.first_leaf-front.result c.last_leaf-back.result c.get_leaf.result.now tree.len (rw (← c.nodes.view_is) at c.first_leaf-front.ensures) (rw (← c.nodes.view_is) at c.last_leaf-back.ensures) c.get_leaf.ensures c.nodes.invariant.1).1 in
+    rw (← c.self.view_is, ← c.nodes.view_is) (c.new.ensures ∙ rw c.len-to.ensures.value shown)
 
 pub returns-clause-ascending : goal.returns-clause-ascending
 returns-clause-ascending g c =
-    rw (← c.self.view_is)
-    (tree_ascends g.met.S.K.Ord.total (g.S.NodeStore.slots c.self.inside.store) (root_least c.self.inside.height) c.self.inside.height c.self.inside.root None None c.self.invariant.0.tree)
+    rw (← c.self.view_is, ← c.nodes.view_is)
+    (tree_ascends g.met.S.K.Ord.total (g.S.NodeStore.slots c.nodes.inside.store) (root_least c.nodes.inside.height) c.nodes.inside.height c.nodes.inside.root None None c.nodes.invariant.0.tree)
 
 -- each step gives the first of what is left
 pub returns-clause-runs : goal.returns-clause-runs

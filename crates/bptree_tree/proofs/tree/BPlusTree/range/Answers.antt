@@ -1,8 +1,8 @@
 use Rattle.bptree_tree.specs.Entries.{pairs_between}
 use Rattle.bptree_tree.proofs.tree.BPlusTree.range.Goals as goal
 
-pub iter_part-requires : goal.iter_part-requires
-iter_part-requires g c = (pairs_between g.S.K.Ord.cmp c.args.self.now.contents c.args.lo c.args.hi, rw (← c.self.view_is) c.part_between-part.ensures)
+pub pairs_from-requires : goal.pairs_from-requires
+pairs_from-requires g c = (pairs_between g.S.K.Ord.cmp c.self.inside.nodes.contents c.args.lo c.args.hi, c.part_between-part.ensures)
 
 pub returns-clause-rest : goal.returns-clause-rest
-returns-clause-rest g c = c.iter_part.ensures.rest _ (rw (← c.self.view_is) c.part_between-part.ensures)
+returns-clause-rest g c = rw (← c.self.view_is) (c.pairs_from.ensures.rest _ c.part_between-part.ensures)

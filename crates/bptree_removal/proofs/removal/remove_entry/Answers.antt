@@ -1,0 +1,19 @@
+use Rattle.std.proofs.Common.{◌+◌, length}
+use Rattle.bptree_descents.proofs.Selected.{place_read}
+use Rattle.bptree_shape.specs.Leaves.{pairs_of}
+use Rattle.bptree_removal.proofs.removal.remove_entry.Goals as goal
+
+pub take_entry-requires : goal.take_entry-requires
+take_entry-requires g c = (c.args.k.now, c.in-Some.ensures.way)
+
+pub returns-in_ok-take_entry-in-Some-clause-removed : goal.returns-in_ok-take_entry-in-Some-clause-removed
+returns-in_ok-take_entry-in-Some-clause-removed g c =
+    let tree = c.args.tree.now in
+    let slots = g.S.NodeStore.slots tree.store in
+    let at = c.in-Some.ensures.way in
+    let taken = c.in_ok-take_entry-in-Some.ensures.taken c.args.k.now at in (
+      length (pairs_of slots at.1.stands.before) + c.in-Some.at.1,
+      rw c.len-len.ensures.whole.contents (place_read slots tree.height tree.root c.in-Some.at.0 at.1.stands c.in-Some.at.1 _ taken.0),
+      taken.1,
+      taken.2,
+    )

@@ -1,0 +1,17 @@
+use Rattle.std.proofs.Common.{sym, ◌∙◌, None}
+use Rattle.bptree_shape.specs.Shape.{root_least}
+use Rattle.bptree_shape.proofs.Spot.{value_in_leaf, leaf_ascends}
+use Rattle.bptree_shape.proofs.Walk.{tree_ascends}
+use Rattle.bptree_shape.proofs.nodes.Nodes.get_counted.Goals as goal
+
+pub returns-clause-value : goal.returns-clause-value
+returns-clause-value g c =
+    let total = g.met.S.K.Ord.total in
+    let tree = c.self.inside in
+    let slots = g.S.NodeStore.slots tree.store in
+    let leaf = c.leaf_for_counted-leaf.result in
+    let node = c.get_leaf.result.now in
+    let leads = rw (← c.self.view_is) at c.leaf_for_counted-leaf.ensures.leaf in
+    let ascending = tree_ascends total slots (root_least tree.height) tree.height tree.root None None c.self.invariant.0.tree in
+    let sorted = leaf_ascends total slots tree.height tree.root leaf node leads.stands ascending c.get_leaf.ensures in
+    rw (← c.self.view_is) ((c.locate_slot_with_value_counted.ensures.contents sorted).1 ∙ sym (value_in_leaf total slots tree.height tree.root c.args.key.now leaf node leads c.get_leaf.ensures))

@@ -1,0 +1,51 @@
+//! Values of a tree that are lent for writing.
+ghost use Rattle.std.specs.Prelude.{◌≡◌, IfErr, IfOk, IsOk};
+ghost use Rattle.std.specs.Borrow.{sem};
+ghost use Rattle.std.specs.Option.{option_copied_mut};
+ghost use Rattle.bptree_keys.specs.Contents.{value};
+ghost use Rattle.bptree_tree.specs.Selected.{LendsSelected, SelectsNone};
+ghost use Rattle.bptree_tree.specs.NodeRows.{lends_written, lends_selected};
+ghost use Rattle.std.specs.Prelude.{IsOkUnless};
+
+use crate::SelectError;
+use bptree_arguments::argument::SearchArgument;
+use bptree_descents::by_argument::find_by_argument;
+use bptree_keys::compares::Compares;
+use bptree_shape::nodes::Nodes;
+use bptree_stores::node_stores::NodeStore;
+
+/// The value at a key equal to `k`, for writing.
+pub(crate) fn value_mut<'a, S: NodeStore>(tree: &'a mut Nodes<S>, k: &S::K) -> Option<&'a mut S::V>
+    ensures* writes_back { sem 𝓛 (lends_written S.row S.K.row S.V.row S.Argument.row S.NodeStore S.K.Key S.Argument.Argument tree.entry k.now result) }
+    ensures value { option_copied_mut result ≡ value S.K.cmp tree.old.contents k.now }
+{
+    let leaf = tree.leaf_for(k);
+    let mut compares = Compares::below(tree.height);
+    match tree
+        .store
+        .get_leaf(leaf)
+        .locate_slot_counted(k, &mut compares)
+    {
+        Ok(slot) => Some(tree.store.get_mut_leaf(leaf).value_at_mut(slot)),
+        Err(_) => None,
+    }
+}
+
+/// The value at a place that is allowed for the query, for writing.
+pub(crate) fn selected_mut<S: NodeStore>(
+    tree: &mut Nodes<S>,
+    query: <S::Argument as SearchArgument<S::K>>::Query,
+) -> Result<&mut S::V, SelectError>
+where
+    S::Argument: SearchArgument<S::K>,
+    ensures* writes_back { sem 𝓛 (lends_selected S.row S.K.row S.V.row S.Argument.row S.NodeStore S.K.Key S.Argument.Argument tree.entry S.Argument.selects query result) }
+    ensures value { IfOk result (LendsSelected S.Argument.selects query tree.old.contents) }
+    ensures absent { IfErr result (SelectsNone S.Argument.selects query tree.old.contents) }
+    ensures sure { S.Argument.needs_no_memory → IsOkUnless result SelectError.NotFound }
+{
+    match find_by_argument(tree, query) {
+        Ok(Some((leaf, slot))) => Ok(tree.store.get_mut_leaf(leaf).value_at_mut(slot)),
+        Ok(None) => Err(SelectError::NotFound),
+        Err(_) => Err(SelectError::OutOfMemory),
+    }
+}
