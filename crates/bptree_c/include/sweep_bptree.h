@@ -68,6 +68,14 @@ size_t bptree_range_back(bptree *map, uint64_t from, bptree_pair *out, size_t n)
 /* A page of n pairs: the first page is 0. */
 size_t bptree_page(bptree *map, size_t number, bptree_pair *out, size_t n);
 
+/* Calls for n keys at once, whose arrays have n places each, as every count of such a call says. */
+/* The value at each key that is there, and a 1 in `found`; for the others `values` is as it was, and `found` has a 0. */
+void bptree_get_many(bptree *map, const uint64_t *keys, size_t n, uint64_t *values, size_t n_values, uint8_t *found, size_t n_found);
+/* How many keys are smaller than each. */
+void bptree_rank_many(bptree *map, const uint64_t *keys, size_t n, size_t *ranks, size_t n_ranks);
+/* Puts each value at its key, one after another: how many were put, all or those before the first that was refused. */
+size_t bptree_put_many(bptree *map, const uint64_t *keys, size_t n, const uint64_t *values, size_t n_values);
+
 /* A set of byte strings, or none. Its caller keeps the same three things as of a map. Keys are copied in, may be empty and may
    hold any bytes. The first byte that differs decides their order; of two keys, one of which begins the other, the shorter is
    less. A call that is given a key copies its n bytes first, so that a look-up can be refused too. A refused call changes
@@ -94,6 +102,46 @@ bool bptree_bytes_at(bptree_bytes *set, size_t place, uint8_t *out, size_t room,
 /* The least greater key, and the greatest smaller key. The key itself need not be there. */
 uint32_t bptree_bytes_next(bptree_bytes *set, const uint8_t *key, size_t n, uint8_t *out, size_t room, size_t *len);
 uint32_t bptree_bytes_prev(bptree_bytes *set, const uint8_t *key, size_t n, uint8_t *out, size_t room, size_t *len);
+
+/* A map from byte strings to numbers of 64 bits, which may stand for handles or pointers of the caller's own; or none. Its caller
+   keeps the same three things as of a map. Keys are in the order of a set of byte strings. A new key is copied in. A call that
+   looks a key up compares its n bytes where they are: it takes no memory and is never refused. */
+typedef struct bptree_dict { void *at; } bptree_dict;
+
+typedef struct bptree_record { size_t length; uint64_t value; } bptree_record;
+
+bool bptree_dict_new(bptree_dict *dict);
+void bptree_dict_free(bptree_dict *dict);
+bool bptree_dict_clear(bptree_dict *dict);
+size_t bptree_dict_len(bptree_dict *dict);
+bool bptree_dict_contains(bptree_dict *dict, const uint8_t *key, size_t n);
+bool bptree_dict_get(bptree_dict *dict, const uint8_t *key, size_t n, uint64_t *value);
+bool bptree_dict_rank(bptree_dict *dict, const uint8_t *key, size_t n, size_t *rank);
+/* BPTREE_NONE: the key is new. BPTREE_FOUND: it had a value, now in *old; a key that is there is never refused. */
+uint32_t bptree_dict_put(bptree_dict *dict, const uint8_t *key, size_t n, uint64_t value, uint64_t *old);
+/* BPTREE_NONE: there was none, which is never refused. BPTREE_FOUND: it is gone, and its value in *old. */
+uint32_t bptree_dict_del(bptree_dict *dict, const uint8_t *key, size_t n, uint64_t *old);
+/* Calls that tell a pair copy its key's bytes into an array that takes `room` of them, as many as fit, its whole length into *len
+   and its value into *value; where *len is more than `room`, the key was cut. False: there is none, and nothing is written. */
+bool bptree_dict_first(bptree_dict *dict, uint8_t *out, size_t room, size_t *len, uint64_t *value);
+bool bptree_dict_last(bptree_dict *dict, uint8_t *out, size_t room, size_t *len, uint64_t *value);
+bool bptree_dict_at(bptree_dict *dict, size_t place, uint8_t *out, size_t room, size_t *len, uint64_t *value);
+bool bptree_dict_next(bptree_dict *dict, const uint8_t *key, size_t n, uint8_t *out, size_t room, size_t *len, uint64_t *value);
+bool bptree_dict_prev(bptree_dict *dict, const uint8_t *key, size_t n, uint8_t *out, size_t room, size_t *len, uint64_t *value);
+/* How many keys are not below the n bytes of `from` and are below the m bytes of `to`. */
+size_t bptree_dict_range_len(bptree_dict *dict, const uint8_t *from, size_t n, const uint8_t *to, size_t m);
+/* Copies the values of the pairs from a place on, in the order of their keys, until the array is full or there are no more; it
+   answers how many. */
+size_t bptree_dict_values(bptree_dict *dict, size_t place, uint64_t *out, size_t n);
+/* Copies pairs from a place on, in the order of the keys, until the records are used up, the next key does not fit into what is left
+   of the bytes, or there are no more: the keys' bytes one after another, and of each pair a record of its key's length and its
+   value. It answers how many. */
+size_t bptree_dict_page(bptree_dict *dict, size_t place, uint8_t *bytes, size_t room, bptree_record *out, size_t n);
+/* The given pairs, told as bptree_dict_page tells them, take the place of what the map held: of equal keys the last one stays.
+   False: memory was refused, or the bytes are not as many as the records say; then nothing has changed. */
+bool bptree_dict_load(bptree_dict *dict, const uint8_t *bytes, size_t room, const bptree_record *given, size_t n);
+/* BPTREE_NONE: there is no such place, which is never refused. BPTREE_FOUND: the pair there is gone, and its value in *old. */
+uint32_t bptree_dict_remove_at(bptree_dict *dict, size_t place, uint64_t *old);
 
 #ifndef NDEBUG
 #include <assert.h>
@@ -127,6 +175,9 @@ static inline bptree *bptree_none(bptree *map) {
 #define bptree_range(map, from, out, n) bptree_range(bptree_made(map), from, out, n)
 #define bptree_range_back(map, from, out, n) bptree_range_back(bptree_made(map), from, out, n)
 #define bptree_page(map, number, out, n) bptree_page(bptree_made(map), number, out, n)
+#define bptree_get_many(map, keys, n, values, n_values, found, n_found) bptree_get_many(bptree_made(map), keys, n, values, n_values, found, n_found)
+#define bptree_rank_many(map, keys, n, ranks, n_ranks) bptree_rank_many(bptree_made(map), keys, n, ranks, n_ranks)
+#define bptree_put_many(map, keys, n, values, n_values) bptree_put_many(bptree_made(map), keys, n, values, n_values)
 static inline bptree_bytes *bptree_bytes_made(bptree_bytes *set) {
     assert(set && set->at && "the set was not made, was freed, or is in use");
     return set;
@@ -148,6 +199,33 @@ static inline bptree_bytes *bptree_bytes_none(bptree_bytes *set) {
 #define bptree_bytes_at(set, place, out, room, len) bptree_bytes_at(bptree_bytes_made(set), place, out, room, len)
 #define bptree_bytes_next(set, key, n, out, room, len) bptree_bytes_next(bptree_bytes_made(set), key, n, out, room, len)
 #define bptree_bytes_prev(set, key, n, out, room, len) bptree_bytes_prev(bptree_bytes_made(set), key, n, out, room, len)
+static inline bptree_dict *bptree_dict_made(bptree_dict *dict) {
+    assert(dict && dict->at && "the map was not made, was freed, or is in use");
+    return dict;
+}
+static inline bptree_dict *bptree_dict_none(bptree_dict *dict) {
+    assert(dict && !dict->at && "there is a map already");
+    return dict;
+}
+#define bptree_dict_new(dict) bptree_dict_new(bptree_dict_none(dict))
+#define bptree_dict_free(dict) bptree_dict_free(bptree_dict_made(dict))
+#define bptree_dict_clear(dict) bptree_dict_clear(bptree_dict_made(dict))
+#define bptree_dict_len(dict) bptree_dict_len(bptree_dict_made(dict))
+#define bptree_dict_contains(dict, key, n) bptree_dict_contains(bptree_dict_made(dict), key, n)
+#define bptree_dict_get(dict, key, n, value) bptree_dict_get(bptree_dict_made(dict), key, n, value)
+#define bptree_dict_rank(dict, key, n, rank) bptree_dict_rank(bptree_dict_made(dict), key, n, rank)
+#define bptree_dict_put(dict, key, n, value, old) bptree_dict_put(bptree_dict_made(dict), key, n, value, old)
+#define bptree_dict_del(dict, key, n, old) bptree_dict_del(bptree_dict_made(dict), key, n, old)
+#define bptree_dict_first(dict, out, room, len, value) bptree_dict_first(bptree_dict_made(dict), out, room, len, value)
+#define bptree_dict_last(dict, out, room, len, value) bptree_dict_last(bptree_dict_made(dict), out, room, len, value)
+#define bptree_dict_at(dict, place, out, room, len, value) bptree_dict_at(bptree_dict_made(dict), place, out, room, len, value)
+#define bptree_dict_next(dict, key, n, out, room, len, value) bptree_dict_next(bptree_dict_made(dict), key, n, out, room, len, value)
+#define bptree_dict_prev(dict, key, n, out, room, len, value) bptree_dict_prev(bptree_dict_made(dict), key, n, out, room, len, value)
+#define bptree_dict_range_len(dict, from, n, to, m) bptree_dict_range_len(bptree_dict_made(dict), from, n, to, m)
+#define bptree_dict_values(dict, place, out, n) bptree_dict_values(bptree_dict_made(dict), place, out, n)
+#define bptree_dict_page(dict, place, bytes, room, out, n) bptree_dict_page(bptree_dict_made(dict), place, bytes, room, out, n)
+#define bptree_dict_load(dict, bytes, room, given, n) bptree_dict_load(bptree_dict_made(dict), bytes, room, given, n)
+#define bptree_dict_remove_at(dict, place, old) bptree_dict_remove_at(bptree_dict_made(dict), place, old)
 #endif
 
 #ifdef __cplusplus

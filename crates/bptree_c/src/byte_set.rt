@@ -254,7 +254,7 @@ fn told(key: Option<&Bytes>, out: &mut [u8], len: &mut usize) -> bool
 }
 
 // Copies as many bytes as there is room for, and gives how many there are.
-fn copy(key: &[u8], out: &mut [u8]) -> usize
+pub(crate) fn copy(key: &[u8], out: &mut [u8]) -> usize
     ensures copied { out.new ≡ take (length out.old) key.now ++ drop (length key.now) out.old }
     ensures whole { result ≡ length key.now }
 {

@@ -7,6 +7,7 @@ ghost use Rattle.std.proofs.Common.{refl};
 ghost use Rattle.bptree_keys.specs.Keys.{equal_if_same};
 
 use bptree_keys::key::Key;
+use bptree_probes::probe::Probe;
 use std::alloc::{AllocError, Global};
 use std::cmp::Ordering;
 use std::marker::Model;
@@ -91,4 +92,18 @@ impl Ord for Bytes {
 
 impl Key for Bytes {
     ghost clone_is_equal = { λ x y same. equal_if_same nat_list_cmp_total x y same };
+}
+
+/// Bytes of a caller's, which stand for the key of the same bytes for the time of a call.
+#[derive(Clone, Copy)]
+pub(crate) struct View<'a> {
+    pub(crate) bytes: &'a [u8],
+}
+
+impl<'a> Probe<Bytes> for View<'a> {
+    ghost meant = { λ view. view.bytes.now };
+
+    fn order_of(&self, key: &Bytes) -> Ordering {
+        key.as_slice().cmp(self.bytes)
+    }
 }

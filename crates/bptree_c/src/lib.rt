@@ -6,24 +6,39 @@
 //! the list that the handle holds. A `ByteHandle` is the same of a set.
 #![tactic(auto)]
 
+mod batch;
 mod byte_handle;
 mod byte_set;
 mod bytes;
 mod callers;
+mod dict;
+mod dict_handle;
+mod dict_load;
+mod dict_many;
 mod handle;
 mod loose;
 mod making;
 mod many;
 mod pair;
 mod reading;
+mod record;
 mod writing;
 
+pub use batch::{bptree_get_many, bptree_put_many, bptree_rank_many};
 pub use byte_handle::ByteHandle;
 pub use byte_set::{
     bptree_bytes_at, bptree_bytes_clear, bptree_bytes_contains, bptree_bytes_first,
     bptree_bytes_free, bptree_bytes_insert, bptree_bytes_last, bptree_bytes_len, bptree_bytes_new,
     bptree_bytes_next, bptree_bytes_prev, bptree_bytes_rank, bptree_bytes_remove,
 };
+pub use dict::{
+    bptree_dict_at, bptree_dict_clear, bptree_dict_contains, bptree_dict_del, bptree_dict_first,
+    bptree_dict_free, bptree_dict_get, bptree_dict_last, bptree_dict_len, bptree_dict_new,
+    bptree_dict_next, bptree_dict_prev, bptree_dict_put, bptree_dict_rank,
+};
+pub use dict_handle::DictHandle;
+pub use dict_load::{bptree_dict_load, bptree_dict_remove_at};
+pub use dict_many::{bptree_dict_page, bptree_dict_range_len, bptree_dict_values};
 pub use handle::Handle;
 pub use making::{bptree_clear, bptree_free, bptree_load, bptree_new};
 pub use many::{bptree_page, bptree_range, bptree_range_back};
@@ -32,4 +47,5 @@ pub use reading::{
     bptree_at, bptree_contains, bptree_first, bptree_get, bptree_last, bptree_len, bptree_next,
     bptree_prev, bptree_range_len, bptree_rank,
 };
+pub use record::Record;
 pub use writing::{bptree_del, bptree_pop_first, bptree_pop_last, bptree_put, bptree_remove_at};

@@ -37,7 +37,7 @@ pub extern "C" fn bptree_put(
     told_value(answer, old)
 }
 
-fn put_in(map: &mut Map, key: u64, new: u64) -> Result<Option<u64>, AllocError>
+pub(crate) fn put_in(map: &mut Map, key: u64, new: u64) -> Result<Option<u64>, AllocError>
     ensures ok { IfOk result (Puts nat_cmp key new map.old map.new) }
     ensures present { IsTrue (has nat_cmp map.old key) → IsOk result }
     ensures err { OnErr result (map.new ≡ map.old) }
@@ -49,7 +49,7 @@ fn put_in(map: &mut Map, key: u64, new: u64) -> Result<Option<u64>, AllocError>
 }
 
 // The code for a value that was there, which is written where there was one.
-fn told_value(answer: Result<Option<u64>, AllocError>, old: &mut u64) -> u32
+pub(crate) fn told_value(answer: Result<Option<u64>, AllocError>, old: &mut u64) -> u32
     ensures { IsToldAs (λ it. it) answer result old.new }
 {
     match answer {

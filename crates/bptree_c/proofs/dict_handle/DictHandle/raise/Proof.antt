@@ -1,0 +1,12 @@
+-- `raise` gives the pointer its type again.
+use Rattle.std.proofs.Common.{refl}
+use Rattle.bptree_c.specs.contracts.dict_handle.DictHandle.{the_type, the_row}
+use Rattle.bptree_c.specs.contracts.dict_handle.DictHandle.raise.Key.{name as #self}
+use Rattle.bptree_c.specs.contracts.dict_handle.Dict.{the_row as Tree}
+use Rattle.bptree_c.proofs.Handles.{raise_met}
+use Rattle.bptree_c.proofs.dict_handle.DictHandle.raise.Statement.{statement}
+use Rattle.bptree_c.proofs.dict_handle.DictHandle.raise.Code as code
+
+pub raise_spec : {M : Type 1} → statement M
+raise_spec 𝓤 𝓛 𝓜 𝓡 wired =
+    raise_met 𝓛 𝓜 𝓡 the_type.name Tree the_row (λ d. d.at) (λ d. d.held) (λ d vs. refl) (λ d. tt) (λ κs x f. refl) #self (code.unfolded 𝓤 𝓛.H 𝓜 𝓡 wired)

@@ -1,0 +1,86 @@
+//! What a caller in C holds of a map of byte strings: one pointer, as `Handle` is of a map of numbers.
+ghost use Rattle.std.specs.Prelude.{◌≡◌, ℕ, List, [], Option, Some, None, IsSome, IfOk, IsTrue};
+
+use crate::bytes::Bytes;
+use crate::loose::Loose;
+use bptree_arguments::count::Count;
+use bptree_maps::map::BPlusTreeMap;
+use std::alloc::Global;
+use std::marker::Model;
+use std::{mem, ptr};
+
+/// A map from byte strings to numbers, with places.
+#[derive(Drop)]
+pub(crate) struct Dict {
+    pub(crate) pairs: BPlusTreeMap<Bytes, u64, Count>,
+}
+
+impl Model for Dict {
+    ghost use Rattle.std.specs.Prelude.{List, ℕ};
+
+    ghost Value = { List (List ℕ × ℕ) };
+
+    ghost view = { λ dict. dict.pairs };
+}
+
+/// A map, or none. The map stands on the heap, and `at` is where.
+#[repr(C)]
+#[derive(Drop)]
+pub struct DictHandle {
+    at: *mut u8,
+    pub ghost held: { Option (List (List ℕ × ℕ)) },
+}
+
+impl Model for DictHandle {
+    ghost use Rattle.bptree_c.specs.Held.{held_owns};
+    ghost use Rattle.bptree_c.specs.contracts.dict_handle.Dict.{the_row};
+
+    ghost also_owns = { λ h. held_owns the_row h.at h.held };
+}
+
+impl DictHandle {
+    fn empty() -> DictHandle
+        ensures { result.held ≡ None }
+    {
+        DictHandle {
+            at: ptr::null_mut(),
+        }
+    }
+
+    fn lower(loose: Loose<Dict, Global>) -> DictHandle
+        ensures { result.held ≡ Some loose.value }
+    {
+        let Loose { at, alloc: _ } = loose;
+        DictHandle { at: at as *mut u8 }
+    }
+
+    fn raise(self, alloc: Global) -> Loose<Dict, Global>
+        requires { IsSome self.held }
+        ensures { Some result.value ≡ self.held }
+    {
+        let DictHandle { at } = self;
+        Loose {
+            at: at as *mut Dict,
+            alloc,
+        }
+    }
+
+    /// The map, which is to be given back.
+    pub(crate) fn take(&mut self, alloc: Global) -> Box<Dict>
+        requires { IsSome self.old.held }
+        ensures taken { Some result.value ≡ self.old.held }
+        ensures left { self.new.held ≡ None }
+    {
+        mem::replace(self, DictHandle::empty())
+            .raise(alloc)
+            .into_box()
+    }
+
+    /// Takes a map, where it has none.
+    pub(crate) fn give(&mut self, map: Box<Dict>)
+        requires { self.old.held ≡ None }
+        ensures { self.new.held ≡ Some map.value }
+    {
+        *self = DictHandle::lower(Loose::of(map));
+    }
+}

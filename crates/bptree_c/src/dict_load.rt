@@ -1,0 +1,111 @@
+//! How a map from byte strings is filled at once, and a pair removed by its place.
+ghost use Rattle.std.specs.Prelude.{◌≡◌, ◌≤◌, Some, None, Ok, IsTrue, false, IfOk, OnErr, length};
+ghost use Rattle.bptree_c.specs.ByteKeys.{by_bytes};
+ghost use Rattle.bptree_c.specs.Dict.{Pairs, IsRemovedAt, TakesValueAt};
+ghost use Rattle.bptree_c.specs.DictPages.{pairs_of};
+ghost use Rattle.bptree_keys.specs.Contents.{gather};
+
+use crate::bytes::Bytes;
+use crate::dict_handle::{Dict, DictHandle};
+use crate::record::Record;
+use crate::writing::told_value;
+use bptree_arguments::count::Count;
+use bptree_maps::map::BPlusTreeMap;
+use bptree_probes::changing::value_of;
+use std::alloc::{AllocError, Global};
+
+/// Puts the given pairs in place of what the map held: the keys' bytes one after another, and of
+/// each pair a record of its key's length and its value. Of equal keys the last is held. It is
+/// false where memory is refused, or there are fewer bytes than the records say; then nothing has
+/// changed.
+#[unsafe(no_mangle)]
+pub extern "C" fn bptree_dict_load(
+    alloc: Global,
+    dict: &mut DictHandle,
+    bytes: &[u8],
+    given: &[Record],
+) -> bool
+    ghost pairs: { Pairs }
+    requires open { dict.old.held ≡ Some pairs }
+    ensures all { IsTrue result → dict.new.held ≡ Some (gather by_bytes (pairs_of bytes.now given.now)) }
+    ensures refused { result ≡ false → dict.new.held ≡ Some pairs }
+{
+    let mut whole = dict.take(alloc);
+    let answer = load_into(alloc, &mut whole, bytes, given);
+    dict.give(whole);
+    answer.is_ok()
+}
+
+fn load_into(
+    alloc: Global,
+    dict: &mut Dict,
+    bytes: &[u8],
+    given: &[Record],
+) -> Result<(), AllocError>
+    ensures ok { IfOk result (λ _. dict.new ≡ gather by_bytes (pairs_of bytes.now given.now)) }
+    ensures err { OnErr result (dict.new ≡ dict.old) }
+{
+    dict.pairs = gathered(alloc, bytes, given)?;
+    Ok(())
+}
+
+fn gathered(
+    alloc: Global,
+    bytes: &[u8],
+    given: &[Record],
+) -> Result<BPlusTreeMap<Bytes, u64, Count>, AllocError>
+    ensures { IfOk result (λ pairs. pairs ≡ gather by_bytes (pairs_of bytes.now given.now)) }
+{
+    let copied = copies(alloc, bytes, given)?;
+    BPlusTreeMap::from_iter(alloc, copied)
+}
+
+fn copies(alloc: Global, bytes: &[u8], given: &[Record]) -> Result<Vec<(Bytes, u64)>, AllocError>
+    ensures { IfOk result (λ copied. copied.items ≡ pairs_of bytes.now given.now) }
+{
+    let mut copied = Vec::with_capacity(alloc, given.len())?;
+    let mut rest = given;
+    let mut left = bytes;
+    while let Some((record, tail)) = rest.split_first() {
+        if left.len() < record.length {
+            return Err(AllocError);
+        }
+        let (key, behind) = left.split_at(record.length);
+        copied.push((Bytes::copy_of(alloc, key)?, record.value))?;
+        left = behind;
+        rest = tail;
+    }
+    Ok(copied)
+}
+
+/// Removes the pair at a place in the order of the keys, from 0 on: 1 where there was one, whose
+/// value is then in `old`, and 0 past the end. It is 2 where it is refused for want of memory; then
+/// nothing has changed. Past the end it is never refused.
+#[unsafe(no_mangle)]
+pub extern "C" fn bptree_dict_remove_at(
+    alloc: Global,
+    dict: &mut DictHandle,
+    place: usize,
+    old: &mut u64,
+) -> u32
+    ghost pairs: { Pairs }
+    requires open { dict.old.held ≡ Some pairs }
+    ensures codes { result ≤ 2 }
+    ensures past { result ≡ 0 → (length pairs ≤ place) × (dict.new.held ≡ Some pairs) }
+    ensures removed { result ≡ 1 → IsRemovedAt pairs place dict.new.held old.new }
+    ensures refused { result ≡ 2 → dict.new.held ≡ Some pairs }
+    ensures sure { length pairs ≤ place → result ≡ 0 }
+{
+    let mut whole = dict.take(alloc);
+    let answer = remove_in(&mut whole, place);
+    dict.give(whole);
+    told_value(answer, old)
+}
+
+fn remove_in(dict: &mut Dict, place: usize) -> Result<Option<u64>, AllocError>
+    ensures ok { IfOk result (TakesValueAt dict.old place dict.new) }
+    ensures past { length dict.old ≤ place → (result ≡ Ok None) × (dict.new ≡ dict.old) }
+    ensures err { OnErr result (dict.new ≡ dict.old) }
+{
+    value_of(dict.pairs.remove_at(place))
+}
