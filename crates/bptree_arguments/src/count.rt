@@ -5,6 +5,7 @@ ghost use Rattle.std.proofs.Common.{rules};
 ghost use Rattle.bptree_arguments.specs.CountLaws.{SelectsPlace, count_below, CountsAtSlot, CountsKeys, Counted, sum_counts};
 ghost use Rattle.bptree_arguments.specs.Ranks.{IsSlotIn, Carries};
 ghost use Rattle.bptree_arguments.specs.Replaced.{SumsUpReplaced};
+ghost use Rattle.bptree_arguments.specs.Selection.{IsPlaceIn};
 ghost use Rattle.bptree_arguments.specs.Sums.{SumsUpKeys, SumsUpPieces, TellsLength};
 ghost use Rattle.bptree_keys.specs.Pieces.{ArePieces};
 ghost use Rattle.bptree_arguments.specs.GroupSums.{capped_sum};
@@ -132,7 +133,13 @@ impl<K: Key> SearchArgument<K> for Count {
 
     ghost selects = { SelectsPlace };
 
-    fn locate_in_leaf(query: usize, keys: &[K]) -> Result<Option<usize>, AllocError> {
+    /// The place itself if a key is there, in constant time.
+    fn locate_in_leaf(query: usize, keys: &[K]) -> Result<Option<usize>, AllocError>
+        requires { length keys.now ≤ 64 }
+        ensures in_range { IfOk result (IsPlaceIn keys.now) }
+        ensures selected { IfOk result (SelectsPlace query keys.now) }
+        ensures sure { IsOk result }
+    {
         if query < keys.len() {
             Ok(Some(query))
         } else {

@@ -19,6 +19,6 @@ none_allowed selects query l n found some (Some j, within, selected, part) none 
 
 -- a count of the keys from one place up to another
 pub part_count : {K : Type 0} (keys : List K) (from to : ℕ) (a : Count) → IsPartSummary (λ (b : Count) (some : List K). b.0 ≡ length some) SelectsPlace from to keys a → a.0 ≡ min to (length keys) - from
-part_count keys from to a (None, past, sums) = omega (arith, past, sums)
-part_count keys from to a (Some i, at, (None, past, sums)) = omega (arith, at.0, at.1, past, sums, length-drop i keys)
-part_count keys from to a (Some i, at, (Some j, end, sums)) = omega (arith, at.0, at.1, end.0, end.1, sums, length-take (j - i) (drop i keys), length-drop i keys)
+part_count keys from to a (None, within, past, sums) = omega (arith, past, sums)
+part_count keys from to a (Some i, here, at, (None, there, past, sums)) = omega (arith, at.0, at.1, past, sums, length-drop i keys)
+part_count keys from to a (Some i, here, at, (Some j, there, end, sums)) = omega (arith, at.0, at.1, end.0, end.1, sums, length-take (j - i) (drop i keys), length-drop i keys)

@@ -6,6 +6,7 @@ use Rattle.std.specs.List.{AllZip, slice_range}
 use Rattle.std.specs.List.Sorted.{IsStrictlySortedBy}
 use Rattle.std.specs.Map.{keys_of}
 use Rattle.std.specs.Option.{option_copied}
+use Rattle.bptree_arguments.specs.Selection.{IsPlaceIn}
 use Rattle.bptree_keys.specs.Contents.{IsAscending}
 use Rattle.bptree_keys.specs.Pieces.{flatten, ArePieces}
 use Rattle.bptree_keys.specs.Ranges.{between}
@@ -40,7 +41,8 @@ run_of xs (Some i) (Some j) = slice_range xs i j
 -- there is none for the first
 abbrev pub IsPartSummary : {K A Q : Type 0} → (A → List K → Type 0) → (Q → List K → Option ℕ → Type 0) → Q → Q → List K → A → Type 0
 IsPartSummary is_summary selects from to keys a =
-    (i : Option ℕ) × selects from keys i × MatchOption i (is_summary a []) (λ _. (j : Option ℕ) × selects to keys j × is_summary a (run_of keys i j))
+    (i : Option ℕ) × IsPlaceIn keys i × selects from keys i
+    × MatchOption i (is_summary a []) (λ _. (j : Option ℕ) × IsPlaceIn keys j × selects to keys j × is_summary a (run_of keys i j))
 
 module _ {K V A : Type 0} (cmp : K → K → Ordering) (is_summary : A → List K → Type 0) where
   -- a summary of the keys of a list between two ends, each of which a reference shows, where it is given

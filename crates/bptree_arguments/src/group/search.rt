@@ -1,6 +1,8 @@
 //! A key by its place in its group.
-ghost use Rattle.std.specs.Prelude.{map};
+ghost use Rattle.std.specs.Prelude.{◌≤◌, IfOk, length, map};
 ghost use Rattle.bptree_arguments.specs.Groups.{SelectsInGroup};
+ghost use Rattle.bptree_arguments.specs.Selection.{IsPlaceIn};
+ghost use Rattle.bptree_keys.specs.Locate.{IfAscending};
 
 use crate::argument::SearchArgument;
 use crate::group::{FromRef, GroupCount};
@@ -17,7 +19,11 @@ impl<K: Key, G: FromRef<K> + Key> SearchArgument<K> for GroupCount<G> {
     ghost selects = { λ query keys place. SelectsInGroup G.cmp query.0 query.1 (map G.group_of keys) place };
 
     /// Of 64 keys it makes the groups of at most 8.
-    fn locate_in_leaf(query: (G, usize), keys: &[K]) -> Result<Option<usize>, AllocError> {
+    fn locate_in_leaf(query: (G, usize), keys: &[K]) -> Result<Option<usize>, AllocError>
+        requires { length keys.now ≤ 64 }
+        ensures in_range { IfOk result (IsPlaceIn keys.now) }
+        ensures selected { IfOk result (IfAscending K.cmp keys.now (SelectsInGroup G.cmp query.0 query.1 (map G.group_of keys.now))) }
+    {
         let (group, offset) = query;
         let start = keys_before(keys, &group, false)?;
         if offset < keys.len() - start {

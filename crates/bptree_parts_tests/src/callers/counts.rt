@@ -1,5 +1,5 @@
 //! Callers of the count of keys.
-ghost use Rattle.std.specs.Prelude.{◌≡◌, ◌<◌, ◌≤◌, ◌+◌, ◌-◌, ◌^◌, ◌∷◌, [], Some, None, true, length, IfOk, IfErr};
+ghost use Rattle.std.specs.Prelude.{◌≡◌, ◌<◌, ◌≤◌, ◌+◌, ◌-◌, ◌^◌, ◌∷◌, [], Some, None, true, length, IfOk, IfErr, IfSome};
 ghost use Rattle.std.specs.List.{AllZip};
 ghost use Rattle.std.specs.List.Sorted.{IsStrictlySortedBy};
 ghost use Rattle.bptree_arguments.specs.Ranks.{IsSlotIn};
@@ -55,6 +55,17 @@ fn adds_two_counts<K: Key>(
 {
     let both = <Count as Argument<K>>::from_inner(separators, &[left, right])?;
     Ok((left.count(), right.count(), both.count()))
+}
+
+// The index that a count finds is one of the keys, in whatever order these are.
+fn finds_an_index_of_any_keys(keys: &[u64], query: usize) -> Option<usize>
+    requires few { length keys.now ≤ 64 }
+    ensures { IfSome result (λ i. i < length keys.now) }
+{
+    match <Count as SearchArgument<u64>>::locate_in_leaf(query, keys) {
+        Ok(found) => found,
+        Err(_) => unreachable!(),
+    }
 }
 
 // A place in a leaf is the place that is asked for, the last one too, and past the end there is

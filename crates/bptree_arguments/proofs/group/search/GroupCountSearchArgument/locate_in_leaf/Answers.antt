@@ -21,26 +21,14 @@ returns-in_err-start-clause-in_range g c = IfOk-from_err c.from_residual.result 
 pub returns-in_err-start-clause-selected : goal.returns-in_err-start-clause-selected
 returns-in_err-start-clause-selected g c = IfOk-from_err c.from_residual.result _ c.from_residual.ensures.0
 
-pub returns-in_err-start-clause-sure : goal.returns-in_err-start-clause-sure
-returns-in_err-start-clause-sure g c = λ sure. absurd sure
-
 pub returns-in_err-of_key-clause-in_range : goal.returns-in_err-of_key-clause-in_range
 returns-in_err-of_key-clause-in_range g c = IfOk-from_err c.from_residual-in_err-of_key.result _ c.from_residual-in_err-of_key.ensures.0
 
 pub returns-in_err-of_key-clause-selected : goal.returns-in_err-of_key-clause-selected
 returns-in_err-of_key-clause-selected g c = IfOk-from_err c.from_residual-in_err-of_key.result _ c.from_residual-in_err-of_key.ensures.0
 
-pub returns-in_err-of_key-clause-sure : goal.returns-in_err-of_key-clause-sure
-returns-in_err-of_key-clause-sure g c = λ sure. absurd sure
-
 pub returns-then-is_eq-clause-in_range : goal.returns-then-is_eq-clause-in_range
-returns-then-is_eq-clause-in_range g c = λ ascending. omega (arith, c.if-offset-keys.true)
-
-pub returns-then-is_eq-clause-sure : goal.returns-then-is_eq-clause-sure
-returns-then-is_eq-clause-sure g c = λ sure. absurd sure
-
-pub returns-clause-sure : goal.returns-clause-sure
-returns-clause-sure g c = λ sure. absurd sure
+returns-then-is_eq-clause-in_range g c = omega (arith, c.if-offset-keys.true)
 
 pub overflow_sub-keys : goal.overflow_sub-keys
 overflow_sub-keys g c = omega (arith, c.in_ok-start.ensures.in_range)
