@@ -4,13 +4,14 @@ ghost use Rattle.bptree_script.specs.Faults.{status_of, fault_text};
 
 use std::fmt;
 
-/// Why serving ended before the end of the input was answered.
+/// Why serving ended before the end of the input was answered. The number of a variant is the exit
+/// status of a program that ends so.
 #[derive(Clone, Copy, Debug, PartialEq, Eq)]
 pub enum ServeError {
     /// A read, a write or the flush failed, a write took no byte, or `u64::MAX` reads met no end.
     Io = 1,
-    /// A request for memory was refused.
-    OutOfMemory = 2,
+    /// An allocation failed.
+    OutOfMemory = 3,
 }
 
 impl ServeError {
@@ -18,10 +19,7 @@ impl ServeError {
     pub fn status(&self) -> u8
         ensures { result ≡ status_of self.now }
     {
-        match self {
-            ServeError::Io => 1,
-            ServeError::OutOfMemory => 3,
-        }
+        *self as u8
     }
 }
 

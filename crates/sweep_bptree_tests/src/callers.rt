@@ -42,11 +42,12 @@ pub fn end_alike(one: &Result<(), ServeError>, other: &Result<(), ServeError>) -
     exit_status(one) == exit_status(other)
 }
 
-/// The status of an error is that of a program that ends by it.
-pub fn status_twice(error: ServeError) -> (u8, u8)
-    ensures { result.0 ≡ result.1 }
+/// The status of an error is that of a program that ends by it, and the number of the variant.
+pub fn status_thrice(error: ServeError) -> (u8, u8, u8)
+    ensures exit { result.0 ≡ result.1 }
+    ensures number { result.0 ≡ result.2 }
 {
-    (error.status(), exit_status(&Err(error)))
+    (error.status(), exit_status(&Err(error)), error as u8)
 }
 
 /// What is told of a fault.
