@@ -1,6 +1,6 @@
 //! A changed child's summary, or the node that it was split into, carried up a path to the root.
 //! What can't be had on the way is refused, and then every node of the path is again what it was.
-ghost use Rattle.std.specs.Prelude.{◌≡◌, ◌+◌, ◌<◌, ◌≤◌, List, ◌∷◌, [], length, IfOk, IfErr, IfSome, OnErr};
+ghost use Rattle.std.specs.Prelude.{◌≡◌, ◌+◌, ◌<◌, ◌≤◌, List, ◌∷◌, [], length, IfOk, IfErr, IfSome, IsOk, OnErr};
 ghost use Rattle.std.specs.Option.{option_copied};
 ghost use Rattle.bptree_nodes.specs.Inner.{HasKeys};
 ghost use Rattle.bptree_nodes.specs.Slot.{Free, IsPresent};
@@ -69,7 +69,8 @@ fn sum_of_changed<S: NodeStore>(
     requires present { IsPresent ((S.slots store.now).inner id.0) }
     requires place { place < length (inner_arguments ((S.slots store.now).inner id.0)) }
     requires above { HasPlaceAbove (S.slots store.now) path.now }
-    ensures { IfOk result (SumsUpChanged (S.slots store.now) S.K.cmp S.Argument.is_summary path.now (option_copied whole.entry) id place old.now) }
+    ensures sums { IfOk result (SumsUpChanged (S.slots store.now) S.K.cmp S.Argument.is_summary path.now (option_copied whole.entry) id place old.now) }
+    ensures infallible { S.Argument.needs_no_memory → IsOk result }
 {
     let node = store.get_inner(id);
     if let Some(kept) = kept_above(store, path, whole) {
@@ -91,6 +92,7 @@ fn climb<S: NodeStore>(
     ensures rises { RisesFrom S.K.cmp S.Argument.is_summary (S.slots store.old) (S.slots store.new) path.old (option_copied whole.entry) summary result }
     ensures refused { OnErr result (S.slots store.new ≡ S.slots store.old) }
     ensures handed_back { IfErr result (λ back. back ≡ summary) }
+    ensures infallible { S.Argument.needs_no_memory → IsOk result }
 {
     if S::Argument::is_zst() {
         return Ok(summary);
@@ -121,6 +123,7 @@ pub fn ascend<S: NodeStore>(
     ensures rises { (c : Climbs S.K.cmp S.Argument.is_summary (S.slots store.old) path.old summary) → IfOk result (λ top. Risen c.climb (S.slots store.new) top) }
     ensures refused { OnErr result (S.slots store.new ≡ S.slots store.old) }
     ensures handed_back { IfErr result (λ back. back ≡ summary) }
+    ensures infallible { S.Argument.needs_no_memory → IsOk result }
 {
     ascend_below(store, path, None, summary)
 }
@@ -139,6 +142,7 @@ pub fn ascend_below<'a, S: NodeStore>(
     ensures rises { RisesFrom S.K.cmp S.Argument.is_summary (S.slots store.old) (S.slots store.new) path.old (option_copied whole.entry) summary result }
     ensures refused { OnErr result (S.slots store.new ≡ S.slots store.old) }
     ensures handed_back { IfErr result (λ back. back ≡ summary) }
+    ensures infallible { S.Argument.needs_no_memory → IsOk result }
 {
     climb(store, path, whole, summary)
 }

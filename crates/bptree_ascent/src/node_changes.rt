@@ -1,6 +1,6 @@
 //! An inner node that takes new summaries of its children, and is asked for its own. Each change
 //! can be undone.
-ghost use Rattle.std.specs.Prelude.{◌≡◌, ◌<◌, ◌≤◌, ◌+◌, List, [], length, slice_get, Some, IfOk, IfErr, OnErr};
+ghost use Rattle.std.specs.Prelude.{◌≡◌, ◌<◌, ◌≤◌, ◌+◌, List, [], length, slice_get, Some, IfOk, IfErr, IsOk, OnErr};
 ghost use Rattle.bptree_nodes.specs.Inner.{HasKeys};
 ghost use Rattle.bptree_ascent.specs.Sums.{SumsUp, with_summary, HasPlace, IsCut, with_division};
 ghost use Rattle.bptree_ascent.specs.Undoing.{GivesEntry, UndoesCut, UndoesDivision};
@@ -51,6 +51,7 @@ pub fn resum<K: Key, A: Argument<K>>(
     ensures sums { IfOk result (λ sums. SumsUp K.cmp A.is_summary node.new sums.above) }
     ensures refused { OnErr result (node.new ≡ node.old) }
     ensures handed_back { IfErr result (λ back. back ≡ summary) }
+    ensures infallible { A.needs_no_memory → IsOk result }
 {
     let old = node.set_argument(place, summary);
     match A::from_inner(node.keys(), node.arguments()) {
@@ -74,6 +75,7 @@ pub fn take_entry<K: Key, A: Argument<K>>(
     ensures sums { IfOk result (λ sums. SumsUp K.cmp A.is_summary node.new sums.above) }
     ensures refused { OnErr result (node.new ≡ node.old) }
     ensures handed_back { IfErr result (λ back. back ≡ division) }
+    ensures infallible { A.needs_no_memory → IsOk result }
 {
     let old = node.set_argument(place, division.left);
     node.insert_at(place, division.separator, division.node, division.right);

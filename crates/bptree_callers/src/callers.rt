@@ -16,6 +16,7 @@ mod pages;
 mod queries;
 mod ranges;
 mod reads;
+mod removals;
 mod sets;
 mod thinned;
 mod together;

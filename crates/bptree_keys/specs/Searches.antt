@@ -1,5 +1,5 @@
 -- Where a search among keys is.
-use Rattle.std.specs.Prelude.{◌≡◌, ◌+◌, ◌-◌, ◌<◌, ◌≤◌, ℕ, List, length}
+use Rattle.std.specs.Prelude.{◌≡◌, ◌+◌, ◌-◌, ◌^◌, ◌<◌, ◌≤◌, ℕ, min, List, length}
 use Rattle.std.specs.declared.cmp.Ordering.{Ordering}
 use Rattle.std.specs.declared.cmp.Ordering.TheVariants.{Greater}
 use Rattle.std.specs.List.{AllWithin, HoldsAt}
@@ -19,3 +19,7 @@ pub record IsAmong {X : Type 0} (ord : X → Ordering) (xs : List X) (base width
 pub record CountsAmong {X : Type 0} (ord : X → Ordering) (xs : List X) (base width : ℕ) : Type 0 where
   pub low : 0 < base → HoldsAt (λ y. ordering_index (ord y) ≤ 1) xs (base - 1)
   pub high : IsAbove ord xs (base + width - 1)
+
+-- a comparison was added to the count, which ends at the greatest `usize`
+abbrev pub CountsOne : ℕ → ℕ → Type 0
+CountsOne old new = min (old + 1) (2 ^ 64 - 1) ≤ new

@@ -3,7 +3,7 @@ ghost use Rattle.std.specs.Prelude.{◌≡◌, ◌+◌, ◌^◌, ◌<◌, ◌≤
 ghost use Rattle.std.specs.List.{HoldsAt};
 ghost use Rattle.std.specs.List.Sorted.{IsBinarySearchResult, IsSearchInRange, IsStrictlySortedBy};
 ghost use Rattle.bptree_keys.specs.Locate.{locate, CountsUpTo};
-ghost use Rattle.bptree_keys.specs.Searches.{IsAmong, IsAbove, CountsAmong};
+ghost use Rattle.bptree_keys.specs.Searches.{IsAmong, IsAbove, CountsAmong, CountsOne};
 
 use std::cmp::Ordering;
 use std::marker::Model;
@@ -152,6 +152,7 @@ fn search_among<K: Ord>(
     ensures in_range { IsSearchInRange result (length keys.now) }
     ensures position { IsBinarySearchResult (λ y. K.cmp y key.now) keys.now result }
     ensures counts_on { compares.old ≤ compares.new }
+    ensures counts { CountsOne compares.old compares.new }
     ensures count { (steps : ℕ) → width ≤ 2 ^ steps → compares.new ≤ compares.old + steps + 1 }
 {
     let first = halved(keys, key, base, width, 1, compares);
@@ -179,6 +180,7 @@ fn search_beside<K: Ord>(
     ensures in_range { IsSearchInRange result (length keys.now) }
     ensures position { IsBinarySearchResult (λ y. K.cmp y key.now) keys.now result }
     ensures counts_on { compares.old ≤ compares.new }
+    ensures counts { CountsOne compares.old compares.new }
     ensures count { (steps : ℕ) → width ≤ 2 ^ steps → compares.new ≤ compares.old + steps + 1 }
 {
     let first = halved(keys, key, base, width, 2, compares);
@@ -207,6 +209,7 @@ fn search_ends<K: Ord>(
     ensures in_range { IsSearchInRange result (length keys.now) }
     ensures position { IsBinarySearchResult (λ y. K.cmp y key.now) keys.now result }
     ensures counts_on { compares.old ≤ compares.new }
+    ensures counts { CountsOne compares.old compares.new }
     ensures count { (steps : ℕ) → width ≤ 2 ^ steps → compares.new ≤ compares.old + steps + 2 }
 {
     let rest = keys.len() - width;
@@ -223,6 +226,7 @@ fn search_many<K: Ord>(keys: &[K], key: &K, compares: &mut Compares) -> Result<u
     ensures in_range { IsSearchInRange result (length keys.now) }
     ensures position { IsBinarySearchResult (λ y. K.cmp y key.now) keys.now result }
     ensures counts_on { compares.old ≤ compares.new }
+    ensures counts { CountsOne compares.old compares.new }
     ensures count { compares.new ≤ compares.old + 7 }
 {
     let count = keys.len();
@@ -247,6 +251,7 @@ fn search_later<K: Ord>(
     ensures in_range { IsSearchInRange result (length keys.now) }
     ensures position { IsBinarySearchResult (λ y. K.cmp y key.now) keys.now result }
     ensures counts_on { compares.old ≤ compares.new }
+    ensures counts { CountsOne compares.old compares.new }
     ensures count { compares.new ≤ compares.old + 6 }
 {
     let is_past = compares.compare(&keys[base + step], key).is_le();
@@ -260,6 +265,7 @@ fn search_few<K: Ord>(keys: &[K], key: &K, compares: &mut Compares) -> Result<us
     ensures in_range { IsSearchInRange result (length keys.now) }
     ensures position { IsBinarySearchResult (λ y. K.cmp y key.now) keys.now result }
     ensures counts_on { compares.old ≤ compares.new }
+    ensures counts { 0 < length keys.now → CountsOne compares.old compares.new }
     ensures count { compares.new ≤ compares.old + 7 }
 {
     let count = keys.len();
@@ -292,6 +298,7 @@ fn search_by_branch<K: Ord>(
     ensures in_range { IsSearchInRange result (length keys.now) }
     ensures position { IsBinarySearchResult (λ y. K.cmp y key.now) keys.now result }
     ensures counts_on { compares.old ≤ compares.new }
+    ensures counts { CountsOne compares.old compares.new }
     ensures count { compares.new ≤ compares.old + 6 }
 {
     if compares.compare(&keys[base + step], key).is_le() {
@@ -308,6 +315,7 @@ fn search_far<K: Ord>(keys: &[K], key: &K, compares: &mut Compares) -> Result<us
     ensures in_range { IsSearchInRange result (length keys.now) }
     ensures position { IsBinarySearchResult (λ y. K.cmp y key.now) keys.now result }
     ensures counts_on { compares.old ≤ compares.new }
+    ensures counts { 0 < length keys.now → CountsOne compares.old compares.new }
     ensures count { compares.new ≤ compares.old + 7 }
 {
     let count = keys.len();
@@ -338,6 +346,7 @@ fn search_halves<K: Ord>(
     ensures in_range { IsSearchInRange result (length keys.now) }
     ensures position { IsBinarySearchResult (λ y. K.cmp y key.now) keys.now result }
     ensures counts_on { compares.old ≤ compares.new }
+    ensures counts { 0 < end → CountsOne compares.old compares.new }
     ensures count { (steps : ℕ) → end < 2 ^ steps → compares.new ≤ compares.old + steps }
 {
     let mut low = 0usize;
@@ -360,6 +369,7 @@ fn search_from_end<K: Ord>(keys: &[K], key: &K, compares: &mut Compares) -> Resu
     ensures in_range { IsSearchInRange result (length keys.now) }
     ensures position { IsBinarySearchResult (λ y. K.cmp y key.now) keys.now result }
     ensures counts_on { compares.old ≤ compares.new }
+    ensures counts { 0 < length keys.now → CountsOne compares.old compares.new }
     ensures count { compares.new ≤ compares.old + 7 }
 {
     let count = keys.len();
@@ -382,6 +392,7 @@ pub fn locate_counted<K: Ord>(keys: &[K], key: &K, compares: &mut Compares) -> R
     ensures found { IfOk result (HoldsAt (λ y. K.cmp y key.now ≡ Ordering.Equal) keys.now) }
     ensures ascending { IsStrictlySortedBy K.cmp keys.now → result ≡ locate K.cmp keys.now key.now }
     ensures counts_on { compares.old ≤ compares.new }
+    ensures counts { 0 < length keys.now → CountsOne compares.old compares.new }
     ensures count { compares.new ≤ compares.old + 7 }
 {
     if size_of_val(key) > LONG {
@@ -405,6 +416,7 @@ pub fn locate_below_counted<K: Ord>(
     ensures found { IfOk result (HoldsAt (λ y. K.cmp y key.now ≡ Ordering.Equal) keys.now) }
     ensures ascending { IsStrictlySortedBy K.cmp keys.now → result ≡ locate K.cmp keys.now key.now }
     ensures counts_on { compares.old ≤ compares.new }
+    ensures counts { 0 < length keys.now → CountsOne compares.old compares.new }
     ensures count { compares.new ≤ compares.old + 7 }
 {
     match compares.leaning {

@@ -1,5 +1,5 @@
 //! An ordered map.
-ghost use Rattle.std.specs.Prelude.{◌≡◌, ◌≤◌, List, [], None, Some, Ok, length, slice_get, false, IfOk, IfErr, OnErr, IsOk, IsOkUnless, IsTrue, ◌↔◌, is_ok};
+ghost use Rattle.std.specs.Prelude.{◌≡◌, ◌<◌, ◌≤◌, List, [], None, Some, Ok, length, slice_get, false, IfOk, IfErr, OnErr, IsOk, IsOkUnless, IsTrue, ◌↔◌, is_ok};
 ghost use Rattle.std.specs.Borrow.{Lends, LendsIf, LendsSoOk, sem};
 ghost use Rattle.std.specs.Map.{keys_of, values_of};
 ghost use Rattle.std.specs.Iterator.{IsFiniteIterable as AreFinite};
@@ -13,6 +13,7 @@ ghost use Rattle.bptree_arguments.specs.Visits.{answered, IsAllowedError};
 ghost use Rattle.bptree_ascent.specs.Lending.{written};
 ghost use Rattle.bptree_descents.specs.ByArgument.{IsPartSelected, IsTaken};
 ghost use Rattle.bptree_keys.specs.Contents.{IsAscending, has, value, gather, next, last_member};
+ghost use Rattle.bptree_keys.specs.Keys.{AllInfallible};
 ghost use Rattle.bptree_keys.specs.Ranges.{part};
 ghost use Rattle.bptree_maps.specs.Gathering.{AreFewFor, IsMapOf};
 ghost use Rattle.bptree_maps.specs.Places.{place};
@@ -150,10 +151,12 @@ impl<K: Key, V: Drop, A: Argument<K>> BPlusTreeMap<K, V, A> {
         self.inner.get_key_value(k)
     }
 
-    /// The same as `get`, and how many comparisons of keys it made.
+    /// The value at a key equal to `k`, and a count of comparisons of keys: at least 1 unless the
+    /// map is empty. That the search makes no comparison that it does not count is tested.
     pub fn get_counted(&self, k: &K) -> (Option<&V>, usize)
         ensures value { option_copied result.0 ≡ value K.cmp self.now k.now }
         ensures count { AreFewFor (length self.now) result.1 }
+        ensures some { 0 < length self.now → 0 < result.1 }
     {
         // Read, so that it is known to be low.
         let _height = self.inner.height();
@@ -189,6 +192,7 @@ impl<K: Key, V: Drop, A: Argument<K>> BPlusTreeMap<K, V, A> {
         ensures ok { IfOk result (Removes K.cmp k.now self.old self.new) }
         ensures absent { has K.cmp self.old k.now ≡ false → result ≡ Ok None }
         ensures err { OnErr result (self.new ≡ self.old) }
+        ensures infallible { A.needs_no_memory → AllInfallible K.is_infallible → IsOk result }
     {
         self.inner.remove(k)
     }
@@ -254,6 +258,7 @@ impl<K: Key, V: Drop, A: Argument<K>> BPlusTreeMap<K, V, A> {
         ensures ok { IfOk result (RemovesEntry K.cmp k.now self.old self.new) }
         ensures absent { has K.cmp self.old k.now ≡ false → result ≡ Ok None }
         ensures err { OnErr result (self.new ≡ self.old) }
+        ensures infallible { A.needs_no_memory → AllInfallible K.is_infallible → IsOk result }
     {
         self.inner.remove_entry(k)
     }
@@ -268,6 +273,7 @@ impl<K: Key, V: Drop, A: Argument<K>> BPlusTreeMap<K, V, A> {
         ensures stored { IfOk result (PopsFirst self.old self.new) }
         ensures empty { self.old ≡ [] → result ≡ Ok None }
         ensures err { OnErr result (self.new ≡ self.old) }
+        ensures infallible { A.needs_no_memory → AllInfallible K.is_infallible → IsOk result }
     {
         self.inner.pop_first()
     }
@@ -281,6 +287,7 @@ impl<K: Key, V: Drop, A: Argument<K>> BPlusTreeMap<K, V, A> {
         ensures stored { IfOk result (PopsLast self.old self.new) }
         ensures empty { self.old ≡ [] → result ≡ Ok None }
         ensures err { OnErr result (self.new ≡ self.old) }
+        ensures infallible { A.needs_no_memory → AllInfallible K.is_infallible → IsOk result }
     {
         self.inner.pop_last()
     }
@@ -345,6 +352,7 @@ impl<K: Key, V: Drop, A: Argument<K>> BPlusTreeMap<K, V, A> {
         ensures ok { IfOk result (IsTaken A.selects query self.old self.new) }
         ensures by_key { IfOk result (RemovesTold K.cmp self.old self.new) }
         ensures err { OnErr result (self.new ≡ self.old) }
+        ensures infallible { A.needs_no_memory → AllInfallible K.is_infallible → IsOk result }
     {
         self.inner.remove_by_argument(query)
     }
@@ -597,6 +605,7 @@ impl<K: Key, V: Drop> BPlusTreeMap<K, V, Count> {
         ensures ok { IfOk result (λ gone. (gone ≡ slice_get self.old i) × (self.new ≡ remove self.old i)) }
         ensures past { length self.old ≤ i → result ≡ Ok None }
         ensures err { OnErr result (self.new ≡ self.old) }
+        ensures infallible { AllInfallible K.is_infallible → IsOk result }
     {
         if i >= self.len() {
             return Ok(None);

@@ -13,11 +13,11 @@ use Rattle.bptree_shape.specs.Shape.{leaf_pairs, inner_keys, inner_children}
 use Rattle.bptree_rebalancing.specs.declared.rotate_merge.Sibling.{Sibling}
 use Rattle.bptree_rebalancing.specs.declared.rotate_merge.Sibling.TheVariants.{Left, Right}
 
--- which sibling gives, where one does, and the slot of the separator between the two
-abbrev pub ChosenSibling : ℕ → Bool → ℕ → ℕ → Option Sibling → Type 0
-ChosenSibling place gives after slot (Some Left) = (gives ≡ true) × (suc slot ≡ place)
-ChosenSibling place gives after slot (Some Right) = (16 < after) × (slot ≡ place)
-ChosenSibling place gives after slot None = (gives ≡ false) × (after ≤ 16) × ((suc slot ≡ place) ⊎ ((slot ≡ place) × (place ≡ 0)))
+-- which sibling gives, if one has more than the minimum, and the slot of the separator between the two
+abbrev pub ChosenSibling : ℕ → Bool → ℕ → ℕ → ℕ → Option Sibling → Type 0
+ChosenSibling place gives after minimum slot (Some Left) = (gives ≡ true) × (suc slot ≡ place)
+ChosenSibling place gives after minimum slot (Some Right) = (minimum < after) × (slot ≡ place)
+ChosenSibling place gives after minimum slot None = (gives ≡ false) × (after ≤ minimum) × ((suc slot ≡ place) ⊎ ((slot ≡ place) × (place ≡ 0)))
 
 -- the same by the sizes of the children: a sibling that gives has more than 16, and one to merge with has no more
 abbrev pub ChoosesSibling : (ℕ → ℕ) → ℕ → ℕ → Option Sibling → Type 0

@@ -1,7 +1,8 @@
 //! Two siblings and their parent, all three in hand: one child or pair rotates, or the siblings
 //! merge. What can't be had on the way is refused, and then all three nodes are again what they
 //! were.
-ghost use Rattle.std.specs.Prelude.{◌≡◌, ◌<◌, ◌≤◌, ◌+◌, [], length, IfOk, OnErr, IfErr};
+ghost use Rattle.std.specs.Prelude.{◌≡◌, ◌<◌, ◌≤◌, ◌+◌, [], length, IfOk, IsOk, OnErr, IfErr};
+ghost use Rattle.bptree_keys.specs.Keys.{AllInfallible};
 ghost use Rattle.bptree_rebalancing.specs.Transfer.{other_of, CanGive, MovesChild, ExchangesJoint};
 ghost use Rattle.bptree_rebalancing.specs.RotateMerge.{MergesLeaves, RotatesInners, MergesInners, TakesInner, TakesInners, TakesLeaf, TellsLeaves, UndoesMergeInners, UndoesMergeLeaves, UndoesRotateInners};
 ghost use Rattle.bptree_ascent.specs.Sums.{HasPlace, SumsUp};
@@ -72,7 +73,8 @@ pub fn joint_of<K: Key, V: Drop, A: Argument<K>>(
     right: &LeafNode<K, V>,
 ) -> Result<Joint<K, A>, AllocError>
     requires { 0 < length right.now.pairs }
-    ensures { IfOk result (TellsLeaves K.cmp A.is_summary left.now right.now) }
+    ensures sums { IfOk result (TellsLeaves K.cmp A.is_summary left.now right.now) }
+    ensures infallible { A.needs_no_memory → AllInfallible K.is_infallible → IsOk result }
 {
     let separator = right.data_at(0).0.clone()?;
     let left = A::from_leaf(left.keys())?;
@@ -117,6 +119,7 @@ pub fn take_joint<K: Key, A: Argument<K>>(
     ensures exchanges { IfOk result (λ done. ExchangesJoint slot node.old joint done.1 node.new) }
     ensures sums { IfOk result (λ done. SumsUp K.cmp A.is_summary node.new done.0) }
     ensures refused { OnErr result (node.new ≡ node.old) }
+    ensures infallible { A.needs_no_memory → IsOk result }
 {
     let before = exchange_joint(node, slot, joint);
     match A::from_inner(node.keys(), node.arguments()) {
@@ -145,6 +148,7 @@ fn ask_inners<K: Key, A: Argument<K>>(
     ensures sums { IfOk result (λ sums. SumsUp K.cmp A.is_summary node.new sums.above) }
     ensures refused { OnErr result (node.new ≡ node.old) }
     ensures handed_back { IfErr result (λ back. back ≡ separator) }
+    ensures infallible { A.needs_no_memory → IsOk result }
 {
     let Ok(left) = A::from_inner(left.keys(), left.arguments()) else {
         return Err(separator);
@@ -175,6 +179,7 @@ fn ask_leaf<K: Key, V: Drop, A: Argument<K>>(
     ensures merges { IfOk result (TakesLeaf K.cmp A.is_summary node.old slot leaf.now node.new) }
     ensures sums { IfOk result (λ sums. SumsUp K.cmp A.is_summary node.new sums.above) }
     ensures refused { OnErr result (node.new ≡ node.old) }
+    ensures infallible { A.needs_no_memory → IsOk result }
 {
     let both = A::from_leaf(leaf.keys())?;
     match resum(node, slot, both) {
@@ -193,6 +198,7 @@ fn ask_inner<K: Key, A: Argument<K>>(
     ensures merges { IfOk result (TakesInner K.cmp A.is_summary node.old slot child.now node.new) }
     ensures sums { IfOk result (λ sums. SumsUp K.cmp A.is_summary node.new sums.above) }
     ensures refused { OnErr result (node.new ≡ node.old) }
+    ensures infallible { A.needs_no_memory → IsOk result }
 {
     let both = A::from_inner(child.keys(), child.arguments())?;
     match resum(node, slot, both) {
@@ -217,6 +223,7 @@ pub fn merge_leaves<K: Key, V: Drop, A: Argument<K>>(
     ensures node { OnErr result (node.new ≡ node.old) }
     ensures left { OnErr result (left.new ≡ left.old) }
     ensures right { OnErr result (right.new ≡ right.old) }
+    ensures infallible { A.needs_no_memory → IsOk result }
 {
     let kept = left.len();
     let next = left.next();
@@ -283,6 +290,7 @@ pub fn rotate_inners<K: Key, A: Argument<K>>(
     ensures node { OnErr result (node.new ≡ node.old) }
     ensures left { OnErr result (left.new ≡ left.old) }
     ensures right { OnErr result (right.new ≡ right.old) }
+    ensures infallible { A.needs_no_memory → IsOk result }
 {
     let (separator, child, old) = node.remove_at(slot);
     let up = move_child(giver, left, separator, right);
@@ -342,6 +350,7 @@ pub fn merge_inners<K: Key, A: Argument<K>>(
     ensures node { OnErr result (node.new ≡ node.old) }
     ensures left { OnErr result (left.new ≡ left.old) }
     ensures right { OnErr result (right.new ≡ right.old) }
+    ensures infallible { A.needs_no_memory → IsOk result }
 {
     let kept = left.len();
     // Read, so that it is known to fit.

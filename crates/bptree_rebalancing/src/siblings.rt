@@ -1,6 +1,7 @@
 //! Two siblings in a store, under their parent: they rotate or merge. Each change can be undone,
 //! and a refused one leaves every slot as it was.
-ghost use Rattle.std.specs.Prelude.{◌≡◌, ◌<◌, ◌≤◌, ◌+◌, length, IfOk, OnErr};
+ghost use Rattle.std.specs.Prelude.{◌≡◌, ◌<◌, ◌≤◌, ◌+◌, length, IfOk, IsOk, OnErr};
+ghost use Rattle.bptree_keys.specs.Keys.{AllInfallible};
 ghost use Rattle.bptree_nodes.specs.Slot.{IsPresent};
 ghost use Rattle.bptree_shape.specs.Shape.{leaf_pairs, inner_keys};
 ghost use Rattle.bptree_keys.specs.declared.node_id.NodeId.TheVariants as kind;
@@ -55,6 +56,7 @@ fn retell_leaves_at<S: NodeStore>(
     ensures retells { IfOk result (λ done. RetellsLeavesAt S.K.cmp S.Argument.is_summary slot (S.slots store.old) (S.slots store.new) id left right done.1) }
     ensures sums { IfOk result (SumsUpFirst S.K.cmp S.Argument.is_summary (S.slots store.new) id) }
     ensures refused { OnErr result (S.slots store.new ≡ S.slots store.old) }
+    ensures infallible { S.Argument.needs_no_memory → AllInfallible S.K.is_infallible → IsOk result }
 {
     let joint = joint_of(store.get_leaf(left), store.get_leaf(right))?;
     take_joint(store.get_mut_inner(id), slot, joint)
@@ -80,6 +82,7 @@ pub fn rotate_leaves_at<S: NodeStore>(
     ensures rotates { IfOk result (λ done. RotatesLeavesAt S.K.cmp S.Argument.is_summary slot (S.slots store.old) (S.slots store.new) id giver left right done.1) }
     ensures sums { IfOk result (SumsUpFirst S.K.cmp S.Argument.is_summary (S.slots store.new) id) }
     ensures refused { OnErr result (S.slots store.new ≡ S.slots store.old) }
+    ensures infallible { S.Argument.needs_no_memory → AllInfallible S.K.is_infallible → IsOk result }
 {
     move_pair_at(store, giver, left, right);
     match retell_leaves_at(store, id, slot, left, right) {
@@ -133,6 +136,7 @@ pub fn merge_leaves_at<S: NodeStore>(
     ensures merges { IfOk result (λ done. MergesLeavesAt S.K.cmp S.Argument.is_summary slot (S.slots store.old) (S.slots store.new) id left right done.1 done.2.value) }
     ensures sums { IfOk result (λ done. SumsUpAt S.K.cmp S.Argument.is_summary ((S.slots store.new).inner id.0) done.0) }
     ensures refused { OnErr result (S.slots store.new ≡ S.slots store.old) }
+    ensures infallible { S.Argument.needs_no_memory → IsOk result }
 {
     let mut node = store.take_inner(id);
     let mut one = store.take_leaf(left);
@@ -194,6 +198,7 @@ pub fn rotate_inners_at<S: NodeStore>(
     ensures rotates { IfOk result (λ done. RotatesInnersAt S.K.cmp S.Argument.is_summary slot (S.slots store.old) (S.slots store.new) id giver left right done.1) }
     ensures sums { IfOk result (SumsUpFirst S.K.cmp S.Argument.is_summary (S.slots store.new) id) }
     ensures refused { OnErr result (S.slots store.new ≡ S.slots store.old) }
+    ensures infallible { S.Argument.needs_no_memory → IsOk result }
 {
     let mut node = store.take_inner(id);
     let mut one = store.take_inner(left);
@@ -248,6 +253,7 @@ pub fn merge_inners_at<S: NodeStore>(
     ensures merges { IfOk result (λ done. MergesInnersAt S.K.cmp S.Argument.is_summary slot (S.slots store.old) (S.slots store.new) id left right done.1 done.2.value) }
     ensures sums { IfOk result (λ done. SumsUpAt S.K.cmp S.Argument.is_summary ((S.slots store.new).inner id.0) done.0) }
     ensures refused { OnErr result (S.slots store.new ≡ S.slots store.old) }
+    ensures infallible { S.Argument.needs_no_memory → IsOk result }
 {
     let mut node = store.take_inner(id);
     let mut one = store.take_inner(left);

@@ -1,6 +1,6 @@
 //! Underflow in a tree that stands in a store: which sibling a node rotates or merges with, and
 //! inner nodes that are rebalanced up the path.
-ghost use Rattle.std.specs.Prelude.{◌≡◌, ◌<◌, ◌+◌, IfOk, OnErr, IsTrue};
+ghost use Rattle.std.specs.Prelude.{◌≡◌, ◌<◌, ◌+◌, IfOk, IsOk, OnErr, IsTrue};
 ghost use Rattle.bptree_keys.specs.declared.node_id.NodeId.TheVariants as kind;
 ghost use Rattle.bptree_nodes.specs.Slot.{IsPresent};
 ghost use Rattle.bptree_ascent.specs.Climb.{Climbs, Risen};
@@ -24,16 +24,17 @@ use std::alloc::AllocError;
 /// gives, where one can; else they merge.
 pub type SiblingChoice = (usize, Option<Sibling>);
 
-// What is chosen for a child at a place. `gives` is whether the sibling before it gives, and
-// `after` how many the one behind it has, or 0 where none stands.
-fn choose_sibling(place: usize, gives: bool, after: usize) -> SiblingChoice
+// The sibling that is chosen for a child at an index. `gives` is whether the sibling before it
+// gives, `after` the number of pairs or keys of the sibling after it, or 0 if there is none, and
+// `minimum` the least number of these in a node of the children's level.
+fn choose_sibling(place: usize, gives: bool, after: usize, minimum: usize) -> SiblingChoice
     requires { IsTrue gives → 0 < place }
-    ensures { ChosenSibling place gives after result.0 result.1 }
+    ensures { ChosenSibling place gives after minimum result.0 result.1 }
 {
     if gives {
         return (place - 1, Some(Sibling::Left));
     }
-    if after > LEAF_MINIMUM {
+    if after > minimum {
         return (place, Some(Sibling::Right));
     }
     if place > 0 {
@@ -67,17 +68,14 @@ fn sibling<S: NodeStore>(store: &S, id: InnerNodeId, place: usize, leaves: bool)
     requires place { HasPlaceBelow (S.slots store.now) id place }
     ensures { ChoosesSibling (size_below (S.slots store.now) id) place result.0 result.1 }
 {
+    let minimum = if leaves { LEAF_MINIMUM } else { INNER_MINIMUM };
     let after = child_len(store, id, place + 1);
     if place == 0 {
-        return choose_sibling(place, false, after);
+        return choose_sibling(place, false, after, minimum);
     }
     let before = child_len(store, id, place - 1);
-    let gives = if leaves {
-        before > LEAF_MINIMUM && before > after
-    } else {
-        before > INNER_MINIMUM
-    };
-    choose_sibling(place, gives, after)
+    let gives = before > minimum && (!leaves || before > after);
+    choose_sibling(place, gives, after, minimum)
 }
 
 /// Which sibling the leaf at a place of a node rotates or merges with.
@@ -99,6 +97,7 @@ fn rise<S: NodeStore>(
     requires { Climbs S.K.cmp S.Argument.is_summary (S.slots store.old) path.old summary }
     ensures rises { (c : Climbs S.K.cmp S.Argument.is_summary (S.slots store.old) path.old summary) → IfOk result (λ top. Risen c.climb (S.slots store.new) top) }
     ensures refused { OnErr result (S.slots store.new ≡ S.slots store.old) }
+    ensures infallible { S.Argument.needs_no_memory → IsOk result }
 {
     match ascend(store, path, summary) {
         Ok(top) => Ok(top),
@@ -119,6 +118,7 @@ pub fn ascend_underflow<S: NodeStore>(
     requires { ClimbsUnderflow S.K.cmp S.Argument.is_summary (S.slots store.old) path.old id summary }
     ensures rises { (c : ClimbsUnderflow S.K.cmp S.Argument.is_summary (S.slots store.old) path.old id summary) → IfOk result (λ top. Sunk c.climb (S.slots store.new) top) }
     ensures refused { OnErr result (S.slots store.new ≡ S.slots store.old) }
+    ensures infallible { S.Argument.needs_no_memory → IsOk result }
 {
     if store.get_inner(id).len() >= INNER_MINIMUM {
         return rise(store, path, summary);

@@ -1,7 +1,8 @@
 //! Removal from a tree that stands in a store.
-ghost use Rattle.std.specs.Prelude.{◌≡◌, false, ◌<◌, ◌≤◌, ◌^◌, IfOk, OnErr, IfSome, Some, length, slice_get, [], Ok, None};
+ghost use Rattle.std.specs.Prelude.{◌≡◌, false, ◌<◌, ◌≤◌, ◌^◌, IfOk, IsOk, OnErr, IfSome, Some, length, slice_get, [], Ok, None};
 ghost use Rattle.std.specs.Option.{is_some};
 ghost use Rattle.bptree_keys.specs.Contents.{has};
+ghost use Rattle.bptree_keys.specs.Keys.{AllInfallible};
 ghost use Rattle.bptree_nodes.specs.Slot.{IsPresent};
 ghost use Rattle.bptree_ascent.specs.LeafChange.{SumsUpLeafAt};
 ghost use Rattle.bptree_shape.specs.NodeTree.{IsUntouched, IsWhole};
@@ -48,6 +49,7 @@ fn rebalance_leaf<S: NodeStore>(
     requires { LeafUnderflow S.K.cmp S.Argument.is_summary (S.slots store.old) path.old id place }
     ensures trims { (c : LeafUnderflow S.K.cmp S.Argument.is_summary (S.slots store.old) path.old id place) → IfOk result (λ top. Trims c.climb (S.slots store.new) top) }
     ensures refused { OnErr result (S.slots store.new ≡ S.slots store.old) }
+    ensures infallible { S.Argument.needs_no_memory → AllInfallible S.K.is_infallible → IsOk result }
 {
     let (slot, giver) = leaf_sibling(store, id, place);
     let (left, right) = leaves_at(store, id, slot);
@@ -111,6 +113,7 @@ fn sum_of<S: NodeStore>(store: &S, id: LeafNodeId) -> Result<S::Argument, AllocE
     requires { IsPresent ((S.slots store.now).leaf id.0) }
     ensures some { IfOk result (SumsUpLeafAt S.K.cmp S.Argument.is_summary (S.slots store.now) id) }
     ensures none { NoPairIn (S.slots store.now) id → IfOk result (λ a. S.Argument.is_summary a []) }
+    ensures infallible { S.Argument.needs_no_memory → IsOk result }
 {
     let leaf = store.get_leaf(id);
     if leaf.len() == 0 {
@@ -131,6 +134,7 @@ fn take_in_place<S: NodeStore>(
     requires spare { 0 < length path.old → HasSpare (S.slots store.old) leaf }
     ensures leaves { TakesOut S.K.cmp S.Argument.is_summary (S.slots store.old) (S.slots store.new) path.old leaf slot result }
     ensures refused { OnErr result (S.slots store.new ≡ S.slots store.old) }
+    ensures infallible { S.Argument.needs_no_memory → IsOk result }
 {
     let pair = take_pair(store, leaf, slot);
     let Ok(summary) = sum_of(store, leaf) else {
@@ -158,6 +162,7 @@ pub fn take_out<S: NodeStore>(
     requires { HasPair S.K.cmp S.Argument.is_summary (S.slots store.old) path.old leaf slot }
     ensures leaves { TakesOut S.K.cmp S.Argument.is_summary (S.slots store.old) (S.slots store.new) path.old leaf slot result }
     ensures refused { OnErr result (S.slots store.new ≡ S.slots store.old) }
+    ensures infallible { S.Argument.needs_no_memory → AllInfallible S.K.is_infallible → IsOk result }
 {
     if store.get_leaf(leaf).able_to_lend() {
         return take_in_place(store, path, leaf, slot);
@@ -232,6 +237,7 @@ fn take_below<S: NodeStore>(
     ensures found { TakesFound S.K.cmp S.Argument.is_summary (S.slots store.old) (S.slots store.new) height root path.old leaf slot result }
     ensures taken { TakesEntry S.K.cmp S.Argument.is_summary (S.slots store.old) (S.slots store.new) height root path.old leaf slot result }
     ensures refused { OnErr result (S.slots store.new ≡ S.slots store.old) }
+    ensures infallible { S.Argument.needs_no_memory → AllInfallible S.K.is_infallible → IsOk result }
 {
     let (value, summary) = take_out(store, path, leaf, slot, statistic)?;
     let (root, height) = shrink_root(store, root, height);
@@ -270,6 +276,7 @@ pub fn take_entry<S: NodeStore>(
     ensures taken { TakesAt S.slots S.K.cmp S.Argument.is_summary tree.old tree.new path.old at result }
     ensures whole { IsWhole S.K.cmp S.Argument.is_summary S.slots tree.new }
     ensures refused { OnErr result (IsUntouched S.slots tree.new tree.old) }
+    ensures infallible { S.Argument.needs_no_memory → AllInfallible S.K.is_infallible → IsOk result }
 {
     let gone = take_below(
         &mut tree.store,
@@ -301,6 +308,7 @@ pub fn remove_entry<S: NodeStore>(
     ensures whole { IsWhole S.K.cmp S.Argument.is_summary S.slots tree.new }
     ensures untouched { has S.K.cmp tree.old.contents k.now ≡ false → IsUntouched S.slots tree.new tree.old }
     ensures refused { OnErr result (IsUntouched S.slots tree.new tree.old) }
+    ensures infallible { S.Argument.needs_no_memory → AllInfallible S.K.is_infallible → IsOk result }
 {
     // Read, so that the tree is known to be right.
     let _len = tree.len();
@@ -324,6 +332,7 @@ pub fn remove_end<S: NodeStore>(
     ensures whole { IsWhole S.K.cmp S.Argument.is_summary S.slots tree.new }
     ensures untouched { tree.old.contents ≡ [] → IsUntouched S.slots tree.new tree.old }
     ensures refused { OnErr result (IsUntouched S.slots tree.new tree.old) }
+    ensures infallible { S.Argument.needs_no_memory → AllInfallible S.K.is_infallible → IsOk result }
 {
     path.clear();
     let leaf = end_path(&tree.store, tree.root, tree.height, is_last, path);
@@ -349,6 +358,7 @@ where
     ensures whole { IsWhole S.K.cmp S.Argument.is_summary S.slots tree.new }
     ensures untouched { result ≡ Ok None → IsUntouched S.slots tree.new tree.old }
     ensures refused { OnErr result (IsUntouched S.slots tree.new tree.old) }
+    ensures infallible { S.Argument.needs_no_memory → AllInfallible S.K.is_infallible → IsOk result }
 {
     path.clear();
     match find_path_by_argument(&tree.store, tree.root, tree.height, query, path)? {

@@ -1,5 +1,5 @@
 //! An ordered set.
-ghost use Rattle.std.specs.Prelude.{◌≡◌, ◌*◌, [], false, not, length, slice_get, IfOk, IfErr, OnErr, Ok, Err, None, IsOk, IsTrue, ◌↔◌, List};
+ghost use Rattle.std.specs.Prelude.{◌≡◌, ◌*◌, ◌<◌, [], false, not, length, slice_get, IfOk, IfErr, OnErr, Ok, Err, None, IsOk, IsTrue, ◌↔◌, List};
 ghost use Rattle.std.specs.Borrow.{Lends, sem};
 ghost use Rattle.std.specs.Iterator.{IsFiniteIterable as AreFinite};
 ghost use Rattle.std.specs.List.Sorted.{IsStrictlySortedBy};
@@ -13,6 +13,7 @@ ghost use Rattle.bptree_sets.specs.Rows.{set_row};
 ghost use Rattle.bptree_maps.specs.Gathering.{AreFewFor, IsSetOf};
 ghost use Rattle.bptree_maps.specs.KeyChanges.{IsFullForKey, PutsKey, RemovesKey};
 ghost use Rattle.bptree_keys.specs.Contents.{last_member};
+ghost use Rattle.bptree_keys.specs.Keys.{AllInfallible};
 
 mod borrowed;
 mod bounds;
@@ -131,6 +132,7 @@ impl<K: Key> BPlusTreeSet<K> {
         ensures ok { IfOk result (RemovesKey K.cmp k.now self.old self.new) }
         ensures absent { holds K.cmp self.old k.now ≡ false → result ≡ Ok false }
         ensures err { OnErr result (self.new ≡ self.old) }
+        ensures infallible { AllInfallible K.is_infallible → IsOk result }
     {
         Ok(self.map.remove(k)?.is_some())
     }
@@ -142,10 +144,12 @@ impl<K: Key> BPlusTreeSet<K> {
         self.map.get(k).is_some()
     }
 
-    /// The same as `contains`, and how many comparisons of keys it made.
+    /// Whether some key equals `k`, and a count of comparisons of keys: at least 1 unless the set
+    /// is empty. That the search makes no comparison that it does not count is tested.
     pub fn contains_counted(&self, k: &K) -> (bool, usize)
         ensures value { result.0 ≡ holds K.cmp self.now k.now }
         ensures count { AreFewFor (length self.now) result.1 }
+        ensures some { 0 < length self.now → 0 < result.1 }
     {
         let (value, compares) = self.map.get_counted(k);
         (value.is_some(), compares)
@@ -171,6 +175,7 @@ impl<K: Key> BPlusTreeSet<K> {
         ensures ok { IfOk result (λ gone. TakesFirst (λ key. key) self.old gone self.new) }
         ensures empty { self.old ≡ [] → result ≡ Ok None }
         ensures err { OnErr result (self.new ≡ self.old) }
+        ensures infallible { AllInfallible K.is_infallible → IsOk result }
     {
         match self.map.pop_first()? {
             Some((key, ())) => Ok(Some(key)),
@@ -187,6 +192,7 @@ impl<K: Key> BPlusTreeSet<K> {
         ensures ok { IfOk result (λ gone. TakesLast (λ key. key) self.old gone self.new) }
         ensures empty { self.old ≡ [] → result ≡ Ok None }
         ensures err { OnErr result (self.new ≡ self.old) }
+        ensures infallible { AllInfallible K.is_infallible → IsOk result }
     {
         match self.map.pop_last()? {
             Some((key, ())) => Ok(Some(key)),

@@ -1,5 +1,5 @@
 -- The first and the last leaf of a tree, and its first and last pair.
-use Rattle.std.proofs.Common.{◌≡◌, ℕ, zero, suc, ◌+◌, ◌-◌, ◌<◌, ◌≤◌, List, [], ◌∷◌, ◌++◌, length, drop, refl, sym, ap, subst, arith, Option, Some, None, append-nil, length-append, slice_get}
+use Rattle.std.proofs.Common.{◌≡◌, ℕ, zero, suc, ◌+◌, ◌-◌, ◌<◌, ◌≤◌, List, [], ◌∷◌, ◌++◌, length, drop, refl, sym, ap, subst, arith, Option, Some, None, append-nil, length-append, slice_get, ◌∙◌}
 use Rattle.std.proofs.Common.{Bor, IfSome, IsSome, ◌↔◌, Bool, cond, true, false}
 use Rattle.std.specs.Option.{option_map}
 use mathlib.Core.Bool.{true≢false}
@@ -133,6 +133,17 @@ module _ {K V A : Type 0} (cmp : K → K → Ordering) (slots : Slots (Inner K A
       by_length : (ps : List (K × V)) → node.pairs ≡ ps → slice_get ps (length ps - 1) ≡ slice_get (pairs_of slots last.stands.before ++ ps) (length (pairs_of slots last.stands.before ++ ps) - 1)
       by_length [] is = rw (empty_alone cmp slots h root leaf last.stands tree (rw (e, is) refl)).0 refl
       by_length (p ∷ ps) is = sym (get_right (pairs_of slots last.stands.before) (p ∷ ps) (omega arith))
+
+  -- Lemma: a leaf of a tree that has pairs has a pair
+  pub leaf_some : StandsIn slots h root leaf → 0 < length (pairs_at slots h root) → 0 < length node.pairs
+  leaf_some in' some = by_length (node.pairs) (refl)
+    where
+      by_length : (ps : List (K × V)) → node.pairs ≡ ps → 0 < length ps
+      by_length [] is =
+          let sides = empty_alone cmp slots h root leaf in' tree (rw (e, is) refl) in
+          let none : pairs_at slots h root ≡ [] = parts_of_read slots h root leaf in' node e ∙ rw (sides.0, sides.1, is) refl in
+          absurd (omega (arith, some, ap length none))
+      by_length (p ∷ ps) is = omega arith
 
   pub end_pair : (is_last : Bool) → IsEndLeaf slots is_last h root leaf → slice_get node.pairs (cond is_last (length node.pairs - 1) 0) ≡ slice_get (pairs_at slots h root) (cond is_last (length (pairs_at slots h root) - 1) 0)
   end_pair true = last_pair

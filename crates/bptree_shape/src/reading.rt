@@ -1,8 +1,9 @@
 //! Reads of the nodes of a tree.
-ghost use Rattle.std.specs.Prelude.{◌≡◌, ◌+◌, ◌*◌, ◌≤◌, length, slice_get};
+ghost use Rattle.std.specs.Prelude.{◌≡◌, ◌+◌, ◌*◌, ◌<◌, ◌≤◌, length, slice_get};
 ghost use Rattle.std.specs.Option.{option_copied, option_map};
 ghost use Rattle.std.specs.Map.Iter.{deref_pair};
 ghost use Rattle.bptree_keys.specs.Contents.{IsAscending, last_member, value};
+ghost use Rattle.bptree_keys.specs.Searches.{CountsOne};
 ghost use Rattle.bptree_shape.specs.NodeTree.{BeginsWith, EndsWith, IsWhole, LeadsTo};
 
 use crate::descent::{find_leaf_counted, first_below, last_below};
@@ -62,6 +63,7 @@ impl<S: NodeStore> Nodes<S> {
     pub fn get_counted<'a>(&'a self, key: &S::K, compares: &mut Compares) -> Option<&'a S::V>
         ensures value { option_copied result ≡ value S.K.cmp self.now.contents key.now }
         ensures counts_on { compares.old ≤ compares.new }
+        ensures counts { 0 < length self.now.contents → CountsOne compares.old compares.new }
         ensures count { compares.new ≤ compares.old + (7 * (self.now.height + 1) + S.HINT_COMPARES) }
     {
         let leaf = self.leaf_for_counted(key, compares);

@@ -3,6 +3,7 @@ ghost use Rattle.std.specs.Prelude.{◌≡◌, ◌+◌, ◌*◌, ◌^◌, ◌<�
 ghost use Rattle.std.specs.Map.{keys_of};
 ghost use Rattle.std.specs.Map.Iter.{ShowsInOrder, deref_pair};
 ghost use Rattle.std.specs.Option.{option_map, option_copied};
+ghost use Rattle.bptree_keys.specs.Keys.{AllInfallible};
 ghost use Rattle.bptree_keys.specs.Contents.{IsAscending, has, value, last_member};
 ghost use Rattle.bptree_nodes.specs.Slot.{IsEmpty};
 ghost use Rattle.bptree_tree.specs.Refusal.{HandsBack};
@@ -108,10 +109,12 @@ impl<S: NodeStore> BPlusTree<S> {
         self.nodes.get(k)
     }
 
-    /// The same as `get`, and how many comparisons of keys it made.
+    /// The value at a key equal to `k`, and a count of comparisons of keys: at least 1 unless the
+    /// tree is empty. That the search makes no comparison that it does not count is tested.
     pub fn get_counted(&self, k: &S::K) -> (Option<&S::V>, usize)
         ensures value { option_copied result.0 ≡ value S.K.cmp self.now.contents k.now }
         ensures count { result.1 ≤ 7 * (self.now.height + 1) + S.HINT_COMPARES }
+        ensures some { 0 < length self.now.contents → 0 < result.1 }
     {
         let mut compares = Compares::new();
         let value = self.nodes.get_counted(k, &mut compares);
@@ -191,6 +194,7 @@ impl<S: NodeStore> BPlusTree<S> {
         ensures untouched { has S.K.cmp self.old.contents k.now ≡ false → HasSameNodes S.slots self.new self.old }
         ensures err { OnErr result (self.new.contents ≡ self.old.contents) }
         ensures unchanged { OnErr result (IsUntouched S.slots self.new self.old) }
+        ensures infallible { S.Argument.needs_no_memory → AllInfallible S.K.is_infallible → IsOk result }
     {
         match self.remove_entry(k)? {
             None => Ok(None),

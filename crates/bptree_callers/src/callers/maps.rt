@@ -63,6 +63,7 @@ fn counts_a_look_up<'a, K: Key, V: Drop, A: Argument<K>>(
     ensures value { option_copied result.0 ≡ value_of K.cmp map.now k.now }
     ensures count { AreFewFor (length map.now) result.1 }
     ensures most { result.1 ≤ 114 }
+    ensures some { 0 < length map.now → 0 < result.1 }
 {
     map.get_counted(k)
 }
@@ -397,6 +398,18 @@ fn counts_the_pairs_of_a_part<K: Key, V: Drop>(
     ensures { IfOk result (λ n. n ≡ min to (length map.now) - from) }
 {
     Ok(map.part_argument(from, to)?.count())
+}
+
+// A part of an empty map has a summary of no keys, for every query.
+fn summarizes_a_part_of_nothing<K: Key, V: Drop, A: SearchArgument<K>>(
+    map: &BPlusTreeMap<K, V, A>,
+    from: <A as SearchArgument<K>>::Query,
+    to: <A as SearchArgument<K>>::Query,
+) -> Result<A, AllocError>
+    requires { map.now ≡ [] }
+    ensures { IfOk result (λ a. A.is_summary a []) }
+{
+    map.part_argument(from, to)
 }
 
 // As many pairs are told as are between two keys, and no call is refused.

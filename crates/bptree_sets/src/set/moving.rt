@@ -1,8 +1,9 @@
 //! One key that is handed out or takes another's place, and many keys at once.
-ghost use Rattle.std.specs.Prelude.{◌≡◌, ◌++◌, false, IfOk, IfErr, OnErr, OnOk, Ok, Some, None};
+ghost use Rattle.std.specs.Prelude.{◌≡◌, ◌++◌, false, IfOk, IfErr, IsOk, OnErr, OnOk, Ok, Some, None};
 ghost use Rattle.std.specs.Iterator.{IsFiniteIterable as AreFinite};
 ghost use Rattle.std.specs.Option.{option_map};
 ghost use Rattle.bptree_tree.specs.Refusal.{pair_of};
+ghost use Rattle.bptree_keys.specs.Keys.{AllInfallible};
 ghost use Rattle.bptree_maps.specs.Keys.{holds, with_key};
 ghost use Rattle.bptree_maps.specs.Moving.{Moves, AllMove, Extends, ExtendsUpTo, MovesKeys};
 ghost use Rattle.bptree_sets.specs.Replacing.{IsNotReplaced};
@@ -34,6 +35,7 @@ impl<K: Key> BPlusTreeSet<K> {
         ensures ok { IfOk result (TakesKey K.cmp k.now self.old self.new) }
         ensures absent { holds K.cmp self.old k.now ≡ false → result ≡ Ok None }
         ensures err { OnErr result (self.new ≡ self.old) }
+        ensures infallible { AllInfallible K.is_infallible → IsOk result }
     {
         let gone = self.map.remove_entry(k)?;
         Ok(key_alone(gone))

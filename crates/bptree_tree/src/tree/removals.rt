@@ -1,6 +1,7 @@
 //! Removals of pairs: with their keys, at both ends, by the summaries of keys, and of all.
-ghost use Rattle.std.specs.Prelude.{◌≡◌, [], false, None, Ok, IfOk, OnErr};
+ghost use Rattle.std.specs.Prelude.{◌≡◌, [], false, None, Ok, IfOk, IsOk, OnErr};
 ghost use Rattle.bptree_keys.specs.Contents.{has};
+ghost use Rattle.bptree_keys.specs.Keys.{AllInfallible};
 ghost use Rattle.bptree_descents.specs.ByArgument.{IsTaken};
 ghost use Rattle.bptree_tree.specs.Whole.{IsWhole, IsUntouched, HasSameNodes};
 ghost use Rattle.bptree_tree.specs.Changes.{PopsEnd, PopsFirst, PopsLast, RemovesEntry, RemovesTold};
@@ -31,6 +32,7 @@ impl<S: NodeStore> BPlusTree<S> {
         ensures untouched { result ≡ Ok None → HasSameNodes S.slots self.new self.old }
         ensures err { OnErr result (self.new.contents ≡ self.old.contents) }
         ensures unchanged { OnErr result (IsUntouched S.slots self.new self.old) }
+        ensures infallible { S.Argument.needs_no_memory → AllInfallible S.K.is_infallible → IsOk result }
     {
         // Read, so that the keys are known to ascend.
         let _len = self.nodes.len();
@@ -48,6 +50,7 @@ impl<S: NodeStore> BPlusTree<S> {
         ensures untouched { has S.K.cmp self.old.contents k.now ≡ false → IsUntouched S.slots self.new self.old }
         ensures err { OnErr result (self.new.contents ≡ self.old.contents) }
         ensures unchanged { OnErr result (IsUntouched S.slots self.new self.old) }
+        ensures infallible { S.Argument.needs_no_memory → AllInfallible S.K.is_infallible → IsOk result }
     {
         // Read, so that the keys are known to ascend.
         let _len = self.nodes.len();
@@ -62,6 +65,7 @@ impl<S: NodeStore> BPlusTree<S> {
         ensures untouched { self.old.contents ≡ [] → IsUntouched S.slots self.new self.old }
         ensures err { OnErr result (self.new.contents ≡ self.old.contents) }
         ensures unchanged { OnErr result (IsUntouched S.slots self.new self.old) }
+        ensures infallible { S.Argument.needs_no_memory → AllInfallible S.K.is_infallible → IsOk result }
     {
         removal::remove_end(
             &mut self.nodes,
@@ -83,6 +87,7 @@ impl<S: NodeStore> BPlusTree<S> {
         ensures untouched { self.old.contents ≡ [] → IsUntouched S.slots self.new self.old }
         ensures err { OnErr result (self.new.contents ≡ self.old.contents) }
         ensures unchanged { OnErr result (IsUntouched S.slots self.new self.old) }
+        ensures infallible { S.Argument.needs_no_memory → AllInfallible S.K.is_infallible → IsOk result }
     {
         self.pop_end(false)
     }
@@ -99,6 +104,7 @@ impl<S: NodeStore> BPlusTree<S> {
         ensures untouched { self.old.contents ≡ [] → IsUntouched S.slots self.new self.old }
         ensures err { OnErr result (self.new.contents ≡ self.old.contents) }
         ensures unchanged { OnErr result (IsUntouched S.slots self.new self.old) }
+        ensures infallible { S.Argument.needs_no_memory → AllInfallible S.K.is_infallible → IsOk result }
     {
         self.pop_end(true)
     }

@@ -48,7 +48,7 @@ returns-in_default-sum_of_changed-clause-handed_back g t c =
 pub climb-requires : goal.climb-requires
 climb-requires g t c κs within = (
   omega (arith, ap length c.in-Some.ensures.some, length-append c.pop.new.self ((c.in-Some.id, c.in-Some.place, c.in-Some.field-0-2) ∷ [])),
-  (within.0, (within.1.0, (within.1.1.0, (within.1.1.1, climbs_keeps g.met.S.K.Ord.total g.S.Argument.Argument.is_summary (g.S.NodeStore.slots c.args.store.now) (g.S.NodeStore.slots c.set_at-old.new.store) c.args.path.now c.args.summary c.requires.climbs c.pop.new.self c.in-Some.id c.in-Some.place c.in-Some.field-0-2 c.in-Some.ensures.some c.set_at-old.result c.set_at-old.ensures.keeps (option_copied c.args.whole) c.requires.had c.in-Ok.above c.in-Ok.ensures)))),
+  (within.0, (within.1.0, (within.1.1.0, (within.1.1.1, climbs_keeps g.met.S.K.Ord.total g.S.Argument.Argument.is_summary (g.S.NodeStore.slots c.args.store.now) (g.S.NodeStore.slots c.set_at-old.new.store) c.args.path.now c.args.summary c.requires.climbs c.pop.new.self c.in-Some.id c.in-Some.place c.in-Some.field-0-2 c.in-Some.ensures.some c.set_at-old.result c.set_at-old.ensures.keeps (option_copied c.args.whole) c.requires.had c.in-Ok.above c.in-Ok.ensures.sums)))),
 )
 
 pub set_at-requires-in-Err-clause-present : goal.set_at-requires-in-Err-clause-present
@@ -59,7 +59,7 @@ set_at-requires-in-Err-clause-place g t c = rw c.in-Err.ensures.refused (place_a
 
 pub returns-in-Ok-climb-clause-rises : goal.returns-in-Ok-climb-clause-rises
 returns-in-Ok-climb-clause-rises g t c climbs =
-    risen_keeps g.met.S.K.Ord.total g.S.Argument.Argument.is_summary (g.S.NodeStore.slots c.args.store.now) (g.S.NodeStore.slots c.set_at-old.new.store) c.args.path.now c.args.summary climbs.climbs c.pop.new.self c.in-Some.id c.in-Some.place c.in-Some.field-0-2 c.in-Some.ensures.some c.set_at-old.result c.set_at-old.ensures.keeps (option_copied c.args.whole) climbs.had c.in-Ok.above c.in-Ok.ensures
+    risen_keeps g.met.S.K.Ord.total g.S.Argument.Argument.is_summary (g.S.NodeStore.slots c.args.store.now) (g.S.NodeStore.slots c.set_at-old.new.store) c.args.path.now c.args.summary climbs.climbs c.pop.new.self c.in-Some.id c.in-Some.place c.in-Some.field-0-2 c.in-Some.ensures.some c.set_at-old.result c.set_at-old.ensures.keeps (option_copied c.args.whole) climbs.had c.in-Ok.above c.in-Ok.ensures.sums
     (g.S.NodeStore.slots c.climb.new.store) c.in-Ok-climb.top c.in-Ok-climb.ensures.rises
 
 pub returns-in-Err-clause-refused : goal.returns-in-Err-clause-refused

@@ -16,6 +16,6 @@ returns-clause-retells g c =
       updates = g.met.S.NodeStore.with_inner_updates c.args.store.now c.args.id.0 c.take_joint.new.node (rw above.ensures.value tt);
       most = rw above.ensures.value at c.requires.most;
       told = c.in_ok-joint.joint;
-      tells = c.in_ok-joint.ensures;
+      tells = c.in_ok-joint.ensures.sums;
       exchanges = x;
     })
