@@ -56,7 +56,7 @@ pub fn rank_of(board: &Board, standing: &Standing) -> Option<usize>
     }
 }
 
-/// The player before whom so many stand; none past the end.
+/// The player at this rank, counted from 0; `None` past the end.
 ///
 /// It needs a map that keeps `Count`, and `get_by_argument`, which goes down one way with at most
 /// one subtraction a child. It takes no memory, and no call is refused.
