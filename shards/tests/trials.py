@@ -46,7 +46,7 @@ def same(name: str, wanted, came) -> None:
 
 
 def skip(name: str, why: str, may_fail: bool = True) -> None:
-    """Counts what cannot be run here. It fails with CI set in the environment, unless it needs a right and no tool."""
+    """Counts what cannot be run here. It fails with CI set in the environment, unless it is a permission that is missing, and no tool."""
     global failed, skipped
     if may_fail and os.environ.get("CI"):
         failed += 1
