@@ -1,5 +1,6 @@
 -- What is done to a list of pairs, read off its keys.
 use Rattle.std.proofs.Common.{◌≡◌, ◌∙◌, sym, ap, List, [], ◌∷◌, ◌++◌, refl, map, Bool, true, false, cond, ◌||◌, ◌&&◌, not, filter, length, ◌+◌, ℕ, Option, Some, None, Result, Ok, Err, ◌↔◌}
+use Rattle.std.specs.Prelude.{IsOk, IsTrue}
 use Rattle.std.proofs.lemmas.Map.{keys-set_value}
 use Rattle.std.proofs.lemmas.Map.Entries.{length-keys_of}
 use Rattle.std.specs.declared.cmp.Ordering.{Ordering}
@@ -20,6 +21,15 @@ use Rattle.bptree_loading.proofs.OrderLemmas.{load_is_gather, load_same, ordered
 use Rattle.bptree_maps.specs.Keys.{holds, with_key, without_key, gathered, keys_between}
 use Rattle.bptree_maps.specs.RetainedKeys.{keys_outside}
 use Rattle.bptree_tree.specs.RangeRemoval.{outside}
+use Rattle.bptree_tree.specs.Changes.{IsFailureOf}
+use Rattle.bptree_tree.specs.Refusal.{pair_of}
+use Rattle.bptree_tree.specs.declared.InsertError.{InsertError}
+use Rattle.bptree_tree.specs.declared.InsertError.TheVariants.{Full, OutOfMemory}
+use Rattle.bptree_tree.proofs.FailureLemmas.{failure_is}
+use Rattle.bptree_maps.specs.KeyChanges.{IsFullForKey, IsKeyFailureOf}
+use Rattle.bptree_maps.specs.Splitting.{IsKeyPartingFailure, IsPartingFailure}
+use Rattle.bptree_maps.specs.declared.refusals.MoveError.{MoveError}
+use Rattle.bptree_maps.specs.declared.refusals.MoveError.TheVariants.{NotTaken, NotStored}
 use Rattle.bptree_maps.specs.KeyBounds.{keys_between_bounds}
 use Rattle.bptree_ranges.specs.Bounds.{between_bounds, is_before_start, is_upto_end}
 
@@ -178,3 +188,17 @@ full_moved (Ok a) s e x same full was on back = absurd same
 
 pub full_never : {A B E P Q : Type 0} (a : A) (b : B) (x : E) → ((Ok b ≡ Err x) ↔ P) → (Q → P) → (Ok a ≡ Err x) ↔ Q
 full_never a b x full back = (λ is. absurd (ok_not_err a x is), λ q. absurd (ok_not_err b x (full.1 (back q))))
+
+-- how an insertion into a set failed, which stays as it was
+module _ {R K : Type 0} (cmp : K → K → Ordering) (most : ℕ) (old new : List K) where
+  pub key_failure_of : (k : K) (result : Result R (InsertError K (Unit {0}))) (error : InsertError K (Unit {0})) → result ≡ Err error → (pair_of error ≡ (k, tt)) × (new ≡ old) → (IsTrue (holds cmp old k) → IsOk result) → ((result ≡ Err (Full k tt)) ↔ IsFullForKey cmp most old k) → IsKeyFailureOf cmp most new error
+  key_failure_of k result error is back present full = rw back.1 (failure_is (length old) most (holds cmp old) k tt result error is back.0 present full)
+
+-- and what is said of the pairs is so of their keys
+pub failure_of_keys : {K V : Type 0} (cmp : K → K → Ordering) (most : ℕ) (l : List (K × V)) (error : InsertError K V) → IsFailureOf cmp most l error → IsKeyFailureOf cmp most (keys_of l) error
+failure_of_keys cmp most l (Full k v) failed = (length-keys_of l ∙ failed.0, sym (holds_keys cmp l k) ∙ failed.1)
+failure_of_keys cmp most l (OutOfMemory k v) failed = (λ full. failed.0 (sym (length-keys_of l) ∙ full), sym (holds_keys cmp l k) ∙ failed.1)
+
+pub parting_failure_of_keys : {K V : Type 0} (cmp : K → K → Ordering) (k : K) (most : ℕ) (there new : List (K × V)) (error : MoveError K V) → IsPartingFailure cmp k most there new error → IsKeyPartingFailure cmp k most (keys_of there) (keys_of new) error
+parting_failure_of_keys cmp k most there new NotTaken some = λ none. some (empty_keys _ (keys_between-is cmp new (Some k) None ∙ none))
+parting_failure_of_keys cmp k most there new (NotStored error) failed = failure_of_keys cmp most there error failed

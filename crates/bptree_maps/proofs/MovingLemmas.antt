@@ -1,6 +1,7 @@
 -- Members of a list that are put into another, one after another.
 use Rattle.std.proofs.Common.{◌≡◌, ◌∙◌, sym, ap, List, [], ◌∷◌, ◌++◌, refl, append_assoc, append-nil}
 use Rattle.bptree_maps.specs.Moving.{put_all, Moves}
+use Rattle.bptree_tree.proofs.RangeRemovalLemmas.{none_in_parts}
 
 module _ {X : Type 0} (put_one : List X → X → List X) where
   pub put_one_more : (l xs : List X) (x : X) → put_all put_one l (xs ++ x ∷ []) ≡ put_one (put_all put_one l xs) x
@@ -23,3 +24,7 @@ module _ {X : Type 0} (put_one : List X → X → List X) where
 
     pub moved_all : (new rest : List X) → rest ≡ [] → Moves put_one old other [] new rest → new ≡ put_all put_one old other
     moved_all new rest none (moved, all, is) = is ∙ ap (λ xs. put_all put_one old xs) (sym (all ∙ ap (λ r. moved ++ r) none ∙ append-nil moved))
+
+    -- of none, none is left
+    pub none_left : (new rest : List X) → Moves put_one old other [] new rest → other ≡ [] → rest ≡ []
+    none_left new rest (moved, all, is) none = (none_in_parts moved rest (sym all ∙ none)).1

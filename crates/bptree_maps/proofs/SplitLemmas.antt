@@ -1,5 +1,5 @@
 -- The end of an ascending list moves to the front of another, its last pair first.
-use Rattle.std.proofs.Common.{◌≡◌, ◌∙◌, ◌-◌, sym, ap, suc, refl, Bool, true, false, not, ◌&&◌, filter, Some, None, List, [], ◌∷◌, ◌++◌, length, slice_get, arith, append_assoc, append-nil, length-append}
+use Rattle.std.proofs.Common.{◌≡◌, ◌≢◌, ◌∙◌, ◌-◌, cond, sym, ap, suc, refl, Bool, true, false, not, ◌&&◌, filter, Some, None, List, [], ◌∷◌, ◌++◌, length, slice_get, arith, append_assoc, append-nil, length-append}
 use Rattle.std.specs.declared.cmp.Ordering.{Ordering}
 use Rattle.std.specs.declared.cmp.Ordering.TheVariants.{Less, Equal, Greater}
 use Rattle.std.specs.Cmp.{IsTotalOrder}
@@ -89,6 +89,16 @@ module _ {K V : Type 0} {cmp : K → K → Ordering} (total : IsTotalOrder cmp) 
 
   pub last_from : (l rest : List (K × V)) (p : K × V) → l ≡ rest ++ p ∷ [] → reaches cmp l k ≡ true → is_lt (cmp p.0 k) ≡ false
   last_from l rest p is there = not_less_if (cmp p.0 k) (rw (is, last_of rest p) at there)
+
+  -- where the last key is not below k, some pair is to leave
+  none_behind : (b : Bool) (x : K × V) (l : List (K × V)) → cond b (x ∷ l) l ≡ [] → l ≡ []
+  none_behind true x l none = absurd cc
+  none_behind false x l none = none
+
+  pub some_from : (l : List (K × V)) → reaches cmp l k ≡ true → between cmp l (Some k) None ≢ []
+  some_from [] there none = cc
+  some_from (x ∷ []) there none = let some : x ∷ [] ≡ [] = rw there at none in cc
+  some_from (x ∷ y ∷ l) there none = some_from (y ∷ l) (rw (last_of_two x y l) at there) (none_behind (not (is_lt (cmp x.0 k)) && true) x _ none)
 
   -- one more pair has moved
   module _ (old cur there rest : List (K × V)) (p : K × V) (ascending : IsAscending cmp old) (all : old ≡ cur ++ there) (from : AreFrom there) (last : cur ≡ rest ++ p ∷ []) (reached : reaches cmp cur k ≡ true) where

@@ -1,6 +1,8 @@
 -- What a call that changes a set answers, beside the keys that it leaves.
 use Rattle.std.specs.Prelude.{◌≡◌, ℕ, Bool, false, not, List, Option, length}
 use Rattle.std.specs.declared.cmp.Ordering.{Ordering}
+use Rattle.bptree_tree.specs.Changes.{IsInsertFailure}
+use Rattle.bptree_tree.specs.declared.InsertError.{InsertError}
 use Rattle.bptree_maps.specs.Keys.{holds, with_key, without_key, key_found}
 
 module _ {K : Type 0} (cmp : K → K → Ordering) where
@@ -23,3 +25,7 @@ module _ {K : Type 0} (cmp : K → K → Ordering) where
   -- as many keys stand as can, and none that equals k
   abbrev pub IsFullForKey : ℕ → List K → K → Type 0
   IsFullForKey most keys k = (length keys ≡ most) × (holds cmp keys k ≡ false)
+
+  -- the insertion into a set of these keys failed with this error: the key is absent, and the length is the greatest for Full alone
+  abbrev pub IsKeyFailureOf : {V : Type 0} → ℕ → List K → InsertError K V → Type 0
+  IsKeyFailureOf most keys error = IsInsertFailure most (length keys) (holds cmp keys) error

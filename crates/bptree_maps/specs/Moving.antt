@@ -1,10 +1,12 @@
 -- Many pairs, or keys, put one after another.
-use Rattle.std.specs.Prelude.{◌≡◌, List, [], ◌∷◌, ◌++◌, Option, Some}
+use Rattle.std.specs.Prelude.{◌≡◌, ◌≢◌, ℕ, List, [], ◌∷◌, ◌++◌, Option, Some}
 use Rattle.std.specs.declared.cmp.Ordering.{Ordering}
 use Rattle.std.specs.Iterator.{Drains, YieldsThen}
 use Rattle.std.specs.Map.{keys_of}
 use Rattle.bptree_keys.specs.Contents.{put}
+use Rattle.bptree_tree.specs.Changes.{IsFailureOf}
 use Rattle.bptree_tree.specs.Refusal.{pair_of}
+use Rattle.bptree_maps.specs.KeyChanges.{IsKeyFailureOf}
 use Rattle.bptree_maps.specs.Keys.{with_key}
 use Rattle.bptree_maps.specs.declared.refusals.MoveError.{MoveError}
 use Rattle.bptree_maps.specs.declared.refusals.MoveError.TheVariants.{NotTaken, NotStored}
@@ -59,3 +61,13 @@ MovesPairs cmp old other new rest refusal = Moves (put_pair cmp) old other (in_h
 -- the same of two sets
 abbrev pub MovesKeys : {K V : Type 0} → (K → K → Ordering) → List K → List K → List K → List K → MoveError K V → Type 0
 MovesKeys cmp old other new rest refusal = Moves (with_key cmp) old other (key_in_hand refusal) new rest
+
+-- why a move ended early: a pair was left and was not removed, or the insertion of the pair in hand failed
+abbrev pub IsMoveFailure : {K V : Type 0} → (K → K → Ordering) → ℕ → List (K × V) → List (K × V) → MoveError K V → Type 0
+IsMoveFailure cmp most new rest NotTaken = rest ≢ []
+IsMoveFailure cmp most new rest (NotStored error) = IsFailureOf cmp most new error
+
+-- the same of two sets
+abbrev pub IsKeyMoveFailure : {K V : Type 0} → (K → K → Ordering) → ℕ → List K → List K → MoveError K V → Type 0
+IsKeyMoveFailure cmp most new rest NotTaken = rest ≢ []
+IsKeyMoveFailure cmp most new rest (NotStored error) = IsKeyFailureOf cmp most new error

@@ -1,5 +1,5 @@
 -- The keys of a set that stay.
-use Rattle.std.specs.Prelude.{◌≡◌, Bool, not, ◌&&◌, Option, List, [], ◌∷◌, ◌++◌, filter}
+use Rattle.std.specs.Prelude.{◌≡◌, ℕ, Bool, not, ◌&&◌, Option, List, [], ◌∷◌, ◌++◌, filter, Result, Ok}
 use Rattle.std.specs.Borrow.{Bor}
 use Rattle.std.specs.Fn.{CalledAt, Mut}
 use Rattle.std.specs.List.Retain.{IsFiltered}
@@ -26,3 +26,7 @@ module _ {K : Type 0} (cmp : K → K → Ordering) where
   abbrev pub FirstKeysLeft : Option K → Option K → List K → List K → Type 0
   FirstKeysLeft lo hi old new =
       (gone : List K) × (keys_between cmp old lo hi ≡ gone ++ keys_between cmp new lo hi) × (keys_outside new lo hi ≡ keys_outside old lo hi)
+
+  -- where no key is between the ends, 0 is returned and nothing changes
+  abbrev pub KeepsAllIfNoKey : {E : Type 0} → Option K → Option K → List K → List K → Result ℕ E → Type 0
+  KeepsAllIfNoKey lo hi old new result = keys_between cmp old lo hi ≡ [] → (result ≡ Ok 0) × (new ≡ old)

@@ -1,8 +1,11 @@
 -- The end of a list that moves to a list of its own.
-use Rattle.std.specs.Prelude.{◌-◌, Bool, false, not, Option, Some, None, List, [], ◌++◌, length, slice_get, ◌≡◌}
+use Rattle.std.specs.Prelude.{◌-◌, ◌≢◌, ℕ, ⊤, Bool, false, not, Option, Some, None, List, [], ◌++◌, length, slice_get, ◌≡◌}
 use Rattle.std.specs.declared.cmp.Ordering.{Ordering}
 use Rattle.std.specs.Ordering.{is_lt}
+use Rattle.bptree_tree.specs.Changes.{IsFailureOf}
+use Rattle.bptree_maps.specs.KeyChanges.{IsKeyFailureOf}
 use Rattle.bptree_maps.specs.declared.refusals.MoveError.{MoveError}
+use Rattle.bptree_maps.specs.declared.refusals.MoveError.TheVariants.{NotTaken, NotStored}
 use Rattle.bptree_maps.specs.declared.refusals.SplitError.{SplitError}
 use Rattle.bptree_maps.specs.declared.refusals.SplitError.TheVariants.{NotMade, NotAll}
 use Rattle.bptree_maps.specs.Moving.{in_hand, key_in_hand}
@@ -45,3 +48,23 @@ module _ {K : Type 0} (cmp : K → K → Ordering) (k : K) where
 
   abbrev pub KeepsKeysBelow : List K → List K → Type 0
   KeepsKeysBelow old new = keys_between cmp new None (Some k) ≡ keys_between cmp old None (Some k)
+
+module _ {K V : Type 0} (cmp : K → K → Ordering) (k : K) (most : ℕ) where
+  -- why a split ended early: a pair that was to leave was not removed, or the insertion of the pair in hand among those that left failed
+  abbrev pub IsPartingFailure : List (K × V) → List (K × V) → MoveError K V → Type 0
+  IsPartingFailure there new NotTaken = between cmp new (Some k) None ≢ []
+  IsPartingFailure there new (NotStored error) = IsFailureOf cmp most there error
+
+  -- the same of a set
+  abbrev pub IsKeyPartingFailure : List K → List K → MoveError K V → Type 0
+  IsKeyPartingFailure there new NotTaken = keys_between cmp new (Some k) None ≢ []
+  IsKeyPartingFailure there new (NotStored error) = IsKeyFailureOf cmp most there error
+
+  abbrev pub IsKeySplitFailure : List K → SplitError (List K) (MoveError K V) → Type 0
+  IsKeySplitFailure new NotMade = ⊤
+  IsKeySplitFailure new (NotAll there error) = IsKeyPartingFailure there new error
+
+-- the same, or what is to hold the pairs was not made
+abbrev pub IsSplitFailure : {K V M : Type 0} → (M → List (K × V)) → (K → K → Ordering) → K → ℕ → List (K × V) → SplitError M (MoveError K V) → Type 0
+IsSplitFailure pairs cmp k most new NotMade = ⊤
+IsSplitFailure pairs cmp k most new (NotAll there error) = IsPartingFailure cmp k most (pairs there) new error

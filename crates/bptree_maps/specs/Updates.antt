@@ -1,10 +1,11 @@
 -- What a closure leaves of the values of a map, and the value that one makes.
-use Rattle.std.specs.Prelude.{◌≡◌, ℕ, List, Some, Result, Err, length}
+use Rattle.std.specs.Prelude.{◌≡◌, ◌↔◌, ℕ, List, Some, Result, Err}
 use Rattle.std.specs.Borrow.{MutBor}
 use Rattle.std.specs.declared.cmp.Ordering.{Ordering}
 use Rattle.std.specs.Fn.{FnOnceReturnsAtMut, Once}
 use Rattle.std.specs.Option.{UnwrapsOrElse}
 use Rattle.bptree_keys.specs.Contents.{put, value}
+use Rattle.bptree_tree.specs.Changes.{IsFull}
 use Rattle.bptree_tree.specs.Refusal.{pair_of}
 use Rattle.bptree_tree.specs.declared.InsertError.{InsertError}
 use Rattle.bptree_tree.specs.declared.InsertError.TheVariants.{Full}
@@ -32,6 +33,10 @@ module _ {K V : Type 0} (makes : V → Type 0) where
   abbrev pub IsRefusedAt : K → InsertError K V → Type 0
   IsRefusedAt k refusal = ((pair_of refusal).0 ≡ k) × makes (pair_of refusal).1
 
--- where a pair with k is refused for their number, as many stand as can
-abbrev pub IsFullIfTold : {K V R X : Type 0} → ℕ → K → List X → Result R (InsertError K V) → Type 0
-IsFullIfTold {V = V} most k l result = (v : V) → result ≡ Err (Full k v) → length l ≡ most
+-- an error says that the map is full, with k and some value
+abbrev pub IsFullWith : {K V R : Type 0} → K → Result R (InsertError K V) → Type 0
+IsFullWith {V = V} k result = (v : V) × (result ≡ Err (Full k v))
+
+-- it says so exactly if k is absent and the length is the greatest
+abbrev pub IsFullExactly : {K V R X : Type 0} → (K → K → Ordering) → ℕ → K → List (K × X) → Result R (InsertError K V) → Type 0
+IsFullExactly cmp most k l result = IsFullWith k result ↔ IsFull cmp most l k

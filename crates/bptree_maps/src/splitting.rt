@@ -1,6 +1,6 @@
 //! The end of a tree moves to a tree of its own.
 ghost use Rattle.std.specs.Prelude.{◌≡◌, ◌++◌, Some, None, IfOk, IfErr};
-ghost use Rattle.bptree_maps.specs.Splitting.{gone, reaches, KeepsBelow, SplitsOff};
+ghost use Rattle.bptree_maps.specs.Splitting.{gone, reaches, IsSplitFailure, KeepsBelow, SplitsOff};
 
 use crate::refusals::{MoveError, SplitError};
 use bptree_stores::node_stores::NodeStore;
@@ -23,6 +23,7 @@ pub(crate) fn split_tree<S: NodeStore>(
 ) -> Result<BPlusTree<S>, SplitError<BPlusTree<S>, MoveError<S::K, S::V>>>
     ensures ok { IfOk result (λ there. SplitsOff S.K.cmp k.now tree.old.contents tree.new.contents there.contents) }
     ensures err { IfErr result (λ r. tree.old.contents ≡ tree.new.contents ++ gone (λ there. there.contents) r) }
+    ensures kind { IfErr result (IsSplitFailure (λ there. there.contents) S.K.cmp k.now usize.MAX tree.new.contents) }
     ensures kept { KeepsBelow S.K.cmp k.now tree.old.contents tree.new.contents }
 {
     // Read, so that the keys are known to ascend.

@@ -3,6 +3,7 @@ pub mod Cloned
 pub mod Counted
 pub mod EndLemmas
 pub mod EntryLemmas
+pub mod FailureLemmas
 pub mod Heights
 pub mod LentAt
 pub mod PartSpans

@@ -1,5 +1,5 @@
 -- The first pair that passes a test leaves an ascending list.
-use Rattle.std.proofs.Common.{◌≡◌, ◌≤◌, ◌∙◌, ◌&&◌, arith, sym, ap, refl, Bool, true, false, not, cond, filter, Option, Some, List, [], ◌∷◌, ◌++◌, length, slice_get, append-nil, append_assoc}
+use Rattle.std.proofs.Common.{◌≡◌, ◌≢◌, ◌≤◌, ◌∙◌, ◌&&◌, arith, sym, ap, refl, Bool, true, false, not, cond, filter, Option, Some, List, [], ◌∷◌, ◌++◌, length, slice_get, append-nil, append_assoc}
 use Rattle.std.specs.declared.cmp.Ordering.{Ordering}
 use Rattle.std.specs.declared.cmp.Ordering.TheVariants.{Less, Equal, Greater}
 use Rattle.std.specs.Cmp.{IsTotalOrder}
@@ -102,3 +102,11 @@ module _ {X : Type 0} (test : X → Bool) where
 -- one more has left
 pub left_on : {X : Type 0} (old gone cur new : List X) (pair : X) → old ≡ gone ++ cur → cur ≡ pair ∷ new → old ≡ (gone ++ pair ∷ []) ++ new
 left_on old gone cur new pair is first = is ∙ ap (λ l. gone ++ l) first ∙ sym (append_assoc gone (pair ∷ []) new)
+
+-- a list with a member is not empty, and no part of an empty list has one
+pub some_not_none : {X : Type 0} (l rest : List X) (x : X) → l ≡ x ∷ rest → l ≢ []
+some_not_none l rest x some none = let both : x ∷ rest ≡ [] = sym some ∙ none in cc
+
+pub none_in_parts : {X : Type 0} (left cur : List X) → left ++ cur ≡ [] → (left ≡ []) × (cur ≡ [])
+none_in_parts [] cur none = (refl, none)
+none_in_parts (x ∷ left) cur none = absurd cc

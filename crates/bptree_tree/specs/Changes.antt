@@ -1,11 +1,16 @@
 -- What a call that changes a list of pairs answers, beside the list that it leaves.
-use Rattle.std.specs.Prelude.{◌≡◌, ℕ, Bool, cond, false, List, Option, MatchOption, length, Result, Err, MatchResult, ◌↔◌}
+use Rattle.std.specs.Prelude.{◌≡◌, ◌≢◌, ℕ, Bool, cond, false, List, Option, MatchOption, length, Result, Err, MatchResult, ◌↔◌}
 use Rattle.std.specs.declared.cmp.Ordering.{Ordering}
 use Rattle.bptree_keys.specs.Contents.{has, value, put, del}
 use Rattle.bptree_tree.specs.Entries.{entry}
 use Rattle.bptree_tree.specs.declared.InsertError.{InsertError}
-use Rattle.bptree_tree.specs.declared.InsertError.TheVariants.{Full}
+use Rattle.bptree_tree.specs.declared.InsertError.TheVariants.{Full, OutOfMemory}
 use Rattle.std.specs.Map.Iter.{TakesFirst, TakesLast}
+
+-- an insertion failed where n keys were stored and there were those that is_there names: the key was absent, and n was the most for Full alone
+abbrev pub IsInsertFailure : {K V : Type 0} → ℕ → ℕ → (K → Bool) → InsertError K V → Type 0
+IsInsertFailure most n is_there (Full k v) = (n ≡ most) × (is_there k ≡ false)
+IsInsertFailure most n is_there (OutOfMemory k v) = (n ≢ most) × (is_there k ≡ false)
 
 module _ {K V : Type 0} (cmp : K → K → Ordering) where
   -- a value is put at a key, and what stood there is told
@@ -31,6 +36,10 @@ module _ {K V : Type 0} (cmp : K → K → Ordering) where
   -- a pair is handed back for their number exactly there
   abbrev pub IsRefusedWhereFull : {R : Type 0} → ℕ → List (K × V) → K → V → Result R (InsertError K V) → Type 0
   IsRefusedWhereFull most l k v result = (result ≡ Err (Full k v)) ↔ IsFull most l k
+
+  -- the insertion into l failed with this error: the key is absent, and the length is the greatest for Full alone
+  abbrev pub IsFailureOf : ℕ → List (K × V) → InsertError K V → Type 0
+  IsFailureOf most l error = IsInsertFailure most (length l) (has cmp l) error
 
 module _ {X : Type 0} where
   -- the first member leaves and is told, or there is none

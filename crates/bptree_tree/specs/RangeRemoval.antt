@@ -1,5 +1,5 @@
 -- The pairs between two keys that leave.
-use Rattle.std.specs.Prelude.{◌≡◌, Bool, true, false, not, ◌&&◌, Option, List, [], ◌∷◌, ◌++◌, filter}
+use Rattle.std.specs.Prelude.{◌≡◌, ℕ, Bool, true, false, not, ◌&&◌, Option, List, [], ◌∷◌, ◌++◌, filter, Result, Ok}
 use Rattle.std.specs.declared.cmp.Ordering.{Ordering}
 use Rattle.bptree_keys.specs.Ranges.{falls_short, stays_below, between}
 use Rattle.std.specs.Borrow.{Bor}
@@ -31,3 +31,11 @@ module _ {K V : Type 0} (cmp : K → K → Ordering) where
     -- what is left are the pairs that are not between the ends
     abbrev pub KeepsOutside : List (K × V) → List (K × V) → Type 0
     KeepsOutside old new = new ≡ outside old (option_copied lo) (option_copied hi)
+
+    -- where no pair is between the ends, none is found
+    abbrev pub FindsNoneBetween : {E : Type 0} → List (K × V) → Result Bool E → Type 0
+    FindsNoneBetween old result = between cmp old (option_copied lo) (option_copied hi) ≡ [] → result ≡ Ok false
+
+    -- where no pair is between the ends, 0 is returned and nothing changes
+    abbrev pub KeepsAllIfNone : {E : Type 0} → List (K × V) → List (K × V) → Result ℕ E → Type 0
+    KeepsAllIfNone old new result = between cmp old (option_copied lo) (option_copied hi) ≡ [] → (result ≡ Ok 0) × (new ≡ old)

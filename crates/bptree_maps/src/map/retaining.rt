@@ -1,7 +1,7 @@
 //! The pairs of a map that a closure keeps, and those outside a range.
 ghost use Rattle.std.specs.Prelude.{◌≡◌, length, IfErr, IfOk, OnErr, OnOk};
 ghost use Rattle.bptree_maps.specs.Retaining.{IsRetained, IsRetainRefused};
-ghost use Rattle.bptree_tree.specs.RangeRemoval.{outside, FirstsBetweenLeft, KeepsOutside};
+ghost use Rattle.bptree_tree.specs.RangeRemoval.{outside, FirstsBetweenLeft, KeepsAllIfNone, KeepsOutside};
 ghost use Rattle.bptree_tree.specs.Entries.{pairs_between};
 
 use super::{BPlusTreeMap, IntoIter};
@@ -50,8 +50,9 @@ impl<K: Key, V: Drop, A: Argument<K>> BPlusTreeMap<K, V, A> {
     /// Removes the pairs whose key is not below `lo` and is below `hi`, where they are given, and
     /// answers how many there were.
     ///
-    /// It costs a removal a pair, and a search for its key and for each end that is given. Where
-    /// one is refused, the first of the pairs have left, and nothing else has changed.
+    /// It costs a removal a pair, and a search for its key and for each end that is given. If one
+    /// fails, the first of the pairs have left, and nothing else has changed. If there is no such
+    /// pair, nothing fails and nothing changes.
     pub fn remove_range<'b>(
         &mut self,
         lo: Option<&'b K>,
@@ -59,6 +60,7 @@ impl<K: Key, V: Drop, A: Argument<K>> BPlusTreeMap<K, V, A> {
     ) -> Result<usize, AllocError>
         ensures rest { IfOk result (λ _. KeepsOutside K.cmp lo.entry hi.entry self.old self.new) }
         ensures count { IfOk result (λ n. n ≡ length (pairs_between K.cmp self.old lo.entry hi.entry)) }
+        ensures empty { KeepsAllIfNone K.cmp lo.entry hi.entry self.old self.new result }
         ensures err { OnErr result (FirstsBetweenLeft K.cmp lo.entry hi.entry self.old self.new) }
     {
         self.inner.remove_range(lo, hi)

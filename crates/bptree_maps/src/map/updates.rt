@@ -5,7 +5,7 @@ ghost use Rattle.std.specs.declared.cmp.Ordering.TheVariants.{Equal};
 ghost use Rattle.bptree_ascent.specs.Lending.{written};
 ghost use Rattle.bptree_keys.specs.Contents.{has, put, value};
 ghost use Rattle.bptree_maps.specs.Rows.{map_row};
-ghost use Rattle.bptree_maps.specs.Updates.{IsFullIfTold, IsPutIfAbsent, IsRefusedAt, IsThereOrMade, IsUpdatedAt};
+ghost use Rattle.bptree_maps.specs.Updates.{IsFullExactly, IsPutIfAbsent, IsRefusedAt, IsThereOrMade, IsUpdatedAt};
 ghost use Rattle.bptree_nodes.specs.Updating.{ChangesInTurn};
 ghost use Rattle.bptree_tree.specs.Refusal.{HandsBack};
 ghost use Rattle.bptree_tree.specs.Updating.{UpdatesBetween};
@@ -56,8 +56,8 @@ impl<K: Key, V: Drop, A: Argument<K>> BPlusTreeMap<K, V, A> {
     /// no memory and is never refused. It costs what `contains_key` and `get_mut` do.
     ///
     /// Else the pair is put as by `insert`, and its value is found by a clone of `k`, on one more
-    /// way down. The clone can be refused, and so can the insertion. Then the pair is handed back,
-    /// and nothing has changed.
+    /// descent. The clone can fail, and so can the insertion. Then the pair is returned in the error,
+    /// and nothing has changed. The error is `Full` if the map has `usize::MAX` pairs.
     pub fn get_or_insert_with<F: FnOnce() -> V>(
         &mut self,
         k: K,
@@ -68,7 +68,7 @@ impl<K: Key, V: Drop, A: Argument<K>> BPlusTreeMap<K, V, A> {
         ensures value { IfOk result (λ lent. IsThereOrMade (F.post f) K.cmp self.old k lent.now) }
         ensures present { has K.cmp self.old k ≡ true → IsOk result }
         ensures err { IfErr result (IsRefusedAt (F.post f) k) }
-        ensures full { IsFullIfTold usize.MAX k self.old result }
+        ensures full { IsFullExactly K.cmp usize.MAX k self.old result }
     {
         let key = self.put_absent(k, f)?;
         Ok(self.value_at_mut(&key))
@@ -83,10 +83,13 @@ impl<K: Key, V: Drop, A: Argument<K>> BPlusTreeMap<K, V, A> {
         ensures present { has K.cmp self.old k ≡ true → IsOk result }
         ensures err { IfErr result (IsRefusedAt (F.post f) k) }
         ensures unchanged { OnErr result (self.new ≡ self.old) }
-        ensures full { IsFullIfTold usize.MAX k self.old result }
+        ensures full { IsFullExactly K.cmp usize.MAX k self.old result }
     {
         if self.contains_key(&k) {
             return Ok(k);
+        }
+        if self.len() == usize::MAX {
+            return Err(InsertError::Full(k, f()));
         }
         let Ok(key) = k.clone() else {
             return Err(InsertError::OutOfMemory(k, f()));

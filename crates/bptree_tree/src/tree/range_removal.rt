@@ -1,7 +1,7 @@
 //! Removal of the pairs between two keys.
 ghost use Rattle.std.specs.Prelude.{◌≡◌, length, IfOk, OnErr};
 ghost use Rattle.bptree_keys.specs.Ranges.{between};
-ghost use Rattle.bptree_tree.specs.RangeRemoval.{FirstBetweenLeaves, FirstsBetweenLeft, KeepsOutside};
+ghost use Rattle.bptree_tree.specs.RangeRemoval.{FindsNoneBetween, FirstBetweenLeaves, FirstsBetweenLeft, KeepsAllIfNone, KeepsOutside};
 ghost use Rattle.bptree_tree.specs.Whole.{IsWhole, IsUntouched};
 ghost use Rattle.bptree_tree.specs.Entries.{pairs_between};
 
@@ -25,6 +25,7 @@ fn drop_first_of<'b, S: NodeStore>(
 ) -> Result<bool, AllocError>
     ensures whole { IsWhole S.K.cmp S.Argument.is_summary S.slots tree.new }
     ensures ok { IfOk result (FirstBetweenLeaves S.K.cmp lo.entry hi.entry tree.old.contents tree.new.contents) }
+    ensures empty { FindsNoneBetween S.K.cmp lo.entry hi.entry tree.old.contents result }
     ensures unchanged { OnErr result (IsUntouched S.slots tree.new tree.old) }
 {
     // Read, so that the keys are known to ascend.
@@ -50,6 +51,7 @@ impl<S: NodeStore> BPlusTree<S> {
     ) -> Result<bool, AllocError>
         ensures whole { IsWhole S.K.cmp S.Argument.is_summary S.slots self.new }
         ensures ok { IfOk result (FirstBetweenLeaves S.K.cmp lo.entry hi.entry self.old.contents self.new.contents) }
+        ensures empty { FindsNoneBetween S.K.cmp lo.entry hi.entry self.old.contents result }
         ensures unchanged { OnErr result (IsUntouched S.slots self.new self.old) }
         ensures err { OnErr result (self.new.contents ≡ self.old.contents) }
     {
@@ -59,9 +61,9 @@ impl<S: NodeStore> BPlusTree<S> {
     /// Removes the pairs whose key is not below `lo` and is below `hi`, where they are given, and
     /// answers how many there were.
     ///
-    /// It costs a removal a pair, and a search for its key and for each end that is given. Where
-    /// one is refused, the first of the pairs have left and nothing else has changed: the tree is
-    /// as whole as before.
+    /// It costs a removal a pair, and a search for its key and for each end that is given. If one
+    /// fails, the first of the pairs have left and nothing else has changed: the tree is as whole as
+    /// before. If there is no such pair, nothing fails and nothing changes.
     pub fn remove_range<'b>(
         &mut self,
         lo: Option<&'b S::K>,
@@ -70,6 +72,7 @@ impl<S: NodeStore> BPlusTree<S> {
         ensures whole { IsWhole S.K.cmp S.Argument.is_summary S.slots self.new }
         ensures rest { IfOk result (λ _. KeepsOutside S.K.cmp lo.entry hi.entry self.old.contents self.new.contents) }
         ensures count { IfOk result (λ n. n ≡ length (pairs_between S.K.cmp self.old.contents lo.entry hi.entry)) }
+        ensures empty { KeepsAllIfNone S.K.cmp lo.entry hi.entry self.old.contents self.new.contents result }
         ensures err { OnErr result (FirstsBetweenLeft S.K.cmp lo.entry hi.entry self.old.contents self.new.contents) }
     {
         // Read, so that it is known to fit.

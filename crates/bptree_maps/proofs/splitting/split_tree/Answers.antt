@@ -1,5 +1,5 @@
 use Rattle.std.proofs.Common.{sym}
-use Rattle.bptree_maps.proofs.SplitLemmas.{joined, kept_of, kept_on, moved_on, split_end}
+use Rattle.bptree_maps.proofs.SplitLemmas.{joined, kept_of, kept_on, moved_on, some_from, split_end}
 use Rattle.bptree_maps.proofs.splitting.split_tree.Goals as goal
 
 pub returns-in-Err-insert-clause-err : goal.returns-in-Err-insert-clause-err
@@ -22,3 +22,6 @@ returns-clause-ok g c = split_end g.met.S.K.Ord.total c.args.k.now c.args.tree.n
 
 pub returns-clause-kept : goal.returns-clause-kept
 returns-clause-kept g c = kept_of g.met.S.K.Ord.total c.args.k.now c.args.tree.now.contents c.moves.tree.contents c.moves.there.contents c.moves.invariant.0 c.moves.invariant.1
+
+pub returns-in-Err-clause-kind : goal.returns-in-Err-clause-kind
+returns-in-Err-clause-kind g c = rw c.in-Err.ensures.err (some_from g.met.S.K.Ord.total c.args.k.now c.moves.tree.contents (sym c.moves-test.ensures))

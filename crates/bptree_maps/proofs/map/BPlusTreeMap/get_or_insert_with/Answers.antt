@@ -1,5 +1,6 @@
 use Rattle.std.proofs.Common.{◌≡◌, ◌⊎◌, inl, refl}
 use Rattle.bptree_maps.proofs.AddingLemmas.{made_after, there_after, written_after}
+use Rattle.bptree_maps.proofs.UpsertLemmas.{still_not_full}
 use Rattle.bptree_maps.proofs.map.BPlusTreeMap.get_or_insert_with.Goals as goal
 
 -- one giver, and the same list at each write
@@ -18,6 +19,6 @@ returns g c = (
     value = made_after g.met.K.Ord.total (goal.F-post g c.args.f) c.args.self.now c.put_absent.new.self c.args.k c.in_ok-key.key c.in_ok-key.ensures.equal c.in_ok-key.ensures.ok c.value_at_mut.result.now c.value_at_mut.ensures.value;
     present = λ _. refl;
     err = tt;
-    full = λ v is. cc;
+    full = still_not_full g.K.Ord.cmp _ c.args.k c.args.self.now _ _ c.in_ok-key.ensures.full;
   },
 )

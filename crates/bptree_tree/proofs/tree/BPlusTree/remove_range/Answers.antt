@@ -1,7 +1,7 @@
-use Rattle.std.proofs.Common.{◌∙◌, [], ◌∷◌, ◌++◌, sym, ap, length, not, ◌&&◌, arith, length-append}
+use Rattle.std.proofs.Common.{◌∙◌, [], ◌∷◌, ◌++◌, sym, ap, Ok, length, not, ◌&&◌, arith, length-append}
 use Rattle.std.specs.Option.{option_copied}
 use Rattle.bptree_keys.specs.Ranges.{between, falls_short, stays_below}
-use Rattle.bptree_tree.proofs.RangeRemovalLemmas.{all_fail, left_on, no_longer}
+use Rattle.bptree_tree.proofs.RangeRemovalLemmas.{all_fail, left_on, no_longer, none_in_parts}
 use Rattle.bptree_tree.proofs.tree.BPlusTree.remove_range.Goals as goal
 
 pub overflow_add-gone : goal.overflow_add-gone
@@ -33,3 +33,21 @@ returns-clause-rest g c =
     let cmp = g.S.K.Ord.cmp in
     let none = rw c.if-branch.false at c.in_ok-drop_first_between.ensures.ok in
     none.1 ∙ sym (all_fail (λ pair. not (falls_short cmp lo pair.0) && stays_below cmp hi pair.0) c.pairs.self.contents none.0) ∙ now.others
+
+pub returns-in_err-drop_first_between-clause-empty : goal.returns-in_err-drop_first_between-clause-empty
+returns-in_err-drop_first_between-clause-empty g c = λ none.
+    let now = c.pairs.invariant in
+    let never = c.in_err-drop_first_between.ensures.empty (none_in_parts now.left _ (sym now.parts ∙ none)).1 in
+    cc
+
+pub returns-clause-empty : goal.returns-clause-empty
+returns-clause-empty g c = λ none_between.
+    let now = c.pairs.invariant in
+    let lo = option_copied c.args.lo in
+    let hi = option_copied c.args.hi in
+    let cmp = g.S.K.Ord.cmp in
+    let none = rw c.if-branch.false at c.in_ok-drop_first_between.ensures.ok in
+    (
+      ap Ok (now.count ∙ ap length (none_in_parts now.left _ (sym now.parts ∙ none_between)).0),
+      none.1 ∙ sym (all_fail (λ pair. not (falls_short cmp lo pair.0) && stays_below cmp hi pair.0) c.pairs.self.contents none.0) ∙ now.others ∙ all_fail (λ pair. not (falls_short cmp lo pair.0) && stays_below cmp hi pair.0) c.args.self.now.contents none_between,
+    )
