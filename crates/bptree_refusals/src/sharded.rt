@@ -13,6 +13,7 @@ use bptree_sharded::whole::Shards;
 use std::alloc::{AllocError, Global};
 use sweep_bptree::BPlusTreeMap;
 use sweep_bptree::map::{MoveError, SplitError};
+use sweep_bptree::tree::InsertError;
 use sweep_bptree::tree::count::Count;
 
 /// A shard that is a map.
@@ -89,11 +90,14 @@ where
         self.goes_back(alloc, &key, bound.saturating_add(2))
     }
 
-    // Puts a new pair. A refusal must hand it back.
+    // Puts a new pair. If an allocation fails, the error must contain the pair.
     fn puts(&mut self, key: S::K, number: u64) -> Result<bool, AllocError> {
         match self.whole.put(key, number) {
             Ok(old) => Ok(old.is_none()),
-            Err((key, value)) => refusal(value == number && is_sample(&key, number)),
+            Err(InsertError::OutOfMemory(key, value)) => {
+                refusal(value == number && is_sample(&key, number))
+            }
+            Err(InsertError::Full(_, _)) => Ok(false),
         }
     }
 

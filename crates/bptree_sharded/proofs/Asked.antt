@@ -1,5 +1,5 @@
 -- What the shard that is asked says of the whole.
-use Rattle.std.proofs.Common.{◌≡◌, ℕ, zero, suc, ◌+◌, ◌-◌, ◌^◌, ◌<◌, ◌≤◌, Bool, true, false, List, [], ◌∷◌, ◌++◌, Option, Some, None, Result, Ok, Err, OnErr, length, map, take, drop, set, slice_get, slice_index, get_or, refl, sym, ap, subst, cond, ◌∙◌, arith}
+use Rattle.std.proofs.Common.{◌≡◌, ℕ, zero, suc, ◌+◌, ◌-◌, ◌^◌, ◌<◌, ◌≤◌, Bool, true, false, List, [], ◌∷◌, ◌++◌, Option, Some, None, Result, Ok, Err, OnErr, IsTrue, length, map, take, drop, set, slice_get, slice_index, get_or, refl, sym, ap, subst, cond, ◌∙◌, arith, length-append}
 use Rattle.std.specs.declared.cmp.Ordering.{Ordering}
 use Rattle.std.specs.List.{sum}
 use Rattle.std.specs.Option.{option_or, option_map, is_some}
@@ -14,8 +14,12 @@ use Rattle.bptree_shards.specs.Lengths.{lengths_of, IsPlaceFound, IsFirstFull, I
 use Rattle.bptree_shards.specs.Shards.{AreShards, shard_of, shard_below}
 use Rattle.bptree_shards.proofs.LengthLemmas.{total, start_is, length_at, within, member_located, last_before}
 use Rattle.bptree_shards.proofs.RangeLemmas.{routed_below, next_found, previous_lower}
-use Rattle.bptree_shards.proofs.ShardLemmas.{routed, value_routed, put_routed, put_stays, del_routed, del_stays, rank_routed, next_routed}
-use Rattle.bptree_sharded.specs.Whole.{IsWhole}
+use Rattle.bptree_shards.proofs.ShardLemmas.{routed, value_routed, has_routed, put_routed, put_stays, del_routed, del_stays, rank_routed, next_routed}
+use Rattle.bptree_tree.specs.declared.InsertError.{InsertError}
+use Rattle.bptree_tree.specs.Changes.{IsFull, IsRefusedWhereFull}
+use Rattle.bptree_keys.proofs.PieceLemmas.{flatten-cut}
+use Rattle.bptree_sharded.specs.Failures.{HasRoom}
+use Rattle.bptree_sharded.specs.Whole.{IsWhole, Partition}
 
 module _ {T X : Type 0} (pairs : T → List X) where
   -- the pairs of a shard that is read
@@ -39,9 +43,21 @@ module _ {R X : Type 0} (shows : R → X) where
   not_some None none = refl
   not_some (Some x) none = absurd cc
 
-at_most_one : (b : Bool) (n : ℕ) → cond b n (n + 1) ≤ n + 1
-at_most_one true n = omega arith
-at_most_one false n = omega arith
+-- the greatest number of pairs
+abbrev pub most : ℕ
+most = 2 ^ 64 - 1
+
+-- the number of pairs after a key is put
+one_fits : (b : Bool) (n : ℕ) → n < 2 ^ 64 → HasRoom n b → cond b n (n + 1) < 2 ^ 64
+one_fits true n fits room = fits
+one_fits false n fits room = room refl
+
+-- the parts of a whole over shards
+abbrev partition : {K V : Type 0} → List K → List (List (K × V)) → Partition K V
+partition bounds shards = record { bounds = bounds; shards = shards }
+
+err_not_ok : {A E : Type 0} (e : E) (a : A) → ◌≡◌ {A = Result A E} (Err e) (Ok a) → ⊥
+err_not_ok e a is = absurd cc
 
 -- what was written is read
 pub read_back : {T : Type 0} (items : List T) (i : ℕ) (x y : T) → i < length items → x ≡ get_or (set items i y) i x → x ≡ y
@@ -100,6 +116,50 @@ module _ {T K V : Type 0} {cmp : K → K → Ordering} (order : IsTotalOrder cmp
       pub value_asked : value cmp (pairs x) k ≡ value cmp (flatten shards) k
       value_asked = ap (λ l. value cmp l k) own ∙ sym (value_routed cmp order bounds shards k whole.are)
 
+      pub has_asked : has cmp (pairs x) k ≡ has cmp (flatten shards) k
+      has_asked = ap (λ l. has cmp l k) own ∙ sym (has_routed cmp order bounds shards k whole.are)
+
+      -- a shard has no more pairs than the whole
+      shorter : length (pairs x) ≤ length (flatten shards)
+      shorter =
+          let at = shard_of cmp bounds k in
+          let inside = (routed cmp order k bounds shards whole.are.between).in_range in
+          let long = ap length (flatten-cut shards at inside) ∙ length-append (flatten (take at shards)) (piece_at shards at ++ flatten (drop (suc at) shards)) in
+          omega (arith, long, length-append (piece_at shards at) (flatten (drop (suc at) shards)), ap length own)
+
+      pub absent_whole : has cmp (pairs x) k ≡ false → has cmp (flatten shards) k ≡ false
+      absent_whole absent = sym has_asked ∙ absent
+
+      -- ---- an insertion or a removal that fails
+
+      -- a present key, and an absent one
+      pub present_asked : {P : Type 0} → (IsTrue (has cmp (pairs x) k) → P) → IsTrue (has cmp (flatten shards) k) → P
+      present_asked {P} told = subst (λ b. IsTrue b → P) has_asked told
+
+      pub absent_asked : {A E : Type 0} (r : Result (Option A) E) → (has cmp (pairs x) k ≡ false → r ≡ Ok None) → has cmp (flatten shards) k ≡ false → r ≡ Ok None
+      absent_asked r told absent = told (has_asked ∙ absent)
+
+      pub absent_is_ok : {A E : Type 0} (e : E) → (has cmp (pairs x) k ≡ false → ◌≡◌ {A = Result (Option A) E} (Err e) (Ok None)) → has cmp (flatten shards) k ≡ false → ⊥
+      absent_is_ok e told absent = err_not_ok e None (told (has_asked ∙ absent))
+
+      -- where an allocation may fail
+      pub memory_asked : (holds : List (K × V) → K → Type 0) (P : Type 0 → Type 0) → P (holds (pairs x) k) → P (holds (piece_at shards (shard_of cmp bounds k)) k)
+      memory_asked holds P told = subst (λ l. P (holds l k)) own told
+
+      -- the numbers of pairs as they were read
+      pub full_asked : {counts : List ℕ} → counts ≡ lengths → sum counts ≡ most → has cmp (pairs x) k ≡ false → IsFull cmp most (flatten shards) k
+      full_asked same_counts all absent = (sym len_whole ∙ ap sum (sym same_counts) ∙ all, sym has_asked ∙ absent)
+
+      pub full_of_shard : {A : Type 0} (v : V) (r : Result A (InsertError K V)) → HasRoom (sum lengths) (has cmp (flatten shards) k) → IsRefusedWhereFull cmp most (pairs x) k v r
+          → IsRefusedWhereFull cmp most (flatten shards) k v r
+      full_of_shard v r room told = (
+        λ error. let own_full = told.0 error in (omega (arith, own_full.0, shorter, len_whole, whole.fits), sym has_asked ∙ own_full.1),
+        λ full. absurd (omega (arith, room full.1, len_whole, full.0)),
+      )
+
+      pub room_asked : {counts : List ℕ} → counts ≡ lengths → HasRoom (sum counts) (has cmp (pairs x) k) → HasRoom (sum lengths) (has cmp (flatten shards) k)
+      room_asked same_counts room absent = subst (λ ns. sum ns + 1 < 2 ^ 64) same_counts (room (has_asked ∙ absent))
+
       pub rank_asked : sum (take i lengths) + length (pairs_below cmp (pairs x) k) ≡ length (pairs_below cmp (flatten shards) k)
       rank_asked =
           ap (λ n. n + length (pairs_below cmp (pairs x) k)) (ap (λ j. sum (take j lengths)) is ∙ ap (λ l. sum (take (shard_of cmp bounds k) l)) whole.counted ∙ sym (start_is shards (shard_of cmp bounds k)))
@@ -127,14 +187,14 @@ module _ {T K V : Type 0} {cmp : K → K → Ordering} (order : IsTotalOrder cmp
               ap (λ l. set l i n) whole.counted ∙ ap (set (lengths_of shards) i) (long ∙ ap (λ shard. length (pairs shard)) (read_back items i z y routed_within back))
               ∙ sym (lengths-set pairs items i y)
 
-          pub put_whole : (v : V) → pairs y ≡ put cmp (pairs x) k v → sum lengths + 1 < 2 ^ 64 → IsWhole cmp bounds (map pairs (set items i y)) (set lengths i n)
+          pub put_whole : (v : V) → pairs y ≡ put cmp (pairs x) k v → HasRoom (sum lengths) (has cmp (flatten shards) k) → IsWhole cmp bounds (map pairs (set items i y)) (set lengths i n)
           put_whole v is_put room = record {
             are = subst (AreShards cmp bounds) (sym (changed (put cmp (piece_at shards (shard_of cmp bounds k)) k v) (is_put ∙ ap (λ l. put cmp l k v) own))) (put_stays cmp order bounds shards k whole.are v);
             counted = counted;
             fits =
                 let sum_is = ap sum counted ∙ sym (total (map pairs (set items i y))) ∙ ap length (put_asked v is_put) ∙ length_put cmp order (flatten shards) whole.are.ascending k v in
-                let most = at_most_one (has cmp (flatten shards) k) (length (flatten shards)) in
-                omega (arith, sum_is, most, len_whole, room);
+                let now_fits = one_fits (has cmp (flatten shards) k) (length (flatten shards)) (omega (arith, len_whole, whole.fits)) (λ absent. omega (arith, room absent, len_whole)) in
+                omega (arith, sum_is, now_fits);
           }
 
           pub del_whole : pairs y ≡ del cmp (pairs x) k → IsWhole cmp bounds (map pairs (set items i y)) (set lengths i n)
@@ -153,6 +213,9 @@ module _ {T K V : Type 0} {cmp : K → K → Ordering} (order : IsTotalOrder cmp
 
         pub same_asked : pairs y ≡ pairs x → flatten (map pairs (set items i y)) ≡ flatten shards
         same_asked is_same = ap flatten (same_shards is_same)
+
+        pub same_partition : pairs y ≡ pairs x → partition bounds (map pairs (set items i y)) ≡ partition bounds shards
+        same_partition is_same = ap (partition bounds) (same_shards is_same)
 
         pub same_whole : pairs y ≡ pairs x → IsWhole cmp bounds (map pairs (set items i y)) lengths
         same_whole is_same = rw (same_shards is_same) whole

@@ -8,6 +8,7 @@ use Rattle.bptree_maps.specs.Splitting.{SplitsOff, gone}
 use Rattle.bptree_maps.specs.declared.refusals.MoveError.{MoveError}
 use Rattle.bptree_maps.specs.declared.refusals.SplitError.{SplitError}
 use Rattle.bptree_shards.specs.Shards.{back_from}
+use Rattle.bptree_sharded.specs.Whole.{Partition, contents}
 use Rattle.bptree_tree.specs.Entries.{pairs_between}
 
 -- the pairs that a vector of references shows
@@ -22,6 +23,10 @@ module _ {K V Z : Type 0} where
   -- a vector of references shows these pairs
   abbrev pub Shows : List (K × V) → Vec (Bor K × Bor V) Z → Type 0
   Shows pairs found = shown found.items ≡ pairs
+
+  -- the first n of those between two keys
+  abbrev pub ShowsBetween : (K → K → Ordering) → List (K × V) → Option (Bor K) → Option (Bor K) → ℕ → Vec (Bor K × Bor V) Z → Type 0
+  ShowsBetween cmp pairs lo hi n found = Shows (take n (pairs_between cmp pairs lo hi)) found
 
   module _ {T E : Type 0} where
     -- where the call was not refused, these pairs are pushed
@@ -45,8 +50,8 @@ abbrev pub IsTaken : {K V : Type 0} → List (K × V) → Option (Bor K × Bor V
 IsTaken old pair new = MatchOption pair (old ≡ []) (λ at. old ≡ deref_pair at ∷ new)
 
 -- a whole is as it was once what is handed back is put again
-abbrev pub GivesBack : {S K V : Type 0} → (K → K → Ordering) → (S → List (K × V)) → List (K × V) → List (K × V) → SplitError S (MoveError K V) → Type 0
-GivesBack cmp pairs old new refusal = put_all (put_pair cmp) new (gone pairs refusal) ≡ old
+abbrev pub GivesBack : {S K V : Type 0} → (K → K → Ordering) → (S → List (K × V)) → Partition K V → Partition K V → SplitError S (MoveError K V) → Type 0
+GivesBack cmp pairs old new refusal = put_all (put_pair cmp) (contents new) (gone pairs refusal) ≡ contents old
 
 -- ---- what becomes of a shard, by the list of its pairs
 

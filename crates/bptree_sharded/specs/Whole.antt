@@ -1,12 +1,21 @@
 -- What the parts of a whole over shards are to each other.
-use Rattle.std.specs.Prelude.{◌≡◌, ◌<◌, ◌^◌, ℕ, zero, suc, Bool, false, List, [], ◌∷◌, Option, map, take}
+use Rattle.std.specs.Prelude.{◌≡◌, ◌+◌, ◌<◌, ◌^◌, if◌then◌else◌, insert, ℕ, zero, suc, Bool, false, List, [], ◌∷◌, Option, length, map, take}
 use Rattle.std.specs.declared.cmp.Ordering.{Ordering}
 use Rattle.std.specs.Ordering.{is_gt}
-use Rattle.std.specs.List.{sum}
+use Rattle.std.specs.List.{remove, sum}
 use Rattle.bptree_keys.specs.Contents.{last_member}
 use Rattle.bptree_keys.specs.Pieces.{flatten}
 use Rattle.bptree_shards.specs.Lengths.{lengths_of}
-use Rattle.bptree_shards.specs.Shards.{AreShards}
+use Rattle.bptree_shards.specs.Shards.{AreShards, shard_of}
+
+-- one list that is cut into shards at bounds
+pub record Partition (K V : Type 0) : Type 0 where
+  pub bounds : List K
+  pub shards : List (List (K × V))
+
+-- the whole list: the pairs of the shards, one after another
+abbrev pub contents : {K V : Type 0} → Partition K V → List (K × V)
+contents it = flatten it.shards
 
 -- the shards are those of one ascending list, cut at the bounds; the numbers are how many pairs each has, and all of them
 -- fit a `usize`
@@ -30,3 +39,17 @@ module _ {K : Type 0} (cmp : K → K → Ordering) where
 -- the last pair of the shards before one
 abbrev pub last_pair_before : {T X : Type 0} → (T → List X) → List T → ℕ → Option X
 last_pair_before pairs items end = last_member (flatten (take end (map pairs items)))
+
+module _ {K : Type 0} (cmp : K → K → Ordering) where
+  -- the bounds with one more, at which the shard of that key is cut
+  abbrev pub bounds_with : List K → K → List K
+  bounds_with bounds k = insert bounds (shard_of cmp bounds k) k
+
+  -- the bounds without one, since a shard and the next one became one: the bound between them, or the one behind it where
+  -- that is the lesser
+  abbrev pub bounds_merged : List K → ℕ → List K
+  bounds_merged bounds shard = remove bounds (if descends_at cmp bounds shard then shard + 1 else shard)
+
+  -- where there is a next shard, the bounds of a whole are merged so
+  abbrev pub MergesBounds : {V : Type 0} → ℕ → Partition K V → Partition K V → Type 0
+  MergesBounds shard old new = shard < length old.bounds → new.bounds ≡ bounds_merged old.bounds shard

@@ -4,6 +4,7 @@ ghost use Rattle.std.specs.Map.{keys_of};
 ghost use Rattle.bptree_arguments.specs.CountLaws.{count_below};
 ghost use Rattle.bptree_keys.specs.Contents.{IsAscending, has};
 ghost use Rattle.bptree_sharded.specs.Shown.{PushesAll, IsTaken, turned};
+ghost use Rattle.bptree_sharded.specs.Whole.{contents};
 
 use crate::shard::Shard;
 use crate::whole::Shards;
@@ -69,7 +70,8 @@ pub fn empty_over<K: Key, V: Drop>(
     alloc: Global,
     bounds: Vec<K>,
 ) -> Result<Shards<BPlusTreeMap<K, V, Count>>, AllocError>
-    ensures { IfOk result (λ whole. whole ≡ []) }
+    ensures empty { IfOk result (λ whole. contents whole ≡ []) }
+    ensures bounds { IfOk result (λ whole. whole.bounds ≡ bounds.items) }
 {
     law_of_empty_shards::<K, V>();
     let mut maps = Vec::new(alloc);
@@ -95,12 +97,8 @@ impl<K: Key, V: Drop> Shard for BPlusTreeMap<K, V, Count> {
         BPlusTreeMap::get(self, k)
     }
 
-    fn put(&mut self, k: K, v: V) -> Result<Option<V>, (K, V)> {
-        match self.insert(k, v) {
-            Ok(old) => Ok(old),
-            Err(InsertError::OutOfMemory(k, v)) => Err((k, v)),
-            Err(InsertError::Full(k, v)) => Err((k, v)),
-        }
+    fn put(&mut self, k: K, v: V) -> Result<Option<V>, InsertError<K, V>> {
+        self.insert(k, v)
     }
 
     fn del(&mut self, k: &K) -> Result<Option<V>, AllocError> {

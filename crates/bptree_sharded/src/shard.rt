@@ -1,14 +1,18 @@
 //! What is asked of a shard.
-ghost use Rattle.std.specs.Prelude.{◌≡◌, ◌++◌, List, length, slice_get, IfOk, IfErr, OnErr};
+ghost use Rattle.std.specs.Prelude.{◌≡◌, ◌++◌, ⊤, List, Ok, None, false, length, slice_get, IfOk, IfErr, OnErr, IsOk, IsTrue};
 ghost use Rattle.std.specs.Option.{option_copied, option_map};
-ghost use Rattle.bptree_keys.specs.Contents.{value, put, del, next, previous, pairs_below};
+ghost use Rattle.bptree_keys.specs.Contents.{has, value, put, del, next, previous, pairs_below};
 ghost use Rattle.bptree_keys.specs.Ranges.{part};
 ghost use Rattle.bptree_maps.specs.Splitting.{gone};
 ghost use Rattle.bptree_sharded.specs.Shown.{PushesAll, PushesBetween, PushesBack, SplitsShard, AppendsAll, AppendsSome};
+ghost use Rattle.bptree_sharded.specs.Failures.{NoMemoryOnlyIf};
+ghost use Rattle.bptree_tree.specs.Changes.{IsRefusedWhereFull};
+ghost use Rattle.bptree_tree.specs.Refusal.{pair_of};
 ghost use Rattle.std.specs.Map.Iter.{deref_pair};
 
 use bptree_keys::key::Key;
 use bptree_maps::map::{MoveError, SplitError};
+use bptree_tree::InsertError;
 use std::alloc::AllocError;
 
 /// Ascending pairs that answer about themselves alone: a map in memory, or one that stands
@@ -23,6 +27,9 @@ pub trait Shard: Drop {
     // The pairs of the shard.
     ghost pairs: { Self → List (Self.K × Self.V) };
 
+    // Whether an allocation may fail while a shard with these pairs inserts or removes a key.
+    ghost can_fail: { List (Self.K × Self.V) → Self.K → Type 0 } = { λ _ _. ⊤ };
+
     /// The number of pairs.
     fn len(&self) -> usize
         ensures { result ≡ length (pairs self.now) };
@@ -31,18 +38,32 @@ pub trait Shard: Drop {
     fn get(&self, k: &Self::K) -> Option<&Self::V>
         ensures { option_copied result ≡ value Self.K.cmp (pairs self.now) k.now };
 
-    /// Puts a value at a key, and gives what was there. A refusal hands the pair back.
-    fn put(&mut self, k: Self::K, v: Self::V) -> Result<Option<Self::V>, (Self::K, Self::V)>
+    /// Puts a value at a key, and returns the value that was there.
+    ///
+    /// If the key is present, its value is replaced, and the call never fails. A new key fails with
+    /// `Full` exactly if the shard has `usize::MAX` pairs, and with `OutOfMemory` only if an
+    /// allocation fails. On an error nothing changes, and the error contains the pair.
+    fn put(
+        &mut self,
+        k: Self::K,
+        v: Self::V,
+    ) -> Result<Option<Self::V>, InsertError<Self::K, Self::V>>
         ensures old { IfOk result (λ old. old ≡ value Self.K.cmp (pairs self.old) k) }
         ensures ok { IfOk result (λ _. pairs self.new ≡ put Self.K.cmp (pairs self.old) k v) }
-        ensures returned { IfErr result (λ pair. pair ≡ (k, v)) }
-        ensures err { OnErr result (pairs self.new ≡ pairs self.old) };
+        ensures present { IsTrue (has Self.K.cmp (pairs self.old) k) → IsOk result }
+        ensures full { IsRefusedWhereFull Self.K.cmp usize.MAX (pairs self.old) k v result }
+        ensures memory { IfErr result (NoMemoryOnlyIf (can_fail (pairs self.old) k)) }
+        ensures returned { IfErr result (λ error. pair_of error ≡ (k, v)) }
+        ensures unchanged { OnErr result (pairs self.new ≡ pairs self.old) };
 
-    /// Takes out the pair at a key, and gives its value.
+    /// Removes the pair at a key, and returns its value. If the key is absent, nothing changes, and
+    /// the call never fails. If an allocation fails, nothing changes.
     fn del(&mut self, k: &Self::K) -> Result<Option<Self::V>, AllocError>
         ensures old { IfOk result (λ old. old ≡ value Self.K.cmp (pairs self.old) k.now) }
         ensures ok { IfOk result (λ _. pairs self.new ≡ del Self.K.cmp (pairs self.old) k.now) }
-        ensures err { OnErr result (pairs self.new ≡ pairs self.old) };
+        ensures absent { has Self.K.cmp (pairs self.old) k.now ≡ false → result ≡ Ok None }
+        ensures memory { OnErr result (can_fail (pairs self.old) k.now) }
+        ensures unchanged { OnErr result (pairs self.new ≡ pairs self.old) };
 
     /// The number of smaller keys.
     fn rank(&self, k: &Self::K) -> usize

@@ -1,15 +1,17 @@
 //! The whole over several shards, which answers as one map.
-ghost use Rattle.std.specs.Prelude.{◌≡◌, ◌+◌, ◌^◌, ◌<◌, ◌≤◌, List, length, vec_len, vec_capacity, map, take, insert, slice_get, true, if◌then◌else◌, IfOk, IfErr, OnOk, OnErr};
+ghost use Rattle.std.specs.Prelude.{◌≡◌, ◌+◌, ◌^◌, ◌<◌, ◌≤◌, List, length, vec_len, vec_capacity, map, take, insert, slice_get, true, false, Ok, None, if◌then◌else◌, IfOk, IfErr, OnOk, OnErr, IsOk, IsTrue};
 ghost use Rattle.std.specs.List.{sum};
 ghost use Rattle.std.specs.Option.{option_copied, option_map};
-ghost use Rattle.bptree_keys.specs.Contents.{IsAscending, value, put, del, next, previous, pairs_below, last_member};
+ghost use Rattle.bptree_keys.specs.Contents.{IsAscending, has, value, put, del, next, previous, pairs_below, last_member};
 ghost use Rattle.bptree_keys.specs.Pieces.{flatten};
 ghost use Rattle.bptree_keys.specs.Ranges.{between, part};
 ghost use Rattle.bptree_shards.specs.Lengths.{lengths_of};
 ghost use Rattle.bptree_shards.specs.Shards.{AreShards, back_from};
-ghost use Rattle.bptree_sharded.specs.Shown.{Shows, GivesBack};
-ghost use Rattle.bptree_sharded.specs.Whole.{descends_at, last_pair_before};
-ghost use Rattle.bptree_tree.specs.Entries.{pairs_between};
+ghost use Rattle.bptree_sharded.specs.Shown.{Shows, ShowsBetween, GivesBack};
+ghost use Rattle.bptree_sharded.specs.Failures.{HasRoom, InOwnShard, NoMemoryOnlyIf};
+ghost use Rattle.bptree_sharded.specs.Whole.{MergesBounds, bounds_with, contents, descends_at, last_pair_before};
+ghost use Rattle.bptree_tree.specs.Changes.{IsRefusedWhereFull};
+ghost use Rattle.bptree_tree.specs.Refusal.{pair_of};
 ghost use Rattle.std.specs.Map.Iter.{deref_pair};
 
 use crate::shard::Shard;
@@ -19,6 +21,7 @@ use bptree_shards::combining::{
     len_of_whole, locate, next_full, next_part, prev_full, rank_of_whole,
 };
 use bptree_shards::routing::{route, route_below, route_range};
+use bptree_tree::InsertError;
 use std::alloc::{AllocError, Global};
 use std::marker::Model;
 
@@ -73,6 +76,20 @@ fn last_before<'a, S: Shard>(
     }
 }
 
+// Whether a new key has no room: all shards together have the greatest length, and the shard of the
+// key lacks it.
+fn lacks_room<S: Shard>(counts: &[usize], own: &S, k: &S::K) -> bool
+    requires { sum counts.now < 2 ^ 64 }
+    ensures full { result ≡ true → sum counts.now ≡ usize.MAX }
+    ensures absent { result ≡ true → has S.K.cmp (S.pairs own.now) k.now ≡ false }
+    ensures room { result ≡ false → HasRoom (sum counts.now) (has S.K.cmp (S.pairs own.now) k.now) }
+{
+    if len_of_whole(counts) < usize::MAX {
+        return false;
+    }
+    own.get(k).is_none()
+}
+
 /// Several shards that are one map: which of them is asked is told by their bounds and by how many
 /// pairs each has, and each call asks as few of them as it can.
 #[derive(Drop)]
@@ -83,13 +100,12 @@ pub struct Shards<S: Shard> {
 }
 
 impl<S: Shard> Model for Shards<S> {
-    ghost use Rattle.std.specs.Prelude.{List, map};
-    ghost use Rattle.bptree_keys.specs.Pieces.{flatten};
-    ghost use Rattle.bptree_sharded.specs.Whole.{IsWhole};
+    ghost use Rattle.std.specs.Prelude.{map};
+    ghost use Rattle.bptree_sharded.specs.Whole.{IsWhole, Partition};
 
-    ghost Value = { List (S.K × S.V) };
+    ghost Value = { Partition S.K S.V };
 
-    ghost view = { λ it. flatten (map (λ shard. S.pairs shard) it.shards.items) };
+    ghost view = { λ it. record { bounds = it.bounds.items; shards = map (λ shard. S.pairs shard) it.shards.items } };
 
     ghost invariant = { λ it. IsWhole S.K.cmp it.bounds.items (map (λ shard. S.pairs shard) it.shards.items) it.lengths.items };
 }
@@ -99,7 +115,8 @@ impl<S: Shard> Shards<S> {
     pub fn new(alloc: Global, bounds: Vec<S::K>, shards: Vec<S>) -> Result<Self, AllocError>
         requires are { AreShards S.K.cmp bounds.items (map (λ shard. S.pairs shard) shards.items) }
         requires fits { length (flatten (map (λ shard. S.pairs shard) shards.items)) < 2 ^ 64 }
-        ensures { IfOk result (λ it. it ≡ flatten (map (λ shard. S.pairs shard) shards.items)) }
+        ensures bounds { IfOk result (λ it. it.bounds ≡ bounds.items) }
+        ensures shards { IfOk result (λ it. it.shards ≡ map (λ shard. S.pairs shard) shards.items) }
     {
         let mut lengths = Vec::new(alloc);
         for shard in &shards {
@@ -114,58 +131,75 @@ impl<S: Shard> Shards<S> {
 
     /// The number of pairs. No shard is asked.
     pub fn len(&self) -> usize
-        ensures value { result ≡ length self.now }
-        ensures ascending { IsAscending S.K.cmp self.now }
+        ensures value { result ≡ length (contents self.now) }
+        ensures ascending { IsAscending S.K.cmp (contents self.now) }
     {
         len_of_whole(&self.lengths)
     }
 
-    /// How many pairs each shard has, in their order. No shard is asked.
+    /// The number of pairs of each shard, in the order of the shards. No shard is asked.
     pub fn lengths(&self) -> &[usize]
-        ensures { sum result.now ≡ length self.now }
+        ensures each { result.now ≡ lengths_of self.now.shards }
+        ensures total { sum result.now ≡ length (contents self.now) }
     {
         &self.lengths
     }
 
     /// The keys at which the shards are cut: one fewer than there are shards.
-    pub fn bounds(&self) -> &[S::K] {
+    pub fn bounds(&self) -> &[S::K]
+        ensures value { result.now ≡ self.now.bounds }
+        ensures cut { AreShards S.K.cmp self.now.bounds self.now.shards }
+    {
         &self.bounds
     }
 
     /// The value at a key. The shard of the key is asked.
     #[tactic(auto, using(crate::proofs::Asked::routing))]
     pub fn get(&self, k: &S::K) -> Option<&S::V>
-        ensures { option_copied result ≡ value S.K.cmp self.now k.now }
+        ensures { option_copied result ≡ value S.K.cmp (contents self.now) k.now }
     {
         self.shards[route(&self.bounds, k)].get(k)
     }
 
-    /// Puts a value at a key, and gives what was there. The shard of the key is asked. Where it
-    /// refuses, the pair comes back and the whole is as it was; and so it is where there are as
-    /// many pairs as a `usize` counts.
+    /// Puts a value at a key, and returns the value that was there. The shard of the key is asked.
+    ///
+    /// If the key is present, its value is replaced, and the call never fails. A new key fails with
+    /// `Full` exactly if the whole has `usize::MAX` pairs, and with `OutOfMemory` only if an
+    /// allocation in its shard fails. On an error nothing changes, and the error contains the pair.
     #[tactic(auto, using(crate::proofs::Asked::routing))]
-    pub fn put(&mut self, k: S::K, v: S::V) -> Result<Option<S::V>, (S::K, S::V)>
-        ensures old { IfOk result (λ old. old ≡ value S.K.cmp self.old k) }
-        ensures ok { IfOk result (λ old. self.new ≡ put S.K.cmp self.old k v) }
-        ensures returned { IfErr result (λ pair. pair ≡ (k, v)) }
-        ensures err { OnErr result (self.new ≡ self.old) }
+    pub fn put(&mut self, k: S::K, v: S::V) -> Result<Option<S::V>, InsertError<S::K, S::V>>
+        ensures old { IfOk result (λ old. old ≡ value S.K.cmp (contents self.old) k) }
+        ensures ok { IfOk result (λ _. contents self.new ≡ put S.K.cmp (contents self.old) k v) }
+        ensures bounds { self.new.bounds ≡ self.old.bounds }
+        ensures present { IsTrue (has S.K.cmp (contents self.old) k) → IsOk result }
+        ensures full { IsRefusedWhereFull S.K.cmp usize.MAX (contents self.old) k v result }
+        ensures memory { IfErr result (NoMemoryOnlyIf (InOwnShard S.K.cmp S.can_fail self.old k)) }
+        ensures returned { IfErr result (λ error. pair_of error ≡ (k, v)) }
+        ensures unchanged { OnErr result (self.new ≡ self.old) }
     {
         let at = route(&self.bounds, &k);
-        if len_of_whole(&self.lengths) == usize::MAX {
-            return Err((k, v));
+        if lacks_room(&self.lengths, &self.shards[at], &k) {
+            return Err(InsertError::Full(k, v));
         }
-        let old = self.shards[at].put(k, v)?;
+        let old = match self.shards[at].put(k, v) {
+            Ok(old) => old,
+            Err(error) => return Err(error),
+        };
         self.lengths[at] = self.shards[at].len();
         Ok(old)
     }
 
-    /// Takes out the pair at a key, and gives its value. The shard of the key is asked. Where it
-    /// refuses, the whole is as it was.
+    /// Removes the pair at a key, and returns its value. The shard of the key is asked. If the key
+    /// is absent, nothing changes, and the call never fails. If an allocation in the shard fails,
+    /// nothing changes.
     #[tactic(auto, using(crate::proofs::Asked::routing))]
     pub fn del(&mut self, k: &S::K) -> Result<Option<S::V>, AllocError>
-        ensures old { IfOk result (λ old. old ≡ value S.K.cmp self.old k.now) }
-        ensures ok { IfOk result (λ old. self.new ≡ del S.K.cmp self.old k.now) }
-        ensures err { OnErr result (self.new ≡ self.old) }
+        ensures old { IfOk result (λ old. old ≡ value S.K.cmp (contents self.old) k.now) }
+        ensures ok { IfOk result (λ _. contents self.new ≡ del S.K.cmp (contents self.old) k.now) }
+        ensures bounds { self.new.bounds ≡ self.old.bounds }
+        ensures absent { has S.K.cmp (contents self.old) k.now ≡ false → result ≡ Ok None }
+        ensures memory { OnErr result (InOwnShard S.K.cmp S.can_fail self.old k.now) }
+        ensures unchanged { OnErr result (self.new ≡ self.old) }
     {
         let at = route(&self.bounds, k);
         let old = self.shards[at].del(k)?;
@@ -176,7 +210,7 @@ impl<S: Shard> Shards<S> {
     /// The number of smaller keys. The shard of the key is asked.
     #[tactic(auto, using(crate::proofs::Asked::routing))]
     pub fn rank(&self, k: &S::K) -> usize
-        ensures { result ≡ length (pairs_below S.K.cmp self.now k.now) }
+        ensures { result ≡ length (pairs_below S.K.cmp (contents self.now) k.now) }
     {
         let at = route(&self.bounds, k);
         let own = self.shards[at].rank(k);
@@ -185,7 +219,7 @@ impl<S: Shard> Shards<S> {
 
     /// The pair at a place, counted from 0. The shard that has it is asked.
     pub fn at(&self, place: usize) -> Option<(&S::K, &S::V)>
-        ensures { option_map deref_pair result ≡ slice_get self.now place }
+        ensures { option_map deref_pair result ≡ slice_get (contents self.now) place }
     {
         match locate(&self.lengths, place) {
             None => None,
@@ -195,14 +229,14 @@ impl<S: Shard> Shards<S> {
 
     /// The pair with the least key. The first shard that has a pair is asked.
     pub fn first(&self) -> Option<(&S::K, &S::V)>
-        ensures { option_map deref_pair result ≡ slice_get self.now 0 }
+        ensures { option_map deref_pair result ≡ slice_get (contents self.now) 0 }
     {
         self.at(0)
     }
 
     /// The pair with the greatest key. The last shard that has a pair is asked.
     pub fn last(&self) -> Option<(&S::K, &S::V)>
-        ensures { option_map deref_pair result ≡ last_member self.now }
+        ensures { option_map deref_pair result ≡ last_member (contents self.now) }
     {
         last_before(&self.shards, &self.lengths, self.shards.len())
     }
@@ -211,7 +245,7 @@ impl<S: Shard> Shards<S> {
     /// the first shard behind it that has a pair.
     #[tactic(auto, using(crate::proofs::Asked::routing))]
     pub fn next(&self, k: &S::K) -> Option<(&S::K, &S::V)>
-        ensures { option_map deref_pair result ≡ next S.K.cmp self.now k.now }
+        ensures { option_map deref_pair result ≡ next S.K.cmp (contents self.now) k.now }
     {
         let at = route(&self.bounds, k);
         let own = self.shards[at].next(k);
@@ -228,7 +262,7 @@ impl<S: Shard> Shards<S> {
     /// that has none, the last shard before it that has a pair.
     #[tactic(auto, using(crate::proofs::Asked::below_routed_within))]
     pub fn prev(&self, k: &S::K) -> Option<(&S::K, &S::V)>
-        ensures { option_map deref_pair result ≡ previous S.K.cmp self.now k.now }
+        ensures { option_map deref_pair result ≡ previous S.K.cmp (contents self.now) k.now }
     {
         let at = route_below(&self.bounds, k);
         match self.shards[at].prev(k) {
@@ -244,7 +278,7 @@ impl<S: Shard> Shards<S> {
         place: usize,
         n: usize,
     ) -> Result<Vec<(&S::K, &S::V)>, AllocError>
-        ensures { IfOk result (Shows (part self.now place n)) }
+        ensures { IfOk result (Shows (part (contents self.now) place n)) }
     {
         let mut found = Vec::new(alloc);
         let mut from = place;
@@ -267,7 +301,7 @@ impl<S: Shard> Shards<S> {
         hi: Option<&'b S::K>,
         n: usize,
     ) -> Result<Vec<(&S::K, &S::V)>, AllocError>
-        ensures { IfOk result (Shows (take n (pairs_between S.K.cmp self.now lo.entry hi.entry))) }
+        ensures { IfOk result (ShowsBetween S.K.cmp (contents self.now) lo.entry hi.entry n) }
     {
         let mut found = Vec::new(alloc);
         let (first, last) = route_range(&self.bounds, lo, hi);
@@ -287,7 +321,7 @@ impl<S: Shard> Shards<S> {
     /// key is asked, and then each shard before it that has one of them.
     #[tactic(auto, using(crate::proofs::Asked::routing))]
     pub fn back(&self, alloc: Global, k: &S::K, n: usize) -> Result<Vec<(&S::K, &S::V)>, AllocError>
-        ensures { IfOk result (Shows (take n (back_from S.K.cmp self.now k.now))) }
+        ensures { IfOk result (Shows (take n (back_from S.K.cmp (contents self.now) k.now))) }
     {
         let at = route(&self.bounds, k);
         let mut found = Vec::new(alloc);
@@ -307,7 +341,9 @@ impl<S: Shard> Shards<S> {
     /// back.
     #[tactic(auto, using(crate::proofs::Asked::routed_within))]
     pub fn split(&mut self, k: S::K) -> Result<(), SplitError<S, MoveError<S::K, S::V>>>
-        ensures ok { OnOk result (self.new ≡ self.old) }
+        ensures ok { OnOk result (contents self.new ≡ contents self.old) }
+        ensures cut { OnOk result (self.new.bounds ≡ bounds_with S.K.cmp self.old.bounds k) }
+        ensures uncut { OnErr result (self.new.bounds ≡ self.old.bounds) }
         ensures err { IfErr result (GivesBack S.K.cmp (λ shard. S.pairs shard) self.old self.new) }
     {
         if self.bounds.reserve(1).is_err() {
@@ -340,7 +376,9 @@ impl<S: Shard> Shards<S> {
     /// The pairs of the second one move, one after another. Where one could not, those that had not
     /// moved have left the list, and are handed back with the shard that they are in.
     pub fn merge(&mut self, shard: usize) -> Result<(), SplitError<S, MoveError<S::K, S::V>>>
-        ensures ok { OnOk result (self.new ≡ self.old) }
+        ensures ok { OnOk result (contents self.new ≡ contents self.old) }
+        ensures merged { MergesBounds S.K.cmp shard self.old self.new }
+        ensures past { length self.old.bounds ≤ shard → IsOk result × (self.new ≡ self.old) }
         ensures err { IfErr result (GivesBack S.K.cmp (λ shard. S.pairs shard) self.old self.new) }
     {
         if shard >= self.bounds.len() {

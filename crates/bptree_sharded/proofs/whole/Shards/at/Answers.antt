@@ -1,12 +1,13 @@
 use Rattle.std.proofs.Common.{◌∙◌, ap, slice_get}
+use Rattle.bptree_sharded.specs.Whole.{contents}
 use Rattle.bptree_sharded.proofs.Asked.{at_none, at_asked}
 use Rattle.bptree_sharded.proofs.whole.Shards.at.Goals as goal
 
 pub returns-in-None : goal.returns-in-None
 returns-in-None g c =
-    at_none g.met.S.K.Ord.total g.S.Shard.pairs c.self.inside.shards.items c.self.invariant c.deref.ensures.value c.args.place c.in-None.ensures ∙ ap (λ l. slice_get l c.args.place) c.self.view_is
+    at_none g.met.S.K.Ord.total g.S.Shard.pairs c.self.inside.shards.items c.self.invariant c.deref.ensures.value c.args.place c.in-None.ensures ∙ ap (λ l. slice_get l c.args.place) (ap contents c.self.view_is)
 
 pub returns-in-Some : goal.returns-in-Some
 returns-in-Some g c =
     c.at.ensures ∙ at_asked g.met.S.K.Ord.total g.S.Shard.pairs c.self.inside.shards.items c.self.invariant c.deref.ensures.value c.args.place c.in-Some.shard c.in-Some.own c.index.result.now c.in-Some.ensures c.index.ensures
-    ∙ ap (λ l. slice_get l c.args.place) c.self.view_is
+    ∙ ap (λ l. slice_get l c.args.place) (ap contents c.self.view_is)

@@ -6,6 +6,7 @@ use Rattle.bptree_keys.specs.Pieces.{flatten}
 use Rattle.bptree_keys.specs.Ranges.{part}
 use Rattle.bptree_shards.specs.Shards.{shard_of, back_from}
 use Rattle.bptree_sharded.specs.Shown.{shown}
+use Rattle.bptree_sharded.specs.Whole.{contents}
 use Rattle.bptree_sharded.proofs.Asked.{routed_within}
 use Rattle.bptree_sharded.proofs.Pages.{back_more, map-reverse}
 use Rattle.bptree_sharded.proofs.whole.Shards.back.Goals as goal
@@ -29,9 +30,9 @@ returns g c =
     let count = c.min-count.result in
     let count_is : count ≡ min end (c.args.n - length found) = omega (arith, c.min-count.ensures, c.len.ensures, length-map c.back.new.found.items deref_pair) in
     let rest = shown c.in_ok-rest.rest.items in
-    let rest_is : rest ≡ part (flatten (map g.S.Shard.pairs it.shards.items)) (end - count) count = c.in_ok-rest.ensures ∙ ap (λ l. part l (end - count) count) (sym c.self.view_is) in
+    let rest_is : rest ≡ part (flatten (map g.S.Shard.pairs it.shards.items)) (end - count) count = c.in_ok-rest.ensures ∙ ap (λ l. part l (end - count) count) (sym (ap contents c.self.view_is)) in
     ap shown c.in_ok-append.ensures.items ∙ map-append deref_pair c.back.new.found.items c.reverse.new.self.items
     ∙ ap (λ l. found ++ shown l) c.reverse.ensures.items ∙ ap (λ l. found ++ l) (map-reverse deref_pair c.in_ok-rest.rest.items)
     ∙ back_more g.S.K.Ord.cmp g.S.Shard.pairs it.bounds.items it.shards.items it.lengths.items c.self.invariant g.met.S.K.Ord.total c.args.k.now c.route-at.result is c.index.result.now short c.index.ensures c.args.n
     found rest end count found_is end_is count_is rest_is
-    ∙ ap (λ l. take c.args.n (back_from g.S.K.Ord.cmp l c.args.k.now)) c.self.view_is
+    ∙ ap (λ l. take c.args.n (back_from g.S.K.Ord.cmp l c.args.k.now)) (ap contents c.self.view_is)

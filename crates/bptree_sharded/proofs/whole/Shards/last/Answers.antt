@@ -1,5 +1,6 @@
 use Rattle.std.proofs.Common.{◌≡◌, length, ap, ◌∙◌, arith}
 use Rattle.bptree_keys.specs.Contents.{last_member}
+use Rattle.bptree_sharded.specs.Whole.{contents}
 use Rattle.bptree_sharded.proofs.Asked.{last_asked}
 use Rattle.bptree_sharded.proofs.whole.Shards.last.Goals as goal
 
@@ -7,4 +8,4 @@ pub returns : goal.returns
 returns g c =
     let all : c.len.result ≡ length c.self.inside.shards.items = omega (arith, c.len.ensures, c.deref.ensures) in
     c.last_before.ensures ∙ last_asked g.met.S.K.Ord.total g.S.Shard.pairs c.self.inside.shards.items c.self.invariant c.deref.result.now c.len.result c.deref.ensures.value all
-    ∙ ap (λ l. last_member l) c.self.view_is
+    ∙ ap (λ l. last_member l) (ap contents c.self.view_is)

@@ -3,6 +3,7 @@ use Rattle.bptree_keys.specs.Pieces.{flatten}
 use Rattle.bptree_keys.specs.Ranges.{part}
 use Rattle.bptree_sharded.specs.Shown.{shown}
 use Rattle.bptree_shards.specs.Lengths.{IsFirstPart, IsNextPart}
+use Rattle.bptree_sharded.specs.Whole.{contents}
 use Rattle.bptree_sharded.proofs.Pages.{page_more, page_fits, page_done}
 use Rattle.bptree_sharded.proofs.whole.Shards.page.Goals as goal
 
@@ -34,4 +35,4 @@ returns g c =
     let it = c.self.inside in
     let none : IsNextPart it.lengths.items c.loop-part.from c.loop-part.left None = subst (λ ls. IsNextPart ls c.loop-part.from c.loop-part.left None) c.deref.ensures.value c.in_default.ensures in
     sym (page_done g.S.K.Ord.cmp g.S.Shard.pairs it.bounds.items it.shards.items it.lengths.items c.self.invariant c.loop-part.from c.loop-part.left (shown c.loop-part.found.items) none)
-    ∙ c.loop-part.invariant ∙ ap (λ l. part l c.args.place c.args.n) c.self.view_is
+    ∙ c.loop-part.invariant ∙ ap (λ l. part l c.args.place c.args.n) (ap contents c.self.view_is)

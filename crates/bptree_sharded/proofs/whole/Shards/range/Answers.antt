@@ -5,6 +5,7 @@ use Rattle.std.proofs.lemmas.List.{length-map}
 use Rattle.bptree_keys.specs.Ranges.{between}
 use Rattle.bptree_shards.specs.Shards.{first_shard, last_shard}
 use Rattle.bptree_sharded.specs.Shown.{shown}
+use Rattle.bptree_sharded.specs.Whole.{contents}
 use Rattle.bptree_sharded.proofs.Pages.{has_shard, has_length, range_skip, range_more, range_full, range_all, range_end}
 use Rattle.bptree_sharded.proofs.whole.Shards.range.Goals as goal
 
@@ -25,7 +26,7 @@ returns-then-len-n g c =
     let ends : last ≡ last_shard cmp it.bounds.items hi = c.route_range-first.ensures.last ∙ ap (λ bounds. last_shard cmp bounds hi) c.deref.ensures.value in
     range_all cmp g.S.Shard.pairs it.bounds.items it.shards.items it.lengths.items c.self.invariant g.met.S.K.Ord.total lo hi c.args.n found first last starts ends
     (range_full cmp g.S.Shard.pairs it.bounds.items it.shards.items it.lengths.items c.self.invariant lo hi first c.args.n c.loop-shard.shard found c.loop-shard.auto.shard there c.loop-shard.invariant.found (last + 1) up full)
-    ∙ ap (λ l. take c.args.n (between cmp l lo hi)) c.self.view_is
+    ∙ ap (λ l. take c.args.n (between cmp l lo hi)) (ap contents c.self.view_is)
 
 pub index-requires : goal.index-requires
 index-requires g c =
@@ -80,4 +81,4 @@ returns g c =
     let ends : last ≡ last_shard cmp it.bounds.items hi = c.route_range-first.ensures.last ∙ ap (λ bounds. last_shard cmp bounds hi) c.deref.ensures.value in
     range_end cmp g.S.Shard.pairs it.bounds.items it.shards.items it.lengths.items c.self.invariant g.met.S.K.Ord.total lo hi c.args.n (shown c.loop-shard.found.items) first last starts ends
     c.loop-shard.shard c.loop-shard-test.false c.loop-shard.invariant.near c.loop-shard.invariant.found
-    ∙ ap (λ l. take c.args.n (between cmp l lo hi)) c.self.view_is
+    ∙ ap (λ l. take c.args.n (between cmp l lo hi)) (ap contents c.self.view_is)
