@@ -1,6 +1,7 @@
 mod BesideNothing
 pub mod EntryKeys
 pub mod MemberLemmas
+pub mod ReplaceLemmas
 pub mod SiftLemmas
 pub mod SymmetricLemmas
 pub mod UnionLemmas

@@ -1,14 +1,14 @@
 //! One key that is handed out or takes another's place, and many keys at once.
-ghost use Rattle.std.specs.Prelude.{◌≡◌, ◌++◌, false, IfOk, IfErr, IsOk, OnErr, OnOk, Ok, Some, None};
+ghost use Rattle.std.specs.Prelude.{◌≡◌, ◌++◌, [], false, IsOk, IfOk, IfErr, OnErr, OnOk, Ok, Some, None};
 ghost use Rattle.std.specs.Iterator.{IsFiniteIterable as AreFinite};
 ghost use Rattle.std.specs.Option.{option_map};
 ghost use Rattle.bptree_tree.specs.Refusal.{pair_of};
 ghost use Rattle.bptree_keys.specs.Keys.{AllInfallible};
 ghost use Rattle.bptree_maps.specs.Keys.{holds, with_key};
-ghost use Rattle.bptree_maps.specs.Moving.{Moves, AllMove, Extends, ExtendsUpTo, MovesKeys};
-ghost use Rattle.bptree_sets.specs.Replacing.{IsNotReplaced};
-ghost use Rattle.bptree_maps.specs.Splitting.{keys_gone, KeepsKeysBelow, SplitsKeysOff};
-ghost use Rattle.bptree_maps.specs.KeyChanges.{ReplacesKey, TakesKey};
+ghost use Rattle.bptree_maps.specs.Moving.{Moves, AllMove, Extends, ExtendsUpTo, IsKeyMoveFailure, MovesKeys};
+ghost use Rattle.bptree_sets.specs.Replacing.{IsNotReplaced, IsReplaceFailure};
+ghost use Rattle.bptree_maps.specs.Splitting.{keys_gone, IsKeySplitFailure, KeepsKeysBelow, SplitsKeysOff};
+ghost use Rattle.bptree_maps.specs.KeyChanges.{IsKeyFailureOf, ReplacesKey, TakesKey};
 
 use crate::set::BPlusTreeSet;
 use bptree_keys::key::Key;
@@ -44,13 +44,17 @@ impl<K: Key> BPlusTreeSet<K> {
     /// Puts `k` in the place of the key that equals it, and hands that key out: none where no key
     /// does.
     ///
-    /// It costs a removal and an insertion, since the sums of the keys on the way are made anew.
-    /// Where the removal is refused, nothing has changed, and `k` is handed back. Where the
-    /// insertion is, the key that equals `k` has left, and both are handed back.
+    /// It costs a removal and an insertion, since the summaries above the key are computed anew. If
+    /// the removal fails, nothing has changed, and `k` is returned. If the insertion fails, the key
+    /// that equals `k` has left, and both are returned. The error is `Full` only if no key equalled
+    /// `k` and the set has `usize::MAX` keys.
     pub fn replace(&mut self, k: K) -> Result<Option<K>, ReplaceError<K>>
         ensures ok { IfOk result (ReplacesKey K.cmp k self.old self.new) }
         ensures err { IfErr result (IsNotReplaced K.cmp k self.old self.new) }
+        ensures kind { IfErr result (IsReplaceFailure K.cmp usize.MAX k self.old self.new) }
     {
+        // Read, so that the length is known to fit.
+        let _len = self.len();
         match self.take(&k) {
             Ok(gone) => match self.insert(k) {
                 Ok(_) => Ok(gone),
@@ -63,12 +67,14 @@ impl<K: Key> BPlusTreeSet<K> {
     /// Puts the keys in that an iterator gives, one after another, as `insert` does: a key that was
     /// stored stays.
     ///
-    /// It costs an insertion a key. Where one is refused, the keys before it are in and that key is
-    /// handed back; the rest of the iterator is dropped.
+    /// It costs an insertion a key. If one fails, the keys before it are stored, that key is returned
+    /// in the error, and the rest of the iterator is dropped. A key that is present never fails. The
+    /// error is `Full` if the set as it is left has `usize::MAX` keys.
     pub fn extend<I: IntoIterator<Item = K>>(&mut self, keys: I) -> Result<(), InsertError<K, ()>>
         requires { AreFinite I.into_iter_gives I.IntoIter.can_next I.IntoIter.remaining keys }
         ensures ok { OnOk result (Extends (with_key K.cmp) I.IntoIter.next_gives I.into_iter_gives keys self.old self.new) }
         ensures err { IfErr result (λ r. ExtendsUpTo (with_key K.cmp) I.IntoIter.next_gives I.into_iter_gives keys self.old self.new (pair_of r).0) }
+        ensures kind { IfErr result (IsKeyFailureOf K.cmp usize.MAX self.new) }
     {
         for k in keys {
             match self.insert(k) {
@@ -82,12 +88,15 @@ impl<K: Key> BPlusTreeSet<K> {
     /// Moves all keys of another set here, one after another, as `insert` does: of two equal keys
     /// this set's stays, and the other's is dropped.
     ///
-    /// It costs a removal and an insertion a key. Where one is refused, the first keys have moved,
-    /// and the others are still in the other set; a key that was removed and not stored is handed
-    /// back.
+    /// It costs a removal and an insertion a key. If one fails, the first keys have moved, and the
+    /// others are still in the other set; a key that was removed and not stored is returned in the
+    /// error. The error is `Full` if this set as it is left has `usize::MAX` keys. If the other set
+    /// is empty, nothing fails.
     pub fn append(&mut self, other: &mut Self) -> Result<(), MoveError<K, ()>>
         ensures ok { OnOk result (AllMove (with_key K.cmp) self.old other.old self.new other.new) }
         ensures err { IfErr result (MovesKeys K.cmp self.old other.old self.new other.new) }
+        ensures kind { IfErr result (IsKeyMoveFailure K.cmp usize.MAX self.new other.new) }
+        ensures empty { other.old ≡ [] → IsOk result }
     {
         'moves: loop {
             match other.pop_first() {
@@ -103,13 +112,14 @@ impl<K: Key> BPlusTreeSet<K> {
 
     /// Moves the keys that are not below `k` to a set of their own, the greatest first.
     ///
-    /// It costs a removal and an insertion a key that moves, and what a set with no keys takes.
-    /// Where that is refused, nothing has changed. Where a move is refused, the greatest keys have
-    /// left and are handed back in their set. With them comes the key that was removed and not
-    /// stored, if there is one. The others stayed.
+    /// It costs a removal and an insertion a key that moves, and what a set with no keys takes. If
+    /// that fails, nothing has changed. If a move fails, the greatest keys have left and are returned
+    /// in their set. With them comes the key that was removed and not stored, if there is one. The
+    /// others stayed. The error is `Full` if the returned set has `usize::MAX` keys.
     pub fn split_off(&mut self, k: &K) -> Result<Self, SplitError<Self, MoveError<K, ()>>>
         ensures ok { IfOk result (SplitsKeysOff K.cmp k.now self.old self.new) }
         ensures err { IfErr result (λ refusal. self.old ≡ self.new ++ keys_gone refusal) }
+        ensures kind { IfErr result (IsKeySplitFailure K.cmp k.now usize.MAX self.new) }
         ensures kept { KeepsKeysBelow K.cmp k.now self.old self.new }
     {
         match self.map.split_off(k) {

@@ -4,7 +4,7 @@ ghost use Rattle.std.specs.Fn.{CalledAt};
 ghost use Rattle.std.specs.List.Retain.{IsFiltered};
 ghost use Rattle.std.specs.Option.{option_copied as given};
 ghost use Rattle.bptree_maps.specs.Keys.{keys_between};
-ghost use Rattle.bptree_maps.specs.RetainedKeys.{keys_outside, FirstKeysLeft, IsKeyRetainRefused};
+ghost use Rattle.bptree_maps.specs.RetainedKeys.{keys_outside, FirstKeysLeft, IsKeyRetainRefused, KeepsAllIfNoKey};
 ghost use Rattle.bptree_tree.specs.Refusal.{pair_of};
 
 use super::{BPlusTreeSet, IntoIter};
@@ -59,8 +59,9 @@ impl<K: Key> BPlusTreeSet<K> {
     /// Removes the keys that are not below `lo` and are below `hi`, where they are given, and
     /// answers how many there were.
     ///
-    /// It costs a removal a key, and a search for it and for each end that is given. Where one is
-    /// refused, the first of the keys have left, and nothing else has changed.
+    /// It costs a removal a key, and a search for it and for each end that is given. If one fails,
+    /// the first of the keys have left, and nothing else has changed. If there is no such key,
+    /// nothing fails and nothing changes.
     pub fn remove_range<'b>(
         &mut self,
         lo: Option<&'b K>,
@@ -68,6 +69,7 @@ impl<K: Key> BPlusTreeSet<K> {
     ) -> Result<usize, AllocError>
         ensures rest { IfOk result (λ _. self.new ≡ keys_outside K.cmp self.old (given lo.entry) (given hi.entry)) }
         ensures count { IfOk result (λ n. n ≡ length (keys_between K.cmp self.old (given lo.entry) (given hi.entry))) }
+        ensures empty { KeepsAllIfNoKey K.cmp (given lo.entry) (given hi.entry) self.old self.new result }
         ensures err { OnErr result (FirstKeysLeft K.cmp (given lo.entry) (given hi.entry) self.old self.new) }
     {
         self.map.remove_range(lo, hi)

@@ -4,7 +4,7 @@ use Rattle.std.proofs.lemmas.Result.{IfOk-weaker, on_err_weaker}
 use Rattle.std.specs.Map.{keys_of}
 use Rattle.std.specs.Option.{option_copied}
 use Rattle.bptree_keys.specs.Ranges.{between}
-use Rattle.bptree_maps.proofs.KeyLemmas.{keys_between-is, keys_outside-is}
+use Rattle.bptree_maps.proofs.KeyLemmas.{empty_keys, keys_between-is, keys_outside-is}
 use Rattle.bptree_maps.proofs.RetainLemmas.{first_keys_left}
 use Rattle.bptree_sets.proofs.set.BPlusTreeSet.remove_range.Goals as goal
 
@@ -26,3 +26,10 @@ returns-clause-err g c =
     let lo = option_copied c.args.lo in
     let hi = option_copied c.args.hi in
     rw (← c.self.view_is) (on_err_weaker c.remove_range.result (first_keys_left cmp lo hi old new) c.remove_range.ensures.err)
+
+pub returns-clause-empty : goal.returns-clause-empty
+returns-clause-empty g c =
+    let old = c.self.inside.map in
+    rw (← c.self.view_is) (λ none.
+    let kept = c.remove_range.ensures.empty (empty_keys _ (keys_between-is g.K.Ord.cmp old (option_copied c.args.lo) (option_copied c.args.hi) ∙ none)) in
+    (kept.0, ap keys_of kept.1))

@@ -1,7 +1,7 @@
 use Rattle.std.proofs.Common.{◌∙◌, Some, None, [], ap, sym}
 use Rattle.std.specs.Map.{keys_of}
 use Rattle.bptree_maps.specs.Moving.{in_hand}
-use Rattle.bptree_maps.proofs.KeyLemmas.{keys_between-is}
+use Rattle.bptree_maps.proofs.KeyLemmas.{keys_between-is, parting_failure_of_keys}
 use Rattle.bptree_maps.proofs.SplitLemmas.{keys_joined, keys_split}
 use Rattle.bptree_sets.proofs.set.BPlusTreeSet.split_off.Goals as goal
 use Rattle.bptree_sets.proofs.set.BPlusTreeSet.split_off.Goals.{in-Ok, in-Err-NotMade, in-Err-NotAll}
@@ -34,3 +34,13 @@ returns-clause-kept g c =
     let new = c.split_off.new.self in
     let k = c.args.k.now in
     rw (← c.self.view_is) (sym (keys_between-is cmp new None (Some k)) ∙ ap keys_of c.split_off.ensures.kept ∙ keys_between-is cmp old None (Some k))
+
+pub returns-clause-kind : goal.returns-clause-kind
+returns-clause-kind g c =
+    let cmp = g.K.Ord.cmp in
+    let k = c.args.k.now in
+    elim c.match-split_off.branch [
+      | in-Ok w ↦ rw w.result-is tt
+      | in-Err-NotMade w ↦ rw w.result-is tt
+      | in-Err-NotAll w ↦ rw w.result-is (parting_failure_of_keys cmp k _ w.in-Err-NotAll.map c.split_off.new.self w.in-Err-NotAll.refusal (rw w.in-Err-NotAll.field-0-is at w.in-Err-NotAll.ensures.kind))
+    ]
