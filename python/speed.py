@@ -1,5 +1,8 @@
-"""Times of the calls beside `sortedcontainers.SortedDict`, where that is installed: for each number of pairs in the arguments
-a line for each call, in nanoseconds, the least of some turns; and what a call costs that does nothing but cross over."""
+"""Times of the calls beside `sortedcontainers.SortedDict`, if that is installed.
+
+For each number of pairs in the arguments it prints a line for each call, in nanoseconds: the least
+of some turns. `len` shows what a call costs that only crosses into the library and back.
+"""
 
 import random
 import sys
@@ -76,7 +79,12 @@ def figures(make, rank, place, n):
 for n in map(int, sys.argv[1:]):
     for name, make, rank, place in [
         ("python", SortedMap, SortedMap.rank, SortedMap.peekitem),
-        ("SortedDict", SortedDict, lambda map_, key: map_.bisect_left(key), lambda map_, at: map_.peekitem(at)),
+        (
+            "SortedDict",
+            SortedDict,
+            lambda map_, key: map_.bisect_left(key),
+            lambda map_, at: map_.peekitem(at),
+        ),
     ]:
         if make:
             for call, each in figures(make, rank, place, n).items():

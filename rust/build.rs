@@ -1,5 +1,5 @@
-//! Links the archive of the map and the C library's heap, whose folder `SWEEP_BPTREE_ARCHIVE` names: `tools/faces build` of
-//! the repository makes both.
+//! Links the archive of the map and the C library's heap, whose folder `SWEEP_BPTREE_ARCHIVE`
+//! names: `tools/faces build` of the repository makes both.
 use std::env;
 use std::path::Path;
 

@@ -1,12 +1,17 @@
 """The functions of the library for C, as ctypes calls them."""
 
+from __future__ import annotations
+
 import ctypes
 import os
+import sys
+from typing import Any
 
-__all__ = ["Handle", "Pair", "REFUSED", "FOUND", "functions"]
+__all__ = ["Handle", "Pair", "NONE", "FOUND", "REFUSED", "functions"]
 
-REFUSED = 2
+NONE = 0
 FOUND = 1
+REFUSED = 2
 
 
 class Handle(ctypes.Structure):
@@ -21,24 +26,26 @@ class Pair(ctypes.Structure):
     _fields_ = [("key", ctypes.c_uint64), ("value", ctypes.c_uint64)]
 
 
-def _path():
+def _path() -> str:
     here = os.path.dirname(os.path.abspath(__file__))
     return os.environ.get("SWEEP_BPTREE_LIBRARY") or os.path.join(here, "libsweep_bptree.so")
 
 
-def functions():
-    """Loads the library, and gives its functions by their names without the prefix."""
-    # With a PyDLL the interpreter's lock is kept while a call runs, so that one call at a time uses a map.
+def functions() -> dict[str, Any]:
+    """Loads the library, and returns its functions by their names without the prefix."""
+    if not getattr(sys, "_is_gil_enabled", lambda: True)():
+        raise ImportError("sweep_bptree needs an interpreter with a global lock")
+    # A PyDLL keeps the interpreter's lock while a call runs, so that one call at a time uses a map.
     library = ctypes.PyDLL(_path())
     handle, word, size = ctypes.POINTER(Handle), ctypes.c_uint64, ctypes.c_size_t
-    boolean, code, pairs, pair = ctypes.c_bool, ctypes.c_uint32, ctypes.c_void_p, ctypes.POINTER(Pair)
-    number = ctypes.POINTER(word)
-    found = {}
+    boolean, code, array = ctypes.c_bool, ctypes.c_uint32, ctypes.c_void_p
+    pair, number = ctypes.POINTER(Pair), ctypes.POINTER(word)
+    found: dict[str, Any] = {}
     for name, result, arguments in [
         ("new", boolean, [handle]),
         ("free", None, [handle]),
         ("clear", boolean, [handle]),
-        ("load", boolean, [handle, pairs, size]),
+        ("load", boolean, [handle, array, size]),
         ("len", size, [handle]),
         ("contains", boolean, [handle, word]),
         ("get", boolean, [handle, word, number]),
@@ -54,9 +61,10 @@ def functions():
         ("remove_at", code, [handle, size, pair]),
         ("pop_first", code, [handle, pair]),
         ("pop_last", code, [handle, pair]),
-        ("range", size, [handle, word, pairs, size]),
-        ("range_back", size, [handle, word, pairs, size]),
-        ("page", size, [handle, size, pairs, size]),
+        ("range", size, [handle, word, array, size]),
+        ("range_back", size, [handle, word, array, size]),
+        ("page", size, [handle, size, array, size]),
+        ("put_many", size, [handle, array, size, array, size]),
     ]:
         function = getattr(library, "bptree_" + name)
         function.restype, function.argtypes = result, arguments

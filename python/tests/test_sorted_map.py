@@ -1,11 +1,15 @@
 """The map beside `dict` and `sorted`, and each habit of a sorted mapping by itself."""
 
 import copy
+import gc
 import pickle
 import random
+import sys
 import unittest
 from bisect import bisect_left, bisect_right
+from unittest import mock
 
+import sweep_bptree
 from sweep_bptree import SortedMap
 
 GREATEST = 2**64 - 1
@@ -42,26 +46,73 @@ class Habits(unittest.TestCase):
         both = SortedMap({GREATEST: GREATEST, 0: 0})
         self.assertEqual(list(both.items()), [(0, 0), (GREATEST, GREATEST)])
         self.assertEqual(list(reversed(both)), [GREATEST, 0])
-        for number in (-1, 2**64):
-            self.assertNotIn(number, both)
-            self.assertIsNone(both.get(number))
-            with self.assertRaises(KeyError):
-                both[number]
-            with self.assertRaises(OverflowError):
-                both[number] = 1
-            with self.assertRaises(OverflowError):
-                both[1] = number
-            with self.assertRaises(OverflowError):
-                both.update([(number, 1)])
-            with self.assertRaises(OverflowError):
-                both.rank(number)
-        for other in ("1", 1.0, None, (1,)):
-            self.assertNotIn(other, both)
+        for number in (-1, -(2**64), 2**64, 2**200):
+            self.finds_nothing(both, number)
+            self.stores_nothing(OverflowError, both, number)
+        for other in ("1", 1.0, None, (1,), [1]):
+            self.finds_nothing(both, other)
+            self.stores_nothing(TypeError, both, other)
+        self.assertEqual(both, {GREATEST: GREATEST, 0: 0})
+
+    def finds_nothing(self, map_, key):
+        self.assertNotIn(key, map_)
+        self.assertIsNone(map_.get(key))
+        self.assertEqual((map_.get(key, 5), map_.pop(key, 6)), (5, 6))
+        with self.assertRaises(KeyError):
+            map_[key]
+        with self.assertRaises(KeyError):
+            del map_[key]
+        with self.assertRaises(KeyError):
+            map_.pop(key)
+        with self.assertRaises(ValueError):
+            map_.index(key)
+
+    def stores_nothing(self, error, map_, member):
+        for call in (
+            lambda: map_.__setitem__(member, 1),
+            lambda: map_.__setitem__(1, member),
+            lambda: map_.setdefault(member),
+            lambda: map_.setdefault(1, member),
+            lambda: map_.update([(1, 1), (member, 1)]),
+            lambda: map_.update([(1, 1), (2, member)]),
+            lambda: map_.__ior__([(1, 1), (1, member)]),
+            lambda: SortedMap([(1, 1), (member, 1)]),
+            lambda: SortedMap.fromkeys([1, member]),
+            lambda: SortedMap.fromkeys([1], member),
+        ):
+            with self.assertRaises(error):
+                call()
+
+    def test_counts_of_ints_that_are_no_keys(self):
+        both = SortedMap({GREATEST: 1, 0: 2, 7: 3})
+        keys = list(both)
+        for key in (-(2**70), -1, 0, 1, GREATEST - 1, GREATEST, 2**64, 2**70):
+            self.assertEqual(both.rank(key), bisect_left(keys, key))
+            self.assertEqual(both.bisect_left(key), bisect_left(keys, key))
+            self.assertEqual(both.bisect_right(key), bisect_right(keys, key))
+            for other in (-5, 0, 7, 8, GREATEST, 2**64, 2**70):
+                within = [k for k in keys if key <= k < other]
+                self.assertEqual(both.range_len(key, other), len(within))
+                within = [k for k in keys if key <= k <= other]
+                self.assertEqual(list(both.irange(key, other)), within)
+        for call in (both.rank, both.bisect_left, both.bisect_right):
             with self.assertRaises(TypeError):
-                both[other] = 1
-            with self.assertRaises(KeyError):
-                both[other]
-        self.assertEqual(len(both), 2)
+                call(1.0)
+
+    def test_ints_by_index(self):
+        class Seven:
+            def __index__(self):
+                return 7
+
+        map_ = SortedMap({True: 1})
+        map_[Seven()] = Seven()
+        map_.update([(8, Seven())])
+        self.assertEqual(map_, {1: 1, 7: 7, 8: 7})
+        self.assertEqual((map_[Seven()], map_.setdefault(9, Seven()), map_[True]), (7, 7, 1))
+
+    def test_defaults_are_zero(self):
+        self.assertEqual((self.map.setdefault(1), self.map[1]), (0, 0))
+        self.assertEqual(SortedMap.fromkeys([2]), {2: 0})
 
     def test_pop(self):
         self.assertEqual(self.map.pop(30), 10)
@@ -112,7 +163,15 @@ class Habits(unittest.TestCase):
     def test_ranges(self):
         for reverse in (False, True):
             for inclusive in [(True, True), (True, False), (False, True), (False, False)]:
-                for low, high in [(None, None), (30, 600), (31, 601), (600, 30), (30, 30), (None, 5), (890, None)]:
+                for low, high in [
+                    (None, None),
+                    (30, 600),
+                    (31, 601),
+                    (600, 30),
+                    (30, 30),
+                    (None, 5),
+                    (890, None),
+                ]:
                     wanted = [
                         key
                         for key in self.keys
@@ -143,8 +202,11 @@ class Habits(unittest.TestCase):
             self.assertEqual(self.map, self.plain)
         self.map.update({1: 2})
         self.assertEqual(self.map[1], 2)
-        with self.assertRaises((TypeError, ValueError)):
-            self.map.update([(1, 2, 3)])
+        bad_pairs = [([(1, 9), (1, 2, 3)], ValueError), ([(1, 9), 5], TypeError), (5, TypeError)]
+        for bad, error in bad_pairs:
+            with self.assertRaises(error):
+                self.map.update(bad)
+        self.assertEqual(self.map[1], 2)
 
     def test_copies_and_equality(self):
         for other in (self.map.copy(), copy.copy(self.map), pickle.loads(pickle.dumps(self.map))):
@@ -159,6 +221,88 @@ class Habits(unittest.TestCase):
         self.assertEqual(repr(SortedMap({2: 1, 1: 2})), "SortedMap({1: 2, 2: 1})")
         with self.assertRaises(TypeError):
             hash(self.map)
+
+
+class Errors(unittest.TestCase):
+    """What is raised while a map is made or freed, and what is raised behind that."""
+
+    def setUp(self):
+        self.behind = []
+        hook = sys.unraisablehook
+        sys.unraisablehook = lambda it: self.behind.append(it.exc_value)
+        self.addCleanup(setattr, sys, "unraisablehook", hook)
+
+    def nothing_behind(self):
+        gc.collect()
+        self.assertEqual(self.behind, [])
+
+    def test_a_constructor_that_fails_raises_one_error(self):
+        for call, error in [
+            (lambda: SortedMap(5), TypeError),
+            (lambda: SortedMap([(1, -1)]), OverflowError),
+            (lambda: SortedMap((), ()), TypeError),
+            (lambda: SortedMap(given=()), TypeError),
+            (lambda: SortedMap(1 / 0 for _ in range(1)), ZeroDivisionError),
+        ]:
+            with self.assertRaises(error):
+                call()
+            self.nothing_behind()
+
+    def test_a_constructor_with_no_memory_raises_one_error(self):
+        with mock.patch.object(sweep_bptree, "_new", lambda handle: False):
+            with self.assertRaises(MemoryError):
+                SortedMap()
+        self.nothing_behind()
+        with mock.patch.object(sweep_bptree._library, "Handle", side_effect=MemoryError):
+            with self.assertRaises(MemoryError):
+                SortedMap()
+        self.nothing_behind()
+        with mock.patch.object(sweep_bptree, "_load", lambda *given: False):
+            with self.assertRaises(MemoryError):
+                SortedMap([(1, 1)])
+        self.nothing_behind()
+
+    def test_no_memory_is_an_error(self):
+        map_ = SortedMap({1: 10})
+        for name, call in [
+            ("_put", lambda: map_.__setitem__(2, 2)),
+            ("_put", lambda: map_.setdefault(2, 2)),
+            ("_del", lambda: map_.pop(1)),
+            ("_del", lambda: map_.__delitem__(1)),
+            ("_remove_at", lambda: map_.popitem()),
+        ]:
+            with mock.patch.object(sweep_bptree, name, lambda *given: 2):
+                with self.assertRaises(MemoryError):
+                    call()
+        with mock.patch.object(sweep_bptree, "_clear", lambda handle: False):
+            with self.assertRaises(MemoryError):
+                map_.clear()
+        self.assertEqual(map_, {1: 10})
+
+    def test_update_with_no_memory_stores_what_is_before(self):
+        put_many, map_ = sweep_bptree._put_many, SortedMap({1: 10})
+
+        def two(handle, keys, n, values, n_values):
+            return put_many(handle, keys, 2, values, 2)
+
+        with mock.patch.object(sweep_bptree, "_put_many", two):
+            with self.assertRaises(MemoryError):
+                map_.update([(1, 11), (2, 20), (3, 30)])
+        self.assertEqual(map_, {1: 11, 2: 20})
+
+    def test_made_without_init_and_made_again(self):
+        map_ = SortedMap.__new__(SortedMap)
+        self.assertEqual(map_, {})
+        map_.__init__({1: 10})
+        map_.__init__({2: 20})
+        self.assertEqual(map_, {1: 10, 2: 20})
+        del map_
+        self.nothing_behind()
+
+    def test_a_build_without_a_lock_is_turned_down(self):
+        with mock.patch.object(sys, "_is_gil_enabled", lambda: False, create=True):
+            with self.assertRaises(ImportError):
+                sweep_bptree._library.functions()
 
 
 class InNoOrder(unittest.TestCase):
@@ -178,7 +322,8 @@ class InNoOrder(unittest.TestCase):
                 self.assertEqual(map_.peekitem(place), (keys[place], plain[keys[place]]))
                 self.assertEqual(map_.rank(key), bisect_left(keys, key))
                 low, high = sorted((key, dice.randrange(2500)))
-                self.assertEqual(list(map_.irange(low, high)), [k for k in keys if low <= k <= high])
+                wanted = [k for k in keys if low <= k <= high]
+                self.assertEqual(list(map_.irange(low, high)), wanted)
             else:
                 self.assertEqual(map_.get(key), plain.get(key))
             if turn % 5000 == 4999:

@@ -1,4 +1,5 @@
-//! A leaderboard: players by their points, the best first. A key is points and player, so that equal points stand together.
+//! A leaderboard: players by their points, the best first. A key is points and player, so that
+//! equal points are neighbours.
 use sweep_bptree_proved::{Map, OutOfMemory};
 
 fn key_of(points: u64, player: usize) -> u64 {

@@ -1,5 +1,5 @@
-//! Times of the calls beside `BTreeMap`'s: for each number of pairs in the arguments a line for each call, the least time of
-//! some turns in nanoseconds a call.
+//! Times of the calls beside `BTreeMap`'s: for each number of pairs in the arguments a line for
+//! each call, the least time of some turns in nanoseconds a call.
 use std::collections::BTreeMap;
 use std::time::Instant;
 use sweep_bptree_proved::{Map, OutOfMemory};

@@ -1,4 +1,4 @@
-//! An ordered map from numbers to numbers with the place of each key, kept in a B+ tree whose answers are proved.
+//! An ordered map from numbers to numbers with the index of each key, kept in a proved B+ tree.
 //!
 //! ```
 //! use sweep_bptree_proved::Map;
@@ -13,8 +13,10 @@
 //! # Ok::<(), sweep_bptree_proved::OutOfMemory>(())
 //! ```
 //!
-//! The calls have the names of `BTreeMap`'s. Where memory is refused a call answers `OutOfMemory` and changes nothing. The
-//! calls that read take `&mut self` too, since one call at a time uses a map.
+//! The calls have the names of `BTreeMap`'s, of which `entry`, `keys`, `values`, `retain`, `extend`
+//! and others are missing. Keys and values are `u64` and are passed by value. If an allocation
+//! fails, a call returns `OutOfMemory` and changes nothing. The calls that read take `&mut self`
+//! too, since one call at a time uses a map.
 
 mod raw;
 
@@ -22,47 +24,55 @@ use raw::{Handle, Pair, FOUND, REFUSED};
 use std::fmt;
 use std::ops::{Bound, RangeBounds};
 
-/// Memory was refused, and the map is as it was.
+/// An allocation failed, and the map is unchanged.
 #[derive(Debug, Clone, Copy, PartialEq, Eq)]
 pub struct OutOfMemory;
 
 impl fmt::Display for OutOfMemory {
     fn fmt(&self, f: &mut fmt::Formatter<'_>) -> fmt::Result {
-        f.write_str("memory was refused")
+        f.write_str("an allocation failed")
     }
 }
 
 impl std::error::Error for OutOfMemory {}
 
-/// An ordered map from numbers to numbers. It can be sent to another thread, and is used by one at a time.
+/// An ordered map from numbers to numbers. It can be sent to another thread, and one thread at a
+/// time uses it.
 pub struct Map {
+    // It holds a map from `Map::new` until `drop`, and is copied nowhere. The safety of the calls
+    // below rests on this, and on `&mut self`: no other call uses the handle meanwhile.
     handle: Handle,
 }
 
-// The map stands on the heap by itself, and nothing of it belongs to a thread. It is not `Sync`, by its pointer.
+// SAFETY: the map is a block of the C library's heap, which any thread may free, and holds nothing
+// that belongs to a thread. It is not `Sync`, by its pointer.
 unsafe impl Send for Map {}
 
 impl Map {
     /// A map with no pairs.
     pub fn new() -> Result<Map, OutOfMemory> {
         let mut handle = Handle { at: std::ptr::null_mut() };
-        if unsafe { raw::bptree_new(&mut handle) } {
-            Ok(Map { handle })
-        } else {
-            Err(OutOfMemory)
+        // SAFETY: the handle holds no map.
+        match unsafe { raw::bptree_new(&mut handle) } {
+            true => Ok(Map { handle }),
+            false => Err(OutOfMemory),
         }
     }
 
-    /// A map of these pairs, in any order: of equal keys the last stays.
+    /// A map of these pairs, in any order: of equal keys the last one stays.
     pub fn from_pairs(pairs: &[(u64, u64)]) -> Result<Map, OutOfMemory> {
         let mut map = Map::new()?;
         map.load(pairs)?;
         Ok(map)
     }
 
-    /// Puts these pairs, in any order, in place of what the map held: of equal keys the last stays.
+    /// Replaces what the map holds by these pairs, in any order: of equal keys the last one stays.
+    /// It copies them, and returns `OutOfMemory` too if there is no memory for the copy.
     pub fn load(&mut self, pairs: &[(u64, u64)]) -> Result<(), OutOfMemory> {
-        let given: Vec<Pair> = pairs.iter().map(|&(key, value)| Pair { key, value }).collect();
+        let mut given = Vec::new();
+        given.try_reserve_exact(pairs.len()).map_err(|_| OutOfMemory)?;
+        given.extend(pairs.iter().map(|&(key, value)| Pair { key, value }));
+        // SAFETY: the handle holds a map, and `given` has that many pairs, which are only read.
         match unsafe { raw::bptree_load(&mut self.handle, given.as_ptr(), given.len()) } {
             true => Ok(()),
             false => Err(OutOfMemory),
@@ -71,6 +81,7 @@ impl Map {
 
     /// Removes all pairs.
     pub fn clear(&mut self) -> Result<(), OutOfMemory> {
+        // SAFETY: the handle holds a map.
         match unsafe { raw::bptree_clear(&mut self.handle) } {
             true => Ok(()),
             false => Err(OutOfMemory),
@@ -79,6 +90,7 @@ impl Map {
 
     /// The number of pairs.
     pub fn len(&mut self) -> usize {
+        // SAFETY: the handle holds a map.
         unsafe { raw::bptree_len(&mut self.handle) }
     }
 
@@ -89,18 +101,22 @@ impl Map {
 
     /// Whether a key is there.
     pub fn contains_key(&mut self, key: u64) -> bool {
+        // SAFETY: the handle holds a map.
         unsafe { raw::bptree_contains(&mut self.handle, key) }
     }
 
     /// The value at a key.
     pub fn get(&mut self, key: u64) -> Option<u64> {
         let mut value = 0;
+        // SAFETY: the handle holds a map, and `value` is a local value.
         unsafe { raw::bptree_get(&mut self.handle, key, &mut value) }.then_some(value)
     }
 
-    /// Puts a value at a key, and hands back the value that was there. A key that is there is never refused.
+    /// Stores a value at a key, and returns the value that was there. It never fails for a key that
+    /// is there.
     pub fn insert(&mut self, key: u64, value: u64) -> Result<Option<u64>, OutOfMemory> {
         let mut old = 0;
+        // SAFETY: the handle holds a map, and `old` is a local value.
         match unsafe { raw::bptree_put(&mut self.handle, key, value, &mut old) } {
             FOUND => Ok(Some(old)),
             REFUSED => Err(OutOfMemory),
@@ -108,9 +124,10 @@ impl Map {
         }
     }
 
-    /// Removes the pair at a key, and hands back its value. A key that is not there is never refused.
+    /// Removes the pair at a key, and returns its value. It never fails for a key that is absent.
     pub fn remove(&mut self, key: u64) -> Result<Option<u64>, OutOfMemory> {
         let mut old = 0;
+        // SAFETY: the handle holds a map, and `old` is a local value.
         match unsafe { raw::bptree_del(&mut self.handle, key, &mut old) } {
             FOUND => Ok(Some(old)),
             REFUSED => Err(OutOfMemory),
@@ -118,11 +135,13 @@ impl Map {
         }
     }
 
+    // The pair that a call writes. The handle that the call gets holds a map.
     fn told(&mut self, call: impl FnOnce(&mut Handle, &mut Pair) -> bool) -> Option<(u64, u64)> {
         let mut pair = Pair::default();
         call(&mut self.handle, &mut pair).then_some((pair.key, pair.value))
     }
 
+    // The same of a call that removes the pair.
     fn gone(
         &mut self,
         call: impl FnOnce(&mut Handle, &mut Pair) -> u32,
@@ -137,65 +156,81 @@ impl Map {
 
     /// The pair with the least key.
     pub fn first_key_value(&mut self) -> Option<(u64, u64)> {
+        // SAFETY: `told` gives a handle that holds a map, and a pair of its own.
         self.told(|map, pair| unsafe { raw::bptree_first(map, pair) })
     }
 
     /// The pair with the greatest key.
     pub fn last_key_value(&mut self) -> Option<(u64, u64)> {
+        // SAFETY: `told` gives a handle that holds a map, and a pair of its own.
         self.told(|map, pair| unsafe { raw::bptree_last(map, pair) })
     }
 
     /// The pair with the least greater key.
     pub fn next(&mut self, key: u64) -> Option<(u64, u64)> {
+        // SAFETY: `told` gives a handle that holds a map, and a pair of its own.
         self.told(|map, pair| unsafe { raw::bptree_next(map, key, pair) })
     }
 
     /// The pair with the greatest smaller key.
     pub fn prev(&mut self, key: u64) -> Option<(u64, u64)> {
+        // SAFETY: `told` gives a handle that holds a map, and a pair of its own.
         self.told(|map, pair| unsafe { raw::bptree_prev(map, key, pair) })
     }
 
-    /// The pair at a place in the order of the keys, from 0 on.
+    /// The pair at an index in the order of the keys, from 0 on.
     pub fn get_at(&mut self, place: usize) -> Option<(u64, u64)> {
+        // SAFETY: `told` gives a handle that holds a map, and a pair of its own.
         self.told(|map, pair| unsafe { raw::bptree_at(map, place, pair) })
     }
 
-    /// The number of smaller keys: `Ok` where the key itself is there.
+    /// The number of smaller keys: `Ok` if the key itself is there.
     pub fn rank(&mut self, key: u64) -> Result<usize, usize> {
         let mut rank = 0;
+        // SAFETY: the handle holds a map, and `rank` is a local value.
         match unsafe { raw::bptree_rank(&mut self.handle, key, &mut rank) } {
             true => Ok(rank),
             false => Err(rank),
         }
     }
 
-    /// How many keys are not below `from` and are below `to`.
+    /// The number of keys that are at least `from` and less than `to`.
     pub fn range_len(&mut self, from: u64, to: u64) -> usize {
+        // SAFETY: the handle holds a map.
         unsafe { raw::bptree_range_len(&mut self.handle, from, to) }
     }
 
-    /// Removes the pair at a place, and hands it back.
+    /// Removes and returns the pair at an index.
     pub fn remove_at(&mut self, place: usize) -> Result<Option<(u64, u64)>, OutOfMemory> {
+        // SAFETY: `gone` gives a handle that holds a map, and a pair of its own.
         self.gone(|map, pair| unsafe { raw::bptree_remove_at(map, place, pair) })
     }
 
-    /// Removes the pair with the least key, and hands it back.
+    /// Removes and returns the pair with the least key.
     pub fn pop_first(&mut self) -> Result<Option<(u64, u64)>, OutOfMemory> {
+        // SAFETY: `gone` gives a handle that holds a map, and a pair of its own.
         self.gone(|map, pair| unsafe { raw::bptree_pop_first(map, pair) })
     }
 
-    /// Removes the pair with the greatest key, and hands it back.
+    /// Removes and returns the pair with the greatest key.
     pub fn pop_last(&mut self) -> Result<Option<(u64, u64)>, OutOfMemory> {
+        // SAFETY: `gone` gives a handle that holds a map, and a pair of its own.
         self.gone(|map, pair| unsafe { raw::bptree_pop_last(map, pair) })
     }
 
     /// The pairs of a page of `size`, of which the first is 0.
-    pub fn page(&mut self, number: usize, size: usize) -> Vec<(u64, u64)> {
-        let mut out = vec![Pair::default(); size.min(self.len())];
+    pub fn page(&mut self, number: usize, size: usize) -> Result<Vec<(u64, u64)>, OutOfMemory> {
+        let (mut out, mut pairs) = (Vec::new(), Vec::new());
+        let room = size.min(self.len());
+        out.try_reserve_exact(room).map_err(|_| OutOfMemory)?;
+        out.resize(room, Pair::default());
         // (a page that takes all pairs is the first one)
-        let number = if out.len() < size && number > 0 { usize::MAX } else { number };
-        let count = unsafe { raw::bptree_page(&mut self.handle, number, out.as_mut_ptr(), out.len()) };
-        out[..count].iter().map(|pair| (pair.key, pair.value)).collect()
+        let number = if room < size && number > 0 { usize::MAX } else { number };
+        // SAFETY: the handle holds a map, and `out` has `room` pairs.
+        let count = unsafe { raw::bptree_page(&mut self.handle, number, out.as_mut_ptr(), room) };
+        pairs.try_reserve_exact(count).map_err(|_| OutOfMemory)?;
+        pairs.extend(out[..count].iter().map(|pair| (pair.key, pair.value)));
+        Ok(pairs)
     }
 
     /// All pairs in the order of their keys.
@@ -203,7 +238,8 @@ impl Map {
         self.range(..)
     }
 
-    /// The pairs whose keys stand in a range, in the order of their keys, from both ends. They are copied in blocks.
+    /// The pairs whose keys are in a range, in the order of their keys, from both ends. They are
+    /// copied in blocks.
     pub fn range(&mut self, range: impl RangeBounds<u64>) -> Iter<'_> {
         let from = match range.start_bound() {
             Bound::Included(&key) => Some(key),
@@ -222,6 +258,7 @@ impl Map {
 
 impl Drop for Map {
     fn drop(&mut self) {
+        // SAFETY: the handle holds a map, and nothing uses it behind this.
         unsafe { raw::bptree_free(&mut self.handle) }
     }
 }
@@ -234,7 +271,7 @@ impl fmt::Debug for Map {
 
 const BLOCK: usize = 64;
 
-// Pairs that were copied and not given yet.
+// Pairs that were copied and not returned yet.
 struct Block {
     pairs: [Pair; BLOCK],
     at: usize,
@@ -250,7 +287,7 @@ impl Block {
 /// The pairs of a range that are left, in the order of their keys.
 pub struct Iter<'a> {
     map: &'a mut Map,
-    // The least and the greatest key that may still be given.
+    // The least and the greatest key that may still be returned.
     left: Option<(u64, u64)>,
     ahead: Block,
     behind: Block,
@@ -262,14 +299,17 @@ impl Iterator for Iter<'_> {
     fn next(&mut self) -> Option<(u64, u64)> {
         let (from, to) = self.left?;
         if self.ahead.at == self.ahead.count {
-            let out = &mut self.ahead.pairs;
+            let out = self.ahead.pairs.as_mut_ptr();
+            // SAFETY: the handle holds a map, and `out` has `BLOCK` pairs.
             self.ahead.count =
-                unsafe { raw::bptree_range(&mut self.map.handle, from, out.as_mut_ptr(), BLOCK) };
+                unsafe { raw::bptree_range(&mut self.map.handle, from, out, BLOCK) };
             self.ahead.at = 0;
         }
-        let pair = self.ahead.pairs[..self.ahead.count].get(self.ahead.at).filter(|pair| pair.key <= to);
+        let copied = &self.ahead.pairs[..self.ahead.count];
+        let pair = copied.get(self.ahead.at).filter(|pair| pair.key <= to);
         self.ahead.at += 1;
-        self.left = pair.and_then(|pair| Some((pair.key.checked_add(1)?, to)).filter(|(from, to)| from <= to));
+        let above = pair.and_then(|pair| pair.key.checked_add(1));
+        self.left = above.map(|from| (from, to)).filter(|(from, to)| from <= to);
         pair.map(|pair| (pair.key, pair.value))
     }
 }
@@ -278,14 +318,17 @@ impl DoubleEndedIterator for Iter<'_> {
     fn next_back(&mut self) -> Option<(u64, u64)> {
         let (from, to) = self.left?;
         if self.behind.at == self.behind.count {
-            let out = &mut self.behind.pairs;
+            let out = self.behind.pairs.as_mut_ptr();
+            // SAFETY: the handle holds a map, and `out` has `BLOCK` pairs.
             self.behind.count =
-                unsafe { raw::bptree_range_back(&mut self.map.handle, to, out.as_mut_ptr(), BLOCK) };
+                unsafe { raw::bptree_range_back(&mut self.map.handle, to, out, BLOCK) };
             self.behind.at = 0;
         }
-        let pair = self.behind.pairs[..self.behind.count].get(self.behind.at).filter(|pair| pair.key >= from);
+        let copied = &self.behind.pairs[..self.behind.count];
+        let pair = copied.get(self.behind.at).filter(|pair| pair.key >= from);
         self.behind.at += 1;
-        self.left = pair.and_then(|pair| Some((from, pair.key.checked_sub(1)?)).filter(|(from, to)| from <= to));
+        let below = pair.and_then(|pair| pair.key.checked_sub(1));
+        self.left = below.map(|to| (from, to)).filter(|(from, to)| from <= to);
         pair.map(|pair| (pair.key, pair.value))
     }
 }

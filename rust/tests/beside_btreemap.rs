@@ -33,8 +33,11 @@ impl Dice {
 fn is_range(from: Bound<u64>, to: Bound<u64>) -> bool {
     match (from, to) {
         (Bound::Included(from), Bound::Included(to)) => from <= to,
-        (Bound::Included(from) | Bound::Excluded(from), Bound::Included(to) | Bound::Excluded(to)) => from < to,
-        _ => true,
+        (Bound::Unbounded, _) | (_, Bound::Unbounded) => true,
+        (
+            Bound::Included(from) | Bound::Excluded(from),
+            Bound::Included(to) | Bound::Excluded(to),
+        ) => from < to,
     }
 }
 
@@ -61,7 +64,10 @@ fn answers_alike() -> Result<(), OutOfMemory> {
             7 => assert_eq!(map.pop_last()?, last(&plain).and_then(|(key, _)| plain.remove_entry(&key))),
             _ => {
                 let place = dice.roll(plain.len() as u64 + 2) as usize;
-                let at = if turn % 16 == 0 { plain.iter().nth(place).map(|(k, v)| (*k, *v)) } else { map.get_at(place) };
+                let at = match turn % 16 {
+                    0 => plain.iter().nth(place).map(|(k, v)| (*k, *v)),
+                    _ => map.get_at(place),
+                };
                 assert_eq!(map.get_at(place), at);
                 assert_eq!(map.remove_at(place)?, at);
                 at.map(|(k, v)| assert_eq!(plain.remove(&k), Some(v)));
@@ -99,7 +105,9 @@ fn answers_alike() -> Result<(), OutOfMemory> {
             let all: Vec<_> = plain.iter().map(|(k, v)| (*k, *v)).collect();
             let size = 1 + dice.roll(80) as usize;
             let number = dice.roll((all.len() / size + 2) as u64) as usize;
-            assert_eq!(map.page(number, size), all.chunks(size).nth(number).unwrap_or(&[]));
+            assert_eq!(map.page(number, size)?, all.chunks(size).nth(number).unwrap_or(&[]));
+            assert_eq!(map.page(0, usize::MAX)?, all);
+            assert_eq!((map.page(1, usize::MAX)?, map.page(number, 0)?), (vec![], vec![]));
         }
         if turn % 50_000 == 49_999 {
             let given: Vec<_> = (0..3000).map(|_| (dice.key(), dice.roll(1000))).collect();
@@ -110,6 +118,15 @@ fn answers_alike() -> Result<(), OutOfMemory> {
     }
     map.clear()?;
     assert!(map.is_empty());
+    Ok(())
+}
+
+#[test]
+fn loads_nothing() -> Result<(), OutOfMemory> {
+    let mut map = Map::from_pairs(&[(1, 10)])?;
+    map.load(&[])?;
+    assert!(map.is_empty());
+    assert_eq!((map.page(0, 8)?, map.page(0, 0)?), (vec![], vec![]));
     Ok(())
 }
 

@@ -13,6 +13,11 @@ abbrev pub IsToldPair : Option (List ℕ × ℕ) → Bool → List ℕ × ℕ ×
 IsToldPair None found old new = (found ≡ false) × (new ≡ old)
 IsToldPair (Some pair) found old new = (found ≡ true) × (new ≡ (take (length old.0) pair.0 ++ drop (length pair.0) old.0, length pair.0, pair.1))
 
+-- an array, a key's length and a value are unchanged if no pair is found
+abbrev pub WritesOnlyIf : Bool → List ℕ → ℕ → ℕ → List ℕ → ℕ → ℕ → Type 0
+WritesOnlyIf found out len value new_out new_len new_value =
+    found ≡ false → (new_out ≡ out) × (new_len ≡ len) × (new_value ≡ value)
+
 -- what stood at the key is told, and the value is put there, or the pair has left
 abbrev pub IsPutIn : Pairs → List ℕ → ℕ → Option ℕ → Option Pairs → Type 0
 IsPutIn old key new told held = (value by_bytes old key ≡ told) × (held ≡ Some (put by_bytes old key new))

@@ -14,9 +14,10 @@ as_pair pair = record { key = pair.0; value = pair.1 }
 abbrev pub pairs_gathered : List Pair → List (ℕ × ℕ)
 pairs_gathered given = gather nat_cmp (map as_tuple given)
 
--- the answer is true where there is a pair, which stands where C reads it
-abbrev pub IsAnswered : Option (ℕ × ℕ) → Bool → Pair → Type 0
-IsAnswered found answer place = MatchOption found (answer ≡ false) (λ pair. (answer ≡ true) × (pair ≡ as_tuple place))
+-- the result is true if there is a pair, which is then what C reads; if there is none, what C reads is unchanged
+abbrev pub IsAnswered : Option (ℕ × ℕ) → Bool → Pair → Pair → Type 0
+IsAnswered found answer old new =
+    MatchOption found ((answer ≡ false) × (new ≡ old)) (λ pair. (answer ≡ true) × (pair ≡ as_tuple new))
 
 -- the first pairs of the list, as many as the array takes, stand at its beginning, and the rest of the array is as it was
 abbrev pub IsCopied : List (ℕ × ℕ) → List Pair → List Pair → ℕ → Type 0

@@ -23,14 +23,14 @@ LeftLast old new told = (rest : List (ℕ × ℕ)) × (old ≡ rest ++ as_tuple 
 abbrev pub TakesAt : List (ℕ × ℕ) → ℕ → List (ℕ × ℕ) → Option (ℕ × ℕ) → Type 0
 TakesAt old i new taken = (taken ≡ slice_get old i) × (new ≡ remove old i)
 
--- 0 for none, 1 for what stands where C reads it, and 2 for a refusal
-abbrev pub IsToldAs : {X Y : Type 0} → (Y → X) → Result (Option X) AllocError → ℕ → Y → Type 0
-IsToldAs read answer code place = MatchResult answer
-    (λ found. MatchOption found (code ≡ 0) (λ it. (code ≡ 1) × (it ≡ read place)))
-    (λ _. code ≡ 2)
+-- 0 for `None`, 1 for a value, which is then what C reads, and 2 for an error; at 0 and 2 what C reads is unchanged
+abbrev pub IsToldAs : {X Y : Type 0} → (Y → X) → Result (Option X) AllocError → ℕ → Y → Y → Type 0
+IsToldAs read answer code old new = MatchResult answer
+    (λ found. MatchOption found ((code ≡ 0) × (new ≡ old)) (λ it. (code ≡ 1) × (it ≡ read new)))
+    (λ _. (code ≡ 2) × (new ≡ old))
 
 -- the same of a pair
-abbrev pub IsTold : Result (Option (ℕ × ℕ)) AllocError → ℕ → Pair → Type 0
+abbrev pub IsTold : Result (Option (ℕ × ℕ)) AllocError → ℕ → Pair → Pair → Type 0
 IsTold = IsToldAs as_tuple
 
 -- what stood at the key is told, and the value is put there, or the pair has left

@@ -1,6 +1,6 @@
 //! The calls of a set of byte strings. A call that is given a key copies it, and each of these can
 //! be refused for want of memory, look-ups too; no other look-up is ever refused.
-ghost use Rattle.std.specs.Prelude.{◌≡◌, ◌-◌, ◌≤◌, ℕ, List, [], Option, Some, None, IfOk, OnErr, IsTrue, ◌++◌, true, false, not, length, slice_get, take, drop};
+ghost use Rattle.std.specs.Prelude.{◌≡◌, ◌≢◌, ◌-◌, ◌≤◌, ℕ, List, [], Option, Some, None, IfOk, OnErr, IsTrue, ◌++◌, true, false, not, length, slice_get, take, drop};
 ghost use Rattle.std.specs.Option.{option_copied, option_map};
 ghost use Rattle.bptree_arguments.specs.CountLaws.{count_below};
 ghost use Rattle.bptree_c.specs.ByteKeys.{by_bytes, key_after, key_before, IsHeldStill, IsHeldWith, IsHeldWithout, IsTold, TellsAfter, TellsBefore};
@@ -120,7 +120,7 @@ pub extern "C" fn bptree_bytes_rank(
     ensures rank { result ≤ 1 → rank.new ≡ count_below by_bytes key.now keys }
     ensures absent { result ≡ 0 → holds by_bytes keys key.now ≡ false }
     ensures there { result ≡ 1 → holds by_bytes keys key.now ≡ true }
-    ensures refused { result ≡ 2 → rank.new ≡ rank.old }
+    ensures unchanged { result ≡ 2 → rank.new ≡ rank.old }
 {
     let Ok(copy) = Bytes::copy_of(alloc, key) else {
         return 2;
@@ -226,6 +226,7 @@ pub extern "C" fn bptree_bytes_first(
     requires open { set.old.held ≡ Some keys }
     ensures kept { set.new.held ≡ Some keys }
     ensures told { IsTold (slice_get keys 0) result (out.old, len.old) (out.new, len.new) }
+    ensures unchanged { result ≡ false → (out.new ≡ out.old) × (len.new ≡ len.old) }
 {
     let whole = set.take(alloc);
     let answer = told(first_in(&whole), out, len);
@@ -276,6 +277,7 @@ pub extern "C" fn bptree_bytes_last(
     requires open { set.old.held ≡ Some keys }
     ensures kept { set.new.held ≡ Some keys }
     ensures told { IsTold (last_member keys) result (out.old, len.old) (out.new, len.new) }
+    ensures unchanged { result ≡ false → (out.new ≡ out.old) × (len.new ≡ len.old) }
 {
     let whole = set.take(alloc);
     let answer = told(last_in(&whole), out, len);
@@ -304,6 +306,7 @@ pub extern "C" fn bptree_bytes_at(
     requires open { set.old.held ≡ Some keys }
     ensures kept { set.new.held ≡ Some keys }
     ensures told { IsTold (slice_get keys place) result (out.old, len.old) (out.new, len.new) }
+    ensures unchanged { result ≡ false → (out.new ≡ out.old) × (len.new ≡ len.old) }
 {
     let whole = set.take(alloc);
     let answer = told(at_in(&whole, place), out, len);
@@ -335,7 +338,7 @@ pub extern "C" fn bptree_bytes_next(
     ensures kept { set.new.held ≡ Some keys }
     ensures none { result ≡ 0 → TellsAfter keys key.now false out.old len.old out.new len.new }
     ensures found { result ≡ 1 → TellsAfter keys key.now true out.old len.old out.new len.new }
-    ensures refused { result ≡ 2 → (out.new ≡ out.old) × (len.new ≡ len.old) }
+    ensures unchanged { result ≢ 1 → (out.new ≡ out.old) × (len.new ≡ len.old) }
 {
     let Ok(copy) = Bytes::copy_of(alloc, key) else {
         return 2;
@@ -380,7 +383,7 @@ pub extern "C" fn bptree_bytes_prev(
     ensures kept { set.new.held ≡ Some keys }
     ensures none { result ≡ 0 → TellsBefore keys key.now false out.old len.old out.new len.new }
     ensures found { result ≡ 1 → TellsBefore keys key.now true out.old len.old out.new len.new }
-    ensures refused { result ≡ 2 → (out.new ≡ out.old) × (len.new ≡ len.old) }
+    ensures unchanged { result ≢ 1 → (out.new ≡ out.old) × (len.new ≡ len.old) }
 {
     let Ok(copy) = Bytes::copy_of(alloc, key) else {
         return 2;

@@ -1,12 +1,12 @@
 //! The calls of a map from byte strings to numbers. A call that looks a key up compares the bytes
 //! where the caller has them: it takes no memory, and is never refused.
-ghost use Rattle.std.specs.Prelude.{◌≡◌, ◌≤◌, ◌-◌, ℕ, List, [], Some, None, Ok, IfOk, OnErr, IsOk, IsTrue, false, length, slice_get};
+ghost use Rattle.std.specs.Prelude.{◌≡◌, ◌≢◌, ◌≤◌, ◌-◌, ℕ, List, [], Some, None, Ok, IfOk, OnErr, IsOk, IsTrue, false, length, slice_get};
 ghost use Rattle.std.specs.Map.{keys_of};
 ghost use Rattle.std.specs.Map.Iter.{deref_pair};
 ghost use Rattle.std.specs.Option.{option_map};
 ghost use Rattle.bptree_arguments.specs.CountLaws.{count_below};
 ghost use Rattle.bptree_c.specs.ByteKeys.{by_bytes};
-ghost use Rattle.bptree_c.specs.Dict.{Pairs, IsToldPair, IsPutIn, IsGoneFrom};
+ghost use Rattle.bptree_c.specs.Dict.{Pairs, IsToldPair, WritesOnlyIf, IsPutIn, IsGoneFrom};
 ghost use Rattle.bptree_keys.specs.Contents.{has, last_member, next, previous, value};
 ghost use Rattle.bptree_tree.specs.Changes.{Puts, Removes};
 
@@ -92,7 +92,7 @@ pub extern "C" fn bptree_dict_contains(alloc: Global, dict: &mut DictHandle, key
     answer
 }
 
-/// The value at a key, in `found`. It is false where the key is absent.
+/// The value at a key, in `found`. It is false if the key is absent; then `found` is unchanged.
 #[unsafe(no_mangle)]
 pub extern "C" fn bptree_dict_get(
     alloc: Global,
@@ -105,6 +105,7 @@ pub extern "C" fn bptree_dict_get(
     ensures kept { dict.new.held ≡ Some pairs }
     ensures found { IsTrue result → value by_bytes pairs key.now ≡ Some found.new }
     ensures absent { result ≡ false → value by_bytes pairs key.now ≡ None }
+    ensures unchanged { result ≡ false → found.new ≡ found.old }
 {
     let whole = dict.take(alloc);
     let answer = get_by(&whole.pairs, &View { bytes: key }).copied();
@@ -149,9 +150,9 @@ fn rank_in(dict: &Dict, key: &[u8]) -> (bool, usize)
     }
 }
 
-/// Puts a value at a key: 0 where the key is new, and 1 where it had a value, which is then in
-/// `old`. It is 2 where it is refused for want of memory; then nothing has changed. A new key is
-/// copied in. A key that is there is never refused.
+/// Stores a value at a key: 0 if the key is new, and 1 if it had a value, which is then in `old`.
+/// It is 2 if an allocation fails; then the map is unchanged. At 0 and 2 `old` is unchanged. A new
+/// key is copied in. It never fails for a key that is there.
 #[unsafe(no_mangle)]
 pub extern "C" fn bptree_dict_put(
     alloc: Global,
@@ -166,6 +167,7 @@ pub extern "C" fn bptree_dict_put(
     ensures added { result ≡ 0 → IsPutIn pairs key.now new None dict.new.held }
     ensures replaced { result ≡ 1 → IsPutIn pairs key.now new (Some old.new) dict.new.held }
     ensures refused { result ≡ 2 → dict.new.held ≡ Some pairs }
+    ensures unchanged { result ≢ 1 → old.new ≡ old.old }
     ensures sure { IsTrue (has by_bytes pairs key.now) → result ≤ 1 }
 {
     let mut whole = dict.take(alloc);
@@ -174,8 +176,8 @@ pub extern "C" fn bptree_dict_put(
     told_value(answer, old)
 }
 
-// A copy of the key is asked for first, so that one way down serves whether the key is there or not.
-// Where it is refused, the key's value is replaced in place.
+// The key is copied first, so that one descent serves whether the key is there or not. If the copy
+// fails, the value of a key that is there is replaced in place.
 fn put_in(alloc: Global, dict: &mut Dict, key: &[u8], new: u64) -> Result<Option<u64>, AllocError>
     ensures ok { IfOk result (Puts by_bytes key.now new dict.old dict.new) }
     ensures present { IsTrue (has by_bytes dict.old key.now) → IsOk result }
@@ -211,7 +213,7 @@ fn replace_in(dict: &mut Dict, key: &[u8], new: u64) -> Result<Option<u64>, Allo
 
 /// Removes the pair at a key: 1 where there was one, whose value is then in `old`, and 0 where not.
 /// It is 2 where it is refused for want of memory; then nothing has changed. A key that is not
-/// there is never refused.
+/// there is never refused. At 0 and 2 `old` is unchanged.
 #[unsafe(no_mangle)]
 pub extern "C" fn bptree_dict_del(
     alloc: Global,
@@ -225,6 +227,7 @@ pub extern "C" fn bptree_dict_del(
     ensures absent { result ≡ 0 → IsGoneFrom pairs key.now None dict.new.held }
     ensures removed { result ≡ 1 → IsGoneFrom pairs key.now (Some old.new) dict.new.held }
     ensures refused { result ≡ 2 → dict.new.held ≡ Some pairs }
+    ensures unchanged { result ≢ 1 → old.new ≡ old.old }
     ensures sure { has by_bytes pairs key.now ≡ false → result ≡ 0 }
 {
     let mut whole = dict.take(alloc);
@@ -270,6 +273,7 @@ pub extern "C" fn bptree_dict_first(
     requires open { dict.old.held ≡ Some pairs }
     ensures kept { dict.new.held ≡ Some pairs }
     ensures told { IsToldPair (slice_get pairs 0) result (out.old, len.old, value.old) (out.new, len.new, value.new) }
+    ensures unchanged { WritesOnlyIf result out.old len.old value.old out.new len.new value.new }
 {
     let whole = dict.take(alloc);
     let answer = told(whole.pairs.first(), out, len, value);
@@ -290,6 +294,7 @@ pub extern "C" fn bptree_dict_last(
     requires open { dict.old.held ≡ Some pairs }
     ensures kept { dict.new.held ≡ Some pairs }
     ensures told { IsToldPair (last_member pairs) result (out.old, len.old, value.old) (out.new, len.new, value.new) }
+    ensures unchanged { WritesOnlyIf result out.old len.old value.old out.new len.new value.new }
 {
     let whole = dict.take(alloc);
     let answer = told(whole.pairs.last(), out, len, value);
@@ -312,6 +317,7 @@ pub extern "C" fn bptree_dict_at(
     requires open { dict.old.held ≡ Some pairs }
     ensures kept { dict.new.held ≡ Some pairs }
     ensures told { IsToldPair (slice_get pairs place) result (out.old, len.old, value.old) (out.new, len.new, value.new) }
+    ensures unchanged { WritesOnlyIf result out.old len.old value.old out.new len.new value.new }
 {
     let whole = dict.take(alloc);
     let answer = told(whole.pairs.get_at(place), out, len, value);
@@ -334,6 +340,7 @@ pub extern "C" fn bptree_dict_next(
     requires open { dict.old.held ≡ Some pairs }
     ensures kept { dict.new.held ≡ Some pairs }
     ensures told { IsToldPair (next by_bytes pairs key.now) result (out.old, len.old, value.old) (out.new, len.new, value.new) }
+    ensures unchanged { WritesOnlyIf result out.old len.old value.old out.new len.new value.new }
 {
     let whole = dict.take(alloc);
     let answer = told(next_by(&whole.pairs, &View { bytes: key }), out, len, value);
@@ -355,6 +362,7 @@ pub extern "C" fn bptree_dict_prev(
     requires open { dict.old.held ≡ Some pairs }
     ensures kept { dict.new.held ≡ Some pairs }
     ensures told { IsToldPair (previous by_bytes pairs key.now) result (out.old, len.old, value.old) (out.new, len.new, value.new) }
+    ensures unchanged { WritesOnlyIf result out.old len.old value.old out.new len.new value.new }
 {
     let whole = dict.take(alloc);
     let answer = told(

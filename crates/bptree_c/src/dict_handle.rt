@@ -1,4 +1,5 @@
-//! What a caller in C holds of a map of byte strings: one pointer, as `Handle` is of a map of numbers.
+//! What a caller in C holds of a map of byte strings: one pointer, as `Handle` is of a map of
+//! numbers.
 ghost use Rattle.std.specs.Prelude.{◌≡◌, ℕ, List, [], Option, Some, None, IsSome, IfOk, IsTrue};
 
 use crate::bytes::Bytes;

@@ -1,5 +1,5 @@
 //! How a map from byte strings is filled at once, and a pair removed by its place.
-ghost use Rattle.std.specs.Prelude.{◌≡◌, ◌≤◌, Some, None, Ok, IsTrue, false, IfOk, OnErr, length};
+ghost use Rattle.std.specs.Prelude.{◌≡◌, ◌≢◌, ◌≤◌, Some, None, Ok, IsTrue, false, IfOk, OnErr, length};
 ghost use Rattle.bptree_c.specs.ByteKeys.{by_bytes};
 ghost use Rattle.bptree_c.specs.Dict.{Pairs, IsRemovedAt, TakesValueAt};
 ghost use Rattle.bptree_c.specs.DictPages.{pairs_of};
@@ -80,7 +80,7 @@ fn copies(alloc: Global, bytes: &[u8], given: &[Record]) -> Result<Vec<(Bytes, u
 
 /// Removes the pair at a place in the order of the keys, from 0 on: 1 where there was one, whose
 /// value is then in `old`, and 0 past the end. It is 2 where it is refused for want of memory; then
-/// nothing has changed. Past the end it is never refused.
+/// nothing has changed. Past the end it is never refused. At 0 and 2 `old` is unchanged.
 #[unsafe(no_mangle)]
 pub extern "C" fn bptree_dict_remove_at(
     alloc: Global,
@@ -94,6 +94,7 @@ pub extern "C" fn bptree_dict_remove_at(
     ensures past { result ≡ 0 → (length pairs ≤ place) × (dict.new.held ≡ Some pairs) }
     ensures removed { result ≡ 1 → IsRemovedAt pairs place dict.new.held old.new }
     ensures refused { result ≡ 2 → dict.new.held ≡ Some pairs }
+    ensures unchanged { result ≢ 1 → old.new ≡ old.old }
     ensures sure { length pairs ≤ place → result ≡ 0 }
 {
     let mut whole = dict.take(alloc);

@@ -7,11 +7,13 @@
 #![tactic(auto)]
 
 mod batch;
+mod byte_callers;
 mod byte_handle;
 mod byte_set;
 mod bytes;
 mod callers;
 mod dict;
+mod dict_callers;
 mod dict_handle;
 mod dict_load;
 mod dict_many;

@@ -1,4 +1,4 @@
-//! Calls that read a map. None of them is ever refused.
+//! Calls that read a map. None of them ever fails.
 ghost use Rattle.std.specs.Prelude.{◌≡◌, ℕ, List, Option, Some, None, IsTrue, false, length, slice_get};
 ghost use Rattle.std.specs.Map.{keys_of};
 ghost use Rattle.std.specs.Option.{option_map};
@@ -42,7 +42,7 @@ pub extern "C" fn bptree_contains(alloc: Global, map: &mut Handle, key: u64) -> 
     answer
 }
 
-/// The value at a key, in `found`. It is false where the key is absent.
+/// The value at a key, in `found`. It is false if the key is absent; then `found` is unchanged.
 #[unsafe(no_mangle)]
 pub extern "C" fn bptree_get(alloc: Global, map: &mut Handle, key: u64, found: &mut u64) -> bool
     ghost pairs: { List (ℕ × ℕ) }
@@ -50,6 +50,7 @@ pub extern "C" fn bptree_get(alloc: Global, map: &mut Handle, key: u64, found: &
     ensures kept { map.new.held ≡ Some pairs }
     ensures found { IsTrue result → value nat_cmp pairs key ≡ Some found.new }
     ensures absent { result ≡ false → value nat_cmp pairs key ≡ None }
+    ensures unchanged { result ≡ false → found.new ≡ found.old }
 {
     let whole = map.take(alloc);
     let answer = whole.pairs.get(&key).copied();
@@ -63,7 +64,8 @@ pub extern "C" fn bptree_get(alloc: Global, map: &mut Handle, key: u64, found: &
     }
 }
 
-/// The pair with the least key, in `pair`. It is false where the map is empty.
+/// The pair with the least key, in `pair`. It is false if the map is empty; then `pair` is
+/// unchanged.
 #[unsafe(no_mangle)]
 pub extern "C" fn bptree_first(alloc: Global, map: &mut Handle, pair: &mut Pair) -> bool
     ghost pairs: { List (ℕ × ℕ) }
@@ -71,6 +73,7 @@ pub extern "C" fn bptree_first(alloc: Global, map: &mut Handle, pair: &mut Pair)
     ensures kept { map.new.held ≡ Some pairs }
     ensures found { IsTrue result → slice_get pairs 0 ≡ Some (as_tuple pair.new) }
     ensures empty { result ≡ false → slice_get pairs 0 ≡ None }
+    ensures unchanged { result ≡ false → pair.new ≡ pair.old }
 {
     let whole = map.take(alloc);
     let answer = first_in(&whole);
@@ -94,9 +97,9 @@ fn owned(pair: Option<(&u64, &u64)>) -> Option<(u64, u64)>
     }
 }
 
-// Whether there is a pair, which is written where there is one.
+// Whether there is a pair. It is written if there is one, and else nothing is.
 fn is_told(answer: Option<(u64, u64)>, pair: &mut Pair) -> bool
-    ensures { IsAnswered answer result pair.new }
+    ensures { IsAnswered answer result pair.old pair.new }
 {
     match answer {
         Some((key, value)) => {
@@ -107,7 +110,8 @@ fn is_told(answer: Option<(u64, u64)>, pair: &mut Pair) -> bool
     }
 }
 
-/// The pair with the greatest key, in `pair`. It is false where the map is empty.
+/// The pair with the greatest key, in `pair`. It is false if the map is empty; then `pair` is
+/// unchanged.
 #[unsafe(no_mangle)]
 pub extern "C" fn bptree_last(alloc: Global, map: &mut Handle, pair: &mut Pair) -> bool
     ghost pairs: { List (ℕ × ℕ) }
@@ -115,6 +119,7 @@ pub extern "C" fn bptree_last(alloc: Global, map: &mut Handle, pair: &mut Pair) 
     ensures kept { map.new.held ≡ Some pairs }
     ensures found { IsTrue result → last_member pairs ≡ Some (as_tuple pair.new) }
     ensures empty { result ≡ false → last_member pairs ≡ None }
+    ensures unchanged { result ≡ false → pair.new ≡ pair.old }
 {
     let whole = map.take(alloc);
     let answer = last_in(&whole);
@@ -128,7 +133,8 @@ fn last_in(map: &Map) -> Option<(u64, u64)>
     owned(map.pairs.last())
 }
 
-/// The pair with the least greater key, in `pair`. It is false where there is none.
+/// The pair with the least greater key, in `pair`. It is false if there is none; then `pair` is
+/// unchanged.
 #[unsafe(no_mangle)]
 pub extern "C" fn bptree_next(alloc: Global, map: &mut Handle, key: u64, pair: &mut Pair) -> bool
     ghost pairs: { List (ℕ × ℕ) }
@@ -136,6 +142,7 @@ pub extern "C" fn bptree_next(alloc: Global, map: &mut Handle, key: u64, pair: &
     ensures kept { map.new.held ≡ Some pairs }
     ensures found { IsTrue result → next nat_cmp pairs key ≡ Some (as_tuple pair.new) }
     ensures none { result ≡ false → next nat_cmp pairs key ≡ None }
+    ensures unchanged { result ≡ false → pair.new ≡ pair.old }
 {
     let whole = map.take(alloc);
     let answer = next_in(&whole, key);
@@ -153,7 +160,8 @@ fn next_in(map: &Map, key: u64) -> Option<(u64, u64)>
     )
 }
 
-/// The pair with the greatest smaller key, in `pair`. It is false where there is none.
+/// The pair with the greatest smaller key, in `pair`. It is false if there is none; then `pair` is
+/// unchanged.
 #[unsafe(no_mangle)]
 pub extern "C" fn bptree_prev(alloc: Global, map: &mut Handle, key: u64, pair: &mut Pair) -> bool
     ghost pairs: { List (ℕ × ℕ) }
@@ -161,6 +169,7 @@ pub extern "C" fn bptree_prev(alloc: Global, map: &mut Handle, key: u64, pair: &
     ensures kept { map.new.held ≡ Some pairs }
     ensures found { IsTrue result → previous nat_cmp pairs key ≡ Some (as_tuple pair.new) }
     ensures none { result ≡ false → previous nat_cmp pairs key ≡ None }
+    ensures unchanged { result ≡ false → pair.new ≡ pair.old }
 {
     let whole = map.take(alloc);
     let answer = prev_in(&whole, key);
@@ -174,7 +183,8 @@ fn prev_in(map: &Map, key: u64) -> Option<(u64, u64)>
     owned(map.pairs.range(None, Some(&key)).next_back())
 }
 
-/// The pair at a place in the order of the keys, from 0 on, in `pair`. It is false past the end.
+/// The pair at an index in the order of the keys, from 0 on, in `pair`. It is false past the end;
+/// then `pair` is unchanged.
 #[unsafe(no_mangle)]
 pub extern "C" fn bptree_at(alloc: Global, map: &mut Handle, place: usize, pair: &mut Pair) -> bool
     ghost pairs: { List (ℕ × ℕ) }
@@ -182,6 +192,7 @@ pub extern "C" fn bptree_at(alloc: Global, map: &mut Handle, place: usize, pair:
     ensures kept { map.new.held ≡ Some pairs }
     ensures found { IsTrue result → slice_get pairs place ≡ Some (as_tuple pair.new) }
     ensures past { result ≡ false → slice_get pairs place ≡ None }
+    ensures unchanged { result ≡ false → pair.new ≡ pair.old }
 {
     let whole = map.take(alloc);
     let answer = at_in(&whole, place);

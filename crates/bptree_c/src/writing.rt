@@ -1,5 +1,5 @@
-//! Calls that change a map: a refused one leaves it as it was.
-ghost use Rattle.std.specs.Prelude.{◌≡◌, ◌≤◌, ℕ, List, [], Option, Some, None, Ok, IfOk, OnErr, IsOk, IsTrue, false, length};
+//! Calls that change a map: one that fails leaves it unchanged.
+ghost use Rattle.std.specs.Prelude.{◌≡◌, ◌≢◌, ◌≤◌, ℕ, List, [], Option, Some, None, Ok, IfOk, OnErr, IsOk, IsTrue, false, length};
 ghost use Rattle.std.specs.Map.Iter.{TakesFirst, TakesLast};
 ghost use Rattle.std.specs.Ordering.{nat_cmp};
 ghost use Rattle.bptree_c.specs.Popped.{IsGoneAt, IsPutAt, IsTold, IsToldAs, LeftAt, LeftFirst, LeftLast, TakesAt};
@@ -10,9 +10,9 @@ use crate::handle::{Handle, Map};
 use crate::pair::Pair;
 use std::alloc::{AllocError, Global};
 
-/// Puts a value at a key: 0 where the key is new, and 1 where it had a value, which is then in
-/// `old`. It is 2 where it is refused for want of memory; then nothing has changed. A key that is
-/// there takes no memory and is never refused.
+/// Stores a value at a key: 0 if the key is new, and 1 if it had a value, which is then in `old`.
+/// It is 2 if an allocation fails; then the map is unchanged. At 0 and 2 `old` is unchanged. It
+/// never fails for a key that is there.
 #[unsafe(no_mangle)]
 pub extern "C" fn bptree_put(
     alloc: Global,
@@ -29,6 +29,7 @@ pub extern "C" fn bptree_put(
     ensures replaced { result ≡ 1 →
         IsPutAt pairs key new (Some old.new) map.new.held }
     ensures refused { result ≡ 2 → map.new.held ≡ Some pairs }
+    ensures unchanged { result ≢ 1 → old.new ≡ old.old }
     ensures sure { IsTrue (has nat_cmp pairs key) → result ≤ 1 }
 {
     let mut whole = map.take(alloc);
@@ -48,9 +49,9 @@ pub(crate) fn put_in(map: &mut Map, key: u64, new: u64) -> Result<Option<u64>, A
     }
 }
 
-// The code for a value that was there, which is written where there was one.
+// The code for a value that was there. It is written if there was one, and else nothing is.
 pub(crate) fn told_value(answer: Result<Option<u64>, AllocError>, old: &mut u64) -> u32
-    ensures { IsToldAs (λ it. it) answer result old.new }
+    ensures { IsToldAs (λ it. it) answer result old.old old.new }
 {
     match answer {
         Ok(Some(was)) => {
@@ -64,7 +65,7 @@ pub(crate) fn told_value(answer: Result<Option<u64>, AllocError>, old: &mut u64)
 
 /// Removes the pair at a key: 1 where there was one, whose value is then in `old`, and 0 where not.
 /// It is 2 where it is refused for want of memory; then nothing has changed. A key that is not
-/// there is never refused.
+/// there is never refused. At 0 and 2 `old` is unchanged.
 #[unsafe(no_mangle)]
 pub extern "C" fn bptree_del(alloc: Global, map: &mut Handle, key: u64, old: &mut u64) -> u32
     ghost pairs: { List (ℕ × ℕ) }
@@ -75,6 +76,7 @@ pub extern "C" fn bptree_del(alloc: Global, map: &mut Handle, key: u64, old: &mu
     ensures removed { result ≡ 1 →
         IsGoneAt pairs key (Some old.new) map.new.held }
     ensures refused { result ≡ 2 → map.new.held ≡ Some pairs }
+    ensures unchanged { result ≢ 1 → old.new ≡ old.old }
     ensures sure { has nat_cmp pairs key ≡ false → result ≡ 0 }
 {
     let mut whole = map.take(alloc);
@@ -93,7 +95,7 @@ fn del_in(map: &mut Map, key: u64) -> Result<Option<u64>, AllocError>
 
 /// Removes the pair at a place in the order of the keys, from 0 on: 1 where there was one, which is
 /// then in `pair`, and 0 past the end. It is 2 where it is refused for want of memory; then nothing
-/// has changed. Past the end it is never refused.
+/// has changed. Past the end it is never refused. At 0 and 2 `pair` is unchanged.
 #[unsafe(no_mangle)]
 pub extern "C" fn bptree_remove_at(
     alloc: Global,
@@ -107,6 +109,7 @@ pub extern "C" fn bptree_remove_at(
     ensures past { result ≡ 0 → (length pairs ≤ place) × (map.new.held ≡ Some pairs) }
     ensures removed { result ≡ 1 → LeftAt pairs place map.new.held pair.new }
     ensures refused { result ≡ 2 → map.new.held ≡ Some pairs }
+    ensures unchanged { result ≢ 1 → pair.new ≡ pair.old }
     ensures sure { length pairs ≤ place → result ≡ 0 }
 {
     let mut whole = map.take(alloc);
@@ -123,9 +126,9 @@ fn remove_in(map: &mut Map, place: usize) -> Result<Option<(u64, u64)>, AllocErr
     map.pairs.remove_at(place)
 }
 
-// The code for a pair that has left, which is written where there is one.
+// The code for a pair that was removed. It is written if there was one, and else nothing is.
 fn told(answer: Result<Option<(u64, u64)>, AllocError>, pair: &mut Pair) -> u32
-    ensures { IsTold answer result pair.new }
+    ensures { IsTold answer result pair.old pair.new }
 {
     match answer {
         Ok(Some((key, value))) => {
@@ -139,7 +142,7 @@ fn told(answer: Result<Option<(u64, u64)>, AllocError>, pair: &mut Pair) -> u32
 
 /// Removes the pair with the least key: 1 where there was one, which is then in `pair`, and 0 where
 /// the map is empty. It is 2 where it is refused for want of memory; then nothing has changed. An
-/// empty map is never refused.
+/// empty map is never refused. At 0 and 2 `pair` is unchanged.
 #[unsafe(no_mangle)]
 pub extern "C" fn bptree_pop_first(alloc: Global, map: &mut Handle, pair: &mut Pair) -> u32
     ghost pairs: { List (ℕ × ℕ) }
@@ -148,6 +151,7 @@ pub extern "C" fn bptree_pop_first(alloc: Global, map: &mut Handle, pair: &mut P
     ensures empty { result ≡ 0 → (pairs ≡ []) × (map.new.held ≡ Some pairs) }
     ensures removed { result ≡ 1 → LeftFirst pairs map.new.held pair.new }
     ensures refused { result ≡ 2 → map.new.held ≡ Some pairs }
+    ensures unchanged { result ≢ 1 → pair.new ≡ pair.old }
     ensures sure { pairs ≡ [] → result ≡ 0 }
 {
     let mut whole = map.take(alloc);
@@ -173,6 +177,7 @@ pub extern "C" fn bptree_pop_last(alloc: Global, map: &mut Handle, pair: &mut Pa
     ensures empty { result ≡ 0 → (pairs ≡ []) × (map.new.held ≡ Some pairs) }
     ensures removed { result ≡ 1 → LeftLast pairs map.new.held pair.new }
     ensures refused { result ≡ 2 → map.new.held ≡ Some pairs }
+    ensures unchanged { result ≢ 1 → pair.new ≡ pair.old }
     ensures sure { pairs ≡ [] → result ≡ 0 }
 {
     let mut whole = map.take(alloc);
