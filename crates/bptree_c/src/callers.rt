@@ -21,16 +21,24 @@ fn finds_the_value(alloc: Global, map: &mut Handle) -> bool
     bptree_get(alloc, map, 7, &mut found) && found == 70
 }
 
-// Of two pairs the greater one is removed, unless an allocation fails.
+// Of two pairs the greater one is removed.
 fn takes_the_greater(alloc: Global, map: &mut Handle) -> bool
     requires open { map.old.held ≡ Some ((1, 10) ∷ (2, 20) ∷ []) }
     ensures { result ≡ true }
 {
     let mut pair = Pair { key: 0, value: 0 };
-    match bptree_pop_last(alloc, map, &mut pair) {
-        1 => pair.key == 2 && pair.value == 20,
-        code => code == 2,
-    }
+    bptree_pop_last(alloc, map, &mut pair) == 1 && pair.key == 2 && pair.value == 20
+}
+
+// A key that is there is removed, and its value returned, whatever the allocator does.
+fn deletes_the_only(alloc: Global, map: &mut Handle) -> (u32, u64)
+    requires open { map.old.held ≡ Some ((7, 70) ∷ []) }
+    ensures returned { result ≡ (1, 70) }
+    ensures left { map.new.held ≡ Some [] }
+{
+    let mut old = 0;
+    let code = bptree_del(alloc, map, 7, &mut old);
+    (code, old)
 }
 
 // A caller that ignores the result has the value, or what it had before.

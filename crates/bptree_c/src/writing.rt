@@ -63,19 +63,17 @@ pub(crate) fn told_value(answer: Result<Option<u64>, AllocError>, old: &mut u64)
     }
 }
 
-/// Removes the pair at a key: 1 where there was one, whose value is then in `old`, and 0 where not.
-/// It is 2 where it is refused for want of memory; then nothing has changed. A key that is not
-/// there is never refused. At 0 and 2 `old` is unchanged.
+/// Removes the pair at a key: 1 if there was one, whose value is then in `old`, and 0 if not; then
+/// `old` is unchanged. It needs no memory and never fails.
 #[unsafe(no_mangle)]
 pub extern "C" fn bptree_del(alloc: Global, map: &mut Handle, key: u64, old: &mut u64) -> u32
     ghost pairs: { List (ℕ × ℕ) }
     requires open { map.old.held ≡ Some pairs }
-    ensures codes { result ≤ 2 }
+    ensures codes { result ≤ 1 }
     ensures absent { result ≡ 0 →
         IsGoneAt pairs key None map.new.held }
     ensures removed { result ≡ 1 →
         IsGoneAt pairs key (Some old.new) map.new.held }
-    ensures refused { result ≡ 2 → map.new.held ≡ Some pairs }
     ensures unchanged { result ≢ 1 → old.new ≡ old.old }
     ensures sure { has nat_cmp pairs key ≡ false → result ≡ 0 }
 {
@@ -88,14 +86,13 @@ pub extern "C" fn bptree_del(alloc: Global, map: &mut Handle, key: u64, old: &mu
 fn del_in(map: &mut Map, key: u64) -> Result<Option<u64>, AllocError>
     ensures ok { IfOk result (Removes nat_cmp key map.old map.new) }
     ensures absent { has nat_cmp map.old key ≡ false → result ≡ Ok None }
-    ensures err { OnErr result (map.new ≡ map.old) }
+    ensures infallible { IsOk result }
 {
     map.pairs.remove(&key)
 }
 
-/// Removes the pair at a place in the order of the keys, from 0 on: 1 where there was one, which is
-/// then in `pair`, and 0 past the end. It is 2 where it is refused for want of memory; then nothing
-/// has changed. Past the end it is never refused. At 0 and 2 `pair` is unchanged.
+/// Removes the pair at an index in the order of the keys, from 0 on: 1 if there was one, which is
+/// then in `pair`, and 0 past the end; then `pair` is unchanged. It needs no memory and never fails.
 #[unsafe(no_mangle)]
 pub extern "C" fn bptree_remove_at(
     alloc: Global,
@@ -105,10 +102,9 @@ pub extern "C" fn bptree_remove_at(
 ) -> u32
     ghost pairs: { List (ℕ × ℕ) }
     requires open { map.old.held ≡ Some pairs }
-    ensures codes { result ≤ 2 }
+    ensures codes { result ≤ 1 }
     ensures past { result ≡ 0 → (length pairs ≤ place) × (map.new.held ≡ Some pairs) }
     ensures removed { result ≡ 1 → LeftAt pairs place map.new.held pair.new }
-    ensures refused { result ≡ 2 → map.new.held ≡ Some pairs }
     ensures unchanged { result ≢ 1 → pair.new ≡ pair.old }
     ensures sure { length pairs ≤ place → result ≡ 0 }
 {
@@ -121,7 +117,7 @@ pub extern "C" fn bptree_remove_at(
 fn remove_in(map: &mut Map, place: usize) -> Result<Option<(u64, u64)>, AllocError>
     ensures ok { IfOk result (TakesAt map.old place map.new) }
     ensures past { length map.old ≤ place → (result ≡ Ok None) × (map.new ≡ map.old) }
-    ensures err { OnErr result (map.new ≡ map.old) }
+    ensures infallible { IsOk result }
 {
     map.pairs.remove_at(place)
 }
@@ -140,17 +136,15 @@ fn told(answer: Result<Option<(u64, u64)>, AllocError>, pair: &mut Pair) -> u32
     }
 }
 
-/// Removes the pair with the least key: 1 where there was one, which is then in `pair`, and 0 where
-/// the map is empty. It is 2 where it is refused for want of memory; then nothing has changed. An
-/// empty map is never refused. At 0 and 2 `pair` is unchanged.
+/// Removes the pair with the least key: 1 if there was one, which is then in `pair`, and 0 if the
+/// map is empty; then `pair` is unchanged. It needs no memory and never fails.
 #[unsafe(no_mangle)]
 pub extern "C" fn bptree_pop_first(alloc: Global, map: &mut Handle, pair: &mut Pair) -> u32
     ghost pairs: { List (ℕ × ℕ) }
     requires open { map.old.held ≡ Some pairs }
-    ensures codes { result ≤ 2 }
+    ensures codes { result ≤ 1 }
     ensures empty { result ≡ 0 → (pairs ≡ []) × (map.new.held ≡ Some pairs) }
     ensures removed { result ≡ 1 → LeftFirst pairs map.new.held pair.new }
-    ensures refused { result ≡ 2 → map.new.held ≡ Some pairs }
     ensures unchanged { result ≢ 1 → pair.new ≡ pair.old }
     ensures sure { pairs ≡ [] → result ≡ 0 }
 {
@@ -163,20 +157,19 @@ pub extern "C" fn bptree_pop_first(alloc: Global, map: &mut Handle, pair: &mut P
 fn pop_first_in(map: &mut Map) -> Result<Option<(u64, u64)>, AllocError>
     ensures ok { IfOk result (λ gone. TakesFirst (λ pair. pair) map.old gone map.new) }
     ensures empty { map.old ≡ [] → (result ≡ Ok None) × (map.new ≡ map.old) }
-    ensures err { OnErr result (map.new ≡ map.old) }
+    ensures infallible { IsOk result }
 {
     map.pairs.pop_first()
 }
 
-/// Removes the pair with the greatest key. The answers are those of `bptree_pop_first`.
+/// Removes the pair with the greatest key. It returns what `bptree_pop_first` does.
 #[unsafe(no_mangle)]
 pub extern "C" fn bptree_pop_last(alloc: Global, map: &mut Handle, pair: &mut Pair) -> u32
     ghost pairs: { List (ℕ × ℕ) }
     requires open { map.old.held ≡ Some pairs }
-    ensures codes { result ≤ 2 }
+    ensures codes { result ≤ 1 }
     ensures empty { result ≡ 0 → (pairs ≡ []) × (map.new.held ≡ Some pairs) }
     ensures removed { result ≡ 1 → LeftLast pairs map.new.held pair.new }
-    ensures refused { result ≡ 2 → map.new.held ≡ Some pairs }
     ensures unchanged { result ≢ 1 → pair.new ≡ pair.old }
     ensures sure { pairs ≡ [] → result ≡ 0 }
 {
@@ -189,7 +182,7 @@ pub extern "C" fn bptree_pop_last(alloc: Global, map: &mut Handle, pair: &mut Pa
 fn pop_last_in(map: &mut Map) -> Result<Option<(u64, u64)>, AllocError>
     ensures ok { IfOk result (λ gone. TakesLast (λ pair. pair) map.old gone map.new) }
     ensures empty { map.old ≡ [] → (result ≡ Ok None) × (map.new ≡ map.old) }
-    ensures err { OnErr result (map.new ≡ map.old) }
+    ensures infallible { IsOk result }
 {
     map.pairs.pop_last()
 }
