@@ -1,10 +1,14 @@
-/* Calls of the map in no order beside a plain ascending array, which must answer alike. The last line is 'ok'. */
+/* Calls of the map in random order beside a plain ascending array, which must have the same
+   results. The last line is 'ok'. */
 #include "sweep_bptree.h"
 #include <stdio.h>
 #include <stdlib.h>
 #include <string.h>
 
 enum { MOST = 9000, KEYS = 12000, CALLS = 400000, ROOM = 70 };
+
+/* What a pair holds before a call, and behind a call that finds none. */
+static const bptree_pair BLANK = {7, 77};
 
 static bptree_pair plain[MOST + 1];
 static size_t len;
@@ -29,6 +33,13 @@ static void alike(uint64_t one, uint64_t other, const char *call) {
 static void alike_pairs(bptree_pair one, bptree_pair other, const char *call) {
     alike(one.key, other.key, call);
     alike(one.value, other.value, call);
+}
+
+/* Whether a call found a pair: that one, or if none is due, the pair that was there before. */
+static void alike_found(bool found, bptree_pair *pair, bool is_due, size_t at, const char *call) {
+    alike(found, is_due, call);
+    alike_pairs(*pair, is_due ? plain[at] : BLANK, call);
+    *pair = BLANK;
 }
 
 /* How many keys of the array are smaller. */
@@ -69,7 +80,7 @@ static uint64_t any_key(void) {
 static void change(bptree *map) {
     uint64_t key = any_key(), value = roll(1000000), old = 77, code;
     size_t at = smaller(key), place = roll(len + 2);
-    bptree_pair pair = {7, 7};
+    bptree_pair pair = BLANK;
     bool there = is_there(key);
     uint64_t was = there ? plain[at].value : 77;
     switch (roll(8)) {
@@ -89,17 +100,20 @@ static void change(bptree *map) {
     case 5:
         code = bptree_remove_at(map, place, &pair);
         alike(code, place < len ? BPTREE_FOUND : BPTREE_NONE, "remove_at");
-        if (place < len) alike_pairs(pair, plain[place], "remove_at"), take_out(place);
+        alike_found(code == BPTREE_FOUND, &pair, place < len, place, "remove_at");
+        if (place < len) take_out(place);
         return;
     case 6:
         code = bptree_pop_first(map, &pair);
         alike(code, len ? BPTREE_FOUND : BPTREE_NONE, "pop_first");
-        if (len) alike_pairs(pair, plain[0], "pop_first"), take_out(0);
+        alike_found(code == BPTREE_FOUND, &pair, len > 0, 0, "pop_first");
+        if (len) take_out(0);
         return;
     default:
         code = bptree_pop_last(map, &pair);
         alike(code, len ? BPTREE_FOUND : BPTREE_NONE, "pop_last");
-        if (len) alike_pairs(pair, plain[len - 1], "pop_last"), len--;
+        alike_found(code == BPTREE_FOUND, &pair, len > 0, len - 1, "pop_last");
+        if (len) len--;
     }
 }
 
@@ -107,7 +121,7 @@ static void ask(bptree *map) {
     uint64_t key = any_key(), to = any_key(), value = 77;
     size_t at = smaller(key), place = roll(len + 2), rank = 7;
     size_t above = at + is_there(key), end = smaller(to);
-    bptree_pair pair = {7, 7};
+    bptree_pair pair = BLANK;
     alike(bptree_len(map), len, "len");
     alike(bptree_contains(map, key), is_there(key), "contains");
     alike(bptree_get(map, key, &value), is_there(key), "get");
@@ -115,19 +129,14 @@ static void ask(bptree *map) {
     alike(bptree_rank(map, key, &rank), is_there(key), "rank, there");
     alike(rank, at, "rank");
     alike(bptree_range_len(map, key, to), end > at ? end - at : 0, "range_len");
-    alike(bptree_first(map, &pair), len > 0, "first");
-    if (len) alike_pairs(pair, plain[0], "first");
-    alike(bptree_last(map, &pair), len > 0, "last");
-    if (len) alike_pairs(pair, plain[len - 1], "last");
-    alike(bptree_next(map, key, &pair), above < len, "next");
-    if (above < len) alike_pairs(pair, plain[above], "next");
-    alike(bptree_prev(map, key, &pair), at > 0, "prev");
-    if (at > 0) alike_pairs(pair, plain[at - 1], "prev");
-    alike(bptree_at(map, place, &pair), place < len, "at");
-    if (place < len) alike_pairs(pair, plain[place], "at");
+    alike_found(bptree_first(map, &pair), &pair, len > 0, 0, "first");
+    alike_found(bptree_last(map, &pair), &pair, len > 0, len - 1, "last");
+    alike_found(bptree_next(map, key, &pair), &pair, above < len, above, "next");
+    alike_found(bptree_prev(map, key, &pair), &pair, at > 0, at - 1, "prev");
+    alike_found(bptree_at(map, place, &pair), &pair, place < len, place, "at");
 }
 
-/* What a call copied: so many pairs, and the rest of the room as it was. */
+/* What a call copied: so many pairs, and the rest of the array is unchanged. */
 static void copied(bptree_pair *out, size_t room, size_t count, size_t first, size_t wanted, bool back, const char *call) {
     alike(count, wanted < room ? wanted : room, call);
     for (size_t i = 0; i < room; i++) {
@@ -149,7 +158,59 @@ static void ask_for_many(bptree *map) {
     }
 }
 
-/* Loads pairs in no order, some with equal keys, of which the last stays. */
+/* Calls for many keys at once, some of them equal; a value at an absent key is unchanged. */
+static void ask_for_each(bptree *map) {
+    uint64_t keys[ROOM], values[ROOM + 1];
+    uint8_t found[ROOM + 1];
+    size_t ranks[ROOM + 1], n = roll(ROOM + 1);
+    for (size_t i = 0; i <= ROOM; i++) values[i] = 1000 + i, found[i] = 5, ranks[i] = 3000 + i;
+    for (size_t i = 0; i < n; i++) keys[i] = any_key();
+    bptree_get_many(map, keys, n, values, n, found, n);
+    bptree_rank_many(map, keys, n, ranks, n);
+    for (size_t i = 0; i <= ROOM; i++) {
+        bool there = i < n && is_there(keys[i]);
+        alike(found[i], i < n ? there : 5, "get_many, found");
+        alike(values[i], there ? plain[smaller(keys[i])].value : 1000 + i, "get_many");
+        alike(ranks[i], i < n ? smaller(keys[i]) : 3000 + i, "rank_many");
+    }
+    if (len + n > MOST) return;
+    for (size_t i = 0; i < n; i++) values[i] = roll(1000000);
+    alike(bptree_put_many(map, keys, n, values, n), n, "put_many");
+    for (size_t i = 0; i < n; i++) put(keys[i], values[i]);
+}
+
+/* Arrays of length 0 by NULL, and by a pointer to what is not to be read or written. */
+static void ask_for_none(bptree *map) {
+    bptree_pair pair = BLANK, *pairs[] = {NULL, &pair};
+    uint64_t word = 77, *words[] = {NULL, &word};
+    uint8_t byte = 77, *bytes[] = {NULL, &byte};
+    size_t size = 77, *sizes[] = {NULL, &size};
+    for (int i = 0; i < 2; i++) {
+        alike(bptree_range(map, 0, pairs[i], 0), 0, "range of none");
+        alike(bptree_range_back(map, UINT64_MAX, pairs[i], 0), 0, "range_back of none");
+        alike(bptree_page(map, 0, pairs[i], 0), 0, "page of none");
+        alike(bptree_page(map, 1, pairs[i], 0), 0, "page of none");
+        bptree_get_many(map, words[i], 0, words[i], 0, bytes[i], 0);
+        bptree_rank_many(map, words[i], 0, sizes[i], 0);
+        alike(bptree_put_many(map, words[i], 0, words[1 - i], 0), 0, "put_many of none");
+        alike(bptree_len(map), len, "len behind arrays of length 0");
+    }
+    alike_pairs(pair, BLANK, "a pair of no array");
+    alike(word == 77 && byte == 77 && size == 77, true, "a word of no array");
+}
+
+static void load_none(bptree *map) {
+    bptree_pair pair = BLANK;
+    alike(bptree_load(map, NULL, 0), true, "load of none");
+    alike(bptree_len(map), 0, "load of none");
+    alike(bptree_load(map, &pair, 1), true, "load of one");
+    alike(bptree_len(map), 1, "load of one");
+    alike(bptree_load(map, &pair, 0), true, "load of none");
+    alike(bptree_len(map), 0, "load of none");
+    len = 0;
+}
+
+/* Loads pairs in random order, some with equal keys, of which the last one stays. */
 static void load(bptree *map) {
     size_t many = roll(MOST / 2);
     bptree_pair *given = malloc((many + 1) * sizeof *given);
@@ -169,7 +230,8 @@ int main(void) {
     for (int call = 0; call < CALLS; call++) {
         change(&map);
         if (call % 4 == 0) ask(&map);
-        if (call % 64 == 0) ask_for_many(&map);
+        if (call % 64 == 0) ask_for_many(&map), ask_for_each(&map);
+        if (call % 1024 == 0) ask_for_none(&map);
         if (call % 40000 == 39999) load(&map);
         if (call % 150000 == 149999) alike(bptree_clear(&map), true, "clear"), len = 0;
     }
@@ -178,6 +240,8 @@ int main(void) {
         alike(bptree_at(&map, i, &pair), true, "at the end");
         alike_pairs(pair, plain[i], "at the end");
     }
+    load_none(&map);
+    ask_for_none(&map);
     bptree_free(&map);
     alike(map.at == NULL, true, "free");
     puts("ok");

@@ -1,4 +1,5 @@
-/* Calls of a set of byte strings in no order beside a plain ascending array, which must answer alike. The last line is 'ok'. */
+/* Calls of a set of byte strings in random order beside a plain ascending array, which must have
+   the same results. The last line is 'ok'. */
 #include "sweep_bptree.h"
 #include <stdio.h>
 #include <stdlib.h>
@@ -28,7 +29,8 @@ static void alike(uint64_t one, uint64_t other, const char *call) {
     }
 }
 
-/* A string of few bytes, among them the least and the greatest, so that many are equal or begin one another. */
+/* A string of few bytes, among them the least and the greatest, so that many are equal or begin one
+   another. */
 static string any_string(void) {
     static const uint8_t some[] = {0, 1, 'a', 'b', 0x7f, 0x80, 0xff};
     string it = {roll(LONGEST + 1), {0}};
@@ -66,7 +68,8 @@ static void change(bptree_bytes *set, const string *key) {
     }
 }
 
-/* What a call told of a key: whether there is one, as many of its bytes as there is room for, and the rest as it was. */
+/* What a call wrote of a key: whether there is one, as many of its bytes as fit, and the rest is
+   unchanged. If there is none, all is unchanged. */
 static uint8_t out[ROOM];
 static size_t room, told;
 
@@ -94,6 +97,30 @@ static void ask_for_keys(bptree_bytes *set, const string *key) {
     told_of(at > 0, at - 1, bptree_bytes_prev(set, key->bytes, key->n, out, room, &told) == BPTREE_FOUND, "prev");
 }
 
+/* The empty key by NULL, and an array of length 0 by NULL: whether the key is in the set, and the
+   lengths of keys without their bytes. */
+static void ask_with_null(bptree_bytes *set) {
+    string empty = {0, {0}};
+    size_t at = smaller(&empty), rank = 77;
+    bool there = at < len && !compared(&plain[at], &empty);
+    size_t above = at + there;
+    alike(bptree_bytes_contains(set, NULL, 0), there ? BPTREE_FOUND : BPTREE_NONE, "contains of NULL");
+    alike(bptree_bytes_rank(set, NULL, 0, &rank), there ? BPTREE_FOUND : BPTREE_NONE, "rank of NULL");
+    alike(rank, 0, "rank of NULL");
+    blank(), room = 0;
+    told_of(len > 0, 0, bptree_bytes_first(set, NULL, 0, &told), "first into NULL"), room = 0;
+    told_of(len > 0, len - 1, bptree_bytes_last(set, NULL, 0, &told), "last into NULL"), room = 0;
+    told_of(len > 0, 0, bptree_bytes_at(set, 0, NULL, 0, &told), "at into NULL"), room = 0;
+    told_of(above < len, above, bptree_bytes_next(set, NULL, 0, NULL, 0, &told) == BPTREE_FOUND, "next of NULL");
+    told_of(false, 0, bptree_bytes_prev(set, NULL, 0, NULL, 0, &told) == BPTREE_FOUND, "prev of NULL");
+    alike(bptree_bytes_remove(set, NULL, 0), there ? BPTREE_FOUND : BPTREE_NONE, "remove of NULL");
+    alike(bptree_bytes_contains(set, NULL, 0), BPTREE_NONE, "contains of NULL");
+    alike(bptree_bytes_insert(set, NULL, 0), BPTREE_NONE, "insert of NULL");
+    alike(bptree_bytes_insert(set, NULL, 0), BPTREE_FOUND, "insert of NULL");
+    alike(bptree_bytes_contains(set, empty.bytes, 0), BPTREE_FOUND, "contains of no bytes");
+    if (!there) alike(bptree_bytes_remove(set, empty.bytes, 0), BPTREE_FOUND, "remove of no bytes");
+}
+
 static void ask(bptree_bytes *set, const string *key) {
     size_t at = smaller(key), rank = 7;
     bool there = at < len && !compared(&plain[at], key);
@@ -111,7 +138,8 @@ int main(void) {
         change(&set, &key);
         ask(&set, &other);
         ask_for_keys(&set, &other);
-        if (call == CALLS / 2) alike(bptree_bytes_clear(&set), true, "clear"), len = 0;
+        if (call % 64 == 0) ask_with_null(&set);
+        if (call == CALLS / 2) alike(bptree_bytes_clear(&set), true, "clear"), len = 0, ask_with_null(&set);
     }
     bptree_bytes_free(&set);
     alike(set.at == NULL, true, "free");

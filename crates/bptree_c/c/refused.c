@@ -1,6 +1,7 @@
-/* Calls of which each request for memory is refused in turn: a refused call says so and changes nothing, and made again with
-   memory it succeeds. Nothing is left on the heap at the end. Linked with --wrap for malloc, realloc and free. The last line is
-   'ok', and the one before it how many requests were refused. */
+/* Calls of which each allocation fails in turn: a call that fails says so and changes nothing,
+   neither the map nor what its arguments point to, and made again with memory it succeeds. Nothing
+   is left on the heap at the end. Linked with --wrap for malloc, realloc and free. The last line is
+   'ok', and the one before it how many allocations failed. */
 #include "sweep_bptree.h"
 #include <stdio.h>
 #include <stdlib.h>
@@ -46,20 +47,29 @@ static void must(bool holds, const char *what) {
 
 static bptree_pair before[PAIRS + 1], after[PAIRS + 1], given[PAIRS];
 
+static uint64_t key, old;
+static bptree_pair pair;
+
+/* What a call may write to, before it, and behind a call that finds nothing or fails. */
+static void blank(void) { old = 77, pair = (bptree_pair){7, 78}; }
+static bool is_blank(void) { return old == 77 && pair.key == 7 && pair.value == 78; }
+
 /* Whether the map holds as many pairs as before, and the same. */
 static bool is_as_it_was(bptree *map, size_t len) {
     return bptree_range(map, 0, after, PAIRS + 1) == len && !memcmp(before, after, len * sizeof *before);
 }
 
-/* Makes a call again and again, each time with its next request refused, until none was. So many of its requests are for room
-   that the call can do without. */
+/* Makes a call again and again, each time with its next allocation failing, until none did. So many
+   of its allocations are for room that the call can do without. */
 static void refuse_all_but(int hints, bptree *map, uint32_t (*call)(bptree *), const char *name) {
     for (long request = 0;; request++) {
         size_t len = bptree_range(map, 0, before, PAIRS + 1);
         long were = refusals;
+        blank();
         until_refusal = request;
         uint32_t answer = call(map);
         until_refusal = -1;
+        must(answer == BPTREE_FOUND || is_blank(), name);
         if (refusals == were) {
             must(answer != BPTREE_REFUSED, name);
             return;
@@ -75,9 +85,6 @@ static void refuse_all_but(int hints, bptree *map, uint32_t (*call)(bptree *), c
 static void refuse_each(bptree *map, uint32_t (*call)(bptree *), const char *name) {
     refuse_all_but(0, map, call, name);
 }
-
-static uint64_t key, old;
-static bptree_pair pair;
 
 static uint32_t put(bptree *map) { return bptree_put(map, key, key, &old); }
 static uint32_t del(bptree *map) { return bptree_del(map, key, &old); }
@@ -103,10 +110,12 @@ static void refuse_each_of_strings(bptree_bytes *set, uint32_t (*call)(bptree_by
     for (long request = 0;; request++) {
         size_t many = list(set, strings_before);
         long were = refusals;
+        told = 77, memset(beside, 0x55, sizeof beside);
         until_refusal = request;
         uint32_t answer = call(set);
         until_refusal = -1;
         must((answer == BPTREE_REFUSED) == (refusals != were), what);
+        must(answer != BPTREE_REFUSED || (told == 77 && !memcmp(beside, "UUUU", sizeof beside)), what);
         if (refusals == were) return;
         must(list(set, strings_after) == many && !memcmp(strings_before, strings_after, many * sizeof *strings_before), what);
     }
@@ -150,6 +159,109 @@ static void strings(void) {
     must(blocks == 0, "memory is left by strings");
 }
 
+/* The same of a map of byte strings. */
+static uint8_t bytes_before[STRINGS * 4], bytes_after[STRINGS * 4], bytes_given[STRINGS * 4];
+static bptree_record records_before[STRINGS + 1], records_after[STRINGS + 1], records_given[STRINGS];
+static size_t place;
+
+static size_t list_dict(bptree_dict *dict, uint8_t *bytes, bptree_record *records) {
+    size_t many = bptree_dict_page(dict, 0, bytes, STRINGS * 4, records, STRINGS + 1);
+    must(many == bptree_dict_len(dict), "page of a map of strings");
+    return many;
+}
+
+/* So many of the call's allocations are for what it can do without. */
+static void refuse_each_of_dict(int hints, bptree_dict *dict, uint32_t (*call)(bptree_dict *), const char *what) {
+    for (long request = 0;; request++) {
+        size_t many = list_dict(dict, bytes_before, records_before);
+        long were = refusals;
+        blank();
+        until_refusal = request;
+        uint32_t answer = call(dict);
+        until_refusal = -1;
+        must(answer == BPTREE_FOUND || is_blank(), what);
+        if (refusals == were) {
+            must(answer != BPTREE_REFUSED, what);
+            return;
+        }
+        if (answer != BPTREE_REFUSED) {
+            must(hints-- > 0, what);
+            continue;
+        }
+        must(list_dict(dict, bytes_after, records_after) == many, what);
+        must(!memcmp(bytes_before, bytes_after, many * 4), what);
+        must(!memcmp(records_before, records_after, many * sizeof *records_before), what);
+    }
+}
+
+static uint32_t put_name(bptree_dict *dict) { return bptree_dict_put(dict, name, sizeof name, place, &old); }
+static uint32_t del_name(bptree_dict *dict) { return bptree_dict_del(dict, name, sizeof name, &old); }
+static uint32_t remove_place(bptree_dict *dict) { return bptree_dict_remove_at(dict, place, &old); }
+static uint32_t clear_dict(bptree_dict *dict) { return bptree_dict_clear(dict) ? BPTREE_NONE : BPTREE_REFUSED; }
+
+static uint32_t load_dict(bptree_dict *dict) {
+    bool done = bptree_dict_load(dict, bytes_given, 4 * place, records_given, place);
+    return done ? BPTREE_NONE : BPTREE_REFUSED;
+}
+
+static void dict_of_strings(void) {
+    bptree_dict dict = {0};
+    for (long request = 0; !dict.at; request++) {
+        until_refusal = request;
+        bool made = bptree_dict_new(&dict);
+        until_refusal = -1;
+        must(made == (dict.at != NULL) && (made || blocks == 0), "new of a map of strings");
+    }
+    for (place = 0; place < STRINGS; place++) name_it(place), refuse_each_of_dict(0, &dict, put_name, "put of a string");
+    must(bptree_dict_len(&dict) == STRINGS, "put of a string");
+    for (size_t i = 0; i < STRINGS; i += 50) {
+        name_it(i);
+        /* (the copy of a key that is there is not needed) */
+        refuse_each_of_dict(1, &dict, put_name, "put of a string that is there");
+    }
+    for (size_t i = 0; i < 200; i++) name_it(i), refuse_each_of_dict(0, &dict, del_name, "del of a string");
+    for (place = 300; place > 0; place--) refuse_each_of_dict(0, &dict, remove_place, "remove_at of strings");
+    must(bptree_dict_len(&dict) == STRINGS - 500, "removals of strings");
+    for (size_t i = 0; i < STRINGS; i++) {
+        name_it(i);
+        memcpy(bytes_given + 4 * i, name, sizeof name);
+        records_given[i] = (bptree_record){sizeof name, i};
+    }
+    for (place = 0; place <= STRINGS; place += STRINGS / 3) refuse_each_of_dict(1, &dict, load_dict, "load of strings");
+    must(bptree_dict_len(&dict) == STRINGS, "load of strings");
+    refuse_each_of_dict(0, &dict, clear_dict, "clear of strings");
+    must(bptree_dict_len(&dict) == 0, "clear of a map of strings");
+    /* An empty map allocates nothing for what is not there. */
+    long were = refusals;
+    place = 0;
+    refuse_each_of_dict(0, &dict, del_name, "del of no string");
+    refuse_each_of_dict(0, &dict, remove_place, "remove_at of no string");
+    must(refusals == were, "allocations of an empty map of strings");
+    bptree_dict_free(&dict);
+    must(blocks == 0, "memory is left by a map of strings");
+}
+
+/* Pairs that are stored one after another, until an allocation fails: those before are there. */
+static void put_many(void) {
+    enum { MANY = 500 };
+    uint64_t keys[MANY], values[MANY], found;
+    for (long request = 0;; request++) {
+        bptree map = {0};
+        must(bptree_new(&map), "new");
+        for (uint64_t i = 0; i < MANY; i++) keys[i] = (i * 7919) % 1009, values[i] = i;
+        long were = refusals;
+        until_refusal = request;
+        size_t count = bptree_put_many(&map, keys, MANY, values, MANY);
+        until_refusal = -1;
+        must((count < MANY) == (refusals != were) && bptree_len(&map) == count, "put_many");
+        for (size_t i = 0; i < MANY; i++)
+            must(bptree_get(&map, keys[i], &found) == (i < count) && (i >= count || found == values[i]), "put_many");
+        bptree_free(&map);
+        must(blocks == 0, "memory is left by put_many");
+        if (count == MANY) return;
+    }
+}
+
 int main(void) {
     bptree map = {0};
     for (long request = 0;; request++) {
@@ -172,7 +284,7 @@ int main(void) {
     must(bptree_len(&map) == PAIRS, "load");
     refuse_each(&map, clear, "clear");
     must(bptree_len(&map) == 0, "clear");
-    /* Of an empty map nothing is refused, since nothing is asked for. */
+    /* An empty map allocates nothing for what is not there. */
     long were = refusals;
     refuse_each(&map, pop_first, "pop_first of none");
     refuse_each(&map, pop_last, "pop_last of none");
@@ -181,6 +293,8 @@ int main(void) {
     bptree_free(&map);
     must(blocks == 0, "memory is left");
     strings();
-    printf("%ld requests refused\nok\n", refusals);
+    dict_of_strings();
+    put_many();
+    printf("%ld allocations failed\nok\n", refusals);
     return 0;
 }

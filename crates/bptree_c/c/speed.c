@@ -1,5 +1,5 @@
-/* Times of the calls: for each number of pairs in the arguments a line for each call, its least time of some turns in
-   nanoseconds a call. */
+/* Times of the calls: for each number of pairs in the arguments a line for each call, its least
+   time of some turns in nanoseconds a call. */
 #define NDEBUG /* as a program that is delivered is built */
 #define _POSIX_C_SOURCE 199309L // for clock_gettime
 #include "sweep_bptree.h"
