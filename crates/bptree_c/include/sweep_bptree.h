@@ -64,8 +64,8 @@ size_t bptree_range_len(bptree *map, uint64_t from, uint64_t to);
 /* BPTREE_NONE: the key is new. BPTREE_FOUND: it had a value, now in *old. The call never fails for
    a key that is there. */
 uint32_t bptree_put(bptree *map, uint64_t key, uint64_t value, uint64_t *old);
-/* BPTREE_NONE: the key is absent, for which the call never fails. BPTREE_FOUND: it was removed, and
-   its value is in *old. */
+/* BPTREE_NONE: the key is absent. BPTREE_FOUND: it was removed, and its value is in *old. A removal
+   needs no memory and never returns BPTREE_REFUSED. */
 uint32_t bptree_del(bptree *map, uint64_t key, uint64_t *old);
 /* The same of the pair at an index, of the first and of the last pair, which is then in *pair. */
 uint32_t bptree_remove_at(bptree *map, size_t place, bptree_pair *pair);
