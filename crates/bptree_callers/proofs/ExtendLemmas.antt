@@ -1,5 +1,5 @@
 -- Pairs, and keys, that are put one after another.
-use Rattle.std.proofs.Common.{◌≡◌, ◌∙◌, Bool, true, false, List, [], ◌∷◌, ◌++◌, Option, Some, refl, sym, ap, map, ◌||◌}
+use Rattle.std.proofs.Common.{◌≡◌, ◌∙◌, ℕ, Bool, true, false, List, [], ◌∷◌, ◌++◌, length, Option, Some, Result, Ok, Err, IfErr, refl, sym, ap, map, ◌||◌}
 use Rattle.std.specs.declared.cmp.Ordering.{Ordering}
 use Rattle.std.specs.Cmp.{IsTotalOrder}
 use Rattle.std.specs.List.Sorted.{IsStrictlySortedBy}
@@ -12,7 +12,12 @@ use Rattle.bptree_keys.specs.Contents.{IsAscending, has, put, value}
 use Rattle.bptree_keys.proofs.Laws.{put_ascending}
 use Rattle.bptree_keys.proofs.Updates.{has_put, value_put}
 use Rattle.bptree_maps.specs.Keys.{holds, with_key}
+use Rattle.bptree_maps.specs.KeyChanges.{IsKeyFailureOf}
 use Rattle.bptree_maps.specs.Moving.{put_all, put_pair, IsExtended}
+use Rattle.bptree_tree.specs.Changes.{IsFailureOf, IsInsertFailure}
+use Rattle.bptree_tree.specs.Refusal.{pair_of}
+use Rattle.bptree_tree.specs.declared.InsertError.{InsertError}
+use Rattle.bptree_tree.specs.declared.InsertError.TheVariants.{Full, OutOfMemory}
 use Rattle.bptree_maps.proofs.KeyLemmas.{keys_pairs, keys_put, holds_keys}
 
 -- what came of an iterator that gives a list was put
@@ -83,3 +88,37 @@ module _ {K : Type 0} {cmp : K → K → Ordering} (total : IsTotalOrder cmp) wh
 
   pub held_or_came : {S : Type 0} {steps : S → Option K → S → Type 0} {it : S} (all old new : List K) → YieldsList steps (λ x. x) it all → IsStrictlySortedBy cmp old → IsExtended (with_key cmp) steps it old new → (k : K) → holds cmp new k ≡ holds cmp old k || holds cmp all k
   held_or_came all old new yields sorted put k = ap (λ l. holds cmp l k) (all_put all old new yields put) ∙ holds_all old all k sorted
+
+-- the key that an error returns is absent
+failed_absent : {K V : Type 0} (most n : ℕ) (is_there : K → Bool) (error : InsertError K V) → IsInsertFailure most n is_there error → is_there (pair_of error).0 ≡ false
+failed_absent most n is_there (Full k v) failed = failed.1
+failed_absent most n is_there (OutOfMemory k v) failed = failed.1
+
+not_before : (b c : Bool) → (b ≡ true → c ≡ true) → c ≡ false → b ≡ false
+not_before false c keeps absent = refl
+not_before true c keeps absent = let there = keeps refl in cc
+
+or_true : (a : Bool) → a || true ≡ true
+or_true true = refl
+or_true false = refl
+
+module _ {K V : Type 0} {cmp : K → K → Ordering} (total : IsTotalOrder cmp) where
+  -- a key that is present stays so
+  still_there : (l pairs : List (K × V)) (k : K) → IsAscending cmp l → has cmp l k ≡ true → has cmp (put_all (put_pair cmp) l pairs) k ≡ true
+  still_there l [] k ascending there = there
+  still_there l (p ∷ pairs) k ascending there =
+      still_there (put cmp l p.0 p.1) pairs k (put_ascending cmp total l ascending p.0 p.1) (has_put cmp total l ascending p.0 p.1 k ∙ rw there (or_true (is_eq (cmp p.0 k))))
+
+  pub absent_before : (most : ℕ) (old new given : List (K × V)) (error : InsertError K V) → IsAscending cmp old → new ≡ put_all (put_pair cmp) old given → IsFailureOf cmp most new error → has cmp old (pair_of error).0 ≡ false
+  absent_before most old new given error ascending came failed =
+      not_before _ _ (λ there. ap (λ l. has cmp l (pair_of error).0) came ∙ still_there old given (pair_of error).0 ascending there) (failed_absent most (length new) (has cmp new) error failed)
+
+module _ {K : Type 0} {cmp : K → K → Ordering} (total : IsTotalOrder cmp) where
+  pub key_absent_before : (most : ℕ) (old new given : List K) (error : InsertError K (Unit {0})) → IsStrictlySortedBy cmp old → new ≡ put_all (with_key cmp) old given → IsKeyFailureOf cmp most new error → holds cmp old (pair_of error).0 ≡ false
+  key_absent_before most old new given error sorted came failed =
+      not_before _ _ (λ there. ap (λ l. holds cmp l (pair_of error).0) came ∙ holds_all total old given (pair_of error).0 sorted ∙ rw there refl) (failed_absent most (length new) (holds cmp new) error failed)
+
+-- what two clauses say of one error
+pub of_both : {T E : Type 0} (r : Result T E) (P Q S : E → Type 0) → ((e : E) → P e → Q e → S e) → IfErr r P → IfErr r Q → IfErr r S
+of_both (Ok x) P Q S both p q = tt
+of_both (Err e) P Q S both p q = both e p q

@@ -18,13 +18,17 @@ fn first_to_leave(many: u64) -> u64 {
     many.saturating_sub((many / 2).min(20))
 }
 
-/// The pair that a refused insertion hands back.
-pub fn handed_back<K: Drop, V: Drop>(refusal: InsertError<K, V>) -> (K, V) {
-    match refusal {
-        InsertError::OutOfMemory(key, value) => (key, value),
-        InsertError::Full(key, value) => (key, value),
+/// The pair that an insertion returns if memory is exhausted. There is none in `Full`: nothing here
+/// has that many pairs, so a test that meets it fails.
+pub fn handed_back<K: Drop, V: Drop>(error: InsertError<K, V>) -> Option<(K, V)> {
+    match error {
+        InsertError::OutOfMemory(key, value) => Some((key, value)),
+        InsertError::Full(_key, _value) => None,
     }
 }
+
+/// What `extend` returned.
+pub type Grown<C> = Result<(), InsertError<<C as Moves>::Key, <C as Moves>::Value>>;
 
 /// A map or a set, of which many leave and come back.
 pub trait Moves: Drop + Sized {
@@ -46,8 +50,8 @@ pub trait Moves: Drop + Sized {
     /// Whether a key leaves, where it is there.
     fn loses(&mut self, key: &Self::Key) -> bool;
 
-    /// Whether the keys of the numbers up to an end come, of which the first so many are there.
-    fn grows_to(&mut self, alloc: Global, many: u64, end: u64) -> Result<bool, AllocError>;
+    /// The keys of the numbers up to an end come, of which the first so many are there.
+    fn grows_to(&mut self, alloc: Global, many: u64, end: u64) -> Result<Grown<Self>, AllocError>;
 
     /// All from a key on leave.
     fn splits_at(
@@ -92,9 +96,9 @@ impl<K: Sample, A: Argument<K> + Told> Moves for BPlusTreeMap<K, u64, A> {
     }
 
     // Those that are there do not come again.
-    fn grows_to(&mut self, alloc: Global, many: u64, end: u64) -> Result<bool, AllocError> {
+    fn grows_to(&mut self, alloc: Global, many: u64, end: u64) -> Result<Grown<Self>, AllocError> {
         let pairs = pairs_of(alloc, many, end, Order::Ascending)?;
-        Ok(self.extend(pairs).is_ok())
+        Ok(self.extend(pairs))
     }
 
     fn splits_at(&mut self, key: &K) -> Result<Self, SplitError<Self, MoveError<K, u64>>> {
@@ -145,9 +149,9 @@ impl<K: Sample> Moves for BPlusTreeSet<K> {
     }
 
     // All come again.
-    fn grows_to(&mut self, alloc: Global, _many: u64, end: u64) -> Result<bool, AllocError> {
+    fn grows_to(&mut self, alloc: Global, _many: u64, end: u64) -> Result<Grown<Self>, AllocError> {
         let keys = keys_of(alloc, end, Order::Ascending)?;
-        Ok(self.extend(keys).is_ok())
+        Ok(self.extend(keys))
     }
 
     fn splits_at(&mut self, key: &K) -> Result<Self, SplitError<Self, MoveError<K, ()>>> {
@@ -187,10 +191,10 @@ pub type MovedKeys<K> = Moved<BPlusTreeSet<K>>;
 // What is in hand comes back, where there is something.
 fn comes_back<C: Moves>(to: &mut C, in_hand: MoveError<C::Key, C::Value>) -> bool {
     match in_hand {
-        MoveError::NotStored(back) => {
-            let (key, value) = handed_back(back);
-            to.puts(key, value)
-        }
+        MoveError::NotStored(error) => match handed_back(error) {
+            Some((key, value)) => to.puts(key, value),
+            None => false,
+        },
         MoveError::NotTaken => true,
     }
 }
@@ -228,17 +232,23 @@ impl<C: Moves> Moved<C> {
         }
     }
 
-    // Three more keys come, behind all others. Where one is refused, those that came leave again.
+    // Three more keys come, behind all others. If one fails, it is one of the three, and those that
+    // came leave again.
     fn grows(&mut self, alloc: Global) -> Result<bool, AllocError> {
         let end = self.many.saturating_add(3);
-        if self.here.grows_to(alloc, self.many, end)? {
+        let Err(error) = self.here.grows_to(alloc, self.many, end)? else {
             return Ok(self.here.count() == end as usize);
-        }
+        };
+        let Some((key, _value)) = handed_back(error) else {
+            return Ok(false);
+        };
         let mut is_well = true;
+        let mut is_new = false;
         for number in self.many..end {
+            is_new |= is_sample(&key, number);
             is_well &= self.loses(alloc, number);
         }
-        refusal(is_well)
+        refusal(is_well && is_new)
     }
 
     // The key of a number leaves, where it is there.
@@ -466,23 +476,24 @@ impl<K: Sample> Moved<BPlusTreeSet<K>> {
         let is_its = is_sample(&gone, number);
         match self.here.insert(gone) {
             Ok(is_new) => Ok(is_new && is_its),
-            Err(back) => {
-                let (gone, ()) = handed_back(back);
-                refusal(self.here.insert(gone).is_ok())
-            }
+            Err(error) => match handed_back(error) {
+                Some((gone, ())) => refusal(self.here.insert(gone).is_ok()),
+                None => Ok(false),
+            },
         }
     }
 
-    // The key of a number takes the place of its equal. Where that is refused, the one that was
-    // there comes back.
+    // The key of a number replaces its equal. If that fails, the one that was there comes back.
     fn replaces(&mut self, alloc: Global, number: u64) -> Result<bool, AllocError> {
         match self.here.replace(K::sample(alloc, number)?) {
             Ok(Some(gone)) => Ok(is_sample(&gone, number)),
             Ok(None) => Ok(false),
             Err(ReplaceError::NotTaken(key)) => refusal(is_sample(&key, number)),
-            Err(ReplaceError::NotStored(_back, gone)) => match gone {
-                Some(gone) => refusal(self.here.insert(gone).is_ok()),
-                None => refusal(true),
+            Err(ReplaceError::NotStored(error, gone)) => match (handed_back(error), gone) {
+                (Some((key, ())), Some(gone)) => {
+                    refusal(is_sample(&key, number) && self.here.insert(gone).is_ok())
+                }
+                _ => Ok(false),
             },
         }
     }

@@ -110,10 +110,10 @@ where
     // Puts the pair in hand, where there is one.
     fn is_stored(&mut self, in_hand: MoveError<S::K, u64>) -> bool {
         match in_hand {
-            MoveError::NotStored(back) => {
-                let (key, value) = handed_back(back);
-                self.puts(key, value) == Ok(true)
-            }
+            MoveError::NotStored(error) => match handed_back(error) {
+                Some((key, value)) => self.puts(key, value) == Ok(true),
+                None => false,
+            },
             MoveError::NotTaken => true,
         }
     }

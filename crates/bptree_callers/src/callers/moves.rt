@@ -1,7 +1,8 @@
 //! Callers that move many pairs or keys at once, and one that hands a key out.
-ghost use Rattle.std.specs.Prelude.{◌≡◌, ◌∷◌, [], false, IfOk, OnErr, OnOk, None};
+ghost use Rattle.std.specs.Prelude.{◌≡◌, ◌≢◌, ◌-◌, ◌^◌, ◌∷◌, [], true, false, length, IfErr, IfOk, OnErr, OnOk, None, Some};
 ghost use Rattle.bptree_keys.specs.Contents.{has, put};
 ghost use Rattle.bptree_maps.specs.Keys.{holds, key_found};
+ghost use Rattle.bptree_tree.specs.Refusal.{pair_of};
 ghost use Rattle.bptree_callers.specs.Words.{HoldsEither, KeepsOthers, MovesOne, MovesOneKey, PutsLastOfEach};
 
 use bptree_arguments::argument::Argument;
@@ -92,4 +93,169 @@ fn holds_what_came<K: Key>(
 {
     let _len = set.len();
     set.extend(keys)
+}
+
+// Of an empty map nothing is appended: that never fails, and nothing changes.
+fn append_of_nothing<K: Key, V: Drop, A: Argument<K>>(
+    map: &mut BPlusTreeMap<K, V, A>,
+    other: &mut BPlusTreeMap<K, V, A>,
+)
+    requires { other.old ≡ [] }
+    ensures here { map.new ≡ map.old }
+    ensures there { other.new ≡ [] }
+{
+    match map.append(other) {
+        Ok(()) => {}
+        Err(_) => unreachable!(),
+    }
+}
+
+// The same of a set.
+fn append_of_no_keys<K: Key>(set: &mut BPlusTreeSet<K>, other: &mut BPlusTreeSet<K>)
+    requires { other.old ≡ [] }
+    ensures here { set.new ≡ set.old }
+    ensures there { other.new ≡ [] }
+{
+    match set.append(other) {
+        Ok(()) => {}
+        Err(_) => unreachable!(),
+    }
+}
+
+// Whether a move ended because the map, as it is left, has the most pairs. Without memory it has
+// room.
+fn append_is_full<K: Key, V: Drop, A: Argument<K>>(
+    map: &mut BPlusTreeMap<K, V, A>,
+    other: &mut BPlusTreeMap<K, V, A>,
+) -> Option<bool>
+    ensures full { result ≡ Some true → length map.new ≡ 2 ^ 64 - 1 }
+    ensures room { result ≡ Some false → length map.new ≢ 2 ^ 64 - 1 }
+{
+    match map.append(other) {
+        Err(MoveError::NotStored(InsertError::Full(..))) => Some(true),
+        Err(MoveError::NotStored(InsertError::OutOfMemory(..))) => Some(false),
+        _ => None,
+    }
+}
+
+// The same of a set.
+fn append_of_keys_is_full<K: Key>(
+    set: &mut BPlusTreeSet<K>,
+    other: &mut BPlusTreeSet<K>,
+) -> Option<bool>
+    ensures full { result ≡ Some true → length set.new ≡ 2 ^ 64 - 1 }
+    ensures room { result ≡ Some false → length set.new ≢ 2 ^ 64 - 1 }
+{
+    match set.append(other) {
+        Err(MoveError::NotStored(InsertError::Full(..))) => Some(true),
+        Err(MoveError::NotStored(InsertError::OutOfMemory(..))) => Some(false),
+        _ => None,
+    }
+}
+
+// The same of the pairs that an iterator gives.
+fn extend_is_full<K: Key, V: Drop, A: Argument<K>>(
+    map: &mut BPlusTreeMap<K, V, A>,
+    pairs: Vec<(K, V)>,
+) -> Option<bool>
+    ensures full { result ≡ Some true → length map.new ≡ 2 ^ 64 - 1 }
+    ensures room { result ≡ Some false → length map.new ≢ 2 ^ 64 - 1 }
+{
+    match map.extend(pairs) {
+        Err(InsertError::Full(..)) => Some(true),
+        Err(InsertError::OutOfMemory(..)) => Some(false),
+        Ok(()) => None,
+    }
+}
+
+// The same of keys.
+fn extend_with_keys_is_full<K: Key>(set: &mut BPlusTreeSet<K>, keys: Vec<K>) -> Option<bool>
+    ensures full { result ≡ Some true → length set.new ≡ 2 ^ 64 - 1 }
+    ensures room { result ≡ Some false → length set.new ≢ 2 ^ 64 - 1 }
+{
+    match set.extend(keys) {
+        Err(InsertError::Full(..)) => Some(true),
+        Err(InsertError::OutOfMemory(..)) => Some(false),
+        Ok(()) => None,
+    }
+}
+
+// A pair whose key was present is never the one that fails.
+fn extend_present<K: Key, V: Drop, A: Argument<K>>(
+    map: &mut BPlusTreeMap<K, V, A>,
+    pairs: Vec<(K, V)>,
+) -> Result<(), InsertError<K, V>>
+    ensures { IfErr result (λ error. has K.cmp map.old (pair_of error).0 ≡ false) }
+{
+    let _len = map.len();
+    map.extend(pairs)
+}
+
+// And a key that was present is not.
+fn extend_with_present_keys<K: Key>(
+    set: &mut BPlusTreeSet<K>,
+    keys: Vec<K>,
+) -> Result<(), InsertError<K, ()>>
+    ensures { IfErr result (λ error. holds K.cmp set.old (pair_of error).0 ≡ false) }
+{
+    let _len = set.len();
+    set.extend(keys)
+}
+
+// A split needs memory, and is never full.
+fn splits_without_being_full<K: Key, V: Drop, A: Argument<K>>(
+    map: &mut BPlusTreeMap<K, V, A>,
+    k: &K,
+) -> bool
+    ensures { result ≡ true → has K.cmp map.new k.now ≡ false }
+{
+    let _len = map.len();
+    match map.split_off(k) {
+        Ok(_) => true,
+        Err(SplitError::NotAll(_, MoveError::NotStored(InsertError::Full(..)))) => unreachable!(),
+        Err(_) => false,
+    }
+}
+
+// A key that is present is replaced, or memory is exhausted: its set is never full.
+fn replaces_a_present_key<K: Key>(set: &mut BPlusTreeSet<K>, k: K) -> Result<Option<K>, AllocError>
+    requires { holds K.cmp set.old k ≡ true }
+    ensures { IfOk result (λ gone. gone ≡ key_found K.cmp set.old k) }
+{
+    match set.replace(k) {
+        Ok(gone) => Ok(gone),
+        Err(ReplaceError::NotTaken(_)) => Err(AllocError),
+        Err(ReplaceError::NotStored(InsertError::OutOfMemory(..), _)) => Err(AllocError),
+        Err(ReplaceError::NotStored(InsertError::Full(..), _)) => unreachable!(),
+    }
+}
+
+// A key that is absent is put in, or returned by the insertion: nothing is to be removed.
+fn replaces_an_absent_key<K: Key>(
+    set: &mut BPlusTreeSet<K>,
+    k: K,
+) -> Result<Option<K>, InsertError<K, ()>>
+    requires { holds K.cmp set.old k ≡ false }
+    ensures { IfErr result (λ error. (pair_of error).0 ≡ k) }
+{
+    match set.replace(k) {
+        Ok(gone) => Ok(gone),
+        Err(ReplaceError::NotTaken(_)) => unreachable!(),
+        Err(ReplaceError::NotStored(error, _)) => Err(error),
+    }
+}
+
+// `Full` means that the set has the most keys, that nothing has changed and that no key has left.
+// Without memory the set, as it is left, has room.
+fn replace_is_full<K: Key>(set: &mut BPlusTreeSet<K>, k: K) -> Option<bool>
+    ensures full { result ≡ Some true → length set.old ≡ 2 ^ 64 - 1 }
+    ensures unchanged { result ≡ Some true → set.new ≡ set.old }
+    ensures room { result ≡ Some false → length set.new ≢ 2 ^ 64 - 1 }
+{
+    match set.replace(k) {
+        Err(ReplaceError::NotStored(InsertError::Full(..), Some(_))) => unreachable!(),
+        Err(ReplaceError::NotStored(InsertError::Full(..), None)) => Some(true),
+        Err(ReplaceError::NotStored(InsertError::OutOfMemory(..), _)) => Some(false),
+        _ => None,
+    }
 }

@@ -51,6 +51,43 @@ fn empties_a_part_of_a_set<K: Key>(
     set.remove_range(Some(lo), Some(hi))
 }
 
+// Where no pair is between two keys, nothing fails and nothing changes.
+fn empties_an_empty_part_of_a_tree<S: NodeStore>(tree: &mut BPlusTree<S>, lo: &S::K, hi: &S::K)
+    requires { between_keys S.K.cmp tree.old.contents lo.now hi.now ≡ [] }
+    ensures { tree.new.contents ≡ tree.old.contents }
+{
+    match tree.remove_range(Some(lo), Some(hi)) {
+        Ok(0) => {}
+        _ => unreachable!(),
+    }
+}
+
+// The same of a map.
+fn empties_an_empty_part<K: Key, V: Drop, A: Argument<K>>(
+    map: &mut BPlusTreeMap<K, V, A>,
+    lo: &K,
+    hi: &K,
+)
+    requires { between_keys K.cmp map.old lo.now hi.now ≡ [] }
+    ensures { map.new ≡ map.old }
+{
+    match map.remove_range(Some(lo), Some(hi)) {
+        Ok(0) => {}
+        _ => unreachable!(),
+    }
+}
+
+// The same of a set.
+fn empties_an_empty_part_of_a_set<K: Key>(set: &mut BPlusTreeSet<K>, lo: &K, hi: &K)
+    requires { keys_between K.cmp set.old (Some lo.now) (Some hi.now) ≡ [] }
+    ensures { set.new ≡ set.old }
+{
+    match set.remove_range(Some(lo), Some(hi)) {
+        Ok(0) => {}
+        _ => unreachable!(),
+    }
+}
+
 // All values are halved, and the pairs whose values become 0 leave.
 fn halves<K: Key, A: Argument<K>>(
     map: &mut BPlusTreeMap<K, u64, A>,

@@ -1,5 +1,5 @@
 //! Callers that change a value in place or put one, and those that read by bounds and places.
-ghost use Rattle.std.specs.Prelude.{◌≡◌, [], true, false, None, Ok, Some, IfErr, OnOk, map as each, slice_get};
+ghost use Rattle.std.specs.Prelude.{◌≡◌, ◌<◌, ◌-◌, ◌^◌, [], true, false, length, None, Ok, Some, IfErr, IsOk, OnOk, map as each, slice_get};
 ghost use Rattle.std.specs.Map.{keys_of};
 ghost use Rattle.std.specs.Option.{option_map};
 ghost use Rattle.bptree_keys.specs.Contents.{has};
@@ -51,6 +51,33 @@ fn counts_on<K: Key, A: Argument<K>>(map: &mut BPlusTreeMap<K, u64, A>, k: K)
     match map.get_or_insert_with(k, || unreachable!()) {
         Ok(count) => *count = count.wrapping_add(1),
         Err(_) => unreachable!(),
+    }
+}
+
+// A new key does not fit into a map of the most pairs: that is `Full`, whatever memory there is.
+fn counts_where_full<K: Key, A: Argument<K>>(map: &mut BPlusTreeMap<K, u64, A>, k: K) -> K
+    requires full { length map.old ≡ 2 ^ 64 - 1 }
+    requires new { has K.cmp map.old k ≡ false }
+    ensures { result ≡ k }
+{
+    match map.get_or_insert_with(k, || 0) {
+        Err(InsertError::Full(k, _)) => k,
+        _ => unreachable!(),
+    }
+}
+
+// A map of fewer pairs has room: only memory can be exhausted.
+fn counts_where_room<K: Key, A: Argument<K>>(
+    map: &mut BPlusTreeMap<K, u64, A>,
+    k: K,
+) -> Result<u64, AllocError>
+    requires { length map.old < 2 ^ 64 - 1 }
+    ensures { has K.cmp map.old k ≡ true → IsOk result }
+{
+    match map.get_or_insert_with(k, || 0) {
+        Ok(count) => Ok(*count),
+        Err(InsertError::OutOfMemory(_key, _value)) => Err(AllocError),
+        Err(InsertError::Full(_key, _value)) => unreachable!(),
     }
 }
 

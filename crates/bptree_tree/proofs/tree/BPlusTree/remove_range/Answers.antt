@@ -46,8 +46,7 @@ returns-clause-empty g c = λ none_between.
     let lo = option_copied c.args.lo in
     let hi = option_copied c.args.hi in
     let cmp = g.S.K.Ord.cmp in
-    let none = rw c.if-branch.false at c.in_ok-drop_first_between.ensures.ok in
-    (
+    let none = rw c.if-branch.false at c.in_ok-drop_first_between.ensures.ok in (
       ap Ok (now.count ∙ ap length (none_in_parts now.left _ (sym now.parts ∙ none_between)).0),
       none.1 ∙ sym (all_fail (λ pair. not (falls_short cmp lo pair.0) && stays_below cmp hi pair.0) c.pairs.self.contents none.0) ∙ now.others ∙ all_fail (λ pair. not (falls_short cmp lo pair.0) && stays_below cmp hi pair.0) c.args.self.now.contents none_between,
     )
