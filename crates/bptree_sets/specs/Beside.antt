@@ -1,5 +1,5 @@
 -- What is left of two sets whose keys are held against each other, by the way that they are gone through.
-use Rattle.std.specs.Prelude.{◌≡◌, ◌^◌, ◌<◌, ◌≤◌, ◌+◌, ℕ, Bool, true, false, List, Option, filter, length, if◌then◌else◌}
+use Rattle.std.specs.Prelude.{◌≡◌, ◌^◌, ◌<◌, ◌≤◌, ◌+◌, ◌-◌, ℕ, min, Bool, true, false, List, Option, Some, filter, length, if◌then◌else◌}
 use Rattle.std.specs.declared.cmp.Ordering.{Ordering}
 use Rattle.std.specs.Borrow.{Bor}
 use Rattle.std.specs.List.{filter_map}
@@ -45,6 +45,14 @@ module _ {K : Type 0} (cmp : K → K → Ordering) where
 -- how many are kept of so many keys that are held and so many that are not
 abbrev pub count_kept : (Bool → Bool) → ℕ → ℕ → ℕ
 count_kept keeps held lacking = (if keeps true then held else 0) + (if keeps false then lacking else 0)
+
+-- the bounds of how many keys a first set of m keys alone has, beside one of n: all that may be absent there, and all
+abbrev pub IsHintOfDifference : ℕ → ℕ → ℕ × Option ℕ → Type 0
+IsHintOfDifference m n hint = (hint.0 ≡ m - n) × (hint.1 ≡ Some m)
+
+-- the bounds of how many keys both have
+abbrev pub IsHintOfIntersection : ℕ → ℕ → ℕ × Option ℕ → Type 0
+IsHintOfIntersection m n hint = (hint.0 ≡ 0) × (hint.1 ≡ Some (min m n))
 
 -- what is told bounds the keys that are kept of a list, however many of them another holds: so long are both lists
 abbrev pub BoundsKept : (Bool → Bool) → ℕ → ℕ → ℕ × Option ℕ → Type 0

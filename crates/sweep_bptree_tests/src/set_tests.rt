@@ -21,9 +21,19 @@ fn gives_both(first: &Set, second: &Set) -> bool {
     all
 }
 
+// Of the keys 1 and 2, of which the other set has 1, one is left at least and two at most, and it is
+// 2. The hint follows the lengths of both sets.
+fn leaves_one(first: &Set, second: &Set) -> bool {
+    let mut keys = second.difference(first);
+    keys.size_hint() == (1, Some(2))
+        && keys.next().copied() == Some(2)
+        && keys.size_hint() == (0, Some(0))
+        && second.intersection(first).size_hint() == (0, Some(1))
+}
+
 fn is_joined(alloc: Global, first: &Set) -> bool {
     match set_of(alloc, &[1, 2]) {
-        Ok(second) => gives_both(first, &second),
+        Ok(second) => gives_both(first, &second) && leaves_one(first, &second),
         Err(_) => false,
     }
 }

@@ -1,5 +1,5 @@
 //! Callers of sets, of their iterators and of unions.
-ghost use Rattle.std.specs.Prelude.{◌≡◌, ◌∷◌, ◌≤◌, [], ◌||◌, ◌&&◌, length, not, true, false, slice_get, is_some, Contains, IfOk, IfSome, IsOkUnless, IsTrue, OnErr, Ok, Some, None};
+ghost use Rattle.std.specs.Prelude.{◌≡◌, ◌∷◌, ◌-◌, ◌≤◌, min, [], ◌||◌, ◌&&◌, length, not, true, false, slice_get, is_some, Contains, IfOk, IfSome, IsOkUnless, IsTrue, OnErr, Ok, Some, None};
 ghost use Rattle.std.specs.declared.cmp.Ordering.TheVariants.{Equal};
 ghost use Rattle.std.specs.Map.Iter.{TakesFirst, deref};
 ghost use Rattle.std.specs.Option.{option_copied};
@@ -12,8 +12,8 @@ ghost use Rattle.bptree_callers.specs.Words.{AreEndsOfTwo, HoldsEither, LendsKey
 
 use bptree_keys::key::Key;
 use bptree_sets::set::{
-    BPlusTreeSet, Difference, Intersection, IntoIter, Iter, SymmetricDifference, Union,
-    laws_of_keys, laws_of_two_sets, laws_of_union,
+    BPlusTreeSet, Difference, Intersection, IntoIter, Iter, Lacking, Shared, Sieve,
+    SymmetricDifference, Union, laws_of_keys, laws_of_two_sets, laws_of_union,
 };
 use bptree_tree::InsertError;
 use std::alloc::{AllocError, Global};
@@ -243,6 +243,17 @@ fn bounds_an_intersection<K: Key>(keys: &Intersection<'_, K>) -> usize
     ensures { length keys.now ≤ result }
 {
     keys.size_hint().1.unwrap_or(0)
+}
+
+// The hints of a difference and of an intersection are those of the lengths of both sets.
+fn hints_by_lengths(first: usize, second: usize) -> ((usize, Option<usize>), (usize, Option<usize>))
+    ensures difference { result.0 ≡ (first - second, Some first) }
+    ensures intersection { result.1 ≡ (0, Some (min first second)) }
+{
+    (
+        Lacking::hint((first, second)),
+        Shared::hint((first, second)),
+    )
 }
 
 // Between what one side has more and the sum of both.

@@ -1,5 +1,6 @@
 //! The keys of a set that another set does not hold.
 ghost use Rattle.std.specs.Prelude.{not};
+ghost use Rattle.bptree_sets.specs.Beside.{IsHintOfDifference};
 
 use crate::set::sifted::Sieve;
 
@@ -8,6 +9,8 @@ pub struct Lacking;
 
 impl Sieve for Lacking {
     ghost keeps = { not };
+
+    ghost tells = { IsHintOfDifference };
 
     fn is_kept(held: bool) -> bool {
         !held

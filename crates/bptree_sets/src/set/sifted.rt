@@ -1,5 +1,5 @@
 //! The keys of a set that another set holds, or those that it does not hold.
-ghost use Rattle.std.specs.Prelude.{◌≡◌, Bool, length, IfSome, IsSome, ⊤};
+ghost use Rattle.std.specs.Prelude.{◌≡◌, ℕ, Bool, Option, length, IfSome, IsSome, ⊤};
 ghost use Rattle.std.specs.Iterator.{at_most, item_count, UpTo};
 ghost use Rattle.std.specs.Iterator.SizeHint.{IsWithinCount};
 ghost use Rattle.std.specs.List.Sorted.{IsStrictlySortedBy};
@@ -20,12 +20,16 @@ use std::marker::{Model, PhantomData};
 pub trait Sieve {
     ghost keeps: { Bool → Bool };
 
+    /// The hint is that of sets of these lengths.
+    ghost tells: { ℕ → ℕ → ℕ × Option ℕ → Type 0 };
+
     /// Whether a key is given that the other set holds, or does not hold.
     fn is_kept(held: bool) -> bool
         ensures { result ≡ keeps held };
 
-    /// What is told of how many of the first set's keys are given, by the lengths of both sets.
+    /// Bounds of how many of the first set's keys are given, by the lengths of both sets.
     fn hint(lens: (usize, usize)) -> (usize, Option<usize>)
+        ensures exact { tells lens.0 lens.1 result }
         ensures bounds { BoundsKept keeps lens.0 lens.1 result }
         ensures bounded { IsSome result.1 };
 }
