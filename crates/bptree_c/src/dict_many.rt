@@ -84,9 +84,10 @@ fn copy_values(mut left: Iter<'_, Bytes, u64, Count>, out: &mut [u64]) -> usize
     count
 }
 
-/// Copies pairs from a place on, in the order of their keys, until the records are used up, the
-/// next key does not fit into what is left of the bytes, or there are no more: the keys' bytes one
-/// after another, and of each pair a record of its key's length and its value. It gives how many.
+/// Copies pairs from an index on, in the order of their keys: the keys' bytes one after another,
+/// and of each pair a record of its key's length and its value. It stops if the records are used
+/// up, the next key does not fit into what is left of the bytes, or there are no more. It returns
+/// how many.
 #[unsafe(no_mangle)]
 pub extern "C" fn bptree_dict_page(
     alloc: Global,
