@@ -1,4 +1,6 @@
 //! The keys of a set that another set holds too.
+ghost use Rattle.std.specs.Prelude.{◌≡◌, min, Some};
+
 use crate::set::sifted::Sieve;
 
 /// The keys that the other set holds too.
@@ -6,6 +8,8 @@ pub struct Shared;
 
 impl Sieve for Shared {
     ghost keeps = { λ held. held };
+
+    ghost tells = { λ first second hint. hint ≡ (0, Some (min first second)) };
 
     fn is_kept(held: bool) -> bool {
         held
