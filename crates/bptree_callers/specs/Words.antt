@@ -16,7 +16,7 @@ use Rattle.bptree_keys.specs.Neighbours.{IsBefore}
 use Rattle.bptree_keys.specs.Ranges.{between}
 use Rattle.bptree_keys.specs.declared.node_id.NodeId.{NodeId}
 use Rattle.bptree_loading.specs.Loading.{last_value}
-use Rattle.bptree_maps.specs.Keys.{holds, keys_between, with_key}
+use Rattle.bptree_maps.specs.Keys.{holds, keys_between, keys_within, keys_without, with_key}
 use Rattle.bptree_sets.specs.Union.{union}
 use Rattle.bptree_nodes.specs.Inner.{Inner}
 use Rattle.bptree_nodes.specs.Leaf.{Leaf, set_value_at}
@@ -194,6 +194,13 @@ module _ {K : Type 0} (cmp : K → K → Ordering) where
   -- the union of two sets side by side
   abbrev pub union_of : List K × List K → List K
   union_of sets = union cmp sets.0 sets.1
+
+  -- the keys of the first of them that the second lacks, or holds
+  abbrev pub left_without : List K × List K → List K
+  left_without sets = keys_without cmp sets.0 sets.1
+
+  abbrev pub left_within : List K × List K → List K
+  left_within sets = keys_within cmp sets.0 sets.1
 
   -- the one key of another set was put in
   abbrev pub MovesOneKey : List K → List K → List K → List K → Type 0

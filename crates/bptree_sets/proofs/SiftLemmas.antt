@@ -1,12 +1,15 @@
 -- The keys of a list that are kept by whether another holds them: one by one, and how many.
-use Rattle.std.proofs.Common.{◌≡◌, ◌∙◌, ◌+◌, ◌-◌, ◌^◌, ◌≤◌, ℕ, min, suc, arith, List, [], ◌∷◌, Bool, true, false, not, cond, length, Option, refl, sym, ap}
+use Rattle.std.proofs.Common.{◌≡◌, ◌∙◌, ◌+◌, ◌-◌, ◌^◌, ℕ, min, suc, arith, List, [], ◌∷◌, Bool, true, false, not, cond, length, Option, Some, None, refl, sym, ap}
 use Rattle.std.specs.declared.cmp.Ordering.{Ordering}
+use Rattle.std.specs.Borrow.{Bor}
 use Rattle.std.specs.Cmp.{IsTotalOrder}
+use Rattle.std.specs.Iterator.{MakesProgress, item_count}
 use Rattle.std.specs.List.Sorted.{IsStrictlySortedBy}
 use Rattle.bptree_maps.specs.Keys.{holds, keys_within, keys_without}
-use Rattle.bptree_sets.specs.Beside.{AreSides, BoundsKept, count_kept, keys_sifted}
+use Rattle.bptree_sets.specs.Beside.{AreSides, BoundsKept, TakesFetched, TakesSifted, count_kept, keys_fetched, keys_sifted, sifted_of}
 use Rattle.bptree_sets.specs.Joined.{IsBoundedHint}
 use Rattle.bptree_sets.proofs.MemberLemmas.{both_parts, within_fits}
+use Rattle.bptree_sets.proofs.WalkLemmas.{fetched_within}
 
 module _ {K : Type 0} (cmp : K → K → Ordering) (keeps : Bool → Bool) where
   -- the first key is given, or passed by
@@ -53,3 +56,19 @@ module _ {K : Type 0} (cmp : K → K → Ordering) (keeps : Bool → Bool) where
   -- the same of two sides, whose lengths are told as numbers
   pub walked_bounds : IsTotalOrder cmp → (sides : List K × List K) → AreSides cmp sides → (m n : ℕ) (told : ℕ × Option ℕ) → m ≡ min (length sides.0) (2 ^ 64 - 1) → n ≡ min (length sides.1) (2 ^ 64 - 1) → BoundsKept keeps m n told → IsBoundedHint (length (keys_sifted cmp keeps sides.0 sides.1)) told
   walked_bounds total sides are m n told is is_too bounds = sifted_bounds total sides.0 sides.1 are.0 are.1 m n told (omega (arith, are.2, is)) (omega (arith, are.3, is_too)) bounds
+
+  -- where those are kept that both have, they are those that the first list has for the keys of the second
+  sifted_within : ((held : Bool) → keeps held ≡ held) → (keys others : List K) → keys_sifted cmp keeps keys others ≡ keys_within cmp keys others
+  sifted_within same [] others = refl
+  sifted_within same (k ∷ keys) others = rw (same (holds cmp others k)) (ap (λ l. cond (holds cmp others k) (k ∷ l) l) (sifted_within same keys others))
+
+  pub fetched_sifted : IsTotalOrder cmp → ((held : Bool) → keeps held ≡ held) → (keys others : List K) → IsStrictlySortedBy cmp keys → IsStrictlySortedBy cmp others → keys_fetched cmp keys others ≡ keys_sifted cmp keeps keys others
+  fetched_sifted total same keys others first second = fetched_within cmp total keys others first second ∙ sym (sifted_within same keys others)
+
+  -- so a step that takes of the one takes of the other
+  pub fetched_takes : IsTotalOrder cmp → ((held : Bool) → keeps held ≡ held) → (keys others left : List K) (r : Option (Bor K)) → IsStrictlySortedBy cmp keys → IsStrictlySortedBy cmp others → IsStrictlySortedBy cmp left → TakesFetched cmp (keys, others) r (keys, left) → TakesSifted cmp keeps (keys, others) r (keys, left)
+  fetched_takes total same keys others left r first second third takes = rw (← fetched_sifted total same keys others first second, ← fetched_sifted total same keys left first third) takes
+
+  pub sifted_goes : (old left : List K × List K) (r : Option (Bor K)) → TakesSifted cmp keeps old r left → MakesProgress (λ _. Unit {0}) (item_count (sifted_of cmp keeps)) old r left
+  sifted_goes old left None step = record { on = λ _. tt; keeps = tt; rests = λ _. tt }
+  sifted_goes old left (Some x) step = record { on = λ _. (tt, tt, rw step (omega arith)); keeps = tt; rests = λ _. tt }

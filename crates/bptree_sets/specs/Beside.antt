@@ -1,7 +1,8 @@
 -- What is left of two sets whose keys are held against each other, by the way that they are gone through.
-use Rattle.std.specs.Prelude.{◌≡◌, ◌^◌, ◌<◌, ◌≤◌, ◌+◌, ◌-◌, ℕ, min, Bool, true, false, List, Option, Some, filter, length, if◌then◌else◌}
+use Rattle.std.specs.Prelude.{◌≡◌, ◌^◌, ◌<◌, ◌≤◌, ◌+◌, ℕ, Bool, true, false, List, Option, filter, length, if◌then◌else◌}
 use Rattle.std.specs.declared.cmp.Ordering.{Ordering}
 use Rattle.std.specs.Borrow.{Bor}
+use Rattle.std.specs.Iterator.Runs.{EveryRun, ItemsMapTo}
 use Rattle.std.specs.List.{filter_map}
 use Rattle.std.specs.List.Sorted.{IsStrictlySortedBy}
 use Rattle.std.specs.Map.Iter.{TakesFirst, deref}
@@ -24,35 +25,36 @@ module _ {K : Type 0} (cmp : K → K → Ordering) where
   AreSides sides = IsStrictlySortedBy cmp sides.0 × IsStrictlySortedBy cmp sides.1 × (length sides.0 < 2 ^ 64) × (length sides.1 < 2 ^ 64)
 
   -- the keys that are left of those that are kept
-  abbrev pub sifted_left : (Bool → Bool) → List K → By K → List K
-  sifted_left keeps others (by.Seek keys) = keys_sifted keeps keys others
-  sifted_left keeps others (by.Fetch keys) = keys_fetched others keys
-  sifted_left keeps others (by.Walk sides) = keys_sifted keeps sides.0 sides.1
+  abbrev pub sifted_of : (Bool → Bool) → List K × List K → List K
+  sifted_of keeps both = keys_sifted keeps both.0 both.1
 
-  abbrev pub IsSound : By K → Type 0
-  IsSound (by.Seek keys) = IsStrictlySortedBy cmp keys
-  IsSound (by.Fetch keys) = IsStrictlySortedBy cmp keys
-  IsSound (by.Walk sides) = AreSides sides
+  -- what is left ascends, and for each key of the second list that of the first is given where those are kept that both have
+  abbrev pub IsSound : (Bool → Bool) → List K → By K → Type 0
+  IsSound keeps others (by.Seek keys) = IsStrictlySortedBy cmp keys
+  IsSound keeps others (by.Fetch keys) = IsStrictlySortedBy cmp keys × IsStrictlySortedBy cmp others × ((held : Bool) → keeps held ≡ held)
+  IsSound keeps others (by.Walk sides) = AreSides sides
 
   -- a step gave the first of the keys that are kept of a list by another, and left the others of them
   abbrev pub TakesSifted : (Bool → Bool) → List K × List K → Option (Bor K) → List K × List K → Type 0
   TakesSifted keeps old r new = TakesFirst deref (keys_sifted keeps old.0 old.1) r (keys_sifted keeps new.0 new.1)
 
+  -- each run of such steps shows the keys that are kept of what was left, in order
+  abbrev pub ShowsSifted : (Bool → Bool) → Type 0
+  ShowsSifted keeps = EveryRun (TakesSifted keeps) (λ p. ItemsMapTo p deref (keys_sifted keeps p.from.0 p.from.1))
+
   -- the same of those that a list has for the keys of another
   abbrev pub TakesFetched : List K × List K → Option (Bor K) → List K × List K → Type 0
   TakesFetched old r new = TakesFirst deref (keys_fetched old.0 old.1) r (keys_fetched new.0 new.1)
 
+-- what is left of both sets
+abbrev pub left_of_both : {K : Type 0} → List K → By K → List K × List K
+left_of_both others (by.Seek keys) = (keys, others)
+left_of_both others (by.Fetch keys) = (others, keys)
+left_of_both others (by.Walk sides) = sides
+
 -- how many are kept of so many keys that are held and so many that are not
 abbrev pub count_kept : (Bool → Bool) → ℕ → ℕ → ℕ
 count_kept keeps held lacking = (if keeps true then held else 0) + (if keeps false then lacking else 0)
-
--- the bounds of how many keys a first set of m keys alone has, beside one of n: all that may be absent there, and all
-abbrev pub IsHintOfDifference : ℕ → ℕ → ℕ × Option ℕ → Type 0
-IsHintOfDifference m n hint = (hint.0 ≡ m - n) × (hint.1 ≡ Some m)
-
--- the bounds of how many keys both have
-abbrev pub IsHintOfIntersection : ℕ → ℕ → ℕ × Option ℕ → Type 0
-IsHintOfIntersection m n hint = (hint.0 ≡ 0) × (hint.1 ≡ Some (min m n))
 
 -- what is told bounds the keys that are kept of a list, however many of them another holds: so long are both lists
 abbrev pub BoundsKept : (Bool → Bool) → ℕ → ℕ → ℕ × Option ℕ → Type 0

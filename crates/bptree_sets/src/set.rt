@@ -9,6 +9,7 @@ ghost use Rattle.std.specs.Option.{option_copied, option_copied as given};
 ghost use Rattle.bptree_tree.specs.Refusal.{pair_of};
 ghost use Rattle.bptree_maps.specs.Keys.{holds, key_found, keys_between, keys_within, keys_without, IsDisjoint, IsSubset};
 ghost use Rattle.bptree_maps.specs.Rows.{inner_row_of_set};
+ghost use Rattle.bptree_sets.specs.Beside.{ShowsSifted};
 ghost use Rattle.bptree_sets.specs.Rows.{set_row};
 ghost use Rattle.bptree_maps.specs.Gathering.{AreFewFor, IsSetOf};
 ghost use Rattle.bptree_maps.specs.KeyChanges.{IsFullForKey, PutsKey, RemovesKey};
@@ -270,9 +271,9 @@ impl<K: Key> BPlusTreeSet<K> {
     /// Both sets are walked side by side, with a comparison for each key of either. Where this set
     /// has at most a sixteenth of the other's keys, each of its keys is looked up in the other.
     pub fn difference<'a>(&'a self, other: &'a Self) -> Difference<'a, K>
-        ensures rest { result ≡ keys_without K.cmp self.now other.now }
-        ensures ascending { IsStrictlySortedBy K.cmp result }
-        ensures runs { ShowsInOrder (deref {X = K}) }
+        ensures rest { result ≡ (self.now, other.now) }
+        ensures ascending { IsStrictlySortedBy K.cmp (keys_without K.cmp self.now other.now) }
+        ensures runs { ShowsSifted K.cmp not }
     {
         Sifted::new(self, other)
     }
@@ -283,9 +284,9 @@ impl<K: Key> BPlusTreeSet<K> {
     /// Both sets are walked side by side, with a comparison for each key of either. Where one has
     /// at most a sixteenth of the other's keys, each of its keys is looked up in the other.
     pub fn intersection<'a>(&'a self, other: &'a Self) -> Intersection<'a, K>
-        ensures rest { result ≡ keys_within K.cmp self.now other.now }
-        ensures ascending { IsStrictlySortedBy K.cmp result }
-        ensures runs { ShowsInOrder (deref {X = K}) }
+        ensures rest { result ≡ (self.now, other.now) }
+        ensures ascending { IsStrictlySortedBy K.cmp (keys_within K.cmp self.now other.now) }
+        ensures runs { ShowsSifted K.cmp (λ held. held) }
     {
         if other.len() <= self.len() / SEEK_RATIO {
             return Sifted::fetching(self, other);

@@ -1,5 +1,5 @@
 //! Callers of sets, of their iterators and of unions.
-ghost use Rattle.std.specs.Prelude.{◌≡◌, ◌∷◌, ◌-◌, ◌≤◌, min, [], ◌||◌, ◌&&◌, length, not, true, false, slice_get, is_some, Contains, IfOk, IfSome, IsOkUnless, IsTrue, OnErr, Ok, Some, None};
+ghost use Rattle.std.specs.Prelude.{◌≡◌, ◌∷◌, ◌≤◌, ◌-◌, min, [], ◌||◌, ◌&&◌, length, not, true, false, slice_get, is_some, Contains, IfOk, IfSome, IsOkUnless, IsTrue, OnErr, Ok, Some, None};
 ghost use Rattle.std.specs.declared.cmp.Ordering.TheVariants.{Equal};
 ghost use Rattle.std.specs.Map.Iter.{TakesFirst, deref};
 ghost use Rattle.std.specs.Option.{option_copied};
@@ -8,12 +8,12 @@ ghost use Rattle.bptree_maps.specs.Keys.{holds, gathered, keys_within, keys_with
 ghost use Rattle.bptree_sets.specs.Symmetric.{symmetric};
 ghost use Rattle.bptree_sets.specs.TwoSets.{IsDifference, IsIntersection, IsSymmetricDifference};
 ghost use Rattle.bptree_sets.specs.Union.{union};
-ghost use Rattle.bptree_callers.specs.Words.{AreEndsOfTwo, HoldsEither, LendsKeyAt, OkIs, PopsFirstOfTwo, PopsLastOfTwo, held_between, union_of};
+ghost use Rattle.bptree_callers.specs.Words.{AreEndsOfTwo, HoldsEither, LendsKeyAt, OkIs, PopsFirstOfTwo, PopsLastOfTwo, held_between, left_within, left_without, union_of};
 
 use bptree_keys::key::Key;
 use bptree_sets::set::{
-    BPlusTreeSet, Difference, Intersection, IntoIter, Iter, Lacking, Shared, Sieve,
-    SymmetricDifference, Union, laws_of_keys, laws_of_two_sets, laws_of_union,
+    BPlusTreeSet, Difference, Intersection, IntoIter, Iter, SymmetricDifference, Union,
+    laws_of_keys, laws_of_two_sets, laws_of_union,
 };
 use bptree_tree::InsertError;
 use std::alloc::{AllocError, Global};
@@ -214,8 +214,8 @@ fn parts<'a, K: Key>(
     first: &'a Set<K>,
     second: &'a Set<K>,
 ) -> (Difference<'a, K>, Intersection<'a, K>)
-    ensures difference { IsDifference K.cmp first.now second.now result.0 }
-    ensures intersection { IsIntersection K.cmp first.now second.now result.1 }
+    ensures difference { IsDifference K.cmp first.now second.now (left_without K.cmp result.0) }
+    ensures intersection { IsIntersection K.cmp first.now second.now (left_within K.cmp result.1) }
 {
     laws_of_two_sets::<K>();
     (first.difference(second), first.intersection(second))
@@ -232,28 +232,39 @@ fn sets_apart<'a, K: Key>(first: &'a Set<K>, second: &'a Set<K>) -> SymmetricDif
 
 // The keys that are left are between the two numbers, and there is an upper one.
 fn bounds_a_difference<K: Key>(keys: &Difference<'_, K>) -> (usize, usize)
-    ensures lower { result.0 ≤ length keys.now }
-    ensures upper { length keys.now ≤ result.1 }
+    ensures lower { result.0 ≤ length (left_without K.cmp keys.now) }
+    ensures upper { length (left_without K.cmp keys.now) ≤ result.1 }
 {
     let (low, high) = keys.size_hint();
     (low, high.unwrap_or(0))
 }
 
 fn bounds_an_intersection<K: Key>(keys: &Intersection<'_, K>) -> usize
-    ensures { length keys.now ≤ result }
+    ensures { length (left_within K.cmp keys.now) ≤ result }
 {
     keys.size_hint().1.unwrap_or(0)
 }
 
-// The hints of a difference and of an intersection are those of the lengths of both sets.
-fn hints_by_lengths(first: usize, second: usize) -> ((usize, Option<usize>), (usize, Option<usize>))
-    ensures difference { result.0 ≡ (first - second, Some first) }
-    ensures intersection { result.1 ≡ (0, Some (min first second)) }
+// What the first side has more are left at least, and at most all that it has.
+fn counts_a_difference<K: Key>(keys: &Difference<'_, K>) -> (usize, Option<usize>)
+    requires { (length keys.now.0 ≡ 3) × (length keys.now.1 ≡ 2) }
+    ensures { result ≡ (1, Some 3) }
 {
-    (
-        Lacking::hint((first, second)),
-        Shared::hint((first, second)),
-    )
+    keys.size_hint()
+}
+
+// So it is of a difference that has just begun.
+fn counts_a_whole_difference<K: Key>(first: &Set<K>, second: &Set<K>) -> (usize, Option<usize>)
+    ensures { result ≡ (length first.now - length second.now, Some (length first.now)) }
+{
+    first.difference(second).size_hint()
+}
+
+// No key that both have need be left, and no more are than the shorter side has.
+fn counts_an_intersection<K: Key>(first: &Set<K>, second: &Set<K>) -> (usize, Option<usize>)
+    ensures { result ≡ (0, Some (min (length first.now) (length second.now))) }
+{
+    first.intersection(second).size_hint()
 }
 
 // Between what one side has more and the sum of both.

@@ -1,6 +1,5 @@
 //! The keys of a set that another set does not hold.
-ghost use Rattle.std.specs.Prelude.{not};
-ghost use Rattle.bptree_sets.specs.Beside.{IsHintOfDifference};
+ghost use Rattle.std.specs.Prelude.{◌≡◌, ◌-◌, not, Some};
 
 use crate::set::sifted::Sieve;
 
@@ -10,7 +9,7 @@ pub struct Lacking;
 impl Sieve for Lacking {
     ghost keeps = { not };
 
-    ghost tells = { IsHintOfDifference };
+    ghost tells = { λ first second hint. hint ≡ (first - second, Some first) };
 
     fn is_kept(held: bool) -> bool {
         !held

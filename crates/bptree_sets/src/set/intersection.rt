@@ -1,5 +1,5 @@
 //! The keys of a set that another set holds too.
-ghost use Rattle.bptree_sets.specs.Beside.{IsHintOfIntersection};
+ghost use Rattle.std.specs.Prelude.{◌≡◌, min, Some};
 
 use crate::set::sifted::Sieve;
 
@@ -9,7 +9,7 @@ pub struct Shared;
 impl Sieve for Shared {
     ghost keeps = { λ held. held };
 
-    ghost tells = { IsHintOfIntersection };
+    ghost tells = { λ first second hint. hint ≡ (0, Some (min first second)) };
 
     fn is_kept(held: bool) -> bool {
         held

@@ -1,11 +1,10 @@
 //! The keys of a set that another set holds, or those that it does not hold.
-ghost use Rattle.std.specs.Prelude.{◌≡◌, ℕ, Bool, Option, length, IfSome, IsSome, ⊤};
+ghost use Rattle.std.specs.Prelude.{◌≡◌, ℕ, Bool, List, Option, length, IfSome, IsSome, ⊤};
 ghost use Rattle.std.specs.Iterator.{at_most, item_count, UpTo};
 ghost use Rattle.std.specs.Iterator.SizeHint.{IsWithinCount};
 ghost use Rattle.std.specs.List.Sorted.{IsStrictlySortedBy};
-ghost use Rattle.std.specs.Map.Iter.{TakesFirst, deref};
 ghost use Rattle.bptree_maps.specs.Keys.{keys_within};
-ghost use Rattle.bptree_sets.specs.Beside.{AreSides, BoundsKept, TakesFetched, TakesSifted, keys_sifted};
+ghost use Rattle.bptree_sets.specs.Beside.{AreSides, BoundsKept, TakesFetched, TakesSifted, keys_sifted, sifted_of};
 
 use crate::set::difference::Lacking;
 use crate::set::intersection::Shared;
@@ -20,30 +19,30 @@ use std::marker::{Model, PhantomData};
 pub trait Sieve {
     ghost keeps: { Bool → Bool };
 
-    /// The hint is that of sets of these lengths.
+    // What is told, by the lengths of both sets.
     ghost tells: { ℕ → ℕ → ℕ × Option ℕ → Type 0 };
 
     /// Whether a key is given that the other set holds, or does not hold.
     fn is_kept(held: bool) -> bool
         ensures { result ≡ keeps held };
 
-    /// Bounds of how many of the first set's keys are given, by the lengths of both sets.
+    /// What is told of how many of the first set's keys are given, by the lengths of both sets.
     fn hint(lens: (usize, usize)) -> (usize, Option<usize>)
         ensures exact { tells lens.0 lens.1 result }
         ensures bounds { BoundsKept keeps lens.0 lens.1 result }
         ensures bounded { IsSome result.1 };
 }
 
-/// The keys of a set that no key of another set equals, in their order, seen as what is left of
-/// them. No step takes memory.
+/// The keys of a set that no key of another set equals, in their order, seen as what is left of both
+/// sets. No step takes memory.
 pub type Difference<'a, K> = Sifted<'a, K, Lacking>;
 
-/// The keys of a set that a key of another set equals, in their order, seen as what is left of
-/// them. No step takes memory.
+/// The keys of a set that a key of another set equals, in their order, seen as what is left of both
+/// sets. No step takes memory.
 pub type Intersection<'a, K> = Sifted<'a, K, Shared>;
 
 /// Keys of a set that are given by whether another set holds them, in their order, seen as what is
-/// left of them. No step takes memory.
+/// left of both sets. No step takes memory.
 #[derive(Drop)]
 pub struct Sifted<'a, K: Key, W: Sieve> {
     by: By<'a, K>,
@@ -64,20 +63,20 @@ enum By<'a, K: Key> {
 
 impl<'a, K: Key, W: Sieve> Model for Sifted<'a, K, W> {
     ghost use Rattle.std.specs.Prelude.{List};
-    ghost use Rattle.bptree_sets.specs.Beside.{sifted_left, IsSound};
+    ghost use Rattle.bptree_sets.specs.Beside.{left_of_both, IsSound};
 
-    ghost Value = { List K };
+    ghost Value = { List K × List K };
 
-    ghost view = { λ it. sifted_left K.cmp W.keeps it.other.now it.by };
+    ghost view = { λ it. left_of_both it.other.now it.by };
 
-    ghost invariant = { λ it. IsSound K.cmp it.by };
+    ghost invariant = { λ it. IsSound K.cmp W.keeps it.other.now it.by };
 }
 
 impl<'a, K: Key, W: Sieve> Sifted<'a, K, W> {
     // A set that has far fewer keys is looked up in the other, key by key.
     pub(crate) fn new(first: &'a BPlusTreeSet<K>, other: &'a BPlusTreeSet<K>) -> Self
-        ensures rest { result ≡ keys_sifted K.cmp W.keeps first.now other.now }
-        ensures ascending { IsStrictlySortedBy K.cmp result }
+        ensures rest { result ≡ (first.now, other.now) }
+        ensures ascending { IsStrictlySortedBy K.cmp (keys_sifted K.cmp W.keeps first.now other.now) }
     {
         if first.len() <= other.len() / SEEK_RATIO {
             return Sifted {
@@ -97,8 +96,8 @@ impl<'a, K: Key, W: Sieve> Sifted<'a, K, W> {
 impl<'a, K: Key> Sifted<'a, K, Shared> {
     // Each key of the second set is looked up in the first.
     pub(crate) fn fetching(first: &'a BPlusTreeSet<K>, second: &'a BPlusTreeSet<K>) -> Self
-        ensures rest { result ≡ keys_within K.cmp first.now second.now }
-        ensures ascending { IsStrictlySortedBy K.cmp result }
+        ensures rest { result ≡ (first.now, second.now) }
+        ensures ascending { IsStrictlySortedBy K.cmp (keys_within K.cmp first.now second.now) }
     {
         // Read, so that it is known to ascend.
         let _len = first.len();
@@ -113,9 +112,9 @@ impl<'a, K: Key> Sifted<'a, K, Shared> {
 impl<'a, K: Key, W: Sieve> Iterator for Sifted<'a, K, W> {
     type Item = &'a K;
 
-    ghost next_gives = { TakesFirst deref };
+    ghost next_gives = { TakesSifted K.cmp W.keeps };
 
-    ghost remaining = { item_count (λ left. left) };
+    ghost remaining = { item_count (sifted_of K.cmp W.keeps) };
 
     fn next(&mut self) -> Option<&'a K> {
         let other = self.other;
@@ -127,13 +126,14 @@ impl<'a, K: Key, W: Sieve> Iterator for Sifted<'a, K, W> {
     }
 
     fn size_hint(&self) -> (usize, Option<usize>)
-        ensures lower { IsWithinCount result.0 (at_most (length self.now)) }
-        ensures upper { IfSome result.1 (UpTo (at_most (length self.now))) }
+        ensures lower { IsWithinCount result.0 (at_most (length (sifted_of K.cmp W.keeps self.now))) }
+        ensures upper { IfSome result.1 (UpTo (at_most (length (sifted_of K.cmp W.keeps self.now)))) }
+        ensures exact { W.tells (length self.now.0) (length self.now.1) result }
         ensures bounded { IsSome result.1 }
     {
         match &self.by {
             By::Seek(keys) => W::hint((keys.len(), self.other.len())),
-            By::Fetch(keys) => (0, Some(keys.len().min(self.other.len()))),
+            By::Fetch(keys) => W::hint((self.other.len(), keys.len())),
             By::Walk(sides) => W::hint(sides.lens()),
         }
     }

@@ -1,7 +1,7 @@
-use Rattle.std.proofs.Common.{◌≡◌, Bool, not, true, false, refl, sym}
+use Rattle.std.proofs.Common.{◌≡◌, Bool, ap, not, true, false, refl, sym}
 use mathlib.Core.Bool.{true≢false}
 use Rattle.std.specs.Map.Iter.{deref}
-use Rattle.bptree_maps.specs.Keys.{holds}
+use Rattle.bptree_maps.specs.Keys.{holds, keys_without}
 use Rattle.bptree_callers.proofs.Passing.{taken_passes}
 use Rattle.bptree_callers.proofs.callers.sets.gives_the_first_left.Goals as goal
 
@@ -12,4 +12,4 @@ turned false e = refl
 pub returns-clause-alone : goal.returns-clause-alone
 returns-clause-alone g c =
     taken_passes deref (λ key. not (holds g.K.Ord.cmp c.args.second.now key)) (λ key. holds g.K.Ord.cmp c.args.second.now key ≡ false) (λ key e. turned _ e)
-    _ _ c.args.first.now c.next.result c.next.ensures.steps c.difference.ensures.rest
+    _ _ c.args.first.now c.next.result c.next.ensures.steps (ap (λ both. keys_without g.K.Ord.cmp both.0 both.1) c.difference.ensures.rest)
