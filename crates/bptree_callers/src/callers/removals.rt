@@ -1,5 +1,5 @@
 //! Callers of removals for which no memory is needed: none of them fails.
-ghost use Rattle.std.specs.Prelude.{◌≡◌, List, remove, slice_get};
+ghost use Rattle.std.specs.Prelude.{◌≡◌, List, false, true, remove, slice_get};
 ghost use Rattle.std.specs.Map.Iter.{TakesFirst, TakesLast};
 ghost use Rattle.std.specs.Ordering.{nat_cmp};
 ghost use Rattle.bptree_descents.specs.ByArgument.{IsTaken};
