@@ -67,9 +67,9 @@ impl<K: Key> BPlusTreeSet<K> {
     /// Puts the keys in that an iterator gives, one after another, as `insert` does: a key that was
     /// stored stays.
     ///
-    /// It costs an insertion a key. If one fails, the keys before it are stored, that key is returned
-    /// in the error, and the rest of the iterator is dropped. A key that is present never fails. The
-    /// error is `Full` if the set as it is left has `usize::MAX` keys.
+    /// It costs an insertion a key. If one fails, the keys before it are stored, that key is
+    /// returned in the error, and the rest of the iterator is dropped. A key that is present never
+    /// fails. The error is `Full` if the set as it is left has `usize::MAX` keys.
     pub fn extend<I: IntoIterator<Item = K>>(&mut self, keys: I) -> Result<(), InsertError<K, ()>>
         requires { AreFinite I.into_iter_gives I.IntoIter.can_next I.IntoIter.remaining keys }
         ensures ok { OnOk result (Extends (with_key K.cmp) I.IntoIter.next_gives I.into_iter_gives keys self.old self.new) }
@@ -113,9 +113,9 @@ impl<K: Key> BPlusTreeSet<K> {
     /// Moves the keys that are not below `k` to a set of their own, the greatest first.
     ///
     /// It costs a removal and an insertion a key that moves, and what a set with no keys takes. If
-    /// that fails, nothing has changed. If a move fails, the greatest keys have left and are returned
-    /// in their set. With them comes the key that was removed and not stored, if there is one. The
-    /// others stayed. The error is `Full` if the returned set has `usize::MAX` keys.
+    /// that fails, nothing has changed. If a move fails, the greatest keys have left and are
+    /// returned in their set. With them comes the key that was removed and not stored, if there is
+    /// one. The others stayed. The error is `Full` if the returned set has `usize::MAX` keys.
     pub fn split_off(&mut self, k: &K) -> Result<Self, SplitError<Self, MoveError<K, ()>>>
         ensures ok { IfOk result (SplitsKeysOff K.cmp k.now self.old self.new) }
         ensures err { IfErr result (λ refusal. self.old ≡ self.new ++ keys_gone refusal) }

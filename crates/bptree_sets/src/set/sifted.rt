@@ -33,8 +33,8 @@ pub trait Sieve {
         ensures bounded { IsSome result.1 };
 }
 
-/// The keys of a set that no key of another set equals, in their order, seen as what is left of both
-/// sets. No step takes memory.
+/// The keys of a set that no key of another set equals, in their order, seen as what is left of
+/// both sets. No step takes memory.
 pub type Difference<'a, K> = Sifted<'a, K, Lacking>;
 
 /// The keys of a set that a key of another set equals, in their order, seen as what is left of both
