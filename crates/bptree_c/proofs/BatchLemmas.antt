@@ -22,7 +22,7 @@ module _ (pairs : List (ℕ × ℕ)) (answer : ℕ → ℕ → ℕ) where
   stay_by (a ∷ keys) (o ∷ olds) zero within long stays = ap (λ y. y ∷ olds) (sym (stays o))
   stay_by (a ∷ keys) (o ∷ olds) (suc i) within long stays = ap (λ l. answer a o ∷ l) (stay_by keys olds i (omega (arith, within)) (omega (arith, long)) stays)
 
-  -- one more answer, which is written or is what stood there
+  -- Lemma: one more answer, which is written or is the old value
   pub answered_more : (keys olds now : List ℕ) (i x : ℕ) → now ≡ answer_each pairs answer (take i keys) olds → i < length keys → length olds ≡ length keys → ((old : ℕ) → x ≡ answer (get_or keys i 0) old)
       → slice_set now i x ≡ answer_each pairs answer (take (i + 1) keys) olds
   answered_more keys olds now i x so_far within long answers = rw (so_far, add-one) (step_by keys olds i x within long answers)

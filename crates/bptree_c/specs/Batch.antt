@@ -1,4 +1,4 @@
--- What calls for many keys answer, key by key.
+-- What calls for many keys write, key by key.
 use Rattle.std.specs.Prelude.{ℕ, List, [], ◌∷◌, Option, Some, None, if◌then◌else◌}
 use Rattle.std.specs.Map.{keys_of}
 use Rattle.std.specs.Ordering.{nat_cmp}
@@ -11,7 +11,7 @@ or_else None other = other
 or_else (Some found) other = found
 
 module _ (pairs : List (ℕ × ℕ)) where
-  -- for each key an answer stands in place of what stood there, and behind the keys all is as it was
+  -- each key has its answer in place of the old value at its index, and what is after the keys is unchanged
   abbrev pub answer_each : (ℕ → ℕ → ℕ) → List ℕ → List ℕ → List ℕ
   answer_each answer [] olds = olds
   answer_each answer (k ∷ ks) [] = []

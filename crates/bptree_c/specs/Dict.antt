@@ -1,4 +1,4 @@
--- Pairs of a byte string and a number, and what is told of them.
+-- Pairs of a byte string and a number, and what calls write and return of them.
 use Rattle.std.specs.Prelude.{◌≡◌, ℕ, Bool, true, false, List, ◌++◌, Option, Some, None, length, slice_get, take, drop}
 use Rattle.std.specs.List.{remove}
 use Rattle.std.specs.Map.{values_of}
@@ -8,7 +8,7 @@ use Rattle.bptree_c.specs.ByteKeys.{by_bytes}
 abbrev pub Pairs : Type 0
 Pairs = List (List ℕ × ℕ)
 
--- what a call tells of a pair, by what an array, its key's length and a number hold before and after it: as many of the key's bytes as the array takes stand at its beginning, and the rest of it is as it was; then the key's whole length, and the value. Of no pair nothing is written
+-- what a call writes for a pair, by what an array, its key's length and a number hold before and after the call: the array begins with as many of the key's bytes as it takes, and the rest of it is unchanged; then the key's whole length, and the value. Without a pair nothing is written
 abbrev pub IsToldPair : Option (List ℕ × ℕ) → Bool → List ℕ × ℕ × ℕ → List ℕ × ℕ × ℕ → Type 0
 IsToldPair None found old new = (found ≡ false) × (new ≡ old)
 IsToldPair (Some pair) found old new = (found ≡ true) × (new ≡ (take (length old.0) pair.0 ++ drop (length pair.0) old.0, length pair.0, pair.1))
@@ -18,14 +18,14 @@ abbrev pub WritesOnlyIf : Bool → List ℕ → ℕ → ℕ → List ℕ → ℕ
 WritesOnlyIf found out len value new_out new_len new_value =
     found ≡ false → (new_out ≡ out) × (new_len ≡ len) × (new_value ≡ value)
 
--- what stood at the key is told, and the value is put there, or the pair has left
+-- the value that was at the key is returned, and the new one is put there, or the pair is removed
 abbrev pub IsPutIn : Pairs → List ℕ → ℕ → Option ℕ → Option Pairs → Type 0
 IsPutIn old key new told held = (value by_bytes old key ≡ told) × (held ≡ Some (put by_bytes old key new))
 
 abbrev pub IsGoneFrom : Pairs → List ℕ → Option ℕ → Option Pairs → Type 0
 IsGoneFrom old key told held = (value by_bytes old key ≡ told) × (held ≡ Some (del by_bytes old key))
 
--- the pair at a place has left the list, and its value is told
+-- the pair at an index is removed, and its value returned
 abbrev pub IsRemovedAt : Pairs → ℕ → Option Pairs → ℕ → Type 0
 IsRemovedAt old i new told = (slice_get (values_of old) i ≡ Some told) × (new ≡ Some (remove old i))
 

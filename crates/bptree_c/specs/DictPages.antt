@@ -12,14 +12,14 @@ as_record pair = record { length = length pair.0; value = pair.1 }
 abbrev pub key_bytes : Pairs → ℕ → List ℕ
 key_bytes all count = flatten (keys_of (take count all))
 
--- the first pairs, so many, stand at the beginning of the arrays, and the rest of these is as it was; the key of the next pair, where there is one, does not fit into the rest of the bytes
+-- the arrays begin with the first `count` pairs, and the rest of them is unchanged; if there is a next pair, its key does not fit into the rest of the bytes
 pub record IsPage (all : Pairs) (bytes : List ℕ) (out : List Record) (new_bytes : List ℕ) (new_out : List Record) (count : ℕ) : Type 0 where
   pub within : count ≤ length all
   pub keys : new_bytes ≡ key_bytes all count ++ drop (length (key_bytes all count)) bytes
   pub records : new_out ≡ map as_record (take count all) ++ drop count out
   pub full : (pair : List ℕ × ℕ) → slice_get all count ≡ Some pair → length bytes < length (key_bytes all count) + length pair.0
 
--- the pairs of so many records whose keys stand one after another
+-- the pairs of these records, whose keys are one after another in the bytes
 abbrev pub pairs_of : List ℕ → List Record → Pairs
 pairs_of bytes [] = []
 pairs_of bytes (r ∷ rs) = (take r.length bytes, r.value) ∷ pairs_of (drop r.length bytes) rs

@@ -10,9 +10,9 @@ use crate::handle::{Handle, Map};
 use crate::writing::put_in;
 use std::alloc::Global;
 
-/// The values at the given keys, each in its place of `values`, and in `found` a 1 for each that is
-/// there. For the others `values` stays as it was, and `found` has a 0. The arrays have as many
-/// places as there are keys.
+/// Writes the value at each given key to `values` at the key's index, and 1 to `found` there. For a
+/// key that is absent `values` is unchanged, and `found` gets 0. Each array has the length of
+/// `keys`.
 #[unsafe(no_mangle)]
 pub extern "C" fn bptree_get_many(
     alloc: Global,
@@ -59,8 +59,8 @@ fn value_at(map: &Map, key: u64) -> Option<u64>
     map.pairs.get(&key).copied()
 }
 
-/// How many keys are smaller than each of the given ones, each in its place of `ranks`, which has
-/// as many places as there are keys.
+/// Writes for each given key the number of smaller keys of the map to `ranks`, which has the length
+/// of `keys`.
 #[unsafe(no_mangle)]
 pub extern "C" fn bptree_rank_many(
     alloc: Global,
@@ -100,8 +100,8 @@ fn rank_of(map: &Map, key: u64) -> usize
     }
 }
 
-/// Puts each value at its key, one after another, and gives how many were put: all, or those before
-/// the first that was refused for want of memory. There are as many values as keys.
+/// Stores each value at its key, one after another, and returns how many it stored: all, or those
+/// before the first for which an allocation failed. `values` has the length of `keys`.
 #[unsafe(no_mangle)]
 pub extern "C" fn bptree_put_many(
     alloc: Global,

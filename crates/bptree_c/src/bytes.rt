@@ -27,7 +27,7 @@ impl Model for Bytes {
 }
 
 impl Bytes {
-    /// A copy of the given bytes. It is refused where the memory for them is.
+    /// A copy of the given bytes. It fails if the allocation for them does.
     pub(crate) fn copy_of(alloc: Global, given: &[u8]) -> Result<Bytes, AllocError>
         ensures { IfOk result (λ bytes. bytes ≡ given.now) }
     {
@@ -94,7 +94,7 @@ impl Key for Bytes {
     ghost clone_is_equal = { λ x y same. equal_if_same nat_list_cmp_total x y same };
 }
 
-/// Bytes of a caller's, which stand for the key of the same bytes for the time of a call.
+/// A caller's bytes, which represent the key of the same bytes during a call.
 #[derive(Clone, Copy)]
 pub(crate) struct View<'a> {
     pub(crate) bytes: &'a [u8],

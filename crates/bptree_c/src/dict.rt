@@ -1,5 +1,5 @@
-//! The calls of a map from byte strings to numbers. A call that looks a key up compares the bytes
-//! where the caller has them: it takes no memory, and is never refused.
+//! The calls of a map from byte strings to numbers. A look-up compares the caller's bytes in place:
+//! it does not allocate and never fails.
 ghost use Rattle.std.specs.Prelude.{◌≡◌, ◌≢◌, ◌≤◌, ◌-◌, ℕ, List, [], Some, None, Ok, IfOk, OnErr, IsOk, IsTrue, false, length, slice_get};
 ghost use Rattle.std.specs.Map.{keys_of};
 ghost use Rattle.std.specs.Map.Iter.{deref_pair};
@@ -19,7 +19,7 @@ use bptree_probes::changing::{remove_by, replace_by};
 use bptree_probes::reading::{get_by, has_by, next_by, previous_by, rank_by};
 use std::alloc::{AllocError, Global};
 
-/// Makes a map with no pairs. It is false where memory is refused; then the handle holds no map.
+/// Makes a map with no pairs. It is false if an allocation fails; then the handle holds no map.
 #[unsafe(no_mangle)]
 pub extern "C" fn bptree_dict_new(alloc: Global, dict: &mut DictHandle) -> bool
     requires closed { dict.old.held ≡ None }
@@ -39,7 +39,7 @@ pub extern "C" fn bptree_dict_new(alloc: Global, dict: &mut DictHandle) -> bool
     }
 }
 
-/// Frees a map. The handle holds none then.
+/// Frees a map. The handle then holds none.
 #[unsafe(no_mangle)]
 pub extern "C" fn bptree_dict_free(alloc: Global, dict: &mut DictHandle)
     ghost pairs: { Pairs }
@@ -49,8 +49,8 @@ pub extern "C" fn bptree_dict_free(alloc: Global, dict: &mut DictHandle)
     let _whole = dict.take(alloc);
 }
 
-/// Removes all pairs. It is false where the memory of one node is refused; then nothing has
-/// changed.
+/// Removes all pairs. It allocates one node first, and is false if that fails; then the map is
+/// unchanged.
 #[unsafe(no_mangle)]
 pub extern "C" fn bptree_dict_clear(alloc: Global, dict: &mut DictHandle) -> bool
     ghost pairs: { Pairs }
@@ -119,7 +119,7 @@ pub extern "C" fn bptree_dict_get(
     }
 }
 
-/// How many keys are smaller, in `rank`, and whether the key itself is there.
+/// The number of smaller keys, in `rank`, and whether the key itself is there.
 #[unsafe(no_mangle)]
 pub extern "C" fn bptree_dict_rank(
     alloc: Global,
@@ -211,9 +211,9 @@ fn replace_in(dict: &mut Dict, key: &[u8], new: u64) -> Result<Option<u64>, Allo
     }
 }
 
-/// Removes the pair at a key: 1 where there was one, whose value is then in `old`, and 0 where not.
-/// It is 2 where it is refused for want of memory; then nothing has changed. A key that is not
-/// there is never refused. At 0 and 2 `old` is unchanged.
+/// Removes the pair at a key: 1 if there was one, whose value is then in `old`, and 0 if not. It is
+/// 2 if a copy of a key fails, which a node may need; then the map is unchanged. It never fails for
+/// a key that is not there. At 0 and 2 `old` is unchanged.
 #[unsafe(no_mangle)]
 pub extern "C" fn bptree_dict_del(
     alloc: Global,
@@ -244,7 +244,7 @@ fn del_in(dict: &mut Dict, key: &[u8]) -> Result<Option<u64>, AllocError>
     remove_by(&mut dict.pairs, &View { bytes: key })
 }
 
-// Whether there is a pair, whose key is copied and whose value is written where there is one.
+// Whether there is a pair. If there is one, its key is copied and its value written.
 fn told(pair: Option<(&Bytes, &u64)>, out: &mut [u8], len: &mut usize, value: &mut u64) -> bool
     ensures { IsToldPair (option_map deref_pair pair.entry) result (out.old, len.old, value.old) (out.new, len.new, value.new) }
 {
@@ -258,9 +258,9 @@ fn told(pair: Option<(&Bytes, &u64)>, out: &mut [u8], len: &mut usize, value: &m
     }
 }
 
-/// The pair with the least key: as many of the key's bytes as `out` takes stand at its beginning,
-/// the key's whole length is in `len`, and the value in `value`. It is false where the map is
-/// empty; then nothing is written.
+/// The pair with the least key: `out` begins with as many of the key's bytes as it takes, the key's
+/// whole length is in `len`, and the value in `value`. It is false if the map is empty; then
+/// nothing is written.
 #[unsafe(no_mangle)]
 pub extern "C" fn bptree_dict_first(
     alloc: Global,
@@ -281,7 +281,7 @@ pub extern "C" fn bptree_dict_first(
     answer
 }
 
-/// The pair with the greatest key, told as `bptree_dict_first` does.
+/// The pair with the greatest key, written as `bptree_dict_first` does.
 #[unsafe(no_mangle)]
 pub extern "C" fn bptree_dict_last(
     alloc: Global,
@@ -302,8 +302,8 @@ pub extern "C" fn bptree_dict_last(
     answer
 }
 
-/// The pair at a place in the order of the keys, from 0 on, told as `bptree_dict_first` does. It is
-/// false past the end; then nothing is written.
+/// The pair at an index in the order of the keys, from 0 on, written as `bptree_dict_first` does.
+/// It is false past the end; then nothing is written.
 #[unsafe(no_mangle)]
 pub extern "C" fn bptree_dict_at(
     alloc: Global,
@@ -325,7 +325,7 @@ pub extern "C" fn bptree_dict_at(
     answer
 }
 
-/// The pair with the least greater key, told as `bptree_dict_first` does. It is false where there
+/// The pair with the least greater key, written as `bptree_dict_first` does. It is false if there
 /// is none; then nothing is written.
 #[unsafe(no_mangle)]
 pub extern "C" fn bptree_dict_next(
@@ -348,7 +348,7 @@ pub extern "C" fn bptree_dict_next(
     answer
 }
 
-/// The pair with the greatest smaller key, told as `bptree_dict_next` does.
+/// The pair with the greatest smaller key, written as `bptree_dict_next` does.
 #[unsafe(no_mangle)]
 pub extern "C" fn bptree_dict_prev(
     alloc: Global,

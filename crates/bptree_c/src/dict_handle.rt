@@ -10,7 +10,7 @@ use std::alloc::Global;
 use std::marker::Model;
 use std::{mem, ptr};
 
-/// A map from byte strings to numbers, with places.
+/// A map from byte strings to numbers, with indices.
 #[derive(Drop)]
 pub(crate) struct Dict {
     pub(crate) pairs: BPlusTreeMap<Bytes, u64, Count>,
@@ -24,7 +24,7 @@ impl Model for Dict {
     ghost view = { λ dict. dict.pairs };
 }
 
-/// A map, or none. The map stands on the heap, and `at` is where.
+/// A map, or none. The map is on the heap, and `at` points to it.
 #[repr(C)]
 #[derive(Drop)]
 pub struct DictHandle {
@@ -66,7 +66,7 @@ impl DictHandle {
         }
     }
 
-    /// The map, which is to be given back.
+    /// Takes the map out. The caller has to return it by `give`.
     pub(crate) fn take(&mut self, alloc: Global) -> Box<Dict>
         requires { IsSome self.old.held }
         ensures taken { Some result.value ≡ self.old.held }
@@ -77,7 +77,7 @@ impl DictHandle {
             .into_box()
     }
 
-    /// Takes a map, where it has none.
+    /// Puts a map in. The handle must be empty.
     pub(crate) fn give(&mut self, map: Box<Dict>)
         requires { self.old.held ≡ None }
         ensures { self.new.held ≡ Some map.value }

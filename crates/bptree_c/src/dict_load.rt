@@ -1,4 +1,4 @@
-//! How a map from byte strings is filled at once, and a pair removed by its place.
+//! How a map from byte strings is filled at once, and a pair removed by its index.
 ghost use Rattle.std.specs.Prelude.{◌≡◌, ◌≢◌, ◌≤◌, Some, None, Ok, IsTrue, false, IfOk, OnErr, length};
 ghost use Rattle.bptree_c.specs.ByteKeys.{by_bytes};
 ghost use Rattle.bptree_c.specs.Dict.{Pairs, IsRemovedAt, TakesValueAt};
@@ -14,10 +14,9 @@ use bptree_maps::map::BPlusTreeMap;
 use bptree_probes::changing::value_of;
 use std::alloc::{AllocError, Global};
 
-/// Puts the given pairs in place of what the map held: the keys' bytes one after another, and of
-/// each pair a record of its key's length and its value. Of equal keys the last is held. It is
-/// false where memory is refused, or there are fewer bytes than the records say; then nothing has
-/// changed.
+/// Replaces what the map holds by the given pairs: the keys' bytes one after another, and for each
+/// pair a record of its key's length and its value. Of equal keys the last one stays. It is false
+/// if an allocation fails, or there are fewer bytes than the records say; then nothing has changed.
 #[unsafe(no_mangle)]
 pub extern "C" fn bptree_dict_load(
     alloc: Global,
@@ -78,9 +77,9 @@ fn copies(alloc: Global, bytes: &[u8], given: &[Record]) -> Result<Vec<(Bytes, u
     Ok(copied)
 }
 
-/// Removes the pair at a place in the order of the keys, from 0 on: 1 where there was one, whose
-/// value is then in `old`, and 0 past the end. It is 2 where it is refused for want of memory; then
-/// nothing has changed. Past the end it is never refused. At 0 and 2 `old` is unchanged.
+/// Removes the pair at an index in the order of the keys, from 0 on: 1 if there was one, whose
+/// value is then in `old`, and 0 past the end. It is 2 if a copy of a key fails, which a node may
+/// need; then the map is unchanged. It never fails past the end. At 0 and 2 `old` is unchanged.
 #[unsafe(no_mangle)]
 pub extern "C" fn bptree_dict_remove_at(
     alloc: Global,

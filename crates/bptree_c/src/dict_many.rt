@@ -1,5 +1,5 @@
 //! Calls of a map from byte strings that copy many pairs at once into a caller's arrays. None of
-//! them is ever refused.
+//! them fails.
 ghost use Rattle.std.specs.Prelude.{◌≡◌, ◌+◌, ◌-◌, ◌≤◌, ◌++◌, ℕ, List, [], Some, length, take, drop, MatchOption};
 ghost use Rattle.std.specs.Map.{keys_of, values_of};
 ghost use Rattle.bptree_arguments.specs.CountLaws.{count_below};
@@ -16,7 +16,7 @@ use bptree_maps::map::Iter;
 use bptree_probes::reading::smaller_than;
 use std::alloc::Global;
 
-/// How many keys are not below `from` and are below `to`.
+/// The number of keys that are at least `from` and less than `to`.
 #[unsafe(no_mangle)]
 pub extern "C" fn bptree_dict_range_len(
     alloc: Global,
@@ -36,8 +36,8 @@ pub extern "C" fn bptree_dict_range_len(
     end.saturating_sub(start)
 }
 
-/// Copies the values of the pairs from a place on, in the order of their keys, until the array is
-/// full or there are no more. It gives how many.
+/// Copies the values of the pairs from an index on, in the order of their keys, until the array is
+/// full or there are no more. It returns how many.
 #[unsafe(no_mangle)]
 pub extern "C" fn bptree_dict_values(
     alloc: Global,

@@ -1,10 +1,10 @@
-//! A pair of a map of byte strings, as C has it beside the bytes of its key.
+//! A pair of a map of byte strings as C has it, without the bytes of its key.
 
-/// How long a key is, and the value at it.
+/// The length of a key, and its value.
 #[repr(C)]
 #[derive(Clone, Copy)]
 pub struct Record {
-    /// How many bytes the key has.
+    /// The number of bytes of the key.
     pub length: usize,
     /// The value.
     pub value: u64,

@@ -92,7 +92,8 @@ fn del_in(map: &mut Map, key: u64) -> Result<Option<u64>, AllocError>
 }
 
 /// Removes the pair at an index in the order of the keys, from 0 on: 1 if there was one, which is
-/// then in `pair`, and 0 past the end; then `pair` is unchanged. It needs no memory and never fails.
+/// then in `pair`, and 0 past the end; then `pair` is unchanged. It needs no memory, and never
+/// fails.
 #[unsafe(no_mangle)]
 pub extern "C" fn bptree_remove_at(
     alloc: Global,
