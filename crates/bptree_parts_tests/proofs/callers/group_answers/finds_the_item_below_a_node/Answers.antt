@@ -12,24 +12,23 @@ pub returns-then-child-eq0 : goal.returns-then-child-eq0
 returns-then-child-eq0 g c =
     let leads = rw c.in-Some.is at (c.in_ok-locate_in_inner.ensures.leads (c.args.left.now ∷ c.args.right.now ∷ []) c.requires.pieces c.requires.summaries) in
     let sorted = sorted_left g.K.Ord.cmp c.args.left.now (c.args.right.now ++ []) c.requires.pieces.ascending in
-    item_in_first g.G.Ord.cmp g.G.FromRef.group_of c.args.group c.args.place c.args.left.now c.args.right.now c.in-Some.child c.in-Some.rest leads c.in_ok-found-in-Some.found c.if-child-eq0.true (c.in_ok-found-in-Some.ensures.in_range sorted) (c.in_ok-found-in-Some.ensures.selected sorted)
+    item_in_first g.G.Ord.cmp g.G.FromRef.group_of c.args.group c.args.place c.args.left.now c.args.right.now c.in-Some.child c.in-Some.rest leads c.in_ok-found-in-Some.found c.if-child-eq0.true c.in_ok-found-in-Some.ensures.in_range (c.in_ok-found-in-Some.ensures.selected sorted)
 
 pub returns-in-None-2 : goal.returns-in-None-2
 returns-in-None-2 g c =
     let leads = rw c.in-Some.is at (c.in_ok-locate_in_inner.ensures.leads (c.args.left.now ∷ c.args.right.now ∷ []) c.requires.pieces c.requires.summaries) in
     let sorted = sorted_left g.K.Ord.cmp c.args.right.now [] (sorted_right g.K.Ord.cmp c.args.left.now (c.args.right.now ++ []) c.requires.pieces.ascending) in
     let from = c.in_ok-locate_in_leaf-in-Some in
-    rw c.in-None-2.is at (item_in_second g.G.Ord.cmp g.G.FromRef.group_of c.args.group c.args.place c.args.left.now c.args.right.now c.in-Some.child c.in-Some.rest leads from.field-0 c.if-child-eq0.false (from.ensures.in_range sorted) (from.ensures.selected sorted))
+    rw c.in-None-2.is at (item_in_second g.G.Ord.cmp g.G.FromRef.group_of c.args.group c.args.place c.args.left.now c.args.right.now c.in-Some.child c.in-Some.rest leads from.field-0 c.if-child-eq0.false from.ensures.in_range (from.ensures.selected sorted))
 
 pub returns-in-Some-2 : goal.returns-in-Some-2
 returns-in-Some-2 g c =
     let leads = rw c.in-Some.is at (c.in_ok-locate_in_inner.ensures.leads (c.args.left.now ∷ c.args.right.now ∷ []) c.requires.pieces c.requires.summaries) in
     let sorted = sorted_left g.K.Ord.cmp c.args.right.now [] (sorted_right g.K.Ord.cmp c.args.left.now (c.args.right.now ++ []) c.requires.pieces.ascending) in
     let from = c.in_ok-locate_in_leaf-in-Some in
-    rw c.in-Some-2.is at (item_in_second g.G.Ord.cmp g.G.FromRef.group_of c.args.group c.args.place c.args.left.now c.args.right.now c.in-Some.child c.in-Some.rest leads from.field-0 c.if-child-eq0.false (from.ensures.in_range sorted) (from.ensures.selected sorted))
+    rw c.in-Some-2.is at (item_in_second g.G.Ord.cmp g.G.FromRef.group_of c.args.group c.args.place c.args.left.now c.args.right.now c.in-Some.child c.in-Some.rest leads from.field-0 c.if-child-eq0.false from.ensures.in_range (from.ensures.selected sorted))
 
 pub overflow_add-result : goal.overflow_add-result
 overflow_add-result g c =
-    let sorted = sorted_left g.K.Ord.cmp c.args.right.now [] (sorted_right g.K.Ord.cmp c.args.left.now (c.args.right.now ++ []) c.requires.pieces.ascending) in
-    let inside : c.in-Some-2.i < length c.args.right.now = rw c.in-Some-2.is at (c.in_ok-locate_in_leaf-in-Some.ensures.in_range sorted) in
+    let inside : c.in-Some-2.i < length c.args.right.now = rw c.in-Some-2.is at c.in_ok-locate_in_leaf-in-Some.ensures.in_range in
     omega (arith, inside, c.requires.few, c.requires.few_too)
