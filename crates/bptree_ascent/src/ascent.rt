@@ -128,8 +128,8 @@ pub fn ascend<S: NodeStore>(
     ascend_below(store, path, None, summary)
 }
 
-/// The same, where a summary of the whole tree as it was may be given. Then that of the root is told
-/// by what changed, too.
+/// Does what `ascend` does. If the caller gives the summary of the whole tree as it was before the
+/// change, the root's summary is made from it and the change as well.
 // The path and the summary have one lifetime: with one each, the borrow checker refuses a caller
 // that is generic in the store and gives none.
 pub fn ascend_below<'a, S: NodeStore>(

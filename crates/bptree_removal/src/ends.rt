@@ -9,8 +9,8 @@ use bptree_keys::node_id::{LeafNodeId, NodeId};
 use bptree_shape::descent::end_place;
 use bptree_stores::node_stores::NodeStore;
 
-/// The first leaf of the tree of a height under a number, or the last one, and at the end of a path
-/// the inner nodes on the way to it. No key is compared.
+/// Returns the first leaf of the tree of the given height below a node, or the last one. The inner
+/// nodes on the way to it are appended to the path. No key is compared.
 pub fn end_path<S: NodeStore>(
     store: &S,
     id: NodeId,

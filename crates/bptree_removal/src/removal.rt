@@ -28,7 +28,8 @@ use bptree_shape::nodes::Nodes;
 use bptree_stores::node_stores::NodeStore;
 use std::alloc::AllocError;
 
-// A value, or a pair, that left a tree, with the root, the height, and a summary of all keys.
+// What a removal from the tree below a root returns: a value or a pair, the root and the height
+// afterwards, and a summary of all keys.
 #[derive(Drop)]
 struct Removed<V, A> {
     value: V,
@@ -37,8 +38,8 @@ struct Removed<V, A> {
     summary: A,
 }
 
-// Rebalances a leaf that underflowed, at a place of a node: it rotates a pair or merges with its
-// sibling. It answers a summary of all keys.
+// Rebalances a leaf that underflowed, a child of the given node: it rotates a pair or merges with
+// its sibling. Returns a summary of all keys.
 fn rebalance_leaf<S: NodeStore>(
     store: &mut S,
     path: &mut VisitStack,
@@ -87,7 +88,7 @@ fn rebalance_leaf<S: NodeStore>(
     }
 }
 
-// Takes the pair at a slot out of a leaf, with no summary.
+// Removes the pair at a slot from a leaf. No summary is changed.
 fn take_pair<S: NodeStore>(store: &mut S, id: LeafNodeId, slot: usize) -> (S::K, S::V)
     requires present { IsPresent ((S.slots store.old).leaf id.0) }
     requires slot { slot < length (leaf_pairs ((S.slots store.old).leaf id.0)) }
@@ -108,7 +109,7 @@ fn put_pair<S: NodeStore>(store: &mut S, id: LeafNodeId, slot: usize, pair: (S::
     store.get_mut_leaf(id).insert_at(slot, key, value);
 }
 
-// A summary of a leaf's keys; of no keys what `Default` makes.
+// A summary of a leaf's keys. For a leaf without keys it is the default summary.
 fn sum_of<S: NodeStore>(store: &S, id: LeafNodeId) -> Result<S::Argument, AllocError>
     requires { IsPresent ((S.slots store.now).leaf id.0) }
     ensures some { IfOk result (SumsUpLeafAt S.K.cmp S.Argument.is_summary (S.slots store.now) id) }
@@ -122,8 +123,8 @@ fn sum_of<S: NodeStore>(store: &S, id: LeafNodeId) -> Result<S::Argument, AllocE
     S::Argument::from_leaf(leaf.keys())
 }
 
-// Takes the pair at a slot out of the leaf at the end of a path, which stays where it is. It
-// answers the pair and a summary of all keys.
+// Removes the pair at a slot from the leaf at the end of a path, and leaves the leaf in place.
+// Returns the pair and a summary of all keys.
 fn take_in_place<S: NodeStore>(
     store: &mut S,
     path: &mut VisitStack,
@@ -150,8 +151,8 @@ fn take_in_place<S: NodeStore>(
     }
 }
 
-/// Takes the pair at a slot out of the leaf at the end of a path. It answers the pair and a summary
-/// of all keys.
+/// Removes the pair at a slot from the leaf at the end of a path. Returns the pair and a summary of
+/// all keys.
 pub fn take_out<S: NodeStore>(
     store: &mut S,
     path: &mut VisitStack,
@@ -180,7 +181,7 @@ pub fn take_out<S: NodeStore>(
     }
 }
 
-// A root without a key gives way to its only child. It takes no memory.
+// Replaces a root that has no key by its only child. It allocates nothing.
 fn shrink_root<S: NodeStore>(store: &mut S, root: NodeId, height: usize) -> (NodeId, usize)
     requires { IsLoose S.K.cmp S.Argument.is_summary (S.slots store.old) height root }
     ensures shape { IsWellShaped S.K.cmp S.Argument.is_summary (S.slots store.new) result.1 result.0 }
@@ -199,8 +200,8 @@ fn shrink_root<S: NodeStore>(store: &mut S, root: NodeId, height: usize) -> (Nod
     (child, height - 1)
 }
 
-// The leaf and the slot of the key that equals `k` below a root, where there is one, and at the end
-// of the path the way there.
+// Returns the leaf and the slot of the key below a root that equals `k`, if there is one. The inner
+// nodes on the way there are appended to the path.
 fn find_below<S: NodeStore>(
     store: &S,
     path: &mut VisitStack,
@@ -223,7 +224,7 @@ fn find_below<S: NodeStore>(
     }
 }
 
-// Takes the pair at a slot of the leaf at the end of a path out of the tree below a root.
+// Removes the pair at a slot of the leaf at the end of a path from the tree below a root.
 fn take_below<S: NodeStore>(
     store: &mut S,
     path: &mut VisitStack,
@@ -249,8 +250,8 @@ fn take_below<S: NodeStore>(
     })
 }
 
-/// The leaf and the slot of the key that equals `k` in a tree, where there is one, and at the end of
-/// the path the way there. It takes no memory. What the path held before plays no part.
+/// Returns the leaf and the slot of the key of a tree that equals `k`, if there is one. Then `path`
+/// holds the inner nodes on the way there. What it held before is discarded. It allocates nothing.
 pub fn find_entry<S: NodeStore>(
     tree: &Nodes<S>,
     path: &mut VisitStack,
@@ -264,8 +265,8 @@ pub fn find_entry<S: NodeStore>(
     find_below(&tree.store, path, tree.root, tree.height, k)
 }
 
-/// Takes the pair at a slot of the leaf at the end of a path out of a tree. `find_entry` answers
-/// the leaf and the slot, and leaves such a path. A refusal changes no slot.
+/// Removes the pair at a slot of the leaf at the end of a path from a tree. `find_entry` returns
+/// the leaf and the slot, and leaves such a path. If it fails, the tree is unchanged.
 pub fn take_entry<S: NodeStore>(
     tree: &mut Nodes<S>,
     path: &mut VisitStack,
@@ -294,9 +295,9 @@ pub fn take_entry<S: NodeStore>(
     Ok(gone.value)
 }
 
-/// Removes the pair with a key equal to `k` from a tree, where there is one, and hands it out with
-/// the key that stood there. It takes no memory where there is none; a refusal changes no slot.
-/// What the path held before plays no part: it is lent, so that none need be made.
+/// Removes the pair whose key equals `k` from a tree, if there is one, and returns it with the key
+/// that was stored. If there is none, it allocates nothing. If it fails, the tree is unchanged.
+/// What `path` held before is discarded. The caller provides it, so that none is allocated.
 pub fn remove_entry<S: NodeStore>(
     tree: &mut Nodes<S>,
     path: &mut VisitStack,
@@ -318,9 +319,9 @@ pub fn remove_entry<S: NodeStore>(
     }
 }
 
-/// Removes the pair with the least key from a tree, or the one with the greatest, where there is
-/// one, and hands it out. No key is compared or cloned on the way down. It takes no memory where
-/// there is none; a refusal changes no slot. The path is lent as to `remove_entry`.
+/// Removes the pair with the least key from a tree, or the one with the greatest, if there is one,
+/// and returns it. No key is compared or cloned on the way down. If there is none, it allocates
+/// nothing. If it fails, the tree is unchanged. `path` is as for `remove_entry`.
 pub fn remove_end<S: NodeStore>(
     tree: &mut Nodes<S>,
     path: &mut VisitStack,
@@ -344,8 +345,8 @@ pub fn remove_end<S: NodeStore>(
     Ok(Some(take_entry(tree, path, (leaf, slot), statistic)?))
 }
 
-/// Removes the pair at a place that is allowed for the query from a tree, where one is found; a
-/// refusal changes no slot. The path is lent as to `remove_entry`.
+/// Removes a pair that the argument may find for the query from a tree, if it finds one. If it
+/// fails, the tree is unchanged. `path` is as for `remove_entry`.
 pub fn remove_by_argument<S: NodeStore>(
     tree: &mut Nodes<S>,
     path: &mut VisitStack,

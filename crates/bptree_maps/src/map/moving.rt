@@ -42,9 +42,9 @@ impl<K: Key, V: Drop, A: Argument<K>> BPlusTreeMap<K, V, A> {
     /// the other map's value stays, and this map's key.
     ///
     /// It costs a removal and an insertion a pair. If one fails, the first pairs have moved, and
-    /// the others are still in the other map; a pair that was removed and not stored is returned in
-    /// the error. The error is `Full` if this map as it is left has `usize::MAX` pairs. If the other
-    /// map is empty, nothing fails.
+    /// the others are still in the other map. A pair that was removed and not stored is returned in
+    /// the error. The error is `Full` if this map as it is left has `usize::MAX` pairs. If the
+    /// other map is empty, nothing fails.
     pub fn append(&mut self, other: &mut Self) -> Result<(), MoveError<K, V>>
         ensures ok { OnOk result (AllMove (put_pair K.cmp) self.old other.old self.new other.new) }
         ensures err { IfErr result (MovesPairs K.cmp self.old other.old self.new other.new) }

@@ -56,8 +56,8 @@ impl<K: Key, V: Drop, A: Argument<K>> BPlusTreeMap<K, V, A> {
     /// no memory and is never refused. It costs what `contains_key` and `get_mut` do.
     ///
     /// Else the pair is put as by `insert`, and its value is found by a clone of `k`, on one more
-    /// descent. The clone can fail, and so can the insertion. Then the pair is returned in the error,
-    /// and nothing has changed. The error is `Full` if the map has `usize::MAX` pairs.
+    /// descent. The clone can fail, and so can the insertion. Then the pair is returned in the
+    /// error, and nothing has changed. The error is `Full` if the map has `usize::MAX` pairs.
     pub fn get_or_insert_with<F: FnOnce() -> V>(
         &mut self,
         k: K,

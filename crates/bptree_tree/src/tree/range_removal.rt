@@ -62,8 +62,8 @@ impl<S: NodeStore> BPlusTree<S> {
     /// answers how many there were.
     ///
     /// It costs a removal a pair, and a search for its key and for each end that is given. If one
-    /// fails, the first of the pairs have left and nothing else has changed: the tree is as whole as
-    /// before. If there is no such pair, nothing fails and nothing changes.
+    /// fails, the first of the pairs are removed and nothing else has changed. If there is no such
+    /// pair, nothing fails and nothing changes.
     pub fn remove_range<'b>(
         &mut self,
         lo: Option<&'b S::K>,
