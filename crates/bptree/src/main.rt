@@ -1,8 +1,9 @@
 //! Answers the lines of standard input on standard output.
 #![tactic(auto)]
 
+use bptree_script::error::exit_status;
+use bptree_script::session::serve;
 use std::process::ExitCode;
-use sweep_bptree::script::{exit_status, serve};
 
 fn main(rt: HostRuntime) -> ExitCode {
     let served = serve(rt.alloc(), &mut rt.stdin(), &mut rt.stdout());

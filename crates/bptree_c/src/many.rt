@@ -4,7 +4,7 @@ ghost use Rattle.std.specs.Ordering.{nat_cmp};
 ghost use Rattle.bptree_c.specs.Ends.{up_to, back_from, turned};
 ghost use Rattle.bptree_c.specs.Pairs.{IsCopied, IsTaken};
 ghost use Rattle.bptree_keys.specs.Ranges.{between};
-ghost use Rattle.bptree_maps.specs.Pages.{page};
+ghost use Rattle.bptree_tree.specs.Pages.{page};
 
 use crate::handle::{Handle, Map};
 use crate::pair::Pair;

@@ -1,7 +1,6 @@
 pub mod AddingLemmas
 pub mod KeyLemmas
 pub mod MovingLemmas
-pub mod PageLemmas
 pub mod PlaceLemmas
 pub mod PopLemmas
 pub mod RetainLemmas

@@ -5,7 +5,6 @@ pub mod KeyBounds
 pub mod KeyChanges
 pub mod Keys
 pub mod Moving
-pub mod Pages
 pub mod Places
 pub mod Popping
 pub mod RetainedKeys

@@ -3,7 +3,7 @@ ghost use Rattle.std.specs.Prelude.{◌≡◌, ◌≤◌, ℕ, List, [], length,
 ghost use Rattle.std.specs.Int.{div_ceil};
 ghost use Rattle.std.specs.Map.Iter.{ShowsInOrder, deref_pair};
 ghost use Rattle.bptree_keys.specs.Contents.{IsAscending, has};
-ghost use Rattle.bptree_maps.specs.Pages.{page as page_of_list, group_page as group_page_of_list, first_pages, IsPageOf};
+ghost use Rattle.bptree_tree.specs.Pages.{page as page_of_list, group_page as group_page_of_list, first_pages, IsPageOf};
 
 use crate::map::{BPlusTreeMap, Iter};
 use bptree_arguments::argument::Argument;

@@ -6,3 +6,4 @@ pub mod PairLemmas
 pub mod PlaceLemmas
 pub mod RunLemmas
 pub mod SentLemmas
+pub mod SessionLemmas

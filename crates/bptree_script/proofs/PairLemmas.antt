@@ -2,7 +2,7 @@
 use Rattle.std.proofs.Common.{◌≡◌, ◌-◌, ◌^◌, ℕ, zero, suc, List, [], ◌∷◌, ◌++◌, codes, map, Bool, true, false, refl, sym, ap, append-nil}
 use Rattle.std.specs.List.{join_with_byte}
 use Rattle.std.specs.Ordering.{nat_cmp}
-use Rattle.bptree_maps.specs.Pages.{page}
+use Rattle.bptree_tree.specs.Pages.{page}
 use Rattle.bptree_script.specs.Answers.{pair_text, item_text, pairs_text, page_text, put_text}
 use Rattle.bptree_tree.specs.Changes.{IsFull}
 

@@ -6,7 +6,7 @@ use Rattle.std.specs.Ordering.{nat_cmp}
 use Rattle.bptree_arguments.specs.CountLaws.{count_below}
 use Rattle.bptree_keys.specs.Contents.{has, value, put, del, next, previous}
 use Rattle.bptree_keys.specs.Ranges.{between}
-use Rattle.bptree_maps.specs.Pages.{page}
+use Rattle.bptree_tree.specs.Pages.{page}
 use Rattle.bptree_requests.specs.Request.{request_of}
 use Rattle.bptree_requests.specs.declared.Request.{Request}
 use Rattle.bptree_requests.specs.declared.Request.TheVariants.{Put, Del, Get, Len, All, First, Last, At, Rank, Next, Prev, Back, Clear, Range, Page}

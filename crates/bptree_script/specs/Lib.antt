@@ -5,4 +5,5 @@ pub mod Ends
 pub mod Faults
 pub mod Lines
 pub mod Sent
+pub mod Served
 pub mod Steps

@@ -7,4 +7,5 @@ mod held;
 pub mod lines;
 pub mod output;
 pub mod reply;
+pub mod session;
 pub mod walk;

@@ -6,6 +6,7 @@ pub mod EntryLemmas
 pub mod FailureLemmas
 pub mod Heights
 pub mod LentAt
+pub mod PageLemmas
 pub mod PartSpans
 pub mod RangeRemovalLemmas
 pub mod Removed

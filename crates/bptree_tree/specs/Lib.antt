@@ -5,6 +5,7 @@ pub mod Entries
 pub mod RangeRemoval
 pub mod Refusal
 pub mod NodeRows
+pub mod Pages
 pub mod Rows
 pub mod Selected
 pub mod Updating

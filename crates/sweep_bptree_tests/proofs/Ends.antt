@@ -6,11 +6,11 @@ use Rattle.bptree_script.proofs.LineLemmas.{answers-append, ended_after-append}
 use Rattle.bptree_script.specs.Answers.{answers, pairs_after_all, text}
 use Rattle.bptree_script.specs.Lines.{ended_after, rest_after, ended_lines, last_line}
 use Rattle.bptree_script.specs.Sent.{AppendsBeginning}
-use Rattle.sweep_bptree.specs.Served.{StoppedBy, EndedBy, AreLinesRead, error_of}
+use Rattle.bptree_script.specs.Served.{StoppedBy, EndedBy, AreLinesRead, error_of}
 use Rattle.bptree_script.specs.declared.error.ServeError.{ServeError}
 use Rattle.bptree_script.specs.declared.error.ServeError.TheVariants as error
-use Rattle.sweep_bptree.specs.declared.script.session.Stop.{Stop}
-use Rattle.sweep_bptree.specs.declared.script.session.Stop.TheVariants.{Reader, Writer, NoEnd, OutOfMemory}
+use Rattle.bptree_script.specs.declared.session.Stop.{Stop}
+use Rattle.bptree_script.specs.declared.session.Stop.TheVariants.{Reader, Writer, NoEnd, OutOfMemory}
 
 -- the answers to the lines that end in a front of the input are a beginning of the answers to the input
 text_begins : (read more : List ℕ) → (rest : List ℕ) × (text (read ++ more) ≡ answers [] (ended_lines read) ++ rest)

@@ -10,10 +10,10 @@ ghost use Rattle.bptree_keys.specs.Ranges.{between};
 ghost use Rattle.sweep_bptree.specs.CountLaws.{count_below};
 ghost use Rattle.bptree_script.specs.Lines.{ended_lines};
 ghost use Rattle.bptree_script.specs.Sent.{AppendsBeginning};
-ghost use Rattle.sweep_bptree.specs.Served.{StoppedBy};
+ghost use Rattle.bptree_script.specs.Served.{StoppedBy};
 ghost use Rattle.bptree_script.specs.Steps.{Run, Step};
 ghost use Rattle.bptree_shape.specs.Shape.{pairs_at};
-ghost use Rattle.sweep_bptree.specs.declared.script.session.Stop.TheVariants.{Reader, Writer};
+ghost use Rattle.bptree_script.specs.declared.session.Stop.TheVariants.{Reader, Writer};
 ghost use Rattle.bptree_nodes.specs.Leaf.{set_value_at};
 ghost use Rattle.bptree_ascent.specs.Lending.{written};
 

@@ -2,7 +2,7 @@ use Rattle.std.proofs.Common.{◌∙◌, ◌<◌, ◌^◌, length, arith}
 use Rattle.std.specs.Ordering.{is_eq}
 use Rattle.std.proofs.lemmas.Result.{IfOk-weaker}
 use Rattle.bptree_arguments.specs.Groups.{of_group}
-use Rattle.bptree_maps.proofs.PageLemmas.{part_is_page, filter_fits}
+use Rattle.bptree_tree.proofs.PageLemmas.{part_is_page, filter_fits}
 use Rattle.bptree_maps.proofs.page.group_page.Goals as goal
 
 pub returns-clause-rest : goal.returns-clause-rest

@@ -1,4 +1,4 @@
-use Rattle.bptree_maps.proofs.PageLemmas.{all_pages, later_page}
+use Rattle.bptree_tree.proofs.PageLemmas.{all_pages, later_page}
 use Rattle.bptree_maps.proofs.page.laws_of_pages.Goals as goal
 
 pub returns-clause-all : goal.returns-clause-all

@@ -1,6 +1,6 @@
 use Rattle.std.proofs.Common.{◌<◌, ◌^◌, length, arith}
 use Rattle.std.proofs.lemmas.Result.{IfOk-weaker}
-use Rattle.bptree_maps.proofs.PageLemmas.{page_is}
+use Rattle.bptree_tree.proofs.PageLemmas.{page_is}
 use Rattle.bptree_maps.proofs.page.page.Goals as goal
 
 pub returns-clause-rest : goal.returns-clause-rest

@@ -1,5 +1,5 @@
 use Rattle.std.proofs.Common.{rules, ◌<◌, ◌^◌, length, arith}
-use Rattle.bptree_maps.proofs.PageLemmas.{page_is}
+use Rattle.bptree_tree.proofs.PageLemmas.{page_is}
 use Rattle.bptree_script.proofs.PairLemmas.{page_text-is}
 use Rattle.bptree_script.proofs.reply.send_page.Goals as goal
 

@@ -12,10 +12,10 @@ use Rattle.bptree_script.specs.declared.lines.TheConstants.{KEPT}
 use Rattle.bptree_script.specs.Clipped.{clipped_after, clipped_rest}
 use Rattle.bptree_script.specs.Lines.{ended_after, rest_after, ended_lines, last_line, lines_of}
 use Rattle.bptree_script.specs.Sent.{Sent, Sends, CutsOff, Breaks, Drains, Flushes, AppendsBeginning}
-use Rattle.sweep_bptree.specs.Served.{Answered, StoppedBy, stop_of, EndsAt, AnswersPiece, BreaksLast, AnswersLast}
+use Rattle.bptree_script.specs.Served.{Answered, StoppedBy, stop_of, EndsAt, AnswersPiece, BreaksLast, AnswersLast}
 use Rattle.bptree_script.specs.declared.error.ServeError.{ServeError}
 use Rattle.bptree_script.specs.declared.error.ServeError.TheVariants.{Io, OutOfMemory}
-use Rattle.sweep_bptree.specs.declared.script.session.Stop.TheVariants as stop
+use Rattle.bptree_script.specs.declared.session.Stop.TheVariants as stop
 
 -- where nothing was held, the text is what was written and is held now
 all_sent : (a b : Sent) (t front : List ℕ) → a.held ≡ [] → a.held ++ t ≡ front ++ b.held → t ≡ front ++ b.held

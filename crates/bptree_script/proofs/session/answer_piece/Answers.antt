@@ -1,6 +1,6 @@
 use Rattle.std.proofs.lemmas.Result.{err_from_is_err_and}
-use Rattle.sweep_bptree.proofs.SessionLemmas.{piece_done, piece_refused, piece_cut, piece_failed}
-use Rattle.sweep_bptree.proofs.script.session.answer_piece.Goals as goal
+use Rattle.bptree_script.proofs.SessionLemmas.{piece_done, piece_refused, piece_cut, piece_failed}
+use Rattle.bptree_script.proofs.session.answer_piece.Goals as goal
 
 pub returns-in_err-drain-in-Err-OutOfMemory-clause-answers :
     goal.returns-in_err-drain-in-Err-OutOfMemory-clause-answers

@@ -1,7 +1,7 @@
 use Rattle.std.proofs.Common.{rules}
 use Rattle.std.proofs.lemmas.Result.{err_from_is_err_and}
-use Rattle.sweep_bptree.proofs.SessionLemmas.{last_broken, last_cut, last_done}
-use Rattle.sweep_bptree.proofs.script.session.answer_last.Goals as goal
+use Rattle.bptree_script.proofs.SessionLemmas.{last_broken, last_cut, last_done}
+use Rattle.bptree_script.proofs.session.answer_last.Goals as goal
 
 pub returns-in_err-drain : goal.returns-in_err-drain
 returns-in_err-drain g c =

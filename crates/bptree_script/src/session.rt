@@ -1,19 +1,20 @@
 //! An input in, its answers out.
-ghost use Rattle.std.specs.Prelude.{◌≡◌, ◌≤◌, [], OnOk};
+ghost use Rattle.std.specs.Prelude.{◌≡◌, ◌≤◌, [], IfOk, OnOk};
 ghost use Rattle.arrayvec.specs.ArrayVec.{array_vec_len};
 ghost use Rattle.bptree_script.specs.Carried.{CarriesOutAll};
 ghost use Rattle.bptree_script.specs.Clipped.{clipped_rest};
 ghost use Rattle.bptree_script.specs.Lines.{PartsAreLines};
-ghost use Rattle.sweep_bptree.specs.Served.{Serves, Answers, AnswersKnown, EndsBy, AnswersPiece, AnswersLast, stop_of, error_of};
+ghost use Rattle.bptree_script.specs.Served.{Serves, Answers, AnswersKnown, EndsBy, AnswersPiece, AnswersLast, stop_of, error_of};
 
+use crate::error::ServeError;
+use crate::lines::{KEPT, Kept, take_lines};
+use crate::output::Output;
+use crate::reply::{NumberTree, answer_line};
 use arrayvec::ArrayVec;
-use bptree_arguments::count::Count;
-use bptree_maps::map::BPlusTreeMap;
-use bptree_script::error::ServeError;
-use bptree_script::lines::{KEPT, Kept, take_lines};
-use bptree_script::output::Output;
-use bptree_script::reply::{NumberTree, answer_line};
-use std::alloc::Global;
+use bptree_stores::node_store_vec::NodeStoreVec;
+use bptree_stores::node_stores::NodeStore;
+use bptree_tree::BPlusTree;
+use std::alloc::{AllocError, Global};
 use std::io::{Read, Write};
 
 /// How many bytes are read at once.
@@ -96,6 +97,12 @@ fn answer_last<W: Write>(
     out.flush()
 }
 
+fn empty_tree(alloc: Global) -> Result<NumberTree, AllocError>
+    ensures { IfOk result (λ tree. tree.contents ≡ []) }
+{
+    BPlusTree::new(NodeStoreVec::empty(alloc))
+}
+
 fn serve_pieces<R: Read, W: Write>(
     alloc: Global,
     reader: &mut R,
@@ -105,7 +112,7 @@ fn serve_pieces<R: Read, W: Write>(
     ensures serves { Serves R.remaining reader.old reader.new out.old out.new result }
     ensures writer { out.new.writer ≡ out.old.writer }
 {
-    let Ok(mut map) = BPlusTreeMap::<u64, u64, Count>::new(alloc) else {
+    let Ok(mut tree) = empty_tree(alloc) else {
         return Err(Stop::OutOfMemory);
     };
     let mut line = ArrayVec::new();
@@ -114,22 +121,21 @@ fn serve_pieces<R: Read, W: Write>(
         let Ok(n) = reader.read(&mut input) else {
             return Err(Stop::Reader);
         };
-        let tree = map.tree_mut();
         if n == 0 {
-            answer_last(tree, line.as_slice(), out)?;
+            answer_last(&mut tree, line.as_slice(), out)?;
             return Ok(());
         }
-        answer_piece(tree, &mut line, &input[..n], out)?;
+        answer_piece(&mut tree, &mut line, &input[..n], out)?;
     }
     Err(Stop::NoEnd)
 }
 
-/// Reads lines to the end of the input, carries out each on the tree of a map that begins empty,
-/// and writes the answer to each.
+/// Reads lines to the end of the input, carries out each on a tree that begins empty, and writes the
+/// answer to each.
 ///
 /// The answers to all lines that were read are written before more is read, and the writer is
 /// flushed at the end. Of a line no more than 48 bytes are kept, and no memory is taken beside the
-/// map's. A write that takes no byte is a fault, and so is an input without an end after `u64::MAX`
+/// tree's. A write that takes no byte is a fault, and so is an input without an end after `u64::MAX`
 /// reads.
 pub fn serve<R: Read, W: Write>(
     alloc: Global,

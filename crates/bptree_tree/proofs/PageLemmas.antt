@@ -11,7 +11,7 @@ use Rattle.std.specs.Int.{div_ceil}
 use Rattle.bptree_arguments.specs.CountLaws.{SelectsPlace}
 use Rattle.bptree_keys.specs.Ranges.{part}
 use Rattle.bptree_descents.specs.ByArgument.{IsPartSelected}
-use Rattle.bptree_maps.specs.Pages.{page, first_pages}
+use Rattle.bptree_tree.specs.Pages.{page, first_pages}
 
 module _ {X : Type 0} (l : List X) (s : ℕ) where
   first_pages-take : (n : ℕ) → first_pages l s n ≡ take (n * s) l

@@ -3,8 +3,8 @@ use Rattle.std.specs.Prelude.{◌≡◌, ◌≤◌, ◌-◌, ◌^◌, ◌⊎◌,
 use Rattle.std.specs.Io.KnownBytes.{Appends, Consumes, IsAtEnd}
 use Rattle.bptree_script.specs.declared.error.ServeError.{ServeError}
 use Rattle.bptree_script.specs.declared.error.ServeError.TheVariants as error
-use Rattle.sweep_bptree.specs.declared.script.session.Stop.{Stop}
-use Rattle.sweep_bptree.specs.declared.script.session.Stop.TheVariants.{Reader, Writer, NoEnd, OutOfMemory}
+use Rattle.bptree_script.specs.declared.session.Stop.{Stop}
+use Rattle.bptree_script.specs.declared.session.Stop.TheVariants.{Reader, Writer, NoEnd, OutOfMemory}
 use Rattle.bptree_script.specs.Answers.{answers, text}
 use Rattle.bptree_script.specs.Clipped.{clipped_after}
 use Rattle.bptree_script.specs.Lines.{ended_lines, last_line, lines_of}
