@@ -1,8 +1,9 @@
 -- What callers say of summaries of keys.
 use Rattle.std.specs.Prelude.{List}
+use Rattle.std.specs.Map.{keys_of}
 use Rattle.std.specs.declared.cmp.Ordering.{Ordering}
 use Rattle.bptree_ascent.specs.NodeTree.{NodeTree}
-use Rattle.bptree_keys.specs.Contents.{below}
+use Rattle.bptree_keys.specs.Contents.{below, del}
 use Rattle.bptree_callers.specs.Words.{keys_from}
 
 module _ {K V A : Type 0} (cmp : K → K → Ordering) (is_summary : A → List K → Type 0) (l : List (K × V)) (k : K) where
@@ -16,3 +17,7 @@ module _ {K V A : Type 0} (cmp : K → K → Ordering) (is_summary : A → List 
 -- the argument of a tree's root is a summary of the keys
 abbrev pub RootSumsUp : {S K V A : Type 0} → (A → List K → Type 0) → List K → NodeTree S K V A → Type 0
 RootSumsUp is_summary keys tree = is_summary tree.root_argument keys
+
+-- it is a summary of the keys that another tree had, but for one
+abbrev pub RootSumsUpRest : {S K V A : Type 0} → (A → List K → Type 0) → (K → K → Ordering) → K → NodeTree S K V A → NodeTree S K V A → Type 0
+RootSumsUpRest is_summary cmp k old new = RootSumsUp is_summary (keys_of (del cmp old.contents k)) new

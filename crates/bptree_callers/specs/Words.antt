@@ -1,5 +1,5 @@
 -- What callers say of lists, trees and what a call told.
-use Rattle.std.specs.Prelude.{◌≡◌, ◌<◌, ◌-◌, ◌||◌, ℕ, Bool, true, false, List, [], ◌∷◌, ◌++◌, Option, Some, None, Result, IfOk, IfSome, IsOkUnless, length, slice_get}
+use Rattle.std.specs.Prelude.{◌≡◌, ◌<◌, ◌≤◌, ◌-◌, ◌*◌, ◌^◌, ◌||◌, ℕ, Bool, true, false, List, [], ◌∷◌, ◌++◌, Option, Some, None, Result, IfOk, IfSome, IsOkUnless, length, slice_get}
 use Rattle.std.specs.Borrow.{Bor}
 use Rattle.std.specs.declared.cmp.Ordering.{Ordering}
 use Rattle.std.specs.declared.cmp.Ordering.TheVariants.{Equal}
@@ -22,7 +22,7 @@ use Rattle.bptree_nodes.specs.Inner.{Inner}
 use Rattle.bptree_nodes.specs.Leaf.{Leaf, set_value_at}
 use Rattle.bptree_nodes.specs.Slot.{Slots, IsPresent}
 use Rattle.bptree_shape.specs.Shape.{IsWellShaped, leaf_count, inner_count, leaf_pairs, pairs_at}
-use Rattle.bptree_tree.specs.Cursor.{cursor_key}
+use Rattle.bptree_tree.specs.Cursor.{cursor_key, pair_before}
 use Rattle.bptree_tree.specs.Whole.{HasSameNodes, pairs_of_nodes}
 use Rattle.bptree_tree.specs.declared.cursor.Cursor.{Cursor}
 
@@ -86,6 +86,10 @@ module _ {X : Type 0} where
 -- the pair that was told is one of the list
 abbrev pub IsOneOf : {X : Type 0} → List X → X → Type 0
 IsOneOf l x = (i : ℕ) × (slice_get l i ≡ Some x)
+
+-- so many levels above the leaves of a tree need so many pairs
+abbrev pub AllowsLevels : {X : Type 0} → List X → ℕ → Type 0
+AllowsLevels l levels = 0 < levels → 32 * 17 ^ (levels - 1) ≤ length l
 
 -- ---- pairs
 
@@ -155,6 +159,10 @@ module _ {K V : Type 0} where
     -- at each key stands the value of the last pair with an equal key
     abbrev pub HasLastValues : List (K × V) → List (K × V) → Type 0
     HasLastValues pairs new = (k : K) → value cmp new k ≡ last_value cmp pairs k
+
+    -- the key before a cursor, where the pair with the key k has left
+    abbrev pub key_before_without : List (K × V) → K → Cursor K → Option K
+    key_before_without l k cursor = told_key (pair_before cmp (del cmp l k) cursor)
 
     -- the previous of a key is the nearest below it
     abbrev pub StepsBackTo : List (K × V) → K → Type 0

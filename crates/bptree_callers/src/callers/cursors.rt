@@ -5,7 +5,7 @@ ghost use Rattle.std.specs.Option.{option_map};
 ghost use Rattle.bptree_keys.specs.Contents.{has, next, last_member};
 ghost use Rattle.bptree_keys.specs.Neighbours.{IsAfter};
 ghost use Rattle.bptree_tree.specs.Cursor.{cursor_key, pair_after, pair_before};
-ghost use Rattle.bptree_callers.specs.Words.{ReadsAt, StepsBackTo, told_key};
+ghost use Rattle.bptree_callers.specs.Words.{OkIs, ReadsAt, StepsBackTo, key_before_without, told_key};
 
 use bptree_keys::contents::laws_of_neighbours;
 use bptree_keys::key::Key;
@@ -170,6 +170,19 @@ fn keeps_its_neighbours<S: NodeStore<K = u64, V = u64>>(
         }
         None => unreachable!(),
     }
+}
+
+// After a removal the key before a cursor is that of the keys that are left, also where two leaves
+// were merged before the cursor's leaf.
+fn goes_back_after_a_removal<S: NodeStore<K = u64>>(
+    tree: &mut BPlusTree<S>,
+    k: u64,
+    cursor: &Cursor<u64>,
+) -> Result<Option<u64>, AllocError>
+    ensures { OkIs result (key_before_without nat_cmp tree.old.contents k cursor.now) }
+{
+    tree.remove(&k)?;
+    Ok(goes_back(cursor, tree))
 }
 
 // A cursor reads what a look-up of its key reads.

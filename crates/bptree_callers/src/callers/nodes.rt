@@ -2,7 +2,7 @@
 //! idle beside it.
 ghost use Rattle.std.specs.Prelude.{◌≡◌, IsTrue, OnOk, Some, false};
 ghost use Rattle.bptree_ascent.specs.Lending.{written};
-ghost use Rattle.bptree_keys.specs.Contents.{put};
+ghost use Rattle.bptree_keys.specs.Contents.{put, del};
 ghost use Rattle.bptree_stores.specs.StoreSlabs.{slots};
 ghost use Rattle.bptree_tree.specs.Whole.{IsUntouched};
 ghost use Rattle.bptree_callers.specs.Words.{EachInnerStandsOnce, EachLeafStandsOnce, NodesHave, lent_keys, lent_pairs, shown};
@@ -17,6 +17,7 @@ use bptree_sets::set::BPlusTreeSet;
 use bptree_stores::node_store_vec::NodeStoreVec;
 use bptree_stores::node_stores::NodeStore;
 use bptree_tree::{BPlusTree, InsertError};
+use std::alloc::AllocError;
 
 // The nodes below the root, of its height, have the pairs of the list.
 fn lends_the_list<S: NodeStore>(tree: &BPlusTree<S>) -> (&S, NodeId, usize)
@@ -63,6 +64,19 @@ fn leaves_no_node_idle<S: NodeStore>(
     ensures list { OnOk result (NodesHave S.slots tree.new (put S.K.cmp tree.old.contents k v)) }
 {
     tree.insert(k, v)
+}
+
+// Nor after a removal, or one that is refused: a leaf that was merged into another goes, and so
+// does a root that has no key left.
+fn leaves_no_node_behind<S: NodeStore>(
+    tree: &mut BPlusTree<S>,
+    k: &S::K,
+) -> Result<Option<S::V>, AllocError>
+    ensures leaves { EachLeafStandsOnce (S.slots tree.new.store) tree.new.height tree.new.root }
+    ensures inners { EachInnerStandsOnce (S.slots tree.new.store) tree.new.height tree.new.root }
+    ensures list { OnOk result (NodesHave S.slots tree.new (del S.K.cmp tree.old.contents k.now)) }
+{
+    tree.remove(k)
 }
 
 // What a tree shows of its nodes: the root, the height, and how many pairs stand in the leaf of a

@@ -1,8 +1,12 @@
-//! Callers of removals for which no memory is needed: none of them fails.
-ghost use Rattle.std.specs.Prelude.{◌≡◌, List, false, true, remove, slice_get};
+//! Callers of removals for which no memory is needed: none of them fails. And callers of the summary
+//! and the levels that a removal leaves.
+ghost use Rattle.std.specs.Prelude.{◌≡◌, List, false, true, remove, slice_get, IfOk, OnOk};
 ghost use Rattle.std.specs.Map.Iter.{TakesFirst, TakesLast};
 ghost use Rattle.std.specs.Ordering.{nat_cmp};
+ghost use Rattle.bptree_callers.specs.Summaries.{RootSumsUpRest};
+ghost use Rattle.bptree_callers.specs.Words.{AllowsLevels};
 ghost use Rattle.bptree_descents.specs.ByArgument.{IsTaken};
+ghost use Rattle.bptree_keys.specs.Contents.{del};
 ghost use Rattle.bptree_keys.specs.Keys.{AllInfallible};
 ghost use Rattle.bptree_maps.specs.KeyChanges.{RemovesKey, TakesKey};
 ghost use Rattle.bptree_tree.specs.Changes.{PopsFirst, PopsLast, Removes, RemovesEntry};
@@ -14,6 +18,7 @@ use bptree_maps::map::BPlusTreeMap;
 use bptree_sets::set::BPlusTreeSet;
 use bptree_stores::node_stores::NodeStore;
 use bptree_tree::BPlusTree;
+use std::alloc::AllocError;
 
 // A removal by a key from a tree.
 fn removes_from_a_tree<S: NodeStore>(tree: &mut BPlusTree<S>, k: &S::K) -> Option<S::V>
@@ -152,4 +157,24 @@ fn pops_a_key(set: &mut BPlusTreeSet<u64>, last: bool) -> Option<u64>
         Ok(gone) => gone,
         Err(_) => unreachable!(),
     }
+}
+
+// The root's argument is a summary of the keys that are left, also where the pair left a leaf far
+// below the root.
+fn sums_up_what_is_left<S: NodeStore>(
+    tree: &mut BPlusTree<S>,
+    k: &S::K,
+) -> Result<Option<S::V>, AllocError>
+    ensures { OnOk result (RootSumsUpRest S.Argument.is_summary S.K.cmp k.now tree.old tree.new) }
+{
+    tree.remove(k)
+}
+
+// So many levels need so many pairs, after a removal too: a leaf that is left with few pairs takes
+// some of another, or is merged into it.
+fn stays_low<S: NodeStore>(tree: &mut BPlusTree<S>, k: &S::K) -> Result<usize, AllocError>
+    ensures { IfOk result (AllowsLevels (del S.K.cmp tree.old.contents k.now)) }
+{
+    tree.remove(k)?;
+    Ok(tree.height())
 }

@@ -75,6 +75,18 @@ fn size_of_the_greatest_group<G: Key>(summary: &GroupCount<G>) -> usize
     }
 }
 
+// The greatest group of a leaf is told with as many keys as it has, whatever groups come before it.
+fn sizes_the_greatest_group_of_a_leaf<K: Key, G: FromRef<K> + Key>(
+    keys: &[K],
+) -> Result<usize, AllocError>
+    requires some { 0 < length keys.now }
+    requires ascending { IsStrictlySortedBy K.cmp keys.now }
+    ensures { (g : G) → AllByRecursion (λ x. is_gt (G.cmp x g) ≡ false) (map G.group_of keys.now) → 0 < group_size G.cmp g (map G.group_of keys.now) → IfOk result (λ n. n ≡ group_size G.cmp g (map G.group_of keys.now)) }
+{
+    let summary = <GroupCount<G> as Argument<K>>::from_leaf(keys)?;
+    Ok(size_of_the_greatest_group(&summary))
+}
+
 // Of each kind of summary is told what it has, whatever its groups and numbers are.
 fn tells_what_it_has<G: Key>(summary: &GroupCount<G>) -> (bool, usize)
     ensures none { summary.now ≡ GroupCount.Zero → result ≡ (true, 0) }

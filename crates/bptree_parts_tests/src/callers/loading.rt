@@ -1,10 +1,11 @@
-//! Callers of the order of pairs, and of the last of each run.
-ghost use Rattle.std.specs.Prelude.{◌≡◌, ◌≢◌, ◌∷◌, ◌↔◌, [], Some, List, IsTrue, false};
+//! Callers of the order of pairs, of the last of each run, and of the cuts of a layer.
+ghost use Rattle.std.specs.Prelude.{◌≡◌, ◌≢◌, ◌≤◌, ◌+◌, ◌⊎◌, ◌∷◌, ◌↔◌, [], Some, List, IsTrue, false};
 ghost use Rattle.std.specs.declared.cmp.Ordering.TheVariants.{Equal, Greater};
 ghost use Rattle.bptree_keys.specs.Contents.{IsAscending, load, gather, value};
 ghost use Rattle.bptree_loading.specs.Loading.{IsInLoadOrder, last_value};
 
 use bptree_keys::key::Key;
+use bptree_loading::cuts::first_of_layer;
 use bptree_loading::loading::{in_load_order, keep_last_of_each_run, laws_of_load, sort_for_load};
 
 // No pairs are in order, one pair is, and two are where the first key is not above the second.
@@ -60,4 +61,22 @@ fn gathers_by_sorting<K: Key, V: Drop>(pairs: &mut Vec<(K, V)>) -> bool
     }
     keep_last_of_each_run(pairs);
     true
+}
+
+// One node after another, each takes what it has room for. What is left for those behind it is
+// nothing, or enough for one more.
+fn leaves_enough_for_another(left: usize, capacity: usize, least: usize) -> usize
+    requires { least + least ≤ capacity }
+    ensures taken { left ≤ result + capacity }
+    ensures enough { (result ≡ 0) ⊎ (least ≤ result) }
+{
+    left - first_of_layer(left, capacity, least)
+}
+
+// Two nodes share one pair more than a node has room for, and each takes half of them.
+fn shares_one_too_many() -> (usize, usize)
+    ensures { result ≡ (33, 32) }
+{
+    let first = first_of_layer(65, 64, 16);
+    (first, first_of_layer(65 - first, 64, 16))
 }

@@ -244,16 +244,20 @@ fn counts_the_hint<S: NodeStore>(store: &S, key: &S::K) -> (Option<bool>, usize)
     (holds, compares.count())
 }
 
-// The store over slabs compares the key with two others at most.
+// A hint of the store over slabs is one that holds, too. It takes two comparisons at most.
 fn compares_two_keys<K: Key, V: Drop, A: Argument<K>>(
     store: &NodeStoreVec<K, V, A>,
     key: &K,
-) -> usize
-    ensures { result ≤ 2 }
+) -> (Option<bool>, usize)
+    ensures holds { IfSome result.0 (λ holds. holds ≡ true) }
+    ensures count { result.1 ≤ 2 }
 {
     let mut compares = Compares::new();
-    let _ = store.try_cache_counted(key, &mut compares);
-    compares.count()
+    let holds = match store.try_cache_counted(key, &mut compares) {
+        Some(id) => Some(store.get_leaf(id).in_range(key)),
+        None => None,
+    };
+    (holds, compares.count())
 }
 
 /// A number that is held is held in the clone too, which can take a leaf there.
