@@ -7,8 +7,8 @@ use Rattle.std.specs.Ordering.{nat_cmp, ordering_then}
 use Rattle.std.specs.List.{AllByRecursion}
 use Rattle.std.specs.List.Sorted.{IsStrictlySortedBy}
 use Rattle.std.proofs.lemmas.Bool.{eqb-true, eq-eqb, and_parts, and_from}
-use Rattle.bptree_examples.specs.declared.date_statistic.Date.{Date}
-use Rattle.bptree_examples.specs.contracts.date_statistic.DateOrd.TheImpl.{cmp-value}
+use Rattle.bptree_examples.specs.declared.examples.date_statistic.Date.{Date}
+use Rattle.bptree_examples.specs.contracts.examples.date_statistic.DateOrd.TheImpl.{cmp-value}
 use Rattle.bptree_examples.specs.Dates.{same_year, same_month, same_day}
 use Rattle.bptree_keys.proofs.PieceLemmas.{AllByRecursion-weaker}
 

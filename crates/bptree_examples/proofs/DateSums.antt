@@ -13,10 +13,10 @@ use Rattle.bptree_arguments.proofs.CountLemmas.{sum_by-filters}
 use Rattle.bptree_arguments.proofs.RankLemmas.{filter_none}
 use Rattle.bptree_keys.proofs.PieceLemmas.{AllByRecursion-left, AllByRecursion-right, AllByRecursion-weaker, sorted_left, sorted_right}
 use Rattle.bptree_keys.specs.Pieces.{flatten, AllNonEmpty, ArePieces}
-use Rattle.bptree_examples.specs.declared.date_statistic.Counter.{Counter}
-use Rattle.bptree_examples.specs.declared.date_statistic.Date.{Date}
-use Rattle.bptree_examples.specs.declared.date_statistic.DateStatisticEntry.{DateStatisticEntry}
-use Rattle.bptree_examples.specs.declared.date_statistic.DateStatisticArgument.{DateStatisticArgument}
+use Rattle.bptree_examples.specs.declared.examples.date_statistic.Counter.{Counter}
+use Rattle.bptree_examples.specs.declared.examples.date_statistic.Date.{Date}
+use Rattle.bptree_examples.specs.declared.examples.date_statistic.DateStatisticEntry.{DateStatisticEntry}
+use Rattle.bptree_examples.specs.declared.examples.date_statistic.DateStatisticArgument.{DateStatisticArgument}
 use Rattle.bptree_examples.specs.Dates.{same_year, same_month, same_day, IsEntry, IsStatistic}
 use Rattle.bptree_examples.proofs.DateOrder.{NotAfter, Between, IsTest, year_test, month_test, day_test, last_or, last_is, last_or-append, last_or-all, after_first, upto_last}
 

@@ -7,8 +7,8 @@ use Rattle.std.proofs.lemmas.List.Elements.{filter-append}
 use Rattle.bptree_arguments.proofs.RankLemmas.{filter_none}
 use Rattle.bptree_keys.proofs.PieceLemmas.{AllByRecursion-at, AllByRecursion-weaker, AllZip-at, AllZip-length, flatten-cut, flatten-take_more, sorted_left, sorted_right}
 use Rattle.bptree_keys.specs.Pieces.{flatten, piece_at, ArePieces}
-use Rattle.bptree_examples.specs.declared.date_statistic.Date.{Date}
-use Rattle.bptree_examples.specs.declared.date_statistic.DateStatisticArgument.{DateStatisticArgument}
+use Rattle.bptree_examples.specs.declared.examples.date_statistic.Date.{Date}
+use Rattle.bptree_examples.specs.declared.examples.date_statistic.DateStatisticArgument.{DateStatisticArgument}
 use Rattle.bptree_examples.specs.Dates.{in_year, IsStatistic}
 use Rattle.bptree_examples.proofs.DateOrder.{NotAfter, last_or, last_is, after_first, upto_last, beyond_last, date_order, in_order}
 

@@ -2,7 +2,7 @@
 use Rattle.std.proofs.Common.{◌≡◌, ℕ, ◌+◌, ◌-◌, ◌^◌, ◌<◌, min, nat_eq, List, length, Option, Some, None, ap, ◌∙◌, arith}
 use Rattle.std.proofs.lemmas.List.Sums.{length-filter, count_by-le-length}
 use Rattle.bptree_arguments.specs.Visits.{answered}
-use Rattle.bptree_examples.specs.declared.date_statistic.Date.{Date}
+use Rattle.bptree_examples.specs.declared.examples.date_statistic.Date.{Date}
 use Rattle.bptree_examples.specs.Dates.{in_year}
 use Rattle.bptree_examples.proofs.Told.{told}
 

@@ -2,10 +2,10 @@
 use Rattle.std.specs.Prelude.{◌≡◌, ℕ, ◌+◌, ◌-◌, ◌^◌, min, nat_eq, Bool, cond, ◌&&◌, List, length, slice_index_or, Some}
 use Rattle.std.specs.List.{filter}
 use Rattle.bptree_arguments.specs.Visits.{VisitAnswer, answered}
-use Rattle.bptree_examples.specs.declared.date_statistic.Counter.{Counter}
-use Rattle.bptree_examples.specs.declared.date_statistic.Date.{Date}
-use Rattle.bptree_examples.specs.declared.date_statistic.DateStatisticEntry.{DateStatisticEntry}
-use Rattle.bptree_examples.specs.declared.date_statistic.DateStatisticArgument.{DateStatisticArgument}
+use Rattle.bptree_examples.specs.declared.examples.date_statistic.Counter.{Counter}
+use Rattle.bptree_examples.specs.declared.examples.date_statistic.Date.{Date}
+use Rattle.bptree_examples.specs.declared.examples.date_statistic.DateStatisticEntry.{DateStatisticEntry}
+use Rattle.bptree_examples.specs.declared.examples.date_statistic.DateStatisticArgument.{DateStatisticArgument}
 
 -- the dates share the year
 abbrev pub same_year : Date → Date → Bool

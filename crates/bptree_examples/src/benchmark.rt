@@ -1,0 +1,156 @@
+//! Times of the calls of a tree. A line for each call and round has the number of pairs, the tree's
+//! kind, the call, the time of one in hundredths of a nanosecond, and a sum of what was answered.
+//! Steps of a nanosecond or two are timed in functions of their own, which are not inlined, so that
+//! less hangs on where their loops lie.
+
+mod counted;
+mod groups;
+mod loaded;
+mod maps;
+mod numbers;
+mod ordered;
+mod strings;
+mod timing;
+mod union;
+
+use groups::Pair;
+use numbers::{Numbers, next_number, numbers_below, odd_numbers, shuffle, shuffled};
+use ordered::Mapped;
+use std::collections::BTreeMap;
+use sweep_bptree::tree::count::Count;
+use sweep_bptree::tree::group::{GroupCount, Tuple2};
+use sweep_bptree::tree::{
+    BPlusTree, CloneArgument, CloneStore, NodeStoreVec, RankArgument, SearchArgument,
+};
+use timing::Report;
+
+type PlainStore = NodeStoreVec<u64, u64>;
+
+// All calls on trees without summaries.
+fn take_plain<S: CloneStore<K = u64, V = u64>>(report: Report<'_>, numbers: Numbers<'_>) -> bool
+where
+    S::Argument: CloneArgument<u64>,
+{
+    ordered::take::<BPlusTree<S>>(report, numbers)
+        && ordered::fill_upward::<BPlusTree<S>>(report, numbers)
+        && loaded::take::<S>(report, numbers)
+}
+
+// All calls on trees with counts.
+fn take_counted<S: CloneStore<K = u64, V = u64>>(report: Report<'_>, numbers: Numbers<'_>) -> bool
+where
+    S::Argument: SearchArgument<u64, Query = usize> + RankArgument<u64, Rank = usize>,
+    S::Argument: CloneArgument<u64> + counted::Numbered,
+{
+    counted::take::<S>(report, numbers)
+        && ordered::fill_upward::<BPlusTree<S>>(report, numbers)
+        && loaded::take::<S>(report, numbers)
+}
+
+// All calls on each of the trees, on maps and on sets.
+fn round(rt: &HostRuntime, numbers: Numbers<'_>) -> bool {
+    let groups = Report { rt, kind: "groups" };
+    let plain = Report { rt, kind: "plain" };
+    let count = Report { rt, kind: "count" };
+    let kit = Report { rt, kind: "kit" };
+    groups::take::<NodeStoreVec<Pair, u64, GroupCount<Tuple2<u64>>>>(groups, numbers)
+        && take_plain::<PlainStore>(plain, numbers)
+        && take_counted::<NodeStoreVec<u64, u64, Count>>(count, numbers)
+        && ordered::take::<BTreeMap<u64, u64>>(kit, numbers)
+        && ordered::fill_upward::<BTreeMap<u64, u64>>(kit, numbers)
+        && strings::take::<BPlusTree<NodeStoreVec<String, u64>>>(plain, numbers)
+        && strings::take::<BTreeMap<String, u64>>(kit, numbers)
+        && maps::take(plain, numbers)
+        && union::take(plain, numbers)
+}
+
+fn all_rounds(rt: &HostRuntime, numbers: Numbers<'_>, rounds: usize) -> bool {
+    for _ in 0..rounds {
+        if !round(rt, numbers) {
+            return false;
+        }
+    }
+    true
+}
+
+// Rounds over keys in two orders, and over the places below their number in a mixed order.
+fn rounds_over(
+    rt: &HostRuntime,
+    keys: &[u64],
+    sorted: &[u64],
+    places: &[u64],
+    rounds: usize,
+) -> bool {
+    let Ok(others) = shuffled(rt.alloc(), keys) else {
+        return false;
+    };
+    let Ok(again) = shuffled(rt.alloc(), places) else {
+        return false;
+    };
+    let numbers = Numbers {
+        keys,
+        others: &others,
+        sorted,
+        places,
+        again: &again,
+    };
+    all_rounds(rt, numbers, rounds)
+}
+
+fn rounds_of(rt: &HostRuntime, keys: &[u64], rounds: usize) -> bool {
+    let Ok(mut sorted) = keys.to_vec(rt.alloc()) else {
+        return false;
+    };
+    sorted.sort_unstable();
+    let Ok(mut places) = numbers_below(rt.alloc(), keys.len()) else {
+        return false;
+    };
+    shuffle(&mut places);
+    rounds_over(rt, keys, &sorted, &places, rounds)
+}
+
+fn rounds(rt: &HostRuntime, pairs: usize, rounds: usize) -> bool {
+    match odd_numbers(rt.alloc(), pairs) {
+        Ok(keys) => rounds_of(rt, &keys, rounds),
+        Err(_) => false,
+    }
+}
+
+fn put_numbers<T: Mapped<u64>>(tree: &mut T, many: usize) -> bool {
+    let mut state = 0x9e37_79b9_7f4a_7c15;
+    for _ in 0..many {
+        state = next_number(state);
+        if tree.put(state | 1, state | 1).is_none() {
+            return false;
+        }
+    }
+    true
+}
+
+// Fills a tree with so many pairs in a mixed order, and does nothing else.
+fn fill<T: Mapped<u64>>(rt: &HostRuntime, many: usize) -> bool {
+    let Ok(mut tree) = T::made(rt.alloc()) else {
+        return false;
+    };
+    if !put_numbers(&mut tree, many) {
+        return false;
+    }
+    let _ = println!(rt; "{many} plain fill 0 {}", tree.number_of_pairs());
+    true
+}
+
+/// Takes the times of so many pairs in so many rounds, as a line has them. Returns whether that
+/// went well. Where a line has a number alone, a tree without summaries is filled with as many
+/// pairs.
+pub fn run(rt: &HostRuntime, line: &str) -> bool {
+    let Some((pairs, times)) = line.split_once(' ') else {
+        return match line.parse::<usize>() {
+            Ok(pairs) => fill::<BPlusTree<PlainStore>>(rt, pairs),
+            Err(_) => false,
+        };
+    };
+    let (Ok(pairs), Ok(times)) = (pairs.parse::<usize>(), times.parse::<usize>()) else {
+        return false;
+    };
+    rounds(rt, pairs, times)
+}

@@ -1,0 +1,113 @@
+//! Keys in groups of 500, in a tree that counts each group.
+
+use crate::benchmark::numbers::Numbers;
+use crate::benchmark::ordered::Mapped;
+use crate::benchmark::timing::{Reads, Report, read_each};
+use sweep_bptree::tree::group::Tuple2;
+use sweep_bptree::tree::{BPlusTree, NodeStore, RankArgument, SearchArgument};
+
+pub type Pair = (u64, u64);
+
+const GROUP: u64 = 500;
+
+/// The look-up of a number's key.
+struct Get;
+
+/// The look-up of a place of a group.
+struct At;
+
+/// The rank of a key in its group.
+struct Rank;
+
+/// The first pair of a page of twenty, from a place of a group on.
+struct Page;
+
+impl<T: Mapped<Pair>> Reads<T, u64> for Get {
+    #[inline(always)]
+    fn call(&self, tree: &T, number: &u64) -> Option<u64> {
+        Some(tree.read(&(*number / GROUP, *number % GROUP)))
+    }
+}
+
+impl<S: NodeStore<K = Pair, V = u64>> Reads<BPlusTree<S>, u64> for At
+where
+    S::Argument: SearchArgument<Pair, Query = (Tuple2<u64>, usize)>,
+{
+    #[inline(always)]
+    fn call(&self, tree: &BPlusTree<S>, number: &u64) -> Option<u64> {
+        let place = (*number % GROUP) as usize;
+        match tree.get_by_argument((Tuple2(*number / GROUP), place)) {
+            Ok(Some((_, value))) => Some(*value),
+            Ok(None) => Some(0),
+            Err(_) => None,
+        }
+    }
+}
+
+impl<S: NodeStore<K = Pair, V = u64>> Reads<BPlusTree<S>, u64> for Rank
+where
+    S::Argument: RankArgument<Pair, Rank = Option<(Tuple2<u64>, usize)>>,
+{
+    #[inline(always)]
+    fn call(&self, tree: &BPlusTree<S>, number: &u64) -> Option<u64> {
+        match tree.rank_by_argument(&(*number / GROUP, *number % GROUP)) {
+            Ok(Ok(Some((_, rank)))) => Some(rank as u64),
+            Ok(_) => Some(0),
+            Err(_) => None,
+        }
+    }
+}
+
+impl<S: NodeStore<K = Pair, V = u64>> Reads<BPlusTree<S>, u64> for Page {
+    #[inline(always)]
+    fn call(&self, tree: &BPlusTree<S>, number: &u64) -> Option<u64> {
+        let group = Tuple2(*number / GROUP);
+        let Ok(mut page) = tree.group_part(&group, (*number % GROUP) as usize, 20) else {
+            return None;
+        };
+        match page.next() {
+            Some((_, value)) => Some(*value),
+            None => Some(0),
+        }
+    }
+}
+
+// Puts the key of each number. Returns whether nothing was refused.
+fn fill<T: Mapped<Pair>>(tree: &mut T, numbers: &[u64]) -> bool {
+    for number in numbers {
+        let key = (*number / GROUP, *number % GROUP);
+        if tree.put(key, *number).is_none() {
+            return false;
+        }
+    }
+    true
+}
+
+fn read_groups<S: NodeStore<K = Pair, V = u64>>(
+    report: Report<'_>,
+    tree: &BPlusTree<S>,
+    numbers: &[u64],
+) -> bool
+where
+    S::Argument: SearchArgument<Pair, Query = (Tuple2<u64>, usize)>,
+    S::Argument: RankArgument<Pair, Rank = Option<(Tuple2<u64>, usize)>>,
+{
+    read_each(report, "get", &Get, tree, numbers)
+        && read_each(report, "at", &At, tree, numbers)
+        && read_each(report, "rank", &Rank, tree, numbers)
+        && read_each(report, "page", &Page, tree, numbers)
+}
+
+/// Fills a tree with groups, and reads it in another order. Returns whether nothing was refused.
+pub fn take<S: NodeStore<K = Pair, V = u64>>(report: Report<'_>, numbers: Numbers<'_>) -> bool
+where
+    S::Argument: SearchArgument<Pair, Query = (Tuple2<u64>, usize)>,
+    S::Argument: RankArgument<Pair, Rank = Option<(Tuple2<u64>, usize)>>,
+{
+    match BPlusTree::<S>::made(report.rt.alloc()) {
+        Ok(mut tree) => {
+            fill(&mut tree, numbers.places) && read_groups(report, &tree, numbers.again)
+        }
+        Err(_) => false,
+    }
+}

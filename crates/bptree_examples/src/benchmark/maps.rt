@@ -1,0 +1,151 @@
+//! Calls of a map: what it has, its ends, and pairs that come or leave at once.
+
+use crate::benchmark::loaded::pairs_of;
+use crate::benchmark::numbers::Numbers;
+use crate::benchmark::timing::{Changes, Reads, Report, change_each, read_each};
+use std::alloc::AllocError;
+use sweep_bptree::BPlusTreeMap;
+
+type Plain = BPlusTreeMap<u64, u64>;
+
+/// Whether a key is there.
+struct Contains;
+
+/// The pair with the least key leaves.
+struct PopFirst;
+
+/// The pair with the greatest key leaves.
+struct PopLast;
+
+impl Reads<Plain, u64> for Contains {
+    #[inline(always)]
+    fn call(&self, map: &Plain, key: &u64) -> Option<u64> {
+        Some(map.contains_key(key) as u64)
+    }
+}
+
+impl Changes<Plain, u64> for PopFirst {
+    #[inline(always)]
+    fn call(&self, map: &mut Plain, _key: &u64) -> Option<u64> {
+        match map.pop_first() {
+            Ok(Some((key, _))) => Some(key),
+            Ok(None) => Some(0),
+            Err(_) => None,
+        }
+    }
+}
+
+impl Changes<Plain, u64> for PopLast {
+    #[inline(always)]
+    fn call(&self, map: &mut Plain, _key: &u64) -> Option<u64> {
+        match map.pop_last() {
+            Ok(Some((key, _))) => Some(key),
+            Ok(None) => Some(0),
+            Err(_) => None,
+        }
+    }
+}
+
+fn made(report: Report<'_>, keys: &[u64]) -> Result<Plain, AllocError> {
+    let alloc = report.rt.alloc();
+    BPlusTreeMap::from_iter(alloc, pairs_of(alloc, keys)?)
+}
+
+#[inline(never)]
+fn step_over_keys(report: Report<'_>, map: &Plain) {
+    let clock = report.start("keys");
+    let mut sum = 0u64;
+    for key in map.keys() {
+        sum = sum.wrapping_add(*key);
+    }
+    clock.stop(map.len(), sum);
+}
+
+#[inline(never)]
+fn step_over_values(report: Report<'_>, map: &Plain) {
+    let clock = report.start("values");
+    let mut sum = 0u64;
+    for value in map.values() {
+        sum = sum.wrapping_add(*value);
+    }
+    clock.stop(map.len(), sum);
+}
+
+// The upper half of the pairs leaves, for each pair that moves.
+fn split_off(report: Report<'_>, map: &mut Plain, middle: u64) -> Option<Plain> {
+    let clock = report.start("splitoff");
+    let Ok(half) = map.split_off(&middle) else {
+        return None;
+    };
+    clock.stop(half.len(), map.len() as u64);
+    Some(half)
+}
+
+// It comes back.
+fn append(report: Report<'_>, map: &mut Plain, half: &mut Plain) -> bool {
+    let moved = half.len();
+    let clock = report.start("append");
+    if map.append(half).is_err() {
+        return false;
+    }
+    clock.stop(moved, map.len() as u64);
+    true
+}
+
+// Every second pair leaves, for each pair.
+fn retain(report: Report<'_>, map: &mut Plain) -> bool {
+    let many = map.len();
+    let clock = report.start("retain");
+    if map.retain(|key: &u64, _: &mut u64| *key % 4 == 1).is_err() {
+        return false;
+    }
+    clock.stop(many, map.len() as u64);
+    true
+}
+
+// The upper half of a map's pairs leaves and comes back, and every second pair leaves.
+fn move_pairs(report: Report<'_>, map: &mut Plain, middle: u64) -> bool {
+    match split_off(report, map, middle) {
+        Some(mut half) => append(report, map, &mut half) && retain(report, map),
+        None => false,
+    }
+}
+
+fn middle_of(sorted: &[u64]) -> u64 {
+    match sorted.get(sorted.len() / 2) {
+        Some(key) => *key,
+        None => 0,
+    }
+}
+
+fn move_and_leave(report: Report<'_>, numbers: Numbers<'_>) -> bool {
+    match made(report, numbers.keys) {
+        Ok(mut map) => move_pairs(report, &mut map, middle_of(numbers.sorted)),
+        Err(_) => false,
+    }
+}
+
+// Reads a map and empties it from the front.
+fn read_and_pop(report: Report<'_>, map: &mut Plain, numbers: Numbers<'_>) -> bool {
+    read_each(report, "contains", &Contains, map, numbers.others);
+    step_over_keys(report, map);
+    step_over_values(report, map);
+    change_each(report, "popfirst", &PopFirst, map, numbers.keys)
+}
+
+// Two maps of the keys: one is read, and both are emptied.
+fn read_and_empty(report: Report<'_>, numbers: Numbers<'_>) -> bool {
+    let Ok(mut map) = made(report, numbers.keys) else {
+        return false;
+    };
+    let Ok(mut other) = made(report, numbers.keys) else {
+        return false;
+    };
+    read_and_pop(report, &mut map, numbers)
+        && change_each(report, "poplast", &PopLast, &mut other, numbers.keys)
+}
+
+/// The calls of maps that have the keys. Returns whether nothing was refused.
+pub fn take(report: Report<'_>, numbers: Numbers<'_>) -> bool {
+    move_and_leave(report, numbers) && read_and_empty(report, numbers)
+}
