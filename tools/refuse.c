@@ -1,10 +1,14 @@
-// Loaded ahead of the C library (LD_PRELOAD): refuses one request for memory in each scenario that the program carries out:
-// in the first the one whose number, from 1, is REFUSE_AT, in each further one the one behind it, and none where that is 0.
-// Requests are counted from the first write of a scenario up to its second; a write that ends with a line's end is its last.
+// Loaded ahead of the C library (LD_PRELOAD): counts the requests for memory of a program, and refuses one of them.
 //
-// The file that REFUSE_COUNT names gets three machine words, which are up to date at each moment: how many requests the last
-// scenario made; how many blocks the program has, which at its end is what it leaked; and how many it was given in all. Blocks are
-// those that the program's own code requests and frees, and not those of the C library or the loader.
+// The file that REFUSE_COUNT names is a page of four machine words that are up to date at each moment:
+//   how many requests the program made;
+//   how many blocks it has, which at its end is what it leaked;
+//   how many blocks it was given in all;
+//   the number, from 1, of the request that is refused, counted from now on, or 0. Another process writes it while the program
+//   waits for input, or before it starts. Each request takes 1 away, and the one that makes it 0 is refused. So the program was
+//   refused a request exactly if the word is 0 then.
+//
+// Requests and blocks are those of the program's own code, and not those of the C library or the loader.
 typedef unsigned long word;
 
 typedef struct {
@@ -12,13 +16,11 @@ typedef struct {
     word offset, address, physical, size_in_file, size, alignment;
 } segment; // as Elf64_Phdr
 
-typedef struct {
-    word requests, blocks, given;
+typedef volatile struct {
+    word requests, blocks, given, refuse;
 } counts;
 
 char *getenv(const char *);
-long __write(int, const void *, word);
-word strtoul(const char *, char **, int);
 word getauxval(word);
 int open(const char *, int, ...);
 int close(int);
@@ -30,8 +32,6 @@ void *__libc_realloc(void *, word);
 void *__libc_memalign(word, word);
 void __libc_free(void *);
 
-static int writes; // of this scenario
-static word refused_at;
 static counts own_counts;
 static counts *count = &own_counts;
 static word program_begin, program_end;
@@ -51,23 +51,27 @@ static void find_program(void) {
 }
 
 __attribute__((constructor)) static void begin(void) {
-    const char *number = getenv("REFUSE_AT");
     const char *name = getenv("REFUSE_COUNT");
-    int file = name ? open(name, 2 | 0100, 0600) : -1; // for reading and writing, made where there is none
-    refused_at = number ? strtoul(number, 0, 10) : 0;
+    int file = name ? open(name, 2 | 0100, 0600) : -1; // for reading and writing, made if there is none
     find_program();
-    if (file >= 0 && !ftruncate(file, sizeof *count)) {
+    if (file < 0) return;
+    // A file that is longer or shorter gets the page's length. What it has of it stays.
+    if (!ftruncate(file, sizeof *count)) {
         void *page = mmap(0, sizeof *count, 1 | 2, 1, file, 0); // read, written, and shared with the file
         if (page != (void *)-1) count = page;
-        close(file);
     }
-    *count = own_counts;
+    close(file);
+    count->requests = count->blocks = count->given = 0;
 }
-
-static int is_refused(void) { return writes == 1 && ++count->requests == refused_at; }
 
 #define IS_OF_PROGRAM                                                                                                                \
     ((word)__builtin_return_address(0) >= program_begin && (word)__builtin_return_address(0) < program_end)
+
+static int is_refused(int is_of_program) {
+    if (!is_of_program) return 0;
+    count->requests++;
+    return count->refuse && !--count->refuse;
+}
 
 static void *counted(void *block, int is_of_program) {
     if (block && is_of_program) {
@@ -77,32 +81,24 @@ static void *counted(void *block, int is_of_program) {
     return block;
 }
 
-long write(int file, const void *from, word size) {
-    if (!writes) count->requests = 0;
-    writes++;
-    if (size && ((const char *)from)[size - 1] == '\n') {
-        writes = 0;
-        if (refused_at) refused_at++;
-    }
-    return __write(file, from, size);
-}
+void *malloc(word size) { return is_refused(IS_OF_PROGRAM) ? 0 : counted(__libc_malloc(size), IS_OF_PROGRAM); }
 
-void *malloc(word size) { return is_refused() ? 0 : counted(__libc_malloc(size), IS_OF_PROGRAM); }
-
-void *calloc(word many, word size) { return is_refused() ? 0 : counted(__libc_calloc(many, size), IS_OF_PROGRAM); }
+void *calloc(word many, word size) { return is_refused(IS_OF_PROGRAM) ? 0 : counted(__libc_calloc(many, size), IS_OF_PROGRAM); }
 
 void *realloc(void *from, word size) {
-    if (is_refused()) return 0;
+    if (is_refused(IS_OF_PROGRAM)) return 0;
     void *to = __libc_realloc(from, size);
     if (!from) return counted(to, IS_OF_PROGRAM);
     if (!to && !size && IS_OF_PROGRAM) count->blocks--; // it frees
     return to;
 }
 
-void *aligned_alloc(word align, word size) { return is_refused() ? 0 : counted(__libc_memalign(align, size), IS_OF_PROGRAM); }
+void *aligned_alloc(word align, word size) {
+    return is_refused(IS_OF_PROGRAM) ? 0 : counted(__libc_memalign(align, size), IS_OF_PROGRAM);
+}
 
 int posix_memalign(void **to, word align, word size) {
-    void *from = is_refused() ? 0 : counted(__libc_memalign(align, size), IS_OF_PROGRAM);
+    void *from = is_refused(IS_OF_PROGRAM) ? 0 : counted(__libc_memalign(align, size), IS_OF_PROGRAM);
     if (!from) return 12;
     *to = from;
     return 0;

@@ -1,11 +1,11 @@
-"""Prints the cases of the functions of shards that crates/bptree_hostile prints, told from plain lists of pairs in place of sums
-and searches: the last lines of its file stdout.
+"""Prints cases of the functions of shards with their answers, which it finds from plain lists of pairs in place of sums and
+searches. trials/routes has these lines.
 
     python3 shards/tests/cases.py
 """
 
-BOUNDS = [[], [0], [5], [1, 1, 1], [2, 7, 7, 9], [4, 8, 10]]
-LENGTHS = [[], [0], [5], [3, 0, 4], [0, 0, 2, 0], [1, 1, 1, 1]]
+BOUNDS = [[], [0], [5], [1, 1, 1], [2, 7, 7], [7, 7, 9], [4, 8, 10]]
+LENGTHS = [[], [0], [5], [3, 0, 4], [0, 2, 0], [1, 1, 1]]
 
 
 def tell(name, numbers, *others):

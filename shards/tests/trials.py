@@ -31,8 +31,8 @@ from sweep_bptree_shards.shard import Shard, message, reply
 PROGRAM = sys.argv[1] if len(sys.argv) > 1 else ""
 LINES = int(sys.argv[2]) if len(sys.argv) == 3 else 1_000_000
 GREATEST = drawn.GREATEST
-# What the program of the crate bptree_hostile has to print.
-CASES = os.path.join(os.path.dirname(os.path.abspath(__file__)), "..", "..", "crates", "bptree_hostile", "stdout")
+# Cases of the proved functions of shards, which tools/random-calls compares with what these answer.
+CASES = os.path.join(os.path.dirname(os.path.abspath(__file__)), "..", "..", "trials", "routes")
 passed = failed = skipped = 0
 
 

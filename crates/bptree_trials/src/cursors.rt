@@ -1,0 +1,200 @@
+//! One cursor that is held while a tree changes.
+
+use crate::record::Record;
+use crate::samples::{Asked, Sample};
+use crate::subject::no_call;
+use crate::words::{Told, Words};
+use bptree_stores::node_stores::NodeStore;
+use bptree_tree::BPlusTree;
+use bptree_tree::cursor::Cursor;
+use std::alloc::{AllocError, Global};
+
+// Holds the cursor that was found, and tells its key.
+fn hold<K: Sample>(
+    held: &mut Option<Cursor<K>>,
+    found: Result<Option<Cursor<K>>, AllocError>,
+    words: &mut Words,
+) -> bool {
+    let Ok(found) = found else {
+        return false;
+    };
+    found.is_some().tell(words);
+    if let Some(cursor) = found {
+        cursor.key().tell(words);
+        *held = Some(cursor);
+    }
+    true
+}
+
+/// Tells the key of a cursor that was found, and the value beside it.
+pub fn tell_found<K: Sample, V: Told + Drop>(
+    found: Result<Option<(Cursor<K>, V)>, AllocError>,
+    words: &mut Words,
+) -> Option<Option<Cursor<K>>> {
+    let Ok(found) = found else {
+        return None;
+    };
+    found.is_some().tell(words);
+    let Some((cursor, value)) = found else {
+        return Some(None);
+    };
+    cursor.key().tell(words);
+    value.tell(words);
+    Some(Some(cursor))
+}
+
+// Holds the cursor that was found, and tells its key and the value beside it.
+fn hold_with<K: Sample, V: Told + Drop>(
+    held: &mut Option<Cursor<K>>,
+    found: Result<Option<(Cursor<K>, V)>, AllocError>,
+    words: &mut Words,
+) -> bool {
+    match tell_found(found, words) {
+        Some(Some(cursor)) => {
+            *held = Some(cursor);
+            true
+        }
+        Some(None) => true,
+        None => false,
+    }
+}
+
+// The cursors at a key.
+fn at_key<S: NodeStore<V = u64>>(
+    alloc: Global,
+    tree: &BPlusTree<S>,
+    held: &mut Option<Cursor<S::K>>,
+    record: &Record,
+    words: &mut Words,
+) -> bool
+where
+    S::K: Sample,
+{
+    let Ok(key) = S::K::sample(alloc, record.a) else {
+        return false;
+    };
+    match record.member() {
+        2 => hold_with(held, tree.get_cursor(&key), words),
+        3 => hold_with(held, tree.lower_bound(&key), words),
+        _ => hold_with(held, tree.upper_bound(&key), words),
+    }
+}
+
+// A neighbour of the held cursor.
+fn neighbour<S: NodeStore<V = u64>>(
+    tree: &BPlusTree<S>,
+    held: &Option<Cursor<S::K>>,
+    is_next: bool,
+) -> Result<Option<Cursor<S::K>>, AllocError>
+where
+    S::K: Sample,
+{
+    match held {
+        Some(cursor) if is_next => cursor.next(tree),
+        Some(cursor) => cursor.prev(tree),
+        None => Ok(None),
+    }
+}
+
+// The same with its value.
+fn neighbour_with<'t, S: NodeStore<V = u64>>(
+    tree: &'t BPlusTree<S>,
+    held: &Option<Cursor<S::K>>,
+    is_next: bool,
+) -> Result<Option<(Cursor<S::K>, &'t u64)>, AllocError>
+where
+    S::K: Sample,
+{
+    match held {
+        Some(cursor) if is_next => cursor.next_with_value(tree),
+        Some(cursor) => cursor.prev_with_value(tree),
+        None => Ok(None),
+    }
+}
+
+fn steps<S: NodeStore<V = u64>>(
+    tree: &BPlusTree<S>,
+    held: &mut Option<Cursor<S::K>>,
+    record: &Record,
+    words: &mut Words,
+) -> bool
+where
+    S::K: Sample,
+{
+    if record.member() < 10 {
+        let found = neighbour(tree, held, record.member() == 5);
+        hold(held, found, words)
+    } else {
+        let found = neighbour_with(tree, held, record.member() == 10);
+        hold_with(held, found, words)
+    }
+}
+
+// What the tree has at the key of the held cursor.
+fn asks<S: NodeStore<V = u64>>(
+    tree: &BPlusTree<S>,
+    held: &Option<Cursor<S::K>>,
+    record: &Record,
+    words: &mut Words,
+) -> bool
+where
+    S::K: Sample,
+{
+    let Some(cursor) = held else {
+        words.add(0);
+        return true;
+    };
+    if record.member() == 7 {
+        cursor.exists(tree).tell(words);
+    } else {
+        cursor.value(tree).tell(words);
+    }
+    true
+}
+
+/// The calls of cursors that need no query.
+pub fn call<S: NodeStore<V = u64>>(
+    alloc: Global,
+    tree: &BPlusTree<S>,
+    held: &mut Option<Cursor<S::K>>,
+    record: &Record,
+    words: &mut Words,
+) -> bool
+where
+    S::K: Sample,
+{
+    match record.member() {
+        0 => hold(held, tree.cursor_first(), words),
+        1 => hold_with(held, Cursor::last(tree), words),
+        2..=4 => at_key(alloc, tree, held, record, words),
+        5 | 6 | 10 | 11 => steps(tree, held, record, words),
+        7 | 8 => asks(tree, held, record, words),
+        12 => hold_with(held, Cursor::first(tree), words),
+        13 => {
+            *held = None;
+            true
+        }
+        _ => no_call(words),
+    }
+}
+
+/// All calls of cursors.
+pub fn call_queried<S: NodeStore<V = u64>>(
+    alloc: Global,
+    tree: &BPlusTree<S>,
+    held: &mut Option<Cursor<S::K>>,
+    record: &Record,
+    words: &mut Words,
+) -> bool
+where
+    S::K: Sample,
+    S::Argument: Asked<S::K>,
+{
+    if record.member() != 9 {
+        return call(alloc, tree, held, record, words);
+    }
+    let Ok(query) = S::Argument::query(alloc, record.a, record.b) else {
+        return false;
+    };
+    hold_with(held, tree.cursor_by_argument(query), words)
+}

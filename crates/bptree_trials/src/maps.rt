@@ -1,0 +1,542 @@
+//! Two maps.
+
+use crate::calls::{
+    Calls, Queried, Removed, change_queried, read_queried, tell_back, tell_rank_of, told,
+};
+use crate::cursors::tell_found;
+use crate::record::Record;
+use crate::samples::{Asked, Group, Sample};
+use crate::subject::{Subject, no_call};
+use crate::trees::{bound_of, replace};
+use crate::walk::{Lends, bounds, drain, pairs_of, walk, walk_if};
+use crate::words::{Told, Words};
+use crate::{moving, nodes};
+use bptree_arguments::count::Count;
+use bptree_arguments::group::GroupCount;
+use bptree_arguments::group_size::ExtractGroupSize;
+use bptree_maps::map::{BPlusTreeMap, Iter, Keys, Values};
+use bptree_maps::page::{group_page, page, page_of, pages};
+use bptree_tree::{InsertError, SelectError};
+use std::alloc::{AllocError, Global};
+use std::cmp::Ordering;
+use std::mem;
+
+impl<K: Sample, A: Asked<K>> Calls for BPlusTreeMap<K, u64, A> {
+    type Key = K;
+
+    fn put(&mut self, key: K, value: u64) -> Result<Option<u64>, InsertError<K, u64>> {
+        self.insert(key, value)
+    }
+
+    fn take(&mut self, key: &K) -> Result<Option<u64>, AllocError> {
+        self.remove(key)
+    }
+
+    fn take_entry(&mut self, key: &K) -> Removed<K> {
+        self.remove_entry(key)
+    }
+
+    fn take_first(&mut self) -> Removed<K> {
+        self.pop_first()
+    }
+
+    fn take_last(&mut self) -> Removed<K> {
+        self.pop_last()
+    }
+
+    fn empty(&mut self) -> Result<(), AllocError> {
+        self.clear()
+    }
+
+    fn value_mut(&mut self, key: &K) -> Option<&mut u64> {
+        self.get_mut(key)
+    }
+
+    fn value(&self, key: &K) -> Option<&u64> {
+        self.get(key)
+    }
+
+    fn value_counted(&self, key: &K) -> (Option<&u64>, usize) {
+        self.get_counted(key)
+    }
+
+    fn entry(&self, key: &K) -> Option<(&K, &u64)> {
+        self.get_key_value(key)
+    }
+
+    fn has(&self, key: &K) -> bool {
+        self.contains_key(key)
+    }
+
+    fn ends(&self) -> (Option<(&K, &u64)>, Option<(&K, &u64)>) {
+        (self.first_key_value(), self.last_key_value())
+    }
+
+    fn size(&self) -> (usize, (bool, usize)) {
+        (self.len(), (self.is_empty(), self.tree().height()))
+    }
+}
+
+impl<K: Sample, A: Asked<K>> Queried for BPlusTreeMap<K, u64, A> {
+    type Summary = A;
+
+    fn take_found(&mut self, alloc: Global, number: u64, index: u64) -> Removed<K> {
+        let query = A::query(alloc, number, index)?;
+        self.remove_by_argument(query)
+    }
+
+    fn found_mut(
+        &mut self,
+        alloc: Global,
+        number: u64,
+        index: u64,
+    ) -> Result<&mut u64, SelectError> {
+        match A::query(alloc, number, index) {
+            Ok(query) => self.get_mut_by_argument(query),
+            Err(_) => Err(SelectError::OutOfMemory),
+        }
+    }
+
+    fn found(
+        &self,
+        alloc: Global,
+        number: u64,
+        index: u64,
+    ) -> Result<Option<(&K, &u64)>, AllocError> {
+        let query = A::query(alloc, number, index)?;
+        self.get_by_argument(query)
+    }
+
+    fn tell_rank(&self, key: &K, words: &mut Words) -> bool {
+        tell_rank_of::<K, A>(self.rank_by_argument(key), words)
+    }
+
+    fn summary(&self) -> &A {
+        self.root_argument()
+    }
+}
+
+impl<'a, K: Sample, A: Asked<K>> Lends for Iter<'a, K, u64, A> {
+    fn step(&mut self, is_back: bool, words: &mut Words) {
+        let item = if is_back {
+            self.next_back()
+        } else {
+            self.next()
+        };
+        item.tell(words);
+    }
+
+    fn tell_left(&self, words: &mut Words) {
+        self.len().tell(words);
+    }
+
+    fn tell_hint(&self, words: &mut Words) {
+        self.size_hint().tell(words);
+    }
+
+    fn tell_rest(&mut self, words: &mut Words) {
+        while let Some(item) = self.next() {
+            item.tell(words);
+        }
+    }
+}
+
+impl<'a, K: Sample, A: Asked<K>> Lends for Keys<'a, K, u64, A> {
+    fn step(&mut self, is_back: bool, words: &mut Words) {
+        let item = if is_back {
+            self.next_back()
+        } else {
+            self.next()
+        };
+        item.tell(words);
+    }
+
+    fn tell_left(&self, words: &mut Words) {
+        self.len().tell(words);
+    }
+
+    fn tell_hint(&self, words: &mut Words) {
+        self.size_hint().tell(words);
+    }
+
+    fn tell_rest(&mut self, words: &mut Words) {
+        while let Some(item) = self.next() {
+            item.tell(words);
+        }
+    }
+}
+
+impl<'a, K: Sample, A: Asked<K>> Lends for Values<'a, K, u64, A> {
+    fn step(&mut self, is_back: bool, words: &mut Words) {
+        let item = if is_back {
+            self.next_back()
+        } else {
+            self.next()
+        };
+        item.tell(words);
+    }
+
+    fn tell_left(&self, words: &mut Words) {
+        self.len().tell(words);
+    }
+
+    fn tell_hint(&self, words: &mut Words) {
+        self.size_hint().tell(words);
+    }
+
+    fn tell_rest(&mut self, words: &mut Words) {
+        while let Some(item) = self.next() {
+            item.tell(words);
+        }
+    }
+}
+
+// The parts between the bounds of a record.
+fn part_between<K: Sample, A: Asked<K>>(
+    alloc: Global,
+    map: &BPlusTreeMap<K, u64, A>,
+    record: &Record,
+    words: &mut Words,
+) -> bool {
+    let Ok((lo, hi)) = bounds::<K>(alloc, record) else {
+        return false;
+    };
+    match record.member() {
+        1 => walk(map.range(lo.as_ref(), hi.as_ref()), record, words),
+        2 => {
+            let from = bound_of(&lo, record.d & 4 == 0);
+            let to = bound_of(&hi, record.d & 8 == 8);
+            walk(map.range_bounds(from, to), record, words)
+        }
+        _ => told(map.range_argument(lo.as_ref(), hi.as_ref()), words),
+    }
+}
+
+fn range_found<K: Sample, A: Asked<K>>(
+    alloc: Global,
+    map: &BPlusTreeMap<K, u64, A>,
+    record: &Record,
+    words: &mut Words,
+) -> bool {
+    let Ok(query) = A::query(alloc, record.a, record.b) else {
+        return false;
+    };
+    let many = (record.d >> 16) as usize;
+    walk_if(map.range_by_argument(query, many), record, words)
+}
+
+fn summary_of_part<K: Sample, A: Asked<K>>(
+    alloc: Global,
+    map: &BPlusTreeMap<K, u64, A>,
+    record: &Record,
+    words: &mut Words,
+) -> bool {
+    let Ok(from) = A::query(alloc, record.a, record.b) else {
+        return false;
+    };
+    let Ok(to) = A::query(alloc, record.c, record.d) else {
+        return false;
+    };
+    told(map.part_argument(from, to), words)
+}
+
+fn part<K: Sample, A: Asked<K>>(
+    alloc: Global,
+    map: &BPlusTreeMap<K, u64, A>,
+    record: &Record,
+    words: &mut Words,
+) -> bool {
+    match record.member() {
+        0 => walk(map.iter(), record, words),
+        1 | 2 | 4 => part_between(alloc, map, record, words),
+        3 => range_found(alloc, map, record, words),
+        5 => summary_of_part(alloc, map, record, words),
+        6 => walk(map.keys(), record, words),
+        7 => walk(map.values(), record, words),
+        _ => no_call(words),
+    }
+}
+
+/// Two maps.
+#[derive(Drop)]
+pub struct Maps<K: Sample, A: Asked<K>> {
+    pub here: BPlusTreeMap<K, u64, A>,
+    pub there: BPlusTreeMap<K, u64, A>,
+}
+
+fn gathered<K: Sample, A: Asked<K>>(
+    alloc: Global,
+    record: &Record,
+) -> Result<BPlusTreeMap<K, u64, A>, AllocError> {
+    BPlusTreeMap::from_iter(alloc, pairs_of(alloc, 0, record.a, record.b)?)
+}
+
+// Takes a map apart by one of its owned iterators.
+fn drain_map<K: Sample, A: Asked<K>>(
+    map: BPlusTreeMap<K, u64, A>,
+    record: &Record,
+    words: &mut Words,
+) -> bool {
+    match record.member() {
+        3 => drain(map.into_iter(), record, words),
+        5 => drain(map.into_keys(), record, words),
+        _ => drain(map.into_values(), record, words),
+    }
+}
+
+fn drain_there<K: Sample, A: Asked<K>>(
+    alloc: Global,
+    maps: &mut Maps<K, A>,
+    record: &Record,
+    words: &mut Words,
+) -> bool {
+    match BPlusTreeMap::new(alloc) {
+        Ok(empty) => drain_map(mem::replace(&mut maps.there, empty), record, words),
+        Err(_) => false,
+    }
+}
+
+/// Tells how two things compare: 0 for less, 1 for equal and 2 for greater.
+pub fn tell_order(order: Ordering, words: &mut Words) {
+    words.add(match order {
+        Ordering::Less => 0,
+        Ordering::Equal => 1,
+        Ordering::Greater => 2,
+    });
+}
+
+fn compare<K: Sample, A: Asked<K>>(maps: &Maps<K, A>, words: &mut Words) -> bool {
+    (maps.here == maps.there).tell(words);
+    tell_order(maps.here.cmp(&maps.there), words);
+    true
+}
+
+fn whole<K: Sample, A: Asked<K>>(
+    alloc: Global,
+    maps: &mut Maps<K, A>,
+    record: &Record,
+    words: &mut Words,
+) -> bool {
+    match record.member() {
+        0 => replace(&mut maps.there, maps.here.clone()),
+        1 => {
+            mem::swap(&mut maps.here, &mut maps.there);
+            true
+        }
+        2 => replace(&mut maps.here, gathered(alloc, record)),
+        3 | 5 | 6 => drain_there(alloc, maps, record, words),
+        4 => replace(&mut maps.here, BPlusTreeMap::new(alloc)),
+        7 => compare(maps, words),
+        _ => no_call(words),
+    }
+}
+
+// The cursors that need a key.
+fn cursor_at_key<K: Sample, A: Asked<K>>(
+    alloc: Global,
+    map: &BPlusTreeMap<K, u64, A>,
+    record: &Record,
+    words: &mut Words,
+) -> bool {
+    let Ok(key) = K::sample(alloc, record.a) else {
+        return false;
+    };
+    if record.member() == 3 {
+        tell_found(map.lower_bound(&key), words).is_some()
+    } else {
+        tell_found(map.upper_bound(&key), words).is_some()
+    }
+}
+
+fn cursor<K: Sample, A: Asked<K>>(
+    alloc: Global,
+    map: &BPlusTreeMap<K, u64, A>,
+    record: &Record,
+    words: &mut Words,
+) -> bool {
+    match record.member() {
+        3 | 4 => cursor_at_key(alloc, map, record, words),
+        9 => match A::query(alloc, record.a, record.b) {
+            Ok(query) => tell_found(map.cursor_by_argument(query), words).is_some(),
+            Err(_) => false,
+        },
+        _ => no_call(words),
+    }
+}
+
+/// The calls of maps with summaries of one kind alone.
+pub trait Special<K: Sample>: Asked<K> {
+    fn call(
+        alloc: Global,
+        map: &mut BPlusTreeMap<K, u64, Self>,
+        record: &Record,
+        words: &mut Words,
+    ) -> bool;
+}
+
+impl<K: Sample, A: Special<K>> Subject for Maps<K, A> {
+    fn begin(alloc: Global) -> Result<Self, AllocError> {
+        Ok(Maps {
+            here: BPlusTreeMap::new(alloc)?,
+            there: BPlusTreeMap::new(alloc)?,
+        })
+    }
+
+    fn call(&mut self, alloc: Global, record: &Record, words: &mut Words) -> bool {
+        let map = &mut self.here;
+        match record.family() {
+            0 => change_queried(alloc, map, record, words),
+            1 => read_queried(alloc, map, record, words),
+            2 => part(alloc, map, record, words),
+            3 => whole(alloc, self, record, words),
+            4 => cursor(alloc, map, record, words),
+            5 => nodes::call(map.tree(), record, words),
+            8 => moving::call(alloc, self, record, words),
+            9 | 10 => A::call(alloc, map, record, words),
+            _ => no_call(words),
+        }
+    }
+}
+
+// The calls by a key, of a map with counts.
+fn index_of<K: Sample>(
+    alloc: Global,
+    map: &BPlusTreeMap<K, u64, Count>,
+    record: &Record,
+    words: &mut Words,
+) -> bool {
+    let Ok(key) = K::sample(alloc, record.a) else {
+        return false;
+    };
+    if record.member() == 1 {
+        map.place_of(&key).tell(words);
+        return true;
+    }
+    match page_of(map, &key, (record.b as usize).max(1)) {
+        Ok(Ok(page)) => (1u64, page).tell(words),
+        Ok(Err(page)) => (0u64, page).tell(words),
+        Err(_) => return false,
+    }
+    true
+}
+
+fn range_len<K: Sample>(
+    alloc: Global,
+    map: &BPlusTreeMap<K, u64, Count>,
+    record: &Record,
+    words: &mut Words,
+) -> bool {
+    let Ok((lo, hi)) = bounds::<K>(alloc, record) else {
+        return false;
+    };
+    map.range_len(lo.as_ref(), hi.as_ref()).tell(words);
+    true
+}
+
+fn set_at<K: Sample>(
+    map: &mut BPlusTreeMap<K, u64, Count>,
+    record: &Record,
+    words: &mut Words,
+) -> bool {
+    match map.get_mut_at(record.a as usize) {
+        Ok(at) => {
+            Some(*at).tell(words);
+            *at = record.b;
+        }
+        Err(SelectError::NotFound) => words.add(0),
+        Err(SelectError::OutOfMemory) => return false,
+    }
+    true
+}
+
+fn get_at<K: Sample>(
+    map: &BPlusTreeMap<K, u64, Count>,
+    record: &Record,
+    words: &mut Words,
+) -> bool {
+    map.get_at(record.a as usize).tell(words);
+    true
+}
+
+fn tell_page<K: Sample>(
+    map: &BPlusTreeMap<K, u64, Count>,
+    record: &Record,
+    words: &mut Words,
+) -> bool {
+    let size = (record.b as usize).max(1);
+    walk_if(page(map, record.a as usize, size), record, words)
+}
+
+impl<K: Sample> Special<K> for Count {
+    fn call(
+        alloc: Global,
+        map: &mut BPlusTreeMap<K, u64, Count>,
+        record: &Record,
+        words: &mut Words,
+    ) -> bool {
+        match record.member() {
+            0 => range_len(alloc, map, record, words),
+            1 | 7 => index_of(alloc, map, record, words),
+            2 => get_at(map, record, words),
+            3 => set_at(map, record, words),
+            4 => told(map.remove_at(record.a as usize), words),
+            5 => tell_page(map, record, words),
+            6 => {
+                pages(map, (record.a as usize).max(1)).tell(words);
+                true
+            }
+            8 => tell_found(map.cursor_at(record.a as usize), words).is_some(),
+            _ => no_call(words),
+        }
+    }
+}
+
+// The size of a group, as a visitor finds it.
+fn group_size<K: Sample, G: Group<K>>(
+    map: &BPlusTreeMap<K, u64, GroupCount<G>>,
+    group: G,
+    words: &mut Words,
+) -> bool {
+    match map.descend_visit(ExtractGroupSize::new(group)) {
+        Ok(size) => {
+            size.tell(words);
+            true
+        }
+        Err(_) => false,
+    }
+}
+
+// The parts of a group.
+fn group_part<K: Sample, G: Group<K>>(
+    map: &BPlusTreeMap<K, u64, GroupCount<G>>,
+    group: &G,
+    record: &Record,
+    words: &mut Words,
+) -> bool {
+    let from = record.b as usize;
+    let many = (record.d >> 16) as usize;
+    let pairs = match record.member() {
+        0 => map.group_range(group),
+        1 => map.group_part(group, from, many),
+        _ => group_page(map, group, from, many.max(1)),
+    };
+    walk_if(pairs, record, words)
+}
+
+impl<K: Sample, G: Group<K>> Special<K> for GroupCount<G> {
+    fn call(
+        alloc: Global,
+        map: &mut BPlusTreeMap<K, u64, GroupCount<G>>,
+        record: &Record,
+        words: &mut Words,
+    ) -> bool {
+        let Ok(group) = G::group(alloc, record.a) else {
+            return false;
+        };
+        match record.member() {
+            0..=2 => group_part(map, &group, record, words),
+            3 => group_size(map, group, words),
+            _ => no_call(words),
+        }
+    }
+}

@@ -1,0 +1,234 @@
+//! Calls that change many pairs of maps at once.
+
+use crate::calls::tell_back;
+use crate::maps::Maps;
+use crate::record::Record;
+use crate::samples::{Asked, Sample};
+use crate::subject::no_call;
+use crate::walk::{bounds, pairs_of, tell_all};
+use crate::words::{Told, Words};
+use bptree_maps::map::{BPlusTreeMap, MoveError, RetainError, SplitError};
+use std::alloc::{AllocError, Global};
+
+fn extend<K: Sample, A: Asked<K>>(
+    alloc: Global,
+    map: &mut BPlusTreeMap<K, u64, A>,
+    record: &Record,
+    words: &mut Words,
+) -> bool {
+    let Ok(pairs) = pairs_of::<K>(alloc, record.a, record.b, record.c) else {
+        return false;
+    };
+    match map.extend(pairs) {
+        Ok(()) => true,
+        Err(error) => tell_back(error, words),
+    }
+}
+
+/// Tells the pair or key that was in hand when a move failed, if there is one.
+pub fn tell_in_hand<K: Told + Drop, V: Told + Drop>(
+    error: MoveError<K, V>,
+    words: &mut Words,
+) -> bool {
+    match error {
+        MoveError::NotTaken => {
+            words.add(0);
+            false
+        }
+        MoveError::NotStored(error) => {
+            words.add(1);
+            tell_back(error, words)
+        }
+    }
+}
+
+fn append<K: Sample, A: Asked<K>>(maps: &mut Maps<K, A>, words: &mut Words) -> bool {
+    match maps.here.append(&mut maps.there) {
+        Ok(()) => true,
+        Err(error) => tell_in_hand(error, words),
+    }
+}
+
+/// Puts what was split off in its place, as far as it was, and tells why not all was.
+pub fn tell_split<M: Drop, K: Told + Drop, V: Told + Drop>(
+    there: &mut M,
+    answer: Result<M, SplitError<M, MoveError<K, V>>>,
+    words: &mut Words,
+) -> bool {
+    match answer {
+        Ok(gone) => {
+            *there = gone;
+            true
+        }
+        Err(SplitError::NotMade) => {
+            words.add(0);
+            false
+        }
+        Err(SplitError::NotAll(gone, error)) => {
+            *there = gone;
+            words.add(1);
+            tell_in_hand(error, words)
+        }
+    }
+}
+
+fn split_off<K: Sample, A: Asked<K>>(
+    alloc: Global,
+    maps: &mut Maps<K, A>,
+    record: &Record,
+    words: &mut Words,
+) -> bool {
+    let Ok(key) = K::sample(alloc, record.a) else {
+        return false;
+    };
+    let answer = maps.here.split_off(&key);
+    tell_split(&mut maps.there, answer, words)
+}
+
+/// Tells why not all pairs or keys were asked whether they stay.
+pub fn tell_retained<X: Told + Drop, I: DoubleEndedIterator + ExactSizeIterator + Drop>(
+    answer: Result<(), RetainError<X, I>>,
+    words: &mut Words,
+) -> bool
+where
+    I::Item: Told + Drop,
+    requires { (x : I) → I.can_next x × I.can_next_back x }
+{
+    match answer {
+        Ok(()) => true,
+        Err(RetainError::NotMade) => {
+            words.add(0);
+            false
+        }
+        Err(RetainError::NotStored(pair, mut rest)) => {
+            words.add(1);
+            pair.tell(words);
+            tell_all(&mut rest, words);
+            false
+        }
+    }
+}
+
+fn retain<K: Sample, A: Asked<K>>(
+    map: &mut BPlusTreeMap<K, u64, A>,
+    record: &Record,
+    words: &mut Words,
+) -> bool {
+    let (modulus, residue) = (record.a, record.b);
+    let answer = map.retain(|_key: &K, value: &mut u64| {
+        let value = *value;
+        modulus == 0 || value % modulus != residue
+    });
+    tell_retained(answer, words)
+}
+
+fn add_to_each<K: Sample, A: Asked<K>>(map: &mut BPlusTreeMap<K, u64, A>, more: u64) -> bool {
+    map.update_each(|_key: &K, value: &mut u64| {
+        *value = value.wrapping_add(more);
+    });
+    true
+}
+
+// The calls on the pairs between two keys.
+fn between<K: Sample, A: Asked<K>>(
+    alloc: Global,
+    map: &mut BPlusTreeMap<K, u64, A>,
+    record: &Record,
+    words: &mut Words,
+) -> bool {
+    let Ok((lo, hi)) = bounds::<K>(alloc, record) else {
+        return false;
+    };
+    if record.member() == 4 {
+        return tell_removed(map.remove_range(lo.as_ref(), hi.as_ref()), words);
+    }
+    let more = record.c;
+    map.update_range(lo.as_ref(), hi.as_ref(), |_key: &K, value: &mut u64| {
+        *value = value.wrapping_add(more);
+    });
+    true
+}
+
+/// Tells how many pairs or keys were removed.
+pub fn tell_removed(answer: Result<usize, AllocError>, words: &mut Words) -> bool {
+    match answer {
+        Ok(many) => {
+            many.tell(words);
+            true
+        }
+        Err(_) => false,
+    }
+}
+
+fn upsert<K: Sample, A: Asked<K>>(
+    map: &mut BPlusTreeMap<K, u64, A>,
+    key: K,
+    record: &Record,
+    words: &mut Words,
+) -> bool {
+    let more = record.c;
+    match map.upsert_with(
+        key,
+        record.b,
+        |value: &mut u64| *value = value.wrapping_add(more),
+    ) {
+        Ok(is_new) => {
+            is_new.tell(words);
+            true
+        }
+        Err(error) => tell_back(error, words),
+    }
+}
+
+fn get_or_insert<K: Sample, A: Asked<K>>(
+    map: &mut BPlusTreeMap<K, u64, A>,
+    key: K,
+    record: &Record,
+    words: &mut Words,
+) -> bool {
+    let made = record.b;
+    match map.get_or_insert_with(key, || made) {
+        Ok(at) => {
+            at.tell(words);
+            *at = record.c;
+            true
+        }
+        Err(error) => tell_back(error, words),
+    }
+}
+
+// The changes of one pair that depend on whether its key is there.
+fn entry<K: Sample, A: Asked<K>>(
+    alloc: Global,
+    map: &mut BPlusTreeMap<K, u64, A>,
+    record: &Record,
+    words: &mut Words,
+) -> bool {
+    let Ok(key) = K::sample(alloc, record.a) else {
+        return false;
+    };
+    if record.member() == 7 {
+        upsert(map, key, record, words)
+    } else {
+        get_or_insert(map, key, record, words)
+    }
+}
+
+/// The calls that change many pairs, or a pair that may not be there.
+pub fn call<K: Sample, A: Asked<K>>(
+    alloc: Global,
+    maps: &mut Maps<K, A>,
+    record: &Record,
+    words: &mut Words,
+) -> bool {
+    match record.member() {
+        0 => extend(alloc, &mut maps.here, record, words),
+        1 => append(maps, words),
+        2 => split_off(alloc, maps, record, words),
+        3 => retain(&mut maps.here, record, words),
+        4 | 6 => between(alloc, &mut maps.here, record, words),
+        5 => add_to_each(&mut maps.here, record.a),
+        7 | 8 => entry(alloc, &mut maps.here, record, words),
+        _ => no_call(words),
+    }
+}

@@ -1,0 +1,216 @@
+//! Calls on a store, and on nodes in no store.
+ghost use Rattle.std.specs.Prelude.{◌≡◌, ◌≤◌, ◌<◌, ◌+◌, length, vec_len, IfOk};
+
+use crate::calls::told;
+use crate::nodes;
+use crate::record::Record;
+use crate::samples::Sample;
+use crate::subject::{Subject, no_call};
+use crate::trees::replace;
+use crate::words::{Told, Words};
+use bptree_arguments::argument::{Argument, CloneArgument};
+use bptree_keys::node_id::{LeafNodeId, NodeId};
+use bptree_nodes::inner_node::InnerNode;
+use bptree_nodes::leaf_node::LeafNode;
+use bptree_stores::node_store_vec::NodeStoreVec;
+use bptree_stores::node_stores::{CloneStore, NodeStore};
+use std::alloc::{AllocError, Global};
+
+/// A store.
+#[derive(Drop)]
+pub struct Parts<K: Sample, A: Argument<K>> {
+    store: NodeStoreVec<K, u64, A>,
+}
+
+// Tells whether no leaf has a number that is reserved. Then releases it.
+fn reserve_leaf<S: NodeStore>(store: &mut S, words: &mut Words) -> bool {
+    let Ok(id) = store.reserve_leaf() else {
+        return false;
+    };
+    store.try_get_leaf(id).is_none().tell(words);
+    store.release_leaf(id);
+    true
+}
+
+// The same of an inner node's number.
+fn reserve_inner<S: NodeStore>(store: &mut S, words: &mut Words) -> bool {
+    let Ok(id) = store.reserve_inner() else {
+        return false;
+    };
+    store.try_get_inner(id).is_none().tell(words);
+    store.release_inner(id);
+    true
+}
+
+// Reserves a number of each kind. Tells whether no node has either.
+fn reserve_both<S: NodeStore>(store: &mut S, words: &mut Words) -> bool {
+    let Ok(leaf) = store.reserve_leaf() else {
+        return false;
+    };
+    let Ok(inner) = store.reserve_inner() else {
+        return false;
+    };
+    (store.try_get_leaf(leaf).is_none() && store.try_get_inner(inner).is_none()).tell(words);
+    true
+}
+
+fn add_leaf<S: NodeStore>(store: &mut S, words: &mut Words) -> bool {
+    let Ok(id) = store.new_empty_leaf() else {
+        return false;
+    };
+    store.try_get_leaf(id).is_some().tell(words);
+    true
+}
+
+// Adds an empty inner node. If that fails, tells the length of the node that came back.
+fn add_inner<S: NodeStore>(alloc: Global, store: &mut S, words: &mut Words) -> bool {
+    let Ok(node) = InnerNode::empty(alloc) else {
+        return false;
+    };
+    match store.add_inner(node) {
+        Ok(id) => store.try_get_inner(id).is_some().tell(words),
+        Err(node) => {
+            node.len().tell(words);
+            return false;
+        }
+    }
+    true
+}
+
+fn change<K: Sample, A: Argument<K>>(
+    alloc: Global,
+    store: &mut NodeStoreVec<K, u64, A>,
+    record: &Record,
+    words: &mut Words,
+) -> bool {
+    match record.member() {
+        0 => reserve_leaf(store, words),
+        1 => reserve_inner(store, words),
+        2 => add_leaf(store, words),
+        3 => add_inner(alloc, store, words),
+        4 => replace(store, NodeStoreVec::with_capacity(alloc, record.a as usize)),
+        5 => reserve_both(store, words),
+        6 => replace(store, Ok(NodeStoreVec::new(alloc))),
+        _ => no_call(words),
+    }
+}
+
+impl<T: Told> Told for Box<T> {
+    fn tell(&self, words: &mut Words) {
+        (**self).tell(words);
+    }
+}
+
+impl<K: Told + Drop, A: Told + Drop> Told for InnerNode<K, A> {
+    fn tell(&self, words: &mut Words) {
+        nodes::tell_inner(self, words);
+    }
+}
+
+impl<K: Told + Ord + Drop, V: Told + Drop> Told for LeafNode<K, V> {
+    fn tell(&self, words: &mut Words) {
+        nodes::tell_leaf(self, words);
+    }
+}
+
+// A leaf with two keys and both links.
+fn leaf_of<K: Sample>(alloc: Global) -> Result<Box<LeafNode<K, u64>>, AllocError>
+    ensures { IfOk result (λ leaf. 0 < length leaf.value.pairs) }
+{
+    let (first, second) = (K::sample(alloc, 1)?, K::sample(alloc, 2)?);
+    let mut leaf = LeafNode::new(alloc)?;
+    leaf.insert_at(0, first, 10);
+    leaf.insert_at(1, second, 20);
+    leaf.set_prev(Some(LeafNodeId::from_usize(3)));
+    leaf.set_next(Some(LeafNodeId::from_usize(4)));
+    Ok(leaf)
+}
+
+// Tells a clone of a leaf, and clones of its first and its last key.
+fn copy_leaf<K: Sample>(leaf: &LeafNode<K, u64>, words: &mut Words) -> bool
+    requires { 0 < length leaf.now.pairs }
+{
+    told(leaf.clone(), words) && told(leaf.key_range(), words)
+}
+
+// An inner node of what three vectors give.
+fn inner_of_given<K: Sample>(
+    alloc: Global,
+    keys: Vec<K>,
+    children: Vec<NodeId>,
+    arguments: Vec<u64>,
+) -> Result<Box<InnerNode<K, u64>>, AllocError>
+    requires keys { vec_len keys ≤ 64 }
+    requires children { vec_len children ≡ vec_len keys + 1 }
+    requires arguments { vec_len arguments ≡ vec_len keys + 1 }
+{
+    InnerNode::new_from_iter(alloc, keys, children, arguments)
+}
+
+// An inner node with one key, of vectors or of what they give.
+fn inner_of<K: Sample>(
+    alloc: Global,
+    is_given: bool,
+) -> Result<Box<InnerNode<K, u64>>, AllocError> {
+    let child = NodeId::Leaf(LeafNodeId::from_usize(3));
+    let mut keys = Vec::new(alloc);
+    keys.push(K::sample(alloc, 1)?)?;
+    let children = vec![in alloc; child, child]?;
+    let arguments = vec![in alloc; 7u64, 8]?;
+    if is_given {
+        inner_of_given(alloc, keys, children, arguments)
+    } else {
+        InnerNode::new(alloc, keys, children, arguments)
+    }
+}
+
+fn tell_node<K: Sample>(alloc: Global, member: u64, words: &mut Words) -> bool {
+    match member {
+        0 => match leaf_of::<K>(alloc) {
+            Ok(leaf) => copy_leaf(&leaf, words),
+            Err(_) => false,
+        },
+        1 => match inner_of::<K>(alloc, false) {
+            Ok(node) => told(node.clone(), words) && told(InnerNode::<K, u64>::empty(alloc), words),
+            Err(_) => false,
+        },
+        2 => told(inner_of::<K>(alloc, true), words),
+        _ => no_call(words),
+    }
+}
+
+fn tell_store<S: CloneStore>(store: &S, member: u64, words: &mut Words) -> bool
+where
+    S::K: Told,
+    S::V: Told + Clone,
+    S::Argument: Told,
+{
+    match member {
+        0 => nodes::tell_store(store, words),
+        2 => nodes::is_tidy(store).tell(words),
+        7 => return nodes::is_cloned(store, words),
+        _ => return no_call(words),
+    }
+    true
+}
+
+impl<K: Sample, A: CloneArgument<K> + Told> Subject for Parts<K, A> {
+    fn begin(alloc: Global) -> Result<Parts<K, A>, AllocError> {
+        Ok(Parts {
+            store: NodeStoreVec::new(alloc),
+        })
+    }
+
+    fn call(&mut self, alloc: Global, record: &Record, words: &mut Words) -> bool {
+        match (record.family(), record.member()) {
+            (0, _) => change(alloc, &mut self.store, record, words),
+            (1, 3) => {
+                self.store.is_empty().tell(words);
+                true
+            }
+            (1, member) => tell_node::<K>(alloc, member, words),
+            (5, member) => tell_store(&self.store, member, words),
+            _ => no_call(words),
+        }
+    }
+}

@@ -1,0 +1,126 @@
+//! Keys that are made from numbers, and are ordered as the numbers are.
+
+use crate::words::{Told, Words};
+use bptree_arguments::argument::{Argument, CloneArgument, RankArgument, SearchArgument};
+use bptree_arguments::count::Count;
+use bptree_arguments::group::{FromRef, GroupCount};
+use bptree_keys::key::{Key, Tuple2};
+use std::alloc::{AllocError, Global};
+
+/// A key for each number.
+pub trait Sample: Key + Told {
+    fn sample(alloc: Global, number: u64) -> Result<Self, AllocError>;
+}
+
+impl Sample for u64 {
+    fn sample(_alloc: Global, number: u64) -> Result<u64, AllocError> {
+        Ok(number)
+    }
+}
+
+impl Sample for String {
+    fn sample(alloc: Global, number: u64) -> Result<String, AllocError> {
+        format!(in alloc; "{number:020}")
+    }
+}
+
+// The number that the digits write. A text that is no sample may have the number of one.
+impl Told for String {
+    fn tell(&self, words: &mut Words) {
+        let mut number: u64 = 0;
+        for byte in self.as_bytes() {
+            let digit = u64::from(*byte).wrapping_sub(48);
+            number = number.wrapping_mul(10).wrapping_add(digit);
+        }
+        words.add(number);
+    }
+}
+
+impl Sample for (String, u64) {
+    fn sample(alloc: Global, number: u64) -> Result<(String, u64), AllocError> {
+        Ok((String::sample(alloc, group_of(number))?, number))
+    }
+}
+
+/// A group of keys.
+pub trait Group<K: Key>: FromRef<K> + Key + Told {
+    /// The group of a number's key.
+    fn group(alloc: Global, number: u64) -> Result<Self, AllocError>;
+}
+
+impl Group<(String, u64)> for Tuple2<String> {
+    fn group(alloc: Global, number: u64) -> Result<Tuple2<String>, AllocError> {
+        Ok(Tuple2(String::sample(alloc, group_of(number))?))
+    }
+}
+
+// The group of a number: each has 170 numbers, and the last group has all others.
+fn group_of(number: u64) -> u64 {
+    (number / 170).min(25)
+}
+
+impl<T: Told> Told for Tuple2<T> {
+    fn tell(&self, words: &mut Words) {
+        self.0.tell(words);
+    }
+}
+
+impl Told for Count {
+    fn tell(&self, words: &mut Words) {
+        words.add(self.count() as u64);
+    }
+}
+
+impl<G: Told> Told for GroupCount<G> {
+    fn tell(&self, words: &mut Words) {
+        match self {
+            GroupCount::Zero => words.add(0),
+            GroupCount::One(group, size) => {
+                words.add(1);
+                group.tell(words);
+                words.add(*size as u64);
+            }
+            GroupCount::Multiple {
+                min_group,
+                max_group,
+                group_count,
+            } => {
+                words.add(2);
+                min_group.0.tell(words);
+                words.add(min_group.1 as u64);
+                max_group.0.tell(words);
+                words.add(max_group.1 as u64);
+                words.add(*group_count as u64);
+            }
+        }
+    }
+}
+
+/// A summary that finds and ranks the keys of numbers.
+pub trait Asked<K: Sample>: SearchArgument<K> + RankArgument<K> + CloneArgument<K> + Told {
+    /// The query for the key at an index in the group of a number. Where there are no groups, the
+    /// number is not used.
+    fn query(alloc: Global, number: u64, index: u64) -> Result<Self::Query, AllocError>;
+
+    fn tell_rank(rank: &Self::Rank, words: &mut Words);
+}
+
+impl<K: Sample> Asked<K> for Count {
+    fn query(_alloc: Global, _number: u64, index: u64) -> Result<usize, AllocError> {
+        Ok(index as usize)
+    }
+
+    fn tell_rank(rank: &usize, words: &mut Words) {
+        rank.tell(words);
+    }
+}
+
+impl<K: Sample, G: Group<K>> Asked<K> for GroupCount<G> {
+    fn query(alloc: Global, number: u64, index: u64) -> Result<(G, usize), AllocError> {
+        Ok((G::group(alloc, number)?, index as usize))
+    }
+
+    fn tell_rank(rank: &Option<(G, usize)>, words: &mut Words) {
+        rank.tell(words);
+    }
+}

@@ -1,0 +1,355 @@
+//! Two sets.
+ghost use Rattle.std.specs.Iterator.{IsFinite};
+
+use crate::calls::{tell_back, told};
+use crate::maps::tell_order;
+use crate::moving::{tell_in_hand, tell_retained, tell_split};
+use crate::nodes;
+use crate::record::Record;
+use crate::samples::Sample;
+use crate::subject::{Subject, no_call};
+use crate::trees::{bound_of, replace};
+use crate::walk::{Lends, bounds, drain, keys_of, walk};
+use crate::words::{Told, Words};
+use bptree_sets::set::{BPlusTreeSet, Iter, ReplaceError};
+use std::alloc::{AllocError, Global};
+use std::mem;
+
+type Set<K> = BPlusTreeSet<K>;
+
+/// Two sets.
+#[derive(Drop)]
+pub struct Sets<K: Sample> {
+    here: Set<K>,
+    there: Set<K>,
+}
+
+/// Inserts a key, and tells whether no key equalled it.
+pub fn insert<K: Sample>(set: &mut Set<K>, key: K, words: &mut Words) -> bool {
+    match set.insert(key) {
+        Ok(is_new) => {
+            is_new.tell(words);
+            true
+        }
+        Err(error) => tell_back(error, words),
+    }
+}
+
+// Tells the new key that is not stored, and the key that left.
+fn tell_not_replaced<K: Sample>(error: ReplaceError<K>, words: &mut Words) -> bool {
+    match error {
+        ReplaceError::NotTaken(key) => (0u64, key).tell(words),
+        ReplaceError::NotStored(error, gone) => {
+            words.add(1);
+            tell_back(error, words);
+            gone.tell(words);
+        }
+    }
+    false
+}
+
+fn replace_key<K: Sample>(set: &mut Set<K>, key: K, words: &mut Words) -> bool {
+    match set.replace(key) {
+        Ok(gone) => {
+            gone.tell(words);
+            true
+        }
+        Err(error) => tell_not_replaced(error, words),
+    }
+}
+
+// The changes that name a key.
+fn change_at<K: Sample>(
+    alloc: Global,
+    set: &mut Set<K>,
+    record: &Record,
+    words: &mut Words,
+) -> bool {
+    let Ok(key) = K::sample(alloc, record.a) else {
+        return false;
+    };
+    match record.member() {
+        0 => insert(set, key, words),
+        1 => told(set.remove(&key), words),
+        2 => told(set.take(&key), words),
+        _ => replace_key(set, key, words),
+    }
+}
+
+fn change<K: Sample>(alloc: Global, set: &mut Set<K>, record: &Record, words: &mut Words) -> bool {
+    match record.member() {
+        0..=2 | 6 => change_at(alloc, set, record, words),
+        3 => told(set.pop_first(), words),
+        4 => told(set.pop_last(), words),
+        5 => told(set.clear(), words),
+        _ => no_call(words),
+    }
+}
+
+// The reads that name a key.
+fn read_at<K: Sample>(alloc: Global, set: &Set<K>, record: &Record, words: &mut Words) -> bool {
+    let Ok(key) = K::sample(alloc, record.a) else {
+        return false;
+    };
+    match record.member() {
+        0 => set.contains(&key).tell(words),
+        1 => set.contains_counted(&key).tell(words),
+        _ => set.get(&key).tell(words),
+    }
+    true
+}
+
+fn read<K: Sample>(alloc: Global, set: &Set<K>, record: &Record, words: &mut Words) -> bool {
+    match record.member() {
+        0..=2 => return read_at(alloc, set, record, words),
+        4 => (set.first(), set.last()).tell(words),
+        5 => (set.len(), set.is_empty()).tell(words),
+        _ => return no_call(words),
+    }
+    true
+}
+
+impl<'a, K: Sample> Lends for Iter<'a, K> {
+    fn step(&mut self, is_back: bool, words: &mut Words) {
+        let item = if is_back {
+            self.next_back()
+        } else {
+            self.next()
+        };
+        item.tell(words);
+    }
+
+    fn tell_left(&self, words: &mut Words) {
+        self.len().tell(words);
+    }
+
+    fn tell_hint(&self, words: &mut Words) {
+        self.size_hint().tell(words);
+    }
+
+    fn tell_rest(&mut self, words: &mut Words) {
+        while let Some(item) = self.next() {
+            item.tell(words);
+        }
+    }
+}
+
+// The parts between the bounds of a record.
+fn part_between<K: Sample>(
+    alloc: Global,
+    set: &Set<K>,
+    record: &Record,
+    words: &mut Words,
+) -> bool {
+    let Ok((lo, hi)) = bounds::<K>(alloc, record) else {
+        return false;
+    };
+    if record.member() == 1 {
+        return walk(set.range(lo.as_ref(), hi.as_ref()), record, words);
+    }
+    let from = bound_of(&lo, record.d & 4 == 0);
+    let to = bound_of(&hi, record.d & 8 == 8);
+    walk(set.range_bounds(from, to), record, words)
+}
+
+fn part<K: Sample>(alloc: Global, set: &Set<K>, record: &Record, words: &mut Words) -> bool {
+    match record.member() {
+        0 => walk(set.iter(), record, words),
+        1 | 2 => part_between(alloc, set, record, words),
+        _ => no_call(words),
+    }
+}
+
+fn gathered<K: Sample>(alloc: Global, record: &Record) -> Result<Set<K>, AllocError> {
+    BPlusTreeSet::from_iter(alloc, keys_of(alloc, 0, record.a, record.b)?)
+}
+
+// Takes a set apart by its owned iterator. An empty set stays in its place.
+fn drain_set<K: Sample>(
+    alloc: Global,
+    set: &mut Set<K>,
+    record: &Record,
+    words: &mut Words,
+) -> bool {
+    match BPlusTreeSet::new(alloc) {
+        Ok(empty) => drain(mem::replace(set, empty).into_iter(), record, words),
+        Err(_) => false,
+    }
+}
+
+fn compare<K: Sample>(sets: &Sets<K>, words: &mut Words) -> bool {
+    (sets.here == sets.there).tell(words);
+    tell_order(sets.here.cmp(&sets.there), words);
+    true
+}
+
+fn whole<K: Sample>(alloc: Global, sets: &mut Sets<K>, record: &Record, words: &mut Words) -> bool {
+    match record.member() {
+        1 => {
+            mem::swap(&mut sets.here, &mut sets.there);
+            true
+        }
+        2 => replace(&mut sets.here, gathered(alloc, record)),
+        3 => drain_set(alloc, &mut sets.there, record, words),
+        4 => replace(&mut sets.here, BPlusTreeSet::new(alloc)),
+        7 => compare(sets, words),
+        _ => no_call(words),
+    }
+}
+
+fn extend<K: Sample>(alloc: Global, set: &mut Set<K>, record: &Record, words: &mut Words) -> bool {
+    let Ok(keys) = keys_of::<K>(alloc, record.a, record.b, record.c) else {
+        return false;
+    };
+    match set.extend(keys) {
+        Ok(()) => true,
+        Err(error) => tell_back(error, words),
+    }
+}
+
+fn append<K: Sample>(sets: &mut Sets<K>, words: &mut Words) -> bool {
+    match sets.here.append(&mut sets.there) {
+        Ok(()) => true,
+        Err(error) => tell_in_hand(error, words),
+    }
+}
+
+fn split_off<K: Sample>(
+    alloc: Global,
+    sets: &mut Sets<K>,
+    record: &Record,
+    words: &mut Words,
+) -> bool {
+    let Ok(key) = K::sample(alloc, record.a) else {
+        return false;
+    };
+    let answer = sets.here.split_off(&key);
+    tell_split(&mut sets.there, answer, words)
+}
+
+// The first word of a key.
+fn number_of<K: Told>(key: &K) -> u64 {
+    let mut words = Words::new();
+    key.tell(&mut words);
+    words.sent().first().copied().unwrap_or(0)
+}
+
+fn retain<K: Sample>(set: &mut Set<K>, record: &Record, words: &mut Words) -> bool {
+    let (modulus, residue) = (record.a, record.b);
+    let answer = set.retain(|key: &K| modulus == 0 || number_of(key) % modulus != residue);
+    tell_retained(answer, words)
+}
+
+fn remove_range<K: Sample>(
+    alloc: Global,
+    set: &mut Set<K>,
+    record: &Record,
+    words: &mut Words,
+) -> bool {
+    let Ok((lo, hi)) = bounds::<K>(alloc, record) else {
+        return false;
+    };
+    told(set.remove_range(lo.as_ref(), hi.as_ref()), words)
+}
+
+// The calls that move or remove many keys.
+fn move_keys<K: Sample>(
+    alloc: Global,
+    sets: &mut Sets<K>,
+    record: &Record,
+    words: &mut Words,
+) -> bool {
+    match record.member() {
+        0 => extend(alloc, &mut sets.here, record, words),
+        1 => append(sets, words),
+        2 => split_off(alloc, sets, record, words),
+        3 => retain(&mut sets.here, record, words),
+        4 => remove_range(alloc, &mut sets.here, record, words),
+        _ => no_call(words),
+    }
+}
+
+// Tells the keys that an iterator gives.
+fn tell_keys<'a, K: Told + 'a, I: Iterator<Item = &'a K> + Drop>(keys: I, words: &mut Words)
+    requires can { I.can_next keys }
+    requires ends { IsFinite (I.remaining keys) }
+{
+    for key in keys {
+        key.tell(words);
+    }
+}
+
+// Tells how many keys an iterator gives.
+fn tell_count<'a, K: Told + 'a, I: Iterator<Item = &'a K> + Drop>(keys: I, words: &mut Words)
+    requires can { I.can_next keys }
+    requires ends { IsFinite (I.remaining keys) }
+{
+    let mut count: u64 = 0;
+    for _ in keys {
+        count = count.wrapping_add(1);
+    }
+    words.add(count);
+}
+
+// Tells the size hint of an iterator, its keys, and how many keys a clone has after the first.
+fn tell_joined<'a, K: Told + 'a, I: Iterator<Item = &'a K> + Clone + Drop>(
+    keys: I,
+    words: &mut Words,
+) -> bool
+    requires can { (x : I) → I.can_next x }
+    requires ends { (x : I) → IsFinite (I.remaining x) }
+{
+    let mut keys = keys;
+    keys.size_hint().tell(words);
+    if let Some(key) = keys.next() {
+        key.tell(words);
+    }
+    let Ok(copy) = keys.clone() else {
+        return false;
+    };
+    tell_keys(keys, words);
+    tell_count(copy, words);
+    true
+}
+
+fn relate<K: Sample>(sets: &Sets<K>, words: &mut Words) -> bool {
+    sets.here.is_subset(&sets.there).tell(words);
+    sets.here.is_superset(&sets.there).tell(words);
+    sets.here.is_disjoint(&sets.there).tell(words);
+    true
+}
+
+// The calls on both sets.
+fn join<K: Sample>(sets: &Sets<K>, member: u64, words: &mut Words) -> bool {
+    let (here, there) = (&sets.here, &sets.there);
+    match member {
+        0 => tell_joined(here.union(there), words),
+        1 => tell_joined(here.difference(there), words),
+        2 => tell_joined(here.intersection(there), words),
+        3 => tell_joined(here.symmetric_difference(there), words),
+        4 => relate(sets, words),
+        _ => no_call(words),
+    }
+}
+
+impl<K: Sample> Subject for Sets<K> {
+    fn begin(alloc: Global) -> Result<Self, AllocError> {
+        Ok(Sets {
+            here: BPlusTreeSet::new(alloc)?,
+            there: BPlusTreeSet::new(alloc)?,
+        })
+    }
+
+    fn call(&mut self, alloc: Global, record: &Record, words: &mut Words) -> bool {
+        match record.family() {
+            0 => change(alloc, &mut self.here, record, words),
+            1 => read(alloc, &self.here, record, words),
+            2 => part(alloc, &self.here, record, words),
+            3 => whole(alloc, self, record, words),
+            5 => nodes::call(self.here.tree(), record, words),
+            8 => move_keys(alloc, self, record, words),
+            11 => join(self, record.member(), words),
+            _ => no_call(words),
+        }
+    }
+}

@@ -1,0 +1,270 @@
+//! A map over shards, and the functions that choose shards.
+
+use crate::calls::{tell_back, told};
+use crate::moving::tell_in_hand;
+use crate::record::Record;
+use crate::samples::Sample;
+use crate::subject::{Subject, no_call};
+use crate::trees::replace;
+use crate::walk::bounds;
+use crate::words::{Told, Words};
+use bptree_arguments::count::Count;
+use bptree_maps::map::{BPlusTreeMap, MoveError, SplitError};
+use bptree_sharded::map_shard::empty_over;
+use bptree_sharded::shard::Shard;
+use bptree_sharded::whole::Shards;
+use bptree_shards::combining::{
+    Part, first_full, last_full, locate, next_full, next_part, prev_full,
+};
+use bptree_shards::routing::{route, route_below, route_range};
+use std::alloc::{AllocError, Global};
+
+/// A shard: a map with counts.
+pub type Map<K> = BPlusTreeMap<K, u64, Count>;
+
+/// A map over shards.
+#[derive(Drop)]
+pub struct Sharded<S: Shard> {
+    whole: Shards<S>,
+}
+
+fn tell_lengths(lengths: &[usize], words: &mut Words) {
+    lengths.len().tell(words);
+    for length in lengths {
+        length.tell(words);
+    }
+}
+
+fn tell_pairs<K: Sample>(pairs: &[(&K, &u64)], words: &mut Words) {
+    for pair in pairs {
+        pair.tell(words);
+    }
+}
+
+fn tell_found<K: Sample>(found: Result<Vec<(&K, &u64)>, AllocError>, words: &mut Words) -> bool {
+    match found {
+        Ok(found) => {
+            tell_pairs(&found, words);
+            true
+        }
+        Err(_) => false,
+    }
+}
+
+impl<S: Shard<V = u64>> Sharded<S>
+where
+    S::K: Sample,
+{
+    fn put(&mut self, key: S::K, value: u64, words: &mut Words) -> bool {
+        match self.whole.put(key, value) {
+            Ok(old) => {
+                old.tell(words);
+                true
+            }
+            Err(error) => tell_back(error, words),
+        }
+    }
+
+    fn change(&mut self, alloc: Global, record: &Record, words: &mut Words) -> bool {
+        let Ok(key) = S::K::sample(alloc, record.a) else {
+            return false;
+        };
+        match record.member() {
+            0 => self.put(key, record.b, words),
+            1 => told(self.whole.del(&key), words),
+            _ => no_call(words),
+        }
+    }
+
+    // The reads that name a key.
+    fn read_at(&self, alloc: Global, record: &Record, words: &mut Words) -> bool {
+        let Ok(key) = S::K::sample(alloc, record.a) else {
+            return false;
+        };
+        match record.member() {
+            0 => self.whole.get(&key).tell(words),
+            7 => self.whole.rank(&key).tell(words),
+            9 => self.whole.next(&key).tell(words),
+            _ => self.whole.prev(&key).tell(words),
+        }
+        true
+    }
+
+    fn read(&self, alloc: Global, record: &Record, words: &mut Words) -> bool {
+        match record.member() {
+            4 => (self.whole.first(), self.whole.last()).tell(words),
+            5 => {
+                self.whole.len().tell(words);
+                tell_lengths(self.whole.lengths(), words);
+            }
+            6 => self.whole.at(record.a as usize).tell(words),
+            0 | 7 | 9 | 10 => return self.read_at(alloc, record, words),
+            _ => return no_call(words),
+        }
+        true
+    }
+
+    fn page(&self, alloc: Global, record: &Record, words: &mut Words) -> bool {
+        let (place, most) = (record.a as usize, record.b as usize);
+        tell_found(self.whole.page(alloc, place, most), words)
+    }
+
+    fn range(&self, alloc: Global, record: &Record, words: &mut Words) -> bool {
+        let Ok((lo, hi)) = bounds::<S::K>(alloc, record) else {
+            return false;
+        };
+        let most = record.c as usize;
+        tell_found(
+            self.whole.range(alloc, lo.as_ref(), hi.as_ref(), most),
+            words,
+        )
+    }
+
+    fn back(&self, alloc: Global, record: &Record, words: &mut Words) -> bool {
+        let Ok(key) = S::K::sample(alloc, record.a) else {
+            return false;
+        };
+        tell_found(self.whole.back(alloc, &key, record.b as usize), words)
+    }
+
+    fn part(&self, alloc: Global, record: &Record, words: &mut Words) -> bool {
+        match record.member() {
+            0 => self.page(alloc, record, words),
+            1 => self.range(alloc, record, words),
+            2 => self.back(alloc, record, words),
+            _ => no_call(words),
+        }
+    }
+
+    fn split(&mut self, alloc: Global, record: &Record, words: &mut Words) -> bool {
+        let Ok(key) = S::K::sample(alloc, record.a) else {
+            return false;
+        };
+        tell_moved(self.whole.split(key), words)
+    }
+
+    // The calls that change how many shards there are.
+    fn move_bounds(&mut self, alloc: Global, record: &Record, words: &mut Words) -> bool {
+        match record.member() {
+            0 => self.split(alloc, record, words),
+            1 => tell_moved(self.whole.merge(record.a as usize), words),
+            _ => no_call(words),
+        }
+    }
+}
+
+fn tell_shard<S: Shard<V = u64>>(shard: &S, words: &mut Words)
+where
+    S::K: Sample,
+{
+    for place in 0..shard.len() {
+        if let Some(pair) = shard.at(place) {
+            pair.tell(words);
+        }
+    }
+}
+
+// Tells why not all pairs moved. The pairs of the shard that came back are told last.
+fn tell_moved<S: Shard<V = u64>>(
+    answer: Result<(), SplitError<S, MoveError<S::K, u64>>>,
+    words: &mut Words,
+) -> bool
+where
+    S::K: Sample,
+{
+    match answer {
+        Ok(()) => return true,
+        Err(SplitError::NotMade) => words.add(0),
+        Err(SplitError::NotAll(shard, error)) => {
+            words.add(1);
+            tell_in_hand(error, words);
+            tell_shard(&shard, words);
+        }
+    }
+    false
+}
+
+impl Told for Part {
+    fn tell(&self, words: &mut Words) {
+        self.shard.tell(words);
+        self.from.tell(words);
+        self.count.tell(words);
+    }
+}
+
+// The first numbers, as many as `d` says in its lowest byte.
+fn used(numbers: &[usize; 3], d: u64) -> &[usize] {
+    &numbers[..((d & 255) as usize).min(3)]
+}
+
+// The calls that are given the bounds of shards, and keys.
+fn route_keys(bounds: &[usize], lo: usize, hi: usize, member: u64, words: &mut Words) {
+    match member {
+        0 => route(bounds, &lo).tell(words),
+        1 => route_below(bounds, &lo).tell(words),
+        2 => route_range(bounds, Some(&lo), None).tell(words),
+        3 => route_range(bounds, None, Some(&hi)).tell(words),
+        _ => route_range(bounds, Some(&lo), Some(&hi)).tell(words),
+    }
+}
+
+// The calls that are given the lengths of shards, and the number of a shard.
+fn find_full(lengths: &[usize], shard: usize, member: u64, words: &mut Words) -> bool {
+    match member {
+        7 => first_full(lengths).tell(words),
+        8 => last_full(lengths).tell(words),
+        9 if shard < lengths.len() => next_full(lengths, shard).tell(words),
+        10 if shard <= lengths.len() => prev_full(lengths, shard).tell(words),
+        _ => return no_call(words),
+    }
+    true
+}
+
+// The calls that are given bounds or lengths. In `d` a number stands from bit 8 on, and another one
+// from bit 32 on.
+fn choose(record: &Record, words: &mut Words) -> bool {
+    let numbers = [record.a as usize, record.b as usize, record.c as usize];
+    let numbers = used(&numbers, record.d);
+    let first = ((record.d >> 8) & 0xff_ffff) as usize;
+    let second = (record.d >> 32) as usize;
+    match record.member() {
+        0..=4 => route_keys(numbers, first, second, record.member(), words),
+        5 => locate(numbers, first).tell(words),
+        6 => next_part(numbers, first, second).tell(words),
+        member => return find_full(numbers, first, member, words),
+    }
+    true
+}
+
+fn keys_at<K: Sample>(alloc: Global, numbers: &[usize]) -> Result<Vec<K>, AllocError> {
+    let mut keys = Vec::new(alloc);
+    for number in numbers {
+        keys.push(K::sample(alloc, *number as u64)?)?;
+    }
+    Ok(keys)
+}
+
+// Empty shards between the bounds of a record.
+fn begun<K: Sample>(alloc: Global, record: &Record) -> Result<Shards<Map<K>>, AllocError> {
+    let numbers = [record.a as usize, record.b as usize, record.c as usize];
+    empty_over(alloc, keys_at(alloc, used(&numbers, record.d))?)
+}
+
+impl<K: Sample> Subject for Sharded<Map<K>> {
+    fn begin(alloc: Global) -> Result<Self, AllocError> {
+        let whole = empty_over(alloc, Vec::new(alloc))?;
+        Ok(Sharded { whole })
+    }
+
+    fn call(&mut self, alloc: Global, record: &Record, words: &mut Words) -> bool {
+        match record.family() {
+            0 => self.change(alloc, record, words),
+            1 => self.read(alloc, record, words),
+            2 => self.part(alloc, record, words),
+            3 if record.member() == 4 => replace(&mut self.whole, begun(alloc, record)),
+            8 => self.move_bounds(alloc, record, words),
+            9 => choose(record, words),
+            _ => no_call(words),
+        }
+    }
+}

@@ -1,0 +1,165 @@
+//! Generated pairs and keys, optional bounds, and steps of iterators from both ends.
+
+use crate::record::Record;
+use crate::samples::Sample;
+use crate::words::{Told, Words};
+use std::alloc::{AllocError, Global};
+
+// The number whose key comes in a turn, and its value.
+fn pair_in(turn: u64, order: u64) -> (u64, u64) {
+    match order {
+        0 => (turn, turn),
+        1 => (turn.wrapping_mul(37) % 100, turn),
+        2 => (turn.wrapping_mul(2), turn.wrapping_mul(2)),
+        _ => (turn.wrapping_mul(4), turn),
+    }
+}
+
+/// The pairs of the turns from `first` up to `end`.
+pub fn pairs_of<K: Sample>(
+    alloc: Global,
+    first: u64,
+    end: u64,
+    order: u64,
+) -> Result<Vec<(K, u64)>, AllocError> {
+    let mut pairs = Vec::new(alloc);
+    for turn in first..end {
+        let (number, value) = pair_in(turn, order);
+        pairs.push((K::sample(alloc, number)?, value))?;
+    }
+    Ok(pairs)
+}
+
+/// The keys of these turns.
+pub fn keys_of<K: Sample>(
+    alloc: Global,
+    first: u64,
+    end: u64,
+    order: u64,
+) -> Result<Vec<K>, AllocError> {
+    let mut keys = Vec::new(alloc);
+    for turn in first..end {
+        let (number, _) = pair_in(turn, order);
+        keys.push(K::sample(alloc, number)?)?;
+    }
+    Ok(keys)
+}
+
+/// The key of a number, if there is a bound.
+pub fn bound<K: Sample>(alloc: Global, has: bool, number: u64) -> Result<Option<K>, AllocError> {
+    if has {
+        Ok(Some(K::sample(alloc, number)?))
+    } else {
+        Ok(None)
+    }
+}
+
+/// The lower and the upper key of a record, where it has them.
+pub fn bounds<K: Sample>(
+    alloc: Global,
+    record: &Record,
+) -> Result<(Option<K>, Option<K>), AllocError> {
+    let lo = bound(alloc, record.d & 1 == 1, record.a)?;
+    let hi = bound(alloc, record.d & 2 == 2, record.b)?;
+    Ok((lo, hi))
+}
+
+// Takes items from both ends as the record says, and tells them and how many are left.
+fn tell_steps<I: DoubleEndedIterator + ExactSizeIterator>(
+    items: &mut I,
+    record: &Record,
+    words: &mut Words,
+)
+where
+    I::Item: Told + Drop,
+    requires { (x : I) → I.can_next x × I.can_next_back x }
+{
+    items.len().tell(words);
+    for step in 0..((record.d >> 8) & 255).min(64) {
+        let item = if (record.c >> (step & 63)) & 1 == 1 {
+            items.next_back()
+        } else {
+            items.next()
+        };
+        item.tell(words);
+    }
+    let (lower, upper) = items.size_hint();
+    items.len().tell(words);
+    lower.tell(words);
+    upper.tell(words);
+}
+
+/// Takes all items, and tells them.
+pub fn tell_all<I: DoubleEndedIterator + ExactSizeIterator>(items: &mut I, words: &mut Words)
+where
+    I::Item: Told + Drop,
+    requires { (x : I) → I.can_next x × I.can_next_back x }
+{
+    for _ in 0..items.len() {
+        if let Some(item) = items.next() {
+            item.tell(words);
+        }
+    }
+}
+
+/// An iterator that lends its items. It is no generic `Iterator`: where the items are references, a
+/// call of a function that is generic in such a one needs a proof of what their lifetimes are.
+pub trait Lends: Clone + Drop {
+    /// Takes an item from an end, and tells it if there is one.
+    fn step(&mut self, is_back: bool, words: &mut Words);
+
+    /// Tells how many items are left.
+    fn tell_left(&self, words: &mut Words);
+
+    /// Tells the bounds of how many items are left.
+    fn tell_hint(&self, words: &mut Words);
+
+    /// Takes all items, and tells them.
+    fn tell_rest(&mut self, words: &mut Words);
+}
+
+// Takes items from both ends as the record says, and tells them and how many are left.
+fn lend_steps<I: Lends>(items: &mut I, record: &Record, words: &mut Words) {
+    items.tell_left(words);
+    for step in 0..((record.d >> 8) & 255).min(64) {
+        items.step((record.c >> (step & 63)) & 1 == 1, words);
+    }
+    items.tell_left(words);
+    items.tell_hint(words);
+}
+
+/// Takes items from both ends, tells them, and then the rest of a clone.
+pub fn walk<I: Lends>(items: I, record: &Record, words: &mut Words) -> bool {
+    let mut items = items;
+    lend_steps(&mut items, record, words);
+    let Ok(mut rest) = items.clone() else {
+        return false;
+    };
+    rest.tell_rest(words);
+    items.tell_left(words);
+    true
+}
+
+/// Does the same if the iterator was made.
+pub fn walk_if<I: Lends>(items: Result<I, AllocError>, record: &Record, words: &mut Words) -> bool {
+    match items {
+        Ok(items) => walk(items, record, words),
+        Err(_) => false,
+    }
+}
+
+/// Takes items from both ends and then the others, and tells them.
+pub fn drain<I: DoubleEndedIterator + ExactSizeIterator + Drop>(
+    items: I,
+    record: &Record,
+    words: &mut Words,
+) -> bool
+where
+    I::Item: Told + Drop,
+    requires { (x : I) → I.can_next x × I.can_next_back x }
+{
+    let mut items = items;
+    tell_steps(&mut items, record, words);
+    tell_all(&mut items, words);
+    true
+}

@@ -1,0 +1,84 @@
+//! Calls of sets.
+
+use super::{Answer, Model};
+use crate::record::Record;
+use crate::words::number;
+use std::collections::BTreeSet;
+
+impl Model {
+    pub(super) fn answer_set(&mut self, record: &Record) -> Option<Answer> {
+        if record.family() == 1 {
+            return self.read_set(record);
+        }
+        let key = record.a;
+        let here = &mut self.here;
+        let words = match record.member() {
+            0 => vec![u64::from(here.put(key, 0).is_none())],
+            1 => vec![u64::from(here.take(key).is_some())],
+            2 => number(here.take(key).map(|_| key)),
+            3 => number(here.take_at(0).map(|pair| pair.0)),
+            4 => number(here.take_at(here.len().wrapping_sub(1)).map(|pair| pair.0)),
+            5 => {
+                here.clear();
+                Vec::new()
+            }
+            6 => number(here.put(key, 0).map(|_| key)),
+            _ => return None,
+        };
+        Some(Answer::of(words))
+    }
+
+    fn read_set(&self, record: &Record) -> Option<Answer> {
+        let (here, key) = (&self.here, record.a);
+        let is_there = here.get(key).is_some();
+        let words = match record.member() {
+            0 => vec![u64::from(is_there)],
+            1 => return Some(self.compared(vec![u64::from(is_there)])),
+            2 => number(if is_there { Some(key) } else { None }),
+            4 => {
+                let mut words = number(here.first().map(|pair| pair.0));
+                words.extend(number(here.last().map(|pair| pair.0)));
+                words
+            }
+            5 => vec![here.len() as u64, u64::from(here.is_empty())],
+            _ => return None,
+        };
+        Some(Answer::of(words))
+    }
+
+    /// The calls of two sets.
+    pub(super) fn both(&self, record: &Record) -> Option<Answer> {
+        let here: BTreeSet<u64> = self.here.keys().iter().copied().collect();
+        let there: BTreeSet<u64> = self.there.keys().iter().copied().collect();
+        let (m, n) = (here.len() as u64, there.len() as u64);
+        let (least, most, keys): (u64, u64, Vec<u64>) = match record.member() {
+            0 => (m.max(n), m + n, here.union(&there).copied().collect()),
+            1 => (
+                m.saturating_sub(n),
+                m,
+                here.difference(&there).copied().collect(),
+            ),
+            2 => (0, m.min(n), here.intersection(&there).copied().collect()),
+            3 => {
+                let keys = here.symmetric_difference(&there);
+                (m.max(n) - m.min(n), m + n, keys.copied().collect())
+            }
+            4 => {
+                let answers = [
+                    here.is_subset(&there),
+                    here.is_superset(&there),
+                    here.is_disjoint(&there),
+                ];
+                return Some(Answer::of(
+                    answers.iter().map(|is| u64::from(*is)).collect(),
+                ));
+            }
+            _ => return None,
+        };
+        let rest = keys.len().saturating_sub(1) as u64;
+        let mut words = vec![least, 1, most];
+        words.extend(keys);
+        words.push(rest);
+        Some(Answer::of(words))
+    }
+}

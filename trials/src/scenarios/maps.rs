@@ -1,0 +1,192 @@
+//! Maps that are made, changed, moved, and asked for places, groups and summaries.
+
+use super::Sort;
+use crate::record::{call, calls, steps, Record, LOWER, UPPER};
+use crate::scenario::{quiet, swept, Scenario, Step};
+
+/// The number from which on keys leave: half of a few, and the last 20 of many.
+pub fn first_to_leave(many: u64) -> u64 {
+    many - (many / 2).min(20)
+}
+
+/// 65 pairs are put, and the half of them is removed.
+pub fn halved() -> Vec<Step> {
+    let mut steps = vec![swept(calls::new())];
+    steps.extend((0..65).map(|turn| swept(calls::insert(turn, turn))));
+    steps.extend((16..49).map(|number| swept(calls::remove(number))));
+    steps
+}
+
+// In each round a map is asked for places and ranks, and loses its first pair, and one from the
+// middle.
+fn by_places() -> Vec<Step> {
+    let mut all = vec![quiet(calls::load(400, 0))];
+    for round in 0..4 {
+        let asks = [
+            call(1, 6, &[0, 5]),
+            call(1, 7, &[round + 5]),
+            call(0, 8, &[0, round + 7, 7]),
+            call(2, 3, &[0, 9, 0, 3 << 16 | steps(3, 0)]),
+            call(0, 6, &[0, 100]),
+            call(4, 9, &[0, 11]),
+            calls::pop_first(),
+        ];
+        all.extend(asks.iter().map(|record| swept(*record)));
+    }
+    all
+}
+
+// Many pairs leave and come back; others come, and values change.
+fn moved(many: u64) -> Vec<Step> {
+    let first = first_to_leave(many);
+    let between = [first, many, 1, LOWER | UPPER];
+    let back = [first, many, u64::MAX, LOWER | UPPER];
+    let mut all = vec![quiet(calls::load(many, 0))];
+    let moves = [
+        call(8, 2, &[first]),
+        call(8, 1, &[]),
+        call(8, 0, &[many, many + 3, 0]),
+        call(8, 7, &[many + 3, many + 3, 1]),
+        call(8, 7, &[many + 3, many + 3, 1]),
+        call(8, 8, &[many + 4, many + 4, many + 5]),
+        call(8, 8, &[many + 4, many + 4, many + 6]),
+        call(8, 5, &[1]),
+        call(8, 5, &[u64::MAX]),
+        call(8, 3, &[0, 0]),
+        call(8, 6, &between),
+        call(8, 6, &back),
+        call(8, 4, &between),
+    ];
+    all.extend(moves.iter().map(|record| swept(*record)));
+    all.extend((first..many).map(|number| swept(calls::insert(number, number))));
+    all
+}
+
+// A map with the even numbers is asked for the bounds of the first key, of the 64th, which is the
+// last of a full leaf, and of the last one, each with the number behind it.
+fn bounded(many: u64) -> Vec<Step> {
+    let last = (many - 1) * 2;
+    let mut all = vec![quiet(calls::load(many, 2))];
+    for number in [0, 1, 126, 127, last, last + 1] {
+        all.push(swept(call(4, 3, &[number])));
+        all.push(swept(call(4, 4, &[number])));
+    }
+    all
+}
+
+// A map with counts whose first leaf has no more pairs than it must is asked for cursors on places,
+// and loses its first pairs, one by its key, and the last one.
+fn pointed(many: u64) -> Vec<Step> {
+    let mut all = vec![quiet(calls::load(many, 0))];
+    let gone = if many > 64 { 48 } else { 0 };
+    all.extend((0..gone).map(|_| quiet(call(9, 4, &[0]))));
+    for _ in 0..6 {
+        all.push(swept(call(9, 8, &[5])));
+        all.push(swept(call(9, 4, &[0])));
+    }
+    all.push(swept(calls::remove_entry(gone + 6)));
+    all.push(swept(calls::pop_last()));
+    all
+}
+
+/// The ranges of keys that summaries and counts are asked of.
+const RANGES: [(Option<u64>, Option<u64>); 8] = [
+    (None, None),
+    (Some(20), None),
+    (None, Some(20)),
+    (None, Some(399)),
+    (Some(150), Some(200)),
+    (Some(20), Some(4900)),
+    (Some(200), Some(150)),
+    (Some(4900), Some(20)),
+];
+
+/// The arguments of a range.
+pub fn range((lo, hi): (Option<u64>, Option<u64>)) -> [u64; 4] {
+    let bits = if lo.is_some() { LOWER } else { 0 } | if hi.is_some() { UPPER } else { 0 };
+    [lo.unwrap_or(0), hi.unwrap_or(0), 0, bits]
+}
+
+// Maps of three heights are asked for summaries of their parts.
+fn summed() -> Vec<Step> {
+    let mut all = Vec::new();
+    for (many, height) in [(40, 0), (400, 1), (5000, 2)] {
+        all.push(quiet(calls::load(many, 0)).leaving_height(height));
+        all.extend(RANGES.map(|ends| swept(call(2, 4, &range(ends)))));
+        all.push(swept(call(2, 5, &[0, 10, 4800, 5])));
+        all.push(swept(call(2, 5, &[0, 10, 20, 5])));
+        all.push(swept(call(1, 8, &[])));
+    }
+    all
+}
+
+// Maps of three heights with counts are asked for the lengths of their parts, and for pages.
+fn counted() -> Vec<Step> {
+    let mut all = Vec::new();
+    for (many, height) in [(40, 0), (400, 1), (5000, 2)] {
+        all.push(quiet(calls::load(many, 0)).leaving_height(height));
+        all.extend(RANGES.map(|ends| swept(call(9, 0, &range(ends)))));
+        let asks: [Record; 6] = [
+            call(9, 5, &[3, 20, 0, steps(2, 0)]),
+            call(9, 6, &[20]),
+            call(9, 7, &[20, 20]),
+            call(9, 1, &[20]),
+            call(9, 2, &[20]),
+            call(9, 3, &[20, 20]),
+        ];
+        all.extend(asks.map(swept));
+    }
+    all
+}
+
+// A map is asked for the second group, and pages of it.
+fn asked() -> Vec<Step> {
+    let asks = [
+        call(10, 3, &[200]),
+        call(10, 0, &[200, 0, 0, steps(1, 0)]),
+        call(10, 1, &[200, 20, 0, 30 << 16 | steps(1, 0)]),
+        call(10, 2, &[200, 8, 0, 20 << 16 | steps(1, 0)]),
+    ];
+    let mut all = vec![quiet(calls::load(400, 0))];
+    all.extend(asks.map(swept));
+    all
+}
+
+/// The sizes of trees of the heights 0, 1 and 2, with the word for each.
+pub const SIZES: [(u64, &str); 3] = [(40, "few "), (150, ""), (4161, "many ")];
+
+pub fn all(sort: &Sort) -> Vec<Scenario> {
+    let name = sort.name;
+    let memory = if sort.takes_memory() {
+        ""
+    } else {
+        ", without memory"
+    };
+    let scenario = |end: &str, steps| Scenario::new(&format!("{name}{end}"), sort.map, steps);
+    let items = vec![swept(calls::load(200, 1)).with_hints(1)];
+    let mut all = vec![
+        scenario(", map of items, with a hint", items).ending(100),
+        scenario(", map", halved()).ending(32),
+        scenario(&format!(", map by places{memory}"), by_places()).ending(392),
+    ];
+    for (many, word) in SIZES {
+        // Too much is made anew after each refusal of many groups.
+        if !sort.takes_memory() || many < 4000 {
+            let end = format!(", {word}moved between maps");
+            all.push(scenario(&end, moved(many)).ending(many as usize + 5));
+        }
+        let many = if many == 150 { 400 } else { many };
+        let end = format!(", {word}bounded{memory}");
+        all.push(scenario(&end, bounded(many)).ending(many as usize));
+        let left = many as usize - 8 - if many > 64 { 48 } else { 0 };
+        let end = format!("{}, {word}pointed at{memory}", sort.keys);
+        all.push(Scenario::new(&end, sort.counted, pointed(many)).ending(left));
+    }
+    let counted_name = format!("{}, counted{}", sort.keys, sort.quiet());
+    all.push(Scenario::new(&counted_name, sort.counted, counted()).ending(5000));
+    all.push(scenario(", summed", summed()).ending(5000));
+    if sort.takes_memory() {
+        all.push(scenario(", asked", asked()).ending(400));
+    }
+    all
+}

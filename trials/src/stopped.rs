@@ -1,0 +1,256 @@
+//! What a call may leave that can stop in the middle: which pairs have moved, which is in hand, and
+//! which stayed.
+
+use crate::model::pairs::Pairs;
+use crate::model::shards::bounds_before;
+use crate::model::Model;
+use crate::record::Record;
+use crate::words::{option, Reply};
+
+/// The lengths that a call left, of `here` and of `there`.
+#[derive(Clone, Copy, Debug)]
+pub struct Left {
+    pub here: usize,
+    pub there: usize,
+}
+
+/// Whether a call can stop in the middle.
+pub fn can_stop(model: &Model, record: &Record) -> bool {
+    let (family, member) = (record.family(), record.member());
+    match family {
+        0 => model.kind.is_set() && member == 6,
+        8 if model.kind.is_shards() => true,
+        8 => member <= 4,
+        _ => false,
+    }
+}
+
+// The pairs of a list but those from one place up to another.
+fn without(pairs: &Pairs, from: usize, to: usize) -> Pairs {
+    let mut rest = pairs.part(0, from);
+    rest.extend(pairs.part(to, pairs.len()));
+    Pairs::gathered(rest)
+}
+
+/// A model, and what a call left and replied.
+struct Stop<'a> {
+    model: &'a Model,
+    record: &'a Record,
+    reply: &'a Reply,
+    left: Left,
+}
+
+/// What a model is after a call that stopped. An error says what is not as it may be.
+pub fn after(model: &Model, record: &Record, reply: &Reply, left: Left) -> Result<Model, String> {
+    let stop = Stop {
+        model,
+        record,
+        reply,
+        left,
+    };
+    let member = record.member();
+    if !model.kind.is_shards() && record.family() == 8 && member == 4 {
+        return stop.removed();
+    }
+    if reply.len == 0 {
+        // A key, or a list of them, was not made.
+        let takes_memory = model.kind.has_large_keys() || record.family() == 8 && member == 0;
+        let is_made = !takes_memory || model.kind.is_shards() && member == 1;
+        return stop.is_well(!is_made, "there are no words", model.clone());
+    }
+    match (record.family(), member) {
+        _ if model.kind.is_shards() => stop.shards(),
+        (0, _) => stop.replaced(),
+        (_, 0) => stop.extended(),
+        (_, 1) => stop.appended(),
+        (_, 2) => stop.split(),
+        _ => stop.retained(),
+    }
+}
+
+impl Stop<'_> {
+    fn is_well(&self, is_well: bool, error: &str, after: Model) -> Result<Model, String> {
+        if is_well {
+            Ok(after)
+        } else {
+            Err(error.to_string())
+        }
+    }
+
+    // The words of the reply must be these.
+    fn has(&self, words: &[u64], after: Model) -> Result<Model, String> {
+        let error = format!("the reply has not the words {words:?}");
+        self.is_well(self.reply.has(words), &error, after)
+    }
+
+    // The pair, or the key of a set, at a place of the reply.
+    fn pair_at(&self, place: usize) -> (u64, u64) {
+        let kind = self.model.kind;
+        let place = place + usize::from(kind.has_groups());
+        let value = if kind.is_set() {
+            0
+        } else {
+            self.reply.word(place + 1)
+        };
+        (self.reply.word(place), value)
+    }
+
+    // The same behind a 1, or none.
+    fn pair_if(&self, place: usize) -> Option<(u64, u64)> {
+        if self.reply.word(place) == 1 {
+            Some(self.pair_at(place + 1))
+        } else {
+            None
+        }
+    }
+
+    // The pairs before the one in hand have come.
+    fn extended(&self) -> Result<Model, String> {
+        let (record, back) = (self.record, self.pair_at(0));
+        let mut after = self.model.clone();
+        for pair in self.model.turns(record.a, record.b, record.c) {
+            if pair == back && after.here.get(pair.0).is_none() {
+                return self.has(&self.model.pair(back), after);
+            }
+            after.here.put(pair.0, pair.1);
+        }
+        Err(format!("{back:?} was not to come"))
+    }
+
+    // The first pairs have moved, and the next one may be in hand.
+    fn appended(&self) -> Result<Model, String> {
+        let mut after = self.model.clone();
+        let in_hand = self.pair_if(0);
+        let held = usize::from(in_hand.is_some());
+        let gone = after.there.len().checked_sub(self.left.there);
+        let moved = gone.and_then(|gone| gone.checked_sub(held));
+        let moved = moved.ok_or("there are more than before")?;
+        if in_hand.is_some() && after.there.at(moved) != in_hand {
+            return Err(format!("{in_hand:?} is in hand"));
+        }
+        for (key, value) in after.there.part(0, moved) {
+            after.here.put(key, value);
+        }
+        after.there = without(&after.there, 0, moved + held);
+        self.has(&self.model.pair_if(in_hand), after)
+    }
+
+    // The greatest pairs have moved, and the next one may be in hand.
+    fn split(&self) -> Result<Model, String> {
+        let mut after = self.model.clone();
+        if self.reply.word(0) == 0 {
+            return self.has(&[0], after);
+        }
+        let in_hand = self.pair_if(1);
+        let held = usize::from(in_hand.is_some());
+        let len = after.here.len();
+        let end = len.checked_sub(self.left.there).ok_or("too many left")?;
+        let rest = end.checked_sub(held).ok_or("too many left")?;
+        if in_hand.is_some() && after.here.at(rest) != in_hand {
+            return Err(format!("{in_hand:?} is in hand"));
+        }
+        if rest < after.here.rank(self.record.a) {
+            return Err("pairs below the key have left".to_string());
+        }
+        after.there = Pairs::gathered(after.here.part(end, len));
+        after.here = without(&after.here, rest, len);
+        let mut words = vec![1];
+        words.extend(self.model.pair_if(in_hand));
+        self.has(&words, after)
+    }
+
+    // Those before the pair in hand are asked; those behind it come back.
+    fn retained(&self) -> Result<Model, String> {
+        let (model, record) = (self.model, self.record);
+        let mut after = model.clone();
+        if self.reply.word(0) == 0 {
+            return self.has(&[0], after);
+        }
+        let in_hand = self.pair_at(1);
+        let place = model.here.find(in_hand.0);
+        let place = place.map_err(|_| format!("{in_hand:?} was not there"))?;
+        if model.here.at(place) != Some(in_hand) || !model.stays(record, in_hand) {
+            return Err(format!("{in_hand:?} is in hand"));
+        }
+        let mut words = vec![1];
+        for pair in model.here.part(place, model.here.len()) {
+            words.extend(model.pair(pair));
+        }
+        let kept = model.here.part(0, place);
+        after.here = Pairs::gathered(kept.into_iter().filter(|pair| model.stays(record, *pair)));
+        self.has(&words, after)
+    }
+
+    // The first of the pairs between the bounds have left.
+    fn removed(&self) -> Result<Model, String> {
+        let mut after = self.model.clone();
+        let (from, to) = after.between(self.record);
+        let gone = after.here.len().checked_sub(self.left.here);
+        let gone = gone.ok_or("there are more than before")?;
+        if from + gone > to || gone > 0 && from + gone == to {
+            return Err(format!("{gone} have left"));
+        }
+        after.here = without(&after.here, from, from + gone);
+        self.has(&[], after)
+    }
+
+    // The key is not taken, or it is in hand and its equal has left.
+    fn replaced(&self) -> Result<Model, String> {
+        let mut after = self.model.clone();
+        let key = self.record.a;
+        let mut words = vec![self.reply.word(0)];
+        words.extend(self.model.key(key));
+        if self.reply.word(0) == 1 {
+            let gone = after.here.take(key);
+            words.extend(option(gone.map(|_| self.model.key(key))));
+        }
+        self.has(&words, after)
+    }
+
+    // A shard that is cut, or one that goes to the one before it, may lose its last pairs. They
+    // come back, the first of them perhaps in hand.
+    fn shards(&self) -> Result<Model, String> {
+        let (model, record) = (self.model, self.record);
+        let mut after = model.clone();
+        if self.reply.word(0) == 0 {
+            return self.has(&[0], after);
+        }
+        let is_merge = record.member() == 1;
+        let shard = if is_merge {
+            record.a as usize + 1
+        } else {
+            bounds_before(&model.bounds, record.a, false)
+        };
+        let lengths = model.lengths();
+        let end: u64 = lengths.iter().take(shard + 1).sum();
+        let own = lengths.get(shard).copied().unwrap_or(0) as usize;
+        let gone = model.here.len().checked_sub(self.left.here);
+        let gone = gone.ok_or("there are more than before")?;
+        let least = if is_merge { 0 } else { record.a };
+        let from = (end as usize).wrapping_sub(gone);
+        let is_above = model.here.key_at(from).map_or(true, |key| key >= least);
+        if gone > own || !is_above && gone > 0 {
+            return Err(format!("{gone} have left a shard of {own}"));
+        }
+        let mut back = model.here.part(from, end as usize);
+        for (key, _) in &back {
+            after.here.take(*key);
+        }
+        let is_in_hand = self.reply.word(1) == 1 && !back.is_empty();
+        let in_hand = if is_in_hand {
+            Some(back.remove(0))
+        } else {
+            None
+        };
+        let mut words = vec![1];
+        words.extend(model.pair_if(in_hand));
+        for pair in back {
+            words.extend(model.pair(pair));
+        }
+        if is_merge {
+            let bound = after.merged_bound(record.a).ok_or("no shard was merged")?;
+            after.bounds.remove(bound);
+        }
+        self.has(&words, after)
+    }
+}
