@@ -26,7 +26,7 @@ pub fn numbers_of(group: u64) -> (u64, Option<u64>) {
 
 impl Kind {
     pub fn is_tree(self) -> bool {
-        matches!(self.0, 0..=3 | 9 | 10)
+        matches!(self.0, 0..=3 | 9 | 10 | 17)
     }
 
     pub fn is_map(self) -> bool {
@@ -34,11 +34,11 @@ impl Kind {
     }
 
     pub fn is_set(self) -> bool {
-        matches!(self.0, 7 | 8)
+        matches!(self.0, 7 | 8 | 16)
     }
 
     pub fn is_shards(self) -> bool {
-        matches!(self.0, 11 | 12)
+        matches!(self.0, 11 | 12 | 18)
     }
 
     pub fn is_store(self) -> bool {
@@ -55,6 +55,11 @@ impl Kind {
         matches!(self.0, 2 | 6 | 14)
     }
 
+    /// Whether its keys are pairs of a group and a number.
+    pub fn has_pairs(self) -> bool {
+        self.has_groups() || matches!(self.0, 16..=18)
+    }
+
     /// Whether it is asked by places alone.
     pub fn has_places(self) -> bool {
         matches!(self.0, 4 | 5)
@@ -62,12 +67,12 @@ impl Kind {
 
     /// Whether nodes can be looked at.
     pub fn has_nodes(self) -> bool {
-        self.0 <= 10
+        matches!(self.0, 0..=10 | 16 | 17)
     }
 
     /// Whether each key takes memory.
     pub fn has_large_keys(self) -> bool {
-        matches!(self.0, 1 | 2 | 5 | 6 | 8 | 10 | 12 | 14)
+        matches!(self.0, 1 | 2 | 5 | 6 | 8 | 10 | 12 | 14 | 16..=18)
     }
 
     /// The most comparisons of a look-up in a remembered leaf.
@@ -81,7 +86,7 @@ impl Kind {
 
     /// Adds the words of a key.
     pub fn tell_key(self, number: u64, words: &mut Vec<u64>) {
-        if self.has_groups() {
+        if self.has_pairs() {
             words.push(group_of(number));
         }
         words.push(number);
@@ -105,6 +110,9 @@ impl Kind {
             12 => "shards of texts",
             13 => "stores of numbers",
             14 => "stores of groups",
+            16 => "sets of pairs",
+            17 => "trees of pairs without summaries",
+            18 => "shards of pairs",
             _ => "owned values",
         }
     }

@@ -38,7 +38,7 @@ impl Words<'_> {
     }
 
     fn key(&mut self) -> Told<u64> {
-        if self.kind.has_groups() {
+        if self.kind.has_pairs() {
             self.word()?;
         }
         self.word()

@@ -21,9 +21,10 @@ pub struct Sort {
     /// Trees without summaries.
     pub plain: u64,
     pub store: u64,
-    /// What keys with summaries are called, and keys alone.
+    /// What keys with summaries are called, keys alone, and keys of maps with counts.
     pub name: &'static str,
     pub keys: &'static str,
+    pub counted_keys: &'static str,
 }
 
 /// Keys that take no memory, with counts.
@@ -37,6 +38,7 @@ const NUMBERS: Sort = Sort {
     store: 13,
     name: "numbers",
     keys: "numbers",
+    counted_keys: "numbers",
 };
 
 /// Keys that take memory, with groups.
@@ -44,12 +46,13 @@ const GROUPS: Sort = Sort {
     tree: 2,
     map: 6,
     counted: 5,
-    set: 8,
-    shards: 12,
-    plain: 10,
+    set: 16,
+    shards: 18,
+    plain: 17,
     store: 14,
     name: "groups",
-    keys: "texts",
+    keys: "pairs",
+    counted_keys: "texts",
 };
 
 impl Sort {

@@ -86,7 +86,7 @@ impl Stop<'_> {
     // The pair, or the key of a set, at a place of the reply.
     fn pair_at(&self, place: usize) -> (u64, u64) {
         let kind = self.model.kind;
-        let place = place + usize::from(kind.has_groups());
+        let place = place + usize::from(kind.has_pairs());
         let value = if kind.is_set() {
             0
         } else {

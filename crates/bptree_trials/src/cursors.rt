@@ -26,6 +26,23 @@ fn hold<K: Sample>(
     true
 }
 
+// A clone of the held cursor.
+fn copied<K: Sample>(held: &Option<Cursor<K>>) -> Result<Option<Cursor<K>>, AllocError> {
+    match held {
+        Some(cursor) => match cursor.clone() {
+            Ok(copy) => Ok(Some(copy)),
+            Err(_) => Err(AllocError),
+        },
+        None => Ok(None),
+    }
+}
+
+// Holds a clone of the held cursor in its place.
+fn hold_copy<K: Sample>(held: &mut Option<Cursor<K>>, words: &mut Words) -> bool {
+    let copy = copied(held);
+    hold(held, copy, words)
+}
+
 /// Tells the key of a cursor that was found, and the value beside it.
 pub fn tell_found<K: Sample, V: Told + Drop>(
     found: Result<Option<(Cursor<K>, V)>, AllocError>,
@@ -174,6 +191,7 @@ where
             *held = None;
             true
         }
+        14 => hold_copy(held, words),
         _ => no_call(words),
     }
 }

@@ -2,8 +2,8 @@
 //!
 //! Standard input has records of 40 bytes. The first selects what the calls are made on, and each
 //! further one is a call. A reply has a word for its status, the number of its words, their digest,
-//! and the first 1024 words. A status of 0 stands for a call that was made, and 1 for one that failed
-//! for want of memory. A read must not end within a record.
+//! and the first 1024 words. A status of 0 stands for a call that was made, and 1 for one in which
+//! an allocation failed. A read must not end within a record.
 #![tactic(auto)]
 
 mod calls;
@@ -145,7 +145,7 @@ fn on_pairs<R: Read, W: Write>(alloc: Global, form: u64, reader: &mut R, writer:
 }
 
 // The form of each kind, and its keys: 0 for numbers, 1 for texts and 2 for pairs.
-const KINDS: [(u64, u64); 16] = [
+const KINDS: [(u64, u64); 19] = [
     (0, 0),
     (0, 1),
     (0, 2),
@@ -162,6 +162,9 @@ const KINDS: [(u64, u64); 16] = [
     (6, 0),
     (6, 2),
     (7, 0),
+    (3, 2),
+    (4, 2),
+    (5, 2),
 ];
 
 // Calls of what a kind stands for.

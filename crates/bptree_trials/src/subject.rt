@@ -9,8 +9,8 @@ pub trait Subject: Drop + Sized {
     /// One on which no call was made.
     fn begin(alloc: Global) -> Result<Self, AllocError>;
 
-    /// Makes a call, and tells its reply. Returns false if an allocation failed. The reply of a call
-    /// that there is none of is `NONE`.
+    /// Makes a call, and tells its reply. Returns false if an allocation failed. If there is no such
+    /// call, the reply is `NONE`.
     fn call(&mut self, alloc: Global, record: &Record, words: &mut Words) -> bool;
 }
 

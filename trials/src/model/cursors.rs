@@ -61,6 +61,17 @@ impl Model {
                 self.held = None;
                 Some(Answer::of(Vec::new()))
             }
+            14 => {
+                let mut words = Vec::new();
+                match self.held {
+                    Some(key) => {
+                        words.push(1);
+                        self.kind.tell_key(key, &mut words);
+                    }
+                    None => words.push(0),
+                }
+                Some(Answer::of(words))
+            }
             _ => None,
         }
     }

@@ -2,13 +2,18 @@
 
 use super::pairs::Pairs;
 use super::{Answer, Model};
+use crate::kind::group_of;
 use crate::record::Record;
 use std::mem;
 
 impl Model {
     /// Whether a pair stays where those are to go whose value, or key of a set, leaves a remainder.
     pub fn stays(&self, record: &Record, (key, value): (u64, u64)) -> bool {
-        let number = if self.kind.is_set() { key } else { value };
+        let number = match (self.kind.is_set(), self.kind.has_pairs()) {
+            (true, true) => group_of(key),
+            (true, false) => key,
+            _ => value,
+        };
         record.a == 0 && !self.kind.is_set() || number % record.a.max(1) != record.b
     }
 

@@ -179,10 +179,10 @@ pub fn all(sort: &Sort) -> Vec<Scenario> {
         let end = format!(", {word}bounded{memory}");
         all.push(scenario(&end, bounded(many)).ending(many as usize));
         let left = many as usize - 8 - if many > 64 { 48 } else { 0 };
-        let end = format!("{}, {word}pointed at{memory}", sort.keys);
+        let end = format!("{}, {word}pointed at{memory}", sort.counted_keys);
         all.push(Scenario::new(&end, sort.counted, pointed(many)).ending(left));
     }
-    let counted_name = format!("{}, counted{}", sort.keys, sort.quiet());
+    let counted_name = format!("{}, counted{}", sort.counted_keys, sort.quiet());
     all.push(Scenario::new(&counted_name, sort.counted, counted()).ending(5000));
     all.push(scenario(", summed", summed()).ending(5000));
     if sort.takes_memory() {

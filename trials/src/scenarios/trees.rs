@@ -88,9 +88,10 @@ fn upward() -> Vec<Step> {
 // A cursor goes over a tree from both ends.
 fn walked() -> Vec<Step> {
     let mut steps = vec![quiet(calls::load(200, 0)), swept(call(4, 0, &[]))];
-    steps.extend((0..200).map(|_| swept(call(4, 5, &[]))));
+    let step = |member: u64| [swept(call(4, 14, &[])), swept(call(4, member, &[]))];
+    steps.extend((0..200).flat_map(|_| step(5)));
     steps.push(swept(call(4, 1, &[])));
-    steps.extend((0..200).map(|_| swept(call(4, 6, &[]))));
+    steps.extend((0..200).flat_map(|_| step(6)));
     steps
 }
 
