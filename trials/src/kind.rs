@@ -92,6 +92,15 @@ impl Kind {
         words.push(number);
     }
 
+    /// The words of a key behind a 1, or a 0 if there is none.
+    pub fn key_if(self, number: Option<u64>) -> Vec<u64> {
+        let mut words = vec![u64::from(number.is_some())];
+        if let Some(number) = number {
+            self.tell_key(number, &mut words);
+        }
+        words
+    }
+
     /// What it is called.
     pub fn name(self) -> &'static str {
         match self.0 {

@@ -2,7 +2,6 @@
 
 use super::{Answer, Model};
 use crate::record::Record;
-use crate::words::number;
 use std::collections::BTreeSet;
 
 impl Model {
@@ -10,19 +9,19 @@ impl Model {
         if record.family() == 1 {
             return self.read_set(record);
         }
-        let key = record.a;
+        let (kind, key) = (self.kind, record.a);
         let here = &mut self.here;
         let words = match record.member() {
             0 => vec![u64::from(here.put(key, 0).is_none())],
             1 => vec![u64::from(here.take(key).is_some())],
-            2 => number(here.take(key).map(|_| key)),
-            3 => number(here.take_at(0).map(|pair| pair.0)),
-            4 => number(here.take_at(here.len().wrapping_sub(1)).map(|pair| pair.0)),
+            2 => kind.key_if(here.take(key).map(|_| key)),
+            3 => kind.key_if(here.take_at(0).map(|pair| pair.0)),
+            4 => kind.key_if(here.take_at(here.len().wrapping_sub(1)).map(|pair| pair.0)),
             5 => {
                 here.clear();
                 Vec::new()
             }
-            6 => number(here.put(key, 0).map(|_| key)),
+            6 => kind.key_if(here.put(key, 0).map(|_| key)),
             _ => return None,
         };
         Some(Answer::of(words))
@@ -34,10 +33,10 @@ impl Model {
         let words = match record.member() {
             0 => vec![u64::from(is_there)],
             1 => return Some(self.compared(vec![u64::from(is_there)])),
-            2 => number(if is_there { Some(key) } else { None }),
+            2 => self.kind.key_if(if is_there { Some(key) } else { None }),
             4 => {
-                let mut words = number(here.first().map(|pair| pair.0));
-                words.extend(number(here.last().map(|pair| pair.0)));
+                let mut words = self.kind.key_if(here.first().map(|pair| pair.0));
+                words.extend(self.kind.key_if(here.last().map(|pair| pair.0)));
                 words
             }
             5 => vec![here.len() as u64, u64::from(here.is_empty())],
@@ -77,7 +76,9 @@ impl Model {
         };
         let rest = keys.len().saturating_sub(1) as u64;
         let mut words = vec![least, 1, most];
-        words.extend(keys);
+        for key in keys {
+            self.kind.tell_key(key, &mut words);
+        }
         words.push(rest);
         Some(Answer::of(words))
     }
