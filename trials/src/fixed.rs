@@ -44,7 +44,7 @@ impl Talk {
         for (record, reply) in records.iter().zip(&replies) {
             let is_well = match self.model.answer(record) {
                 Some(answer) => answer.is_met(reply),
-                None => reply.is_done(),
+                None => record.is_of_nodes() && reply.is_done(),
             };
             let words = &reply.words[..reply.words.len().min(20)];
             check(is_well, || format!("{record:?}: {words:?}"))?;

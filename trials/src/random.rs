@@ -57,7 +57,7 @@ fn compare(
     for ((record, answer), reply) in records.iter().zip(wanted).zip(&replies) {
         let is_well = match answer {
             Some(answer) => answer.is_met(reply),
-            None => reply.is_done(),
+            None => record.is_of_nodes() && reply.is_done(),
         };
         if !is_well {
             return Err(told(record, answer, reply));

@@ -33,6 +33,12 @@ impl Record {
         self.call / 16
     }
 
+    /// Whether the reply depends on how the nodes are cut: a look at nodes, or a visit. The models
+    /// have answers to all other calls.
+    pub fn is_of_nodes(&self) -> bool {
+        matches!(self.family(), 5 | 7)
+    }
+
     pub fn member(&self) -> u64 {
         self.call % 16
     }

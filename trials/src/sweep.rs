@@ -114,8 +114,10 @@ impl Trial {
         if !reply.is_done() {
             return Err(format!("{record:?} was refused by itself"));
         }
-        if let Some(answer) = self.model.answer(record) {
-            is_answered(record, &answer, &reply)?;
+        match self.model.answer(record) {
+            Some(answer) => is_answered(record, &answer, &reply)?,
+            None if record.is_of_nodes() => {}
+            None => return Err(format!("no answer to {record:?} is known")),
         }
         Ok(reply)
     }
@@ -124,8 +126,10 @@ impl Trial {
     fn make_all(&mut self, records: &[Record]) -> Told<()> {
         let replies = self.ask_all(records)?;
         for (record, reply) in records.iter().zip(&replies) {
-            if let Some(answer) = self.model.answer(record) {
-                is_answered(record, &answer, reply)?;
+            match self.model.answer(record) {
+                Some(answer) => is_answered(record, &answer, reply)?,
+                None if record.is_of_nodes() && reply.is_done() => {}
+                None => return Err(format!("no answer to {record:?} is known")),
             }
         }
         Ok(())
