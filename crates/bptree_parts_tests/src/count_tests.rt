@@ -2,7 +2,6 @@
 
 use bptree_arguments::argument::Argument;
 use bptree_arguments::count::Count;
-use std::test::Fail;
 
 // Whether the child's new count gives the node this one.
 fn is_replaced(node: &Count, old: &Count, new: &Count, count: Option<usize>) -> bool {
@@ -32,7 +31,6 @@ fn counts() -> bool {
 }
 
 #[test]
-fn counts_a_leaf_and_an_inner_node(rt: HostRuntime) -> Result<(), Fail> {
+fn counts_a_leaf_and_an_inner_node(rt: HostRuntime) {
     assert!(rt; counts());
-    Ok(())
 }

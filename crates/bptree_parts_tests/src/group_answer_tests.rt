@@ -4,7 +4,6 @@ ghost use Rattle.bptree_arguments.specs.Ranks.{IsSlotIn};
 
 use bptree_arguments::argument::RankArgument;
 use bptree_arguments::group::{GroupCount, Tuple2};
-use std::test::Fail;
 
 type Groups = GroupCount<Tuple2<u64>>;
 
@@ -43,7 +42,6 @@ fn has_ranks() -> bool {
 }
 
 #[test]
-fn ranks_keys_in_their_groups(rt: HostRuntime) -> Result<(), Fail> {
+fn ranks_keys_in_their_groups(rt: HostRuntime) {
     assert!(rt; has_ranks());
-    Ok(())
 }

@@ -2,7 +2,6 @@
 
 use bptree_arguments::argument::{Argument, RankArgument};
 use bptree_arguments::group::{GroupCount, Tuple2};
-use std::test::Fail;
 
 type Groups = GroupCount<Tuple2<u64>>;
 
@@ -109,8 +108,7 @@ fn stops_at_the_greatest() -> bool {
 }
 
 #[test]
-fn sums_up_groups(rt: HostRuntime) -> Result<(), Fail> {
+fn sums_up_groups(rt: HostRuntime) {
     assert!(rt; sums_up_leaves() && sums_up_two_leaves());
     assert!(rt; tells_each_kind() && stops_at_the_greatest());
-    Ok(())
 }

@@ -8,7 +8,6 @@ use bptree_nodes::inner_node::{InnerMergeResult, InnerNode};
 use std::alloc::{AllocError, Global};
 use std::cell::Cell;
 use std::rc::Rc;
-use std::test::Fail;
 
 type Node = InnerNode<usize, usize>;
 
@@ -99,24 +98,6 @@ fn splits_into(alloc: Global, slot: usize, key: usize, between: usize) -> bool {
     promoted == between && shows_part(&node, 0, keys, leaves) && shows_part(&next, 33, keys, leaves)
 }
 
-#[test]
-fn splits_before_the_middle(rt: HostRuntime) -> Result<(), Fail> {
-    assert!(rt; splits_into(rt.alloc(), 0, 5, 320));
-    Ok(())
-}
-
-#[test]
-fn splits_in_the_middle(rt: HostRuntime) -> Result<(), Fail> {
-    assert!(rt; splits_into(rt.alloc(), 32, 325, 325));
-    Ok(())
-}
-
-#[test]
-fn splits_behind_the_middle(rt: HostRuntime) -> Result<(), Fail> {
-    assert!(rt; splits_into(rt.alloc(), 64, 645, 330));
-    Ok(())
-}
-
 // Whether the node has these keys, and these leaves as children and as arguments.
 fn shows(node: &Node, keys: &[usize], leaves: &[usize]) -> bool {
     let mut well = node.keys() == keys && node.arguments() == leaves;
@@ -152,12 +133,6 @@ fn merges_around(alloc: Global, separator: usize) -> bool {
     }
     left.merge_next(separator, right);
     shows(&left, &[10, 11, 30, 40], &[1, 2, 3, 5, 6])
-}
-
-#[test]
-fn merges_two_children_of_a_node(rt: HostRuntime) -> Result<(), Fail> {
-    assert!(rt; merges(rt.alloc()));
-    Ok(())
 }
 
 fn counted_node(
@@ -201,7 +176,11 @@ fn drops(alloc: Global) -> bool {
 }
 
 #[test]
-fn drops_each_key_and_argument_once(rt: HostRuntime) -> Result<(), Fail> {
+fn splits_merges_and_drops_inner_nodes(rt: HostRuntime) {
+    // Before the middle, in it and behind it.
+    assert!(rt; splits_into(rt.alloc(), 0, 5, 320));
+    assert!(rt; splits_into(rt.alloc(), 32, 325, 325));
+    assert!(rt; splits_into(rt.alloc(), 64, 645, 330));
+    assert!(rt; merges(rt.alloc()));
     assert!(rt; drops(rt.alloc()));
-    Ok(())
 }

@@ -5,7 +5,6 @@ use bptree_nodes::leaf_node::LeafNode;
 use std::alloc::{AllocError, Global};
 use std::cell::Cell;
 use std::rc::Rc;
-use std::test::Fail;
 
 type Leaf = LeafNode<usize, u64>;
 
@@ -68,13 +67,6 @@ fn splits_into(alloc: Global, slot: usize, key: usize, first_len: usize) -> bool
         && is_linked(&next, Some(1), Some(3))
 }
 
-#[test]
-fn splits_a_full_leaf_before_and_in_the_middle(rt: HostRuntime) -> Result<(), Fail> {
-    assert!(rt; splits_into(rt.alloc(), 0, 0, 33));
-    assert!(rt; splits_into(rt.alloc(), 32, 65, 32));
-    Ok(())
-}
-
 // Which of these keys are in the leaf's range.
 fn ranges(leaf: &Leaf) -> [bool; 4] {
     [
@@ -98,12 +90,6 @@ fn is_in_range(alloc: Global) -> bool {
     alone == [true, true, true, true]
         && last == [false, true, true, true]
         && ranges(&leaf) == [false, true, true, false]
-}
-
-#[test]
-fn is_in_range_by_its_links(rt: HostRuntime) -> Result<(), Fail> {
-    assert!(rt; is_in_range(rt.alloc()));
-    Ok(())
 }
 
 // Whether the leaf has these keys and values, and this leaf behind it.
@@ -141,12 +127,6 @@ fn merges_without_the_first(alloc: Global, leaf: &mut Leaf) -> bool {
     removed == (50, 1) && shows(leaf, &[11, 39, 40, 51], &[1, 1, 1, 1], None)
 }
 
-#[test]
-fn merges_with_the_leaf_after_it(rt: HostRuntime) -> Result<(), Fail> {
-    assert!(rt; merges(rt.alloc()));
-    Ok(())
-}
-
 // Whether none of ten keys and values is dropped before their leaf is.
 fn keeps_all(alloc: Global, keys: &Rc<Cell<u64>>, values: &Rc<Cell<u64>>) -> bool {
     let Ok(ten_keys) = several(alloc, keys, 10) else {
@@ -174,7 +154,10 @@ fn drops(alloc: Global) -> bool {
 }
 
 #[test]
-fn drops_each_key_and_each_value_once(rt: HostRuntime) -> Result<(), Fail> {
+fn splits_merges_and_drops_leaves(rt: HostRuntime) {
+    assert!(rt; splits_into(rt.alloc(), 0, 0, 33));
+    assert!(rt; splits_into(rt.alloc(), 32, 65, 32));
+    assert!(rt; is_in_range(rt.alloc()));
+    assert!(rt; merges(rt.alloc()));
     assert!(rt; drops(rt.alloc()));
-    Ok(())
 }

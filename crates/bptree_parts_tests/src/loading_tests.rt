@@ -3,7 +3,6 @@
 use crate::callers::dedup::collects_the_last_numbers;
 use bptree_loading::loading::{in_load_order, keep_last_of_each_run};
 use std::alloc::Global;
-use std::test::Fail;
 
 const NONE: [(u64, u64); 0] = [];
 
@@ -49,8 +48,7 @@ fn keeps_the_last_numbers(alloc: Global) -> bool {
 }
 
 #[test]
-fn keeps_the_last_of_each_run(rt: HostRuntime) -> Result<(), Fail> {
+fn keeps_the_last_of_each_run(rt: HostRuntime) {
     assert!(rt; tells_load_order() && keeps_the_last(rt.alloc()));
     assert!(rt; keeps_the_last_numbers(rt.alloc()));
-    Ok(())
 }

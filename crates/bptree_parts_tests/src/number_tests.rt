@@ -22,11 +22,6 @@ fn ascend() -> bool {
         && order_of(leaf(2), inner(10)) == Ordering::Greater
 }
 
-#[test]
-fn orders_numbers_of_one_kind_and_inner_nodes_first(rt: HostRuntime) {
-    assert!(rt; ascend());
-}
-
 fn path_of_three() -> VisitStack {
     let mut stack = VisitStack::new();
     stack.push(InnerNodeId::from_usize(1), 1, inner(10));
@@ -46,11 +41,6 @@ fn pops(mut stack: VisitStack) -> bool {
     stack.is_empty() && stack.last().is_none() && stack.pop().is_none()
 }
 
-#[test]
-fn pops_a_path_in_reverse(rt: HostRuntime) {
-    assert!(rt; pops(path_of_three()));
-}
-
 // Whether an entry that goes into another tree keeps its leaf, its place and its path.
 fn keeps_its_path() -> bool {
     let entry = EntryRef::new(1u8, path_of_three(), LeafNodeId::from_usize(4), 5);
@@ -59,6 +49,8 @@ fn keeps_its_path() -> bool {
 }
 
 #[test]
-fn keeps_an_entry_without_its_tree(rt: HostRuntime) {
+fn orders_node_ids_and_keeps_paths(rt: HostRuntime) {
+    assert!(rt; ascend());
+    assert!(rt; pops(path_of_three()));
     assert!(rt; keeps_its_path());
 }

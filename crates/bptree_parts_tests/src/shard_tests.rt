@@ -1,63 +1,71 @@
 //! Places, pages and ends at numbers that were reckoned by hand.
 
 use bptree_shards::combining::{Part, first_full, last_full, locate, parts};
-use std::alloc::{AllocError, Global};
-use std::test::Fail;
+use std::alloc::Global;
 
-// Of shards with 3, 0, 2 and 4 pairs: the places 0 to 8.
-fn places() -> bool {
-    let lengths = [3, 0, 2, 4];
-    locate(&lengths, 0) == Some((0, 0))
-        && locate(&lengths, 2) == Some((0, 2))
-        && locate(&lengths, 3) == Some((2, 0))
-        && locate(&lengths, 5) == Some((3, 0))
-        && locate(&lengths, 8) == Some((3, 3))
-        && locate(&lengths, 9) == None
+// Shards with 3, 0, 2 and 4 pairs.
+const LENGTHS: [usize; 4] = [3, 0, 2, 4];
+
+// The shard and the index there of each index of the whole, and of the one past the end.
+const PLACES: [Option<(usize, usize)>; 10] = [
+    Some((0, 0)),
+    Some((0, 1)),
+    Some((0, 2)),
+    Some((2, 0)),
+    Some((2, 1)),
+    Some((3, 0)),
+    Some((3, 1)),
+    Some((3, 2)),
+    Some((3, 3)),
+    None,
+];
+
+fn finds_places() -> bool {
+    let mut well = true;
+    for (place, found) in PLACES.iter().enumerate() {
+        well &= locate(&LENGTHS, place) == *found;
+    }
+    well
 }
 
-#[test]
-fn finds_places(rt: HostRuntime) -> Result<(), Fail> {
-    assert!(rt; places());
-    Ok(())
+fn finds_ends() -> bool {
+    let mut well = first_full(&[0, 0, 2, 4, 0]) == Some(2);
+    well &= last_full(&[0, 0, 2, 4, 0]) == Some(3);
+    well &= first_full(&[0, 0]).is_none();
+    well &= last_full(&[]).is_none();
+    well
 }
 
-fn ends() -> bool {
-    first_full(&[0, 0, 2, 4, 0]) == Some(2)
-        && last_full(&[0, 0, 2, 4, 0]) == Some(3)
-        && first_full(&[0, 0]) == None
-        && last_full(&[]) == None
-}
-
-#[test]
-fn finds_ends(rt: HostRuntime) -> Result<(), Fail> {
-    assert!(rt; ends());
-    Ok(())
-}
-
-// Five pairs from place 2 on: the last of the first shard, both of the third, and two of the
+// Five pairs from index 2 on: the last of the first shard, both of the third, and two of the
 // fourth.
-fn page(alloc: Global) -> Result<bool, AllocError> {
-    let found = parts(alloc, &[3, 0, 2, 4], 2, 5)?;
-    let first = Part {
+const PARTS: [Part; 3] = [
+    Part {
         shard: 0,
         from: 2,
         count: 1,
-    };
-    let second = Part {
+    },
+    Part {
         shard: 2,
         from: 0,
         count: 2,
-    };
-    let third = Part {
+    },
+    Part {
         shard: 3,
         from: 0,
         count: 2,
+    },
+];
+
+fn parts_a_page(alloc: Global) -> bool {
+    let Ok(found) = parts(alloc, &LENGTHS, 2, 5) else {
+        return false;
     };
-    Ok(found.len() == 3 && found[0] == first && found[1] == second && found[2] == third)
+    found.as_slice() == PARTS.as_slice()
 }
 
 #[test]
-fn parts_a_page(rt: HostRuntime) -> Result<(), Fail> {
-    assert!(rt; page(rt.alloc())?);
-    Ok(())
+fn finds_places_ends_and_pages(rt: HostRuntime) {
+    assert!(rt; finds_places());
+    assert!(rt; finds_ends());
+    assert!(rt; parts_a_page(rt.alloc()));
 }

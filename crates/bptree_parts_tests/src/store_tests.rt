@@ -5,7 +5,6 @@ use bptree_keys::node_id::LeafNodeId;
 use bptree_stores::node_store_vec::NodeStoreVec;
 use bptree_stores::node_stores::{CloneStore, NodeStore};
 use std::alloc::Global;
-use std::test::Fail;
 
 // Whether the next two numbers for leaves are these.
 fn gives_leaves<S: NodeStore>(store: &mut S, first: LeafNodeId, second: LeafNodeId) -> bool {
@@ -59,7 +58,6 @@ fn numbers_of_a_vector_come_back(alloc: Global) -> bool {
 }
 
 #[test]
-fn released_numbers_come_back_the_last_first(rt: HostRuntime) -> Result<(), Fail> {
+fn released_numbers_come_back_the_last_first(rt: HostRuntime) {
     assert!(rt; numbers_of_a_vector_come_back(rt.alloc()));
-    Ok(())
 }

@@ -101,8 +101,7 @@ fn selects_in_a_leaf<K: Key, A: SearchArgument<K>>(
 ) -> Result<Option<usize>, AllocError>
     requires few { length keys.now ≤ 64 }
     requires ascending { IsStrictlySortedBy K.cmp keys.now }
-    ensures within { IfOk result (λ place. IfSome place (λ i. i < length keys.now)) }
-    ensures allowed { IfOk result (λ place. A.selects query keys.now place) }
+    ensures { IfOk result (λ place. IfSome place (λ i. i < length keys.now) × A.selects query keys.now place) }
 {
     A::locate_in_leaf(query, keys)
 }

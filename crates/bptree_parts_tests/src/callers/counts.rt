@@ -12,8 +12,7 @@ use std::alloc::AllocError;
 
 // A leaf's keys are counted, and one without keys counts none.
 fn counts_a_leaf<K: Key>(keys: &[K]) -> Result<usize, AllocError>
-    ensures len { IfOk result (λ n. n ≡ length keys.now) }
-    ensures none { keys.now ≡ [] → IfOk result (λ n. n ≡ 0) }
+    ensures { IfOk result (λ n. (n ≡ length keys.now) × (keys.now ≡ [] → n ≡ 0)) }
 {
     let count = <Count as Argument<K>>::from_leaf(keys)?;
     Ok(count.count())
@@ -50,8 +49,7 @@ fn adds_two_counts<K: Key>(
     left: Count,
     right: Count,
 ) -> Result<(usize, usize, usize), AllocError>
-    ensures sum { IfOk result (λ counts. counts.0 + counts.1 ≤ 2 ^ 64 - 1 → counts.2 ≡ counts.0 + counts.1) }
-    ensures capped { IfOk result (λ counts. 2 ^ 64 ≤ counts.0 + counts.1 → counts.2 ≡ 2 ^ 64 - 1) }
+    ensures { IfOk result (λ counts. (counts.0 + counts.1 ≤ 2 ^ 64 - 1 → counts.2 ≡ counts.0 + counts.1) × (2 ^ 64 ≤ counts.0 + counts.1 → counts.2 ≡ 2 ^ 64 - 1)) }
 {
     let both = <Count as Argument<K>>::from_inner(separators, &[left, right])?;
     Ok((left.count(), right.count(), both.count()))
@@ -73,8 +71,7 @@ fn finds_an_index_of_any_keys(keys: &[u64], query: usize) -> Option<usize>
 fn finds_the_place<K: Key>(query: usize, keys: &[K]) -> Result<Option<usize>, AllocError>
     requires few { length keys.now ≤ 64 }
     requires ascending { IsStrictlySortedBy K.cmp keys.now }
-    ensures inside { query < length keys.now → IfOk result (λ place. place ≡ Some query) }
-    ensures past { length keys.now ≤ query → IfOk result (λ place. place ≡ None) }
+    ensures { IfOk result (λ place. (query < length keys.now → place ≡ Some query) × (length keys.now ≤ query → place ≡ None)) }
 {
     <Count as SearchArgument<K>>::locate_in_leaf(query, keys)
 }
@@ -105,8 +102,7 @@ fn takes_in_two_counts<K: Key>(
     left: Count,
     right: Count,
 ) -> Result<(usize, usize, usize), AllocError>
-    ensures sum { IfOk result (λ ranks. ranks.0 + ranks.1 ≤ 2 ^ 64 - 1 → ranks.2 ≡ ranks.0 + ranks.1) }
-    ensures capped { IfOk result (λ ranks. 2 ^ 64 ≤ ranks.0 + ranks.1 → ranks.2 ≡ 2 ^ 64 - 1) }
+    ensures { IfOk result (λ ranks. (ranks.0 + ranks.1 ≤ 2 ^ 64 - 1 → ranks.2 ≡ ranks.0 + ranks.1) × (2 ^ 64 ≤ ranks.0 + ranks.1 → ranks.2 ≡ 2 ^ 64 - 1)) }
 {
     let start = <Count as RankArgument<K>>::initial_value();
     let rank = <Count as RankArgument<K>>::fold_inner(k, start, &[left, right])?;

@@ -1,5 +1,5 @@
 //! Callers of the iterator that keeps the last item of each run.
-ghost use Rattle.std.specs.Prelude.{◌≡◌, ◌==◌, Bool, List, IfOk, IsTrue};
+ghost use Rattle.std.specs.Prelude.{◌≡◌, ◌==◌, Bool, List, None, IfOk};
 ghost use Rattle.std.specs.Iterator.{IsFinite};
 ghost use Rattle.std.specs.Iterator.Order.{ActsAsAtTwo};
 ghost use Rattle.std.specs.Ordering.{is_eq};
@@ -37,14 +37,11 @@ where
 // Once there was no item there never is one.
 fn ends_for_good<I: Iterator, F: FnMut(&I::Item, &I::Item) -> bool>(
     items: &mut DeDupKeepLast<I, F>,
-) -> bool
+) -> (Option<I::Item>, Option<I::Item>)
 where
     I::Item: Drop,
     requires { ⟦<DeDupKeepLast<I, F> as Iterator>⟧.can_next items.old }
-    ensures { IsTrue result }
+    ensures { result.0 ≡ None → result.1 ≡ None }
 {
-    match items.next() {
-        Some(_) => true,
-        None => items.next().is_none(),
-    }
+    (items.next(), items.next())
 }

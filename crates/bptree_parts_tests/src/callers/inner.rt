@@ -37,9 +37,7 @@ fn shows_what_it_was_made_of<K: Drop, A: Drop>(
     requires keys { vec_len keys ≡ 64 }
     requires children { vec_len children ≡ 65 }
     requires arguments { vec_len arguments ≡ 65 }
-    ensures keys { IfOk result (λ node. node.value.keys ≡ keys.items) }
-    ensures children { IfOk result (λ node. node.value.children ≡ children.items) }
-    ensures arguments { IfOk result (λ node. node.value.arguments ≡ arguments.items) }
+    ensures { IfOk result (λ node. (node.value.keys ≡ keys.items) × (node.value.children ≡ children.items) × (node.value.arguments ≡ arguments.items)) }
 {
     InnerNode::new(alloc, keys, children, arguments)
 }
@@ -56,9 +54,7 @@ fn shows_what_was_given<
     requires childs { IsFiniteIterable J.into_iter_gives J.IntoIter.can_next J.IntoIter.remaining childs }
     requires arguments { IsFiniteIterable L.into_iter_gives L.IntoIter.can_next L.IntoIter.remaining arguments }
     requires counts { (ks : List K) (cs : List NodeId) (xs : List A) → Gives I.into_iter_gives I.IntoIter.next_gives keys ks → Gives J.into_iter_gives J.IntoIter.next_gives childs cs → Gives L.into_iter_gives L.IntoIter.next_gives arguments xs → (length ks ≤ 64) × (length cs ≡ length ks + 1) × (length xs ≡ length ks + 1) }
-    ensures keys { IfOk result (λ node. Gives I.into_iter_gives I.IntoIter.next_gives keys node.value.keys) }
-    ensures children { IfOk result (λ node. Gives J.into_iter_gives J.IntoIter.next_gives childs node.value.children) }
-    ensures arguments { IfOk result (λ node. Gives L.into_iter_gives L.IntoIter.next_gives arguments node.value.arguments) }
+    ensures { IfOk result (λ node. Gives I.into_iter_gives I.IntoIter.next_gives keys node.value.keys × Gives J.into_iter_gives J.IntoIter.next_gives childs node.value.children × Gives L.into_iter_gives L.IntoIter.next_gives arguments node.value.arguments) }
 {
     InnerNode::new_from_iter(alloc, keys, childs, arguments)
 }
@@ -345,9 +341,7 @@ fn goes_behind_an_equal_key<K: Ord + Drop, A: Drop>(
 fn clones_keys_and_summaries<K: Clone + Drop, A: Clone + Drop>(
     node: &InnerNode<K, A>,
 ) -> Result<InnerNode<K, A>, AllocError>
-    ensures children { IfOk result (λ copy. copy.children ≡ node.now.children) }
-    ensures keys { IfOk result (λ copy. AllZip K.is_clone node.now.keys copy.keys) }
-    ensures arguments { IfOk result (λ copy. AllZip A.is_clone node.now.arguments copy.arguments) }
+    ensures { IfOk result (λ copy. (copy.children ≡ node.now.children) × AllZip K.is_clone node.now.keys copy.keys × AllZip A.is_clone node.now.arguments copy.arguments) }
 {
     node.clone()
 }

@@ -1,5 +1,5 @@
 //! Callers of a leaf.
-ghost use Rattle.std.specs.Prelude.{◌≡◌, ◌<◌, ◌≤◌, ◌+◌, ◌-◌, ◌∷◌, ◌++◌, [], List, Some, None, true, false, length, take, drop, slice_get, remove, IfOk, IfSome, IsSomeAnd, option_copied};
+ghost use Rattle.std.specs.Prelude.{◌≡◌, ◌<◌, ◌≤◌, ◌+◌, ◌-◌, ◌∷◌, ◌++◌, [], ℕ, List, Ok, Err, Some, None, true, false, length, take, drop, slice_get, remove, IfOk, IfSome, IsSomeAnd, option_copied};
 ghost use Rattle.std.specs.declared.cmp.Ordering.TheVariants.{Less, Equal, Greater};
 ghost use Rattle.std.specs.List.{AllZip};
 ghost use Rattle.std.specs.Iterator.{Yields, YieldsThen};
@@ -75,8 +75,7 @@ fn shows_its_ends<K: Clone + Drop, V: Drop>(
     requires { 0 < length leaf.now.pairs }
     ensures first { (before : LeafNodeId) → (first last : K × V) → leaf.now.prev ≡ Some before → leaf.now.pairs ≡ first ∷ last ∷ [] → IfOk result (λ ends. IsSomeAnd ends.0 (λ key. K.is_clone first.0 key)) }
     ensures last { (after : LeafNodeId) → (first last : K × V) → leaf.now.next ≡ Some after → leaf.now.pairs ≡ first ∷ last ∷ [] → IfOk result (λ ends. IsSomeAnd ends.1 (λ key. K.is_clone last.0 key)) }
-    ensures no_first { leaf.now.prev ≡ None → IfOk result (λ ends. ends.0 ≡ None) }
-    ensures no_last { leaf.now.next ≡ None → IfOk result (λ ends. ends.1 ≡ None) }
+    ensures none { IfOk result (λ ends. (leaf.now.prev ≡ None → ends.0 ≡ None) × (leaf.now.next ≡ None → ends.1 ≡ None)) }
 {
     leaf.key_range()
 }
@@ -87,9 +86,7 @@ fn fills_a_new_leaf<K: Drop, V: Drop, I: Iterator<Item = (K, V)>>(
     items: &mut I,
 ) -> Result<Box<LeafNode<K, V>>, AllocError>
     requires { I.can_next items.old }
-    ensures full { IfOk result (λ leaf. length leaf.value.pairs ≡ 64 → Yields I.next_gives items.old leaf.value.pairs items.new) }
-    ensures ended { IfOk result (λ leaf. length leaf.value.pairs < 64 → YieldsThen I.next_gives items.old leaf.value.pairs None items.new) }
-    ensures links { IfOk result (λ leaf. (leaf.value.prev ≡ None) × (leaf.value.next ≡ None)) }
+    ensures { IfOk result (λ leaf. (length leaf.value.pairs ≡ 64 → Yields I.next_gives items.old leaf.value.pairs items.new) × (length leaf.value.pairs < 64 → YieldsThen I.next_gives items.old leaf.value.pairs None items.new) × (leaf.value.prev ≡ None) × (leaf.value.next ≡ None)) }
 {
     let mut leaf = LeafNode::new(alloc)?;
     leaf.set_data(items);
@@ -103,9 +100,7 @@ fn fills_with_some<K: Drop, V: Drop>(
     count: usize,
 ) -> Result<(Box<LeafNode<K, V>>, IntoIter<(K, V)>), AllocError>
     requires { (count ≤ 64) × (count ≤ length items.items) }
-    ensures taken { IfOk result (λ done. done.0.value.pairs ≡ take count items.items) }
-    ensures left { IfOk result (λ done. into_iter_items done.1 ≡ drop count items.items) }
-    ensures links { IfOk result (λ done. (done.0.value.prev ≡ None) × (done.0.value.next ≡ None)) }
+    ensures { IfOk result (λ done. (done.0.value.pairs ≡ take count items.items) × (into_iter_items done.1 ≡ drop count items.items) × (done.0.value.prev ≡ None) × (done.0.value.next ≡ None)) }
 {
     let mut leaf = LeafNode::new(alloc)?;
     let mut left = items.into_iter();
@@ -151,23 +146,16 @@ fn replaces_the_second<K: Drop, V: Drop>(leaf: &mut LeafNode<K, V>, value: V) ->
 }
 
 // At a place where a key was found the value is written, and at one to insert at nothing is.
-fn writes_where_it_was_found<K: Drop, V: Drop>(leaf: &mut LeafNode<K, V>, value: V)
-    requires { 1 < length leaf.old.pairs }
-    ensures { (first second : K × V) → (rest : List (K × V)) → leaf.old.pairs ≡ first ∷ second ∷ rest → leaf.new ≡ record leaf.old { pairs = first ∷ (second.0, value) ∷ rest } }
-{
-    if let Some(there) = leaf.value_if_present(Ok(1)) {
-        *there = value;
-    }
-}
-
-fn writes_nothing_where_none_was_found<K: Drop, V: Drop>(
+fn writes_where_it_was_found<K: Drop, V: Drop>(
     leaf: &mut LeafNode<K, V>,
-    slot: usize,
+    slot: Result<usize, usize>,
     value: V,
 )
-    ensures { leaf.new ≡ leaf.old }
+    requires { IfOk slot (λ i. i < length leaf.old.pairs) }
+    ensures found { (first second : K × V) → (rest : List (K × V)) → slot ≡ Ok 1 → leaf.old.pairs ≡ first ∷ second ∷ rest → leaf.new ≡ record leaf.old { pairs = first ∷ (second.0, value) ∷ rest } }
+    ensures none { (i : ℕ) → slot ≡ Err i → leaf.new ≡ leaf.old }
 {
-    if let Some(there) = leaf.value_if_present(Err(slot)) {
+    if let Some(there) = leaf.value_if_present(slot) {
         *there = value;
     }
 }
@@ -421,8 +409,7 @@ fn hands_over_what_it_took<K: Drop, V: Drop>(leaf: &mut LeafNode<K, V>, right: &
 fn clones_pairs_and_links<K: Clone + Drop, V: Clone + Drop>(
     leaf: &LeafNode<K, V>,
 ) -> Result<LeafNode<K, V>, AllocError>
-    ensures links { IfOk result (λ copy. (copy.prev ≡ leaf.now.prev) × (copy.next ≡ leaf.now.next)) }
-    ensures pairs { IfOk result (λ copy. AllZip (λ p q. K.is_clone p.0 q.0 × V.is_clone p.1 q.1) leaf.now.pairs copy.pairs) }
+    ensures { IfOk result (λ copy. (copy.prev ≡ leaf.now.prev) × (copy.next ≡ leaf.now.next) × AllZip (λ p q. K.is_clone p.0 q.0 × V.is_clone p.1 q.1) leaf.now.pairs copy.pairs) }
 {
     leaf.clone()
 }

@@ -1,5 +1,5 @@
 //! Callers of the pairs of a leaf that is taken apart.
-ghost use Rattle.std.specs.Prelude.{◌≡◌, ◌∷◌, [], true, Some, None};
+ghost use Rattle.std.specs.Prelude.{◌≡◌, ◌∷◌, [], Some, None};
 
 use bptree_nodes::leaf_node::LeafNode;
 use bptree_nodes::leaf_pairs::LeafPairs;
@@ -18,9 +18,9 @@ fn gives_two_from_both_ends<K: Drop, V: Drop>(
 }
 
 // No pairs are over at once, from either end.
-fn gives_nothing<K: Drop, V: Drop>(alloc: Global) -> (bool, bool)
-    ensures { result ≡ (true, true) }
+fn gives_nothing<K: Drop, V: Drop>(alloc: Global) -> (Option<(K, V)>, Option<(K, V)>)
+    ensures { result ≡ (None, None) }
 {
-    let mut pairs: LeafPairs<K, V> = LeafPairs::new(alloc);
-    (pairs.next().is_none(), pairs.next_back().is_none())
+    let mut pairs = LeafPairs::new(alloc);
+    (pairs.next(), pairs.next_back())
 }

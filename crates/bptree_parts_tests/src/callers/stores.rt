@@ -1,6 +1,6 @@
 //! Callers that are proved, of any store: what each ensures follows from the contracts of the
 //! functions that it calls.
-ghost use Rattle.std.specs.Prelude.{◌≡◌, ◌≢◌, ◌<◌, ◌≤◌, ◌∷◌, [], ℕ, true, false, length, slice_set, IfOk, IfErr, IfSome, OnErr, IsSome};
+ghost use Rattle.std.specs.Prelude.{◌≡◌, ◌≢◌, ◌<◌, ◌≤◌, ◌∷◌, [], ℕ, true, false, length, slice_set, IfOk, IfSome, IsSome, MatchResult};
 ghost use Rattle.bptree_nodes.specs.Clones.{IsInnerClone, IsLeafClone};
 ghost use Rattle.bptree_nodes.specs.Inner.{Inner};
 ghost use Rattle.bptree_nodes.specs.Leaf.{Leaf};
@@ -61,11 +61,8 @@ fn adds_beside_a_held_number<S: NodeStore>(
     held: InnerNodeId,
 ) -> Result<InnerNodeId, Box<InnerNode<S::K, S::Argument>>>
     requires { (S.slots store.old).inner held.0 ≡ Held }
-    ensures apart { IfOk result (λ id. id.0 ≢ held.0) }
-    ensures there { IfOk result (λ id. (S.slots store.new).inner id.0 ≡ Present node.value) }
-    ensures held { (S.slots store.new).inner held.0 ≡ Held }
-    ensures leaves { (S.slots store.new).leaf ≡ (S.slots store.old).leaf }
-    ensures back { IfErr result (λ back. back ≡ node) }
+    ensures added { MatchResult result (λ id. (id.0 ≢ held.0) × ((S.slots store.new).inner id.0 ≡ Present node.value)) (λ back. back ≡ node) }
+    ensures others { ((S.slots store.new).inner held.0 ≡ Held) × ((S.slots store.new).leaf ≡ (S.slots store.old).leaf) }
 {
     store.add_inner(node)
 }
@@ -104,11 +101,8 @@ pub fn walks_an_inner_number<S: NodeStore>(
     store: &mut S,
     node: Box<InnerNode<S::K, S::Argument>>,
 ) -> Result<(InnerNodeId, Box<InnerNode<S::K, S::Argument>>), AllocError>
-    ensures node { IfOk result (λ walked. walked.1.value ≡ node.value) }
-    ensures free { IfOk result (λ walked. ((S.slots store.old).inner walked.0.0 ≡ Free) × ((S.slots store.new).inner walked.0.0 ≡ Free)) }
-    ensures others { IfOk result (λ walked. (other : ℕ) → other ≢ walked.0.0 → (S.slots store.new).inner other ≡ (S.slots store.old).inner other) }
+    ensures walked { MatchResult result (λ walked. (walked.1.value ≡ node.value) × ((S.slots store.old).inner walked.0.0 ≡ Free) × ((S.slots store.new).inner walked.0.0 ≡ Free) × ((other : ℕ) → other ≢ walked.0.0 → (S.slots store.new).inner other ≡ (S.slots store.old).inner other)) (λ _. S.slots store.new ≡ S.slots store.old) }
     ensures leaves { (S.slots store.new).leaf ≡ (S.slots store.old).leaf }
-    ensures refused { OnErr result (S.slots store.new ≡ S.slots store.old) }
 {
     let id = store.reserve_inner()?;
     store.put_back_inner(id, node);
@@ -122,11 +116,8 @@ pub fn walks_a_leaf_number<S: NodeStore>(
     store: &mut S,
     leaf: Box<LeafNode<S::K, S::V>>,
 ) -> Result<(LeafNodeId, Box<LeafNode<S::K, S::V>>), AllocError>
-    ensures leaf { IfOk result (λ walked. walked.1.value ≡ leaf.value) }
-    ensures free { IfOk result (λ walked. ((S.slots store.old).leaf walked.0.0 ≡ Free) × ((S.slots store.new).leaf walked.0.0 ≡ Free)) }
-    ensures others { IfOk result (λ walked. (other : ℕ) → other ≢ walked.0.0 → (S.slots store.new).leaf other ≡ (S.slots store.old).leaf other) }
+    ensures walked { MatchResult result (λ walked. (walked.1.value ≡ leaf.value) × ((S.slots store.old).leaf walked.0.0 ≡ Free) × ((S.slots store.new).leaf walked.0.0 ≡ Free) × ((other : ℕ) → other ≢ walked.0.0 → (S.slots store.new).leaf other ≡ (S.slots store.old).leaf other)) (λ _. S.slots store.new ≡ S.slots store.old) }
     ensures inner { (S.slots store.new).inner ≡ (S.slots store.old).inner }
-    ensures refused { OnErr result (S.slots store.new ≡ S.slots store.old) }
 {
     let id = store.reserve_leaf()?;
     store.assign_leaf(id, leaf);
@@ -210,15 +201,15 @@ fn finds_none_where_held<S: NodeStore>(
     store: &S,
     inner: InnerNodeId,
     leaf: LeafNodeId,
-) -> (bool, bool)
+) -> (
+    Option<&InnerNode<S::K, S::Argument>>,
+    Option<&LeafNode<S::K, S::V>>,
+)
     requires inner { (S.slots store.now).inner inner.0 ≡ Held }
     requires leaf { (S.slots store.now).leaf leaf.0 ≡ Held }
-    ensures { result ≡ (true, true) }
+    ensures { result ≡ (None, None) }
 {
-    (
-        store.try_get_inner(inner).is_none(),
-        store.try_get_leaf(leaf).is_none(),
-    )
+    (store.try_get_inner(inner), store.try_get_leaf(leaf))
 }
 
 // Whatever number was remembered: a hint is of a present leaf in whose range the key is.
@@ -269,9 +260,7 @@ pub fn assigns_in_a_clone<S: CloneStore>(
 where
     S::V: Clone,
     requires { (S.slots store.now).leaf id.0 ≡ Held }
-    ensures there { IfOk result (λ copy. (S.slots copy).leaf id.0 ≡ Present leaf.value) }
-    ensures others { IfOk result (λ copy. (other : ℕ) → other ≢ id.0 → IsSlotClone (IsLeafClone S.K.is_clone S.V.is_clone) ((S.slots store.now).leaf other) ((S.slots copy).leaf other)) }
-    ensures inner { IfOk result (λ copy. (number : ℕ) → IsSlotClone (IsInnerClone S.K.is_clone S.Argument.is_clone) ((S.slots store.now).inner number) ((S.slots copy).inner number)) }
+    ensures { IfOk result (λ copy. ((S.slots copy).leaf id.0 ≡ Present leaf.value) × ((other : ℕ) → other ≢ id.0 → IsSlotClone (IsLeafClone S.K.is_clone S.V.is_clone) ((S.slots store.now).leaf other) ((S.slots copy).leaf other)) × ((number : ℕ) → IsSlotClone (IsInnerClone S.K.is_clone S.Argument.is_clone) ((S.slots store.now).inner number) ((S.slots copy).inner number))) }
 {
     let mut copy = store.clone()?;
     copy.assign_leaf(id, leaf);
