@@ -1,6 +1,7 @@
 //! Calls in random order, each of which depends on the pairs that the calls before it left.
 
 use crate::dice::Dice;
+use crate::kind::{couple, marked};
 use crate::model::Model;
 use crate::record::{call, calls, steps, Record};
 
@@ -27,6 +28,14 @@ impl Drawing {
 
     /// A number of the range of keys. Half of those in groups are of the first groups.
     pub fn number(&mut self) -> u64 {
+        let kind = self.model.kind;
+        if kind.has_couples() && self.dice.is_in(70) {
+            let (groups, numbers) = if self.is_wide { (6, 1_000) } else { (3, 100) };
+            return couple(self.dice.below(groups), self.dice.below(numbers));
+        }
+        if kind.has_marks() && !self.is_wide {
+            return marked(self.dice.below(300), self.dice.below(256));
+        }
         if !self.is_wide {
             return self.dice.below(300);
         }
@@ -239,6 +248,8 @@ impl Drawing {
                 // A tree is loaded of pairs in order.
                 let orders: &[u64] = if kind.is_tree() {
                     &[0, 2, 3]
+                } else if kind.has_couples() {
+                    &[0, 1, 2, 3, 4]
                 } else {
                     &[0, 1, 2, 3]
                 };
@@ -333,7 +344,7 @@ impl Drawing {
             900..=929 => self.node(),
             930..=941 => self.whole(),
             942..=971 if !kind.is_tree() => self.moves(),
-            972..=981 if kind.is_tree() && kind.has_queries() => {
+            972..=981 if kind.has_queries() => {
                 let says = self.dice.below(3);
                 call(7, 0, &[says, self.dice.below(80)])
             }

@@ -1,8 +1,11 @@
 //! Trees of known pairs: false hints, no hint, visitors out of range, many pairs in and out, and a
-//! list of commands; and the functions of shards.
+//! list of commands; shards and their functions; and calls with known answers.
 
+use crate::answers;
+use crate::kind::Kind;
+use crate::known;
 use crate::model::Model;
-use crate::nodes;
+use crate::nodes::{self, Nodes};
 use crate::process::{Process, Program};
 use crate::record::{call, calls, Record};
 use crate::words::Reply;
@@ -10,26 +13,36 @@ use crate::words::Reply;
 /// So many pairs are loaded, (t, t) in turn t.
 const LOADED: u64 = 10_000;
 
-type Outcome = Result<(), String>;
+pub type Outcome = Result<(), String>;
 
 /// A case: its name, the kind of subject, and what is done.
 pub struct Case {
-    pub name: &'static str,
+    pub name: String,
     pub kind: u64,
     pub run: fn(&mut Talk) -> Outcome,
+}
+
+impl Case {
+    pub fn new(name: &str, kind: u64, run: fn(&mut Talk) -> Outcome) -> Case {
+        Case {
+            name: name.to_string(),
+            kind,
+            run,
+        }
+    }
 }
 
 /// A process and its model.
 pub struct Talk {
     process: Process,
-    model: Model,
+    pub model: Model,
 }
 
 fn fault(error: std::io::Error) -> String {
     format!("the program does not answer: {error}")
 }
 
-fn check(is_well: bool, error: impl Fn() -> String) -> Outcome {
+pub fn check(is_well: bool, error: impl Fn() -> String) -> Outcome {
     if is_well {
         Ok(())
     } else {
@@ -38,8 +51,12 @@ fn check(is_well: bool, error: impl Fn() -> String) -> Outcome {
 }
 
 impl Talk {
-    // Replies, each of which is the model's, if that has one.
-    fn ask(&mut self, records: &[Record]) -> Result<Vec<Reply>, String> {
+    pub fn kind(&self) -> Kind {
+        self.model.kind
+    }
+
+    /// Replies, each of which is the model's, if that has one.
+    pub fn ask(&mut self, records: &[Record]) -> Result<Vec<Reply>, String> {
         let replies = self.process.ask(records).map_err(fault)?;
         for (record, reply) in records.iter().zip(&replies) {
             let is_well = match self.model.answer(record) {
@@ -53,37 +70,54 @@ impl Talk {
     }
 
     // The words of one reply.
-    fn words(&mut self, record: Record) -> Result<Vec<u64>, String> {
+    pub fn words(&mut self, record: Record) -> Result<Vec<u64>, String> {
         Ok(self.ask(&[record])?.swap_remove(0).words)
     }
 
-    fn has(&mut self, record: Record, words: &[u64]) -> Outcome {
-        let came = self.words(record)?;
-        check(came == words, || {
-            format!("{record:?}: wanted {words:?}, got {came:?}")
+    pub fn has(&mut self, record: Record, words: &[u64]) -> Outcome {
+        let reply = self.ask(&[record])?.swap_remove(0);
+        check(reply.has(words), || {
+            format!("{record:?}: wanted {words:?}, got {:?}", reply.words)
         })
+    }
+
+    /// The same of each of some replies.
+    pub fn has_all(&mut self, rows: &[(Record, Vec<u64>)]) -> Outcome {
+        rows.iter()
+            .try_for_each(|(record, words)| self.has(*record, words))
     }
 
     fn height(&mut self) -> Result<u64, String> {
         Ok(self.words(calls::height())?[2])
     }
+
+    /// The nodes of the tree, which are well and have the pairs of the model.
+    pub fn nodes(&mut self) -> Result<Nodes, String> {
+        nodes::check(&mut self.process, self.model.kind, &self.model.here)
+    }
 }
 
 /// All cases.
 pub fn all() -> Vec<Case> {
-    let case = |name, kind, run| Case { name, kind, run };
-    vec![
-        case(
-            "a hundred thousand pairs",
-            0,
-            many_pairs as fn(&mut Talk) -> Outcome,
-        ),
-        case("false hints", 0, hints),
-        case("no hint", 3, no_hint),
-        case("no hint, two cursors", 3, cursors),
-        case("visitors out of range", 0, visitors),
-        case("functions of shards", 11, crate::routes::routes),
-    ]
+    let mut all = vec![
+        Case::new("a hundred thousand pairs", 0, many_pairs),
+        Case::new("false hints", 0, hints),
+        Case::new("no hint", 3, no_hint),
+        Case::new("no hint, two cursors", 3, cursors),
+        Case::new("visitors out of range", 0, visitors),
+        Case::new("functions of shards", 11, crate::routes::routes),
+        Case::new("shards beside a list", 11, shards),
+        Case::new("known answers of pages", 4, answers::parts),
+        Case::new("known answers of groups", 20, answers::parts),
+        Case::new("known answers of sets", 7, answers::parts),
+        Case::new("known answers of shards", 11, answers::parts),
+        Case::new("known answers of equal keys", 21, answers::parts),
+        Case::new("known answers of owned values", 15, answers::parts),
+        Case::new("known replies to commands", 21, answers::lists),
+        Case::new("ten thousand commands", 21, answers::many_commands),
+    ];
+    all.extend(known::all());
+    all
 }
 
 /// Carries out a case.
@@ -194,13 +228,14 @@ fn visitors(talk: &mut Talk) -> Outcome {
     let last = root[1];
     let visit = |says: u64, number: u64| call(7, 0, &[says, number]);
     let down = talk.words(visit(0, last))?;
-    let is_down = down.len() == 3 && down[..2] == [0, 1] && (1..=64).contains(&down[2]);
+    let is_down = down.len() == 4 && down[..2] == [0, 1] && (1..=64).contains(&down[2]);
+    let is_down = is_down && down[3] == height;
     check(is_down, || format!("a child that is there: {down:?}"))?;
     for place in [last + 1, 65, u64::MAX] {
         talk.has(visit(0, place), &[1])?;
     }
     talk.has(visit(1, 0), &[0, 0])?;
-    talk.has(visit(2, 7), &[0, 1, 7])
+    talk.has(visit(2, 7), &[0, 1, 7, 1])
 }
 
 // A hundred thousand pairs come, and leave in another order. After each thousand all nodes are
@@ -216,7 +251,7 @@ fn many_pairs(talk: &mut Talk) -> Outcome {
             "a key was there".to_string()
         })?;
         talk.ask(&look)?;
-        nodes::check(&mut talk.process, talk.model.kind, &talk.model.here)?;
+        talk.nodes()?;
     }
     let height = talk.height()?;
     check((2..=3).contains(&height), || format!("height {height}"))?;
@@ -228,11 +263,36 @@ fn many_pairs(talk: &mut Talk) -> Outcome {
             "a key was not there".to_string()
         })?;
         talk.ask(&look)?;
-        nodes::check(&mut talk.process, talk.model.kind, &talk.model.here)?;
+        talk.nodes()?;
     }
     talk.ask(&[calls::is_tidy()])?;
     let shape = talk.words(calls::shape())?;
     check(shape[..3] == [0, 1, 0], || {
         format!("what is left: {:?}", &shape[..3])
     })
+}
+
+// Keys below 64 come and leave, over four shards, one of which stays empty. After each change each
+// key is looked for in each way.
+fn shards(talk: &mut Talk) -> Outcome {
+    talk.ask(&[call(3, 4, &[16, 40, 40, 3])])?;
+    let mut drawn = 1u64;
+    for step in 0..200 {
+        drawn = drawn
+            .wrapping_mul(6364136223846793005)
+            .wrapping_add(1442695040888963407);
+        let key = (drawn >> 33) % 64;
+        let mut records = if (drawn >> 40) % 3 == 0 {
+            vec![calls::remove(key)]
+        } else {
+            vec![calls::insert(key, step)]
+        };
+        for key in 0..64 {
+            records.extend([0, 7, 9, 10].map(|member| call(1, member, &[key])));
+            records.push(call(1, 6, &[key]));
+        }
+        records.extend([call(1, 4, &[]), calls::height(), call(1, 6, &[64])]);
+        talk.ask(&records)?;
+    }
+    Ok(())
 }

@@ -3,6 +3,7 @@
 use crate::fixed;
 use crate::process::Program;
 use crate::random::{self, CALLS};
+use crate::streams;
 use std::sync::atomic::{AtomicUsize, Ordering};
 use std::sync::Mutex;
 use std::thread;
@@ -51,10 +52,16 @@ pub fn random(program: &Program, many: u64, kind: Option<u64>) -> (u64, u64) {
     let is_wanted = |one: u64| kind.is_none() || kind == Some(one);
     let mut cases = fixed::all();
     cases.retain(|case| is_wanted(case.kind));
-    let known = each(&cases, |case| fixed::carry_out(program, case));
-    for (case, result) in cases.iter().zip(&known) {
+    let mut known = each(&cases, |case| fixed::carry_out(program, case));
+    let mut names: Vec<String> = cases.iter().map(|case| case.name.clone()).collect();
+    if is_wanted(streams::KIND) {
+        let cases = streams::all();
+        known.extend(each(&cases, |case| streams::carry_out(program, case)));
+        names.extend(cases.iter().map(|case| case.name.to_string()));
+    }
+    for (name, result) in names.iter().zip(&known) {
         let word = if result.is_ok() { "ok" } else { "failed" };
-        println!("{}: {word}", case.name);
+        println!("{name}: {word}");
     }
     let mut rounds = random::rounds(many);
     rounds.retain(|round| is_wanted(round.kind));

@@ -6,12 +6,14 @@
 //! alone. The program is that of bptree_trials, the shim is built of tools/refuse.c, or is `-` for
 //! none, and the server is the program bptree. The last line is 'N passed, M failed'.
 
+mod answers;
 mod cutting;
 mod dice;
 mod drawing;
 mod fixed;
 mod jobs;
 mod kind;
+mod known;
 mod model;
 mod nodes;
 mod process;
@@ -24,6 +26,7 @@ mod scenarios;
 mod serving;
 mod shapes;
 mod stopped;
+mod streams;
 mod sweep;
 mod words;
 

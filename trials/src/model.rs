@@ -12,7 +12,7 @@ mod single;
 mod stores;
 mod whole;
 
-use crate::kind::{group_of, numbers_of, Kind};
+use crate::kind::Kind;
 use crate::record::Record;
 use crate::words::{digest_of, Reply};
 use pairs::Pairs;
@@ -82,10 +82,11 @@ pub fn heights_of(len: usize) -> (u64, u64) {
 
 impl Model {
     pub fn new(kind: u64) -> Model {
+        let kind = Kind(kind);
         Model {
-            kind: Kind(kind),
-            here: Pairs::default(),
-            there: Pairs::default(),
+            kind,
+            here: Pairs::new(kind),
+            there: Pairs::new(kind),
             held: None,
             commands: Vec::new(),
             bounds: Vec::new(),
@@ -146,7 +147,7 @@ impl Model {
 
     /// The places of a group.
     pub fn places_of(&self, group: u64) -> (usize, usize) {
-        let (first, end) = numbers_of(group);
+        let (first, end) = self.kind.keys_of(group);
         let from = self.here.rank(first);
         let to = end.map_or(self.here.len(), |end| self.here.rank(end));
         (from, to)
@@ -155,7 +156,7 @@ impl Model {
     /// The place that a query is for: of an index, or of an index in the group of a number.
     pub fn found(&self, number: u64, index: u64) -> Option<usize> {
         let (from, to) = if self.kind.has_groups() {
-            self.places_of(group_of(number))
+            self.places_of(self.kind.group_of(number))
         } else {
             (0, self.here.len())
         };
@@ -174,7 +175,7 @@ impl Model {
         if !self.kind.has_groups() {
             return vec![rank as u64];
         }
-        let group = group_of(key);
+        let group = self.kind.group_of(key);
         let (from, _) = self.places_of(group);
         vec![1, group, (rank - from) as u64]
     }
@@ -198,7 +199,7 @@ pub fn summary_of(kind: Kind, keys: &[u64]) -> Vec<u64> {
     }
     let mut groups: Vec<(u64, u64)> = Vec::new();
     for key in keys {
-        let group = group_of(*key);
+        let group = kind.group_of(*key);
         match groups.last_mut() {
             Some((last, size)) if *last == group => *size += 1,
             _ => groups.push((group, 1)),

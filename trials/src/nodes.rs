@@ -38,10 +38,8 @@ impl Words<'_> {
     }
 
     fn key(&mut self) -> Told<u64> {
-        if self.kind.has_pairs() {
-            self.word()?;
-        }
-        self.word()
+        let words = self.all(self.kind.key_words())?;
+        Ok(self.kind.key_of(&words))
     }
 
     fn keys(&mut self, many: usize) -> Told<Vec<u64>> {
@@ -109,6 +107,11 @@ impl Place {
     }
 }
 
+// The keys without what takes no part in their order.
+fn ordered(kind: Kind, keys: &[u64]) -> Vec<u64> {
+    keys.iter().map(|key| key & kind.order_bits()).collect()
+}
+
 /// An inner node: its children, with their bounds, and the summary of each.
 struct Inner {
     children: Vec<Place>,
@@ -125,7 +128,7 @@ fn inner_of(kind: Kind, place: &Place, reply: &Reply) -> Told<Inner> {
     if !is_there || many == 0 {
         return Err(format!("{place:?} is no inner node with keys"));
     }
-    let keys = words.keys(many)?;
+    let keys = ordered(kind, &words.keys(many)?);
     place.check(&keys, 1)?;
     let summaries = (0..=many).map(|_| words.summary()).collect::<Told<_>>()?;
     let mut children = Vec::new();
@@ -160,7 +163,7 @@ fn leaf_of(kind: Kind, place: &Place, reply: &Reply) -> Told<Leaf> {
     }
     let many = words.number()?;
     let keys = words.keys(many)?;
-    place.check(&keys, 0)?;
+    place.check(&ordered(kind, &keys), 0)?;
     let values = if kind.is_set() {
         vec![0; many]
     } else {
@@ -197,9 +200,21 @@ fn are_linked(places: &[Place], leaves: &[Leaf]) -> Told<()> {
     }
 }
 
-/// Whether the nodes of a tree have the right depths, sizes, bounds, links and summaries, and these
+/// The nodes of a tree that was walked over.
+#[derive(Clone, Debug, Default)]
+pub struct Nodes {
+    /// The pairs of each leaf, in order.
+    pub leaves: Vec<Vec<(u64, u64)>>,
+    /// How many children each inner node of a level has, the root's level first.
+    pub children: Vec<Vec<usize>>,
+    /// The numbers of leaves, and of inner nodes.
+    pub leaf_numbers: Vec<u64>,
+    pub inner_numbers: Vec<u64>,
+}
+
+/// The nodes of a tree, if they have the right depths, sizes, bounds, links and summaries, and these
 /// pairs.
-pub fn check(process: &mut Process, kind: Kind, pairs: &Pairs) -> Told<()> {
+pub fn check(process: &mut Process, kind: Kind, pairs: &Pairs) -> Told<Nodes> {
     let state = process.ask_one(calls::state());
     let state = state.map_err(|error| format!("the program does not answer: {error}"))?;
     let mut words = Words {
@@ -216,11 +231,17 @@ pub fn check(process: &mut Process, kind: Kind, pairs: &Pairs) -> Told<()> {
     words.all(8)?;
     let summary = words.summary()?;
     let (mut places, mut levels) = (vec![root], Vec::new());
+    let mut nodes = Nodes::default();
     for _ in 0..height {
+        nodes
+            .inner_numbers
+            .extend(places.iter().map(|place| place.number));
         let replies = ask(process, &places)?;
         let both = places.iter().zip(&replies);
         let level = both.map(|(place, reply)| inner_of(kind, place, reply));
         let level = level.collect::<Told<Vec<Inner>>>()?;
+        let children = level.iter().map(|node| node.children.len());
+        nodes.children.push(children.collect());
         places = level
             .iter()
             .flat_map(|node| node.children.clone())
@@ -242,7 +263,10 @@ pub fn check(process: &mut Process, kind: Kind, pairs: &Pairs) -> Told<()> {
         return Err("the leaves have other pairs".to_string());
     }
     let ends = leaves.iter().map(|leaf| leaf.pairs.len()).collect();
-    are_summed(kind, pairs.keys(), ends, &levels)
+    are_summed(kind, pairs.keys(), ends, &levels)?;
+    nodes.leaf_numbers = places.iter().map(|place| place.number).collect();
+    nodes.leaves = leaves.into_iter().map(|leaf| leaf.pairs).collect();
+    Ok(nodes)
 }
 
 // Each inner node has the summary of the keys below each of its children, by how many keys each of

@@ -23,7 +23,7 @@ pub struct Round {
 }
 
 /// The kinds that calls in random order are made on.
-const KINDS: [u64; 13] = [0, 1, 2, 3, 4, 5, 6, 7, 8, 9, 10, 11, 12];
+const KINDS: [u64; 15] = [0, 1, 2, 3, 4, 5, 6, 7, 8, 9, 10, 11, 12, 20, 21];
 
 /// All rounds: so many of each kind and each range of keys, with other seeds.
 pub fn rounds(many: u64) -> Vec<Round> {

@@ -33,10 +33,10 @@ impl Record {
         self.call / 16
     }
 
-    /// Whether the reply depends on how the nodes are cut: a look at nodes, or a visit. The models
-    /// have answers to all other calls.
+    /// Whether the reply depends on how the nodes are cut: a look at nodes, a visit, or what keys and
+    /// values count. The models have answers to all other calls.
     pub fn is_of_nodes(&self) -> bool {
-        matches!(self.family(), 5 | 7)
+        matches!(self.family(), 5 | 7 | 12)
     }
 
     pub fn member(&self) -> u64 {
@@ -65,9 +65,13 @@ pub fn steps(many: u64, bounds: u64) -> u64 {
     many << 8 | bounds
 }
 
+/// The steps of a walk that come from the back: all, and each second one.
+pub const BACKWARD: u64 = u64::MAX;
+pub const IN_TURN: u64 = 0xaaaa_aaaa_aaaa_aaaa;
+
 /// Frequent calls.
 pub mod calls {
-    use super::{call, Record};
+    use super::{call, steps, Record};
 
     pub fn insert(key: u64, value: u64) -> Record {
         call(0, 0, &[key, value])
@@ -124,5 +128,15 @@ pub mod calls {
 
     pub fn iter() -> Record {
         call(2, 0, &[])
+    }
+
+    /// All pairs, so many of them from an end, or from both ends in turn.
+    pub fn iter_from(ends: u64, many: u64) -> Record {
+        call(2, 0, &[0, 0, ends, steps(many, 0)])
+    }
+
+    /// A visitor that goes down to the child at an index of each node.
+    pub fn visit(index: u64) -> Record {
+        call(7, 0, &[0, index])
     }
 }

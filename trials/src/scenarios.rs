@@ -7,6 +7,7 @@ mod parts;
 mod sets;
 mod trees;
 
+use crate::answers;
 use crate::scenario::Scenario;
 
 /// The kinds of subjects of scenarios that are carried out on keys of two sorts.
@@ -92,6 +93,8 @@ pub fn all() -> Vec<Scenario> {
         all.extend(parts::all(&sort));
     }
     all.extend(parts::owned());
+    all.extend(trees::counted());
     all.extend(everywhere::all());
+    all.extend(answers::scenarios());
     all
 }

@@ -1,6 +1,7 @@
 //! What a call may leave that can stop in the middle: which pairs have moved, which is in hand, and
 //! which stayed.
 
+use crate::kind::Kind;
 use crate::model::pairs::Pairs;
 use crate::model::shards::bounds_before;
 use crate::model::Model;
@@ -26,10 +27,10 @@ pub fn can_stop(model: &Model, record: &Record) -> bool {
 }
 
 // The pairs of a list but those from one place up to another.
-fn without(pairs: &Pairs, from: usize, to: usize) -> Pairs {
+fn without(kind: Kind, pairs: &Pairs, from: usize, to: usize) -> Pairs {
     let mut rest = pairs.part(0, from);
     rest.extend(pairs.part(to, pairs.len()));
-    Pairs::gathered(rest)
+    Pairs::gathered(kind, rest)
 }
 
 /// A model, and what a call left and replied.
@@ -86,13 +87,14 @@ impl Stop<'_> {
     // The pair, or the key of a set, at a place of the reply.
     fn pair_at(&self, place: usize) -> (u64, u64) {
         let kind = self.model.kind;
-        let place = place + usize::from(kind.has_pairs());
+        let end = place + kind.key_words();
+        let words: Vec<u64> = (place..end).map(|place| self.reply.word(place)).collect();
         let value = if kind.is_set() {
             0
         } else {
-            self.reply.word(place + 1)
+            self.reply.word(end)
         };
-        (self.reply.word(place), value)
+        (kind.key_of(&words), value)
     }
 
     // The same behind a 1, or none.
@@ -131,7 +133,7 @@ impl Stop<'_> {
         for (key, value) in after.there.part(0, moved) {
             after.here.put(key, value);
         }
-        after.there = without(&after.there, 0, moved + held);
+        after.there = without(after.kind, &after.there, 0, moved + held);
         self.has(&self.model.pair_if(in_hand), after)
     }
 
@@ -152,8 +154,8 @@ impl Stop<'_> {
         if rest < after.here.rank(self.record.a) {
             return Err("pairs below the key have left".to_string());
         }
-        after.there = Pairs::gathered(after.here.part(end, len));
-        after.here = without(&after.here, rest, len);
+        after.there = Pairs::gathered(after.kind, after.here.part(end, len));
+        after.here = without(after.kind, &after.here, rest, len);
         let mut words = vec![1];
         words.extend(self.model.pair_if(in_hand));
         self.has(&words, after)
@@ -177,7 +179,8 @@ impl Stop<'_> {
             words.extend(model.pair(pair));
         }
         let kept = model.here.part(0, place);
-        after.here = Pairs::gathered(kept.into_iter().filter(|pair| model.stays(record, *pair)));
+        let kept = kept.into_iter().filter(|pair| model.stays(record, *pair));
+        after.here = Pairs::gathered(model.kind, kept);
         self.has(&words, after)
     }
 
@@ -190,7 +193,7 @@ impl Stop<'_> {
         if from + gone > to || gone > 0 && from + gone == to {
             return Err(format!("{gone} have left"));
         }
-        after.here = without(&after.here, from, from + gone);
+        after.here = without(after.kind, &after.here, from, from + gone);
         self.has(&[], after)
     }
 

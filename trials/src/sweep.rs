@@ -157,7 +157,7 @@ impl Trial {
         if kind.is_tree() {
             records.push(crate::record::call(4, 13, &[]));
         }
-        if matches!(kind.0, 0..=3) {
+        if kind.is_tree() && kind.has_queries() {
             // The commands that are held are taken.
             records.push(crate::record::call(6, 1, &[]));
         }

@@ -8,31 +8,42 @@
 
 mod calls;
 mod commands;
+mod counted;
+mod counting;
+mod couples;
 mod cursors;
 mod forgetful;
+mod levels;
 mod maps;
+mod marked;
 mod moving;
 mod nodes;
 mod owned;
 mod parts;
+mod printed;
 mod record;
 mod samples;
 mod says;
 mod sets;
 mod shards;
+mod streams;
 mod subject;
 mod trees;
 mod walk;
 mod words;
 
+use crate::counted::{CountedKey, CountedValue};
+use crate::counting::Counting;
 use crate::forgetful::Forgetful;
 use crate::maps::{Maps, Special};
+use crate::marked::Marked;
 use crate::owned::Owned;
 use crate::parts::Parts;
 use crate::record::{RECORD, Record};
 use crate::samples::Sample;
 use crate::sets::Sets;
 use crate::shards::{Map, Sharded};
+use crate::streams::Input;
 use crate::subject::Subject;
 use crate::trees::{Plain, Trees};
 use crate::words::Words;
@@ -128,6 +139,7 @@ fn on_form<K: Sample, A: Special<K>, R: Read, W: Write>(
         4 => serve::<Plain<NodeStoreVec<K, u64>>, R, W>(alloc, reader, writer),
         5 => serve::<Sharded<Map<K>>, R, W>(alloc, reader, writer),
         6 => serve::<Parts<K, A>, R, W>(alloc, reader, writer),
+        8 => serve::<Input, R, W>(alloc, reader, writer),
         _ => serve::<Owned, R, W>(alloc, reader, writer),
     }
 }
@@ -144,8 +156,37 @@ fn on_pairs<R: Read, W: Write>(alloc: Global, form: u64, reader: &mut R, writer:
     on_form::<(String, u64), GroupCount<Tuple2<String>>, R, W>(alloc, form, reader, writer)
 }
 
-// The form of each kind, and its keys: 0 for numbers, 1 for texts and 2 for pairs.
-const KINDS: [(u64, u64); 19] = [
+fn on_counted<R: Read, W: Write>(alloc: Global, reader: &mut R, writer: &mut W) -> bool {
+    serve::<Counting<NodeStoreVec<CountedKey, CountedValue>>, R, W>(alloc, reader, writer)
+}
+
+fn on_maps<K: Sample, A: Special<K>, R: Read, W: Write>(
+    alloc: Global,
+    reader: &mut R,
+    writer: &mut W,
+) -> bool {
+    serve::<Maps<K, A>, R, W>(alloc, reader, writer)
+}
+
+fn on_trees<K: Sample, A: Special<K>, R: Read, W: Write>(
+    alloc: Global,
+    reader: &mut R,
+    writer: &mut W,
+) -> bool {
+    serve::<Trees<NodeStoreVec<K, u64, A>>, R, W>(alloc, reader, writer)
+}
+
+fn on_couples<R: Read, W: Write>(alloc: Global, reader: &mut R, writer: &mut W) -> bool {
+    on_maps::<(u64, u64), GroupCount<Tuple2<u64>>, R, W>(alloc, reader, writer)
+}
+
+fn on_marked<R: Read, W: Write>(alloc: Global, reader: &mut R, writer: &mut W) -> bool {
+    on_trees::<Marked, Count, R, W>(alloc, reader, writer)
+}
+
+// The form of each kind, and its keys: 0 for numbers, 1 for texts and 2 for pairs. Numbers that
+// count (3), couples (4) and marked keys (5) have one form alone.
+const KINDS: [(u64, u64); 23] = [
     (0, 0),
     (0, 1),
     (0, 2),
@@ -165,6 +206,10 @@ const KINDS: [(u64, u64); 19] = [
     (3, 2),
     (4, 2),
     (5, 2),
+    (0, 3),
+    (2, 4),
+    (0, 5),
+    (8, 0),
 ];
 
 // Calls of what a kind stands for.
@@ -175,7 +220,10 @@ fn on_kind<R: Read, W: Write>(alloc: Global, kind: u64, reader: &mut R, writer: 
     match keys {
         0 => on_numbers(alloc, *form, reader, writer),
         1 => on_texts(alloc, *form, reader, writer),
-        _ => on_pairs(alloc, *form, reader, writer),
+        2 => on_pairs(alloc, *form, reader, writer),
+        3 => on_counted(alloc, reader, writer),
+        4 => on_couples(alloc, reader, writer),
+        _ => on_marked(alloc, reader, writer),
     }
 }
 

@@ -7,7 +7,7 @@ use crate::cursors::tell_found;
 use crate::record::Record;
 use crate::samples::{Asked, Group, Sample};
 use crate::subject::{Subject, no_call};
-use crate::trees::{bound_of, replace};
+use crate::trees::{bound_of, replace, says_of, tell_visit};
 use crate::walk::{Lends, bounds, drain, pairs_of, walk, walk_if};
 use crate::words::{Told, Words};
 use crate::{moving, nodes};
@@ -378,7 +378,7 @@ impl<K: Sample, A: Special<K>> Subject for Maps<K, A> {
     fn begin(alloc: Global) -> Result<Self, AllocError> {
         Ok(Maps {
             here: BPlusTreeMap::new(alloc)?,
-            there: BPlusTreeMap::new(alloc)?,
+            there: BPlusTreeMap::default(alloc)?,
         })
     }
 
@@ -391,6 +391,7 @@ impl<K: Sample, A: Special<K>> Subject for Maps<K, A> {
             3 => whole(alloc, self, record, words),
             4 => cursor(alloc, map, record, words),
             5 => nodes::call(map.tree(), record, words),
+            7 => tell_visit(map.descend_visit(says_of(record)), words),
             8 => moving::call(alloc, self, record, words),
             9 | 10 => A::call(alloc, map, record, words),
             _ => no_call(words),

@@ -1,6 +1,8 @@
 //! Keys and values that take memory, so that a leak or a second drop of one is seen from outside.
 
 use crate::calls::told;
+use crate::levels;
+use crate::printed::{tell_orders, tell_text};
 use crate::record::Record;
 use crate::samples::Sample;
 use crate::sets::insert;
@@ -73,12 +75,15 @@ impl Subject for Owned {
 
     fn call(&mut self, alloc: Global, record: &Record, words: &mut Words) -> bool {
         match (record.family(), record.member()) {
+            (1, 0) => tell_orders(alloc, words),
             (3, 2) => told(load_tree(alloc, record.a), words),
             (3, 5) => told(gather_map(alloc, record.a), words),
             (3, 6) => match gather_set(alloc, record.a) {
                 Ok(mut set) => insert_again(alloc, &mut set, words),
                 Err(_) => false,
             },
+            (4, 0) => levels::ask(alloc, record, words),
+            (6, 0) => tell_text(alloc, record, words),
             _ => no_call(words),
         }
     }

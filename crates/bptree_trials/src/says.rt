@@ -6,16 +6,31 @@ use bptree_arguments::visit::{DescendVisit, DescendVisitResult};
 use bptree_keys::key::Key;
 use std::alloc::AllocError;
 
-/// Says the same at each inner node, and at a leaf how many keys it has. Every answer is allowed.
-#[derive(Drop)]
-pub enum Says {
+/// What a visitor says at an inner node.
+#[derive(Clone, Copy, Drop)]
+pub enum Say {
     Child(usize),
     Nothing,
     Number(usize),
 }
 
+/// Says the same at each inner node, and counts these nodes. It returns the number that it says, or
+/// at a leaf how many keys that has, and then the count. Every answer is allowed.
+#[derive(Drop)]
+pub struct Says {
+    say: Say,
+    inners: usize,
+}
+
+impl Says {
+    /// A visitor that has met no node.
+    pub fn new(say: Say) -> Says {
+        Says { say, inners: 0 }
+    }
+}
+
 impl<K: Key, V, A: Argument<K>> DescendVisit<K, V, A> for Says {
-    type Result = usize;
+    type Result = (usize, usize);
 
     ghost answers = { λ _ _ _. ⊤ };
 
@@ -23,15 +38,20 @@ impl<K: Key, V, A: Argument<K>> DescendVisit<K, V, A> for Says {
         &mut self,
         _keys: &[K],
         _arguments: &[A],
-    ) -> Result<DescendVisitResult<usize>, AllocError> {
-        Ok(match self {
-            Says::Child(place) => DescendVisitResult::GoDown(*place),
-            Says::Nothing => DescendVisitResult::Cancel,
-            Says::Number(number) => DescendVisitResult::Complete(*number),
+    ) -> Result<DescendVisitResult<(usize, usize)>, AllocError> {
+        self.inners = self.inners.saturating_add(1);
+        Ok(match self.say {
+            Say::Child(place) => DescendVisitResult::GoDown(place),
+            Say::Nothing => DescendVisitResult::Cancel,
+            Say::Number(number) => DescendVisitResult::Complete((number, self.inners)),
         })
     }
 
-    fn visit_leaf(&mut self, keys: &[K], _values: &[V]) -> Result<Option<usize>, AllocError> {
-        Ok(Some(keys.len()))
+    fn visit_leaf(
+        &mut self,
+        keys: &[K],
+        _values: &[V],
+    ) -> Result<Option<(usize, usize)>, AllocError> {
+        Ok(Some((keys.len(), self.inners)))
     }
 }

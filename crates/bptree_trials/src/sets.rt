@@ -193,6 +193,7 @@ fn whole<K: Sample>(alloc: Global, sets: &mut Sets<K>, record: &Record, words: &
         3 => drain_set(alloc, &mut sets.there, record, words),
         4 => replace(&mut sets.here, BPlusTreeSet::new(alloc)),
         7 => compare(sets, words),
+        8 => replace(&mut sets.here, BPlusTreeSet::default(alloc)),
         _ => no_call(words),
     }
 }
@@ -269,29 +270,41 @@ fn move_keys<K: Sample>(
     }
 }
 
-// Tells the keys that an iterator gives.
-fn tell_keys<'a, K: Told + 'a, I: Iterator<Item = &'a K> + Drop>(keys: I, words: &mut Words)
-    requires can { I.can_next keys }
-    requires ends { IsFinite (I.remaining keys) }
-{
-    for key in keys {
-        key.tell(words);
-    }
-}
-
-// Tells how many keys an iterator gives.
-fn tell_count<'a, K: Told + 'a, I: Iterator<Item = &'a K> + Drop>(keys: I, words: &mut Words)
+// Tells the keys that an iterator gives. Returns how many there are.
+fn tell_keys<'a, K: Told + 'a, I: Iterator<Item = &'a K> + Drop>(keys: I, words: &mut Words) -> u64
     requires can { I.can_next keys }
     requires ends { IsFinite (I.remaining keys) }
 {
     let mut count: u64 = 0;
-    for _ in keys {
+    for key in keys {
+        key.tell(words);
         count = count.wrapping_add(1);
     }
-    words.add(count);
+    count
 }
 
-// Tells the size hint of an iterator, its keys, and how many keys a clone has after the first.
+// Takes so many keys, and tells how many came. Then tells the size hint, and whether there is one
+// more key.
+fn tell_end<'a, K: Told + 'a, I: Iterator<Item = &'a K> + Drop>(
+    keys: I,
+    many: u64,
+    words: &mut Words,
+)
+    requires can { (x : I) → I.can_next x }
+    requires ends { (x : I) → IsFinite (I.remaining x) }
+{
+    let mut keys = keys;
+    let mut count: u64 = 0;
+    for _ in 0..many {
+        count = count.wrapping_add(keys.next().is_some() as u64);
+    }
+    words.add(count);
+    keys.size_hint().tell(words);
+    keys.next().is_some().tell(words);
+}
+
+// Tells the size hint of an iterator and its keys. A clone, made after the first key, must have as
+// many more.
 fn tell_joined<'a, K: Told + 'a, I: Iterator<Item = &'a K> + Clone + Drop>(
     keys: I,
     words: &mut Words,
@@ -307,8 +320,8 @@ fn tell_joined<'a, K: Told + 'a, I: Iterator<Item = &'a K> + Clone + Drop>(
     let Ok(copy) = keys.clone() else {
         return false;
     };
-    tell_keys(keys, words);
-    tell_count(copy, words);
+    let many = tell_keys(keys, words);
+    tell_end(copy, many, words);
     true
 }
 

@@ -28,10 +28,10 @@ pub struct Sharded<S: Shard> {
     whole: Shards<S>,
 }
 
-fn tell_lengths(lengths: &[usize], words: &mut Words) {
-    lengths.len().tell(words);
-    for length in lengths {
-        length.tell(words);
+fn tell_each<T: Told>(items: &[T], words: &mut Words) {
+    items.len().tell(words);
+    for item in items {
+        item.tell(words);
     }
 }
 
@@ -95,7 +95,8 @@ where
             4 => (self.whole.first(), self.whole.last()).tell(words),
             5 => {
                 self.whole.len().tell(words);
-                tell_lengths(self.whole.lengths(), words);
+                tell_each(self.whole.lengths(), words);
+                tell_each(self.whole.bounds(), words);
             }
             6 => self.whole.at(record.a as usize).tell(words),
             0 | 7 | 9 | 10 => return self.read_at(alloc, record, words),

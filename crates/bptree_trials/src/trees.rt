@@ -6,7 +6,7 @@ use crate::calls::{
 use crate::commands::{self, Held};
 use crate::record::Record;
 use crate::samples::{Asked, Sample};
-use crate::says::Says;
+use crate::says::{Say, Says};
 use crate::subject::{Subject, no_call};
 use crate::walk::{Lends, bounds, drain, pairs_of, walk, walk_if};
 use crate::words::{Told, Words};
@@ -124,9 +124,10 @@ where
     }
 }
 
-impl<'a, S: NodeStore<V = u64>> Lends for Iter<'a, S>
+impl<'a, S: NodeStore> Lends for Iter<'a, S>
 where
-    S::K: Sample,
+    S::K: Told,
+    S::V: Told,
 {
     fn step(&mut self, is_back: bool, words: &mut Words) {
         let item = if is_back {
@@ -283,17 +284,20 @@ where
     }
 }
 
-/// A tree that is loaded at once.
-fn loaded<S: NodeStore<V = u64>>(alloc: Global, record: &Record) -> Result<BPlusTree<S>, AllocError>
-where
-    S::K: Sample,
-{
-    let pairs = pairs_of(alloc, 0, record.a, record.b)?;
+/// A tree of pairs that is loaded at once. Pairs that are not in order are not loaded.
+pub fn tree_of<S: NodeStore>(pairs: Vec<(S::K, S::V)>) -> Result<BPlusTree<S>, AllocError> {
     if in_load_order(&pairs) {
         BPlusTree::bulk_load(pairs)
     } else {
         Err(AllocError)
     }
+}
+
+fn loaded<S: NodeStore<V = u64>>(alloc: Global, record: &Record) -> Result<BPlusTree<S>, AllocError>
+where
+    S::K: Sample,
+{
+    tree_of(pairs_of(alloc, 0, record.a, record.b)?)
 }
 
 /// Puts what was made in its place. Returns false if nothing was made.
@@ -310,15 +314,17 @@ pub fn replace<T: Drop>(place: &mut T, made: Result<T, AllocError>) -> bool {
 /// Two trees.
 #[derive(Drop)]
 pub struct Both<S: NodeStore> {
-    here: BPlusTree<S>,
-    there: BPlusTree<S>,
+    pub here: BPlusTree<S>,
+    pub there: BPlusTree<S>,
 }
 
-fn new_tree<S: NodeStore>(alloc: Global) -> Result<BPlusTree<S>, AllocError> {
+/// A tree without pairs.
+pub fn new_tree<S: NodeStore>(alloc: Global) -> Result<BPlusTree<S>, AllocError> {
     BPlusTree::new(S::empty(alloc))
 }
 
-fn two_trees<S: NodeStore>(alloc: Global) -> Result<Both<S>, AllocError> {
+/// Two of them.
+pub fn two_trees<S: NodeStore>(alloc: Global) -> Result<Both<S>, AllocError> {
     let here = new_tree(alloc)?;
     let there = new_tree(alloc)?;
     Ok(Both { here, there })
@@ -342,6 +348,28 @@ where
     }
 }
 
+/// The calls that copy, exchange or replace whole trees.
+pub fn exchange<S: CloneStore>(
+    alloc: Global,
+    both: &mut Both<S>,
+    record: &Record,
+    words: &mut Words,
+) -> bool
+where
+    S::V: Clone,
+    S::Argument: CloneArgument<S::K>,
+{
+    match record.member() {
+        0 => replace(&mut both.there, both.here.clone()),
+        1 => {
+            mem::swap(&mut both.here, &mut both.there);
+            true
+        }
+        4 => replace(&mut both.here, new_tree(alloc)),
+        _ => no_call(words),
+    }
+}
+
 // The calls that make or exchange whole trees.
 fn whole<S: CloneStore<V = u64>>(
     alloc: Global,
@@ -354,26 +382,24 @@ where
     S::Argument: CloneArgument<S::K>,
 {
     match record.member() {
-        0 => replace(&mut both.there, both.here.clone()),
-        1 => {
-            mem::swap(&mut both.here, &mut both.there);
-            true
-        }
         2 => replace(&mut both.here, loaded(alloc, record)),
         3 => drain_there(alloc, both, record, words),
-        4 => replace(&mut both.here, new_tree(alloc)),
-        _ => no_call(words),
+        _ => exchange(alloc, both, record, words),
     }
 }
 
-// A visitor that says the same at each node.
-fn visit<S: NodeStore<V = u64>>(tree: &BPlusTree<S>, record: &Record, words: &mut Words) -> bool {
-    let says = match record.a {
-        0 => Says::Child(record.b as usize),
-        1 => Says::Nothing,
-        _ => Says::Number(record.b as usize),
-    };
-    match tree.descend_visit(says) {
+/// A visitor that says the same at each inner node.
+pub fn says_of(record: &Record) -> Says {
+    Says::new(match record.a {
+        0 => Say::Child(record.b as usize),
+        1 => Say::Nothing,
+        _ => Say::Number(record.b as usize),
+    })
+}
+
+/// Tells what a visitor returned.
+pub fn tell_visit(answer: Result<Option<(usize, usize)>, DescendError>, words: &mut Words) -> bool {
+    match answer {
         Ok(answer) => {
             words.add(0);
             answer.tell(words);
@@ -425,7 +451,7 @@ where
             4 => cursors::call_queried(alloc, tree, &mut self.cursor, record, words),
             5 => nodes::call(tree, record, words),
             6 => commands::call(alloc, tree, &mut self.commands, record, words),
-            7 => visit(tree, record, words),
+            7 => tell_visit(tree.descend_visit(says_of(record)), words),
             _ => no_call(words),
         }
     }

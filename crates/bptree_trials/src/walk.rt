@@ -11,7 +11,8 @@ fn pair_in(turn: u64, order: u64) -> (u64, u64) {
         0 => (turn, turn),
         1 => (turn.wrapping_mul(37) % 100, turn),
         2 => (turn.wrapping_mul(2), turn.wrapping_mul(2)),
-        _ => (turn.wrapping_mul(4), turn),
+        3 => (turn.wrapping_mul(4), turn),
+        _ => (((turn / 500) << 32) | (turn % 500), turn % 500),
     }
 }
 
@@ -75,7 +76,7 @@ where
     requires { (x : I) → I.can_next x × I.can_next_back x }
 {
     items.len().tell(words);
-    for step in 0..((record.d >> 8) & 255).min(64) {
+    for step in 0..(record.d >> 8) & 255 {
         let item = if (record.c >> (step & 63)) & 1 == 1 {
             items.next_back()
         } else {
@@ -87,6 +88,24 @@ where
     items.len().tell(words);
     lower.tell(words);
     upper.tell(words);
+}
+
+/// Takes so many items from each end in turn, and tells them and how many are left before and after.
+pub fn tell_both_ends<I: DoubleEndedIterator + ExactSizeIterator>(
+    items: &mut I,
+    many: u64,
+    words: &mut Words,
+)
+where
+    I::Item: Told + Drop,
+    requires { (x : I) → I.can_next x × I.can_next_back x }
+{
+    for _ in 0..many {
+        items.len().tell(words);
+        items.next().tell(words);
+        items.next_back().tell(words);
+    }
+    items.len().tell(words);
 }
 
 /// Takes all items, and tells them.
@@ -121,14 +140,15 @@ pub trait Lends: Clone + Drop {
 // Takes items from both ends as the record says, and tells them and how many are left.
 fn lend_steps<I: Lends>(items: &mut I, record: &Record, words: &mut Words) {
     items.tell_left(words);
-    for step in 0..((record.d >> 8) & 255).min(64) {
+    for step in 0..(record.d >> 8) & 255 {
         items.step((record.c >> (step & 63)) & 1 == 1, words);
     }
     items.tell_left(words);
     items.tell_hint(words);
 }
 
-/// Takes items from both ends, tells them, and then the rest of a clone.
+/// Takes items from both ends, tells them, and then the rest of a clone, behind which there is no
+/// other at the back.
 pub fn walk<I: Lends>(items: I, record: &Record, words: &mut Words) -> bool {
     let mut items = items;
     lend_steps(&mut items, record, words);
@@ -136,6 +156,7 @@ pub fn walk<I: Lends>(items: I, record: &Record, words: &mut Words) -> bool {
         return false;
     };
     rest.tell_rest(words);
+    rest.step(true, words);
     items.tell_left(words);
     true
 }

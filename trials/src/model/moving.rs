@@ -2,7 +2,6 @@
 
 use super::pairs::Pairs;
 use super::{Answer, Model};
-use crate::kind::group_of;
 use crate::record::Record;
 use std::mem;
 
@@ -10,7 +9,7 @@ impl Model {
     /// Whether a pair stays where those are to go whose value, or key of a set, leaves a remainder.
     pub fn stays(&self, record: &Record, (key, value): (u64, u64)) -> bool {
         let number = match (self.kind.is_set(), self.kind.has_pairs()) {
-            (true, true) => group_of(key),
+            (true, true) => self.kind.group_of(key),
             (true, false) => key,
             _ => value,
         };
@@ -26,7 +25,8 @@ impl Model {
                 }
             }
             1 => {
-                for (key, value) in mem::take(&mut self.there).all() {
+                let there = mem::replace(&mut self.there, Pairs::new(self.kind));
+                for (key, value) in there.all() {
                     self.here.put(key, value);
                 }
             }
@@ -56,11 +56,7 @@ impl Model {
 
     // One of the same kind with no pairs.
     fn clone_empty(&self) -> Model {
-        Model {
-            here: Pairs::default(),
-            there: Pairs::default(),
-            ..Model::new(self.kind.0)
-        }
+        Model::new(self.kind.0)
     }
 
     fn entry(&mut self, record: &Record) -> Option<Answer> {

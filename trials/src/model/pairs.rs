@@ -1,20 +1,75 @@
 //! The pairs of a tree, a map or a set: those of a `BTreeMap`, with the list of its keys.
 
+use crate::kind::{couple, Kind};
+use std::cmp::Ordering;
 use std::collections::BTreeMap;
 
+/// A key. Two that differ in their marks alone are equal.
+#[derive(Clone, Copy, Debug)]
+struct Key {
+    number: u64,
+    mark: u64,
+}
+
+impl Ord for Key {
+    fn cmp(&self, other: &Key) -> Ordering {
+        self.number.cmp(&other.number)
+    }
+}
+
+impl PartialOrd for Key {
+    fn partial_cmp(&self, other: &Key) -> Option<Ordering> {
+        Some(self.cmp(other))
+    }
+}
+
+impl PartialEq for Key {
+    fn eq(&self, other: &Key) -> bool {
+        self.cmp(other) == Ordering::Equal
+    }
+}
+
+impl Eq for Key {}
+
+impl Key {
+    fn word(self) -> u64 {
+        self.number | self.mark
+    }
+}
+
 /// Pairs in the order of their keys.
-#[derive(Clone, Debug, Default, PartialEq, Eq)]
+#[derive(Clone, Debug, PartialEq, Eq)]
 pub struct Pairs {
-    map: BTreeMap<u64, u64>,
+    map: BTreeMap<Key, u64>,
     keys: Vec<u64>,
+    order_bits: u64,
 }
 
 impl Pairs {
-    /// Of pairs in any order: of equal keys the last one.
-    pub fn gathered(pairs: impl IntoIterator<Item = (u64, u64)>) -> Pairs {
-        let map: BTreeMap<u64, u64> = pairs.into_iter().collect();
-        let keys = map.keys().copied().collect();
-        Pairs { map, keys }
+    /// No pairs, with keys of a kind.
+    pub fn new(kind: Kind) -> Pairs {
+        Pairs {
+            map: BTreeMap::new(),
+            keys: Vec::new(),
+            order_bits: kind.order_bits(),
+        }
+    }
+
+    /// Of pairs in any order: of equal keys the first one, with the last value.
+    pub fn gathered(kind: Kind, pairs: impl IntoIterator<Item = (u64, u64)>) -> Pairs {
+        let mut all = Pairs::new(kind);
+        for (key, value) in pairs {
+            all.map.insert(all.key(key), value);
+        }
+        all.keys = all.map.keys().map(|key| key.word()).collect();
+        all
+    }
+
+    fn key(&self, word: u64) -> Key {
+        Key {
+            number: word & self.order_bits,
+            mark: word & !self.order_bits,
+        }
     }
 
     pub fn len(&self) -> usize {
@@ -26,12 +81,20 @@ impl Pairs {
     }
 
     pub fn get(&self, key: u64) -> Option<u64> {
-        self.map.get(&key).copied()
+        self.map.get(&self.key(key)).copied()
+    }
+
+    /// The pair at a key. Its key may have another mark.
+    pub fn entry(&self, key: u64) -> Option<(u64, u64)> {
+        let (key, value) = self.map.get_key_value(&self.key(key))?;
+        Some((key.word(), *value))
     }
 
     /// The place of a key, or the place that it would have.
     pub fn find(&self, key: u64) -> Result<usize, usize> {
-        self.keys.binary_search(&key)
+        let number = key & self.order_bits;
+        self.keys
+            .binary_search_by_key(&number, |key| key & self.order_bits)
     }
 
     /// The number of smaller keys.
@@ -68,7 +131,7 @@ impl Pairs {
 
     /// Puts a value at a key, and answers the one that was there.
     pub fn put(&mut self, key: u64, value: u64) -> Option<u64> {
-        let old = self.map.insert(key, value);
+        let old = self.map.insert(self.key(key), value);
         if old.is_none() {
             let place = self.rank(key);
             self.keys.insert(place, key);
@@ -78,21 +141,25 @@ impl Pairs {
 
     /// Puts a value where the key is.
     pub fn set(&mut self, key: u64, value: u64) -> Option<u64> {
-        let at = self.map.get_mut(&key)?;
+        let at = self.map.get_mut(&self.key(key))?;
         Some(std::mem::replace(at, value))
     }
 
-    pub fn take(&mut self, key: u64) -> Option<u64> {
-        let old = self.map.remove(&key)?;
-        if let Ok(place) = self.find(key) {
+    /// Takes the pair at a key. Its key may have another mark.
+    pub fn take_entry(&mut self, key: u64) -> Option<(u64, u64)> {
+        let (key, value) = self.map.remove_entry(&self.key(key))?;
+        if let Ok(place) = self.find(key.word()) {
             self.keys.remove(place);
         }
-        Some(old)
+        Some((key.word(), value))
+    }
+
+    pub fn take(&mut self, key: u64) -> Option<u64> {
+        Some(self.take_entry(key)?.1)
     }
 
     pub fn take_at(&mut self, place: usize) -> Option<(u64, u64)> {
-        let key = self.key_at(place)?;
-        Some((key, self.take(key)?))
+        self.take_entry(self.key_at(place)?)
     }
 
     pub fn clear(&mut self) {
@@ -106,7 +173,8 @@ impl Pairs {
     }
 
     pub fn all(&self) -> Vec<(u64, u64)> {
-        self.map.iter().map(|(key, value)| (*key, *value)).collect()
+        let pair = |(key, value): (&Key, &u64)| (key.word(), *value);
+        self.map.iter().map(pair).collect()
     }
 
     pub fn keys(&self) -> &[u64] {
@@ -116,20 +184,22 @@ impl Pairs {
     /// The pairs from a key on leave.
     pub fn split_off(&mut self, key: u64) -> Pairs {
         let keys = self.keys.split_off(self.rank(key));
-        let map = self.map.split_off(&key);
-        Pairs { map, keys }
+        let map = self.map.split_off(&self.key(key));
+        Pairs { map, keys, ..*self }
     }
 
     /// Keeps the pairs that are wanted.
     pub fn retain(&mut self, is_wanted: impl Fn(u64, u64) -> bool) {
-        self.map.retain(|key, value| is_wanted(*key, *value));
-        self.keys = self.map.keys().copied().collect();
+        self.map.retain(|key, value| is_wanted(key.word(), *value));
+        self.keys = self.map.keys().map(|key| key.word()).collect();
     }
 
     /// Adds to each value from one place up to another.
     pub fn add(&mut self, from: usize, to: usize, more: u64) {
-        for key in &self.keys[from.min(self.keys.len())..to.min(self.keys.len())] {
-            if let Some(value) = self.map.get_mut(key) {
+        let len = self.keys.len();
+        for place in from.min(len)..to.min(len) {
+            let key = self.key(self.keys[place]);
+            if let Some(value) = self.map.get_mut(&key) {
                 *value = value.wrapping_add(more);
             }
         }
@@ -142,6 +212,14 @@ pub fn pair_in(turn: u64, order: u64) -> (u64, u64) {
         0 => (turn, turn),
         1 => (turn.wrapping_mul(37) % 100, turn),
         2 => (turn.wrapping_mul(2), turn.wrapping_mul(2)),
-        _ => (turn.wrapping_mul(4), turn),
+        3 => (turn.wrapping_mul(4), turn),
+        _ => (couple(turn / 500, turn % 500), turn % 500),
     }
+}
+
+/// The same of counted keys, which come in runs: so many equal ones follow each first one.
+pub fn counted_pair_in(turn: u64, more: u64) -> (u64, u64) {
+    let run = more + 1;
+    let number = turn / run;
+    (number, number * 10 + turn % run)
 }

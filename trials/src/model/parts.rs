@@ -1,7 +1,6 @@
 //! Walks over parts, and their summaries.
 
 use super::{Answer, Model};
-use crate::kind::group_of;
 use crate::record::{Record, LOWER, LOWER_OUT, UPPER, UPPER_IN};
 
 /// What a walk shows of each pair.
@@ -22,13 +21,13 @@ pub(super) fn walk(
 ) -> Vec<u64> {
     let (mut from, mut to) = (from, to.max(from));
     let mut words = vec![(to - from) as u64];
-    for step in 0..(record.d >> 8 & 255).min(64) {
+    for step in 0..record.d >> 8 & 255 {
         if from == to {
             words.push(0);
             continue;
         }
         words.push(1);
-        if record.c >> step & 1 == 1 {
+        if record.c >> (step & 63) & 1 == 1 {
             to -= 1;
             tell(to, &mut words);
         } else {
@@ -42,7 +41,8 @@ pub(super) fn walk(
         tell(place, &mut words);
     }
     if !is_drained {
-        words.push(left);
+        // A clone gives none at the back then.
+        words.extend([0, left]);
     }
     words
 }
@@ -130,7 +130,7 @@ impl Model {
 
     /// The calls of maps with groups.
     pub(super) fn group(&mut self, record: &Record) -> Option<Answer> {
-        let (from, to) = self.places_of(group_of(record.a));
+        let (from, to) = self.places_of(self.kind.group_of(record.a));
         let many = record.d >> 16;
         let place = |index: u64| {
             let index = usize::try_from(index).unwrap_or(usize::MAX);

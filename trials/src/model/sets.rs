@@ -4,6 +4,18 @@ use super::{Answer, Model};
 use crate::record::Record;
 use std::collections::BTreeSet;
 
+// The words of a size hint: how many keys come at least and at most of two sets of which so many
+// are left.
+fn hint(member: u64, here: usize, there: usize) -> Vec<u64> {
+    let (least, most) = match member {
+        0 => (here.max(there), here + there),
+        1 => (here.saturating_sub(there), here),
+        2 => (0, here.min(there)),
+        _ => (here.abs_diff(there), here + there),
+    };
+    vec![least as u64, 1, most as u64]
+}
+
 impl Model {
     pub(super) fn answer_set(&mut self, record: &Record) -> Option<Answer> {
         if record.family() == 1 {
@@ -49,19 +61,11 @@ impl Model {
     pub(super) fn both(&self, record: &Record) -> Option<Answer> {
         let here: BTreeSet<u64> = self.here.keys().iter().copied().collect();
         let there: BTreeSet<u64> = self.there.keys().iter().copied().collect();
-        let (m, n) = (here.len() as u64, there.len() as u64);
-        let (least, most, keys): (u64, u64, Vec<u64>) = match record.member() {
-            0 => (m.max(n), m + n, here.union(&there).copied().collect()),
-            1 => (
-                m.saturating_sub(n),
-                m,
-                here.difference(&there).copied().collect(),
-            ),
-            2 => (0, m.min(n), here.intersection(&there).copied().collect()),
-            3 => {
-                let keys = here.symmetric_difference(&there);
-                (m.max(n) - m.min(n), m + n, keys.copied().collect())
-            }
+        let keys: Vec<u64> = match record.member() {
+            0 => here.union(&there).copied().collect(),
+            1 => here.difference(&there).copied().collect(),
+            2 => here.intersection(&there).copied().collect(),
+            3 => here.symmetric_difference(&there).copied().collect(),
             4 => {
                 let answers = [
                     here.is_subset(&there),
@@ -74,12 +78,20 @@ impl Model {
             }
             _ => return None,
         };
-        let rest = keys.len().saturating_sub(1) as u64;
-        let mut words = vec![least, 1, most];
-        for key in keys {
-            self.kind.tell_key(key, &mut words);
+        let above =
+            |set: &BTreeSet<u64>, key: u64| set.iter().filter(|other| **other > key).count();
+        let mut words = hint(record.member(), here.len(), there.len());
+        for key in &keys {
+            self.kind.tell_key(*key, &mut words);
         }
-        words.push(rest);
+        // A clone that was made behind the first key has so many more. Behind the last one it has
+        // passed the keys of both sets up to that, and there is none to come.
+        words.push(keys.len().saturating_sub(1) as u64);
+        words.extend(match keys.last() {
+            Some(last) => hint(record.member(), above(&here, *last), above(&there, *last)),
+            None => vec![0, 1, 0],
+        });
+        words.push(0);
         Some(Answer::of(words))
     }
 }

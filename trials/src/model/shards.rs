@@ -80,6 +80,10 @@ impl Model {
             5 => {
                 let mut words = vec![here.len() as u64, self.bounds.len() as u64 + 1];
                 words.extend(self.lengths());
+                words.push(self.bounds.len() as u64);
+                for bound in &self.bounds {
+                    words.extend(self.key(*bound));
+                }
                 words
             }
             6 => self.pair_if(usize::try_from(key).ok().and_then(|place| here.at(place))),

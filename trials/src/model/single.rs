@@ -17,8 +17,8 @@ impl Model {
             0 => number(self.here.put(a, b)),
             1 => number(self.here.take(a)),
             2 => {
-                let value = self.here.take(a);
-                self.pair_if(value.map(|value| (a, value)))
+                let gone = self.here.take_entry(a);
+                self.pair_if(gone)
             }
             3 | 4 | 6 => {
                 let place = match record.member() {
@@ -43,11 +43,13 @@ impl Model {
         Some(Answer::of(words))
     }
 
-    /// How many comparisons a look-up may make.
+    /// How many comparisons a look-up may make. Where no keys are, none.
     pub(super) fn compared(&self, words: Vec<u64>) -> Answer {
+        if self.here.is_empty() {
+            return Answer::with_last(words, 0, 0);
+        }
         let (_, height) = heights_of(self.here.len());
-        let least = u64::from(!self.here.is_empty());
-        Answer::with_last(words, least, 7 * (height + 1) + self.kind.hint_compares())
+        Answer::with_last(words, 1, 7 * (height + 1) + self.kind.hint_compares())
     }
 
     pub(super) fn read(&mut self, record: &Record) -> Option<Answer> {
@@ -56,7 +58,7 @@ impl Model {
         let words = match record.member() {
             0 => number(here.get(a)),
             1 => return Some(self.compared(number(here.get(a)))),
-            2 => self.pair_if(here.get(a).map(|value| (a, value))),
+            2 => self.pair_if(here.entry(a)),
             3 => vec![u64::from(here.get(a).is_some())],
             4 => {
                 let mut words = self.pair_if(here.first());
@@ -89,15 +91,15 @@ impl Model {
         }
     }
 
-    // A visitor that says the same at each inner node, and at a leaf its length. Where the height
-    // is not known, nor is its answer.
+    // A visitor that says the same at each inner node, and at a leaf its length, and then how many
+    // inner nodes it met. Where the height is not known, nor is its answer.
     pub(super) fn visit(&mut self, record: &Record) -> Option<Answer> {
         let len = self.here.len() as u64;
         let words = match (heights_of(self.here.len()), record.a) {
-            ((_, 0), _) => vec![0, 1, len],
+            ((_, 0), _) => vec![0, 1, len, 0],
             ((0, _), _) | (_, 0) => return None,
             (_, 1) => vec![0, 0],
-            _ => vec![0, 1, record.b],
+            _ => vec![0, 1, record.b, 1],
         };
         Some(Answer::of(words))
     }

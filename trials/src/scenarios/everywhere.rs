@@ -1,7 +1,7 @@
 //! Each call of each kind of subject, at the heights 0, 1 and 2.
 
 use super::maps::{first_to_leave, range};
-use crate::kind::Kind;
+use crate::kind::{marked, Kind};
 use crate::record::{call, calls, steps, Record, LOWER, LOWER_OUT, UPPER, UPPER_IN};
 use crate::scenario::{quiet, swept, Scenario, Step};
 
@@ -77,6 +77,10 @@ fn reads(kind: Kind, keys: Keys) -> Vec<Record> {
         all.push(call(1, 7, &[keys.gone]));
         all.push(call(1, 8, &[]));
     }
+    if kind.is_map() {
+        all.push(calls::visit(0));
+        all.push(call(7, 0, &[1, 0]));
+    }
     all
 }
 
@@ -142,6 +146,8 @@ fn wholes(kind: Kind, keys: Keys) -> Vec<Record> {
             call(11, 3, &[]),
             call(11, 4, &[]),
             call(3, 7, &[]),
+            call(3, 8, &[]),
+            calls::load(keys.many, 0),
         ]);
     } else {
         all.push(call(3, 0, &[]));
@@ -255,7 +261,13 @@ fn places(kind: Kind, keys: Keys) -> Vec<Record> {
 
 // All calls of a kind on so many pairs. What changes most comes last.
 fn all_of(kind: u64, many: u64) -> Vec<Step> {
-    let (kind, keys) = (Kind(kind), Keys::of(many));
+    let kind = Kind(kind);
+    let mut keys = Keys::of(many);
+    if kind.has_marks() {
+        // The keys in the tree have other marks.
+        keys.here = marked(keys.here, 1);
+        keys.gone = marked(keys.gone, 2);
+    }
     let load = swept(calls::load(many, 2)).with_hints(u64::from(kind.is_map()));
     let mut all = vec![load];
     let mut add = |records: Vec<Record>| all.extend(records.into_iter().map(swept));
@@ -275,7 +287,7 @@ fn all_of(kind: u64, many: u64) -> Vec<Step> {
     if kind.has_queries() && kind.is_tree() {
         all.extend(commands(keys));
         all.push(quiet(calls::load(many, 2)));
-        all.push(swept(call(7, 0, &[0, 0])));
+        all.push(swept(calls::visit(0)));
         all.push(swept(call(7, 0, &[1, 0])));
     }
     all.push(swept(calls::clear()).leaving_height(0));
@@ -318,7 +330,7 @@ fn of_shards(many: u64) -> Vec<Step> {
 pub fn all() -> Vec<Scenario> {
     let mut all = Vec::new();
     for (height, many) in MANY.iter().enumerate() {
-        for kind in [6, 5, 4, 2, 1, 0, 3, 10, 9, 8, 7] {
+        for kind in [6, 5, 4, 2, 1, 0, 3, 10, 9, 8, 7, 20, 21] {
             let name = format!("all calls, {}, height {height}", Kind(kind).name());
             all.push(Scenario::new(&name, kind, all_of(kind, *many)));
         }

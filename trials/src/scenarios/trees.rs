@@ -1,6 +1,7 @@
 //! Trees that are loaded, changed and walked.
 
 use super::Sort;
+use crate::kind::COUNTED;
 use crate::record::{call, calls, steps, Record, LOWER, UPPER};
 use crate::scenario::{quiet, swept, Scenario, Step};
 
@@ -156,6 +157,42 @@ fn cloned() -> Vec<Step> {
 
 fn loaded(many: u64, height: u64) -> Vec<Step> {
     vec![swept(calls::load(many, 0)).leaving_height(height)]
+}
+
+// The pairs of a tree leave from the end, each by its key.
+fn removed() -> Vec<Step> {
+    let mut steps = vec![swept(calls::load(65, 0))];
+    steps.extend((0..65).map(|turn| swept(calls::remove(64 - turn))));
+    steps.push(quiet(calls::height()).leaving_height(0));
+    steps
+}
+
+// Of 65 pairs 20 are handed over from each end.
+fn handed_over() -> Vec<Step> {
+    vec![
+        quiet(calls::load(65, 0)),
+        swept(calls::swap()),
+        swept(call(3, 3, &[20])),
+    ]
+}
+
+/// Trees of keys and values that count, and that keep their counts until all of them are dropped;
+/// and a map and a set into which equal keys are put.
+pub fn counted() -> Vec<Scenario> {
+    let rows = [
+        ("full leaf", full_leaf(), 65),
+        ("emptied", removed(), 0),
+        ("loaded", loaded(4161, 2), 4161),
+        ("cleared", cleared(), 0),
+        ("clones", cloned(), 200),
+        ("handed over", handed_over(), 0),
+        ("a map of one key", vec![swept(call(12, 1, &[3]))], 0),
+        ("a set of one key", vec![swept(call(12, 2, &[3]))], 0),
+    ];
+    let scenario = |(end, steps, len): (&str, Vec<Step>, usize)| {
+        Scenario::new(&format!("counted, {end}"), COUNTED, steps).ending(len)
+    };
+    rows.into_iter().map(scenario).collect()
 }
 
 pub fn all(sort: &Sort) -> Vec<Scenario> {
