@@ -11,4 +11,3 @@ pub mod Sizes
 pub mod SplitAtKey
 pub mod ThinLemmas
 pub mod UpdateLemmas
-pub mod WalkedNodes

@@ -1,4 +1,3 @@
-pub mod Depths
 pub mod Groups
 pub mod Numbers
 pub mod Summaries

@@ -1,8 +1,10 @@
 //! Callers that put and remove pairs, and write values.
-ghost use Rattle.std.specs.Prelude.{◌≡◌, ◌<◌, ◌-◌, ◌^◌, [], length, true, false, IfOk, OnErr, IfSome, OnOk, IsTrue, Some, None, Ok};
+ghost use Rattle.std.specs.Prelude.{◌≡◌, ◌<◌, ◌-◌, ◌^◌, [], length, true, false, IfOk, OnErr, IfSome, IsOk, OnOk, IsTrue, Some, None, Ok};
 ghost use Rattle.std.specs.declared.cmp.Ordering.TheVariants.{Equal};
 ghost use Rattle.bptree_keys.specs.Contents.{has, value as value_of, put, del};
 ghost use Rattle.bptree_ascent.specs.Lending.{written};
+ghost use Rattle.bptree_keys.specs.Keys.{AllInfallible};
+ghost use Rattle.bptree_tree.specs.Changes.{PopsFirst, PopsLast, RemovesEntry};
 ghost use Rattle.bptree_tree.specs.Whole.{HasSameTop};
 ghost use Rattle.bptree_callers.specs.Words.{AddsBetween, HoldsTheSame, KeepsSlots, Lacks, Loses, PopsFirstOfTwo, PopsLastOfTwo, WritesValue, told_value, StaysWhole};
 
@@ -54,10 +56,7 @@ fn is_full<S: NodeStore>(tree: &mut BPlusTree<S>, k: S::K, v: S::V) -> (S::K, S:
 // before.
 fn has_room<S: NodeStore>(tree: &mut BPlusTree<S>, k: S::K, v: S::V) -> Option<(S::K, S::V)>
     requires { length tree.old.contents < 2 ^ 64 - 1 }
-    ensures pair { IfSome result (λ pair. pair ≡ (k, v)) }
-    ensures contents { IfSome result (λ _. tree.new.contents ≡ tree.old.contents) }
-    ensures slots { IfSome result (λ _. S.slots tree.new.store ≡ S.slots tree.old.store) }
-    ensures root { IfSome result (λ _. HasSameTop tree.new tree.old) }
+    ensures { IfSome result (λ pair. (pair ≡ (k, v)) × (tree.new.contents ≡ tree.old.contents) × (S.slots tree.new.store ≡ S.slots tree.old.store) × HasSameTop tree.new tree.old) }
 {
     match tree.insert(k, v) {
         Ok(_) => None,
@@ -67,14 +66,15 @@ fn has_room<S: NodeStore>(tree: &mut BPlusTree<S>, k: S::K, v: S::V) -> Option<(
 }
 
 // A key that is there leaves with its value, or nothing changes. One that is not leaves nothing to
-// do, and nothing is refused.
+// do, and nothing is refused. Nor is anything where neither summaries nor clones of keys need
+// memory.
 fn removes<S: NodeStore>(tree: &mut BPlusTree<S>, k: &S::K) -> Result<Option<S::V>, AllocError>
-    ensures value { IfOk result (λ gone. gone ≡ value_of S.K.cmp tree.old.contents k.now) }
-    ensures rest { OnOk result (tree.new.contents ≡ del S.K.cmp tree.old.contents k.now) }
+    ensures removed { IfOk result (λ gone. (gone ≡ value_of S.K.cmp tree.old.contents k.now) × (tree.new.contents ≡ del S.K.cmp tree.old.contents k.now)) }
     ensures absent { Lacks S.K.cmp k.now tree.old → result ≡ Ok None }
     ensures less { Lacks S.K.cmp k.now tree.old → Loses S.K.cmp k.now tree.old tree.new }
     ensures slots { Lacks S.K.cmp k.now tree.old → KeepsSlots S.slots tree.new tree.old }
     ensures refused { OnErr result (StaysWhole S.slots tree.new tree.old) }
+    ensures sure { S.Argument.needs_no_memory → AllInfallible S.K.is_infallible → IsOk result }
 {
     tree.remove(k)
 }
@@ -82,9 +82,7 @@ fn removes<S: NodeStore>(tree: &mut BPlusTree<S>, k: &S::K) -> Result<Option<S::
 // A tree that was cleared has no pairs. A refusal changes nothing.
 fn clears<S: NodeStore>(tree: &mut BPlusTree<S>) -> Result<(), AllocError>
     ensures empty { OnOk result (tree.new.contents ≡ []) }
-    ensures contents { OnErr result (tree.new.contents ≡ tree.old.contents) }
-    ensures slots { OnErr result (S.slots tree.new.store ≡ S.slots tree.old.store) }
-    ensures root { OnErr result (HasSameTop tree.new tree.old) }
+    ensures refused { OnErr result ((tree.new.contents ≡ tree.old.contents) × (S.slots tree.new.store ≡ S.slots tree.old.store) × HasSameTop tree.new tree.old) }
 {
     tree.clear()
 }
@@ -118,15 +116,16 @@ where
 }
 
 // A pair leaves with the key that was stored, which equals the one asked for. Where that is
-// refused, the tree is as it was.
+// refused, the tree is as it was. Nothing is where no memory is needed.
 fn takes_the_pair_of_a_key<S: NodeStore>(
     tree: &mut BPlusTree<S>,
     k: &S::K,
 ) -> Result<Option<(S::K, S::V)>, AllocError>
     ensures key { IfOk result (λ gone. IfSome gone (λ pair. S.K.cmp pair.0 k.now ≡ Equal)) }
     ensures value { IfOk result (λ g. told_value g ≡ value_of S.K.cmp tree.old.contents k.now) }
-    ensures others { OnOk result (tree.new.contents ≡ del S.K.cmp tree.old.contents k.now) }
+    ensures stored { IfOk result (RemovesEntry S.K.cmp k.now tree.old.contents tree.new.contents) }
     ensures refused { OnErr result (S.slots tree.new.store ≡ S.slots tree.old.store) }
+    ensures sure { S.Argument.needs_no_memory → AllInfallible S.K.is_infallible → IsOk result }
 {
     tree.remove_entry(k)
 }
@@ -134,17 +133,22 @@ fn takes_the_pair_of_a_key<S: NodeStore>(
 // A pair that has left, if there was one.
 type Gone<S> = Result<Option<(<S as NodeStore>::K, <S as NodeStore>::V)>, AllocError>;
 
-// The first of two pairs leaves as it was stored, and so does the last.
+// The first of two pairs leaves as it was stored, and so does the last. Where no memory is needed,
+// nothing is refused.
 fn pops_the_first_of_two<S: NodeStore>(tree: &mut BPlusTree<S>) -> Gone<S>
     ensures popped { IfOk result (PopsFirstOfTwo tree.old.contents tree.new.contents) }
+    ensures ends { IfOk result (PopsFirst tree.old.contents tree.new.contents) }
     ensures refused { OnErr result (S.slots tree.new.store ≡ S.slots tree.old.store) }
+    ensures sure { S.Argument.needs_no_memory → AllInfallible S.K.is_infallible → IsOk result }
 {
     tree.pop_first()
 }
 
 fn pops_the_last_of_two<S: NodeStore>(tree: &mut BPlusTree<S>) -> Gone<S>
     ensures popped { IfOk result (PopsLastOfTwo tree.old.contents tree.new.contents) }
+    ensures ends { IfOk result (PopsLast tree.old.contents tree.new.contents) }
     ensures refused { OnErr result (S.slots tree.new.store ≡ S.slots tree.old.store) }
+    ensures sure { S.Argument.needs_no_memory → AllInfallible S.K.is_infallible → IsOk result }
 {
     tree.pop_last()
 }

@@ -9,27 +9,18 @@ use bptree_tree::BPlusTree;
 use std::alloc::AllocError;
 
 // A clone has a key exactly where the original does, and as many pairs. Under each number it has a
-// leaf of as many pairs.
-fn has_the_same_keys<S: CloneStore>(tree: &BPlusTree<S>) -> Result<BPlusTree<S>, AllocError>
-where
-    S::V: Clone,
-    S::Argument: CloneArgument<S::K>,
-    ensures keys { IfOk result (λ copy. HasSameKeys S.K.cmp tree.now.contents copy.contents) }
-    ensures len { IfOk result (λ copy. length copy.contents ≡ length tree.now.contents) }
-    ensures leaves { IfOk result (HasLeavesAsLong S.slots tree.now) }
-{
-    let copy = tree.clone()?;
-    Ok(copy)
-}
-
-// Its nodes are a whole tree, of the original's root and height.
-fn stands_as_the_original<S: CloneStore>(
+// leaf of as many pairs. Its nodes are a whole tree, of the original's root and height.
+fn has_the_same_keys<S: CloneStore>(
     tree: &BPlusTree<S>,
 ) -> Result<(BPlusTree<S>, NodeId, usize), AllocError>
 where
     S::V: Clone,
     S::Argument: CloneArgument<S::K>,
-    ensures { IfOk result (StandsWhole S.slots S.K.cmp S.Argument.is_summary) }
+    ensures keys { IfOk result (λ it. HasSameKeys S.K.cmp tree.now.contents it.0.contents) }
+    ensures len { IfOk result (λ it. length it.0.contents ≡ length tree.now.contents) }
+    ensures leaves { IfOk result (λ it. HasLeavesAsLong S.slots tree.now it.0) }
+    ensures whole { IfOk result (StandsWhole S.slots S.K.cmp S.Argument.is_summary) }
 {
-    Ok((tree.clone()?, tree.root_id(), tree.height()))
+    let copy = tree.clone()?;
+    Ok((copy, tree.root_id(), tree.height()))
 }

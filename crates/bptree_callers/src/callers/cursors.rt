@@ -1,5 +1,5 @@
 //! Callers of cursors.
-ghost use Rattle.std.specs.Prelude.{◌≡◌, ◌∷◌, [], true, false, slice_get, IfOk, Ok, Some, None};
+ghost use Rattle.std.specs.Prelude.{◌≡◌, ◌∷◌, [], true, false, slice_get, IfOk, IsOk, Ok, Some, None};
 ghost use Rattle.std.specs.Ordering.{nat_cmp};
 ghost use Rattle.std.specs.Option.{option_map};
 ghost use Rattle.bptree_keys.specs.Contents.{has, next, last_member};
@@ -117,13 +117,19 @@ fn goes_back<S: NodeStore<K = u64>>(cursor: &Cursor<u64>, tree: &BPlusTree<S>) -
 fn steps_without_memory<S: NodeStore>(
     cursor: &Cursor<S::K>,
     tree: &BPlusTree<S>,
-) -> (bool, bool, bool, bool)
+) -> (
+    Result<Option<Cursor<S::K>>, AllocError>,
+    Result<Option<Cursor<S::K>>, AllocError>,
+    bool,
+    bool,
+)
     requires { (key : S.K) → S.K.is_infallible key }
-    ensures { result ≡ (true, true, true, true) }
+    ensures steps { IsOk result.0 × IsOk result.1 }
+    ensures ends { (result.2 ≡ true) × (result.3 ≡ true) }
 {
     (
-        cursor.next(tree).is_ok(),
-        cursor.prev(tree).is_ok(),
+        cursor.next(tree),
+        cursor.prev(tree),
         Cursor::first(tree).is_ok(),
         Cursor::last(tree).is_ok(),
     )

@@ -1,5 +1,5 @@
 //! Callers of an iterator.
-ghost use Rattle.std.specs.Prelude.{◌≡◌, ◌∷◌, [], length, map, true, slice_get, Some, Ok};
+ghost use Rattle.std.specs.Prelude.{◌≡◌, ◌∷◌, [], length, map, slice_get, Some, None, Ok};
 ghost use Rattle.std.specs.Option.{option_map};
 ghost use Rattle.std.specs.Map.Iter.{deref_pair};
 
@@ -45,15 +45,17 @@ fn gives_three_from_both_ends<'a, S: NodeStore>(
 }
 
 // With no pairs left nothing comes, however often it is asked.
-fn gives_nothing_at_the_end<S: NodeStore>(pairs: &mut Iter<'_, S>) -> (bool, bool, bool)
+fn gives_nothing_at_the_end<'a, S: NodeStore>(
+    pairs: &mut Iter<'a, S>,
+) -> (
+    Option<(&'a S::K, &'a S::V)>,
+    Option<(&'a S::K, &'a S::V)>,
+    Option<(&'a S::K, &'a S::V)>,
+)
     requires { pairs.old ≡ [] }
-    ensures { result ≡ (true, true, true) }
+    ensures { result ≡ (None, None, None) }
 {
-    (
-        pairs.next().is_none(),
-        pairs.next_back().is_none(),
-        pairs.next().is_none(),
-    )
+    (pairs.next(), pairs.next_back(), pairs.next())
 }
 
 // One step makes one fewer, and the hint is exact.

@@ -68,19 +68,13 @@ fn loads_all<S: NodeStore>(pairs: Vec<(S::K, S::V)>) -> Result<BPlusTree<S>, All
     BPlusTree::bulk_load(pairs)
 }
 
-// At each key stands the value of the last pair with an equal key.
+// At each key stands the value of the last pair with an equal key. The root's argument is a summary
+// of what was loaded.
 fn loads_the_last<S: NodeStore>(pairs: Vec<(S::K, S::V)>) -> Result<BPlusTree<S>, AllocError>
     requires { IsInLoadOrder S.K.cmp pairs.items }
-    ensures { IfOk result (λ tree. HasLastValues S.K.cmp pairs.items tree.contents) }
+    ensures values { IfOk result (λ tree. HasLastValues S.K.cmp pairs.items tree.contents) }
+    ensures summary { IfOk result (RootSumsUp S.Argument.is_summary (keys_of (load S.K.cmp pairs.items))) }
 {
     laws_of_load::<S::K, S::V>();
-    BPlusTree::bulk_load(pairs)
-}
-
-// The root's argument is a summary of what was loaded.
-fn loads_with_a_summary<S: NodeStore>(pairs: Vec<(S::K, S::V)>) -> Result<BPlusTree<S>, AllocError>
-    requires { IsInLoadOrder S.K.cmp pairs.items }
-    ensures { IfOk result (RootSumsUp S.Argument.is_summary (keys_of (load S.K.cmp pairs.items))) }
-{
     BPlusTree::bulk_load(pairs)
 }

@@ -1,5 +1,5 @@
 //! Callers of maps.
-ghost use Rattle.std.specs.Prelude.{◌≡◌, ◌<◌, ◌≤◌, ◌-◌, ◌^◌, ◌∷◌, ◌↔◌, [], length, min, true, false, slice_get, remove, IfOk, IfErr, OnErr, OnOk, IfSome, IsTrue, Some, None, Ok};
+ghost use Rattle.std.specs.Prelude.{◌≡◌, ◌<◌, ◌≤◌, ◌-◌, ◌^◌, ◌∷◌, ◌↔◌, [], length, min, true, false, slice_get, remove, IfOk, IfErr, OnErr, OnOk, IfSome, IsOk, IsTrue, MatchOption, MatchResult, Some, None, Ok};
 ghost use Rattle.std.specs.declared.cmp.Ordering.TheVariants.{Equal, Greater};
 ghost use Rattle.std.specs.Map.{keys_of, values_of};
 ghost use Rattle.std.specs.Map.Iter.{deref_pair};
@@ -10,7 +10,9 @@ ghost use Rattle.bptree_arguments.specs.Visits.{answered};
 ghost use Rattle.bptree_ascent.specs.Lending.{written};
 ghost use Rattle.bptree_keys.specs.Contents.{IsAscending, has, value as value_of, put, del, gather, below, last_member};
 ghost use Rattle.bptree_keys.specs.Ranges.{between};
+ghost use Rattle.bptree_keys.specs.Keys.{AllInfallible};
 ghost use Rattle.bptree_nodes.specs.Leaf.{set_value_at};
+ghost use Rattle.bptree_tree.specs.Changes.{PopsFirst, PopsLast, RemovesEntry};
 ghost use Rattle.bptree_tree.specs.Cursor.{cursor_key};
 ghost use Rattle.bptree_tree.specs.Entries.{entry};
 ghost use Rattle.bptree_maps.specs.Gathering.{AreFewFor};
@@ -43,13 +45,13 @@ fn starts_empty_by_default<K: Key, V: Drop, A: Argument<K>>(
     BPlusTreeMap::default(alloc)
 }
 
-// A map of no pairs says so, and finds no key.
+// A map tells its number of pairs, whose keys ascend. Of none it says so, and finds no key.
 fn says_that_it_is_empty<K: Key, V: Drop, A: Argument<K>>(
     map: &BPlusTreeMap<K, V, A>,
     k: &K,
 ) -> (bool, usize, bool)
-    requires { length map.now ≡ 0 }
-    ensures { result ≡ (true, 0, false) }
+    ensures len { IsAscending K.cmp map.now × (length map.now ≡ result.1) }
+    ensures none { length map.now ≡ 0 → result ≡ (true, 0, false) }
 {
     (map.is_empty(), map.len(), map.get(k).is_some())
 }
@@ -89,13 +91,6 @@ fn is_the_same_again<K: Key, V: Drop, A: Argument<K>>(
     BPlusTreeMap::from_iter(alloc, map)
 }
 
-// The number of pairs, whose keys ascend.
-fn counts_ascending_pairs<K: Key, V: Drop, A: Argument<K>>(map: &BPlusTreeMap<K, V, A>) -> usize
-    ensures { IsAscending K.cmp map.now × (length map.now ≡ result) }
-{
-    map.len()
-}
-
 // A key that is there is never refused: it takes the value, and the one before comes back.
 fn replaces<K: Key, V: Drop, A: Argument<K>>(map: &mut BPlusTreeMap<K, V, A>, k: K, v: V) -> V
     requires { has K.cmp map.old k ≡ true }
@@ -117,9 +112,7 @@ fn adds<K: Key, V: Drop, A: Argument<K>>(
     v: V,
 ) -> Option<(K, V)>
     requires { length map.old < 2 ^ 64 - 1 }
-    ensures added { result ≡ None → map.new ≡ put K.cmp map.old k v }
-    ensures pair { IfSome result (λ pair. pair ≡ (k, v)) }
-    ensures refused { IfSome result (λ _. map.new ≡ map.old) }
+    ensures { MatchOption result (map.new ≡ put K.cmp map.old k v) (λ pair. (pair ≡ (k, v)) × (map.new ≡ map.old)) }
 {
     match map.insert(k, v) {
         Ok(_) => None,
@@ -157,16 +150,17 @@ fn writes<K: Key, V: Drop, A: Argument<K>>(map: &mut BPlusTreeMap<K, V, A>, k: &
 }
 
 // A key that is there leaves with its value, or nothing changes. One that is not leaves nothing to
-// do, and nothing is refused.
+// do, and nothing is refused. Nor is anything where neither summaries nor clones of keys need
+// memory.
 fn removes<K: Key, V: Drop, A: Argument<K>>(
     map: &mut BPlusTreeMap<K, V, A>,
     k: &K,
 ) -> Result<Option<V>, AllocError>
-    ensures value { IfOk result (λ gone. gone ≡ value_of K.cmp map.old k.now) }
-    ensures pairs { OnOk result (map.new ≡ del K.cmp map.old k.now) }
+    ensures removed { IfOk result (λ gone. (gone ≡ value_of K.cmp map.old k.now) × (map.new ≡ del K.cmp map.old k.now)) }
     ensures absent { has K.cmp map.old k.now ≡ false → result ≡ Ok None }
     ensures less { has K.cmp map.old k.now ≡ false → map.new ≡ del K.cmp map.old k.now }
     ensures refused { OnErr result (map.new ≡ map.old) }
+    ensures sure { A.needs_no_memory → AllInfallible K.is_infallible → IsOk result }
 {
     map.remove(k)
 }
@@ -299,9 +293,7 @@ fn takes_the_pair_at_a_place(
     place: usize,
 ) -> Result<(u64, u64), AllocError>
     requires { place < length map.old }
-    ensures pair { IfOk result (λ pair. slice_get map.old place ≡ Some pair) }
-    ensures others { OnOk result (map.new ≡ remove map.old place) }
-    ensures refused { OnErr result (map.new ≡ map.old) }
+    ensures { MatchResult result (λ pair. (slice_get map.old place ≡ Some pair) × (map.new ≡ remove map.old place)) (λ _. map.new ≡ map.old) }
 {
     match map.remove_by_argument(place)? {
         Some(pair) => Ok(pair),
@@ -423,15 +415,15 @@ fn tells_how_many_are_between<K: Key, V: Drop>(
     map.range_len(Some(lo), Some(hi))
 }
 
-// A key is contained, and a value found, just where a key equals it.
-fn finds_just_what_is_there<K: Key, V: Drop, A: Argument<K>>(
-    map: &BPlusTreeMap<K, V, A>,
+// A key is contained just where a key equals it, and its value is found, or none.
+fn finds_just_what_is_there<'a, K: Key, V: Drop, A: Argument<K>>(
+    map: &'a BPlusTreeMap<K, V, A>,
     k: &K,
-) -> (bool, bool)
+) -> (bool, Option<&'a V>)
     ensures contained { result.0 ≡ has K.cmp map.now k.now }
-    ensures found { result.1 ≡ has K.cmp map.now k.now }
+    ensures found { option_copied result.1 ≡ value_of K.cmp map.now k.now }
 {
-    (map.contains_key(k), map.get(k).is_some())
+    (map.contains_key(k), map.get(k))
 }
 
 // A pair that is found has a key that equals the one asked for, and is one of the pairs; its value
@@ -564,7 +556,8 @@ fn takes_the_pair_at<K: Key, V: Drop>(
     map.remove_at(place)
 }
 
-// A pair leaves with the key that was stored, which equals the one asked for.
+// A pair leaves with the key that was stored, which equals the one asked for. Where no memory is
+// needed, nothing is refused.
 fn takes_the_pair_of_a_key<K: Key, V: Drop, A: Argument<K>>(
     map: &mut BPlusTreeMap<K, V, A>,
     k: &K,
@@ -572,8 +565,9 @@ fn takes_the_pair_of_a_key<K: Key, V: Drop, A: Argument<K>>(
     ensures key { IfOk result (λ gone. IfSome gone (λ pair. K.cmp pair.0 k.now ≡ Equal)) }
     ensures value { IfOk result (λ gone. told_value gone ≡ value_of K.cmp map.old k.now) }
     ensures stored { IfOk result (λ gone. IfSome gone (IsOneOf map.old)) }
-    ensures others { OnOk result (map.new ≡ del K.cmp map.old k.now) }
+    ensures others { IfOk result (RemovesEntry K.cmp k.now map.old map.new) }
     ensures refused { OnErr result (map.new ≡ map.old) }
+    ensures sure { A.needs_no_memory → AllInfallible K.is_infallible → IsOk result }
 {
     map.remove_entry(k)
 }
@@ -583,6 +577,7 @@ fn pops_the_first_of_two<K: Key, V: Drop, A: Argument<K>>(
     map: &mut BPlusTreeMap<K, V, A>,
 ) -> Result<Option<(K, V)>, AllocError>
     ensures popped { IfOk result (PopsFirstOfTwo map.old map.new) }
+    ensures ends { IfOk result (PopsFirst map.old map.new) }
     ensures others { 0 < length map.old → FindsOne result (λ it. map.old ≡ it ∷ map.new) }
     ensures refused { OnErr result (map.new ≡ map.old) }
 {
@@ -593,6 +588,7 @@ fn pops_the_last_of_two<K: Key, V: Drop, A: Argument<K>>(
     map: &mut BPlusTreeMap<K, V, A>,
 ) -> Result<Option<(K, V)>, AllocError>
     ensures popped { IfOk result (PopsLastOfTwo map.old map.new) }
+    ensures ends { IfOk result (PopsLast map.old map.new) }
     ensures refused { OnErr result (map.new ≡ map.old) }
 {
     map.pop_last()

@@ -72,24 +72,28 @@ fn splits_a_set_at_a_key<K: Key>(
     set.split_off(k)
 }
 
-// Of many pairs that come the last one of each key stays, and other keys have the values they had.
+// Of many pairs that come the last one of each key stays, and other keys have the values they had. A
+// pair whose key was present is never the one that fails.
 fn puts_the_last_of_each_key<K: Key, V: Drop, A: Argument<K>>(
     map: &mut BPlusTreeMap<K, V, A>,
     pairs: Vec<(K, V)>,
 ) -> Result<(), InsertError<K, V>>
     ensures last { OnOk result (PutsLastOfEach K.cmp pairs.items map.new) }
     ensures others { OnOk result (KeepsOthers K.cmp pairs.items map.old map.new) }
+    ensures failed { IfErr result (λ error. has K.cmp map.old (pair_of error).0 ≡ false) }
 {
     let _len = map.len();
     map.extend(pairs)
 }
 
-// After many keys came, a set holds what it held and what came.
+// After many keys came, a set holds what it held and what came. A key that was present is never the
+// one that fails.
 fn holds_what_came<K: Key>(
     set: &mut BPlusTreeSet<K>,
     keys: Vec<K>,
 ) -> Result<(), InsertError<K, ()>>
-    ensures { OnOk result (HoldsEither K.cmp set.old keys.items set.new) }
+    ensures held { OnOk result (HoldsEither K.cmp set.old keys.items set.new) }
+    ensures failed { IfErr result (λ error. holds K.cmp set.old (pair_of error).0 ≡ false) }
 {
     let _len = set.len();
     set.extend(keys)
@@ -178,28 +182,6 @@ fn extend_with_keys_is_full<K: Key>(set: &mut BPlusTreeSet<K>, keys: Vec<K>) -> 
         Err(InsertError::OutOfMemory(..)) => Some(false),
         Ok(()) => None,
     }
-}
-
-// A pair whose key was present is never the one that fails.
-fn extend_present<K: Key, V: Drop, A: Argument<K>>(
-    map: &mut BPlusTreeMap<K, V, A>,
-    pairs: Vec<(K, V)>,
-) -> Result<(), InsertError<K, V>>
-    ensures { IfErr result (λ error. has K.cmp map.old (pair_of error).0 ≡ false) }
-{
-    let _len = map.len();
-    map.extend(pairs)
-}
-
-// And a key that was present is not.
-fn extend_with_present_keys<K: Key>(
-    set: &mut BPlusTreeSet<K>,
-    keys: Vec<K>,
-) -> Result<(), InsertError<K, ()>>
-    ensures { IfErr result (λ error. holds K.cmp set.old (pair_of error).0 ≡ false) }
-{
-    let _len = set.len();
-    set.extend(keys)
 }
 
 // A split needs memory, and is never full.

@@ -4,11 +4,11 @@ ghost use Rattle.std.specs.Prelude.{◌≡◌, IsTrue, OnOk, Some, false};
 ghost use Rattle.bptree_ascent.specs.Lending.{written};
 ghost use Rattle.bptree_keys.specs.Contents.{put, del};
 ghost use Rattle.bptree_stores.specs.StoreSlabs.{slots};
+ghost use Rattle.bptree_shape.specs.Shape.{IsWellShaped};
 ghost use Rattle.bptree_tree.specs.Whole.{IsUntouched};
 ghost use Rattle.bptree_callers.specs.Words.{EachInnerStandsOnce, EachLeafStandsOnce, NodesHave, lent_keys, lent_pairs, shown};
 
 use crate::callers::changes::writes;
-use crate::callers::reads::shows_its_nodes;
 use bptree_arguments::argument::Argument;
 use bptree_keys::key::Key;
 use bptree_keys::node_id::{LeafNodeId, NodeId};
@@ -19,9 +19,10 @@ use bptree_stores::node_stores::NodeStore;
 use bptree_tree::{BPlusTree, InsertError};
 use std::alloc::AllocError;
 
-// The nodes below the root, of its height, have the pairs of the list.
+// The nodes that the root and the height name are a whole tree, and have the pairs of the list.
 fn lends_the_list<S: NodeStore>(tree: &BPlusTree<S>) -> (&S, NodeId, usize)
-    ensures { lent_pairs S.slots result ≡ tree.now.contents }
+    ensures pairs { lent_pairs S.slots result ≡ tree.now.contents }
+    ensures whole { IsWellShaped S.K.cmp S.Argument.is_summary (S.slots result.0.now) result.2 result.1 }
 {
     (tree.node_store(), tree.root_id(), tree.height())
 }
@@ -50,7 +51,7 @@ fn has_no_idle_node<S: NodeStore>(tree: &BPlusTree<S>) -> (&S, NodeId, usize)
     ensures leaves { EachLeafStandsOnce (S.slots result.0.now) result.2 result.1 }
     ensures inners { EachInnerStandsOnce (S.slots result.0.now) result.2 result.1 }
 {
-    shows_its_nodes(tree)
+    lends_the_list(tree)
 }
 
 // Nor after a pair was put, or refused: the nodes have the list, and none is left idle.

@@ -1,5 +1,5 @@
 //! Callers of an iterator that owns its tree.
-ghost use Rattle.std.specs.Prelude.{◌≡◌, ◌∷◌, [], length, true, slice_get, Some};
+ghost use Rattle.std.specs.Prelude.{◌≡◌, ◌∷◌, [], length, slice_get, Some, None};
 
 use bptree_stores::node_stores::NodeStore;
 use bptree_tree::BPlusTree;
@@ -37,16 +37,15 @@ fn gives_three_from_both_ends<S: NodeStore>(
     }
 }
 
+// A pair that comes, if there is one.
+type Gone<S> = Option<(<S as NodeStore>::K, <S as NodeStore>::V)>;
+
 // With no pairs left nothing comes, however often it is asked.
-fn gives_nothing_at_the_end<S: NodeStore>(pairs: &mut IntoIter<S>) -> (bool, bool, bool)
+fn gives_nothing_at_the_end<S: NodeStore>(pairs: &mut IntoIter<S>) -> (Gone<S>, Gone<S>, Gone<S>)
     requires { pairs.old ≡ [] }
-    ensures { result ≡ (true, true, true) }
+    ensures { result ≡ (None, None, None) }
 {
-    (
-        pairs.next().is_none(),
-        pairs.next_back().is_none(),
-        pairs.next().is_none(),
-    )
+    (pairs.next(), pairs.next_back(), pairs.next())
 }
 
 // One step makes one fewer, and the hint is exact.

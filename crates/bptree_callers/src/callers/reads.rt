@@ -6,7 +6,6 @@ ghost use Rattle.std.specs.Map.Iter.{deref_pair};
 ghost use Rattle.std.specs.Option.{option_copied, option_map};
 ghost use Rattle.bptree_keys.specs.Contents.{IsAscending, has, value as value_of, last_member};
 ghost use Rattle.bptree_nodes.specs.Slot.{IsEmpty};
-ghost use Rattle.bptree_shape.specs.Shape.{IsWellShaped};
 ghost use Rattle.bptree_callers.specs.Words.{ShowsEndsOfTwo, ShowsTheSame};
 
 use bptree_keys::node_id::NodeId;
@@ -53,34 +52,11 @@ fn gives_both_ends<S: NodeStore>(
     )
 }
 
-// The number of pairs, whose keys ascend.
-fn counts_ascending_pairs<S: NodeStore>(tree: &BPlusTree<S>) -> usize
-    ensures { IsAscending S.K.cmp tree.now.contents × (length tree.now.contents ≡ result) }
-{
-    tree.len()
-}
-
-// The value at a key, or none.
-fn finds_the_value<S: NodeStore>(tree: &BPlusTree<S>, k: &S::K) -> Option<S::V>
-where
-    S::V: Copy,
-    ensures { result ≡ value_of S.K.cmp tree.now.contents k.now }
-{
-    tree.get(k).copied()
-}
-
 // The summary of all keys, which of a count is their number.
 fn summarizes_all_keys<S: NodeStore>(tree: &BPlusTree<S>) -> &S::Argument
     ensures { S.Argument.is_summary result.now (keys_of tree.now.contents) }
 {
     tree.root_argument()
-}
-
-// The nodes that the root and the height name are a whole tree.
-pub(crate) fn shows_its_nodes<S: NodeStore>(tree: &BPlusTree<S>) -> (&S, NodeId, usize)
-    ensures { IsWellShaped S.K.cmp S.Argument.is_summary (S.slots result.0.now) result.2 result.1 }
-{
-    (tree.node_store(), tree.root_id(), tree.height())
 }
 
 // A look-up and how many comparisons it made: at most seven on each level, and those of the
@@ -98,11 +74,12 @@ fn counts_a_look_up<'a, S: NodeStore>(
     (value, count, height)
 }
 
-// A tree is low, and has many pairs where it has levels.
+// A tree is low, and has many pairs where it has levels. Its number of pairs is told, and their keys
+// ascend.
 fn is_low<S: NodeStore>(tree: &BPlusTree<S>) -> (usize, usize)
     ensures levels { result.0 ≤ 15 }
     ensures enough { 0 < result.0 → 32 * 17 ^ (result.0 - 1) ≤ result.1 }
-    ensures len { result.1 ≡ length tree.now.contents }
+    ensures len { IsAscending S.K.cmp tree.now.contents × (length tree.now.contents ≡ result.1) }
 {
     (tree.height(), tree.len())
 }
@@ -120,12 +97,12 @@ fn reads_the_root<S: NodeStore>(tree: &BPlusTree<S>) -> bool
     }
 }
 
-// A key is contained, and a value found, just where a key equals it.
-fn finds_just_what_is_there<S: NodeStore>(tree: &BPlusTree<S>, k: &S::K) -> (bool, bool)
+// A key is contained just where a key equals it, and its value is found, or none.
+fn finds_the_value<'a, S: NodeStore>(tree: &'a BPlusTree<S>, k: &S::K) -> (bool, Option<&'a S::V>)
     ensures contained { result.0 ≡ has S.K.cmp tree.now.contents k.now }
-    ensures found { result.1 ≡ has S.K.cmp tree.now.contents k.now }
+    ensures found { option_copied result.1 ≡ value_of S.K.cmp tree.now.contents k.now }
 {
-    (tree.contains_key(k), tree.get(k).is_some())
+    (tree.contains_key(k), tree.get(k))
 }
 
 // A pair that is found has a key that equals the one asked for, and its value is the one at the

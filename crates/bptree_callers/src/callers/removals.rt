@@ -1,7 +1,6 @@
 //! Callers of removals for which no memory is needed: none of them fails. And callers of the summary
 //! and the levels that a removal leaves.
-ghost use Rattle.std.specs.Prelude.{◌≡◌, List, false, true, remove, slice_get, IfOk, OnOk};
-ghost use Rattle.std.specs.Map.Iter.{TakesFirst, TakesLast};
+ghost use Rattle.std.specs.Prelude.{◌≡◌, remove, slice_get, IfOk, IsOk, OnOk};
 ghost use Rattle.std.specs.Ordering.{nat_cmp};
 ghost use Rattle.bptree_callers.specs.Summaries.{RootSumsUpRest};
 ghost use Rattle.bptree_callers.specs.Words.{AllowsLevels};
@@ -9,154 +8,66 @@ ghost use Rattle.bptree_descents.specs.ByArgument.{IsTaken};
 ghost use Rattle.bptree_keys.specs.Contents.{del};
 ghost use Rattle.bptree_keys.specs.Keys.{AllInfallible};
 ghost use Rattle.bptree_maps.specs.KeyChanges.{RemovesKey, TakesKey};
-ghost use Rattle.bptree_tree.specs.Changes.{PopsFirst, PopsLast, Removes, RemovesEntry};
 
-use bptree_arguments::argument::{Argument, SearchArgument};
+use bptree_arguments::argument::SearchArgument;
 use bptree_arguments::count::Count;
-use bptree_keys::key::Key;
 use bptree_maps::map::BPlusTreeMap;
 use bptree_sets::set::BPlusTreeSet;
 use bptree_stores::node_stores::NodeStore;
 use bptree_tree::BPlusTree;
 use std::alloc::AllocError;
 
-// A removal by a key from a tree.
-fn removes_from_a_tree<S: NodeStore>(tree: &mut BPlusTree<S>, k: &S::K) -> Option<S::V>
-    requires memory { S.Argument.needs_no_memory }
-    requires clones { AllInfallible S.K.is_infallible }
-    ensures { Removes S.K.cmp k.now tree.old.contents tree.new.contents result }
-{
-    match tree.remove(k) {
-        Ok(gone) => gone,
-        Err(_) => unreachable!(),
-    }
-}
-
-// A removal of the pair of a key.
-fn removes_an_entry<S: NodeStore>(tree: &mut BPlusTree<S>, k: &S::K) -> Option<(S::K, S::V)>
-    requires memory { S.Argument.needs_no_memory }
-    requires clones { AllInfallible S.K.is_infallible }
-    ensures { RemovesEntry S.K.cmp k.now tree.old.contents tree.new.contents result }
-{
-    match tree.remove_entry(k) {
-        Ok(gone) => gone,
-        Err(_) => unreachable!(),
-    }
-}
-
-// The removals at both ends.
-fn pops_the_least<S: NodeStore>(tree: &mut BPlusTree<S>) -> Option<(S::K, S::V)>
-    requires memory { S.Argument.needs_no_memory }
-    requires clones { AllInfallible S.K.is_infallible }
-    ensures { PopsFirst tree.old.contents tree.new.contents result }
-{
-    match tree.pop_first() {
-        Ok(gone) => gone,
-        Err(_) => unreachable!(),
-    }
-}
-
-fn pops_the_greatest<S: NodeStore>(tree: &mut BPlusTree<S>) -> Option<(S::K, S::V)>
-    requires memory { S.Argument.needs_no_memory }
-    requires clones { AllInfallible S.K.is_infallible }
-    ensures { PopsLast tree.old.contents tree.new.contents result }
-{
-    match tree.pop_last() {
-        Ok(gone) => gone,
-        Err(_) => unreachable!(),
-    }
-}
-
 // A removal by a query.
 fn removes_what_is_selected<S: NodeStore>(
     tree: &mut BPlusTree<S>,
     query: <S::Argument as SearchArgument<S::K>>::Query,
-) -> Option<(S::K, S::V)>
+) -> Result<Option<(S::K, S::V)>, AllocError>
 where
     S::Argument: SearchArgument<S::K>,
-    requires memory { S.Argument.needs_no_memory }
-    requires clones { AllInfallible S.K.is_infallible }
-    ensures { IsTaken S.Argument.selects query tree.old.contents tree.new.contents result }
+    ensures taken { IfOk result (IsTaken S.Argument.selects query tree.old.contents tree.new.contents) }
+    ensures sure { S.Argument.needs_no_memory → AllInfallible S.K.is_infallible → IsOk result }
 {
-    match tree.remove_by_argument(query) {
-        Ok(gone) => gone,
-        Err(_) => unreachable!(),
-    }
+    tree.remove_by_argument(query)
 }
 
-// Two removals from a map, by the key and with it.
-fn removes_two<K: Key, V: Drop, A: Argument<K>>(
-    map: &mut BPlusTreeMap<K, V, A>,
-    k: &K,
-    next: &K,
-) -> (Option<V>, Option<(K, V)>)
-    requires memory { A.needs_no_memory }
-    requires clones { AllInfallible K.is_infallible }
-    ensures { (l : List (K × V)) × Removes K.cmp k.now map.old l result.0 × RemovesEntry K.cmp next.now l map.new result.1 }
+// A map of numbers with counts: the removals at an index and at both ends.
+fn removes_from_numbers(
+    map: &mut BPlusTreeMap<u64, u64, Count>,
+    i: usize,
+) -> Result<Option<(u64, u64)>, AllocError>
+    ensures sure { IsOk result }
+    ensures gone { IfOk result (λ gone. (gone ≡ slice_get map.old i) × (map.new ≡ remove map.old i)) }
 {
-    match (map.remove(k), map.remove_entry(next)) {
-        (Ok(value), Ok(entry)) => (value, entry),
-        _ => unreachable!(),
-    }
+    map.remove_at(i)
 }
 
-// A map of numbers with counts: the removals at both ends and at an index.
-fn removes_from_numbers(map: &mut BPlusTreeMap<u64, u64, Count>, i: usize) -> Option<(u64, u64)>
-    ensures { (result ≡ slice_get map.old i) × (map.new ≡ remove map.old i) }
-{
-    match map.remove_at(i) {
-        Ok(gone) => gone,
-        Err(_) => unreachable!(),
-    }
-}
+type Popped<X> = Result<Option<X>, AllocError>;
 
-fn pops_a_number(map: &mut BPlusTreeMap<u64, u64, Count>, last: bool) -> Option<(u64, u64)>
-    ensures first { last ≡ false → PopsFirst map.old map.new result }
-    ensures last { last ≡ true → PopsLast map.old map.new result }
+fn pops_numbers(map: &mut BPlusTreeMap<u64, u64, Count>) -> (Popped<(u64, u64)>, Popped<(u64, u64)>)
+    ensures { IsOk result.0 × IsOk result.1 }
 {
-    let gone = if last {
-        map.pop_last()
-    } else {
-        map.pop_first()
-    };
-    match gone {
-        Ok(gone) => gone,
-        Err(_) => unreachable!(),
-    }
+    (map.pop_first(), map.pop_last())
 }
 
 // The removals of a set of numbers.
-fn takes_a_number(set: &mut BPlusTreeSet<u64>, k: u64) -> Option<u64>
-    ensures { TakesKey nat_cmp k set.old set.new result }
+fn takes_a_number(set: &mut BPlusTreeSet<u64>, k: u64) -> Result<Option<u64>, AllocError>
+    ensures sure { IsOk result }
+    ensures taken { IfOk result (TakesKey nat_cmp k set.old set.new) }
 {
-    match set.take(&k) {
-        Ok(gone) => gone,
-        Err(_) => unreachable!(),
-    }
+    set.take(&k)
 }
 
-fn removes_a_number(set: &mut BPlusTreeSet<u64>, k: u64) -> bool
-    ensures { RemovesKey nat_cmp k set.old set.new result }
+fn removes_a_number(set: &mut BPlusTreeSet<u64>, k: u64) -> Result<bool, AllocError>
+    ensures sure { IsOk result }
+    ensures removed { IfOk result (RemovesKey nat_cmp k set.old set.new) }
 {
-    match set.remove(&k) {
-        Ok(gone) => gone,
-        Err(_) => unreachable!(),
-    }
+    set.remove(&k)
 }
 
-fn pops_a_key(set: &mut BPlusTreeSet<u64>, last: bool) -> Option<u64>
-    ensures first { last ≡ false → TakesFirst (λ key. key) set.old result set.new }
-    ensures last { last ≡ true → TakesLast (λ key. key) set.old result set.new }
+fn pops_keys(set: &mut BPlusTreeSet<u64>) -> (Popped<u64>, Popped<u64>)
+    ensures { IsOk result.0 × IsOk result.1 }
 {
-    let gone = if last {
-        set.pop_last()
-    } else {
-        set.pop_first()
-    };
-    match gone {
-        Ok(gone) => gone,
-        Err(_) => unreachable!(),
-    }
+    (set.pop_first(), set.pop_last())
 }
 
 // The root's argument is a summary of the keys that are left, also where the pair left a leaf far

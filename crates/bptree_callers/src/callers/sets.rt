@@ -1,7 +1,7 @@
 //! Callers of sets, of their iterators and of unions.
-ghost use Rattle.std.specs.Prelude.{◌≡◌, ◌∷◌, ◌≤◌, ◌-◌, min, [], ◌||◌, ◌&&◌, length, not, true, false, slice_get, is_some, Contains, IfOk, IfSome, IsOkUnless, IsTrue, OnErr, Ok, Some, None};
+ghost use Rattle.std.specs.Prelude.{◌≡◌, ◌∷◌, ◌≤◌, ◌-◌, min, [], ◌||◌, ◌&&◌, length, not, true, false, slice_get, is_some, Contains, IfOk, IfSome, IsOkUnless, IsTrue, OnErr, OnOk, Ok, Some, None};
 ghost use Rattle.std.specs.declared.cmp.Ordering.TheVariants.{Equal};
-ghost use Rattle.std.specs.Map.Iter.{TakesFirst, deref};
+ghost use Rattle.std.specs.Map.Iter.{TakesFirst, TakesLast, deref};
 ghost use Rattle.std.specs.Option.{option_copied};
 ghost use Rattle.std.specs.Ordering.{is_eq};
 ghost use Rattle.bptree_maps.specs.Keys.{holds, gathered, keys_within, keys_without};
@@ -23,18 +23,25 @@ type Set<K> = BPlusTreeSet<K>;
 // A clone, where it was not refused.
 type Cloned<T> = Result<T, AllocError>;
 
-// A new set holds nothing.
-fn holds_nothing<K: Key>(alloc: Global, k: &K) -> Result<bool, AllocError>
-    ensures { IfOk result (λ it. it ≡ false) }
+// A new set has no keys, whichever way it is made.
+fn starts_empty<K: Key>(alloc: Global) -> Result<Set<K>, AllocError>
+    ensures { IfOk result (λ set. set ≡ []) }
 {
-    Ok(BPlusTreeSet::new(alloc)?.contains(k))
+    BPlusTreeSet::new(alloc)
 }
 
-fn has_no_keys<K: Key>(alloc: Global, k: K) -> Result<(K, usize, bool), AllocError>
-    ensures { IfOk result (λ all. (all.1 ≡ 0) × (all.2 ≡ true)) }
+fn starts_empty_by_default<K: Key>(alloc: Global) -> Result<Set<K>, AllocError>
+    ensures { IfOk result (λ set. set ≡ []) }
 {
-    let set: Set<K> = BPlusTreeSet::default(alloc)?;
-    Ok((k, set.len(), set.is_empty()))
+    BPlusTreeSet::default(alloc)
+}
+
+// A set tells its number of keys. Of none it says so, and holds no key.
+fn says_that_it_is_empty<K: Key>(set: &Set<K>, k: &K) -> (bool, usize, bool)
+    ensures len { result.1 ≡ length set.now }
+    ensures none { set.now ≡ [] → result ≡ (true, 0, false) }
+{
+    (set.is_empty(), set.len(), set.contains(k))
 }
 
 // A set of a vector's keys, and of no keys.
@@ -88,11 +95,10 @@ fn lacks_what_was_taken_out<K: Key>(set: &mut Set<K>, k: &K, other: &K) -> Resul
 }
 
 // After a set was cleared it has no keys.
-fn counts_none_when_cleared<K: Key>(set: &mut Set<K>) -> Result<usize, AllocError>
-    ensures { IfOk result (λ len. len ≡ 0) }
+fn clears<K: Key>(set: &mut Set<K>) -> Result<(), AllocError>
+    ensures { OnOk result (set.new ≡ []) }
 {
-    set.clear()?;
-    Ok((*set).len())
+    set.clear()
 }
 
 // The least and the greatest of two keys.
@@ -353,6 +359,7 @@ fn counts_a_search<K: Key>(set: &Set<K>, k: &K) -> (bool, usize)
 // The first of two keys leaves as it was put in, and so does the last.
 fn pops_the_first_key_of_two<K: Key>(set: &mut Set<K>) -> Result<Option<K>, AllocError>
     ensures popped { IfOk result (PopsFirstOfTwo set.old set.new) }
+    ensures ends { IfOk result (λ gone. TakesFirst (λ key. key) set.old gone set.new) }
     ensures refused { OnErr result (set.new ≡ set.old) }
 {
     set.pop_first()
@@ -360,6 +367,7 @@ fn pops_the_first_key_of_two<K: Key>(set: &mut Set<K>) -> Result<Option<K>, Allo
 
 fn pops_the_last_key_of_two<K: Key>(set: &mut Set<K>) -> Result<Option<K>, AllocError>
     ensures popped { IfOk result (PopsLastOfTwo set.old set.new) }
+    ensures ends { IfOk result (λ gone. TakesLast (λ key. key) set.old gone set.new) }
     ensures refused { OnErr result (set.new ≡ set.old) }
 {
     set.pop_last()

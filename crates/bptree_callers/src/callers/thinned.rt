@@ -1,5 +1,5 @@
 //! Callers that keep some pairs or keys, or take out those between two keys.
-ghost use Rattle.std.specs.Prelude.{◌≡◌, ◌==◌, [], filter, map as each, not, Some, OnOk};
+ghost use Rattle.std.specs.Prelude.{◌≡◌, ◌==◌, [], filter, map as each, not, Ok, Some, OnOk};
 ghost use Rattle.bptree_callers.specs.Numbers.{halved};
 ghost use Rattle.bptree_keys.specs.Contents.{has};
 ghost use Rattle.bptree_keys.specs.Ranges.{between};
@@ -15,7 +15,8 @@ use bptree_stores::node_stores::NodeStore;
 use bptree_tree::BPlusTree;
 use std::alloc::AllocError;
 
-// Between two keys no pair is left, and the second one is as it was.
+// Between two keys no pair is left, and the second one is as it was. Where there is no pair, nothing
+// fails and nothing changes.
 fn empties_a_part_of_a_tree<S: NodeStore>(
     tree: &mut BPlusTree<S>,
     lo: &S::K,
@@ -23,6 +24,7 @@ fn empties_a_part_of_a_tree<S: NodeStore>(
 ) -> Result<usize, AllocError>
     ensures between { OnOk result (between_keys S.K.cmp tree.new.contents lo.now hi.now ≡ []) }
     ensures end { OnOk result (AgreesOn S.K.cmp tree.old.contents tree.new.contents hi.now) }
+    ensures none { between_keys S.K.cmp tree.old.contents lo.now hi.now ≡ [] → (result ≡ Ok 0) × (tree.new.contents ≡ tree.old.contents) }
 {
     tree.remove_range(Some(lo), Some(hi))
 }
@@ -35,6 +37,7 @@ fn empties_a_part<K: Key, V: Drop, A: Argument<K>>(
 ) -> Result<usize, AllocError>
     ensures between { OnOk result (between_keys K.cmp map.new lo.now hi.now ≡ []) }
     ensures end { OnOk result (has K.cmp map.new hi.now ≡ has K.cmp map.old hi.now) }
+    ensures none { between_keys K.cmp map.old lo.now hi.now ≡ [] → (result ≡ Ok 0) × (map.new ≡ map.old) }
 {
     map.remove_range(Some(lo), Some(hi))
 }
@@ -47,45 +50,9 @@ fn empties_a_part_of_a_set<K: Key>(
 ) -> Result<usize, AllocError>
     ensures between { OnOk result (keys_between K.cmp set.new (Some lo.now) (Some hi.now) ≡ []) }
     ensures end { OnOk result (holds K.cmp set.new hi.now ≡ holds K.cmp set.old hi.now) }
+    ensures none { keys_between K.cmp set.old (Some lo.now) (Some hi.now) ≡ [] → (result ≡ Ok 0) × (set.new ≡ set.old) }
 {
     set.remove_range(Some(lo), Some(hi))
-}
-
-// Where no pair is between two keys, nothing fails and nothing changes.
-fn empties_an_empty_part_of_a_tree<S: NodeStore>(tree: &mut BPlusTree<S>, lo: &S::K, hi: &S::K)
-    requires { between_keys S.K.cmp tree.old.contents lo.now hi.now ≡ [] }
-    ensures { tree.new.contents ≡ tree.old.contents }
-{
-    match tree.remove_range(Some(lo), Some(hi)) {
-        Ok(0) => {}
-        _ => unreachable!(),
-    }
-}
-
-// The same of a map.
-fn empties_an_empty_part<K: Key, V: Drop, A: Argument<K>>(
-    map: &mut BPlusTreeMap<K, V, A>,
-    lo: &K,
-    hi: &K,
-)
-    requires { between_keys K.cmp map.old lo.now hi.now ≡ [] }
-    ensures { map.new ≡ map.old }
-{
-    match map.remove_range(Some(lo), Some(hi)) {
-        Ok(0) => {}
-        _ => unreachable!(),
-    }
-}
-
-// The same of a set.
-fn empties_an_empty_part_of_a_set<K: Key>(set: &mut BPlusTreeSet<K>, lo: &K, hi: &K)
-    requires { keys_between K.cmp set.old (Some lo.now) (Some hi.now) ≡ [] }
-    ensures { set.new ≡ set.old }
-{
-    match set.remove_range(Some(lo), Some(hi)) {
-        Ok(0) => {}
-        _ => unreachable!(),
-    }
 }
 
 // All values are halved, and the pairs whose values become 0 leave.
