@@ -1,1 +1,3 @@
+pub mod Replies
+pub mod Serving
 pub mod Sharded

@@ -1,20 +1,17 @@
 //! Callers of the library's functions, which know nothing of them but their contracts.
-ghost use Rattle.std.specs.Prelude.{◌≡◌, ◌<◌, ◌≤◌, ◌==◌, ◌-◌, ◌+◌, ◌^◌, ◌↔◌, ◌⊎◌, ℕ, List, [], ◌++◌, ◌∷◌, Option, length, codes, Some, None, IsNone, IsTrue, true, false, if◌then◌else◌, IsSome, IsErr, IsErrOf, IfOk, OnOk, OnErr, IfSome, MatchResult, slice_get, string_bytes, vec_len};
+ghost use Rattle.std.specs.Prelude.{◌≡◌, ◌<◌, ◌==◌, ◌-◌, ◌+◌, ◌^◌, ◌↔◌, ◌⊎◌, ℕ, List, [], ◌++◌, ◌∷◌, Option, length, codes, Some, None, IsNone, IsTrue, IsSome, IsErr, IsErrOf, IfOk, OnOk, OnErr, IfSome, MatchResult, slice_get, string_bytes, vec_len};
 ghost use Rattle.std.specs.Io.KnownBytes.{Appends};
 ghost use Rattle.std.specs.List.{slice_split};
-ghost use Rattle.std.specs.Map.{keys_of};
 ghost use Rattle.std.specs.Ordering.{nat_cmp};
 ghost use Rattle.bptree_script.specs.Answers.{text};
+ghost use Rattle.sweep_bptree_callers.specs.Replies.{RepliesToInsert, RepliesToSet, RepliesToSetAt, ShowsEnds, ShowsPairAt, ShowsRank};
+ghost use Rattle.sweep_bptree_callers.specs.Serving.{StoppedByStream, neighbour_answers, neighbour_lines};
 ghost use Rattle.sweep_bptree.specs.Contents.{has, value, put};
 ghost use Rattle.bptree_keys.specs.Ranges.{between};
-ghost use Rattle.sweep_bptree.specs.CountLaws.{count_below};
 ghost use Rattle.bptree_script.specs.Lines.{ended_lines};
 ghost use Rattle.bptree_script.specs.Sent.{AppendsBeginning};
-ghost use Rattle.bptree_script.specs.Served.{StoppedBy};
 ghost use Rattle.bptree_script.specs.Steps.{Run, Step};
 ghost use Rattle.bptree_shape.specs.Shape.{pairs_at};
-ghost use Rattle.bptree_script.specs.declared.session.Stop.TheVariants.{Reader, Writer};
-ghost use Rattle.bptree_nodes.specs.Leaf.{set_value_at};
 ghost use Rattle.bptree_ascent.specs.Lending.{written};
 
 use std::alloc::{AllocError, Global};
@@ -108,9 +105,8 @@ pub fn neighbours_and_back<R: Read, W: Write>(
     reader: &mut R,
     writer: &mut W,
 ) -> Result<(), ServeError>
-    requires { R.remaining reader.old ≡ Some (codes "back\nnext 0\nput 7 70\nput 9 90\nnext 7\nnext 8\nnext 9\nprev 9\nprev 8\nprev 7\nback\nrange 7 9\nrange 8 18446744073709551615\nrange 9 9\nrange 7\npage 0 1\npage 1 1\npage 9223372036854775808 2\npage 0 0\n") }
-    ensures { OnOk result (Appends (W.contents writer.old) (W.contents writer.new)
-        (codes "empty\nnone\nnew\nnew\n9 90\n9 90\nnone\n7 70\n7 70\nnone\n9 90,7 70\n7 70\n9 90\nempty\nbad\n7 70\n9 90\nempty\nbad\n")) }
+    requires { R.remaining reader.old ≡ Some neighbour_lines }
+    ensures { OnOk result (Appends (W.contents writer.old) (W.contents writer.new) neighbour_answers) }
 {
     serve(alloc, reader, writer)
 }
@@ -136,8 +132,7 @@ pub fn gives_up_by_a_fault_alone<R: Read, W: Write>(
     requires short { IfSome (R.remaining reader.old) (λ input. length input < 2 ^ 64 - 1) }
     requires known { IsSome (R.remaining reader.old) }
     ensures { IsErrOf result ServeError.Io
-        → StoppedBy Reader (R.remaining reader.old) (R.remaining reader.new) (W.contents writer.old) (W.contents writer.new)
-        ⊎ StoppedBy Writer (R.remaining reader.old) (R.remaining reader.new) (W.contents writer.old) (W.contents writer.new) }
+        → StoppedByStream (R.remaining reader.old) (R.remaining reader.new) (W.contents writer.old) (W.contents writer.new) }
 {
     serve(alloc, reader, writer)
 }
@@ -247,9 +242,7 @@ pub fn reply_to_insert<S: NodeStore>(
 where
     S::V: Copy,
     S::Argument: SearchArgument<S::K> + RankArgument<S::K>,
-    ensures { IfOk result (λ reply. ((reply ≡ Reply.Value (value S.K.cmp tree.old.contents key)) × (tree.new.contents ≡ put S.K.cmp tree.old.contents key new))
-        ⊎ (((reply ≡ Reply.OutOfMemory) ⊎ ((reply ≡ Reply.Full) × (length tree.old.contents ≡ 2 ^ 64 - 1)))
-        × (has S.K.cmp tree.old.contents key ≡ false) × (tree.new.contents ≡ tree.old.contents))) }
+    ensures { IfOk result (RepliesToInsert S.K.cmp key new tree.old.contents tree.new.contents) }
 {
     reply_to(alloc, tree, Command::Insert(key, new))
 }
@@ -264,8 +257,7 @@ pub fn reply_to_set<S: NodeStore>(
 where
     S::V: Copy,
     S::Argument: SearchArgument<S::K> + RankArgument<S::K>,
-    ensures { IfOk result (λ reply. (reply ≡ Reply.Done (has S.K.cmp tree.old.contents key))
-        × (tree.new.contents ≡ (if has S.K.cmp tree.old.contents key then written S.K.cmp key tree.old.contents new else tree.old.contents))) }
+    ensures { IfOk result (RepliesToSet S.K.cmp key new tree.old.contents tree.new.contents) }
 {
     reply_to(alloc, tree, Command::Set(key, new))
 }
@@ -278,10 +270,7 @@ pub fn replies_to_ends(
     alloc: Global,
     tree: &mut NumberTree,
 ) -> Result<(Reply<u64, u64, usize>, Reply<u64, u64, usize>), AllocError>
-    ensures { IfOk result (λ replies.
-        ((replies.0 ≡ Reply.Pair (slice_get tree.old.contents 0)) ⊎ (replies.0 ≡ Reply.OutOfMemory))
-        × ((replies.1 ≡ Reply.Pair (slice_get tree.old.contents (length tree.old.contents - 1))) ⊎ (replies.1 ≡ Reply.OutOfMemory))
-        × (tree.new.contents ≡ tree.old.contents)) }
+    ensures { IfOk result (λ it. ShowsEnds tree.old.contents it × (tree.new.contents ≡ tree.old.contents)) }
 {
     let first = reply_to(alloc, tree, Command::First)?;
     let last = reply_to(alloc, tree, Command::Last)?;
@@ -294,8 +283,7 @@ pub fn reply_to_at(
     tree: &mut NumberTree,
     place: usize,
 ) -> Result<Reply<u64, u64, usize>, AllocError>
-    ensures { IfOk result (λ reply. ((reply ≡ Reply.Pair (slice_get tree.old.contents place)) ⊎ (reply ≡ Reply.OutOfMemory))
-        × (tree.new.contents ≡ tree.old.contents)) }
+    ensures { IfOk result (λ reply. ShowsPairAt place tree.old.contents reply × (tree.new.contents ≡ tree.old.contents)) }
 {
     reply_to(alloc, tree, Command::At(place))
 }
@@ -306,9 +294,7 @@ pub fn reply_to_rank(
     tree: &mut NumberTree,
     key: u64,
 ) -> Result<Reply<u64, u64, usize>, AllocError>
-    ensures { IfOk result (λ reply. (let smaller = count_below nat_cmp key (keys_of tree.old.contents) in
-        (reply ≡ Reply.Rank (if has nat_cmp tree.old.contents key then Ok smaller else Err smaller)) ⊎ (reply ≡ Reply.OutOfMemory))
-        × (tree.new.contents ≡ tree.old.contents)) }
+    ensures { IfOk result (λ reply. ShowsRank key tree.old.contents reply × (tree.new.contents ≡ tree.old.contents)) }
 {
     reply_to(alloc, tree, Command::Rank(key))
 }
@@ -320,10 +306,7 @@ pub fn reply_to_set_at(
     place: usize,
     new: u64,
 ) -> Result<Reply<u64, u64, usize>, AllocError>
-    ensures { IfOk result (λ reply.
-        ((reply ≡ Reply.Done true) × (place < length tree.old.contents) × (tree.new.contents ≡ set_value_at tree.old.contents place new))
-        ⊎ ((reply ≡ Reply.Done false) × (length tree.old.contents ≤ place) × (tree.new.contents ≡ tree.old.contents))
-        ⊎ ((reply ≡ Reply.OutOfMemory) × (tree.new.contents ≡ tree.old.contents))) }
+    ensures { IfOk result (RepliesToSetAt place new tree.old.contents tree.new.contents) }
 {
     reply_to(alloc, tree, Command::SetAt(place, new))
 }
