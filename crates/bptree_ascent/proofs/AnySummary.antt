@@ -54,7 +54,7 @@ module _ {K V A : Type 0} {cmp : K → K → Ordering} (total : IsTotalOrder cmp
     above : (top : A) → ((up : Climbs cmp is_summary now rest top) → Risen up.climb now top) → Risen c.climb now top
     above top rises =
         let with_there : Climbs cmp is_summary now path there = record { climb = c.climb; enough = c.enough; told = any there _ } in
-        risen_keeps total is_summary now now path there with_there rest number i child e there keep None tt top (inl (sums_any cmp is_summary any (now.inner number.0) node top here)) now top (λ up. rises up.climbs)
+        risen_keeps total is_summary now now path there with_there rest number i child e there keep there (any there _) top (inl (sums_any cmp is_summary any (now.inner number.0) node top here)) now top (λ up. rises up.climbs)
 
   by_length : (n : ℕ) (now : Slots (Inner K A) (Leaf K V)) (path : List (InnerNodeId × ℕ × NodeId)) (a : A) (c : Climbs cmp is_summary now path a) → length path ≤ n → Risen c.climb now a
   by_length n now [] a c short = risen_here total is_summary now [] a c refl

@@ -1,5 +1,5 @@
 -- An edit is carried from a node to the one above it.
-use Rattle.std.proofs.Common.{◌≡◌, ℕ, zero, suc, ◌<◌, Bool, true, false, ◌≤◌, ◌^◌, inl, inr, List, [], ◌∷◌, ◌++◌, length, map, refl, sym, ap, subst, ◌∙◌, arith, Option, Some, None, IfSome, slice_get}
+use Rattle.std.proofs.Common.{◌≡◌, ℕ, zero, suc, ◌<◌, Bool, true, false, ◌≤◌, ◌^◌, inl, inr, List, [], ◌∷◌, ◌++◌, length, map, refl, sym, ap, subst, ◌∙◌, arith, Option, Some, None, slice_get}
 use Rattle.std.specs.declared.cmp.Ordering.{Ordering}
 use Rattle.std.specs.Cmp.{IsTotalOrder}
 use Rattle.std.specs.List.{AllZip}
@@ -230,7 +230,7 @@ module _ {K V A : Type 0} {cmp : K → K → Ordering} (total : IsTotalOrder cmp
           zip_reads is_summary (λ d. keys_of (pairs_at slots h d)) node.arguments node.children j b below zip got read
 
       -- what is kept of the node, above it or of the whole tree, is a summary of the keys that it had
-      kept_of_node : (whole : Option A) → IfSome whole (λ w. is_summary w (keys_of (pairs_at c.climb.old c.climb.top c.climb.root))) → (kept : A) → IsKept after rest whole kept
+      kept_of_node : (whole : A) → is_summary whole (keys_of (pairs_at c.climb.old c.climb.top c.climb.root)) → (kept : A) → IsKept after rest whole kept
           → is_summary kept (keys_of (pairs_at c.climb.old (suc c.climb.height) (kind.Inner number)))
       kept_of_node whole had kept (inl k) =
           let d = c.climb in
@@ -242,10 +242,10 @@ module _ {K V A : Type 0} {cmp : K → K → Ordering} (total : IsTotalOrder cmp
           let d = c.climb in
           let way : (d.top ≡ suc d.height) × (d.root ≡ kind.Inner number) = subst (λ p. Way cmp d.old d.k d.top d.root p (suc d.height) (kind.Inner number)) given.0 (last now path Done d rest number i child e).way in
           subst (λ n. is_summary kept (keys_of (pairs_at d.old n (kind.Inner number)))) way.0
-          (subst (λ x. is_summary kept (keys_of (pairs_at d.old d.top x))) way.1 (subst (λ o. IfSome o (λ w. is_summary w (keys_of (pairs_at d.old d.top d.root)))) given.1 had))
+          (subst (λ x. is_summary kept (keys_of (pairs_at d.old d.top x))) way.1 (subst (λ w. is_summary w (keys_of (pairs_at d.old d.top d.root))) given.1 had))
 
       -- what the node answers, anew or by what was replaced, is a summary of its keys
-      pub told_changed : (whole : Option A) → IfSome whole (λ w. is_summary w (keys_of (pairs_at c.climb.old c.climb.top c.climb.root))) → (above : A) → SumsUpChanged after cmp is_summary rest whole number i old above
+      pub told_changed : (whole : A) → is_summary whole (keys_of (pairs_at c.climb.old c.climb.top c.climb.root)) → (above : A) → SumsUpChanged after cmp is_summary rest whole number i old above
           → is_summary above (keys_of (pairs_at after (suc c.climb.height) (kind.Inner number)))
       told_changed whole had above (inl sums) =
           let d = c.climb in
@@ -272,7 +272,7 @@ module _ {K V A : Type 0} {cmp : K → K → Ordering} (total : IsTotalOrder cmp
           (subst (λ l. length (d.edit l) < 2 ^ 64) flat_is (few_there now path Done d rest number i child e))
           (subst (λ b. SumsUpReplaced is_summary cmp told.kept old b above) (sym new_is) told.replaced))
 
-      module _ (whole : Option A) (had : IfSome whole (λ w. is_summary w (keys_of (pairs_at c.climb.old c.climb.top c.climb.root)))) (above : A) (sums : SumsUpChanged after cmp is_summary rest whole number i old above) where
+      module _ (whole : A) (had : is_summary whole (keys_of (pairs_at c.climb.old c.climb.top c.climb.root))) (above : A) (sums : SumsUpChanged after cmp is_summary rest whole number i old above) where
         abbrev pub climbs_keeps : ClimbsFrom cmp is_summary after rest whole above
         climbs_keeps =
             let up = climb_keeps in

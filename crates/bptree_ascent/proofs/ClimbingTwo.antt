@@ -97,8 +97,8 @@ module _ {K V A : Type 0} {cmp : K → K → Ordering} (total : IsTotalOrder cmp
     abbrev pub climbs_linked : (above : A) → SumsUpAt cmp is_summary (after.inner number.0) above → Climbs cmp is_summary after rest above
     climbs_linked above sums = record { climb = climb_linked; enough = least_most c.climb.top rest; told = told_linked above sums }
 
-    pub risen_linked : (above : A) (sums : SumsUpAt cmp is_summary (after.inner number.0) above) (new : Slots (Inner K A) (Leaf K V)) (top : A) → ((up : Climbs cmp is_summary after rest above) → Risen up.climb new top) → Risen c.climb new top
-    risen_linked above sums new top rises = let r = rises (climbs_linked above sums) in record { edits = r.edits; free = r.free; told = r.told }
+    pub risen_linked : (above : A) (sums : SumsUpAt cmp is_summary (after.inner number.0) above) (new : Slots (Inner K A) (Leaf K V)) (top : A) → Risen (climbs_linked above sums).climb new top → Risen c.climb new top
+    risen_linked above sums new top r = record { edits = r.edits; free = r.free; told = r.told }
 
     pub place_linked : PlaceAt (after.inner number.0) (i + 1)
     place_linked =
@@ -187,9 +187,9 @@ module _ {K V A : Type 0} {cmp : K → K → Ordering} (total : IsTotalOrder cmp
     climbs_split l r left_sums right_sums = record { climb = climb_split; enough = least_most c.climb.top rest; none_held = c.none_held; left = told_left l left_sums; right = told_right r right_sums }
 
     pub reaches_split : (l r : A) (left_sums : SumsUpAt cmp is_summary (after.inner number.0) l) (right_sums : SumsUpAt cmp is_summary (after.inner fresh.0) r) (new : Slots (Inner K A) (Leaf K V)) (top : Option InnerNodeId) (a : A)
-        → ((over : ClimbsTwo cmp is_summary after rest (record { left = l; separator = up; node = kind.Inner fresh; right = r })) → over.climb.root ≡ c.climb.root → Reaches over.climb new top a) → Reaches c.climb new top a
-    reaches_split l r left_sums right_sums new None a rises = let r' = rises (climbs_split l r left_sums right_sums) refl in record { edits = r'.edits; free = r'.free; told = r'.told }
-    reaches_split l r left_sums right_sums new (Some id) a rises = let r' = rises (climbs_split l r left_sums right_sums) refl in record { mid = r'.mid; division = r'.division; edits = r'.edits; left = r'.left; right = r'.right; roots = r'.roots; free = r'.free; told = r'.told }
+        → Reaches (climbs_split l r left_sums right_sums).climb new top a → Reaches c.climb new top a
+    reaches_split l r left_sums right_sums new None a r' = record { edits = r'.edits; free = r'.free; told = r'.told }
+    reaches_split l r left_sums right_sums new (Some id) a r' = record { mid = r'.mid; division = r'.division; edits = r'.edits; left = r'.left; right = r'.right; roots = r'.roots; free = r'.free; told = r'.told }
 
     pub sizes_split : HasKeysAt 32 (after.inner number.0) × HasKeysAt 32 (after.inner fresh.0) × (number.0 ≡ fresh.0 → ⊥)
     sizes_split = (rw split.at_left split.cut.left_size, rw split.at_right split.cut.right_size, λ same. let z : Present step.node ≡ Free = sym node_stands ∙ (ap now.inner same ∙ split.free) in cc)

@@ -1,5 +1,5 @@
 -- An edit below a node of a path, and what it becomes at the root.
-use Rattle.std.specs.Prelude.{◌≡◌, ℕ, suc, ◌<◌, ◌≤◌, ◌^◌, Bool, true, false, List, [], ◌∷◌, length, Option, Some, None, Result, IfOk, IfSome}
+use Rattle.std.specs.Prelude.{◌≡◌, ℕ, suc, ◌<◌, ◌≤◌, ◌^◌, Bool, true, false, List, [], ◌∷◌, length, Option, Some, None, Result, IfOk}
 use Rattle.std.specs.declared.cmp.Ordering.{Ordering}
 use Rattle.std.specs.Map.{keys_of}
 use Rattle.bptree_keys.specs.Contents.{IsAscending}
@@ -78,10 +78,10 @@ pub record Climbs {K V A : Type 0} (cmp : K → K → Ordering) (is_summary : A 
   pub enough : least_at climb.top path ≤ climb.kept
   pub told : is_summary a (keys_of (pairs_at now climb.height climb.id))
 
--- and with a summary of the keys that the whole tree had, where one is given
-pub record ClimbsFrom {K V A : Type 0} (cmp : K → K → Ordering) (is_summary : A → List K → Type 0) (now : Slots (Inner K A) (Leaf K V)) (path : List (InnerNodeId × ℕ × NodeId)) (whole : Option A) (a : A) : Type 0 where
+-- and with a summary of the keys that the whole tree had
+pub record ClimbsFrom {K V A : Type 0} (cmp : K → K → Ordering) (is_summary : A → List K → Type 0) (now : Slots (Inner K A) (Leaf K V)) (path : List (InnerNodeId × ℕ × NodeId)) (whole a : A) : Type 0 where
   pub climbs : Climbs cmp is_summary now path a
-  pub had : IfSome whole (λ w. is_summary w (keys_of (pairs_at climbs.climb.old climbs.climb.top climbs.climb.root)))
+  pub had : is_summary whole (keys_of (pairs_at climbs.climb.old climbs.climb.top climbs.climb.root))
 
 pub record ClimbsTwo {K V A : Type 0} (cmp : K → K → Ordering) (is_summary : A → List K → Type 0) (now : Slots (Inner K A) (Leaf K V)) (path : List (InnerNodeId × ℕ × NodeId)) (division : Division K A) : Type 0 where
   pub climb : Climb cmp is_summary now path (Split division.separator division.node)
@@ -89,6 +89,11 @@ pub record ClimbsTwo {K V A : Type 0} (cmp : K → K → Ordering) (is_summary :
   pub none_held : (n : ℕ) → (climb.held_inner n ≡ false) × (climb.held_leaf n ≡ false)
   pub left : is_summary division.left (keys_of (pairs_at now climb.height climb.id))
   pub right : is_summary division.right (keys_of (pairs_at now climb.height division.node))
+
+-- the same with a summary of the keys that the whole tree had
+abbrev pub ClimbsTwoFrom : {K V A : Type 0} → (K → K → Ordering) → (A → List K → Type 0) → Slots (Inner K A) (Leaf K V) → List (InnerNodeId × ℕ × NodeId) → A → Division K A → Type 0
+ClimbsTwoFrom cmp is_summary now path whole division =
+    (c : ClimbsTwo cmp is_summary now path division) × is_summary whole (keys_of (pairs_at c.climb.old c.climb.top c.climb.root))
 
 module _ {K V A : Type 0} {cmp : K → K → Ordering} {is_summary : A → List K → Type 0} {now : Slots (Inner K A) (Leaf K V)} {path : List (InnerNodeId × ℕ × NodeId)} {outcome : Outcome K}
     (c : Climb cmp is_summary now path outcome) (new : Slots (Inner K A) (Leaf K V)) where
@@ -117,7 +122,12 @@ module _ {K V A : Type 0} {cmp : K → K → Ordering} {is_summary : A → List 
   abbrev pub ReachesTop : {E : Type 0} → Result (Option InnerNodeId × A) E → Type 0
   ReachesTop result = IfOk result (λ top. Reaches top.0 top.1)
 
-module _ {K V A : Type 0} (cmp : K → K → Ordering) (is_summary : A → List K → Type 0) (old new : Slots (Inner K A) (Leaf K V)) (path : List (InnerNodeId × ℕ × NodeId)) (whole : Option A) (a : A) where
+module _ {K V A : Type 0} (cmp : K → K → Ordering) (is_summary : A → List K → Type 0) (old new : Slots (Inner K A) (Leaf K V)) (path : List (InnerNodeId × ℕ × NodeId)) (whole a : A) where
   -- the summary that was answered, where one was, is what each edit below the path reaches
   abbrev pub RisesFrom : {E : Type 0} → Result A E → Type 0
   RisesFrom result = (c : ClimbsFrom cmp is_summary old path whole a) → IfOk result (λ top. Risen c.climbs.climb new top)
+
+-- the new root and the summary that were returned, if they were, are what each division below the path reaches in the tree of a root
+abbrev pub ReachesTopFrom : {K V A E : Type 0} → (K → K → Ordering) → (A → List K → Type 0) → (old new : Slots (Inner K A) (Leaf K V)) → List (InnerNodeId × ℕ × NodeId) → A → NodeId → Division K A → Result (Option InnerNodeId × A) E → Type 0
+ReachesTopFrom cmp is_summary old new path whole root division result =
+    (c : ClimbsTwoFrom cmp is_summary old path whole division) → c.0.climb.root ≡ root → ReachesTop c.0.climb new result

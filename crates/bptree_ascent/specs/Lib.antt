@@ -1,5 +1,6 @@
 pub mod Change
 pub mod Climb
+pub mod Failing
 pub mod LeafChange
 pub mod Lending
 pub mod Sums

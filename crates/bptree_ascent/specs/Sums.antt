@@ -1,5 +1,5 @@
 -- Summaries of the keys below a node, and the changes of a node that takes new ones.
-use Rattle.std.specs.Prelude.{◌≡◌, ℕ, ◌+◌, ◌<◌, ◌≤◌, ◌++◌, ◌∷◌, ◌⊎◌, [], List, Option, Some, Result, IfOk, length, slice_get, slice_set}
+use Rattle.std.specs.Prelude.{◌≡◌, ℕ, ◌+◌, ◌<◌, ◌≤◌, ◌++◌, ◌∷◌, ◌⊎◌, [], List, Some, Result, IfOk, length, slice_get, slice_set}
 use Rattle.std.specs.declared.cmp.Ordering.{Ordering}
 use Rattle.std.specs.List.{AllZip}
 use Rattle.bptree_nodes.specs.Inner.{Inner, HasKeys, with_entry}
@@ -98,12 +98,12 @@ module _ {K V A : Type 0} (slots : Slots (Inner K A) (Leaf K V)) where
     pub last : path ≡ rest ++ (id, i, child) ∷ []
     pub kept : slice_get (inner_arguments (slots.inner id.0)) i ≡ Some a
 
-  -- the same, or, where the path is empty, the summary of the whole tree that is given
-  abbrev pub IsKept : List (InnerNodeId × ℕ × NodeId) → Option A → A → Type 0
-  IsKept path whole a = IsKeptAbove path a ⊎ ((path ≡ []) × (whole ≡ Some a))
+  -- the same, or the summary of the whole tree, if the path is empty
+  abbrev pub IsKept : List (InnerNodeId × ℕ × NodeId) → A → A → Type 0
+  IsKept path whole a = IsKeptAbove path a ⊎ ((path ≡ []) × (whole ≡ a))
 
   -- the node's summary tells it, with the old and the new one of a child
-  pub record ReplacesSum (cmp : K → K → Ordering) (is_summary : A → List K → Type 0) (path : List (InnerNodeId × ℕ × NodeId)) (whole : Option A) (id : InnerNodeId) (place : ℕ) (old a : A) : Type 0 where
+  pub record ReplacesSum (cmp : K → K → Ordering) (is_summary : A → List K → Type 0) (path : List (InnerNodeId × ℕ × NodeId)) (whole : A) (id : InnerNodeId) (place : ℕ) (old a : A) : Type 0 where
     pub kept : A
     pub new : A
     pub above : IsKept path whole kept
@@ -111,7 +111,7 @@ module _ {K V A : Type 0} (slots : Slots (Inner K A) (Leaf K V)) where
     pub replaced : SumsUpReplaced is_summary cmp kept old new a
 
   -- a node's summary after one child's was replaced: asked for anew, or told by what was replaced
-  abbrev pub SumsUpChanged : (K → K → Ordering) → (A → List K → Type 0) → List (InnerNodeId × ℕ × NodeId) → Option A → InnerNodeId → ℕ → A → A → Type 0
+  abbrev pub SumsUpChanged : (K → K → Ordering) → (A → List K → Type 0) → List (InnerNodeId × ℕ × NodeId) → A → InnerNodeId → ℕ → A → A → Type 0
   SumsUpChanged cmp is_summary path whole id place old a = SumsUpAt cmp is_summary (slots.inner id.0) a ⊎ ReplacesSum cmp is_summary path whole id place old a
 
 module _ {K V A : Type 0} (old new : Slots (Inner K A) (Leaf K V)) (id : InnerNodeId) (place : ℕ) (division : Division K A) where

@@ -1,14 +1,12 @@
 //! A changed child's summary, or the node that it was split into, carried up a path to the root.
 //! What can't be had on the way is refused, and then every node of the path is again what it was.
-ghost use Rattle.std.specs.Prelude.{◌≡◌, ◌+◌, ◌<◌, ◌≤◌, List, ◌∷◌, [], length, IfOk, IfErr, IfSome, IsOk, OnErr};
-ghost use Rattle.std.specs.Option.{option_copied};
-ghost use Rattle.bptree_nodes.specs.Inner.{HasKeys};
+ghost use Rattle.std.specs.Prelude.{◌≡◌, ◌+◌, ◌<◌, ◌≤◌, length, IfOk, IfErr, IsOk, OnErr};
 ghost use Rattle.bptree_nodes.specs.Slot.{Free, IsPresent};
 ghost use Rattle.bptree_keys.specs.declared.node_id.NodeId.{NodeId};
 ghost use Rattle.bptree_keys.specs.declared.node_id.NodeId.TheVariants as kind;
-ghost use Rattle.bptree_ascent.specs.Change.{Links, Splits, GrowsRoot, TakesSummary};
-ghost use Rattle.bptree_ascent.specs.Climb.{Climbs, ClimbsFrom, ClimbsTwo, RisesFrom, Risen, ReachesTop};
-ghost use Rattle.bptree_ascent.specs.Sums.{SumsUp, PlaceAt, HasKeysAt, LinksChild, SplitsNode, SumsUpAbove, SumsUpLeft, SumsUpRight, SumsUpRoot};
+ghost use Rattle.bptree_ascent.specs.Change.{Links, GrowsRoot, TakesSummary};
+ghost use Rattle.bptree_ascent.specs.Climb.{ClimbsFrom, ClimbsTwoFrom, ReachesTopFrom, RisesFrom};
+ghost use Rattle.bptree_ascent.specs.Sums.{PlaceAt, HasKeysAt, LinksChild, SplitsNode, SumsUpAbove, SumsUpLeft, SumsUpRight, SumsUpRoot};
 ghost use Rattle.bptree_ascent.specs.Sums.{HasPlaceAbove, IsKept, SumsUpChanged};
 ghost use Rattle.bptree_shape.specs.Shape.{inner_keys, inner_arguments};
 ghost use Rattle.bptree_ascent.specs.Undoing.{UndoesLink, UndoesSplitInner};
@@ -39,29 +37,29 @@ fn set_at<S: NodeStore>(
     store.get_mut_inner(id).set_argument(place, summary)
 }
 
-// The summary that the last node of a path keeps of the child that the path goes on to. Where the
-// path is empty, it is that of the whole tree, if one is given.
+// The summary that the last node of a path keeps of the child that the path goes on to. If the path
+// is empty, it is that of the whole tree.
 fn kept_above<'a, S: NodeStore>(
     store: &'a S,
     path: &VisitStack,
-    whole: Option<&'a S::Argument>,
-) -> Option<&'a S::Argument>
+    whole: &'a S::Argument,
+) -> &'a S::Argument
     requires { HasPlaceAbove (S.slots store.now) path.now }
-    ensures { IfSome result (λ kept. IsKept (S.slots store.now) path.now (option_copied whole.entry) kept.now) }
+    ensures { IsKept (S.slots store.now) path.now whole.now result.now }
 {
     match path.last() {
-        Some((id, place, _)) => Some(&store.get_inner(id).arguments()[place]),
+        Some((id, place, _)) => &store.get_inner(id).arguments()[place],
         None => whole,
     }
 }
 
-// A node's summary after that of one child was replaced. It is told by the node's old one, which
-// the node above keeps or which is that of the whole tree, and the child's two, where these tell
-// it. Else it is asked for anew.
+// A node's summary after that of one child was replaced. It is computed from the node's old one,
+// which the node above keeps or which is that of the whole tree, and from the child's two, if the
+// argument can. Else it is computed from all children.
 fn sum_of_changed<S: NodeStore>(
     store: &S,
     path: &VisitStack,
-    whole: Option<&S::Argument>,
+    whole: &S::Argument,
     id: InnerNodeId,
     place: usize,
     old: &S::Argument,
@@ -69,29 +67,33 @@ fn sum_of_changed<S: NodeStore>(
     requires present { IsPresent ((S.slots store.now).inner id.0) }
     requires place { place < length (inner_arguments ((S.slots store.now).inner id.0)) }
     requires above { HasPlaceAbove (S.slots store.now) path.now }
-    ensures sums { IfOk result (SumsUpChanged (S.slots store.now) S.K.cmp S.Argument.is_summary path.now (option_copied whole.entry) id place old.now) }
+    ensures sums { IfOk result (SumsUpChanged (S.slots store.now) S.K.cmp S.Argument.is_summary path.now whole.now id place old.now) }
     ensures infallible { S.Argument.needs_no_memory → IsOk result }
 {
     let node = store.get_inner(id);
-    if let Some(kept) = kept_above(store, path, whole) {
-        if let Some(above) = S::Argument::from_replaced(kept, old, &node.arguments()[place]) {
-            return Ok(above);
-        }
+    let kept = kept_above(store, path, whole);
+    if let Some(above) = S::Argument::from_replaced(kept, old, &node.arguments()[place]) {
+        return Ok(above);
     }
     S::Argument::from_inner(node.keys(), node.arguments())
 }
 
-// The same as `ascend_below`, one node a call.
-fn climb<S: NodeStore>(
+/// Carries a node's new summary up the path above it, and returns that of the root.
+///
+/// Each node on the path takes the new summary of its child, and its own is computed from the
+/// change (`from_replaced`) if the argument can, and else from all its children. `whole` is the
+/// summary that the whole tree had before. If every value is a summary of every list, no node is
+/// changed. If a summary fails, the store is unchanged. It takes O(log n) steps, and allocates only
+/// what the summaries do.
+pub fn ascend<S: NodeStore>(
     store: &mut S,
     path: &mut VisitStack,
-    whole: Option<&S::Argument>,
+    whole: &S::Argument,
     summary: S::Argument,
-) -> Result<S::Argument, S::Argument>
-    requires { ClimbsFrom S.K.cmp S.Argument.is_summary (S.slots store.old) path.old (option_copied whole) summary }
-    ensures rises { RisesFrom S.K.cmp S.Argument.is_summary (S.slots store.old) (S.slots store.new) path.old (option_copied whole.entry) summary result }
+) -> Result<S::Argument, AllocError>
+    requires { ClimbsFrom S.K.cmp S.Argument.is_summary (S.slots store.old) path.old whole.now summary }
+    ensures rises { RisesFrom S.K.cmp S.Argument.is_summary (S.slots store.old) (S.slots store.new) path.old whole.now summary result }
     ensures refused { OnErr result (S.slots store.new ≡ S.slots store.old) }
-    ensures handed_back { IfErr result (λ back. back ≡ summary) }
     ensures infallible { S.Argument.needs_no_memory → IsOk result }
 {
     if S::Argument::is_zst() {
@@ -102,49 +104,16 @@ fn climb<S: NodeStore>(
     };
     let old = set_at(store, id, place, summary);
     let Ok(above) = sum_of_changed(store, path, whole, id, place, &old) else {
-        return Err(set_at(store, id, place, old));
+        set_at(store, id, place, old);
+        return Err(AllocError);
     };
-    match climb(store, path, whole, above) {
+    match ascend(store, path, whole, above) {
         Ok(top) => Ok(top),
-        Err(_) => Err(set_at(store, id, place, old)),
+        Err(refusal) => {
+            set_at(store, id, place, old);
+            Err(refusal)
+        }
     }
-}
-
-/// Carries a node's new summary up the path above it. It answers that of the root. Refused, it
-/// hands the summary back. A node's summary is told by what changed in one child where the argument
-/// can (`from_replaced`), and else asked for anew. Where every value is a summary of every list, no
-/// node is touched.
-pub fn ascend<S: NodeStore>(
-    store: &mut S,
-    path: &mut VisitStack,
-    summary: S::Argument,
-) -> Result<S::Argument, S::Argument>
-    requires { Climbs S.K.cmp S.Argument.is_summary (S.slots store.old) path.old summary }
-    ensures rises { (c : Climbs S.K.cmp S.Argument.is_summary (S.slots store.old) path.old summary) → IfOk result (λ top. Risen c.climb (S.slots store.new) top) }
-    ensures refused { OnErr result (S.slots store.new ≡ S.slots store.old) }
-    ensures handed_back { IfErr result (λ back. back ≡ summary) }
-    ensures infallible { S.Argument.needs_no_memory → IsOk result }
-{
-    ascend_below(store, path, None, summary)
-}
-
-/// Does what `ascend` does. If the caller gives the summary of the whole tree as it was before the
-/// change, the root's summary is made from it and the change as well.
-// The path and the summary have one lifetime: with one each, the borrow checker refuses a caller
-// that is generic in the store and gives none.
-pub fn ascend_below<'a, S: NodeStore>(
-    store: &mut S,
-    path: &'a mut VisitStack,
-    whole: Option<&'a S::Argument>,
-    summary: S::Argument,
-) -> Result<S::Argument, S::Argument>
-    requires { ClimbsFrom S.K.cmp S.Argument.is_summary (S.slots store.old) path.old (option_copied whole) summary }
-    ensures rises { RisesFrom S.K.cmp S.Argument.is_summary (S.slots store.old) (S.slots store.new) path.old (option_copied whole.entry) summary result }
-    ensures refused { OnErr result (S.slots store.new ≡ S.slots store.old) }
-    ensures handed_back { IfErr result (λ back. back ≡ summary) }
-    ensures infallible { S.Argument.needs_no_memory → IsOk result }
-{
-    climb(store, path, whole, summary)
 }
 
 // Puts the node to the right of a child that was split into its node, which has room.
@@ -283,17 +252,19 @@ fn grow_root<S: NodeStore>(
     }
 }
 
-/// Carries the node that a node was split into up the path above it. It answers the number of a new
-/// root, where the root was split too, and the root's summary. It takes memory for one node on each
-/// level that is split. Refused, it hands back what it was given.
+/// Links the node that a node was split into on the path above it. It returns the id of a new root,
+/// if the root was split too, and the root's summary. `whole` is the summary that the whole tree had
+/// before. It allocates one node on each level that is split. If it fails, it returns what it was
+/// given, and the store is unchanged.
 pub fn ascend_split<S: NodeStore>(
     store: &mut S,
     path: &mut VisitStack,
+    whole: &S::Argument,
     root: NodeId,
     division: Division<S::K, S::Argument>,
 ) -> Result<(Option<InnerNodeId>, S::Argument), Division<S::K, S::Argument>>
-    requires climbs { ClimbsTwo S.K.cmp S.Argument.is_summary (S.slots store.old) path.old division }
-    ensures rises { (c : ClimbsTwo S.K.cmp S.Argument.is_summary (S.slots store.old) path.old division) → c.climb.root ≡ root → ReachesTop c.climb (S.slots store.new) result }
+    requires climbs { ClimbsTwoFrom S.K.cmp S.Argument.is_summary (S.slots store.old) path.old whole.now division }
+    ensures rises { ReachesTopFrom S.K.cmp S.Argument.is_summary (S.slots store.old) (S.slots store.new) path.old whole.now root division result }
     ensures refused { OnErr result (S.slots store.new ≡ S.slots store.old) }
     ensures handed_back { IfErr result (λ back. back ≡ division) }
 {
@@ -303,7 +274,7 @@ pub fn ascend_split<S: NodeStore>(
     };
     if !store.get_inner(id).is_full() {
         let Resummed { above, old } = link_at(store, id, place, division)?;
-        return match ascend(store, path, above) {
+        return match ascend(store, path, whole, above) {
             Ok(top) => Ok((None, top)),
             Err(_) => Err(unlink_at(store, id, place, old)),
         };
@@ -321,7 +292,7 @@ pub fn ascend_split<S: NodeStore>(
         node: NodeId::Inner(fresh),
         right,
     };
-    match ascend_split(store, path, root, above) {
+    match ascend_split(store, path, whole, root, above) {
         Ok(top) => Ok(top),
         Err(above) => Err(undo_split_inner_at(store, id, place, above.separator, fresh, old)),
     }

@@ -263,3 +263,11 @@ module _ {K V A : Type 0} (cmp : K → K → Ordering) (is_summary : A → List 
   pub built : (trees before : List (Subtree K A)) → trees ≡ before ++ tree ∷ [] → length trees ≤ 1 → IsLayer cmp is_summary slots h trees pairs → IsBuilt cmp is_summary slots tree.root h tree.summary pairs
   built trees before is few layer =
       one_built (subst (λ l. IsLayer cmp is_summary slots h l pairs) (is ∙ ap (λ l. l ++ tree ∷ []) (alone before tree (omega (arith, few, ap length is)))) layer)
+
+-- a tree that was built has its own pairs, and a summary of their keys
+module _ {K V A : Type 0} {cmp : K → K → Ordering} {is_summary : A → List K → Type 0} (slots : Slots (Inner K A) (Leaf K V)) (root : NodeId) (h : ℕ) (summary : A) (pairs : List (K × V)) (all : IsBuilt cmp is_summary slots root h summary pairs) where
+  pub told_of_all : is_summary summary (keys_of (pairs_at slots h root))
+  told_of_all = subst (λ l. is_summary summary (keys_of l)) (sym all.contents) all.told
+
+  pub counted_all : (n : ℕ) → n ≡ length pairs → n ≡ length (pairs_at slots h root)
+  counted_all n is = is ∙ ap length (sym all.contents)

@@ -11,7 +11,6 @@ use Rattle.bptree_nodes.specs.Slot.{Slots, Held, IsPresent}
 use Rattle.bptree_shape.specs.Order.{flat, total, Within}
 use Rattle.bptree_shape.specs.Shape.{pairs_at, leaves_at, leaf_count, inner_count, stands, AreLinked, IsSummed, IsTree, IsWellShaped, root_least}
 use Rattle.bptree_ascent.specs.Change.{StartsAt}
-use Rattle.bptree_building.specs.declared.building.Built.{Built}
 use Rattle.bptree_building.specs.declared.subtree.Subtree.{Subtree}
 
 module _ {K A : Type 0} where
@@ -79,7 +78,3 @@ module _ {K V A : Type 0} (cmp : K → K → Ordering) (is_summary : A → List 
     pub shape : IsWellShaped cmp is_summary slots h root
     pub contents : pairs_at slots h root ≡ pairs
     pub told : is_summary summary (keys_of pairs)
-
-  -- that tree, as a call names it
-  abbrev pub Builds : List (K × V) → Built A → Type 0
-  Builds pairs built = IsBuilt built.root built.height built.summary pairs

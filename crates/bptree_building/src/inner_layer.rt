@@ -68,7 +68,7 @@ fn raise<S: NodeStore>(
 }
 
 /// The layer above one of at least two trees. It has less than half as many, rounded up.
-pub fn raise_layer<S: NodeStore>(
+pub(crate) fn raise_layer<S: NodeStore>(
     store: &mut S,
     layer: Vec<Subtree<S::K, S::Argument>>,
     height: usize,

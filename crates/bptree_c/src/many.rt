@@ -3,12 +3,14 @@ ghost use Rattle.std.specs.Prelude.{◌≡◌, ◌≤◌, ℕ, List, Some, None,
 ghost use Rattle.std.specs.Ordering.{nat_cmp};
 ghost use Rattle.bptree_c.specs.Ends.{up_to, back_from, turned};
 ghost use Rattle.bptree_c.specs.Pairs.{IsCopied, IsTaken};
+ghost use Rattle.bptree_keys.specs.Ends.{is_back};
 ghost use Rattle.bptree_keys.specs.Ranges.{between};
 ghost use Rattle.bptree_tree.specs.Pages.{page};
 
 use crate::handle::{Handle, Map};
 use crate::pair::Pair;
 use bptree_arguments::count::Count;
+use bptree_keys::end::End;
 use bptree_maps::map::Iter;
 use std::alloc::Global;
 use std::ops::Bound;
@@ -28,7 +30,7 @@ pub extern "C" fn bptree_range(
     ensures copied { IsCopied (between nat_cmp pairs (Some from) None) out.old out.new result }
 {
     let whole = map.take(alloc);
-    let count = copy(whole.pairs.range(Some(&from), None), false, out);
+    let count = copy(whole.pairs.range(Some(&from), None), End::Front, out);
     map.give(whole);
     count
 }
@@ -48,7 +50,7 @@ pub extern "C" fn bptree_range_back(
     ensures copied { IsCopied (back_from pairs from) out.old out.new result }
 {
     let whole = map.take(alloc);
-    let count = copy(pairs_up_to(&whole, from), true, out);
+    let count = copy(pairs_up_to(&whole, from), End::Back, out);
     map.give(whole);
     count
 }
@@ -71,7 +73,7 @@ pub extern "C" fn bptree_page(
         return 0;
     }
     let whole = map.take(alloc);
-    let count = copy(page_in(&whole, number, out.len()), false, out);
+    let count = copy(page_in(&whole, number, out.len()), End::Front, out);
     map.give(whole);
     count
 }
@@ -80,7 +82,7 @@ fn page_in(map: &Map, number: usize, size: usize) -> Iter<'_, u64, u64, Count>
     requires { 1 ≤ size }
     ensures { result ≡ page map.now number size }
 {
-    match bptree_maps::page::page(&map.pairs, number, size) {
+    match map.pairs.page(number, size) {
         Ok(pairs) => pairs,
         Err(_) => unreachable!(),
     }
@@ -93,13 +95,13 @@ fn pairs_up_to(map: &Map, key: u64) -> Iter<'_, u64, u64, Count>
         .range_bounds(Bound::Unbounded, Bound::Included(&key))
 }
 
-// Copies from the first pair on, or from the last pair back.
-fn copy(mut left: Iter<'_, u64, u64, Count>, is_back: bool, out: &mut [Pair]) -> usize
-    ensures { IsCopied (turned is_back left.entry) out.old out.new result }
+// Copies the pairs one after another from an end.
+fn copy(mut left: Iter<'_, u64, u64, Count>, end: End, out: &mut [Pair]) -> usize
+    ensures { IsCopied (turned (is_back end) left.entry) out.old out.new result }
 {
     let mut count = 0;
     while count < out.len() {
-        match take_pair(&mut left, is_back) {
+        match take_pair(&mut left, end) {
             Some(pair) => {
                 out[count] = pair;
                 count += 1;
@@ -110,14 +112,13 @@ fn copy(mut left: Iter<'_, u64, u64, Count>, is_back: bool, out: &mut [Pair]) ->
     count
 }
 
-// Takes the first pair, or the last.
-fn take_pair(left: &mut Iter<'_, u64, u64, Count>, is_back: bool) -> Option<Pair>
-    ensures { IsTaken (turned is_back left.old) result (turned is_back left.new) }
+// Takes the pair at an end.
+fn take_pair(left: &mut Iter<'_, u64, u64, Count>, end: End) -> Option<Pair>
+    ensures { IsTaken (turned (is_back end) left.old) result (turned (is_back end) left.new) }
 {
-    let taken = if is_back {
-        left.next_back()
-    } else {
-        left.next()
+    let taken = match end {
+        End::Front => left.next(),
+        End::Back => left.next_back(),
     };
     match taken {
         Some((key, value)) => Some(Pair {

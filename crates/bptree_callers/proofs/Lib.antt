@@ -1,3 +1,4 @@
+pub mod BothEnds
 pub mod CloneSizes
 pub mod EntryLemmas
 pub mod ExtendLemmas

@@ -29,10 +29,6 @@ use Rattle.bptree_tree.specs.declared.cursor.Cursor.{Cursor}
 -- ---- what a call answered
 
 module _ {X E : Type 0} where
-  -- unless it was refused, this was the answer
-  abbrev pub OkIs : Result X E → X → Type 0
-  OkIs result x = IfOk result (λ it. it ≡ x)
-
   -- if it found something, that is so
   abbrev pub IfFound : Result (Option X) E → (X → Type 0) → Type 0
   IfFound result P = IfOk result (λ found. IfSome found P)

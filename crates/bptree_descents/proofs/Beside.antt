@@ -1,5 +1,5 @@
 -- What stands beside the place of a key in a tree.
-use Rattle.std.proofs.Common.{◌≡◌, ℕ, zero, suc, ◌-◌, ◌<◌, ◌≤◌, Bool, true, false, List, [], ◌∷◌, ◌++◌, length, take, drop, refl, sym, ap, subst, ◌∙◌, arith, Option, Some, None, Result, Ok, Err, append_assoc, append-nil, length-append, slice_get, slice_index_or, IsSomeAnd, not, is_none}
+use Rattle.std.proofs.Common.{◌≡◌, ℕ, zero, suc, ◌-◌, ◌<◌, ◌≤◌, Bool, true, false, List, [], ◌∷◌, ◌++◌, length, take, drop, refl, sym, ap, subst, ◌∙◌, arith, Option, Some, None, Result, Ok, Err, append_assoc, append-nil, length-append, slice_get, slice_index_or, IsSomeAnd, not, is_none, get_or, ◌&&◌}
 use mathlib.Core.Bool.{true≢false}
 use Rattle.std.proofs.lemmas.List.{drop_all}
 use Rattle.std.specs.declared.cmp.Ordering.{Ordering}
@@ -13,11 +13,13 @@ use Rattle.std.proofs.Math.Bool.{or-true}
 use Rattle.std.proofs.lemmas.List.Elements.{filter-append}
 use Rattle.std.proofs.lemmas.Option.{get_or_from_slice_get, slice_get_within}
 use Rattle.std.specs.declared.cmp.Ordering.TheVariants.{Less, Greater}
-use Rattle.bptree_keys.specs.Contents.{IsAscending, pairs_below, pairs_above, next, previous, value}
+use Rattle.bptree_keys.specs.Contents.{IsAscending, has, last_member, pairs_below, pairs_above, next, previous, value}
 use Rattle.bptree_keys.specs.Locate.{child_place}
 use Rattle.bptree_keys.specs.Places.{AllAnswer, IsHit, IsPlaceOf}
+use Rattle.bptree_keys.specs.Ranges.{between}
 use Rattle.bptree_keys.specs.declared.node_id.LeafNodeId.{LeafNodeId}
 use Rattle.bptree_keys.specs.declared.node_id.NodeId.{NodeId}
+use Rattle.bptree_keys.specs.declared.node_id.Position.{Position}
 use Rattle.bptree_keys.specs.declared.node_id.NodeId.TheVariants as kind
 use Rattle.bptree_keys.proofs.Around.{pairs_below_around, pairs_above_around}
 use Rattle.bptree_keys.proofs.Found.{hit_at, gap_at}
@@ -27,15 +29,25 @@ use Rattle.bptree_nodes.specs.Inner.{Inner}
 use Rattle.bptree_nodes.specs.Leaf.{Leaf, leaf_in_range, leaf_keys, reaches_first, reaches_last}
 use Rattle.bptree_nodes.specs.LeafResults.{place_of, HasEqualAt}
 use Rattle.bptree_shape.proofs.Hinted.{present_stands}
-use Rattle.bptree_nodes.specs.Slot.{Slot, Slots, Present}
+use Rattle.bptree_nodes.specs.Slot.{Slot, Slots, Free, Held, Present, IsPresent}
 use Rattle.bptree_stores.specs.Hint.{HoldsKey}
 use Rattle.bptree_shape.specs.Leaves.{pairs_of, StandsIn, IsLeafFor}
-use Rattle.bptree_descents.specs.Neighbours.{beside, first_from, IsPlaceAt, leaf_pairs_of}
+use Rattle.bptree_descents.specs.Neighbours.{at_least, beside, first_from, in_leaf, IsPlaceAt, last_upto, leaf_pairs_of, leaf_told, slot_told}
 use Rattle.bptree_shape.specs.Shape.{leaf_pairs, leaf_prev, leaf_next, pairs_at, AreLinked, IsTree, IsWellShaped, root_least}
 use Rattle.bptree_shape.proofs.Ends.{alone, leaves_have, get_right}
 use Rattle.bptree_shape.proofs.Hinted.{first_or, last_or, hinted, linked_next, linked_prev}
-use Rattle.bptree_shape.proofs.Spot.{leaf_ascends, parts_of_read, value_in_leaf}
+use Rattle.bptree_shape.proofs.LeafFor.{absent_there}
+use Rattle.bptree_shape.proofs.Spot.{leaf_ascends, parts_of, value_in_leaf}
 use Rattle.bptree_shape.proofs.Walk.{tree_ascends}
+
+-- a key that answers so is not below another
+abbrev reaches : Ordering → Bool
+reaches o = not (is_lt o) && true
+
+drop_one : {X : Type 0} (l : List X) (i : ℕ) (d : X) → i < length l → drop i l ≡ get_or l i d ∷ drop (suc i) l
+drop_one [] i d within = absurd (omega arith)
+drop_one (x ∷ xs) zero d within = refl
+drop_one (x ∷ xs) (suc i) d within = let small : i < length xs = omega arith in drop_one xs i d small
 
 module _ {K V : Type 0} (cmp : K → K → Ordering) (total : IsTotalOrder cmp) (l : List (K × V)) (ascending : IsAscending cmp l) (k : K) where
   pairs_above_hit : (before : List (K × V)) (pair : K × V) (after : List (K × V)) → IsHit cmp l before pair after k → pairs_above cmp l k ≡ after
@@ -53,6 +65,16 @@ module _ {K V : Type 0} (cmp : K → K → Ordering) (total : IsTotalOrder cmp) 
   above_from : (place : Result ℕ ℕ) → IsPlaceOf cmp l k place → pairs_above cmp l k ≡ drop (child_place place) l
   above_from (Ok i) found = pairs_above_hit _ _ _ (hit_at cmp total l ascending k i (pair_found i found).0 found).1
   above_from (Err i) gap = pairs_above_gap cmp l _ _ k (gap_at cmp total l ascending k i gap.0 gap.1).1
+
+  -- and from it on what is not below k
+  least_from : (place : Result ℕ ℕ) → IsPlaceOf cmp l k place → between cmp l (Some k) None ≡ drop (place_of place) l
+  least_from (Ok i) found =
+      let (within, hit) = hit_at cmp total l ascending k i (pair_found i found).0 found in
+      ap (λ l. between cmp l (Some k) None) hit.parts
+      ∙ rw (filter-append, filter_none cmp k reaches Less (take i l) refl hit.smaller, hit.equal, filter_all cmp k reaches Greater (drop (suc i) l) refl hit.greater) (sym (drop_one l i (pair_found i found).0 within))
+  least_from (Err i) gap =
+      let parts = (gap_at cmp total l ascending k i gap.0 gap.1).1 in
+      ap (λ l. between cmp l (Some k) None) parts.parts ∙ rw (filter-append, filter_none cmp k reaches Less (take i l) refl parts.smaller, filter_all cmp k reaches Greater (drop i l) refl parts.greater) refl
 
   pub below_upto : (place : Result ℕ ℕ) → IsPlaceOf cmp l k place → pairs_below cmp l k ≡ take (place_of place) l
   below_upto (Ok i) found = pairs_below_hit cmp l _ _ _ k (hit_at cmp total l ascending k i (pair_found i found).0 found).1
@@ -95,20 +117,25 @@ module _ {K V A : Type 0} (slots : Slots (Inner K A) (Leaf K V)) where
   first_behind [] (y ∷ ys) all = get_left (leaf_pairs (slots.leaf y.0)) (pairs_of slots ys) all.0
   first_behind (x ∷ xs) (y ∷ ys) all = refl
 
-  -- the first pair from a place of a leaf on, where the leaf has one there, or else by the next leaf
-  pub first_here : (leaf : Leaf K V) (from : ℕ) (pair : K × V) → slice_get leaf.pairs from ≡ Some pair → Some pair ≡ first_from slots leaf from
-  first_here leaf from pair read = sym (read_on leaf.pairs from read)
-    where
-      read_on : (xs : List (K × V)) (n : ℕ) → slice_get xs n ≡ Some pair → slice_get (drop n xs ++ leaf_pairs_of slots leaf.next) 0 ≡ Some pair
-      read_on [] n read = cc
-      read_on (x ∷ xs) zero read = read
-      read_on (x ∷ xs) (suc n) read = read_on xs n read
+  module _ (leaf : Leaf K V) (at : Position) (here : slots.leaf at.leaf.0 ≡ Present leaf) where
+    -- what the leaf of a position holds
+    pub first_is : first_from slots at ≡ slice_get (drop at.slot leaf.pairs ++ leaf_pairs_of slots leaf.next) 0
+    first_is = ap (λ (s : Slot (Leaf K V)). slice_get (drop at.slot (leaf_pairs s) ++ leaf_pairs_of slots (leaf_next s)) 0) here
 
-  pub first_after : (leaf : Leaf K V) (from : ℕ) (link : Option LeafNodeId) (found : Option (K × V)) → (from < length leaf.pairs → false ≡ true) → link ≡ leaf.next → found ≡ slice_get (leaf_pairs_of slots link) 0 → found ≡ first_from slots leaf from
-  first_after leaf from link found none is read =
-      let never : from < length leaf.pairs → ⊥ = λ less. true≢false (sym (none less)) in
-      let past : length leaf.pairs ≤ from = omega (arith, never) in
-      read ∙ (ap (λ o. slice_get (leaf_pairs_of slots o) 0) is ∙ sym (ap (λ xs. slice_get (xs ++ leaf_pairs_of slots leaf.next) 0) (drop_all from leaf.pairs past)))
+    -- the first pair from a position on, where its leaf has one there, or else by the next leaf
+    pub first_here : (pair : K × V) → slice_get leaf.pairs at.slot ≡ Some pair → Some pair ≡ first_from slots at
+    first_here pair read = sym (first_is ∙ read_on leaf.pairs at.slot read)
+      where
+        read_on : (xs : List (K × V)) (n : ℕ) → slice_get xs n ≡ Some pair → slice_get (drop n xs ++ leaf_pairs_of slots leaf.next) 0 ≡ Some pair
+        read_on [] n read = cc
+        read_on (x ∷ xs) zero read = read
+        read_on (x ∷ xs) (suc n) read = read_on xs n read
+
+    pub first_after : (link : Option LeafNodeId) (found : Option (K × V)) → (at.slot < length leaf.pairs → false ≡ true) → link ≡ leaf.next → found ≡ slice_get (leaf_pairs_of slots link) 0 → found ≡ first_from slots at
+    first_after link found none is read =
+        let never : at.slot < length leaf.pairs → ⊥ = λ less. true≢false (sym (none less)) in
+        let past : length leaf.pairs ≤ at.slot = omega (arith, never) in
+        read ∙ (ap (λ o. slice_get (leaf_pairs_of slots o) 0) is ∙ (sym (ap (λ xs. slice_get (xs ++ leaf_pairs_of slots leaf.next) 0) (drop_all at.slot leaf.pairs past)) ∙ sym first_is))
 
   -- the last pair before a leaf is the last of the leaf before it
   last_among : (x : LeafNodeId) (xs : List LeafNodeId) (ys : List (K × V)) → AllByRecursion HasPair (x ∷ xs)
@@ -133,16 +160,21 @@ module _ {K V A : Type 0} (slots : Slots (Inner K A) (Leaf K V)) where
       let all = subst (AllByRecursion HasPair) in'.leaves (leaves_have cmp slots (root_least (suc h)) (suc h) (kind.Inner id) None None (omega arith) t) in
       (AllByRecursion-left HasPair in'.before (leaf ∷ in'.after) all, (AllByRecursion-right HasPair in'.before (leaf ∷ in'.after) all).1)
 
+-- what a search of a leaf found is found as positions
+pub in_positions : {K V A : Type 0} {cmp : K → K → Ordering} (slots : Slots (Inner K A) (Leaf K V)) (h : ℕ) (root : NodeId) (k : K) (id : LeafNodeId) (place : Result ℕ ℕ) (found : Result Position Position) → found ≡ in_leaf id place → IsPlaceAt cmp slots h root k id place → IsPlaceAt cmp slots h root k (leaf_told found) (slot_told found)
+in_positions slots h root k id (Ok i) found is at = rw is at
+in_positions slots h root k id (Err i) found is at = rw is at
+
 module _ {K V A : Type 0} {cmp : K → K → Ordering} (total : IsTotalOrder cmp) (is_summary : A → List K → Type 0) (slots : Slots (Inner K A) (Leaf K V)) (h : ℕ) (root : NodeId) (shape : IsWellShaped cmp is_summary slots h root) where
   ascends : (id : LeafNodeId) (leaf : Leaf K V) → StandsIn slots h root id → slots.leaf id.0 ≡ Present leaf → IsAscending cmp leaf.pairs
   ascends id leaf in' here = leaf_ascends total slots h root id leaf in' (tree_ascends total slots (root_least h) h root None None shape.tree) here
 
   -- a search in the leaf for a key finds the key's place
-  pub found_at : (k : K) (id : LeafNodeId) (leaf : Leaf K V) (place : Result ℕ ℕ) → IsLeafFor cmp slots h root k id → slots.leaf id.0 ≡ Present leaf → (IsAscending cmp leaf.pairs → IsPlaceOf cmp leaf.pairs k place) → length leaf.pairs ≤ 64 → IsPlaceAt cmp slots h root k id leaf place
-  found_at k id leaf place for' here found fits = record { for_key = for'; here = here; place_is = found (ascends id leaf for'.stands here); fits = fits }
+  pub found_at : (k : K) (id : LeafNodeId) (leaf : Leaf K V) (place : Result ℕ ℕ) → IsLeafFor cmp slots h root k id → slots.leaf id.0 ≡ Present leaf → (IsAscending cmp leaf.pairs → IsPlaceOf cmp leaf.pairs k place) → length leaf.pairs ≤ 64 → IsPlaceAt cmp slots h root k id place
+  found_at k id leaf place for' here found fits = record { for_key = for'; place_is = rw here (found (ascends id leaf for'.stands here)); fits = rw here fits }
 
   -- so does one in a present leaf whose range the key is in
-  pub hinted_at : (k : K) (id : LeafNodeId) (leaf : Leaf K V) (place : Result ℕ ℕ) (within : Bool) → slots.leaf id.0 ≡ Present leaf → within ≡ leaf_in_range cmp leaf k → within ≡ true → (IsAscending cmp leaf.pairs → IsPlaceOf cmp leaf.pairs k place) → length leaf.pairs ≤ 64 → IsPlaceAt cmp slots h root k id leaf place
+  pub hinted_at : (k : K) (id : LeafNodeId) (leaf : Leaf K V) (place : Result ℕ ℕ) (within : Bool) → slots.leaf id.0 ≡ Present leaf → within ≡ leaf_in_range cmp leaf k → within ≡ true → (IsAscending cmp leaf.pairs → IsPlaceOf cmp leaf.pairs k place) → length leaf.pairs ≤ 64 → IsPlaceAt cmp slots h root k id place
   hinted_at k id leaf place within here range true' found fits =
       let holds : HoldsKey cmp (slots.leaf id.0) k = subst (λ (s : Slot (Leaf K V)). HoldsKey cmp s k) (sym here) (sym range ∙ true') in
       found_at k id leaf place (hinted total is_summary slots h root shape k id holds) here found fits
@@ -175,72 +207,128 @@ module _ {K V A : Type 0} {cmp : K → K → Ordering} (total : IsTotalOrder cmp
       rw (first, last, or-true (is_none leaf.prev), or-true (is_none leaf.next)) refl
 
   -- so an equal key at a place of a present leaf tells the key's place
-  pub equal_at : (k : K) (id : LeafNodeId) (leaf : Leaf K V) (i : ℕ) → slots.leaf id.0 ≡ Present leaf → HasEqualAt cmp leaf.pairs k i → length leaf.pairs ≤ 64 → IsPlaceAt cmp slots h root k id leaf (Ok i)
+  pub equal_at : (k : K) (id : LeafNodeId) (leaf : Leaf K V) (i : ℕ) → slots.leaf id.0 ≡ Present leaf → HasEqualAt cmp leaf.pairs k i → length leaf.pairs ≤ 64 → IsPlaceAt cmp slots h root k id (Ok i)
   equal_at k id leaf i here equal fits =
       let sorted : IsAscending cmp leaf.pairs = ascends id leaf (present_stands total is_summary slots h root shape id leaf here) here in
       hinted_at k id leaf (Ok i) true here (sym (in_range_of k leaf leaf.pairs i refl sorted equal)) refl (λ up. equal) fits
 
-  module _ (k : K) (id : LeafNodeId) (leaf : Leaf K V) (place : Result ℕ ℕ) (at : IsPlaceAt cmp slots h root k id leaf place) where
+  module _ (k : K) (id : LeafNodeId) (place : Result ℕ ℕ) (at : IsPlaceAt cmp slots h root k id place) where
     abbrev in' : StandsIn slots h root id
     in' = at.for_key.stands
 
-    sorted : IsAscending cmp leaf.pairs
-    sorted = ascends id leaf in' at.here
+    abbrev here : List (K × V)
+    here = leaf_pairs (slots.leaf id.0)
+
+    -- the leaf of the place is present
+    pub present_there : IsPresent (slots.leaf id.0)
+    present_there = in'.present
+
+    -- its keys ascend
+    pub place_ascends : IsAscending cmp here
+    place_ascends = held (slots.leaf id.0) refl in'.present
+      where
+        held : (s : Slot (Leaf K V)) → slots.leaf id.0 ≡ s → IsPresent s → IsAscending cmp (leaf_pairs s)
+        held Free is there = absurd there
+        held Held is there = absurd there
+        held (Present leaf) is there = ascends id leaf in' is
 
     links : AreLinked slots None (in'.before ++ id ∷ in'.after) None
     links = subst (λ ids. AreLinked slots None ids None) in'.leaves shape.linked
 
-    next_is : leaf.next ≡ first_or None in'.after
-    next_is = sym (ap leaf_next at.here) ∙ linked_next slots None in'.before id in'.after None links
+    next_is : leaf_next (slots.leaf id.0) ≡ first_or None in'.after
+    next_is = linked_next slots None in'.before id in'.after None links
 
-    prev_is : leaf.prev ≡ last_or None in'.before
-    prev_is = sym (ap leaf_prev at.here) ∙ linked_prev slots None in'.before id in'.after None links
+    prev_is : leaf_prev (slots.leaf id.0) ≡ last_or None in'.before
+    prev_is = linked_prev slots None in'.before id in'.after None links
 
     -- the place lies within the leaf
-    within_leaf : place_of place ≤ length leaf.pairs
-    within_leaf = place_within cmp total leaf.pairs sorted k place at.place_is
+    within_leaf : place_of place ≤ length here
+    within_leaf = place_within cmp total here place_ascends k place at.place_is
 
     -- the pair behind the place of a key is the one with the least greater key
-    next_beside : slice_get (drop (child_place place) leaf.pairs ++ leaf_pairs_of slots leaf.next) 0 ≡ next cmp (pairs_at slots h root) k
+    next_beside : slice_get (drop (child_place place) here ++ leaf_pairs_of slots (leaf_next (slots.leaf id.0))) 0 ≡ next cmp (pairs_at slots h root) k
     next_beside =
-        let around : pairs_above cmp (pairs_at slots h root) k ≡ drop (child_place place) leaf.pairs ++ pairs_of slots in'.after =
-        ap (λ l. pairs_above cmp l k) (parts_of_read slots h root id in' leaf at.here)
-        ∙ (pairs_above_around cmp k (pairs_of slots in'.before) leaf.pairs (pairs_of slots in'.after) at.for_key.smaller at.for_key.greater
-        ∙ ap (λ l. l ++ pairs_of slots in'.after) (above_from cmp total leaf.pairs sorted k place at.place_is)) in
-        ap (λ o. slice_get (drop (child_place place) leaf.pairs ++ leaf_pairs_of slots o) 0) next_is
-        ∙ (first_behind slots (drop (child_place place) leaf.pairs) in'.after (others_have slots cmp h root id in' shape.tree).1
+        let around : pairs_above cmp (pairs_at slots h root) k ≡ drop (child_place place) here ++ pairs_of slots in'.after =
+        ap (λ l. pairs_above cmp l k) (parts_of slots h root id in')
+        ∙ (pairs_above_around cmp k (pairs_of slots in'.before) here (pairs_of slots in'.after) at.for_key.smaller at.for_key.greater
+        ∙ ap (λ l. l ++ pairs_of slots in'.after) (above_from cmp total here place_ascends k place at.place_is)) in
+        ap (λ o. slice_get (drop (child_place place) here ++ leaf_pairs_of slots o) 0) next_is
+        ∙ (first_behind slots (drop (child_place place) here) in'.after (others_have slots cmp h root id in' shape.tree).1
         ∙ ap (λ l. slice_get l 0) (sym around))
 
-    pub next_found : (n : ℕ) (found : Option (K × V)) → n ≡ beside place true → found ≡ slice_get (drop n leaf.pairs ++ leaf_pairs_of slots leaf.next) 0 → found ≡ next cmp (pairs_at slots h root) k
-    next_found n found is read = read ∙ (ap (λ m. slice_get (drop m leaf.pairs ++ leaf_pairs_of slots leaf.next) 0) (is ∙ behind_place place) ∙ next_beside)
+    pub next_found : (n : ℕ) (found : Option (K × V)) → n ≡ beside place true → found ≡ first_from slots (record { leaf = id; slot = n }) → found ≡ next cmp (pairs_at slots h root) k
+    next_found n found is read = read ∙ (ap (λ m. slice_get (drop m here ++ leaf_pairs_of slots (leaf_next (slots.leaf id.0))) 0) (is ∙ behind_place place) ∙ next_beside)
+
+    -- the pair at the place of a key is the one with the least key that is not below
+    least_beside : slice_get (drop (place_of place) here ++ leaf_pairs_of slots (leaf_next (slots.leaf id.0))) 0 ≡ at_least cmp (pairs_at slots h root) k
+    least_beside =
+        let before = pairs_of slots in'.before in
+        let after = pairs_of slots in'.after in
+        let around : between cmp (pairs_at slots h root) (Some k) None ≡ drop (place_of place) here ++ after =
+        ap (λ l. between cmp l (Some k) None) (parts_of slots h root id in')
+        ∙ rw (filter-append, filter_none cmp k reaches Less before refl at.for_key.smaller, filter-append, filter_all cmp k reaches Greater after refl at.for_key.greater) (ap (λ l. l ++ after) (least_from cmp total here place_ascends k place at.place_is)) in
+        ap (λ o. slice_get (drop (place_of place) here ++ leaf_pairs_of slots o) 0) next_is
+        ∙ (first_behind slots (drop (place_of place) here) in'.after (others_have slots cmp h root id in' shape.tree).1
+        ∙ ap (λ l. slice_get l 0) (sym around))
+
+    pub least_found : (n : ℕ) (found : Option (K × V)) → n ≡ beside place false → found ≡ first_from slots (record { leaf = id; slot = n }) → found ≡ at_least cmp (pairs_at slots h root) k
+    least_found n found is read = read ∙ (ap (λ m. slice_get (drop m here ++ leaf_pairs_of slots (leaf_next (slots.leaf id.0))) 0) (is ∙ before_place place) ∙ least_beside)
 
     -- the pair before the place of a key is the one with the greatest smaller key
-    previous_beside : slice_get (leaf_pairs_of slots leaf.prev ++ take (place_of place) leaf.pairs) (length (leaf_pairs_of slots leaf.prev ++ take (place_of place) leaf.pairs) - 1) ≡ previous cmp (pairs_at slots h root) k
+    previous_beside : last_member (leaf_pairs_of slots (leaf_prev (slots.leaf id.0)) ++ take (place_of place) here) ≡ previous cmp (pairs_at slots h root) k
     previous_beside =
-        let around : pairs_below cmp (pairs_at slots h root) k ≡ pairs_of slots in'.before ++ take (place_of place) leaf.pairs =
-        ap (λ l. pairs_below cmp l k) (parts_of_read slots h root id in' leaf at.here)
-        ∙ (pairs_below_around cmp k (pairs_of slots in'.before) leaf.pairs (pairs_of slots in'.after) at.for_key.smaller at.for_key.greater
-        ∙ ap (λ l. pairs_of slots in'.before ++ l) (below_upto cmp total leaf.pairs sorted k place at.place_is)) in
-        ap (λ o. slice_get (leaf_pairs_of slots o ++ take (place_of place) leaf.pairs) (length (leaf_pairs_of slots o ++ take (place_of place) leaf.pairs) - 1)) prev_is
-        ∙ (last_before slots in'.before (take (place_of place) leaf.pairs) (others_have slots cmp h root id in' shape.tree).0
+        let around : pairs_below cmp (pairs_at slots h root) k ≡ pairs_of slots in'.before ++ take (place_of place) here =
+        ap (λ l. pairs_below cmp l k) (parts_of slots h root id in')
+        ∙ (pairs_below_around cmp k (pairs_of slots in'.before) here (pairs_of slots in'.after) at.for_key.smaller at.for_key.greater
+        ∙ ap (λ l. pairs_of slots in'.before ++ l) (below_upto cmp total here place_ascends k place at.place_is)) in
+        ap (λ o. last_member (leaf_pairs_of slots o ++ take (place_of place) here)) prev_is
+        ∙ (last_before slots in'.before (take (place_of place) here) (others_have slots cmp h root id in' shape.tree).0
         ∙ ap (λ (l : List (K × V)). slice_get l (length l - 1)) (sym around))
 
-    pub previous_found : (n : ℕ) (found : Option (K × V)) → n ≡ beside place false → found ≡ slice_get (leaf_pairs_of slots leaf.prev ++ take n leaf.pairs) (length (leaf_pairs_of slots leaf.prev ++ take n leaf.pairs) - 1) → found ≡ previous cmp (pairs_at slots h root) k
+    pub previous_found : (n : ℕ) (found : Option (K × V)) → n ≡ beside place false → found ≡ last_upto slots (record { leaf = id; slot = n }) → found ≡ previous cmp (pairs_at slots h root) k
     previous_found n found is read =
-        read ∙ (ap (λ m. slice_get (leaf_pairs_of slots leaf.prev ++ take m leaf.pairs) (length (leaf_pairs_of slots leaf.prev ++ take m leaf.pairs) - 1)) (is ∙ before_place place) ∙ previous_beside)
+        read ∙ (ap (λ m. last_member (leaf_pairs_of slots (leaf_prev (slots.leaf id.0)) ++ take m here)) (is ∙ before_place place) ∙ previous_beside)
 
     pub slot_fits : place_of place ≤ 64
     slot_fits = omega (arith, within_leaf, at.fits)
 
-    pub slot_within_leaf : (n : ℕ) → n ≡ beside place false → n ≤ length leaf.pairs
+    pub slot_within_leaf : (n : ℕ) → n ≡ beside place false → n ≤ length here
     slot_within_leaf n is = omega (arith, is, before_place place, within_leaf)
 
-    whole : value cmp (pairs_at slots h root) k ≡ value cmp leaf.pairs k
-    whole = value_in_leaf total slots h root k id leaf at.for_key at.here
+    module _ (leaf : Leaf K V) (read : slots.leaf id.0 ≡ Present leaf) where
+      pairs_are : here ≡ leaf.pairs
+      pairs_are = ap leaf_pairs read
 
-    -- the value at the place is the key's
-    pub value_found : (i : ℕ) (pair : K × V) → place ≡ Ok i → slice_get leaf.pairs i ≡ Some pair → Some pair.1 ≡ value cmp (pairs_at slots h root) k
-    value_found i pair is read = sym (whole ∙ value_there cmp total leaf.pairs sorted k i pair (subst (IsPlaceOf cmp leaf.pairs k) is at.place_is) read)
+      whole : value cmp (pairs_at slots h root) k ≡ value cmp leaf.pairs k
+      whole = value_in_leaf total slots h root k id leaf at.for_key read
+
+      abbrev IsHere : Result ℕ ℕ → Type 0
+      IsHere r = IsPlaceOf cmp leaf.pairs k r
+
+      told : (r : Result ℕ ℕ) → place ≡ r → IsHere r
+      told r is = subst (λ l. IsPlaceOf cmp l k r) pairs_are (subst (IsPlaceOf cmp here k) is at.place_is)
+
+      -- the place is that of a pair
+      pub slot_there : (i : ℕ) → place ≡ Ok i → i < length leaf.pairs
+      slot_there i is = let pair = pair_found cmp total leaf.pairs (ascends id leaf in' read) k i (told (Ok i) is) in slice_get_within leaf.pairs i pair.0 pair.1
+
+      -- the value at the place is the key's
+      pub value_found : (i : ℕ) (pair : K × V) → place ≡ Ok i → slice_get leaf.pairs i ≡ Some pair → Some pair.1 ≡ value cmp (pairs_at slots h root) k
+      value_found i pair is at' = sym (whole ∙ value_there cmp total leaf.pairs (ascends id leaf in' read) k i pair (told (Ok i) is) at')
+
+    -- a key that was not found is not there
+    pub lacks_key : (i : ℕ) → place ≡ Err i → has cmp (pairs_at slots h root) k ≡ false
+    lacks_key i is = missing (slots.leaf id.0) refl in'.present
+      where
+        missing : (s : Slot (Leaf K V)) → slots.leaf id.0 ≡ s → IsPresent s → has cmp (pairs_at slots h root) k ≡ false
+        missing Free e there = absurd there
+        missing Held e there = absurd there
+        missing (Present leaf) e there = absent_there total is_summary slots h root k id leaf shape at.for_key e (told leaf e (Err i) is).0
 
     pub value_missing : (i : ℕ) → place ≡ Err i → None ≡ value cmp (pairs_at slots h root) k
-    value_missing i is = sym (whole ∙ value_absent cmp total leaf.pairs sorted k i (subst (IsPlaceOf cmp leaf.pairs k) is at.place_is))
+    value_missing i is = missing (slots.leaf id.0) refl in'.present
+      where
+        missing : (s : Slot (Leaf K V)) → slots.leaf id.0 ≡ s → IsPresent s → None ≡ value cmp (pairs_at slots h root) k
+        missing Free e there = absurd there
+        missing Held e there = absurd there
+        missing (Present leaf) e there = sym (whole leaf e ∙ value_absent cmp total leaf.pairs (ascends id leaf in' e) k i (told leaf e (Err i) is))

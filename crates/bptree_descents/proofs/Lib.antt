@@ -1,5 +1,6 @@
 pub mod Beside
 pub mod Child
+pub mod Low
 pub mod Queried
 pub mod Selected
 pub mod Slots

@@ -16,6 +16,7 @@ use Rattle.bptree_keys.specs.Locate.{locate}
 use Rattle.bptree_keys.specs.declared.node_id.InnerNodeId.{InnerNodeId}
 use Rattle.bptree_keys.specs.declared.node_id.LeafNodeId.{LeafNodeId}
 use Rattle.bptree_keys.specs.declared.node_id.NodeId.{NodeId}
+use Rattle.bptree_keys.specs.declared.node_id.Position.{Position}
 use Rattle.bptree_keys.specs.declared.node_id.NodeId.TheVariants as kind
 use Rattle.bptree_nodes.specs.Inner.{Inner, LeadsToChild}
 use Rattle.bptree_nodes.specs.Leaf.{Leaf}
@@ -49,7 +50,7 @@ module _ {K V A : Type 0} {cmp : K → K → Ordering} (total : IsTotalOrder cmp
       query_child h s is e are law some child read = record { at = node_at total is_summary slots h top id node s is e; within = query_within h s is e are law some; child_is = read }
 
       pub found_below : {E : Type 0} (h : ℕ) → IsSubtree cmp is_summary slots h top → top ≡ kind.Inner id → slots.inner id.0 ≡ Present node → arguments ≡ node.arguments → LeadsOver is_summary cmp arguments selects query answer → answer ≡ Some (i, next) → (child : NodeId) → slice_get node.children i ≡ Some child
-          → (found : Result (Option (LeafNodeId × ℕ)) E) → IfOk found (IsSelectedAt selects next slots (h - 1) child) → IfOk found (IsSelectedAt selects query slots h top)
+          → (found : Result (Option Position) E) → IfOk found (IsSelectedAt selects next slots (h - 1) child) → IfOk found (IsSelectedAt selects query slots h top)
       found_below h s is e are law some child read found selected = rw is (at_height h (rw is at s) selected)
         where
           at_height : (h : ℕ) → IsSubtree cmp is_summary slots h (kind.Inner id) → IfOk found (IsSelectedAt selects next slots (h - 1) child) → IfOk found (IsSelectedAt selects query slots h (kind.Inner id))
@@ -67,10 +68,10 @@ module _ {K V A : Type 0} {cmp : K → K → Ordering} (total : IsTotalOrder cmp
         rw (is, leaf_whole total is_summary slots h id node s' e) (rw are at found)
 
     pub leaf_some : (h : ℕ) → IsSubtree cmp is_summary slots h top → top ≡ kind.Leaf id → slots.leaf id.0 ≡ Present node → keys ≡ keys_of node.pairs → (IsStrictlySortedBy cmp keys → IsPlaceIn keys answer) → (IsStrictlySortedBy cmp keys → selects query keys answer) → (slot : ℕ) → answer ≡ Some slot
-        → IsSelectedAt selects query slots h top (Some (id, slot))
+        → IsSelectedAt selects query slots h top (Some (record { leaf = id; slot = slot }))
     leaf_some h s is e are short law slot some = rw is (at_height h (rw is at s))
       where
-        at_height : (h : ℕ) → IsSubtree cmp is_summary slots h (kind.Leaf id) → IsSelectedAt selects query slots h (kind.Leaf id) (Some (id, slot))
+        at_height : (h : ℕ) → IsSubtree cmp is_summary slots h (kind.Leaf id) → IsSelectedAt selects query slots h (kind.Leaf id) (Some (record { leaf = id; slot = slot }))
         at_height (suc h) s = absurd s.stands.tree
         at_height zero s =
             let sorted : IsStrictlySortedBy cmp keys = rw are (leaf_sorted total is_summary slots zero id node s e) in

@@ -8,6 +8,7 @@ use Rattle.bptree_nodes.specs.Slot.{Slot, Slots, Present}
 use Rattle.bptree_keys.specs.declared.node_id.InnerNodeId.{InnerNodeId}
 use Rattle.bptree_keys.specs.declared.node_id.LeafNodeId.{LeafNodeId}
 use Rattle.bptree_keys.specs.declared.node_id.NodeId.{NodeId}
+use Rattle.bptree_keys.specs.declared.node_id.Position.{Position}
 use Rattle.bptree_keys.specs.declared.node_id.NodeId.TheVariants as kind
 use Rattle.bptree_descents.specs.ByArgument.{IsSubtree, IsSelectedAt, GoesOn}
 use Rattle.bptree_shape.specs.Leaves.{pairs_of, StandsIn}
@@ -59,22 +60,22 @@ module _ {K V A : Type 0} {cmp : K → K → Ordering} (total : IsTotalOrder cmp
 
   -- with the entry for the child, a search goes on from the node
   pub goes_on : {Q : Type 0} (selects : Q → List K → Option ℕ → Type 0) (next : Q) (h : ℕ) (id : InnerNodeId) (node : Inner K A) → IsSubtree cmp is_summary slots h (kind.Inner id) → slots.inner id.0 ≡ Present node → (i : ℕ) (child : NodeId) → slice_get node.children i ≡ Some child
-      → (path longer : List (InnerNodeId × ℕ × NodeId)) (found : Option (LeafNodeId × ℕ)) → IsSelectedAt selects next slots (h - 1) child found → GoesOn cmp slots (h - 1) child (path ++ (id, i, child) ∷ []) longer found → GoesOn cmp slots h (kind.Inner id) path longer found
+      → (path longer : List (InnerNodeId × ℕ × NodeId)) (found : Option Position) → IsSelectedAt selects next slots (h - 1) child found → GoesOn cmp slots (h - 1) child (path ++ (id, i, child) ∷ []) longer found → GoesOn cmp slots h (kind.Inner id) path longer found
   goes_on selects next h id node s e i child read path longer None selected on = tt
   goes_on selects next zero id node s e i child read path longer (Some at) selected on = absurd s.stands.tree
   goes_on selects next (suc h) id node s e i child read path longer (Some at) selected on =
       let down : suc h - 1 ≡ h = omega arith in
       let in' = (rw down at selected).0 in
       let below = rw down at on in
-      λ pair there top root way. below pair there top root (way_more cmp slots pair.0 path id i child top root h node way e (leads_to h id node s e i child read at.0 in' at.1 pair there) read)
+      λ pair there top root way. below pair there top root (way_more cmp slots pair.0 path id i child top root h node way e (leads_to h id node s e i child read at.leaf in' at.slot pair there) read)
 
   -- at a leaf it has come to its end
-  pub goes_here : (h : ℕ) (id : LeafNodeId) → IsSubtree cmp is_summary slots h (kind.Leaf id) → (slot : ℕ) (path : List (InnerNodeId × ℕ × NodeId)) → GoesOn cmp slots h (kind.Leaf id) path path (Some (id, slot))
+  pub goes_here : (h : ℕ) (id : LeafNodeId) → IsSubtree cmp is_summary slots h (kind.Leaf id) → (slot : ℕ) (path : List (InnerNodeId × ℕ × NodeId)) → GoesOn cmp slots h (kind.Leaf id) path path (Some (record { leaf = id; slot = slot }))
   goes_here zero id s slot path pair there top root way = way
   goes_here (suc h) id s slot path pair there top root way = absurd s.stands.tree
 
   -- what is selected in a leaf is in that leaf
-  pub ends_here : {Q E : Type 0} (selects : Q → List K → Option ℕ → Type 0) (query : Q) (h : ℕ) (top : NodeId) (id : LeafNodeId) → IsSubtree cmp is_summary slots h top → top ≡ kind.Leaf id → (found : Result (Option (LeafNodeId × ℕ)) E) → IfOk found (IsSelectedAt selects query slots h top) → (path : List (InnerNodeId × ℕ × NodeId))
+  pub ends_here : {Q E : Type 0} (selects : Q → List K → Option ℕ → Type 0) (query : Q) (h : ℕ) (top : NodeId) (id : LeafNodeId) → IsSubtree cmp is_summary slots h top → top ≡ kind.Leaf id → (found : Result (Option Position) E) → IfOk found (IsSelectedAt selects query slots h top) → (path : List (InnerNodeId × ℕ × NodeId))
       → IfOk found (GoesOn cmp slots h top path path)
   ends_here selects query h top id s is found selected path =
       rw is (IfOk-weaker found (IsSelectedAt selects query slots h (kind.Leaf id)) (GoesOn cmp slots h (kind.Leaf id) path path) (λ place. here h (rw is at s) place) (rw is at selected))
@@ -82,8 +83,8 @@ module _ {K V A : Type 0} {cmp : K → K → Ordering} (total : IsTotalOrder cmp
       only : (before : List LeafNodeId) (leaf : LeafNodeId) (after : List LeafNodeId) → id ∷ [] ≡ before ++ leaf ∷ after → leaf ≡ id
       only before leaf after e = let none = (alone id before leaf after e).0 in let one : id ∷ [] ≡ leaf ∷ after = e ∙ ap (λ xs. xs ++ leaf ∷ after) none in cc
 
-      here : (h : ℕ) → IsSubtree cmp is_summary slots h (kind.Leaf id) → (place : Option (LeafNodeId × ℕ)) → IsSelectedAt selects query slots h (kind.Leaf id) place → GoesOn cmp slots h (kind.Leaf id) path path place
+      here : (h : ℕ) → IsSubtree cmp is_summary slots h (kind.Leaf id) → (place : Option Position) → IsSelectedAt selects query slots h (kind.Leaf id) place → GoesOn cmp slots h (kind.Leaf id) path path place
       here (suc h) s place selected = absurd s.stands.tree
       here zero s None selected = tt
       here zero s (Some at) (stands, short, selected) =
-          λ pair there top' root way. subst (λ l. Way cmp slots pair.0 top' root path 0 (kind.Leaf l)) (sym (only stands.before at.0 stands.after stands.leaves)) way
+          λ pair there top' root way. subst (λ l. Way cmp slots pair.0 top' root path 0 (kind.Leaf l)) (sym (only stands.before at.leaf stands.after stands.leaves)) way

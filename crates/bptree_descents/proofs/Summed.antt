@@ -20,6 +20,7 @@ use Rattle.bptree_nodes.specs.Slot.{Slot, Slots, Present}
 use Rattle.bptree_keys.specs.declared.node_id.InnerNodeId.{InnerNodeId}
 use Rattle.bptree_keys.specs.declared.node_id.LeafNodeId.{LeafNodeId}
 use Rattle.bptree_keys.specs.declared.node_id.NodeId.{NodeId}
+use Rattle.bptree_keys.specs.declared.node_id.Position.{Position}
 use Rattle.bptree_keys.specs.declared.node_id.NodeId.TheVariants as kind
 use Rattle.bptree_keys.proofs.Around.{has_around}
 use Rattle.bptree_keys.proofs.Ascending.{all_keys}
@@ -27,6 +28,7 @@ use Rattle.bptree_keys.proofs.PieceLemmas.{AllByRecursion-append, AllByRecursion
 use Rattle.bptree_descents.specs.ByArgument.{IsSubtree, IsSelected, IsSelectedAt, RanksAmong}
 use Rattle.bptree_shape.specs.Leaves.{pairs_of}
 use Rattle.bptree_shape.specs.Order.{flat, Chain, Leads}
+use Rattle.bptree_shape.specs.NodeTree.{IsWhole, NodeTree}
 use Rattle.bptree_shape.specs.Shape.{leaf_pairs, inner_keys, inner_children, inner_arguments, pairs_at, leaves_at, IsTree, IsSummed, IsWellShaped, root_least}
 use Rattle.bptree_shape.proofs.Down.{pairs_of_all, stands_above}
 use Rattle.bptree_shape.proofs.NodePieces.{keys_each, keys_of_flat, keys_at, keys_take, keys_drop, keys_start, chain_pieces}
@@ -96,22 +98,22 @@ module _ {K V A : Type 0} {cmp : K → K → Ordering} (total : IsTotalOrder cmp
           }
 
       -- what is selected below the child that the query leads to is selected below the node
-      pub selected_above : {Q : Type 0} (selects : Q → List K → Option ℕ → Type 0) (query next : Q) → LeadsTo selects query pieces (Some (i, next)) → (answer : Option (LeafNodeId × ℕ)) → IsSelectedAt selects next slots h child answer → IsSelectedAt selects query slots (suc h) (kind.Inner id) answer
+      pub selected_above : {Q : Type 0} (selects : Q → List K → Option ℕ → Type 0) (query next : Q) → LeadsTo selects query pieces (Some (i, next)) → (answer : Option Position) → IsSelectedAt selects next slots h child answer → IsSelectedAt selects query slots (suc h) (kind.Inner id) answer
       selected_above selects query next leads None selected =
           subst (λ keys. selects query keys None) (sym whole_keys) (leads.1 None tt (subst (λ keys. selects next keys None) (sym piece) selected))
       selected_above selects query next leads (Some at) (stands, short, selected) =
           let left = flat (leaves_at slots h) (take i node.children) in
-          let place : ℕ = length (pairs_of slots stands.before) + at.1 in
+          let place : ℕ = length (pairs_of slots stands.before) + at.slot in
           let long : length (piece_at pieces i) ≡ length (pairs_at slots h child) = ap length piece ∙ length-keys_of (pairs_at slots h child) in
-          let here = leaf_pairs (slots.leaf at.0.0) in
-          let cut = ap length (parts_of slots h child at.0 stands) in
+          let here = leaf_pairs (slots.leaf at.leaf.0) in
+          let cut = ap length (parts_of slots h child at.leaf stands) in
           let inside : place < length (piece_at pieces i) =
           omega (arith, long, cut, short, length-append (pairs_of slots stands.before) (here ++ pairs_of slots stands.after), length-append here (pairs_of slots stands.after)) in
           let start : start_of pieces i ≡ length (pairs_of slots left) = keys_start (pairs_at slots h) node.children i ∙ ap length (sym (pairs_of_all slots h (take i node.children))) in
-          let moved : start_of pieces i + place ≡ length (pairs_of slots (left ++ stands.before)) + at.1 =
+          let moved : start_of pieces i + place ≡ length (pairs_of slots (left ++ stands.before)) + at.slot =
           omega (arith, start, ap length (flat-append (λ (l : LeafNodeId). leaf_pairs (slots.leaf l.0)) left stands.before), length-append (pairs_of slots left) (pairs_of slots stands.before)) in
           let there = leads.1 (Some place) inside (subst (λ keys. selects next keys (Some place)) (sym piece) selected) in (
-            stands_above slots h id node e i child at.0 within read stands,
+            stands_above slots h id node e i child at.leaf within read stands,
             short,
             subst (λ (n : ℕ). selects query (keys_of (pairs_at slots (suc h) (kind.Inner id))) (Some n)) moved (subst (λ keys. selects query keys (Some (start_of pieces i + place))) (sym whole_keys) there),
           )
@@ -168,7 +170,7 @@ module _ {K V A : Type 0} {cmp : K → K → Ordering} (total : IsTotalOrder cmp
       pub led_nowhere : answer ≡ None → IsSelectedAt selects query slots (suc h) (kind.Inner id) None
       led_nowhere none = subst (λ keys. selects query keys None) (sym whole_keys) (subst (LeadsTo selects query pieces) none led)
 
-      pub led_on : (i : ℕ) (next : Q) → answer ≡ Some (i, next) → (child : NodeId) → slice_get node.children i ≡ Some child → (found : Option (LeafNodeId × ℕ)) → IsSelectedAt selects next slots h child found → IsSelectedAt selects query slots (suc h) (kind.Inner id) found
+      pub led_on : (i : ℕ) (next : Q) → answer ≡ Some (i, next) → (child : NodeId) → slice_get node.children i ≡ Some child → (found : Option Position) → IsSelectedAt selects next slots h child found → IsSelectedAt selects query slots (suc h) (kind.Inner id) found
       led_on i next some child read found selected = selected_above i child (led_within i next some) read selects query next (subst (LeadsTo selects query pieces) some led) found selected
 
   -- the same at a height that the code knows
@@ -200,7 +202,7 @@ module _ {K V A : Type 0} {cmp : K → K → Ordering} (total : IsTotalOrder cmp
 
   -- what was selected in a leaf that was read is a pair of the whole
   pub pair_selected : {Q : Type 0} (selects : Q → List K → Option ℕ → Type 0) (query : Q) (h : ℕ) (id : NodeId) (leaf : LeafNodeId) (slot : ℕ) (node : Leaf K V) (key : K) (value : V) → slots.leaf leaf.0 ≡ Present node → slice_get node.pairs slot ≡ Some (key, value)
-      → IsSelectedAt selects query slots h id (Some (leaf, slot)) → IsSelected selects query (pairs_at slots h id) (Some (key, value))
+      → IsSelectedAt selects query slots h id (Some (record { leaf = leaf; slot = slot })) → IsSelected selects query (pairs_at slots h id) (Some (key, value))
   pair_selected selects query h id leaf slot node key value e read (stands, short, selected) =
       let before = pairs_of slots stands.before in
       let after = pairs_of slots stands.after in
@@ -219,3 +221,11 @@ module _ {K V A : Type 0} {cmp : K → K → Ordering} (total : IsTotalOrder cmp
     summed = shape.summed;
     fits = omega (arith, is, fits);
   }
+
+-- the whole of a tree, as contracts see it
+pub known_subtree : {S K V A : Type 0} {cmp : K → K → Ordering} {is_summary : A → List K → Type 0} (slots : S → Slots (Inner K A) (Leaf K V)) {tree : NodeTree S K V A} → IsWhole cmp is_summary slots tree → length tree.contents < 2 ^ 64 → IsSubtree cmp is_summary (slots tree.store) tree.height tree.root
+known_subtree slots {tree} whole fits = record {
+  stands = record { least = root_least tree.height; low = None; high = None; tree = whole.shape.tree };
+  summed = whole.shape.summed;
+  fits = omega (arith, ap length whole.contents, fits);
+}

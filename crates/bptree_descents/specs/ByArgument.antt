@@ -1,5 +1,5 @@
 -- What reads by summaries ask of a tree, and what they answer.
-use Rattle.std.specs.Prelude.{◌≡◌, ℕ, ◌+◌, ◌<◌, ◌^◌, List, ◌++◌, length, Option, Some, None, Result, MatchResult, is_ok, slice_get, remove}
+use Rattle.std.specs.Prelude.{◌≡◌, ℕ, ◌+◌, ◌<◌, ◌^◌, List, [], ◌++◌, length, Option, Some, None, Result, MatchResult, is_ok, slice_get, remove}
 use Rattle.std.specs.declared.cmp.Ordering.{Ordering}
 use Rattle.std.specs.List.Sorted.{IsStrictlySortedBy}
 use Rattle.std.specs.Map.{keys_of}
@@ -12,8 +12,8 @@ use Rattle.bptree_nodes.specs.Inner.{Inner}
 use Rattle.bptree_nodes.specs.Leaf.{Leaf}
 use Rattle.bptree_nodes.specs.Slot.{Slots}
 use Rattle.bptree_keys.specs.declared.node_id.InnerNodeId.{InnerNodeId}
-use Rattle.bptree_keys.specs.declared.node_id.LeafNodeId.{LeafNodeId}
 use Rattle.bptree_keys.specs.declared.node_id.NodeId.{NodeId}
+use Rattle.bptree_keys.specs.declared.node_id.Position.{Position}
 use Rattle.bptree_keys.specs.declared.node_id.NodeId.TheVariants as kind
 use Rattle.bptree_shape.specs.Leaves.{pairs_of, StandsIn, Stands}
 use Rattle.bptree_shape.specs.NodeTree.{NodeTree}
@@ -41,19 +41,19 @@ module _ {Q K V : Type 0} (selects : Q → List K → Option ℕ → Type 0) (qu
   IsPartSelected pairs n found = (place : Option ℕ) × IsPlaceIn pairs place × selects query (keys_of pairs) place × (found ≡ part_at pairs place n)
 
   -- the leaf and the slot of some allowed place of a tree, or none where none is allowed
-  abbrev pub IsSelectedAt : {A : Type 0} → Slots (Inner K A) (Leaf K V) → ℕ → NodeId → Option (LeafNodeId × ℕ) → Type 0
+  abbrev pub IsSelectedAt : {A : Type 0} → Slots (Inner K A) (Leaf K V) → ℕ → NodeId → Option Position → Type 0
   IsSelectedAt slots height id None = selects query (keys_of (pairs_at slots height id)) None
-  IsSelectedAt slots height id (Some at) = (stands : StandsIn slots height id at.0) × (at.1 < length (leaf_pairs (slots.leaf at.0.0))) × selects query (keys_of (pairs_at slots height id)) (Some (length (pairs_of slots stands.before) + at.1))
+  IsSelectedAt slots height id (Some at) = (stands : StandsIn slots height id at.leaf) × (at.slot < length (leaf_pairs (slots.leaf at.leaf.0))) × selects query (keys_of (pairs_at slots height id)) (Some (length (pairs_of slots stands.before) + at.slot))
 
   -- the pair at some allowed place left the list, or none where none is allowed
   abbrev pub IsTaken : List (K × V) → List (K × V) → Option (K × V) → Type 0
   IsTaken old new answer = (place : Option ℕ) × IsPlaceIn old place × selects query (keys_of old) place × (answer ≡ option_and_then (λ i. slice_get old i) place) × (new ≡ without_place old place)
 
 -- a search for the key that was found, come to a node by a path, goes on from there to the key's leaf by a longer one
-abbrev pub GoesOn : {K V A : Type 0} → (K → K → Ordering) → Slots (Inner K A) (Leaf K V) → ℕ → NodeId → List (InnerNodeId × ℕ × NodeId) → List (InnerNodeId × ℕ × NodeId) → Option (LeafNodeId × ℕ) → Type 0
+abbrev pub GoesOn : {K V A : Type 0} → (K → K → Ordering) → Slots (Inner K A) (Leaf K V) → ℕ → NodeId → List (InnerNodeId × ℕ × NodeId) → List (InnerNodeId × ℕ × NodeId) → Option Position → Type 0
 GoesOn cmp slots height id path longer None = Unit {0}
 GoesOn {K} {V} cmp slots height id path longer (Some at) =
-    (pair : K × V) → slice_get (leaf_pairs (slots.leaf at.0.0)) at.1 ≡ Some pair → (top : ℕ) (root : NodeId) → Way cmp slots pair.0 top root path height id → Way cmp slots pair.0 top root longer 0 (kind.Leaf at.0)
+    (pair : K × V) → slice_get (leaf_pairs (slots.leaf at.leaf.0)) at.slot ≡ Some pair → (top : ℕ) (root : NodeId) → Way cmp slots pair.0 top root path height id → Way cmp slots pair.0 top root longer 0 (kind.Leaf at.leaf)
 
 -- with any smaller keys before these, for which the rank stands, and any greater keys behind, the answer ranks k
 abbrev pub RanksAmong : {R K : Type 0} → (K → K → Ordering) → (R → K → List K → Type 0) → (K → List K → R → Type 0) → K → R → List K → Result R R → Type 0
@@ -62,7 +62,7 @@ RanksAmong {K = K} cmp stands_for ranks k rank keys answer =
     → MatchResult answer (ranks k (before ++ (keys ++ after))) (ranks k (before ++ (keys ++ after)))
 
 -- the leaf and the slot of some allowed place of a whole tree, or none where none is allowed
-abbrev pub IsSelectedIn : {S K V A Q : Type 0} → (S → Slots (Inner K A) (Leaf K V)) → NodeTree S K V A → (Q → List K → Option ℕ → Type 0) → Q → Option (LeafNodeId × ℕ) → Type 0
+abbrev pub IsSelectedIn : {S K V A Q : Type 0} → (S → Slots (Inner K A) (Leaf K V)) → NodeTree S K V A → (Q → List K → Option ℕ → Type 0) → Q → Option Position → Type 0
 IsSelectedIn slots tree selects query at = IsSelectedAt selects query (slots tree.store) tree.height tree.root at
 
 -- a rank of k among the keys of a list
@@ -72,3 +72,7 @@ RanksKey ranks k pairs answer = MatchResult answer (ranks k (keys_of pairs)) (ra
 -- an answer is `Ok` where some key of a list equals k
 abbrev pub TellsIfThere : {R K V : Type 0} → (K → K → Ordering) → List (K × V) → K → Result R R → Type 0
 TellsIfThere cmp pairs k answer = is_ok answer ≡ has cmp pairs k
+
+-- a path leads from the root of a tree to the leaf of the position that was found
+abbrev pub IsWayTo : {S K V A : Type 0} → (S → Slots (Inner K A) (Leaf K V)) → NodeTree S K V A → (K → K → Ordering) → List (InnerNodeId × ℕ × NodeId) → Option Position → Type 0
+IsWayTo slots tree cmp path found = GoesOn cmp (slots tree.store) tree.height tree.root [] path found

@@ -3,13 +3,13 @@ ghost use Rattle.std.specs.Prelude.{◌≡◌, ◌+◌, ◌≤◌, length, IfOk,
 ghost use Rattle.std.specs.Map.{keys_of};
 ghost use Rattle.bptree_arguments.specs.Selection.{LeadsOver};
 ghost use Rattle.bptree_keys.specs.Contents.{has};
-ghost use Rattle.bptree_descents.specs.ByArgument.{IsSubtree, IsSelectedAt, IsSelectedIn, GoesOn, RanksAmong, RanksKey, TellsIfThere};
+ghost use Rattle.bptree_descents.specs.ByArgument.{IsSubtree, IsSelectedAt, IsSelectedIn, IsWayTo, GoesOn, RanksAmong, RanksKey, TellsIfThere};
 ghost use Rattle.bptree_shape.specs.Shape.{pairs_at};
 
 use bptree_arguments::argument::{RankArgument, SearchArgument};
 use bptree_keys::entry_ref::VisitStack;
 use bptree_keys::key::Key;
-use bptree_keys::node_id::{LeafNodeId, NodeId};
+use bptree_keys::node_id::{NodeId, Position};
 use bptree_nodes::inner_node::InnerNode;
 use bptree_shape::nodes::Nodes;
 use bptree_stores::node_stores::NodeStore;
@@ -22,14 +22,13 @@ use std::alloc::AllocError;
 pub fn find_by_argument<S: NodeStore>(
     tree: &Nodes<S>,
     query: <S::Argument as SearchArgument<S::K>>::Query,
-) -> Result<Option<(LeafNodeId, usize)>, AllocError>
+) -> Result<Option<Position>, AllocError>
 where
     S::Argument: SearchArgument<S::K>,
     ensures selected { IfOk result (IsSelectedIn S.slots tree.now S.Argument.selects query) }
     ensures sure { S.Argument.needs_no_memory → IsOk result }
 {
-    // Read, so that it is known to fit.
-    let _len = tree.len;
+    tree.recall();
     find_below(&tree.store, tree.root, tree.height, query)
 }
 
@@ -39,7 +38,7 @@ fn find_below<S: NodeStore>(
     id: NodeId,
     height: usize,
     query: <S::Argument as SearchArgument<S::K>>::Query,
-) -> Result<Option<(LeafNodeId, usize)>, AllocError>
+) -> Result<Option<Position>, AllocError>
 where
     S::Argument: SearchArgument<S::K>,
     requires { IsSubtree S.K.cmp S.Argument.is_summary (S.slots store.now) height id }
@@ -51,7 +50,7 @@ where
             let keys = store.get_leaf(leaf).keys();
             match <S::Argument as SearchArgument<S::K>>::locate_in_leaf(query, keys)? {
                 None => Ok(None),
-                Some(slot) => Ok(Some((leaf, slot))),
+                Some(slot) => Ok(Some(Position { leaf, slot })),
             }
         }
         NodeId::Inner(inner) => {
@@ -75,15 +74,35 @@ fn lead_on<K: Key, A: SearchArgument<K>>(
     A::locate_in_inner(query, node.keys(), node.arguments())
 }
 
-/// The leaf and the slot of a place that is allowed for the query, and at the end of a path the
-/// inner nodes on the way to it. Where there is none, the path may hold some of them.
+/// Does what `find_by_argument` does, and leaves in `path` the inner nodes on the way from the root
+/// to the leaf of the position. If there is no position, the path may hold some other nodes.
+///
+/// The path is cleared first. O(height) steps, each of which asks the query of one node. It fails
+/// only if the argument does.
 pub fn find_path_by_argument<S: NodeStore>(
+    tree: &Nodes<S>,
+    query: <S::Argument as SearchArgument<S::K>>::Query,
+    path: &mut VisitStack,
+) -> Result<Option<Position>, AllocError>
+where
+    S::Argument: SearchArgument<S::K>,
+    ensures selected { IfOk result (IsSelectedIn S.slots tree.now S.Argument.selects query) }
+    ensures way { IfOk result (IsWayTo S.slots tree.now S.K.cmp path.new) }
+    ensures sure { S.Argument.needs_no_memory → IsOk result }
+{
+    tree.recall();
+    path.clear();
+    find_path_below(&tree.store, tree.root, tree.height, query, path)
+}
+
+// The same in the tree of a height under a number, from a path to that number on.
+fn find_path_below<S: NodeStore>(
     store: &S,
     id: NodeId,
     height: usize,
     query: <S::Argument as SearchArgument<S::K>>::Query,
     path: &mut VisitStack,
-) -> Result<Option<(LeafNodeId, usize)>, AllocError>
+) -> Result<Option<Position>, AllocError>
 where
     S::Argument: SearchArgument<S::K>,
     requires subtree { IsSubtree S.K.cmp S.Argument.is_summary (S.slots store.now) height id }
@@ -101,7 +120,7 @@ where
                 Some((offset, next)) => {
                     let child = node.child_id(offset);
                     path.push(inner, offset, child);
-                    find_path_by_argument(store, child, height - 1, next, path)
+                    find_path_below(store, child, height - 1, next, path)
                 }
             }
         }
@@ -125,8 +144,7 @@ where
     ensures present { IfOk result (TellsIfThere S.K.cmp tree.now.contents k.now) }
     ensures sure { S.Argument.needs_no_memory → IsOk result }
 {
-    // Read, so that it is known to fit.
-    let _len = tree.len;
+    tree.recall();
     let rank = <S::Argument as RankArgument<S::K>>::initial_value();
     rank_below(&tree.store, tree.root, tree.height, k, rank)
 }

@@ -18,8 +18,7 @@ pub fn descend_visit<S: NodeStore, W: DescendVisit<S::K, S::V, S::Argument>>(
 ) -> Result<Option<W::Result>, DescendError>
     ensures { IsAllowedAnswer W.answers visitor tree.now.contents result }
 {
-    // Read, so that it is known to fit.
-    let _len = tree.len;
+    tree.recall();
     visit_below(&tree.store, tree.root, tree.height, visitor)
 }
 

@@ -17,10 +17,9 @@ use groups::Pair;
 use numbers::{Numbers, next_number, numbers_below, odd_numbers, shuffle, shuffled};
 use ordered::Mapped;
 use std::collections::BTreeMap;
-use sweep_bptree::tree::count::Count;
-use sweep_bptree::tree::group::{GroupCount, Tuple2};
-use sweep_bptree::tree::{
-    BPlusTree, CloneArgument, CloneStore, NodeStoreVec, RankArgument, SearchArgument,
+use sweep_bptree::argument::CloneArgument;
+use sweep_bptree::{
+    BPlusTree, CloneStore, Count, GroupCount, NodeStoreVec, RankArgument, SearchArgument, Tuple2,
 };
 use timing::Report;
 

@@ -6,8 +6,7 @@ mod tree;
 
 pub use carrying::carry_out;
 use std::alloc::{AllocError, Global};
-use sweep_bptree::BPlusTreeMap;
-use sweep_bptree::tree::count::Count;
+use sweep_bptree::{BPlusTreeMap, Count};
 
 type Map = BPlusTreeMap<u64, u64, Count>;
 

@@ -1,8 +1,7 @@
 //! Maps that are filled, whatever their keys, values and summaries.
 
 use std::alloc::{AllocError, Global};
-use sweep_bptree::BPlusTreeMap;
-use sweep_bptree::tree::{Argument, Key};
+use sweep_bptree::{Argument, BPlusTreeMap, Key};
 
 /// A map of pairs, which are put in one after another.
 pub fn filled<K: Key + Copy, V: Copy, A: Argument<K>>(

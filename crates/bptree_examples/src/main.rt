@@ -18,8 +18,7 @@ mod uses;
 
 use std::alloc::AllocError;
 use std::process::ExitCode;
-use sweep_bptree::BPlusTreeMap;
-use sweep_bptree::tree::count::Count;
+use sweep_bptree::{BPlusTreeMap, Count};
 
 type Map = BPlusTreeMap<u64, u64, Count>;
 

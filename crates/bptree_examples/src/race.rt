@@ -1,9 +1,7 @@
 //! A race: times in seconds, each with the number of the runner.
 
 use std::alloc::{AllocError, Global};
-use sweep_bptree::BPlusTreeMap;
-use sweep_bptree::page::page;
-use sweep_bptree::tree::count::Count;
+use sweep_bptree::{BPlusTreeMap, Count};
 
 type Race = BPlusTreeMap<u64, u64, Count>;
 
@@ -22,9 +20,9 @@ pub fn run(alloc: Global) -> Result<Answers, AllocError> {
 fn answers(alloc: Global, race: &Race) -> Result<Answers, AllocError> {
     let fastest = race.get_at(0).map(|(_, runner)| *runner);
     let place = race.place_of(&583);
-    let second_page = page(race, 1, 2)?.next().map(|(_, runner)| *runner);
+    let second_page = race.page(1, 2)?.next().map(|(_, runner)| *runner);
     let mut between = Vec::new(alloc);
-    for (_, runner) in race.range(Some(&570), Some(&620)) {
+    for (_, runner) in race.range_within(570..620) {
         between.push(*runner)?;
     }
     Ok((fastest, place, between, second_page))

@@ -244,15 +244,15 @@ module _ {K V A : Type 0} {cmp : K → K → Ordering} (total : IsTotalOrder cmp
 
       -- once the climb has been done
       module _ (left : SumsUpLeaf cmp is_summary (leaf_pairs (mid.leaf leaf.0)) division.left) (right : SumsUpLeaf cmp is_summary (leaf_pairs (mid.leaf fresh.0)) division.right) (new : Slots (Inner K A) (Leaf K V)) (top : Option InnerNodeId) (a : A)
-          (rises : (c : ClimbsTwo cmp is_summary mid path division) → c.climb.root ≡ due.root → Reaches c.climb new top a) (next : Option LeafNodeId) (seen : Leaf K V) (read : old.leaf leaf.0 ≡ Present seen) (is : next ≡ seen.next) where
+          (reached : Reaches (climbs_divided left right).climb new top a) (next : Option LeafNodeId) (seen : Leaf K V) (read : old.leaf leaf.0 ≡ Present seen) (is : next ≡ seen.next) where
         next_is : leaf_next (old.leaf leaf.0) ≡ next
         next_is = next_seen (old.leaf leaf.0) seen read ∙ sym is
 
         pub next_risen : IfSome next (λ l. IsPresent (new.leaf l.0))
-        next_risen = next_reached new top a (rises (climbs_divided left right) refl) next next_is
+        next_risen = next_reached new top a reached next next_is
 
         pub placed_divided : (final : Slots (Inner K A) (Leaf K V)) → RelinksNext new final next fresh → IsPlacedUpTo cmp is_summary old final due.top due.root k v top a
-        placed_divided final relinks = placed_reached new final top a (rises (climbs_divided left right) refl) (rw next_is relinks)
+        placed_divided final relinks = placed_reached new final top a reached (rw next_is relinks)
 
       pub halves_divided : length (leaf_pairs (old.leaf leaf.0)) ≡ 64 → AreHalves (mid.leaf leaf.0) (mid.leaf fresh.0) × (leaf.0 ≡ fresh.0 → ⊥)
       halves_divided full = (

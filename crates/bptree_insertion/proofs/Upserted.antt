@@ -12,7 +12,9 @@ use Rattle.bptree_keys.specs.declared.node_id.InnerNodeId.{InnerNodeId}
 use Rattle.bptree_keys.specs.declared.node_id.LeafNodeId.{LeafNodeId}
 use Rattle.bptree_keys.specs.declared.node_id.NodeId.{NodeId}
 use Rattle.bptree_keys.specs.declared.node_id.NodeId.TheVariants as kind
+use Rattle.std.proofs.lemmas.Map.Entries.{length-keys_of}
 use Rattle.bptree_keys.proofs.Equal.{has_where_value}
+use Rattle.bptree_keys.proofs.Updates.{length_put}
 use Rattle.bptree_nodes.proofs.LeafContents.{value_at_place}
 use Rattle.bptree_shape.specs.Leaves.{IsLeafFor}
 use Rattle.bptree_insertion.specs.Puts.{HasRoomFor, IsDue, IsReplaced, IsPlaced, IsPlacedUpTo, SumsUpDue, risen}
@@ -88,3 +90,29 @@ module _ {K V A : Type 0} {cmp : K → K → Ordering} (total : IsTotalOrder cmp
         none_if_absent cmp (pairs_at old h root) k absent,
         placed_at cmp is_summary old new h root k v top a at is (subst (λ n. IsPlacedUpTo cmp is_summary old new n root k v top a) due.2 (done due.0 due.1)),
       )
+
+-- a summary of the keys of a tree that a key is due in is one, whatever names that tree
+pub told_for_due : {K V A : Type 0} (cmp : K → K → Ordering) (is_summary : A → List K → Type 0) (old : Slots (Inner K A) (Leaf K V)) (h : ℕ) (root : NodeId) (path : List (InnerNodeId × ℕ × NodeId)) (leaf : LeafNodeId) (slot : ℕ) (k : K) (due : IsDue cmp is_summary old path leaf slot k) → due.root ≡ root → due.top ≡ h
+    → (a : A) → is_summary a (keys_of (pairs_at old h root)) → SumsUpDue cmp is_summary old path leaf slot k a
+told_for_due cmp is_summary old h root path leaf slot k due at up a told given =
+    let same = way_tells cmp old k path due.top given.top due.root given.root 0 (kind.Leaf leaf) due.way given.way in
+    subst (λ x. is_summary a (keys_of (pairs_at old given.top x))) (sym at ∙ same.1) (subst (λ n. is_summary a (keys_of (pairs_at old n root))) (sym up ∙ same.0) told)
+
+-- what a tree's nodes are after a pair was put, by the length and the summary that it keeps
+module _ {K V A : Type 0} {cmp : K → K → Ordering} (total : IsTotalOrder cmp) {is_summary : A → List K → Type 0} {old new : Slots (Inner K A) (Leaf K V)} {h : ℕ} {root : NodeId} {k : K} {v : V} (len : ℕ) (counted : len ≡ length (pairs_at old h root)) where
+  -- an equal key was there
+  pub as_many : {was : V} → IsReplaced cmp is_summary old new h root k v was → {a : A} → is_summary a (keys_of (pairs_at old h root)) → IsWellShaped cmp is_summary new h root × (len ≡ length (pairs_at new h root)) × is_summary a (keys_of (pairs_at new h root))
+  as_many r {a} sums = (
+    r.shape,
+    counted ∙ (sym (length-keys_of (pairs_at old h root)) ∙ (ap length (sym r.keys) ∙ length-keys_of (pairs_at new h root))),
+    subst (is_summary a) (sym r.keys) sums,
+  )
+
+  -- the key is new
+  pub one_more : {top_height : ℕ} {top : NodeId} {a : A} → IsPlaced cmp is_summary old new h root k v top_height top a → has cmp (pairs_at old h root) k ≡ false → IsAscending cmp (pairs_at old h root)
+      → IsWellShaped cmp is_summary new top_height top × (len + 1 ≡ length (pairs_at new top_height top)) × is_summary a (keys_of (pairs_at new top_height top))
+  one_more p absent sorted = (
+    p.shape,
+    rw p.pairs (ap (λ n. n + 1) counted ∙ sym (length_put cmp total (pairs_at old h root) sorted k v ∙ rw absent refl)),
+    p.told,
+  )

@@ -12,12 +12,12 @@ use Rattle.bptree_ascent.specs.declared.node_changes.Division.{Division}
 use Rattle.bptree_keys.specs.declared.node_id.InnerNodeId.{InnerNodeId}
 use Rattle.bptree_keys.specs.declared.node_id.LeafNodeId.{LeafNodeId}
 use Rattle.bptree_keys.specs.declared.node_id.NodeId.{NodeId}
+use Rattle.bptree_keys.specs.declared.node_id.Position.{Position}
 use Rattle.bptree_keys.specs.declared.node_id.NodeId.TheVariants as kind
+use Rattle.bptree_shape.specs.NodeTree.{NodeTree}
 use Rattle.bptree_shape.specs.Path.{Way}
 use Rattle.bptree_stores.specs.Hint.{HoldsKey}
 use Rattle.bptree_shape.specs.Shape.{leaf_pairs, pairs_at, IsWellShaped}
-use Rattle.bptree_insertion.specs.declared.insertion.Put.{Put}
-use Rattle.bptree_insertion.specs.declared.insertion.Put.TheVariants.{Replaced, Added}
 
 -- a root and its height, or a new root above it
 abbrev pub risen : NodeId → ℕ → Option InnerNodeId → NodeId × ℕ
@@ -51,10 +51,6 @@ module _ {K V A : Type 0} (cmp : K → K → Ordering) (is_summary : A → List 
     pub shape : IsWellShaped cmp is_summary new height root
     pub pairs : pairs_at new height root ≡ put cmp (pairs_at old height root) k v
     pub keys : keys_of (pairs_at new height root) ≡ keys_of (pairs_at old height root)
-
-  abbrev pub IsPut : Put V A → Type 0
-  IsPut (Replaced was) = IsReplaced was
-  IsPut (Added top top_height a) = (value cmp (pairs_at old height root) k ≡ None) × IsPlaced top_height top a
 
 -- a value is put at a key, and what stood there is told
 abbrev pub PutsPair : {K V : Type 0} → (K → K → Ordering) → K → V → List (K × V) → List (K × V) → Option V → Type 0
@@ -129,3 +125,8 @@ module _ {K V A : Type 0} (cmp : K → K → Ordering) (is_summary : A → List 
 
     abbrev pub PlacesDueUpTo : {E : Type 0} → NodeId → Result (Option InnerNodeId × A) E → Type 0
     PlacesDueUpTo root done = (due : IsDue cmp is_summary old path leaf slot k) → due.root ≡ root → IfOk done (λ top. IsPlacedUpTo cmp is_summary old new due.top root k v top.0 top.1)
+
+-- the key is not in a whole tree, and belongs at a position that a path leads to
+abbrev pub IsDueIn : {S K V A : Type 0} → (S → Slots (Inner K A) (Leaf K V)) → (K → K → Ordering) → (A → List K → Type 0) → NodeTree S K V A → List (InnerNodeId × ℕ × NodeId) → Position → K → Type 0
+IsDueIn slots cmp is_summary tree path at k =
+    (due : IsDue cmp is_summary (slots tree.store) path at.leaf at.slot k) × (due.root ≡ tree.root) × (due.top ≡ tree.height)

@@ -1,38 +1,28 @@
 //! Insertion into a tree that stands in a store.
-ghost use Rattle.std.specs.Prelude.{◌≡◌, ◌≤◌, ◌<◌, ◌^◌, ◌≢◌, IfOk, IfErr, OnErr, IfSome, false, true, length};
+ghost use Rattle.std.specs.Prelude.{◌≡◌, ◌≤◌, ◌<◌, ◌≢◌, IfOk, IfErr, OnErr, IfSome, false, true, length};
 ghost use Rattle.std.specs.List.Sorted.{IsSearchInRange};
-ghost use Rattle.std.specs.Map.{keys_of};
-ghost use Rattle.bptree_keys.specs.Contents.{has};
+ghost use Rattle.bptree_keys.specs.Contents.{has, put};
 ghost use Rattle.bptree_keys.specs.declared.node_id.NodeId.TheVariants as kind;
 ghost use Rattle.bptree_nodes.specs.LeafResults.{HasEqualAt, IsPlaceInLeaf};
 ghost use Rattle.bptree_nodes.specs.Slot.{IsPresent};
 ghost use Rattle.bptree_ascent.specs.LeafChange.{SumsUpLeaf, HasSlotAt, AreHalves, SumsUpLeafAt};
-ghost use Rattle.bptree_insertion.specs.Puts.{PutsPair, IsAtHand, IsDue, IsPut, risen, AddsPair, Divides, HasRoomFor, HasValueAt, IsDueBelow, LeftSumsUp, PlacesDue, PlacesDueUpTo, Rejoins, RightSumsUp, SeparatesHalves, SetsValue, SumsUpDue, UndoesAdd};
+ghost use Rattle.bptree_insertion.specs.Puts.{PutsPair, IsAtHand, IsDue, IsDueIn, risen, AddsPair, Divides, HasRoomFor, HasValueAt, IsDueBelow, LeftSumsUp, PlacesDue, PlacesDueUpTo, Rejoins, RightSumsUp, SeparatesHalves, SetsValue, SumsUpDue, UndoesAdd};
 ghost use Rattle.bptree_shape.specs.NodeTree.{IsUntouched, IsWhole};
-ghost use Rattle.bptree_shape.specs.Shape.{leaf_pairs, pairs_at, IsWellShaped, LacksKey};
+ghost use Rattle.bptree_shape.specs.Shape.{leaf_pairs};
 
 use bptree_arguments::argument::Argument;
-use bptree_ascent::ascent::{ascend_below, ascend_split};
+use bptree_ascent::ascent::{ascend, ascend_split};
 use bptree_ascent::links::relink_next;
 use bptree_ascent::node_changes::Division;
-use bptree_keys::compares::Compares;
+use bptree_keys::compares::{Compares, SearchHint};
 use bptree_keys::entry_ref::VisitStack;
 use bptree_keys::key::Key;
-use bptree_keys::node_id::{InnerNodeId, LeafNodeId, NodeId};
+use bptree_keys::node_id::{InnerNodeId, LeafNodeId, NodeId, Position};
 use bptree_nodes::leaf_node::LeafNode;
 use bptree_shape::descent::find_path;
 use bptree_shape::nodes::Nodes;
-use bptree_stores::node_stores::NodeStore;
+use bptree_stores::node_stores::{NodeStore, try_cache};
 use std::alloc::AllocError;
-
-// What came of a pair that was put into a tree.
-#[derive(Drop)]
-enum Put<V, A> {
-    // An equal key stood there, whose old value this is.
-    Replaced(V),
-    // The key is new: the root, the height, and a summary of all keys.
-    Added(NodeId, usize, A),
-}
 
 // A clone of the key that will be the first of the right half, where a full leaf is split with a
 // new key at the slot.
@@ -107,7 +97,7 @@ fn put_in_room<S: NodeStore>(
     ensures handed_back { IfErr result (λ pair. pair ≡ (key, value)) }
 {
     let summary = add_at(store, id, slot, key, value)?;
-    match ascend_below(store, path, Some(whole), summary) {
+    match ascend(store, path, whole, summary) {
         Ok(top) => Ok(top),
         Err(_) => Err(take_back(store, id, slot)),
     }
@@ -216,17 +206,17 @@ fn put_new<S: NodeStore>(
     path: &mut VisitStack,
     whole: &S::Argument,
     root: NodeId,
-    id: LeafNodeId,
-    slot: usize,
-    key: S::K,
-    value: S::V,
+    at: Position,
+    pair: (S::K, S::V),
 ) -> Result<(Option<InnerNodeId>, S::Argument), (S::K, S::V)>
-    requires due { IsDueBelow S.K.cmp S.Argument.is_summary (S.slots store.old) root path.old id slot key }
-    requires told { SumsUpDue S.K.cmp S.Argument.is_summary (S.slots store.old) path.old id slot key whole.now }
-    ensures placed { PlacesDueUpTo S.K.cmp S.Argument.is_summary (S.slots store.old) (S.slots store.new) path.old id slot key value root result }
+    requires due { IsDueBelow S.K.cmp S.Argument.is_summary (S.slots store.old) root path.old at.leaf at.slot pair.0 }
+    requires told { SumsUpDue S.K.cmp S.Argument.is_summary (S.slots store.old) path.old at.leaf at.slot pair.0 whole.now }
+    ensures placed { PlacesDueUpTo S.K.cmp S.Argument.is_summary (S.slots store.old) (S.slots store.new) path.old at.leaf at.slot pair.0 pair.1 root result }
     ensures refused { OnErr result (S.slots store.new ≡ S.slots store.old) }
-    ensures handed_back { IfErr result (λ pair. pair ≡ (key, value)) }
+    ensures handed_back { IfErr result (λ back. back ≡ pair) }
 {
+    let Position { leaf: id, slot } = at;
+    let (key, value) = pair;
     let leaf = store.get_leaf(id);
     if !leaf.is_full() {
         let summary = put_in_room(store, path, whole, id, slot, key, value)?;
@@ -234,7 +224,7 @@ fn put_new<S: NodeStore>(
     }
     let next = leaf.next();
     let (division, fresh) = split_at(store, id, slot, key, value)?;
-    match ascend_split(store, path, root, division) {
+    match ascend_split(store, path, whole, root, division) {
         Ok(top) => {
             relink_next(store, fresh, next);
             remember_right(store, fresh, slot);
@@ -274,20 +264,24 @@ pub fn is_full(len: usize) -> bool
     len == usize::MAX
 }
 
-// The place of a key in a leaf below so many levels, or how many of its keys are smaller. In the
-// last of several leaves a key that is to be put likely stands behind all others.
+// Finds the slot of a key in a leaf, or the number of smaller keys, in the way that a hint chooses.
+// In the last of several leaves a new key is likely greater than all others.
 #[inline(always)]
-fn slot_for<K: Key, V: Drop>(leaf: &LeafNode<K, V>, levels: usize, key: &K) -> Result<usize, usize>
+fn slot_for<K: Key, V: Drop>(
+    leaf: &LeafNode<K, V>,
+    hint: SearchHint,
+    key: &K,
+) -> Result<usize, usize>
     ensures in_range { IsSearchInRange result (length leaf.now.pairs) }
     ensures found { IfOk result (HasEqualAt K.cmp leaf.now.pairs key.now) }
     ensures place { IsPlaceInLeaf K.cmp leaf.now key.now result }
 {
-    let mut compares = if leaf.next().is_none() && leaf.prev().is_some() {
-        Compares::at_end()
+    let hint = if leaf.next().is_none() && leaf.prev().is_some() {
+        SearchHint::Last
     } else {
-        Compares::below(levels)
+        hint
     };
-    leaf.locate_slot_counted(key, &mut compares)
+    leaf.locate_slot_counted(key, hint, &mut Compares::new())
 }
 
 // The remembered leaf, where it holds the key and has room, and where no node above it is told of a
@@ -299,47 +293,76 @@ fn leaf_at_hand<S: NodeStore>(store: &S, k: &S::K) -> Option<LeafNodeId>
     if !S::Argument::is_zst() {
         return None;
     }
-    let leaf = store.try_cache(k)?;
+    let leaf = try_cache(store, k)?;
     if store.get_leaf(leaf).is_full() {
         return None;
     }
     Some(leaf)
 }
 
-// Puts a pair into the leaf at hand. No other node is touched.
-fn put_at_hand<S: NodeStore>(
-    store: &mut S,
-    root: NodeId,
-    height: usize,
+// Puts a pair into the cached leaf, which holds the key and has room. No other node is changed.
+fn put_cached<S: NodeStore>(
+    tree: &mut Nodes<S>,
     leaf: LeafNodeId,
-    pair: (S::K, S::V),
-) -> Result<Put<S::V, S::Argument>, (S::K, S::V)>
-    requires at_hand { IsAtHand S.K.cmp S.Argument.is_summary (S.slots store.old) pair.0 leaf }
-    requires shape { IsWellShaped S.K.cmp S.Argument.is_summary (S.slots store.old) height root }
-    requires room { HasRoomFor S.K.cmp (pairs_at (S.slots store.old) height root) pair.0 }
-    ensures put { IfOk result (IsPut S.K.cmp S.Argument.is_summary (S.slots store.old) (S.slots store.new) height root pair.0 pair.1) }
-    ensures refused { OnErr result (S.slots store.new ≡ S.slots store.old) }
-    ensures handed_back { IfErr result (λ back. back ≡ pair) }
-    ensures absent { OnErr result (LacksKey S.K.cmp (S.slots store.old) height root pair.0) }
+    k: S::K,
+    v: S::V,
+) -> Result<Option<S::V>, (S::K, S::V)>
+    requires cached { IsAtHand S.K.cmp S.Argument.is_summary (S.slots tree.old.store) k leaf }
+    requires room { HasRoomFor S.K.cmp tree.old.contents k }
+    ensures put { IfOk result (PutsPair S.K.cmp k v tree.old.contents tree.new.contents) }
+    ensures whole { IsWhole S.K.cmp S.Argument.is_summary S.slots tree.new }
+    ensures refused { OnErr result (IsUntouched S.slots tree.new tree.old) }
+    ensures handed_back { IfErr result (λ pair. pair ≡ (k, v)) }
+    ensures absent { OnErr result (has S.K.cmp tree.old.contents k ≡ false) }
 {
-    let (k, v) = pair;
-    let found = slot_for(store.get_leaf(leaf), 0, &k);
+    let found = slot_for(tree.store.get_leaf(leaf), SearchHint::Near, &k);
     match found {
-        Ok(place) => Ok(Put::Replaced(replace_at(store, leaf, place, v))),
-        Err(slot) => match add_at(store, leaf, slot, k, v) {
-            Ok(summary) => Ok(Put::Added(root, height, summary)),
+        Ok(slot) => Ok(Some(replace_at(&mut tree.store, leaf, slot, v))),
+        Err(slot) => match add_at(&mut tree.store, leaf, slot, k, v) {
+            Ok(summary) => {
+                tree.len += 1;
+                tree.summary = summary;
+                Ok(None)
+            }
             Err(pair) => Err(pair),
         },
     }
 }
 
-/// Puts a pair into a tree, and answers the value that was there.
+// Inserts a pair with a new key at a position that a path leads to. The leaf, and each node above
+// it, is split if it is full.
+fn insert_new<S: NodeStore>(
+    tree: &mut Nodes<S>,
+    path: &mut VisitStack,
+    at: Position,
+    k: S::K,
+    v: S::V,
+) -> Result<(), (S::K, S::V)>
+    requires due { IsDueIn S.slots S.K.cmp S.Argument.is_summary tree.old path.old at k }
+    requires absent { has S.K.cmp tree.old.contents k ≡ false }
+    ensures put { IfOk result (λ _. tree.new.contents ≡ put S.K.cmp tree.old.contents k v) }
+    ensures whole { IsWhole S.K.cmp S.Argument.is_summary S.slots tree.new }
+    ensures refused { OnErr result (IsUntouched S.slots tree.new tree.old) }
+    ensures handed_back { IfErr result (λ pair. pair ≡ (k, v)) }
+{
+    let (top, summary) = put_new(&mut tree.store, path, &tree.summary, tree.root, at, (k, v))?;
+    let (root, height) = top_of(tree.root, tree.height, top);
+    tree.root = root;
+    tree.height = height;
+    tree.len += 1;
+    tree.summary = summary;
+    Ok(())
+}
+
+/// Puts a pair into a tree, and returns the value that was there.
 ///
 /// An equal key stays, and its value alone is replaced. A new key's leaf, and each node above it,
-/// takes a new summary; each of them that is full is split. A refusal hands the pair back, and no
-/// slot has changed. What the path held before plays no part: it is lent, so that none need be
-/// made. Where no summary is kept, the leaf is given to the store to remember. A pair that belongs
-/// into the remembered leaf takes no way down, as long as that leaf has room.
+/// takes a new summary; each of them that is full is split. If it fails, it returns the pair, and
+/// the tree is unchanged. `path` is scratch space, so that none is allocated: what it holds before
+/// is discarded. If no summaries are kept, the store is told to remember the leaf, and a pair that
+/// belongs in the remembered leaf needs no descent while that leaf has room. It takes O(log n)
+/// comparisons, and allocates only the nodes of a split, a clone of the separator and the
+/// summaries.
 pub fn upsert<S: NodeStore>(
     tree: &mut Nodes<S>,
     path: &mut VisitStack,
@@ -353,63 +376,22 @@ pub fn upsert<S: NodeStore>(
     ensures handed_back { IfErr result (λ pair. pair ≡ (k, v)) }
     ensures absent { OnErr result (has S.K.cmp tree.old.contents k ≡ false) }
 {
-    match put_below(
-        &mut tree.store,
-        path,
-        &tree.summary,
-        tree.root,
-        tree.height,
-        k,
-        v,
-    ) {
-        Ok(Put::Replaced(was)) => Ok(Some(was)),
-        Ok(Put::Added(root, height, summary)) => {
-            tree.root = root;
-            tree.height = height;
-            tree.len += 1;
-            tree.summary = summary;
-            Ok(None)
-        }
-        Err(pair) => Err(pair),
-    }
-}
-
-// The same, without what the tree keeps of itself.
-fn put_below<S: NodeStore>(
-    store: &mut S,
-    path: &mut VisitStack,
-    whole: &S::Argument,
-    root: NodeId,
-    height: usize,
-    k: S::K,
-    v: S::V,
-) -> Result<Put<S::V, S::Argument>, (S::K, S::V)>
-    requires shape { IsWellShaped S.K.cmp S.Argument.is_summary (S.slots store.old) height root }
-    requires told { S.Argument.is_summary whole.now (keys_of (pairs_at (S.slots store.old) height root)) }
-    requires few { length (pairs_at (S.slots store.old) height root) < 2 ^ 64 }
-    requires room { HasRoomFor S.K.cmp (pairs_at (S.slots store.old) height root) k }
-    ensures put { IfOk result (IsPut S.K.cmp S.Argument.is_summary (S.slots store.old) (S.slots store.new) height root k v) }
-    ensures refused { OnErr result (S.slots store.new ≡ S.slots store.old) }
-    ensures handed_back { IfErr result (λ pair. pair ≡ (k, v)) }
-    ensures absent { OnErr result (LacksKey S.K.cmp (S.slots store.old) height root k) }
-{
-    if let Some(leaf) = leaf_at_hand(store, &k) {
-        return put_at_hand(store, root, height, leaf, (k, v));
+    if let Some(leaf) = leaf_at_hand(&tree.store, &k) {
+        return put_cached(tree, leaf, k, v);
     }
     path.clear();
-    let leaf = find_path(store, root, height, &k, path);
+    let leaf = find_path(&tree.store, tree.root, tree.height, &k, path);
     if S::Argument::is_zst() {
-        store.cache_leaf(leaf);
+        tree.store.cache_leaf(leaf);
     }
-    // What it moves waits for the search, so this begins with branches one level sooner.
-    let found = slot_for(store.get_leaf(leaf), height.saturating_add(1), &k);
+    // An insertion moves pairs behind the slot that the search finds, so the search begins with
+    // branches one level sooner than that of a look-up.
+    let hint = SearchHint::below(tree.height.saturating_add(1));
+    let found = slot_for(tree.store.get_leaf(leaf), hint, &k);
     match found {
-        Ok(slot) => Ok(Put::Replaced(replace_at(store, leaf, slot, v))),
-        Err(slot) => match put_new(store, path, whole, root, leaf, slot, k, v) {
-            Ok((top, summary)) => {
-                let (root, height) = top_of(root, height, top);
-                Ok(Put::Added(root, height, summary))
-            }
+        Ok(slot) => Ok(Some(replace_at(&mut tree.store, leaf, slot, v))),
+        Err(slot) => match insert_new(tree, path, Position { leaf, slot }, k, v) {
+            Ok(()) => Ok(None),
             Err(pair) => Err(pair),
         },
     }

@@ -5,6 +5,7 @@ use Rattle.std.proofs.lemmas.List.{drop-take, length-take-le, take_all}
 use Rattle.bptree_iteration.specs.declared.part.Extent.{Extent}
 use Rattle.bptree_iteration.specs.declared.part.Extent.TheVariants.{Exact}
 use Rattle.bptree_keys.specs.declared.node_id.LeafNodeId.{LeafNodeId}
+use Rattle.bptree_keys.specs.declared.node_id.Position.{Position}
 use Rattle.bptree_nodes.specs.Inner.{Inner}
 use Rattle.bptree_nodes.specs.Leaf.{Leaf}
 use Rattle.bptree_nodes.specs.Slot.{Slots}
@@ -169,11 +170,11 @@ module _ {K V : Type 0} (leaves : LeafNodeId → Option (Leaf K V)) where
 
 -- another part with the same pairs has its end for an end of the first
 pub record EndsPart {K V A : Type 0} (slots : Slots (Inner K A) (Leaf K V)) (part other : Part) : Type 0 where
-  pub between : IsBetween (leaves_of slots) part.front part.from other.back other.to other.limit other.extent
-  pub same : first_between (leaves_of slots) part.front part.from other.back other.to other.limit ≡ pairs_of_part slots part
+  pub between : IsBetween (leaves_of slots) part.front.leaf part.front.slot other.back.leaf other.back.slot other.limit other.extent
+  pub same : first_between (leaves_of slots) part.front.leaf part.front.slot other.back.leaf other.back.slot other.limit ≡ pairs_of_part slots part
 
 pub ends_part : {K V A : Type 0} (slots : Slots (Inner K A) (Leaf K V)) (part other : Part) → IsPartIn slots other → AreSame slots part other → EndsPart slots part other
 ends_part slots part other is same = record {
-  between = subst (λ front. IsBetween (leaves_of slots) front part.from other.back other.to other.limit other.extent) same.0 (subst (λ from. IsBetween (leaves_of slots) other.front from other.back other.to other.limit other.extent) same.1 is);
-  same = subst (λ front. first_between (leaves_of slots) front part.from other.back other.to other.limit ≡ pairs_of_part slots part) same.0 (subst (λ from. first_between (leaves_of slots) other.front from other.back other.to other.limit ≡ pairs_of_part slots part) same.1 same.2);
+  between = subst (λ (front : Position). IsBetween (leaves_of slots) front.leaf front.slot other.back.leaf other.back.slot other.limit other.extent) same.0 is;
+  same = subst (λ (front : Position). first_between (leaves_of slots) front.leaf front.slot other.back.leaf other.back.slot other.limit ≡ pairs_of_part slots part) same.0 same.1;
 }

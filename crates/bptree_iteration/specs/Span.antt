@@ -5,6 +5,7 @@ use Rattle.bptree_iteration.specs.declared.part.Extent.{Extent}
 use Rattle.bptree_iteration.specs.declared.part.Extent.TheVariants.{Exact, Open, Cut}
 use Rattle.bptree_iteration.specs.declared.part.Part.{Part}
 use Rattle.bptree_keys.specs.declared.node_id.LeafNodeId.{LeafNodeId}
+use Rattle.bptree_keys.specs.declared.node_id.Position.{Position}
 use Rattle.bptree_nodes.specs.Inner.{Inner}
 use Rattle.bptree_nodes.specs.Leaf.{Leaf}
 use Rattle.bptree_nodes.specs.Slot.{Slot, Slots, Free, Held, Present}
@@ -102,6 +103,10 @@ module _ {K V : Type 0} (leaves : LeafNodeId → Option (Leaf K V)) where
     pub first : id ≡ front → (id' ≡ id) × (offset' ≡ offset)
     pub here : offset ≢ 0 → (id' ≡ id) × (offset' ≡ offset)
 
+  -- the same of positions
+  abbrev pub IsBackPosition : Position → LeafNodeId → Position → Type 0
+  IsBackPosition at front place = IsBackPlace at.leaf at.slot front place.leaf place.slot
+
 -- the leaf that stands under a number, if one does
 abbrev pub leaf_of : {K V : Type 0} → Slot (Leaf K V) → Option (Leaf K V)
 leaf_of Free = None
@@ -114,11 +119,11 @@ leaves_of slots id = leaf_of (slots.leaf id.0)
 module _ {K V A : Type 0} (slots : Slots (Inner K A) (Leaf K V)) where
   -- between the places of a part stand pairs, of which its limit tells what its extent says; and the first of them
   abbrev pub IsPartIn : Part → Type 0
-  IsPartIn part = IsBetween (leaves_of slots) part.front part.from part.back part.to part.limit part.extent
+  IsPartIn part = IsBetween (leaves_of slots) part.front.leaf part.front.slot part.back.leaf part.back.slot part.limit part.extent
 
   abbrev pub pairs_of_part : Part → List (K × V)
-  pairs_of_part part = first_between (leaves_of slots) part.front part.from part.back part.to part.limit
+  pairs_of_part part = first_between (leaves_of slots) part.front.leaf part.front.slot part.back.leaf part.back.slot part.limit
 
   -- another part begins at the same place, and has the same pairs up to its own end and limit
   abbrev pub AreSame : Part → Part → Type 0
-  AreSame part other = (other.front ≡ part.front) × (other.from ≡ part.from) × (pairs_of_part other ≡ pairs_of_part part)
+  AreSame part other = (other.front ≡ part.front) × (pairs_of_part other ≡ pairs_of_part part)

@@ -1,13 +1,13 @@
 //! The pairs of a tree, one by one from both ends, along the links of its leaves.
-ghost use Rattle.std.specs.Prelude.{◌≡◌, ◌<◌, ◌≤◌, ◌≢◌, IsSome, IsTrue, Some, [], length, IfSome, true, false, ⊤};
+ghost use Rattle.std.specs.Prelude.{◌≡◌, ◌<◌, ◌≤◌, ◌≢◌, IsSome, Some, length, IfSome, true, false, ⊤};
 ghost use Rattle.std.specs.Iterator.{at_most, item_count, UpTo};
 ghost use Rattle.std.specs.Iterator.SizeHint.{IsWithinCount};
 ghost use Rattle.std.specs.Map.Iter.{TakesFirst, TakesLast, deref_pair};
-ghost use Rattle.bptree_iteration.specs.Span.{leaves_of, IsEndIn, CanGoOn, IsFrontPlace, CanGoBack, IsBackPlace, AreSame, IsPartIn, pairs_of_part};
+ghost use Rattle.bptree_iteration.specs.Span.{leaves_of, IsEndIn, CanGoOn, IsFrontPlace, CanGoBack, IsBackPosition, AreSame, IsPartIn, pairs_of_part};
 ghost use Rattle.bptree_iteration.specs.declared.part.Extent.TheVariants as extents;
 
 pub use crate::part::{Extent, Part};
-use bptree_keys::node_id::LeafNodeId;
+use bptree_keys::node_id::{LeafNodeId, Position};
 use bptree_nodes::leaf_node::LeafNode;
 use bptree_stores::node_stores::NodeStore;
 use std::alloc::AllocError;
@@ -36,7 +36,7 @@ impl<'a, S: NodeStore> Model for Iter<'a, S> {
 
     ghost view = { λ it. pairs_of_part (S.slots it.store.now) it.part };
 
-    ghost invariant = { λ it. IsPartIn (S.slots it.store.now) it.part × (leaves_of (S.slots it.store.now) it.part.front ≡ Some it.leaf.now) × IsEndIn it.part.front it.part.back it.part.to it.leaf.now it.end };
+    ghost invariant = { λ it. IsPartIn (S.slots it.store.now) it.part × (leaves_of (S.slots it.store.now) it.part.front.leaf ≡ Some it.leaf.now) × IsEndIn it.part.front.leaf it.part.back.leaf it.part.back.slot it.leaf.now it.end };
 }
 
 impl<'a, S: NodeStore> Iter<'a, S> {
@@ -45,11 +45,11 @@ impl<'a, S: NodeStore> Iter<'a, S> {
         requires { IsPartIn (S.slots store.now) part }
         ensures { result ≡ pairs_of_part (S.slots store.now) part }
     {
-        let leaf = leaf_at(store, part.front);
+        let leaf = leaf_at(store, part.front.leaf);
         Iter {
             store,
             part,
-            end: end_in(part.front, leaf, part.back, part.to),
+            end: end_in(part.front.leaf, leaf, part.back),
             leaf,
             marker: PhantomData,
         }
@@ -65,16 +65,11 @@ fn leaf_at<S: NodeStore>(store: &S, id: LeafNodeId) -> &LeafNode<S::K, S::V>
 
 // The place in the first leaf up to which its pairs are between the two ends: its end, where it is
 // not the last leaf too.
-fn end_in<K: Drop, V: Drop>(
-    front: LeafNodeId,
-    leaf: &LeafNode<K, V>,
-    back: LeafNodeId,
-    to: usize,
-) -> usize
-    ensures { IsEndIn front back to leaf.now result }
+fn end_in<K: Drop, V: Drop>(front: LeafNodeId, leaf: &LeafNode<K, V>, back: Position) -> usize
+    ensures { IsEndIn front back.leaf back.slot leaf.now result }
 {
-    if front.as_usize() == back.as_usize() {
-        to
+    if front.as_usize() == back.leaf.as_usize() {
+        back.slot
     } else {
         leaf.len()
     }
@@ -89,49 +84,44 @@ fn front_place<'a, S: NodeStore>(
     leaf: &'a LeafNode<S::K, S::V>,
     offset: usize,
     end: usize,
-    back: LeafNodeId,
-    to: usize,
+    back: Position,
 ) -> (LeafNodeId, &'a LeafNode<S::K, S::V>, usize, usize)
-    requires goes_on { CanGoOn (leaves_of (S.slots store.now)) id offset back }
+    requires goes_on { CanGoOn (leaves_of (S.slots store.now)) id offset back.leaf }
     requires at { leaves_of (S.slots store.now) id ≡ Some leaf.now }
-    requires end { IsEndIn id back to leaf.now end }
-    ensures place { IsFrontPlace (leaves_of (S.slots store.now)) id offset back result.0 result.2 }
+    requires end { IsEndIn id back.leaf back.slot leaf.now end }
+    ensures place { IsFrontPlace (leaves_of (S.slots store.now)) id offset back.leaf result.0 result.2 }
     ensures leaf { leaves_of (S.slots store.now) result.0 ≡ Some result.1.now }
-    ensures end { IsEndIn result.0 back to result.1.now result.3 }
+    ensures end { IsEndIn result.0 back.leaf back.slot result.1.now result.3 }
 {
-    if offset != end || id.as_usize() == back.as_usize() {
+    if offset != end || id.as_usize() == back.leaf.as_usize() {
         return (id, leaf, offset, end);
     }
     let next = leaf.next().unwrap();
     let after = leaf_at(store, next);
-    (next, after, 0, end_in(next, after, back, to))
+    (next, after, 0, end_in(next, after, back))
 }
 
 // The place behind the last pair. Where the place at hand is the start of a leaf behind the first
 // one, it is the end of the one before.
-fn back_place<S: NodeStore>(
-    store: &S,
-    id: LeafNodeId,
-    offset: usize,
-    front: LeafNodeId,
-) -> (LeafNodeId, usize)
-    requires { CanGoBack (leaves_of (S.slots store.now)) id offset front }
-    ensures { IsBackPlace (leaves_of (S.slots store.now)) id offset front result.0 result.1 }
+fn back_place<S: NodeStore>(store: &S, at: Position, front: LeafNodeId) -> Position
+    requires { CanGoBack (leaves_of (S.slots store.now)) at.leaf at.slot front }
+    ensures { IsBackPosition (leaves_of (S.slots store.now)) at front result }
 {
-    if offset != 0 || id.as_usize() == front.as_usize() {
-        return (id, offset);
+    if at.slot != 0 || at.leaf.as_usize() == front.as_usize() {
+        return at;
     }
-    let before = leaf_at(store, id).prev().unwrap();
-    (before, leaf_at(store, before).len())
+    let leaf = leaf_at(store, at.leaf).prev().unwrap();
+    let slot = leaf_at(store, leaf).len();
+    Position { leaf, slot }
 }
 
-// Whether a pair stands between two places: a leaf that is not the last one has one behind the
-// front place.
-fn are_apart(front: LeafNodeId, from: usize, back: LeafNodeId, to: usize) -> bool
-    ensures some { result ≡ true → front ≡ back → from < to }
-    ensures none { result ≡ false → (front ≡ back) × (to ≤ from) }
+// Whether a pair stands between two positions: a leaf that is not the last one has one behind the
+// front.
+fn are_apart(front: Position, back: Position) -> bool
+    ensures some { result ≡ true → front.leaf ≡ back.leaf → front.slot < back.slot }
+    ensures none { result ≡ false → (front.leaf ≡ back.leaf) × (back.slot ≤ front.slot) }
 {
-    front.as_usize() != back.as_usize() || from < to
+    front.leaf.as_usize() != back.leaf.as_usize() || front.slot < back.slot
 }
 
 // The same part, up to where its pairs end, with the number of them.
@@ -143,16 +133,18 @@ fn end_of_first<S: NodeStore>(store: &S, part: Part) -> Part
     ensures same { AreSame (S.slots store.now) part result }
     ensures known { result.extent ≡ extents.Exact }
 {
-    let mut at = part.front;
-    let mut passed = part.from;
+    let mut at = part.front.leaf;
+    let mut passed = part.front.slot;
     let mut left = part.limit;
-    'leaves: while at.as_usize() != part.back.as_usize() {
+    'leaves: while at.as_usize() != part.back.leaf.as_usize() {
         let leaf = leaf_at(store, at);
         let here = leaf.len() - passed;
         if left <= here {
             return Part {
-                back: at,
-                to: passed + left,
+                back: Position {
+                    leaf: at,
+                    slot: passed + left,
+                },
                 extent: Extent::Exact,
                 ..part
             };
@@ -161,10 +153,13 @@ fn end_of_first<S: NodeStore>(store: &S, part: Part) -> Part
         at = leaf.next().unwrap();
         passed = 0;
     }
-    let here = part.to - passed;
+    let here = part.back.slot - passed;
     if left <= here {
         Part {
-            to: passed + left,
+            back: Position {
+                leaf: part.back.leaf,
+                slot: passed + left,
+            },
             extent: Extent::Exact,
             ..part
         }
@@ -217,20 +212,21 @@ impl<'a, S: NodeStore> Iterator for Iter<'a, S> {
         }
         let (front, leaf, from, end) = front_place(
             self.store,
-            self.part.front,
+            self.part.front.leaf,
             self.leaf,
-            self.part.from,
+            self.part.front.slot,
             self.end,
             self.part.back,
-            self.part.to,
         );
         if from == end {
             return None;
         }
         let pair = leaf.data_at(from);
-        self.part.front = front;
+        self.part.front = Position {
+            leaf: front,
+            slot: from + 1,
+        };
         self.leaf = leaf;
-        self.part.from = from + 1;
         self.end = end;
         self.part.limit -= 1;
         Some(pair)
@@ -256,16 +252,19 @@ impl<'a, S: NodeStore> DoubleEndedIterator for Iter<'a, S> {
             return None;
         }
         let part = known_end(self.store, self.part);
-        let (back, to) = back_place(self.store, part.back, part.to, self.part.front);
-        if !are_apart(self.part.front, self.part.from, back, to) {
+        let back = back_place(self.store, part.back, self.part.front.leaf);
+        if !are_apart(self.part.front, back) {
             return None;
         }
-        let pair = leaf_at(self.store, back).data_at(to - 1);
-        self.part.back = back;
-        self.part.to = to - 1;
+        let last = Position {
+            leaf: back.leaf,
+            slot: back.slot - 1,
+        };
+        let pair = leaf_at(self.store, last.leaf).data_at(last.slot);
+        self.part.back = last;
         self.part.limit = part.limit - 1;
         self.part.extent = part.extent;
-        self.end = end_in(self.part.front, self.leaf, back, to - 1);
+        self.end = end_in(self.part.front.leaf, self.leaf, last);
         Some(pair)
     }
 }

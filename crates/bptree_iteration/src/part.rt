@@ -1,10 +1,10 @@
 //! Where pairs begin and end in the leaves of a store, and what is known of how many they are.
-use bptree_keys::node_id::LeafNodeId;
+use bptree_keys::node_id::Position;
 
 /// What the limit of a part tells.
 #[derive(Clone, Copy, Debug, Drop)]
 pub enum Extent {
-    /// How many pairs stand between the two places.
+    /// How many pairs stand between the two positions.
     Exact,
     /// That no more pairs stand between them.
     Open,
@@ -12,17 +12,13 @@ pub enum Extent {
     Cut,
 }
 
-/// The pairs between two places in leaves.
+/// The pairs between two positions.
 #[derive(Clone, Copy, Debug, Drop)]
 pub struct Part {
-    /// The leaf of the first pair and the pair's place, or the leaf before it and its length.
-    pub front: LeafNodeId,
-    /// The place in that leaf.
-    pub from: usize,
-    /// The leaf of the last pair and the place after it, or the leaf after it and 0.
-    pub back: LeafNodeId,
-    /// The place in that leaf.
-    pub to: usize,
+    /// The position of the first pair, or the end of the leaf before it.
+    pub front: Position,
+    /// The position behind the last pair, or the start of the leaf after it.
+    pub back: Position,
     /// How many pairs stand between the two, as far as `extent` says.
     pub limit: usize,
     /// What `limit` tells.

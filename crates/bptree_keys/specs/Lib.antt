@@ -1,5 +1,6 @@
 pub mod Contents
 pub mod ContentsLaws
+pub mod Ends
 pub mod Keys
 pub mod Locate
 pub mod Neighbours

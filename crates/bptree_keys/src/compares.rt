@@ -15,32 +15,34 @@ const LONG: usize = 16;
 // Below so many levels of inner nodes a leaf likely stands in no cache.
 const FAR_LEVELS: usize = 3;
 
-/// What a search in a leaf is told of its keys.
-#[derive(Clone, Copy)]
-enum Leaning {
-    /// They likely stand in a cache of the processor.
+/// Where the keys of a leaf likely are. A hint chooses how the leaf is searched, and never changes
+/// what is found.
+#[derive(Clone, Copy, Debug, Drop)]
+pub enum SearchHint {
+    /// The keys are likely in a cache of the processor.
     Near,
-    /// They likely don't.
+    /// The keys are likely in no cache. The search begins with branches, so that the next key is
+    /// fetched before a comparison is done.
     Far,
-    /// All of them are likely smaller.
-    End,
+    /// All keys are likely smaller than the one that is searched for. The last is compared first.
+    Last,
 }
 
-// What is likely of a leaf below so many levels.
-fn leaning_below(levels: usize) -> Leaning {
-    if levels >= FAR_LEVELS {
-        Leaning::Far
-    } else {
-        Leaning::Near
+impl SearchHint {
+    /// The hint for a leaf below so many levels of inner nodes: `Far` from three levels on.
+    pub fn below(levels: usize) -> Self {
+        if levels >= FAR_LEVELS {
+            SearchHint::Far
+        } else {
+            SearchHint::Near
+        }
     }
 }
 
-/// How many comparisons were made, and what the next search in a leaf is told of its keys. The
-/// count stops at the greatest `usize`.
+/// A counter of comparisons. It stops at the greatest `usize`.
 #[derive(Drop)]
 pub struct Compares {
     count: usize,
-    leaning: Leaning,
 }
 
 impl Model for Compares {
@@ -52,43 +54,14 @@ impl Model for Compares {
 }
 
 impl Compares {
-    /// No comparison yet.
+    /// A counter at 0.
     pub fn new() -> Self
         ensures { result ≡ 0 }
     {
-        Compares::below(0)
+        Compares { count: 0 }
     }
 
-    /// No comparison yet, for a search in a leaf below so many levels of inner nodes. From three on
-    /// it begins with branches, so that it need not wait for one key to fetch the next.
-    pub fn below(levels: usize) -> Self
-        ensures { result ≡ 0 }
-    {
-        Compares {
-            count: 0,
-            leaning: leaning_below(levels),
-        }
-    }
-
-    /// No comparison yet, for a key that likely stands behind all others of its leaf. The last of
-    /// them is compared first.
-    pub fn at_end() -> Self
-        ensures { result ≡ 0 }
-    {
-        Compares {
-            count: 0,
-            leaning: Leaning::End,
-        }
-    }
-
-    /// Goes on with a search in a leaf below so many levels.
-    pub fn go_below(&mut self, levels: usize)
-        ensures { self.new ≡ self.old }
-    {
-        self.leaning = leaning_below(levels);
-    }
-
-    /// How many there were.
+    /// The number of comparisons that were counted.
     pub fn count(&self) -> usize
         ensures { result ≡ self.now }
     {
@@ -404,11 +377,13 @@ pub fn locate_counted<K: Ord>(keys: &[K], key: &K, compares: &mut Compares) -> R
     }
 }
 
-/// The same in a leaf, as `compares` was told of it.
+/// Finds the index of `key` among the ascending keys of a leaf, or how many are smaller, in the
+/// way that a hint chooses.
 #[inline(always)]
-pub fn locate_below_counted<K: Ord>(
+pub fn locate_hinted_counted<K: Ord>(
     keys: &[K],
     key: &K,
+    hint: SearchHint,
     compares: &mut Compares,
 ) -> Result<usize, usize>
     requires { length keys.now ≤ 64 }
@@ -419,9 +394,9 @@ pub fn locate_below_counted<K: Ord>(
     ensures counts { 0 < length keys.now → CountsOne compares.old compares.new }
     ensures count { compares.new ≤ compares.old + 7 }
 {
-    match compares.leaning {
-        Leaning::Far if size_of_val(key) <= LONG => search_far(keys, key, compares),
-        Leaning::End => search_from_end(keys, key, compares),
+    match hint {
+        SearchHint::Far if size_of_val(key) <= LONG => search_far(keys, key, compares),
+        SearchHint::Last => search_from_end(keys, key, compares),
         _ => locate_counted(keys, key, compares),
     }
 }

@@ -4,6 +4,7 @@
 
 pub mod compares;
 pub mod contents;
+pub mod end;
 pub mod entry_ref;
 pub mod key;
 pub mod node_id;

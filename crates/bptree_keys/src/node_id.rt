@@ -25,6 +25,15 @@ pub enum NodeId {
     Leaf(LeafNodeId),
 }
 
+/// A slot of a leaf: of a pair, or the one behind the last pair.
+#[derive(Clone, Copy, Debug, Drop)]
+pub struct Position {
+    /// The leaf.
+    pub leaf: LeafNodeId,
+    /// The slot in the leaf.
+    pub slot: usize,
+}
+
 impl InnerNodeId {
     /// A placeholder, which names no node.
     pub const INVALID: InnerNodeId = InnerNodeId(usize::MAX);

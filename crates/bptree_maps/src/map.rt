@@ -1,5 +1,5 @@
 //! An ordered map.
-ghost use Rattle.std.specs.Prelude.{◌≡◌, ◌<◌, ◌≤◌, List, [], None, Some, Ok, length, slice_get, false, IfOk, IfErr, OnErr, IsOk, IsOkUnless, IsTrue, ◌↔◌, is_ok};
+ghost use Rattle.std.specs.Prelude.{◌≡◌, ◌^◌, ◌<◌, ◌≤◌, List, [], None, Some, Ok, length, slice_get, false, IfOk, IfErr, OnErr, IsOk, IsOkUnless, IsTrue, ◌↔◌, is_ok};
 ghost use Rattle.std.specs.Borrow.{Lends, LendsIf, LendsSoOk, sem};
 ghost use Rattle.std.specs.Map.{keys_of, values_of};
 ghost use Rattle.std.specs.Iterator.{IsFiniteIterable as AreFinite};
@@ -8,6 +8,7 @@ ghost use Rattle.std.specs.List.{remove};
 ghost use Rattle.std.specs.List.Sorted.{IsStrictlySortedBy};
 ghost use Rattle.std.specs.Map.Iter.{ShowsInOrder, GivesInOrder, GivesInReverse, deref, deref_pair};
 ghost use Rattle.std.specs.Option.{option_map, option_copied, option_copied_mut};
+ghost use Rattle.bptree_ascent.specs.Failing.{OkIs};
 ghost use Rattle.bptree_arguments.specs.Groups.{of_group};
 ghost use Rattle.bptree_arguments.specs.Visits.{answered, IsAllowedError};
 ghost use Rattle.bptree_ascent.specs.Lending.{written};
@@ -34,6 +35,7 @@ mod bounds;
 mod iter;
 mod moving;
 mod owned;
+mod pages;
 mod places;
 mod retaining;
 mod sides;
@@ -51,6 +53,7 @@ use bptree_stores::node_store_vec::NodeStoreVec;
 use bptree_tree::{BPlusTree, Cursor, InsertError, SelectError};
 pub use iter::Iter;
 pub use owned::IntoIter;
+pub use pages::laws_of_pages;
 pub use sides::{
     IntoKeys, IntoSideIter, IntoValues, KeySide, Keys, LentSide, Side, SideIter, ValueSide, Values,
 };
@@ -121,6 +124,16 @@ impl<K: Key, V: Drop, A: Argument<K>> BPlusTreeMap<K, V, A> {
         ensures ascending { IsAscending K.cmp self.now }
     {
         self.inner.len()
+    }
+
+    /// Recalls what holds of every map, for the proofs of callers: the length fits in 64 bits, and the
+    /// keys ascend. It does nothing, in constant time, and never fails.
+    #[inline(always)]
+    pub fn recall(&self)
+        ensures fits { length self.now < 2 ^ 64 }
+        ensures ascending { IsAscending K.cmp self.now }
+    {
+        self.inner.recall();
     }
 
     /// Whether there are no pairs.
@@ -530,7 +543,7 @@ impl<K: Key, V: Drop, A: Argument<K>> BPlusTreeMap<K, V, A> {
         i: usize,
         n: usize,
     ) -> Result<Iter<'_, K, V, A>, AllocError>
-        ensures rest { IfOk result (λ pairs. pairs ≡ part (of_group G.cmp G.group_of group.now self.now) i n) }
+        ensures rest { OkIs result (part (of_group G.cmp G.group_of group.now self.now) i n) }
         ensures ascending { IfOk result (λ pairs. IsAscending K.cmp pairs) }
         ensures runs { ShowsInOrder (deref_pair {K = K} {X = V}) }
     {

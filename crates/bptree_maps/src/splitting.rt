@@ -26,8 +26,7 @@ pub(crate) fn split_tree<S: NodeStore>(
     ensures kind { IfErr result (IsSplitFailure (λ there. there.contents) S.K.cmp k.now usize.MAX tree.new.contents) }
     ensures kept { KeepsBelow S.K.cmp k.now tree.old.contents tree.new.contents }
 {
-    // Read, so that the keys are known to ascend.
-    let _len = tree.len();
+    tree.recall();
     let Ok(mut there) = BPlusTree::new(S::empty(tree.node_store().allocator())) else {
         return Err(SplitError::NotMade);
     };

@@ -4,7 +4,7 @@ ghost use Rattle.bptree_nodes.specs.Inner.{HasKeys};
 
 use crate::samples::{Counted, Sequence, several};
 use bptree_keys::node_id::{LeafNodeId, NodeId};
-use bptree_nodes::inner_node::{InnerMergeResult, InnerNode};
+use bptree_nodes::inner_node::InnerNode;
 use std::alloc::{AllocError, Global};
 use std::cell::Cell;
 use std::rc::Rc;
@@ -115,8 +115,9 @@ fn merges(alloc: Global) -> bool {
     if parent.len() != 3 {
         return false;
     }
-    let (result, separator) = parent.remove_slot_with_right(1);
-    result == InnerMergeResult::UnderSize
+    let (separator, child, argument) = parent.remove_at(1);
+    child == leaf(2)
+        && argument == 2
         && shows(&parent, &[10, 50], &[0, 1, 3])
         && merges_around(alloc, separator)
 }
@@ -150,6 +151,14 @@ fn counted_node(
     InnerNode::new(alloc, keys, children, arguments)
 }
 
+// Removes the second key with its child and argument, and drops the argument.
+fn key_removed(node: &mut InnerNode<Counted, Counted>) -> Counted
+    requires { 1 < length node.old.keys }
+{
+    let (key, _child, _argument) = node.remove_at(1);
+    key
+}
+
 // Whether two nodes that are merged drop nothing, and an entry that is removed drops its argument.
 fn drops_an_argument(alloc: Global, count: &Rc<Cell<u64>>) -> bool {
     let Ok(right) = counted_node(alloc, count) else {
@@ -163,7 +172,7 @@ fn drops_an_argument(alloc: Global, count: &Rc<Cell<u64>>) -> bool {
     };
     node.merge_next(Counted(key), right);
     let merged = count.get();
-    let (_, _removed) = node.remove_slot_with_right(1);
+    let _removed = key_removed(&mut node);
     [merged, count.get()] == [0, 1]
 }
 

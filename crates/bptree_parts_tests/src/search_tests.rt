@@ -1,6 +1,6 @@
 //! Searches among each number of keys that a node can have: near the root, far below it, and from
 //! the end.
-use bptree_keys::compares::{Compares, count_upto_counted, locate_below_counted};
+use bptree_keys::compares::{Compares, SearchHint, count_upto_counted, locate_hinted_counted};
 
 // The place of a number among the first so many of 2, 4, 6 and so on, or how many are smaller.
 fn place_among_evens(number: usize, len: usize) -> Result<usize, usize> {
@@ -20,11 +20,12 @@ fn finds_each(keys: &[usize], levels: Option<usize>) -> bool {
     let mut well = len <= 64;
     if well {
         for number in 0..131 {
-            let mut compares = match levels {
-                Some(levels) => Compares::below(levels),
-                None => Compares::at_end(),
+            let hint = match levels {
+                Some(levels) => SearchHint::below(levels),
+                None => SearchHint::Last,
             };
-            let place = locate_below_counted(keys, &number, &mut compares);
+            let mut compares = Compares::new();
+            let place = locate_hinted_counted(keys, &number, hint, &mut compares);
             well &= place == place_among_evens(number, len) && compares.count() <= 7;
             let mut compares = Compares::new();
             let child = count_upto_counted(keys, &number, &mut compares);

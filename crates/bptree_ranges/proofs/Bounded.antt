@@ -15,6 +15,7 @@ use Rattle.bptree_keys.specs.Contents.{IsAscending}
 use Rattle.bptree_keys.specs.Places.{IsGap, IsHit, IsPlaceOf}
 use Rattle.bptree_keys.specs.Ranges.{between, part}
 use Rattle.bptree_keys.specs.declared.node_id.LeafNodeId.{LeafNodeId}
+use Rattle.bptree_keys.specs.declared.node_id.Position.{Position}
 use Rattle.bptree_keys.specs.declared.node_id.NodeId.{NodeId}
 use Rattle.bptree_keys.proofs.Ascending.{less_turned}
 use Rattle.bptree_keys.proofs.Found.{gap_at, hit_at}
@@ -23,15 +24,16 @@ use Rattle.bptree_nodes.specs.Inner.{Inner}
 use Rattle.bptree_nodes.specs.Leaf.{Leaf}
 use Rattle.bptree_nodes.specs.Slot.{Slots}
 use Rattle.bptree_shape.specs.Leaves.{pairs_of}
-use Rattle.bptree_shape.specs.Shape.{pairs_at, IsWellShaped}
+use Rattle.bptree_shape.specs.Shape.{leaf_pairs, pairs_at, IsWellShaped}
 use Rattle.bptree_shape.proofs.Between.{cut, none_pass, each_of, all_pass}
 use Rattle.bptree_shape.proofs.Ordered.{by_cases, less_then_up}
-use Rattle.bptree_shape.proofs.Spot.{leaf_ascends, parts_of_read}
-use Rattle.bptree_descents.specs.Neighbours.{beside, IsPlaceAt}
+use Rattle.bptree_shape.proofs.Spot.{parts_of}
+use Rattle.bptree_descents.proofs.Beside.{place_ascends}
+use Rattle.bptree_descents.specs.Neighbours.{beside, IsPlaceAt, leaf_told, position_beside, slot_told}
 use Rattle.bptree_ranges.specs.Bounds.{between_bounds, bound_key, end_bound, is_before_bound, is_before_start, is_upto_end, may_hold, start_bound}
-use Rattle.bptree_ranges.specs.Ranges.{start, IsPlaceOn}
+use Rattle.bptree_ranges.specs.Ranges.{start, place_on, IsPlaceOn}
 use Rattle.bptree_ranges.proofs.Bordered.{falls_all}
-use Rattle.bptree_ranges.proofs.Ranged.{contents_ascend, filter_fewer, size_of, start_is}
+use Rattle.bptree_ranges.proofs.Ranged.{contents_ascend, filter_fewer, start_is}
 
 not_above : (r : Ordering) → not (is_gt r) ≡ true → is_gt r ≡ false
 not_above Less e = refl
@@ -210,22 +212,26 @@ module _ {K V A : Type 0} {cmp : K → K → Ordering} (total : IsTotalOrder cmp
     none_settled no' xs same i = let gap : i - i ≡ 0 = omega arith in sym same ∙ (none_held no' ∙ sym (ap (part (pairs_at slots h root) i) gap))
 
   -- the place beside a key in the leaf for it is one in the tree
-  pub place_beside : (k : K) (id : LeafNodeId) (leaf : Leaf K V) (r : Result ℕ ℕ) (behind : Bool) (n : ℕ) → IsPlaceAt cmp slots h root k id leaf r → n ≡ beside r behind
+  pub place_beside : (k : K) (id : LeafNodeId) (r : Result ℕ ℕ) (behind : Bool) (n : ℕ) → IsPlaceAt cmp slots h root k id r → n ≡ beside r behind
       → IsPlaceOn slots h root id n × (start slots h root id + n ≡ length (filter (λ (p : K × V). is_before behind (cmp p.0 k)) (pairs_at slots h root)))
-  place_beside k id leaf r behind n at is =
+  place_beside k id r behind n at is =
       let for' = at.for_key in
-      let here = at.here in
       let in' = for'.stands in
-      let ascending = leaf_ascends total slots h root id leaf in' (contents_ascend is_summary slots h root shape total) here in
-      let counts = place_counts total k behind leaf.pairs r ascending at.place_is in
+      let here = leaf_pairs (slots.leaf id.0) in
+      let counts = place_counts total k behind here r (place_ascends total is_summary slots h root shape k id r at) at.place_is in
       let t = λ (p : K × V). is_before behind (cmp p.0 k) in
       let before = pairs_of slots in'.before in
       let after = pairs_of slots in'.after in
-      let all : filter t (pairs_at slots h root) ≡ before ++ (filter t leaf.pairs ++ []) =
-      ap (filter t) (parts_of_read slots h root id in' leaf here)
-      ∙ (filter-append t before (leaf.pairs ++ after)
-      ∙ (ap (λ l. l ++ filter t (leaf.pairs ++ after)) (filter_all cmp k (is_before behind) Less before (less_passes behind) for'.smaller)
-      ∙ ap (λ l. before ++ l) (filter-append t leaf.pairs after ∙ ap (λ l. filter t leaf.pairs ++ l) (filter_none cmp k (is_before behind) Greater after (greater_fails behind) for'.greater)))) in (
-        record { stands = in'; within = omega (arith, is, counts.0, size_of is_summary slots h root shape id leaf here) },
-        omega (arith, start_is is_summary slots h root shape id in', ap length all, length-append before (filter t leaf.pairs ++ []), length-append (filter t leaf.pairs) [], counts.1, is),
+      let all : filter t (pairs_at slots h root) ≡ before ++ (filter t here ++ []) =
+      ap (filter t) (parts_of slots h root id in')
+      ∙ (filter-append t before (here ++ after)
+      ∙ (ap (λ l. l ++ filter t (here ++ after)) (filter_all cmp k (is_before behind) Less before (less_passes behind) for'.smaller)
+      ∙ ap (λ l. before ++ l) (filter-append t here after ∙ ap (λ l. filter t here ++ l) (filter_none cmp k (is_before behind) Greater after (greater_fails behind) for'.greater)))) in (
+        record { stands = in'; within = omega (arith, is, counts.0) },
+        omega (arith, start_is is_summary slots h root shape id in', ap length all, length-append before (filter t here ++ []), length-append (filter t here) [], counts.1, is),
       )
+
+  -- so is the position on a side of a key
+  pub place_at_side : (k : K) (found : Result Position Position) (behind : Bool) (at : Position) → IsPlaceAt cmp slots h root k (leaf_told found) (slot_told found) → at ≡ position_beside found behind
+      → IsPlaceOn slots h root at.leaf at.slot × (place_on slots h root at ≡ length (filter (λ (p : K × V). is_before behind (cmp p.0 k)) (pairs_at slots h root)))
+  place_at_side k found behind at there is = rw is (place_beside k (leaf_told found) (slot_told found) behind (beside (slot_told found) behind) there refl)

@@ -14,6 +14,7 @@ use Rattle.bptree_keys.specs.Contents.{IsAscending}
 use Rattle.bptree_keys.specs.Ranges.{part}
 use Rattle.bptree_keys.specs.declared.node_id.InnerNodeId.{InnerNodeId}
 use Rattle.bptree_keys.specs.declared.node_id.LeafNodeId.{LeafNodeId}
+use Rattle.bptree_keys.specs.declared.node_id.Position.{Position}
 use Rattle.bptree_keys.specs.declared.node_id.NodeId.{NodeId}
 use Rattle.bptree_keys.specs.declared.node_id.NodeId.TheVariants as kind
 use Rattle.bptree_keys.proofs.PieceLemmas.{AllByRecursion-right}
@@ -143,9 +144,9 @@ module _ {K G : Type 0} {cmp : K → K → Ordering} {R : G → G → Ordering} 
       starts : before_group R group_of g (pairs_at slots h top) ≡ before_entry slots h top n + before_group R group_of g (pairs_at slots (h - 1) child)
       starts = begins top id node n child h there (border_cut total o group_of keeps g false node.keys given n are (separators_ascend total is_summary slots h top id node there.at) few border)
 
-      pub found_in_child : (i : ℕ) (leaf : LeafNodeId) (slot : ℕ) → IsSkipped slots (h - 1) child (before_group R group_of g (pairs_at slots (h - 1) child)) i (Found leaf slot) → IsSkipped slots h top (before_group R group_of g (pairs_at slots h top)) i (Found leaf slot)
-      found_in_child i leaf slot below =
-          found total is_summary slots top id node n h child there (before_group R group_of g (pairs_at slots (h - 1) child)) i (before_group R group_of g (pairs_at slots h top)) i leaf slot (omega (arith, starts)) below
+      pub found_in_child : (i : ℕ) (place : Position) → IsSkipped slots (h - 1) child (before_group R group_of g (pairs_at slots (h - 1) child)) i (Found place) → IsSkipped slots h top (before_group R group_of g (pairs_at slots h top)) i (Found place)
+      found_in_child i place below =
+          found total is_summary slots top id node n h child there (before_group R group_of g (pairs_at slots (h - 1) child)) i (before_group R group_of g (pairs_at slots h top)) i place (omega (arith, starts)) below
 
       pub found_behind : (i rest : ℕ) (skipped : Skipped) → IsSkipped slots (h - 1) child (before_group R group_of g (pairs_at slots (h - 1) child)) i (Short rest) → IsSkipped slots h (kind.Inner id) (before_entry slots h (kind.Inner id) (n + 1)) rest skipped → IsSkipped slots h top (before_group R group_of g (pairs_at slots h top)) i skipped
       found_behind i rest skipped short behind =
@@ -175,7 +176,7 @@ module _ {K G : Type 0} {cmp : K → K → Ordering} {R : G → G → Ordering} 
       pub group_short : (n : ℕ) → IsSkipped slots h root (before_group R group_of g pairs) i (Short n) → IsPlaceInGroup slots R group_of g h root i None
       group_short n all = omega (arith, size_of_group pairs ascending, no_more (λ (p : K × V). test true p.0) pairs, all)
 
-      module _ (leaf : LeafNodeId) (slot end : ℕ) (node : Leaf K V) (there : IsSkipped slots h root (before_group R group_of g pairs) i (Found leaf slot)) (e : slots.leaf leaf.0 ≡ Present node)
+      module _ (leaf : LeafNodeId) (slot end : ℕ) (node : Leaf K V) (there : IsSkipped slots h root (before_group R group_of g pairs) i (Found (record { leaf = leaf; slot = slot }))) (e : slots.leaf leaf.0 ≡ Present node)
           (given : List K) (are : given ≡ keys_of node.pairs) (few : end ≤ length given) (found' : IsGroupBorder cmp R group_of g true given end) where
         ends_there : length (filter (λ (p : K × V). test true p.0) node.pairs) ≡ end
         ends_there = cut_counts (test true) node.pairs end (leaf_cut total o group_of keeps g is_summary slots h root shape leaf node there.0 e true given end are few found')
@@ -195,7 +196,7 @@ module _ {K G : Type 0} {cmp : K → K → Ordering} {R : G → G → Ordering} 
         ends : length (filter (λ (p : K × V). test true p.0) pairs) ≡ length (filter (λ (p : K × V). test true p.0) (front ++ (node.pairs ++ back)))
         ends = ap (λ l. length (filter (λ (p : K × V). test true p.0) l)) cut
 
-        pub in_group : slot < end → IsPlaceInGroup slots R group_of g h root i (Some (leaf, slot))
+        pub in_group : slot < end → IsPlaceInGroup slots R group_of g h root i (Some (record { leaf = leaf; slot = slot }))
         in_group less =
             let inside = inside_end (λ (p : K × V). test true p.0) front node.pairs back falls end slot ends_there less in
             let short = there.1 in

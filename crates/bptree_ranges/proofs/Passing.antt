@@ -8,6 +8,7 @@ use Rattle.std.proofs.lemmas.Map.Entries.{length-keys_of}
 use Rattle.bptree_keys.specs.Pieces.{piece_at}
 use Rattle.bptree_keys.specs.declared.node_id.InnerNodeId.{InnerNodeId}
 use Rattle.bptree_keys.specs.declared.node_id.LeafNodeId.{LeafNodeId}
+use Rattle.bptree_keys.specs.declared.node_id.Position.{Position}
 use Rattle.bptree_keys.specs.declared.node_id.NodeId.{NodeId}
 use Rattle.bptree_keys.specs.declared.node_id.NodeId.TheVariants as kind
 use Rattle.bptree_keys.proofs.PieceLemmas.{AllZip-at, AllZip-length}
@@ -41,7 +42,7 @@ module _ {K V A : Type 0} {cmp : K → K → Ordering} (total : IsTotalOrder cmp
 
   -- a leaf has so many places from a slot on
   module _ (top : NodeId) (id : LeafNodeId) (node : Leaf K V) (first i all len : ℕ) where
-    pub leaf_found : (h : ℕ) → IsSubtree cmp is_summary slots h top → top ≡ kind.Leaf id → slots.leaf id.0 ≡ Present node → all ≡ length node.pairs → len ≡ all - first → i < len → IsSkipped slots h top (before_entry slots h top first) i (Found id (first + i))
+    pub leaf_found : (h : ℕ) → IsSubtree cmp is_summary slots h top → top ≡ kind.Leaf id → slots.leaf id.0 ≡ Present node → all ≡ length node.pairs → len ≡ all - first → i < len → IsSkipped slots h top (before_entry slots h top first) i (Found (record { leaf = id; slot = first + i }))
     leaf_found zero s is e are rest less =
         let long : length (leaf_pairs (slots.leaf id.0)) ≡ length node.pairs = ap (λ (x : Slot (Leaf K V)). length (leaf_pairs x)) e in
         let s' : IsSubtree cmp is_summary slots zero (kind.Leaf id) = rw is at s in
@@ -56,7 +57,7 @@ module _ {K V A : Type 0} {cmp : K → K → Ordering} (total : IsTotalOrder cmp
 
   -- what is found from a later place on
   pub later_on : (h : ℕ) (id : NodeId) (start later rest i : ℕ) → start + i ≡ later + rest → (skipped : Skipped) → IsSkipped slots h id later rest skipped → IsSkipped slots h id start i skipped
-  later_on h id start later rest i is (Found leaf slot) (stands, short, at) = (stands, short, omega (arith, at, is))
+  later_on h id start later rest i is (Found place) (stands, short, at) = (stands, short, omega (arith, at, is))
   later_on h id start later rest i is (Short more) all = omega (arith, all, is)
 
   module _ (h : ℕ) (id : InnerNodeId) (node : Inner K A) (s : IsSubtree cmp is_summary slots (suc h) (kind.Inner id)) (e : slots.inner id.0 ≡ Present node) where
@@ -84,14 +85,14 @@ module _ {K V A : Type 0} {cmp : K → K → Ordering} (total : IsTotalOrder cmp
           let piece : piece_at ps n ≡ keys_of (pairs_at slots h child) = keys_at (pairs_at slots h) node.children n child within ∙ ap (λ c. keys_of (pairs_at slots h c)) (same total is_summary slots h id node s e n child within read) in
           law (piece_at ps n) there ∙ (ap length piece ∙ length-keys_of (pairs_at slots h child))
 
-      found_here : (from rest start i : ℕ) (leaf : LeafNodeId) (slot : ℕ) → before_entry slots (suc h) (kind.Inner id) n + (from + rest) ≡ start + i → IsSkipped slots h child from rest (Found leaf slot) → IsSkipped slots (suc h) (kind.Inner id) start i (Found leaf slot)
-      found_here from rest start i leaf slot sum (stands, short, at) =
+      found_here : (from rest start i : ℕ) (place : Position) → before_entry slots (suc h) (kind.Inner id) n + (from + rest) ≡ start + i → IsSkipped slots h child from rest (Found place) → IsSkipped slots (suc h) (kind.Inner id) start i (Found place)
+      found_here from rest start i place sum (stands, short, at) =
           let left = flat (leaves_at slots h) (take n node.children) in
           let up : length (pairs_of slots (left ++ stands.before)) ≡ length (pairs_of slots left) + length (pairs_of slots stands.before) =
           ap length (flat-append (λ (l : LeafNodeId). leaf_pairs (slots.leaf l.0)) left stands.before) ∙ length-append (pairs_of slots left) (pairs_of slots stands.before) in
           let begins : length (pairs_of slots left) ≡ before_entry slots (suc h) (kind.Inner id) n = ap length (pairs_of_all slots h (take n node.children)) ∙ sym (before_is n) in
-          let moved : length (pairs_of slots (left ++ stands.before)) + slot ≡ start + i = omega (arith, up, begins, sum, at) in
-          (stands_above slots h id node e n child leaf within read stands, short, moved)
+          let moved : length (pairs_of slots (left ++ stands.before)) + place.slot ≡ start + i = omega (arith, up, begins, sum, at) in
+          (stands_above slots h id node e n child place.leaf within read stands, short, moved)
 
   -- the same at a height that the code knows
   module _ (top : NodeId) (id : InnerNodeId) (node : Inner K A) where
@@ -129,12 +130,12 @@ module _ {K V A : Type 0} {cmp : K → K → Ordering} (total : IsTotalOrder cmp
       pub passed_below : (h : ℕ) (child : NodeId) → IsChildAt cmp is_summary slots h top id node n child → (rest more start i : ℕ) → IsSkipped slots (h - 1) child (before_entry slots (h - 1) child 0) rest (Short more) → before_entry slots h top n + rest ≡ start + i → before_entry slots h top (n + 1) + more ≡ start + i
       passed_below h child there rest more start i all sum = omega (arith, next_is h child there, none_before (h - 1) child, all, sum)
 
-      pub found : (h : ℕ) (child : NodeId) → IsChildAt cmp is_summary slots h top id node n child → (from rest start i : ℕ) (leaf : LeafNodeId) (slot : ℕ) → before_entry slots h top n + (from + rest) ≡ start + i
-          → IsSkipped slots (h - 1) child from rest (Found leaf slot) → IsSkipped slots h top start i (Found leaf slot)
-      found zero child there from rest start i leaf slot sum below = absurd there.at.subtree.stands.tree
-      found (suc h) child there from rest start i leaf slot sum below =
-          rw there.at.is (found_here h id node there.at.subtree there.at.read n child there.within there.child_is from rest start i leaf slot (rw there.at.is at sum) (rw (down total is_summary slots h) at below))
+      pub found : (h : ℕ) (child : NodeId) → IsChildAt cmp is_summary slots h top id node n child → (from rest start i : ℕ) (place : Position) → before_entry slots h top n + (from + rest) ≡ start + i
+          → IsSkipped slots (h - 1) child from rest (Found place) → IsSkipped slots h top start i (Found place)
+      found zero child there from rest start i place sum below = absurd there.at.subtree.stands.tree
+      found (suc h) child there from rest start i place sum below =
+          rw there.at.is (found_here h id node there.at.subtree there.at.read n child there.within there.child_is from rest start i place (rw there.at.is at sum) (rw (down total is_summary slots h) at below))
 
-      pub found_first : (h : ℕ) (child : NodeId) → IsChildAt cmp is_summary slots h top id node n child → (rest start i : ℕ) (leaf : LeafNodeId) (slot : ℕ) → before_entry slots h top n + rest ≡ start + i
-          → IsSkipped slots (h - 1) child (before_entry slots (h - 1) child 0) rest (Found leaf slot) → IsSkipped slots h top start i (Found leaf slot)
-      found_first h child there rest start i leaf slot sum below = found h child there (before_entry slots (h - 1) child 0) rest start i leaf slot (omega (arith, none_before (h - 1) child, sum)) below
+      pub found_first : (h : ℕ) (child : NodeId) → IsChildAt cmp is_summary slots h top id node n child → (rest start i : ℕ) (place : Position) → before_entry slots h top n + rest ≡ start + i
+          → IsSkipped slots (h - 1) child (before_entry slots (h - 1) child 0) rest (Found place) → IsSkipped slots h top start i (Found place)
+      found_first h child there rest start i place sum below = found h child there (before_entry slots (h - 1) child 0) rest start i place (omega (arith, none_before (h - 1) child, sum)) below

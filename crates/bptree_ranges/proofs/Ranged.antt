@@ -13,6 +13,7 @@ use Rattle.std.specs.Map.{keys_of}
 use Rattle.bptree_iteration.specs.Span.{Tells}
 use Rattle.bptree_iteration.specs.declared.part.Extent.{Extent}
 use Rattle.bptree_keys.specs.declared.node_id.LeafNodeId.{LeafNodeId}
+use Rattle.bptree_keys.specs.declared.node_id.Position.{Position}
 use Rattle.bptree_keys.specs.declared.node_id.NodeId.{NodeId}
 use Rattle.bptree_nodes.specs.Inner.{Inner}
 use Rattle.bptree_nodes.specs.Leaf.{Leaf}
@@ -80,6 +81,9 @@ present_of : {K V : Type 0} (s : Slot (Leaf K V)) → 0 < length (leaf_pairs s) 
 present_of Free h = absurd (omega arith)
 present_of Held h = absurd (omega arith)
 present_of (Present leaf) h = tt
+
+one_position : (a b : Position) → a.leaf ≡ b.leaf → a.slot ≡ b.slot → a ≡ b
+one_position a b e f = λ i. record { leaf = e i; slot = f i }
 
 module _ {K V A : Type 0} {cmp : K → K → Ordering} (is_summary : A → List K → Type 0) (slots : Slots (Inner K A) (Leaf K V)) (h : ℕ) (root : NodeId) (shape : IsWellShaped cmp is_summary slots h root) where
   abbrev pub size : LeafNodeId → ℕ
@@ -189,25 +193,25 @@ module _ {K V A : Type 0} {cmp : K → K → Ordering} (is_summary : A → List 
   size_of leaf node here = ap (λ s. length (leaf_pairs s)) here
 
   -- of two places at pairs, or at the end of all, one is behind the other, or they are one
-  pub rises_between : (one other : LeafNodeId × ℕ) (i j : ℕ) → IsSettled slots h root i one → IsSettled slots h root j other → i ≤ j → (start slots h root one.0 + one.1 < start slots h root other.0 + other.1) ⊎ ((other.0 ≡ one.0) × (other.1 ≡ one.1))
+  pub rises_between : (one other : Position) (i j : ℕ) → IsSettled slots h root i one → IsSettled slots h root j other → i ≤ j → (place_on slots h root one < place_on slots h root other) ⊎ (other ≡ one)
   rises_between one other i j a b le =
-      elim (eq-or-lt_of_le le) as (λ _. (start slots h root one.0 + one.1 < start slots h root other.0 + other.1) ⊎ ((other.0 ≡ one.0) × (other.1 ≡ one.1))) [
+      elim (eq-or-lt_of_le le) as (λ _. (place_on slots h root one < place_on slots h root other) ⊎ (other ≡ one)) [
         | inr lt ↦ (let lt' : i < j = lt in inl (omega (arith, lt', a.same, b.same)))
         | inl eq ↦
-            (elim (order one.0 other.0 a.on.stands b.on.stands) as (λ _. (start slots h root one.0 + one.1 < start slots h root other.0 + other.1) ⊎ ((other.0 ≡ one.0) × (other.1 ≡ one.1))) [
-              | inl same ↦ (let at = ap (start slots h root) same in inr (sym same, omega (arith, eq, a.same, b.same, at)))
+            (elim (order one.leaf other.leaf a.on.stands b.on.stands) as (λ _. (place_on slots h root one < place_on slots h root other) ⊎ (other ≡ one)) [
+              | inl same ↦ (let at = ap (start slots h root) same in inr (one_position other one (sym same) (omega (arith, eq, a.same, b.same, at))))
               | inr rest ↦
-                  (elim rest as (λ _. (start slots h root one.0 + one.1 < start slots h root other.0 + other.1) ⊎ ((other.0 ≡ one.0) × (other.1 ≡ one.1))) [
-                    | inl first ↦ (let here = a.pair (omega (arith, first.from, first.last, reached other.0 b.on.stands, a.same, a.on.within)) in absurd (omega (arith, here, first.from, eq, a.same, b.same)))
-                    | inr last ↦ (let there = b.pair (omega (arith, last.from, last.last, reached one.0 a.on.stands, b.same, b.on.within)) in absurd (omega (arith, there, last.from, eq, a.same, b.same)))
+                  (elim rest as (λ _. (place_on slots h root one < place_on slots h root other) ⊎ (other ≡ one)) [
+                    | inl first ↦ (let here = a.pair (omega (arith, first.from, first.last, reached other.leaf b.on.stands, a.same, a.on.within)) in absurd (omega (arith, here, first.from, eq, a.same, b.same)))
+                    | inr last ↦ (let there = b.pair (omega (arith, last.from, last.last, reached one.leaf a.on.stands, b.same, b.on.within)) in absurd (omega (arith, there, last.from, eq, a.same, b.same)))
                   ])
             ])
       ]
 
   -- the part between two places that were settled
-  pub part_between_settled : (front back one other : LeafNodeId × ℕ) (limit' : ℕ) (extent' : Extent) → IsSettled slots h root (place_on slots h root front) one → IsSettled slots h root (place_on slots h root back) other → place_on slots h root front ≤ place_on slots h root back
+  pub part_between_settled : (front back one other : Position) (limit' : ℕ) (extent' : Extent) → IsSettled slots h root (place_on slots h root front) one → IsSettled slots h root (place_on slots h root back) other → place_on slots h root front ≤ place_on slots h root back
       → Tells extent' limit' (place_on slots h root back - place_on slots h root front)
-      → IsPart slots h root (record { front = one.0; from = one.1; back = other.0; to = other.1; limit = limit'; extent = extent' }) (part (pairs_at slots h root) (place_on slots h root front) (min limit' (place_on slots h root back - place_on slots h root front)))
+      → IsPart slots h root (record { front = one; back = other; limit = limit'; extent = extent' }) (part (pairs_at slots h root) (place_on slots h root front) (min limit' (place_on slots h root back - place_on slots h root front)))
   part_between_settled front back one other limit' extent' a b le told =
       let i = place_on slots h root front in
       let j = place_on slots h root back in
@@ -224,7 +228,7 @@ module _ {K V A : Type 0} {cmp : K → K → Ordering} (is_summary : A → List 
       }
 
   -- the place that was settled has as many pairs before it as itself
-  pub settled_itself : (i : ℕ) (at : LeafNodeId × ℕ) → IsSettled slots h root i at → IsSettled slots h root (place_on slots h root at) at
+  pub settled_itself : (i : ℕ) (at : Position) → IsSettled slots h root i at → IsSettled slots h root (place_on slots h root at) at
   settled_itself i at settled = subst (λ n. IsSettled slots h root n at) (sym settled.same) settled
 
   -- the first place of all, and the one behind the last pair
@@ -242,14 +246,14 @@ module _ {K V A : Type 0} {cmp : K → K → Ordering} (is_summary : A → List 
   contents_ascend total = tree_ascends total slots (root_least h) h root None None shape.tree
 
   -- the place that a query selects
-  pub selected_place : {Q : Type 0} (selects : Q → List K → Option ℕ → Type 0) (query : Q) (leaf : LeafNodeId) (slot : ℕ) → IsSelectedAt selects query slots h root (Some (leaf, slot))
+  pub selected_place : {Q : Type 0} (selects : Q → List K → Option ℕ → Type 0) (query : Q) (leaf : LeafNodeId) (slot : ℕ) → IsSelectedAt selects query slots h root (Some (record { leaf = leaf; slot = slot }))
       → IsPlaceOn slots h root leaf slot × selects query (keys_of (pairs_at slots h root)) (Some (start slots h root leaf + slot))
   selected_place selects query leaf slot (in', short, selected) = (
     record { stands = in'; within = omega (arith, short) },
     subst (λ (n : ℕ). selects query (keys_of (pairs_at slots h root)) (Some (n + slot))) (sym (start_is leaf in')) selected,
   )
 
-  pub selected_within : {Q : Type 0} (selects : Q → List K → Option ℕ → Type 0) (query : Q) (leaf : LeafNodeId) (slot : ℕ) → IsSelectedAt selects query slots h root (Some (leaf, slot)) → start slots h root leaf + slot < length (pairs_at slots h root)
+  pub selected_within : {Q : Type 0} (selects : Q → List K → Option ℕ → Type 0) (query : Q) (leaf : LeafNodeId) (slot : ℕ) → IsSelectedAt selects query slots h root (Some (record { leaf = leaf; slot = slot })) → start slots h root leaf + slot < length (pairs_at slots h root)
   selected_within selects query leaf slot (in', short, selected) = omega (arith, short, start_is leaf in', total_is leaf in')
 
 -- a part that asks for more than there is
@@ -280,10 +284,10 @@ pub part_past : {X : Type 0} (l : List X) (i n : ℕ) → length l ≤ i → par
 part_past l i n less = ap (take n) (drop_all i l less) ∙ take-nil n
 
 -- a part without a pair
-pub empty_part : {K V A : Type 0} (slots : Slots (Inner K A) (Leaf K V)) (h : ℕ) (root : NodeId) (at : LeafNodeId × ℕ) → IsPlaceOn slots h root at.0 at.1 → IsPart slots h root (empty_at at) []
+pub empty_part : {K V A : Type 0} (slots : Slots (Inner K A) (Leaf K V)) (h : ℕ) (root : NodeId) (at : Position) → IsPlaceOn slots h root at.leaf at.slot → IsPart slots h root (empty_at at) []
 empty_part slots h root at on =
-    let none : min 0 ((start slots h root at.0 + at.1) - (start slots h root at.0 + at.1)) ≡ 0 = omega arith in
-    record { front = on; back = on; rises = inr (refl, refl); tells = omega arith; pairs = sym (ap (part (pairs_at slots h root) (start slots h root at.0 + at.1)) none) }
+    let none : min 0 ((start slots h root at.leaf + at.slot) - (start slots h root at.leaf + at.slot)) ≡ 0 = omega arith in
+    record { front = on; back = on; rises = inr refl; tells = omega arith; pairs = sym (ap (part (pairs_at slots h root) (start slots h root at.leaf + at.slot)) none) }
 
 -- fewer members pass a narrower test
 pub filter_fewer : {X : Type 0} (p q : X → Bool) (xs : List X) → ((x : X) → p x ≡ true → q x ≡ true) → length (filter p xs) ≤ length (filter q xs)

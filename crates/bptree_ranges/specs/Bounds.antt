@@ -7,6 +7,9 @@ use Rattle.std.specs.declared.ops.Bound.TheVariants.{Included, Excluded, Unbound
 use Rattle.std.specs.Option.{option_map}
 use Rattle.std.specs.Ordering.{is_lt, is_gt}
 use Rattle.std.specs.Range.Bound.{bound_map}
+use Rattle.bptree_keys.specs.Ends.{is_after, is_back}
+use Rattle.bptree_keys.specs.declared.end.End.{End}
+use Rattle.bptree_keys.specs.declared.end.Side.{Side}
 
 -- the bound by the key that a reference shows
 abbrev pub bound_copied : {K : Type 0} → Bound (Bor K) → Bound K
@@ -28,8 +31,8 @@ bound_key end (Excluded k) = Some (k, not end)
 bound_key end Unbounded = None
 
 -- the same, where a reference shows the key
-abbrev pub TellsKey : {K : Type 0} → Bool → Bound (Bor K) → Option (Bor K × Bool) → Type 0
-TellsKey end bound found = option_map (λ at. (at.0.now, at.1)) found ≡ bound_key end (bound_copied bound)
+abbrev pub TellsKey : {K : Type 0} → End → Bound (Bor K) → Option (Bor K × Side) → Type 0
+TellsKey end bound found = option_map (λ at. (at.0.now, is_after at.1)) found ≡ bound_key (is_back end) (bound_copied bound)
 
 module _ {K : Type 0} (cmp : K → K → Ordering) where
   -- the key comes before the start

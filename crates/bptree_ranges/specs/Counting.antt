@@ -1,10 +1,10 @@
--- How many pairs of a tree stand between two ends, before the lower one, before the upper one, and before a key.
+-- How many pairs of a tree stand before a lower end, before an upper one, and before a key.
 use Rattle.std.specs.Prelude.{◌≡◌, ℕ, Option, filter, length}
 use Rattle.std.specs.Borrow.{Bor}
 use Rattle.std.specs.declared.cmp.Ordering.{Ordering}
 use Rattle.std.specs.Option.{option_copied}
 use Rattle.bptree_keys.specs.Contents.{IsAscending, pairs_below}
-use Rattle.bptree_keys.specs.Ranges.{between, falls_short, stays_below}
+use Rattle.bptree_keys.specs.Ranges.{falls_short, stays_below}
 use Rattle.bptree_keys.specs.declared.node_id.NodeId.{NodeId}
 use Rattle.bptree_nodes.specs.Inner.{Inner}
 use Rattle.bptree_nodes.specs.Leaf.{Leaf}
@@ -12,11 +12,8 @@ use Rattle.bptree_nodes.specs.Slot.{Slots}
 use Rattle.bptree_shape.specs.Shape.{pairs_at}
 
 module _ {K V A : Type 0} (cmp : K → K → Ordering) (slots : Slots (Inner K A) (Leaf K V)) (height : ℕ) (root : NodeId) where
-  -- as many of a tree's pairs are between two ends, each of which a reference shows, where it is given
-  abbrev pub CountsBetween : Option (Bor K) → Option (Bor K) → ℕ → Type 0
-  CountsBetween lo hi n = n ≡ length (between cmp (pairs_at slots height root) (option_copied lo) (option_copied hi))
-
-  -- or fall short of the lower end, or stay below the upper end, or are smaller than a key
+  -- as many of a tree's pairs fall short of a lower end, or stay below an upper end, which a reference shows, where it is
+  -- given; or are smaller than a key
   abbrev pub CountsShort : Option (Bor K) → ℕ → Type 0
   CountsShort lo n = n ≡ length (filter (λ pair. falls_short cmp (option_copied lo) pair.0) (pairs_at slots height root))
 

@@ -1,9 +1,12 @@
 -- Where a walk over the places of a tree ends.
-use Rattle.std.specs.Prelude.{◌≡◌, ℕ, zero, suc, ◌+◌, ◌<◌, ◌≤◌, List, length, min, take, filter, Bool, false, Option, Some, None}
+use Rattle.std.specs.Prelude.{◌≡◌, ℕ, zero, suc, ◌+◌, ◌<◌, ◌≤◌, List, length, min, take, filter, false, Option, Some, None}
 use Rattle.std.specs.declared.cmp.Ordering.{Ordering}
 use Rattle.bptree_arguments.specs.GroupAnswers.{is_before}
 use Rattle.bptree_arguments.specs.Groups.{of_group}
+use Rattle.bptree_keys.specs.Ends.{is_back}
+use Rattle.bptree_keys.specs.declared.end.End.{End}
 use Rattle.bptree_keys.specs.declared.node_id.LeafNodeId.{LeafNodeId}
+use Rattle.bptree_keys.specs.declared.node_id.Position.{Position}
 use Rattle.bptree_keys.specs.declared.node_id.NodeId.{NodeId}
 use Rattle.bptree_keys.specs.declared.node_id.NodeId.TheVariants as kind
 use Rattle.bptree_nodes.specs.Inner.{Inner}
@@ -30,15 +33,15 @@ module _ {K V A : Type 0} (slots : Slots (Inner K A) (Leaf K V)) where
 
   -- the pair behind so many from one place on, or how many more would have to stand there
   abbrev pub IsSkipped : ℕ → NodeId → ℕ → ℕ → Skipped → Type 0
-  IsSkipped h id from i (Found leaf offset) =
-      (stands : StandsIn slots h id leaf) × (offset < length (leaf_pairs (slots.leaf leaf.0))) × (length (pairs_of slots stands.before) + offset ≡ from + i)
+  IsSkipped h id from i (Found at) =
+      (stands : StandsIn slots h id at.leaf) × (at.slot < length (leaf_pairs (slots.leaf at.leaf.0))) × (length (pairs_of slots stands.before) + at.slot ≡ from + i)
   IsSkipped h id from i (Short rest) = from + i ≡ length (pairs_at slots h id) + rest
 
   -- the place of the pair behind so many of a group, or none where the group has no more
-  abbrev pub IsPlaceInGroup : {G : Type 0} → (G → G → Ordering) → (K → G) → G → ℕ → NodeId → ℕ → Option (LeafNodeId × ℕ) → Type 0
+  abbrev pub IsPlaceInGroup : {G : Type 0} → (G → G → Ordering) → (K → G) → G → ℕ → NodeId → ℕ → Option Position → Type 0
   IsPlaceInGroup cmp group_of g h root i None = length (of_group cmp group_of g (pairs_at slots h root)) ≤ i
   IsPlaceInGroup cmp group_of g h root i (Some at) =
-      IsPlaceOn slots h root at.0 at.1 × (start slots h root at.0 + at.1 ≡ before_group cmp group_of g (pairs_at slots h root) + i)
+      IsPlaceOn slots h root at.leaf at.slot × (start slots h root at.leaf + at.slot ≡ before_group cmp group_of g (pairs_at slots h root) + i)
       × (i < length (of_group cmp group_of g (pairs_at slots h root)))
 
   -- the same from a slot of a leaf or a child of an inner node on
@@ -51,5 +54,5 @@ module _ {K V A G : Type 0} (cmp : G → G → Ordering) (group_of : K → G) (g
   SkipsInto i skipped = IsSkipped slots h root (before_group cmp group_of g (pairs_at slots h root)) i skipped
 
   -- the leaf in which a group ends, or begins
-  abbrev pub BordersLeaf : Bool → LeafNodeId → Type 0
-  BordersLeaf end leaf = IsBorderLeaf slots (λ k. is_before end (cmp (group_of k) g)) h root leaf
+  abbrev pub BordersLeaf : End → LeafNodeId → Type 0
+  BordersLeaf end leaf = IsBorderLeaf slots (λ k. is_before (is_back end) (cmp (group_of k) g)) h root leaf

@@ -5,6 +5,7 @@ use Rattle.bptree_iteration.specs.declared.part.Extent.TheVariants.{Exact}
 use Rattle.bptree_iteration.specs.declared.part.Part.{Part}
 use Rattle.bptree_keys.specs.Ranges.{part}
 use Rattle.bptree_keys.specs.declared.node_id.LeafNodeId.{LeafNodeId}
+use Rattle.bptree_keys.specs.declared.node_id.Position.{Position}
 use Rattle.bptree_keys.specs.declared.node_id.NodeId.{NodeId}
 use Rattle.bptree_nodes.specs.Inner.{Inner}
 use Rattle.bptree_nodes.specs.Leaf.{Leaf}
@@ -28,23 +29,23 @@ module _ {K V A : Type 0} (slots : Slots (Inner K A) (Leaf K V)) (h : ℕ) (root
     pub within : offset ≤ length (leaf_pairs (slots.leaf leaf.0))
 
   -- how many pairs stand before a place
-  abbrev pub place_on : LeafNodeId × ℕ → ℕ
-  place_on at = start at.0 + at.1
+  abbrev pub place_on : Position → ℕ
+  place_on at = start at.leaf + at.slot
 
   -- the same place as so many pairs before it say, at a pair, where it is not the end of all
-  pub record IsSettled (place : ℕ) (at : LeafNodeId × ℕ) : Type 0 where
-    pub on : IsPlaceOn at.0 at.1
+  pub record IsSettled (place : ℕ) (at : Position) : Type 0 where
+    pub on : IsPlaceOn at.leaf at.slot
     pub same : place_on at ≡ place
-    pub pair : place < length (pairs_at slots h root) → at.1 < length (leaf_pairs (slots.leaf at.0.0))
+    pub pair : place < length (pairs_at slots h root) → at.slot < length (leaf_pairs (slots.leaf at.leaf.0))
 
   -- The part has these pairs, between its two places: the second is behind the first, or they are one.
   pub record IsPart (p : Part) (xs : List (K × V)) : Type 0 where
-    pub front : IsPlaceOn p.front p.from
-    pub back : IsPlaceOn p.back p.to
-    pub rises : (start p.front + p.from < start p.back + p.to) ⊎ ((p.back ≡ p.front) × (p.to ≡ p.from))
-    pub tells : Tells p.extent p.limit ((start p.back + p.to) - (start p.front + p.from))
-    pub pairs : xs ≡ part (pairs_at slots h root) (start p.front + p.from) (min p.limit ((start p.back + p.to) - (start p.front + p.from)))
+    pub front : IsPlaceOn p.front.leaf p.front.slot
+    pub back : IsPlaceOn p.back.leaf p.back.slot
+    pub rises : (place_on p.front < place_on p.back) ⊎ (p.back ≡ p.front)
+    pub tells : Tells p.extent p.limit (place_on p.back - place_on p.front)
+    pub pairs : xs ≡ part (pairs_at slots h root) (place_on p.front) (min p.limit (place_on p.back - place_on p.front))
 
 -- a part without a pair, at a place
-abbrev pub empty_at : LeafNodeId × ℕ → Part
-empty_at at = record { front = at.0; from = at.1; back = at.0; to = at.1; limit = 0; extent = Exact }
+abbrev pub empty_at : Position → Part
+empty_at at = record { front = at; back = at; limit = 0; extent = Exact }

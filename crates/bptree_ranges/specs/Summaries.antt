@@ -1,5 +1,5 @@
 -- Summaries of some keys, or none where there are no keys.
-use Rattle.std.specs.Prelude.{◌≡◌, ℕ, ◌<◌, ◌^◌, Bool, true, false, List, [], ◌++◌, length, Option, Some, None, MatchOption, drop}
+use Rattle.std.specs.Prelude.{◌≡◌, ℕ, ◌<◌, ◌^◌, List, [], ◌++◌, length, Option, Some, None, MatchOption, drop}
 use Rattle.std.specs.Borrow.{Bor}
 use Rattle.std.specs.declared.cmp.Ordering.{Ordering}
 use Rattle.std.specs.List.{AllZip, slice_range}
@@ -10,6 +10,8 @@ use Rattle.bptree_arguments.specs.Selection.{IsPlaceIn}
 use Rattle.bptree_keys.specs.Contents.{IsAscending}
 use Rattle.bptree_keys.specs.Pieces.{flatten, ArePieces}
 use Rattle.bptree_keys.specs.Ranges.{between}
+use Rattle.bptree_keys.specs.declared.end.Side.{Side}
+use Rattle.bptree_keys.specs.declared.end.Side.TheVariants.{After, Before}
 use Rattle.bptree_keys.specs.declared.node_id.NodeId.{NodeId}
 use Rattle.bptree_nodes.specs.Inner.{Inner}
 use Rattle.bptree_nodes.specs.Leaf.{Leaf}
@@ -54,10 +56,10 @@ module _ {K V A : Type 0} (cmp : K → K → Ordering) (is_summary : A → List 
     abbrev pub SumsUpSomeBetween : Option A → Type 0
     SumsUpSomeBetween found = SumsUpSome is_summary (keys_of (between cmp (pairs_at slots height root) (option_copied lo) (option_copied hi))) found
 
-  -- and of the keys that are below a key, or else of those that are not
-  abbrev pub SumsUpBeside : Slots (Inner K A) (Leaf K V) → ℕ → NodeId → K → Bool → Option A → Type 0
-  SumsUpBeside slots height root key true found = SumsUpSome is_summary (keys_of (between cmp (pairs_at slots height root) None (Some key))) found
-  SumsUpBeside slots height root key false found = SumsUpSome is_summary (keys_of (between cmp (pairs_at slots height root) (Some key) None)) found
+  -- and of the keys on a side of a key, which is itself on the side of what is after it
+  abbrev pub SumsUpBeside : Slots (Inner K A) (Leaf K V) → ℕ → NodeId → K → Side → Option A → Type 0
+  SumsUpBeside slots height root key Before found = SumsUpSome is_summary (keys_of (between cmp (pairs_at slots height root) None (Some key))) found
+  SumsUpBeside slots height root key After found = SumsUpSome is_summary (keys_of (between cmp (pairs_at slots height root) (Some key) None)) found
 
   -- the same of the keys of a leaf, where they ascend
   abbrev pub SumsUpSomeIn : Leaf K V → Option (Bor K) → Option (Bor K) → Option A → Type 0

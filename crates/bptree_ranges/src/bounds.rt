@@ -4,10 +4,11 @@ ghost use Rattle.std.specs.Option.{option_copied};
 ghost use Rattle.bptree_ranges.specs.Bounds.{bound_copied, end_bound, may_hold, start_bound, TellsKey};
 ghost use Rattle.bptree_ranges.specs.InTree.{HasBound, HasPartInBounds, HasPlace};
 
-use crate::ranges::{end_of_all, no_part, part_of_places};
-use bptree_descents::neighbours::{locate_key, slot_beside};
+use crate::ranges::{end_of_all, no_part, part_of_places, start_of_all};
+use bptree_descents::neighbours::{locate, position_beside};
 use bptree_iteration::part::{Extent, Part};
-use bptree_keys::node_id::LeafNodeId;
+use bptree_keys::end::{End, Side};
+use bptree_keys::node_id::Position;
 use bptree_shape::nodes::Nodes;
 use bptree_stores::node_stores::NodeStore;
 use std::ops::Bound;
@@ -23,13 +24,12 @@ pub fn part_between_bounds<S: NodeStore>(
 ) -> Part
     ensures { HasPartInBounds S.slots tree.now S.K.cmp lo.entry hi.entry result }
 {
-    // Read, so that the tree is known to be right.
-    let len = tree.len;
-    let front = place_of_bound(tree, lo, false);
+    let len = tree.len();
+    let front = place_of_bound(tree, lo, End::Front);
     if !can_hold(lo, hi) {
         return no_part(front);
     }
-    let back = place_of_bound(tree, hi, true);
+    let back = place_of_bound(tree, hi, End::Back);
     part_of_places(tree, front, back, len, Extent::Open)
 }
 
@@ -59,36 +59,34 @@ pub(crate) fn can_hold<K: Ord>(lo: Bound<&K>, hi: Bound<&K>) -> bool
     }
 }
 
-/// Where the keys end that are not behind an end, or else where those begin that are not before a
-/// start. Where the bound is open, that is behind the last of all, or at the first.
+/// Where a range with a bound begins or ends, as `end` says. Without a key in the bound, that is at
+/// the first of all pairs, or behind the last one.
 #[inline(always)]
 pub(crate) fn place_of_bound<S: NodeStore>(
     tree: &Nodes<S>,
     bound: Bound<&S::K>,
-    end: bool,
-) -> (LeafNodeId, usize)
+    end: End,
+) -> Position
     ensures place { HasPlace S.slots tree.now result }
     ensures before { HasBound S.slots tree.now S.K.cmp end bound.entry result }
 {
-    // Read, so that the tree is known to be right.
-    let _len = tree.len;
+    tree.recall();
     match key_of_bound(bound, end) {
-        Some((key, behind)) => {
-            let (leaf, _, place) = locate_key(tree, key);
-            (leaf, slot_beside(place, behind))
-        }
-        None if end => end_of_all(tree),
-        None => (tree.first_leaf(), 0),
+        Some((key, side)) => position_beside(locate(tree, key), side),
+        None if end.is_back() => end_of_all(tree),
+        None => start_of_all(tree),
     }
 }
 
-// The key of a bound, and whether the place of the bound is behind that key.
-fn key_of_bound<K>(bound: Bound<&K>, end: bool) -> Option<(&K, bool)>
+// The key of a bound, and the side of that key on which a range begins or ends.
+fn key_of_bound<K>(bound: Bound<&K>, end: End) -> Option<(&K, Side)>
     ensures { TellsKey end bound.entry result }
 {
-    match bound {
-        Bound::Included(key) => Some((key, end)),
-        Bound::Excluded(key) => Some((key, !end)),
-        Bound::Unbounded => None,
+    match (bound, end) {
+        (Bound::Included(key), End::Front) => Some((key, Side::Before)),
+        (Bound::Included(key), End::Back) => Some((key, Side::After)),
+        (Bound::Excluded(key), End::Front) => Some((key, Side::After)),
+        (Bound::Excluded(key), End::Back) => Some((key, Side::Before)),
+        (Bound::Unbounded, _) => None,
     }
 }

@@ -3,32 +3,30 @@ ghost use Rattle.std.specs.Prelude.{◌≡◌, length};
 ghost use Rattle.bptree_arguments.specs.CountLaws.{CountsKeys};
 ghost use Rattle.bptree_shape.specs.Shape.{pairs_at};
 ghost use Rattle.bptree_descents.specs.ByArgument.{IsSubtree};
-ghost use Rattle.bptree_ranges.specs.Counting.{CountsBelow, CountsBetween, CountsShort, CountsSmaller};
+ghost use Rattle.bptree_ranges.specs.Counting.{CountsBelow, CountsShort, CountsSmaller};
+ghost use Rattle.bptree_ranges.specs.InTree.{HasAsManyBetween, HasCounts};
 
 use crate::summaries::slot_of;
 use bptree_arguments::count::{Count, total_of};
 use bptree_keys::node_id::NodeId;
+use bptree_shape::nodes::Nodes;
 use bptree_stores::node_stores::NodeStore;
 
-/// How many keys are not below `lo` and are below `hi`, where they are given, in a tree of `len`
-/// pairs.
+/// How many keys are not below `lo` and are below `hi`, if they are given.
 ///
-/// One descent for each end that is given: on each level the counts of the children before the way
-/// are added up.
+/// One descent for each end that is given, of O(height) steps. On each level it adds up the counts
+/// of the children before the one for the end. It takes no memory and cannot fail.
 pub fn len_between<S: NodeStore<Argument = Count>>(
-    store: &S,
-    root: NodeId,
-    height: usize,
-    len: usize,
+    tree: &Nodes<S>,
     lo: Option<&S::K>,
     hi: Option<&S::K>,
 ) -> usize
-    requires subtree { IsSubtree S.K.cmp CountsKeys (S.slots store.now) height root }
-    requires all { len ≡ length (pairs_at (S.slots store.now) height root) }
-    ensures { CountsBetween S.K.cmp (S.slots store.now) height root lo.entry hi.entry result }
+    requires { HasCounts S.slots tree.now S.K.cmp }
+    ensures { HasAsManyBetween S.slots tree.now S.K.cmp lo.entry hi.entry result }
 {
-    let from = count_before(store, root, height, lo);
-    let to = count_upto(store, root, height, len, hi);
+    let len = tree.len();
+    let from = count_before(&tree.store, tree.root, tree.height, lo);
+    let to = count_upto(&tree.store, tree.root, tree.height, len, hi);
     to.saturating_sub(from)
 }
 

@@ -5,12 +5,13 @@ ghost use Rattle.bptree_ranges.specs.InTree.{HasBorder, HasGroup, HasPartOfGroup
 ghost use Rattle.bptree_ranges.specs.Places.{BordersLeaf};
 
 use crate::places::place_in_group;
-use crate::ranges::{no_part, part_of_places};
+use crate::ranges::{no_part, part_of_places, start_of_all};
 use bptree_arguments::group::FromRef;
 use bptree_arguments::group_order::keys_before;
 use bptree_iteration::part::{Extent, Part};
+use bptree_keys::end::End;
 use bptree_keys::key::Key;
-use bptree_keys::node_id::{LeafNodeId, NodeId};
+use bptree_keys::node_id::{LeafNodeId, NodeId, Position};
 use bptree_shape::nodes::Nodes;
 use bptree_stores::node_stores::NodeStore;
 use std::alloc::AllocError;
@@ -25,10 +26,9 @@ pub fn part_of_group<S: NodeStore, G: FromRef<S::K> + Key>(
 ) -> Result<Part, AllocError>
     ensures { IfOk result (HasGroup S.slots tree.now G.cmp G.group_of group.now) }
 {
-    // Read, so that the tree is known to be right.
-    let len = tree.len;
-    let front = place_of_group(tree, group, false)?;
-    let back = place_of_group(tree, group, true)?;
+    let len = tree.len();
+    let front = place_of_group(tree, group, End::Front)?;
+    let back = place_of_group(tree, group, End::Back)?;
     Ok(part_of_places(tree, front, back, len, Extent::Open))
 }
 
@@ -45,37 +45,36 @@ pub fn part_within_group<S: NodeStore, G: FromRef<S::K> + Key>(
 ) -> Result<Part, AllocError>
     ensures { IfOk result (HasPartOfGroup S.slots tree.now G.cmp G.group_of group.now i n) }
 {
-    // Read, so that the tree is known to be right.
-    let _len = tree.len;
+    tree.recall();
     match place_in_group(tree, group, i)? {
-        None => Ok(no_part((tree.first_leaf(), 0))),
+        None => Ok(no_part(start_of_all(tree))),
         Some(front) => {
-            let back = place_of_group(tree, group, true)?;
+            let back = place_of_group(tree, group, End::Back)?;
             Ok(part_of_places(tree, front, back, n, Extent::Cut))
         }
     }
 }
 
-// Where a group ends, or else where it begins.
+// Where a group begins or ends.
 fn place_of_group<S: NodeStore, G: FromRef<S::K> + Key>(
     tree: &Nodes<S>,
     group: &G,
-    end: bool,
-) -> Result<(LeafNodeId, usize), AllocError>
+    end: End,
+) -> Result<Position, AllocError>
     ensures { IfOk result (HasBorder S.slots tree.now G.cmp G.group_of group.now end) }
 {
     let leaf = leaf_of_group(&tree.store, tree.root, tree.height, group, end)?;
-    let offset = keys_before(tree.store.get_leaf(leaf).keys(), group, end)?;
-    Ok((leaf, offset))
+    let slot = keys_before(tree.store.get_leaf(leaf).keys(), group, end.is_back())?;
+    Ok(Position { leaf, slot })
 }
 
-// The leaf in which a group ends, or else in which it begins.
+// The leaf in which a group begins or ends.
 fn leaf_of_group<S: NodeStore, G: FromRef<S::K> + Key>(
     store: &S,
     id: NodeId,
     height: usize,
     group: &G,
-    end: bool,
+    end: End,
 ) -> Result<LeafNodeId, AllocError>
     requires { Stands S.K.cmp (S.slots store.now) height id }
     ensures { IfOk result (BordersLeaf G.cmp G.group_of group.now (S.slots store.now) height id end) }
@@ -84,7 +83,7 @@ fn leaf_of_group<S: NodeStore, G: FromRef<S::K> + Key>(
         NodeId::Leaf(leaf) => Ok(leaf),
         NodeId::Inner(inner) => {
             let node = store.get_inner(inner);
-            let place = keys_before(node.keys(), group, end)?;
+            let place = keys_before(node.keys(), group, end.is_back())?;
             let child = node.child_id(place);
             leaf_of_group(store, child, height - 1, group, end)
         }

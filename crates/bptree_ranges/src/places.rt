@@ -9,7 +9,7 @@ use bptree_arguments::argument::Argument;
 use bptree_arguments::group::FromRef;
 use bptree_arguments::group_order::keys_before;
 use bptree_keys::key::Key;
-use bptree_keys::node_id::{LeafNodeId, NodeId};
+use bptree_keys::node_id::{NodeId, Position};
 use bptree_shape::nodes::Nodes;
 use bptree_stores::node_stores::NodeStore;
 use std::alloc::AllocError;
@@ -17,13 +17,13 @@ use std::alloc::AllocError;
 /// Where a walk over so many pairs ends.
 #[derive(Clone, Copy, Drop)]
 pub(crate) enum Skipped {
-    /// The leaf and the slot of the pair behind them.
-    Found(LeafNodeId, usize),
+    /// The position of the pair behind them.
+    Found(Position),
     /// There are fewer pairs; how many more are to be passed.
     Short(usize),
 }
 
-/// The place of the pair behind the first `i` of a group, or none where the group has no more.
+/// The position of the pair behind the first `i` of a group, or none if the group has no more.
 ///
 /// One descent for where the group begins, which makes the groups of at most 7 keys or separators
 /// of each node. On its way back it passes children by their summaries, where these tell how many
@@ -33,17 +33,16 @@ pub(crate) fn place_in_group<S: NodeStore, G: FromRef<S::K> + Key>(
     tree: &Nodes<S>,
     group: &G,
     i: usize,
-) -> Result<Option<(LeafNodeId, usize)>, AllocError>
+) -> Result<Option<Position>, AllocError>
     ensures { IfOk result (HasPlaceOfGroup S.slots tree.now G.cmp G.group_of group.now i) }
 {
-    // Read, so that it is known to fit.
-    let _len = tree.len;
+    tree.recall();
     match skip_from_group(&tree.store, tree.root, tree.height, group, i)? {
         Skipped::Short(_) => Ok(None),
-        Skipped::Found(leaf, slot) => {
-            let end = keys_before(tree.store.get_leaf(leaf).keys(), group, true)?;
-            if slot < end {
-                Ok(Some((leaf, slot)))
+        Skipped::Found(at) => {
+            let end = keys_before(tree.store.get_leaf(at.leaf).keys(), group, true)?;
+            if at.slot < end {
+                Ok(Some(at))
             } else {
                 Ok(None)
             }
@@ -51,7 +50,7 @@ pub(crate) fn place_in_group<S: NodeStore, G: FromRef<S::K> + Key>(
     }
 }
 
-// The place behind `i` pairs from where a group begins.
+// The position behind `i` pairs from where a group begins.
 fn skip_from_group<S: NodeStore, G: FromRef<S::K> + Key>(
     store: &S,
     id: NodeId,
@@ -72,14 +71,14 @@ fn skip_from_group<S: NodeStore, G: FromRef<S::K> + Key>(
             let place = keys_before(node.keys(), group, false)?;
             let child = node.child_id(place);
             match skip_from_group(store, child, height - 1, group, i)? {
-                Skipped::Found(leaf, slot) => Ok(Skipped::Found(leaf, slot)),
+                Skipped::Found(at) => Ok(Skipped::Found(at)),
                 Skipped::Short(rest) => Ok(skip(store, id, height, place + 1, rest)),
             }
         }
     }
 }
 
-// The place behind `i` pairs from a slot of a leaf on, or else from a child on. Each child whose
+// The position behind `i` pairs from a slot of a leaf on, or else from a child on. Each child whose
 // summary tells that it has no more keys is passed in one step.
 fn skip<S: NodeStore>(store: &S, id: NodeId, height: usize, first: usize, i: usize) -> Skipped
     requires { IsSubtree S.K.cmp S.Argument.is_summary (S.slots store.now) height id }
@@ -89,7 +88,10 @@ fn skip<S: NodeStore>(store: &S, id: NodeId, height: usize, first: usize, i: usi
         NodeId::Leaf(leaf) => {
             let len = store.get_leaf(leaf).len().saturating_sub(first);
             if i < len {
-                Skipped::Found(leaf, first + i)
+                Skipped::Found(Position {
+                    leaf,
+                    slot: first + i,
+                })
             } else {
                 Skipped::Short(i - len)
             }
@@ -102,7 +104,7 @@ fn skip<S: NodeStore>(store: &S, id: NodeId, height: usize, first: usize, i: usi
                 match count_within(&arguments[place], rest) {
                     Some(count) => rest -= count,
                     None => match skip(store, node.child_id(place), height - 1, 0, rest) {
-                        Skipped::Found(leaf, slot) => return Skipped::Found(leaf, slot),
+                        Skipped::Found(at) => return Skipped::Found(at),
                         Skipped::Short(more) => rest = more,
                     },
                 }

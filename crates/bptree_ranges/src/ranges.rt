@@ -1,13 +1,14 @@
-//! Parts of the contents of a tree, by the places where they begin and end.
+//! Parts of the contents of a tree, by the positions where they begin and end.
 ghost use Rattle.std.specs.Prelude.{◌≡◌, IfOk, IsOk};
-ghost use Rattle.bptree_ranges.specs.InTree.{EndsAt, HasAsMany, HasInOrder, HasPartBetween, HasPartFrom, HasPartUpTo, HasPlace, HasPlacesBetween, HasSelectedPart, HasSettled};
+ghost use Rattle.bptree_ranges.specs.InTree.{EndsAt, HasAsMany, HasInOrder, HasPartBetween, HasPartFrom, HasPartUpTo, HasPlace, HasPlacesBetween, HasSelectedPart, HasSettled, StartsAt};
 ghost use Rattle.bptree_ranges.specs.Ranges.{empty_at};
 
 use crate::bounds::{bounds_of, can_hold, part_between_bounds, place_of_bound};
 use bptree_arguments::argument::SearchArgument;
 use bptree_descents::by_argument::find_by_argument;
 use bptree_iteration::part::{Extent, Part};
-use bptree_keys::node_id::LeafNodeId;
+use bptree_keys::end::End;
+use bptree_keys::node_id::Position;
 use bptree_shape::nodes::Nodes;
 use bptree_stores::node_stores::NodeStore;
 use std::alloc::AllocError;
@@ -24,51 +25,51 @@ pub fn part_between<S: NodeStore>(tree: &Nodes<S>, lo: Option<&S::K>, hi: Option
     part_between_bounds(tree, start, end)
 }
 
-/// The places where the pairs begin and end whose key is not below `lo` and is below `hi`, where
-/// they are given. It costs what `part_between` does.
+/// The positions where the pairs begin and end whose key is not below `lo` and is below `hi`, if
+/// they are given.
+///
+/// It searches for each end that is given, in O(log n) comparisons. It takes no memory and cannot
+/// fail.
 pub fn places_between<S: NodeStore>(
     tree: &Nodes<S>,
     lo: Option<&S::K>,
     hi: Option<&S::K>,
-) -> ((LeafNodeId, usize), (LeafNodeId, usize))
+) -> (Position, Position)
     ensures front { HasSettled S.slots tree.now result.0 result.0 }
     ensures back { HasSettled S.slots tree.now result.1 result.1 }
     ensures rises { HasInOrder S.slots tree.now result.0 result.1 }
     ensures pairs { HasPlacesBetween S.slots tree.now S.K.cmp lo.entry hi.entry result }
 {
     let (start, end) = bounds_of(lo, hi);
-    // Read, so that the tree is known to be right.
-    let _len = tree.len;
-    let first = place_of_bound(tree, start, false);
+    tree.recall();
+    let first = place_of_bound(tree, start, End::Front);
     let front = settled(tree, first);
     if !can_hold(start, end) {
         return (front, front);
     }
-    let behind = place_of_bound(tree, end, true);
+    let behind = place_of_bound(tree, end, End::Back);
     let back = settled(tree, behind);
     (front, back)
 }
 
-/// A part without a pair, at a place.
-pub(crate) fn no_part(at: (LeafNodeId, usize)) -> Part
+/// A part without a pair, at a position.
+pub(crate) fn no_part(at: Position) -> Part
     ensures { result ≡ empty_at at }
 {
     Part {
-        front: at.0,
-        from: at.1,
-        back: at.0,
-        to: at.1,
+        front: at,
+        back: at,
         limit: 0,
         extent: Extent::Exact,
     }
 }
 
-/// The pairs between two places, of which the second is not before the first; or the first `limit`
-/// of them.
+/// The pairs between two positions, or the first `limit` of them. The second position is not before
+/// the first.
 pub(crate) fn part_of_places<S: NodeStore>(
     tree: &Nodes<S>,
-    front: (LeafNodeId, usize),
-    back: (LeafNodeId, usize),
+    front: Position,
+    back: Position,
     limit: usize,
     extent: Extent,
 ) -> Part
@@ -78,42 +79,57 @@ pub(crate) fn part_of_places<S: NodeStore>(
     requires tells { HasAsMany S.slots tree.now front back limit extent }
     ensures { HasPartUpTo S.slots tree.now front back limit result }
 {
-    // Read, so that the tree is known to be right.
-    let _len = tree.len;
+    tree.recall();
     let front = settled(tree, front);
     let back = settled(tree, back);
     Part {
-        front: front.0,
-        from: front.1,
-        back: back.0,
-        to: back.1,
+        front,
+        back,
         limit,
         extent,
     }
 }
 
-/// The same place, at a pair: the end of a leaf is the start of the next one, where there is one.
-pub fn settled<S: NodeStore>(tree: &Nodes<S>, at: (LeafNodeId, usize)) -> (LeafNodeId, usize)
+/// The same position, at a pair: the end of a leaf is the start of the next one, if there is one.
+///
+/// O(1). It takes no memory and cannot fail.
+pub fn settled<S: NodeStore>(tree: &Nodes<S>, at: Position) -> Position
     requires { HasPlace S.slots tree.now at }
     ensures { HasSettled S.slots tree.now at result }
 {
-    let leaf = tree.store.get_leaf(at.0);
-    if at.1 < leaf.len() {
+    let leaf = tree.store.get_leaf(at.leaf);
+    if at.slot < leaf.len() {
         return at;
     }
     match leaf.next() {
-        Some(next) => (next, 0),
+        Some(next) => Position {
+            leaf: next,
+            slot: 0,
+        },
         None => at,
     }
 }
 
-/// The place behind the last pair of all.
-pub(crate) fn end_of_all<S: NodeStore>(tree: &Nodes<S>) -> (LeafNodeId, usize)
+/// The position of the first pair of all.
+pub(crate) fn start_of_all<S: NodeStore>(tree: &Nodes<S>) -> Position
+    ensures place { HasPlace S.slots tree.now result }
+    ensures start { StartsAt S.slots tree.now result }
+{
+    tree.recall();
+    Position {
+        leaf: tree.first_leaf(),
+        slot: 0,
+    }
+}
+
+/// The position behind the last pair of all.
+pub(crate) fn end_of_all<S: NodeStore>(tree: &Nodes<S>) -> Position
     ensures place { HasPlace S.slots tree.now result }
     ensures end { EndsAt S.slots tree.now result }
 {
     let leaf = tree.last_leaf();
-    (leaf, tree.store.get_leaf(leaf).len())
+    let slot = tree.store.get_leaf(leaf).len();
+    Position { leaf, slot }
 }
 
 /// The first `n` pairs, or all where there are fewer, from a place on that is allowed for the
@@ -130,21 +146,19 @@ where
     ensures part { IfOk result (HasSelectedPart S.slots tree.now S.Argument.selects query n) }
     ensures sure { S.Argument.needs_no_memory → IsOk result }
 {
-    // Read, so that the tree is known to be right.
-    let _len = tree.len;
+    tree.recall();
     match find_by_argument(tree, query)? {
-        None => Ok(no_part((tree.first_leaf(), 0))),
+        None => Ok(no_part(start_of_all(tree))),
         Some(front) => Ok(part_from(tree, front, n)),
     }
 }
 
-/// So many pairs from a place on, or all where there are fewer.
-pub(crate) fn part_from<S: NodeStore>(tree: &Nodes<S>, front: (LeafNodeId, usize), n: usize) -> Part
+/// So many pairs from a position on, or all if there are fewer.
+pub(crate) fn part_from<S: NodeStore>(tree: &Nodes<S>, front: Position, n: usize) -> Part
     requires { HasPlace S.slots tree.now front }
     ensures { HasPartFrom S.slots tree.now front n result }
 {
-    // Read, so that the tree is known to be right.
-    let _len = tree.len;
+    tree.recall();
     let back = end_of_all(tree);
     part_of_places(tree, front, back, n, Extent::Cut)
 }

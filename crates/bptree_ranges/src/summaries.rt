@@ -10,6 +10,7 @@ ghost use Rattle.bptree_ranges.specs.Counting.{CountsBelowIn, CountsShortIn, Cou
 
 use bptree_arguments::argument::Argument;
 use bptree_descents::neighbours::slot_beside;
+use bptree_keys::end::Side;
 use bptree_keys::key::Key;
 use bptree_keys::node_id::NodeId;
 use bptree_nodes::leaf_node::LeafNode;
@@ -31,8 +32,7 @@ pub fn summary_between<S: NodeStore>(
 ) -> Result<S::Argument, AllocError>
     ensures { IfOk result (SumsUpBetween S.K.cmp S.Argument.is_summary tree.now.contents lo.entry hi.entry) }
 {
-    // Read, so that it is known to fit.
-    let _len = tree.len;
+    tree.recall();
     match some_between(&tree.store, tree.root, tree.height, lo, hi)? {
         Some(summary) => Ok(summary),
         None => Ok(Default::default()),
@@ -52,8 +52,8 @@ fn some_between<S: NodeStore>(
 {
     match (lo, hi) {
         (None, None) => summary_of_all(store, root, height),
-        (Some(lo), None) => summary_beside(store, root, height, lo, false),
-        (None, Some(hi)) => summary_beside(store, root, height, hi, true),
+        (Some(lo), None) => summary_beside(store, root, height, lo, Side::After),
+        (None, Some(hi)) => summary_beside(store, root, height, hi, Side::Before),
         (Some(lo), Some(hi)) => match lo.cmp(hi) {
             Ordering::Less => summary_within(store, root, height, lo, hi),
             Ordering::Equal | Ordering::Greater => Ok(None),
@@ -79,37 +79,39 @@ fn summary_of_all<S: NodeStore>(
     }
 }
 
-// The keys below a node that are below a key, or else those that are not.
+// The keys below a node on one side of a key. An equal key is on the side `After`.
 fn summary_beside<S: NodeStore>(
     store: &S,
     id: NodeId,
     height: usize,
     key: &S::K,
-    below: bool,
+    side: Side,
 ) -> Result<Option<S::Argument>, AllocError>
     requires { IsSubtree S.K.cmp S.Argument.is_summary (S.slots store.now) height id }
-    ensures { IfOk result (SumsUpBeside S.K.cmp S.Argument.is_summary (S.slots store.now) height id key.now below) }
+    ensures { IfOk result (SumsUpBeside S.K.cmp S.Argument.is_summary (S.slots store.now) height id key.now side) }
 {
     match id {
         NodeId::Leaf(leaf) => {
             let node = store.get_leaf(leaf);
-            if below {
-                summary_in_leaf(node, None, Some(key))
-            } else {
-                summary_in_leaf(node, Some(key), None)
+            match side {
+                Side::Before => summary_in_leaf(node, None, Some(key)),
+                Side::After => summary_in_leaf(node, Some(key), None),
             }
         }
         NodeId::Inner(inner) => {
             let node = store.get_inner(inner);
             let (place, child) = node.locate_child(key);
-            let part = summary_beside(store, child, height - 1, key, below)?;
+            let part = summary_beside(store, child, height - 1, key, side)?;
             let arguments = node.arguments();
-            if below {
-                let front = sum_of_some(arguments, 0, place)?;
-                sum_of_both(store.allocator(), front, part)
-            } else {
-                let back = sum_of_some(arguments, place + 1, arguments.len())?;
-                sum_of_both(store.allocator(), part, back)
+            match side {
+                Side::Before => {
+                    let front = sum_of_some(arguments, 0, place)?;
+                    sum_of_both(store.allocator(), front, part)
+                }
+                Side::After => {
+                    let back = sum_of_some(arguments, place + 1, arguments.len())?;
+                    sum_of_both(store.allocator(), part, back)
+                }
             }
         }
     }
@@ -136,9 +138,9 @@ fn summary_within<S: NodeStore>(
             if from == to {
                 return summary_within(store, first, height - 1, lo, hi);
             }
-            let front = summary_beside(store, first, height - 1, lo, false)?;
+            let front = summary_beside(store, first, height - 1, lo, Side::After)?;
             let middle = sum_of_some(node.arguments(), from + 1, to)?;
-            let back = summary_beside(store, last, height - 1, hi, true)?;
+            let back = summary_beside(store, last, height - 1, hi, Side::Before)?;
             let rest = sum_of_both(store.allocator(), middle, back)?;
             sum_of_both(store.allocator(), front, rest)
         }
@@ -188,7 +190,7 @@ pub(crate) fn slot_of<K: Key, V: Drop>(leaf: &LeafNode<K, V>, key: &K) -> usize
     ensures within { result ≤ length leaf.now.pairs }
     ensures smaller { CountsSmallerIn K.cmp leaf.now key.now result }
 {
-    slot_beside(leaf.locate_slot(key), false)
+    slot_beside(leaf.locate_slot(key), Side::Before)
 }
 
 // A summary of all keys below the children of a node from one place to another, by the children's

@@ -68,7 +68,7 @@ fn move_child<K: Drop, A: Drop>(
 }
 
 /// The summaries of two leaves, and a separator between them.
-pub fn joint_of<K: Key, V: Drop, A: Argument<K>>(
+pub(crate) fn joint_of<K: Key, V: Drop, A: Argument<K>>(
     left: &LeafNode<K, V>,
     right: &LeafNode<K, V>,
 ) -> Result<Joint<K, A>, AllocError>
@@ -88,7 +88,7 @@ pub fn joint_of<K: Key, V: Drop, A: Argument<K>>(
 
 /// Puts a separator, and the summaries of the children on both sides, in place of what stands in a
 /// node. It answers that.
-pub fn exchange_joint<K: Key, A: Argument<K>>(
+pub(crate) fn exchange_joint<K: Key, A: Argument<K>>(
     node: &mut InnerNode<K, A>,
     slot: usize,
     joint: Joint<K, A>,
@@ -109,7 +109,7 @@ pub fn exchange_joint<K: Key, A: Argument<K>>(
 
 /// The same, and asks for the node's summary. It answers that, and what stood there; refused, the
 /// node is as it was.
-pub fn take_joint<K: Key, A: Argument<K>>(
+pub(crate) fn take_joint<K: Key, A: Argument<K>>(
     node: &mut InnerNode<K, A>,
     slot: usize,
     joint: Joint<K, A>,
@@ -209,7 +209,7 @@ fn ask_inner<K: Key, A: Argument<K>>(
 
 /// Merges two leaves into the left one; the right one stays empty. It answers the parent's summary,
 /// and what stood in the parent; refused, all three are as they were.
-pub fn merge_leaves<K: Key, V: Drop, A: Argument<K>>(
+pub(crate) fn merge_leaves<K: Key, V: Drop, A: Argument<K>>(
     node: &mut InnerNode<K, A>,
     slot: usize,
     left: &mut LeafNode<K, V>,
@@ -248,7 +248,7 @@ pub fn merge_leaves<K: Key, V: Drop, A: Argument<K>>(
 }
 
 /// Undoes what `merge_leaves` did to a left leaf that had `kept` pairs.
-pub fn undo_merge_leaves<K: Key, V: Drop, A: Argument<K>>(
+pub(crate) fn undo_merge_leaves<K: Key, V: Drop, A: Argument<K>>(
     node: &mut InnerNode<K, A>,
     slot: usize,
     joint: Joint<K, A>,
@@ -273,7 +273,7 @@ pub fn undo_merge_leaves<K: Key, V: Drop, A: Argument<K>>(
 /// Rotates a child from one inner node to its sibling. The separator goes down to the one, and a
 /// key of the other comes up. It answers the parent's summary, and what stood in the parent;
 /// refused, all three are as they were.
-pub fn rotate_inners<K: Key, A: Argument<K>>(
+pub(crate) fn rotate_inners<K: Key, A: Argument<K>>(
     node: &mut InnerNode<K, A>,
     slot: usize,
     giver: Sibling,
@@ -311,7 +311,7 @@ pub fn rotate_inners<K: Key, A: Argument<K>>(
 }
 
 /// Undoes what `rotate_inners` did.
-pub fn undo_rotate_inners<K: Key, A: Argument<K>>(
+pub(crate) fn undo_rotate_inners<K: Key, A: Argument<K>>(
     node: &mut InnerNode<K, A>,
     slot: usize,
     giver: Sibling,
@@ -334,7 +334,7 @@ pub fn undo_rotate_inners<K: Key, A: Argument<K>>(
 
 /// Merges two inner nodes into the left one, with the separator between; the right one stays as an
 /// empty shell.
-pub fn merge_inners<K: Key, A: Argument<K>>(
+pub(crate) fn merge_inners<K: Key, A: Argument<K>>(
     node: &mut InnerNode<K, A>,
     slot: usize,
     left: &mut InnerNode<K, A>,
@@ -374,7 +374,7 @@ pub fn merge_inners<K: Key, A: Argument<K>>(
 }
 
 /// Undoes what `merge_inners` did to a left node that had `kept` keys.
-pub fn undo_merge_inners<K: Key, A: Argument<K>>(
+pub(crate) fn undo_merge_inners<K: Key, A: Argument<K>>(
     node: &mut InnerNode<K, A>,
     slot: usize,
     sides: Sides<A>,

@@ -1,7 +1,7 @@
 //! Two siblings in a store, under their parent: they rotate or merge. Each change can be undone,
 //! and a refused one leaves every slot as it was.
 ghost use Rattle.std.specs.Prelude.{◌≡◌, ◌<◌, ◌≤◌, ◌+◌, length, IfOk, IsOk, OnErr};
-ghost use Rattle.bptree_keys.specs.Keys.{AllInfallible};
+ghost use Rattle.bptree_ascent.specs.Failing.{NeverFails};
 ghost use Rattle.bptree_nodes.specs.Slot.{IsPresent};
 ghost use Rattle.bptree_shape.specs.Shape.{leaf_pairs, inner_keys};
 ghost use Rattle.bptree_keys.specs.declared.node_id.NodeId.TheVariants as kind;
@@ -56,7 +56,7 @@ fn retell_leaves_at<S: NodeStore>(
     ensures retells { IfOk result (λ done. RetellsLeavesAt S.K.cmp S.Argument.is_summary slot (S.slots store.old) (S.slots store.new) id left right done.1) }
     ensures sums { IfOk result (SumsUpFirst S.K.cmp S.Argument.is_summary (S.slots store.new) id) }
     ensures refused { OnErr result (S.slots store.new ≡ S.slots store.old) }
-    ensures infallible { S.Argument.needs_no_memory → AllInfallible S.K.is_infallible → IsOk result }
+    ensures infallible { NeverFails S.Argument.needs_no_memory S.K.is_infallible result }
 {
     let joint = joint_of(store.get_leaf(left), store.get_leaf(right))?;
     take_joint(store.get_mut_inner(id), slot, joint)
@@ -64,7 +64,7 @@ fn retell_leaves_at<S: NodeStore>(
 
 /// Rotates a pair from one leaf to its sibling. It answers the summary of the parent, and what
 /// stood there.
-pub fn rotate_leaves_at<S: NodeStore>(
+pub(crate) fn rotate_leaves_at<S: NodeStore>(
     store: &mut S,
     id: InnerNodeId,
     slot: usize,
@@ -82,7 +82,7 @@ pub fn rotate_leaves_at<S: NodeStore>(
     ensures rotates { IfOk result (λ done. RotatesLeavesAt S.K.cmp S.Argument.is_summary slot (S.slots store.old) (S.slots store.new) id giver left right done.1) }
     ensures sums { IfOk result (SumsUpFirst S.K.cmp S.Argument.is_summary (S.slots store.new) id) }
     ensures refused { OnErr result (S.slots store.new ≡ S.slots store.old) }
-    ensures infallible { S.Argument.needs_no_memory → AllInfallible S.K.is_infallible → IsOk result }
+    ensures infallible { NeverFails S.Argument.needs_no_memory S.K.is_infallible result }
 {
     move_pair_at(store, giver, left, right);
     match retell_leaves_at(store, id, slot, left, right) {
@@ -95,7 +95,7 @@ pub fn rotate_leaves_at<S: NodeStore>(
 }
 
 /// Undoes what `rotate_leaves_at` did.
-pub fn undo_rotate_leaves_at<S: NodeStore>(
+pub(crate) fn undo_rotate_leaves_at<S: NodeStore>(
     store: &mut S,
     id: InnerNodeId,
     slot: usize,
@@ -113,7 +113,7 @@ pub fn undo_rotate_leaves_at<S: NodeStore>(
 
 /// Merges two leaves under the number of the left one. It answers the summary of the parent, what
 /// stood there, and the emptied right leaf, whose number stays reserved.
-pub fn merge_leaves_at<S: NodeStore>(
+pub(crate) fn merge_leaves_at<S: NodeStore>(
     store: &mut S,
     id: InnerNodeId,
     slot: usize,
@@ -154,7 +154,7 @@ pub fn merge_leaves_at<S: NodeStore>(
 }
 
 /// Undoes what `merge_leaves_at` did to a left leaf that had `kept` pairs.
-pub fn undo_merge_leaves_at<S: NodeStore>(
+pub(crate) fn undo_merge_leaves_at<S: NodeStore>(
     store: &mut S,
     id: InnerNodeId,
     slot: usize,
@@ -185,7 +185,7 @@ pub fn undo_merge_leaves_at<S: NodeStore>(
 }
 
 /// Rotates a child from one inner node to its sibling, through the parent.
-pub fn rotate_inners_at<S: NodeStore>(
+pub(crate) fn rotate_inners_at<S: NodeStore>(
     store: &mut S,
     id: InnerNodeId,
     slot: usize,
@@ -211,7 +211,7 @@ pub fn rotate_inners_at<S: NodeStore>(
 }
 
 /// Undoes what `rotate_inners_at` did.
-pub fn undo_rotate_inners_at<S: NodeStore>(
+pub(crate) fn undo_rotate_inners_at<S: NodeStore>(
     store: &mut S,
     id: InnerNodeId,
     slot: usize,
@@ -234,7 +234,7 @@ pub fn undo_rotate_inners_at<S: NodeStore>(
 
 /// Merges two inner nodes under the number of the left one; the number of the emptied right one
 /// stays reserved.
-pub fn merge_inners_at<S: NodeStore>(
+pub(crate) fn merge_inners_at<S: NodeStore>(
     store: &mut S,
     id: InnerNodeId,
     slot: usize,
@@ -271,7 +271,7 @@ pub fn merge_inners_at<S: NodeStore>(
 }
 
 /// Undoes what `merge_inners_at` did to a left node that had `kept` keys.
-pub fn undo_merge_inners_at<S: NodeStore>(
+pub(crate) fn undo_merge_inners_at<S: NodeStore>(
     store: &mut S,
     id: InnerNodeId,
     slot: usize,

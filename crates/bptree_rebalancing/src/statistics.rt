@@ -1,6 +1,7 @@
 //! Counters of how a tree was rebalanced.
 
 use crate::rotate_merge::Sibling;
+use crate::underflow::Level;
 
 /// How often nodes that underflowed were rebalanced, since the tree was made or last cleared. A
 /// counter stops at the greatest number.
@@ -28,29 +29,27 @@ pub struct Statistic {
     pub merge_with_right_leaf: u64,
 }
 
+/// How a node that underflowed was rebalanced.
+#[derive(Clone, Copy)]
+pub(crate) enum Rebalanced {
+    /// It took a pair or a child from the sibling on that side.
+    Rotated(Sibling),
+    /// It merged with the sibling on that side.
+    Merged(Sibling),
+}
+
 impl Statistic {
-    /// Counts a leaf that was rebalanced: which sibling gave a pair, or else, for a merge, whether
-    /// the leaf that underflowed was the right one of the two.
-    pub fn count_leaf(&mut self, giver: Option<Sibling>, is_right: bool) {
-        self.count(true, giver, is_right);
-    }
-
-    /// Counts an inner node that was rebalanced, in the same way.
-    pub fn count_inner(&mut self, giver: Option<Sibling>, is_right: bool) {
-        self.count(false, giver, is_right);
-    }
-
-    // Raises the counter of one of the eight ways.
-    fn count(&mut self, is_leaf: bool, giver: Option<Sibling>, is_right: bool) {
-        let counter = match (is_leaf, giver) {
-            (true, Some(Sibling::Left)) => &mut self.rotate_right_leaf,
-            (true, Some(Sibling::Right)) => &mut self.rotate_left_leaf,
-            (true, None) if is_right => &mut self.merge_with_left_leaf,
-            (true, None) => &mut self.merge_with_right_leaf,
-            (false, Some(Sibling::Left)) => &mut self.rotate_right_inner,
-            (false, Some(Sibling::Right)) => &mut self.rotate_left_inner,
-            (false, None) if is_right => &mut self.merge_with_left_inner,
-            (false, None) => &mut self.merge_with_right_inner,
+    /// Adds one to the counter of what was done with a node of a level.
+    pub(crate) fn count(&mut self, level: Level, done: Rebalanced) {
+        let counter = match (level, done) {
+            (Level::Leaf, Rebalanced::Rotated(Sibling::Left)) => &mut self.rotate_right_leaf,
+            (Level::Leaf, Rebalanced::Rotated(Sibling::Right)) => &mut self.rotate_left_leaf,
+            (Level::Leaf, Rebalanced::Merged(Sibling::Left)) => &mut self.merge_with_left_leaf,
+            (Level::Leaf, Rebalanced::Merged(Sibling::Right)) => &mut self.merge_with_right_leaf,
+            (Level::Inner, Rebalanced::Rotated(Sibling::Left)) => &mut self.rotate_right_inner,
+            (Level::Inner, Rebalanced::Rotated(Sibling::Right)) => &mut self.rotate_left_inner,
+            (Level::Inner, Rebalanced::Merged(Sibling::Left)) => &mut self.merge_with_left_inner,
+            (Level::Inner, Rebalanced::Merged(Sibling::Right)) => &mut self.merge_with_right_inner,
         };
         *counter = counter.saturating_add(1);
     }

@@ -1,18 +1,20 @@
 //! Underflow in a tree that stands in a store: which sibling a node rotates or merges with, and
 //! inner nodes that are rebalanced up the path.
-ghost use Rattle.std.specs.Prelude.{◌≡◌, ◌<◌, ◌+◌, IfOk, IsOk, OnErr, IsTrue};
+ghost use Rattle.std.specs.Prelude.{◌≡◌, ◌<◌, ◌+◌, IsOk, OnErr, IsTrue};
 ghost use Rattle.bptree_keys.specs.declared.node_id.NodeId.TheVariants as kind;
+ghost use Rattle.bptree_ascent.specs.Failing.{NeverFails};
 ghost use Rattle.bptree_nodes.specs.Slot.{IsPresent};
-ghost use Rattle.bptree_ascent.specs.Climb.{Climbs, Risen};
 ghost use Rattle.bptree_rebalancing.specs.ChooseSibling.{ChosenSibling, ChoosesSibling, HasChild, HasOneChildMore, HasPlaceBelow, InnersBelow, LeavesBelow, NodesBelow, size_below};
-ghost use Rattle.bptree_rebalancing.specs.Trim.{ClimbsUnderflow, Sunk};
+ghost use Rattle.bptree_rebalancing.specs.Trim.{ClimbsUnderflowFrom, LeafUnderflowFrom, SinksFrom, TrimsFrom};
 
 use crate::rotate_merge::Sibling;
 use crate::siblings::{
-    merge_inners_at, rotate_inners_at, undo_merge_inners_at, undo_rotate_inners_at,
+    merge_inners_at, merge_leaves_at, rotate_inners_at, rotate_leaves_at, undo_merge_inners_at,
+    undo_merge_leaves_at, undo_rotate_inners_at, undo_rotate_leaves_at,
 };
-use crate::statistics::Statistic;
+use crate::statistics::{Rebalanced, Statistic};
 use bptree_ascent::ascent::ascend;
+use bptree_ascent::links::relink_next;
 use bptree_keys::entry_ref::VisitStack;
 use bptree_keys::node_id::{InnerNodeId, LeafNodeId, NodeId};
 use bptree_nodes::inner_node::INNER_MINIMUM;
@@ -20,9 +22,37 @@ use bptree_nodes::leaf_node::LEAF_MINIMUM;
 use bptree_stores::node_stores::NodeStore;
 use std::alloc::AllocError;
 
-/// The slot of the separator between a child that underflows and its sibling, and which of the two
-/// gives, where one can; else they merge.
-pub type SiblingChoice = (usize, Option<Sibling>);
+/// The level of a node.
+#[derive(Clone, Copy, PartialEq, Eq)]
+pub(crate) enum Level {
+    Leaf,
+    Inner,
+}
+
+impl Level {
+    // The least number of pairs or keys of a node that is no root.
+    fn minimum(self) -> usize
+        ensures { result ≡ 16 }
+    {
+        match self {
+            Level::Leaf => LEAF_MINIMUM,
+            Level::Inner => INNER_MINIMUM,
+        }
+    }
+}
+
+// The merge that the child at an index took part in, by the slot of the separator between the two.
+fn merged(slot: usize, place: usize) -> Rebalanced {
+    if slot < place {
+        Rebalanced::Merged(Sibling::Left)
+    } else {
+        Rebalanced::Merged(Sibling::Right)
+    }
+}
+
+// The slot of the separator between a child that underflows and its sibling, and which of the two
+// gives, if one can; else they merge.
+type SiblingChoice = (usize, Option<Sibling>);
 
 // The sibling that is chosen for a child at an index. `gives` is whether the sibling before it
 // gives, `after` the number of pairs or keys of the sibling after it, or 0 if there is none, and
@@ -60,99 +90,137 @@ fn child_len<S: NodeStore>(store: &S, id: InnerNodeId, place: usize) -> usize
     }
 }
 
-// Which sibling the child at a place of a node rotates or merges with. The one before it gives
-// where it can, and of leaves also has more than the one behind.
-fn sibling<S: NodeStore>(store: &S, id: InnerNodeId, place: usize, leaves: bool) -> SiblingChoice
+// Chooses the sibling that the child at an index of a node rotates or merges with. The one before
+// the child gives if it can. Of leaves, it must also have more pairs than the one behind.
+fn sibling<S: NodeStore>(store: &S, id: InnerNodeId, place: usize, level: Level) -> SiblingChoice
     requires children { NodesBelow (S.slots store.now) id }
     requires long { HasOneChildMore (S.slots store.now) id }
     requires place { HasPlaceBelow (S.slots store.now) id place }
     ensures { ChoosesSibling (size_below (S.slots store.now) id) place result.0 result.1 }
 {
-    let minimum = if leaves { LEAF_MINIMUM } else { INNER_MINIMUM };
+    let minimum = level.minimum();
     let after = child_len(store, id, place + 1);
     if place == 0 {
         return choose_sibling(place, false, after, minimum);
     }
     let before = child_len(store, id, place - 1);
-    let gives = before > minimum && (!leaves || before > after);
+    let gives = before > minimum && (level == Level::Inner || before > after);
     choose_sibling(place, gives, after, minimum)
 }
 
-/// Which sibling the leaf at a place of a node rotates or merges with.
-pub fn leaf_sibling<S: NodeStore>(store: &S, id: InnerNodeId, place: usize) -> SiblingChoice
+// Which sibling the leaf at a place of a node rotates or merges with.
+fn leaf_sibling<S: NodeStore>(store: &S, id: InnerNodeId, place: usize) -> SiblingChoice
     requires children { LeavesBelow (S.slots store.now) id }
     requires long { HasOneChildMore (S.slots store.now) id }
     requires place { HasPlaceBelow (S.slots store.now) id place }
     ensures { ChoosesSibling (size_below (S.slots store.now) id) place result.0 result.1 }
 {
-    sibling(store, id, place, true)
+    sibling(store, id, place, Level::Leaf)
 }
 
-// Carries a node's new summary up the path above it.
-fn rise<S: NodeStore>(
+// Carries a node's new summary up the path above it, if the node may have underflowed. Then it
+// rotates or merges with a sibling, and after a merge the parent may underflow in turn. Returns a
+// summary of all keys.
+fn ascend_underflow<S: NodeStore>(
     store: &mut S,
     path: &mut VisitStack,
-    summary: S::Argument,
-) -> Result<S::Argument, AllocError>
-    requires { Climbs S.K.cmp S.Argument.is_summary (S.slots store.old) path.old summary }
-    ensures rises { (c : Climbs S.K.cmp S.Argument.is_summary (S.slots store.old) path.old summary) → IfOk result (λ top. Risen c.climb (S.slots store.new) top) }
-    ensures refused { OnErr result (S.slots store.new ≡ S.slots store.old) }
-    ensures infallible { S.Argument.needs_no_memory → IsOk result }
-{
-    match ascend(store, path, summary) {
-        Ok(top) => Ok(top),
-        Err(_) => Err(AllocError),
-    }
-}
-
-/// Carries a node's new summary up the path above it, where the node may have underflowed. Then it
-/// rotates or merges with a sibling, and after a merge the parent may underflow in turn. It answers
-/// a summary of all keys.
-pub fn ascend_underflow<S: NodeStore>(
-    store: &mut S,
-    path: &mut VisitStack,
+    whole: &S::Argument,
     id: InnerNodeId,
     summary: S::Argument,
     statistic: &mut Statistic,
 ) -> Result<S::Argument, AllocError>
-    requires { ClimbsUnderflow S.K.cmp S.Argument.is_summary (S.slots store.old) path.old id summary }
-    ensures rises { (c : ClimbsUnderflow S.K.cmp S.Argument.is_summary (S.slots store.old) path.old id summary) → IfOk result (λ top. Sunk c.climb (S.slots store.new) top) }
+    requires { ClimbsUnderflowFrom S.K.cmp S.Argument.is_summary (S.slots store.old) path.old whole.now id summary }
+    ensures rises { SinksFrom S.K.cmp S.Argument.is_summary (S.slots store.old) (S.slots store.new) path.old whole.now id summary result }
     ensures refused { OnErr result (S.slots store.new ≡ S.slots store.old) }
     ensures infallible { S.Argument.needs_no_memory → IsOk result }
 {
     if store.get_inner(id).len() >= INNER_MINIMUM {
-        return rise(store, path, summary);
+        return ascend(store, path, whole, summary);
     }
     let Some((parent, place, _)) = path.pop() else {
         return Ok(summary);
     };
-    let (slot, giver) = sibling(store, parent, place, false);
+    let (slot, giver) = sibling(store, parent, place, Level::Inner);
     let (left, right) = inners_at(store, parent, slot);
     match giver {
         Some(giver) => {
             let (above, sides) = rotate_inners_at(store, parent, slot, giver, left, right)?;
-            match rise(store, path, above) {
+            match ascend(store, path, whole, above) {
                 Ok(top) => {
-                    statistic.count_inner(Some(giver), false);
+                    statistic.count(Level::Inner, Rebalanced::Rotated(giver));
                     Ok(top)
                 }
-                Err(_) => {
+                Err(refusal) => {
                     undo_rotate_inners_at(store, parent, slot, giver, sides, left, right);
-                    Err(AllocError)
+                    Err(refusal)
                 }
             }
         }
         None => {
             let kept = store.get_inner(left).len();
             let (above, sides, emptied) = merge_inners_at(store, parent, slot, left, right)?;
-            match ascend_underflow(store, path, parent, above, statistic) {
+            match ascend_underflow(store, path, whole, parent, above, statistic) {
                 Ok(top) => {
                     store.release_inner(right);
-                    statistic.count_inner(None, slot < place);
+                    statistic.count(Level::Inner, merged(slot, place));
                     Ok(top)
                 }
                 Err(refusal) => {
                     undo_merge_inners_at(store, parent, slot, sides, left, kept, right, emptied);
+                    Err(refusal)
+                }
+            }
+        }
+    }
+}
+
+/// Rebalances a leaf that underflowed, a child of the given node: it rotates a pair or merges with
+/// its sibling. Nodes on the path above that underflow by a merge are rebalanced in turn. `whole` is
+/// the summary that the whole tree had before. Returns a summary of all keys. It takes O(log n)
+/// steps, and allocates only a clone of a separator and the summaries. If it fails, the store is
+/// unchanged.
+pub fn rebalance_leaf<S: NodeStore>(
+    store: &mut S,
+    path: &mut VisitStack,
+    whole: &S::Argument,
+    id: InnerNodeId,
+    place: usize,
+    statistic: &mut Statistic,
+) -> Result<S::Argument, AllocError>
+    requires { LeafUnderflowFrom S.K.cmp S.Argument.is_summary (S.slots store.old) path.old whole.now id place }
+    ensures trims { TrimsFrom S.K.cmp S.Argument.is_summary (S.slots store.old) (S.slots store.new) path.old whole.now id place result }
+    ensures refused { OnErr result (S.slots store.new ≡ S.slots store.old) }
+    ensures infallible { NeverFails S.Argument.needs_no_memory S.K.is_infallible result }
+{
+    let (slot, giver) = leaf_sibling(store, id, place);
+    let (left, right) = leaves_at(store, id, slot);
+    match giver {
+        Some(giver) => {
+            let (above, joint) = rotate_leaves_at(store, id, slot, giver, left, right)?;
+            match ascend(store, path, whole, above) {
+                Ok(top) => {
+                    statistic.count(Level::Leaf, Rebalanced::Rotated(giver));
+                    Ok(top)
+                }
+                Err(refusal) => {
+                    undo_rotate_leaves_at(store, id, slot, giver, joint, left, right);
+                    Err(refusal)
+                }
+            }
+        }
+        None => {
+            let kept = store.get_leaf(left).len();
+            let next = store.get_leaf(right).next();
+            let (above, joint, emptied) = merge_leaves_at(store, id, slot, left, right)?;
+            match ascend_underflow(store, path, whole, id, above, statistic) {
+                Ok(top) => {
+                    store.release_leaf(right);
+                    relink_next(store, left, next);
+                    statistic.count(Level::Leaf, merged(slot, place));
+                    Ok(top)
+                }
+                Err(refusal) => {
+                    undo_merge_leaves_at(store, id, slot, joint, left, kept, right, emptied);
                     Err(refusal)
                 }
             }
@@ -188,8 +256,8 @@ fn leaf_at<S: NodeStore>(store: &S, id: InnerNodeId, place: usize) -> LeafNodeId
     store.get_inner(id).child_id(place).leaf_id_unchecked()
 }
 
-/// The two leaves on both sides of a separator.
-pub fn leaves_at<S: NodeStore>(store: &S, id: InnerNodeId, slot: usize) -> (LeafNodeId, LeafNodeId)
+// The two leaves on both sides of a separator.
+fn leaves_at<S: NodeStore>(store: &S, id: InnerNodeId, slot: usize) -> (LeafNodeId, LeafNodeId)
     requires children { LeavesBelow (S.slots store.now) id }
     requires slot { HasPlaceBelow (S.slots store.now) id (slot + 1) }
     ensures left { HasChild (S.slots store.now) id slot (kind.Leaf result.0) }

@@ -30,7 +30,7 @@ module _ {K V A : Type 0} {cmp : K → K → Ordering} (total : IsTotalOrder cmp
   pub leads_on : (h : ℕ) (id : InnerNodeId) (node : Inner K A) → IsSubtree cmp is_summary slots h (kind.Inner id) → slots.inner id.0 ≡ Present node → (i : ℕ) (child : NodeId) → slice_get node.children i ≡ Some child
       → (path longer : List (InnerNodeId × ℕ × NodeId)) (leaf : LeafNodeId) → StandsIn slots (h - 1) child leaf → LeadsOn cmp slots (h - 1) child (path ++ (id, i, child) ∷ []) longer leaf → LeadsOn cmp slots h (kind.Inner id) path longer leaf
   leads_on h id node s e i child read path longer leaf stands on slot =
-      λ pair there. goes_on total is_summary slots (λ (query : Unit {0}) keys place. Unit {0}) (tt {0}) h id node s e i child read path longer (Some (leaf, slot)) (stands, read_below (leaf_pairs (slots.leaf leaf.0)) slot pair there, tt {0}) (on slot) pair there
+      λ pair there. goes_on total is_summary slots (λ (query : Unit {0}) keys place. Unit {0}) (tt {0}) h id node s e i child read path longer (Some (record { leaf = leaf; slot = slot })) (stands, read_below (leaf_pairs (slots.leaf leaf.0)) slot pair there, tt {0}) (on slot) pair there
 
 -- the key that was found is there
 abbrev pub there_of : {K V A : Type 0} {cmp : K → K → Ordering} {is_summary : A → List K → Type 0} {slots : Slots (Inner K A) (Leaf K V)} {height : ℕ} {root : NodeId} {path : List (InnerNodeId × ℕ × NodeId)} {leaf : LeafNodeId} {slot : ℕ} {k : K} → IsFound cmp is_summary slots height root path leaf slot k → IsThere cmp is_summary slots path leaf slot k
@@ -94,7 +94,7 @@ none_at_end true (x ∷ xs) none = absurd (some_here (x ∷ xs) (length (x ∷ x
 none_at_end false (x ∷ xs) none = cc
 
 module _ {K V A : Type 0} {cmp : K → K → Ordering} (total : IsTotalOrder cmp) (is_summary : A → List K → Type 0) (old : Slots (Inner K A) (Leaf K V)) (h : ℕ) (root : NodeId) (shape : IsWellShaped cmp is_summary old h root) (few : length (pairs_at old h root) < 2 ^ 64)
-    (leaf : LeafNodeId) (slot : ℕ) (within : slot < length (leaf_pairs (old.leaf leaf.0))) (path longer : List (InnerNodeId × ℕ × NodeId)) (none : path ≡ []) (on : GoesOn cmp old h root path longer (Some (leaf, slot))) where
+    (leaf : LeafNodeId) (slot : ℕ) (within : slot < length (leaf_pairs (old.leaf leaf.0))) (path longer : List (InnerNodeId × ℕ × NodeId)) (none : path ≡ []) (on : GoesOn cmp old h root path longer (Some (record { leaf = leaf; slot = slot }))) where
   abbrev pub pair_there : (pair : K × V) × (slice_get (leaf_pairs (old.leaf leaf.0)) slot ≡ Some pair)
   pair_there = read_some (leaf_pairs (old.leaf leaf.0)) slot within
 

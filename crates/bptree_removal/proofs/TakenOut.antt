@@ -166,5 +166,5 @@ module _ {K V A : Type 0} {cmp : K → K → Ordering} (total : IsTotalOrder cmp
     none_held = λ number. (refl, refl);
   }
 
-  pub leaves_short : (new : Slots (Inner K A) (Leaf K V)) (top : A) → ((c : LeafUnderflow cmp is_summary mid rest id place) → Trims c.climb new top) → Leaves cmp is_summary old new there.top there.root leaf slot k pair top
-  leaves_short new top trims = let t = trims short_leaf in record { pair_was = read; loose = t.loose; pairs = t.pairs; told = t.told }
+  pub leaves_short : (new : Slots (Inner K A) (Leaf K V)) (top : A) → Trims short_leaf.climb new top → Leaves cmp is_summary old new there.top there.root leaf slot k pair top
+  leaves_short new top t = record { pair_was = read; loose = t.loose; pairs = t.pairs; told = t.told }

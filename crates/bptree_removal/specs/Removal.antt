@@ -11,6 +11,7 @@ use Rattle.bptree_nodes.specs.Slot.{Slots, Present, UpdatesLeaf}
 use Rattle.bptree_keys.specs.declared.node_id.InnerNodeId.{InnerNodeId}
 use Rattle.bptree_keys.specs.declared.node_id.LeafNodeId.{LeafNodeId}
 use Rattle.bptree_keys.specs.declared.node_id.NodeId.{NodeId}
+use Rattle.bptree_keys.specs.declared.node_id.Position.{Position}
 use Rattle.bptree_keys.specs.declared.node_id.NodeId.TheVariants as kind
 use Rattle.bptree_shape.specs.Leaves.{IsLeafFor}
 use Rattle.bptree_shape.specs.NodeTree.{NodeTree}
@@ -18,7 +19,6 @@ use Rattle.bptree_shape.specs.Path.{Way}
 use Rattle.bptree_descents.specs.ByArgument.{GoesOn}
 use Rattle.bptree_shape.specs.Shape.{leaf_pairs, pairs_at, IsWellShaped}
 use Rattle.bptree_rebalancing.specs.Trim.{IsLoose}
-use Rattle.bptree_removal.specs.declared.removal.Removed.{Removed}
 
 -- a key stands at a slot of the leaf at the end of a path
 pub record IsThere {K V A : Type 0} (cmp : K → K → Ordering) (is_summary : A → List K → Type 0) (slots : Slots (Inner K A) (Leaf K V)) (path : List (InnerNodeId × ℕ × NodeId)) (leaf : LeafNodeId) (slot : ℕ) (k : K) : Type 0 where
@@ -69,7 +69,7 @@ IsEntryTaken cmp is_summary old new height root k pair top top_height a =
 
 -- a search for any key of a leaf, come to a node by a path, goes on from there to the leaf by a longer one
 abbrev pub LeadsOn : {K V A : Type 0} → (K → K → Ordering) → Slots (Inner K A) (Leaf K V) → ℕ → NodeId → List (InnerNodeId × ℕ × NodeId) → List (InnerNodeId × ℕ × NodeId) → LeafNodeId → Type 0
-LeadsOn cmp slots height id path longer leaf = (slot : ℕ) → GoesOn cmp slots height id path longer (Some (leaf, slot))
+LeadsOn cmp slots height id path longer leaf = (slot : ℕ) → GoesOn cmp slots height id path longer (Some (record { leaf = leaf; slot = slot }))
 
 module _ {K V A : Type 0} (old new : Slots (Inner K A) (Leaf K V)) where
   -- a pair left its leaf, or stands in it again
@@ -93,35 +93,26 @@ module _ {K V A : Type 0} (slots : Slots (Inner K A) (Leaf K V)) (id : LeafNodeI
   HasSpare = 16 < length (leaf_pairs (slots.leaf id.0))
 
 module _ {K V A : Type 0} (cmp : K → K → Ordering) (is_summary : A → List K → Type 0) where
-  -- the leaf at the end of a path has a pair at a slot
-  abbrev pub HasPair : Slots (Inner K A) (Leaf K V) → List (InnerNodeId × ℕ × NodeId) → LeafNodeId → ℕ → Type 0
-  HasPair slots path leaf slot = (k : K) × IsThere cmp is_summary slots path leaf slot k
+  -- the leaf at the end of a path has a pair at a slot, and a value is a summary of the keys of the whole tree
+  abbrev pub HasPair : Slots (Inner K A) (Leaf K V) → List (InnerNodeId × ℕ × NodeId) → A → LeafNodeId → ℕ → Type 0
+  HasPair slots path whole leaf slot =
+      (k : K) × (there : IsThere cmp is_summary slots path leaf slot k) × is_summary whole (keys_of (pairs_at slots there.top there.root))
 
-  module _ (old new : Slots (Inner K A) (Leaf K V)) where
-    -- where a call was not refused, that pair left the tree
-    abbrev pub TakesOut : {E : Type 0} → List (InnerNodeId × ℕ × NodeId) → LeafNodeId → ℕ → Result ((K × V) × A) E → Type 0
-    TakesOut path leaf slot done =
-        (k : K) (there : IsThere cmp is_summary old path leaf slot k) → IfOk done (λ taken. Leaves cmp is_summary old new there.top there.root leaf slot k taken.0 taken.1)
-
-    module _ (height : ℕ) (root : NodeId) where
-      -- the same of the root and the height that a call names, and where the leaf is the only one that can hold the key
-      abbrev pub TakesFound : {E : Type 0} → List (InnerNodeId × ℕ × NodeId) → LeafNodeId → ℕ → Result (Removed (K × V) A) E → Type 0
-      TakesFound path leaf slot done =
-          (k : K) → IsFound cmp is_summary old height root path leaf slot k → IfOk done (λ r. IsTakenFrom cmp is_summary old new height root leaf slot k r.value r.root r.height r.summary)
-
-      abbrev pub TakesEntry : {E : Type 0} → List (InnerNodeId × ℕ × NodeId) → LeafNodeId → ℕ → Result (Removed (K × V) A) E → Type 0
-      TakesEntry path leaf slot done =
-          (k : K) → IsEntryAt cmp is_summary old height root path leaf slot k → IfOk done (λ r. IsEntryTaken cmp is_summary old new height root k r.value r.root r.height r.summary)
+  -- if a call succeeded, that pair left the tree
+  abbrev pub TakesOut : {E : Type 0} → Slots (Inner K A) (Leaf K V) → Slots (Inner K A) (Leaf K V) → List (InnerNodeId × ℕ × NodeId) → A → LeafNodeId → ℕ → Result ((K × V) × A) E → Type 0
+  TakesOut old new path whole leaf slot done =
+      (k : K) (there : IsThere cmp is_summary old path leaf slot k) → is_summary whole (keys_of (pairs_at old there.top there.root))
+      → IfOk done (λ taken. Leaves cmp is_summary old new there.top there.root leaf slot k taken.0 taken.1)
 
 module _ {S K V A : Type 0} (slots : S → Slots (Inner K A) (Leaf K V)) (cmp : K → K → Ordering) (is_summary : A → List K → Type 0) where
   -- a key stands at a slot of the only leaf of a tree that can hold it, at the end of a path
-  abbrev pub IsEntryIn : NodeTree S K V A → List (InnerNodeId × ℕ × NodeId) → K → LeafNodeId × ℕ → Type 0
-  IsEntryIn tree path k at = IsEntryAt cmp is_summary (slots tree.store) tree.height tree.root path at.0 at.1 k
+  abbrev pub IsEntryIn : NodeTree S K V A → List (InnerNodeId × ℕ × NodeId) → K → Position → Type 0
+  IsEntryIn tree path k at = IsEntryAt cmp is_summary (slots tree.store) tree.height tree.root path at.leaf at.slot k
 
   -- where a call was not refused, the pair that stood there left the tree
-  abbrev pub TakesAt : {E : Type 0} → NodeTree S K V A → NodeTree S K V A → List (InnerNodeId × ℕ × NodeId) → LeafNodeId × ℕ → Result (K × V) E → Type 0
+  abbrev pub TakesAt : {E : Type 0} → NodeTree S K V A → NodeTree S K V A → List (InnerNodeId × ℕ × NodeId) → Position → Result (K × V) E → Type 0
   TakesAt old new path at done =
-      (k : K) → IsEntryIn old path k at → IfOk done (λ pair. (slice_get (leaf_pairs ((slots old.store).leaf at.0.0)) at.1 ≡ Some pair) × (cmp pair.0 k ≡ Equal) × (new.contents ≡ del cmp old.contents k))
+      (k : K) → IsEntryIn old path k at → IfOk done (λ pair. (slice_get (leaf_pairs ((slots old.store).leaf at.leaf.0)) at.slot ≡ Some pair) × (cmp pair.0 k ≡ Equal) × (new.contents ≡ del cmp old.contents k))
 
 -- the member at a place left a list
 abbrev pub LeftAt : {X : Type 0} → List X → List X → ℕ → X → Type 0

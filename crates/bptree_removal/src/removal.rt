@@ -1,92 +1,30 @@
 //! Removal from a tree that stands in a store.
-ghost use Rattle.std.specs.Prelude.{◌≡◌, false, ◌<◌, ◌≤◌, ◌^◌, IfOk, IsOk, OnErr, IfSome, Some, length, slice_get, [], Ok, None};
+ghost use Rattle.std.specs.Prelude.{◌≡◌, false, ◌<◌, ◌≤◌, IfOk, IsOk, OnErr, IfSome, Some, length, slice_get, [], Ok, None};
 ghost use Rattle.std.specs.Option.{is_some};
 ghost use Rattle.bptree_keys.specs.Contents.{has};
-ghost use Rattle.bptree_keys.specs.Keys.{AllInfallible};
+ghost use Rattle.bptree_keys.specs.Ends.{is_back};
+ghost use Rattle.bptree_ascent.specs.Failing.{NeverFails};
 ghost use Rattle.bptree_nodes.specs.Slot.{IsPresent};
 ghost use Rattle.bptree_ascent.specs.LeafChange.{SumsUpLeafAt};
 ghost use Rattle.bptree_shape.specs.NodeTree.{IsUntouched, IsWhole};
-ghost use Rattle.bptree_shape.specs.Shape.{leaf_pairs, pairs_at, IsWellShaped};
-ghost use Rattle.bptree_rebalancing.specs.Trim.{LeafUnderflow, IsLoose, Trims};
-ghost use Rattle.bptree_removal.specs.Removal.{IsFound, IsEntryAt, IsEntryIn, NoPairIn, HasPair, HasSpare, KeepsPairs, PutsPairBack, RemovesEnd, RemovesKey, RemovesSelected, TakesAt, TakesEntry, TakesFound, TakesOut, TakesPair};
+ghost use Rattle.bptree_shape.specs.Shape.{leaf_pairs, IsWellShaped};
+ghost use Rattle.bptree_rebalancing.specs.Trim.{IsLoose};
+ghost use Rattle.bptree_removal.specs.Removal.{IsEntryIn, NoPairIn, HasPair, HasSpare, KeepsPairs, PutsPairBack, RemovesEnd, RemovesKey, RemovesSelected, TakesAt, TakesOut, TakesPair};
 
 use crate::ends::end_path;
 use bptree_arguments::argument::{Argument, SearchArgument};
 use bptree_ascent::ascent::ascend;
-use bptree_ascent::links::relink_next;
 use bptree_descents::by_argument::find_path_by_argument;
-use bptree_keys::compares::Compares;
+use bptree_keys::compares::{Compares, SearchHint};
+use bptree_keys::end::End;
 use bptree_keys::entry_ref::VisitStack;
-use bptree_keys::node_id::{InnerNodeId, LeafNodeId, NodeId};
-use bptree_rebalancing::siblings::{
-    merge_leaves_at, rotate_leaves_at, undo_merge_leaves_at, undo_rotate_leaves_at,
-};
+use bptree_keys::node_id::{LeafNodeId, NodeId, Position};
 use bptree_rebalancing::statistics::Statistic;
-use bptree_rebalancing::underflow::{ascend_underflow, leaf_sibling, leaves_at};
-use bptree_shape::descent::{end_place, find_path};
+use bptree_rebalancing::underflow::rebalance_leaf;
+use bptree_shape::descent::{end_index, find_path};
 use bptree_shape::nodes::Nodes;
 use bptree_stores::node_stores::NodeStore;
 use std::alloc::AllocError;
-
-// What a removal from the tree below a root returns: a value or a pair, the root and the height
-// afterwards, and a summary of all keys.
-#[derive(Drop)]
-struct Removed<V, A> {
-    value: V,
-    root: NodeId,
-    height: usize,
-    summary: A,
-}
-
-// Rebalances a leaf that underflowed, a child of the given node: it rotates a pair or merges with
-// its sibling. Returns a summary of all keys.
-fn rebalance_leaf<S: NodeStore>(
-    store: &mut S,
-    path: &mut VisitStack,
-    id: InnerNodeId,
-    place: usize,
-    statistic: &mut Statistic,
-) -> Result<S::Argument, AllocError>
-    requires { LeafUnderflow S.K.cmp S.Argument.is_summary (S.slots store.old) path.old id place }
-    ensures trims { (c : LeafUnderflow S.K.cmp S.Argument.is_summary (S.slots store.old) path.old id place) → IfOk result (λ top. Trims c.climb (S.slots store.new) top) }
-    ensures refused { OnErr result (S.slots store.new ≡ S.slots store.old) }
-    ensures infallible { S.Argument.needs_no_memory → AllInfallible S.K.is_infallible → IsOk result }
-{
-    let (slot, giver) = leaf_sibling(store, id, place);
-    let (left, right) = leaves_at(store, id, slot);
-    match giver {
-        Some(giver) => {
-            let (above, joint) = rotate_leaves_at(store, id, slot, giver, left, right)?;
-            match ascend(store, path, above) {
-                Ok(top) => {
-                    statistic.count_leaf(Some(giver), false);
-                    Ok(top)
-                }
-                Err(_) => {
-                    undo_rotate_leaves_at(store, id, slot, giver, joint, left, right);
-                    Err(AllocError)
-                }
-            }
-        }
-        None => {
-            let kept = store.get_leaf(left).len();
-            let next = store.get_leaf(right).next();
-            let (above, joint, emptied) = merge_leaves_at(store, id, slot, left, right)?;
-            match ascend_underflow(store, path, id, above, statistic) {
-                Ok(top) => {
-                    store.release_leaf(right);
-                    relink_next(store, left, next);
-                    statistic.count_leaf(None, slot < place);
-                    Ok(top)
-                }
-                Err(refusal) => {
-                    undo_merge_leaves_at(store, id, slot, joint, left, kept, right, emptied);
-                    Err(refusal)
-                }
-            }
-        }
-    }
-}
 
 // Removes the pair at a slot from a leaf. No summary is changed.
 fn take_pair<S: NodeStore>(store: &mut S, id: LeafNodeId, slot: usize) -> (S::K, S::V)
@@ -128,12 +66,13 @@ fn sum_of<S: NodeStore>(store: &S, id: LeafNodeId) -> Result<S::Argument, AllocE
 fn take_in_place<S: NodeStore>(
     store: &mut S,
     path: &mut VisitStack,
+    whole: &S::Argument,
     leaf: LeafNodeId,
     slot: usize,
 ) -> Result<((S::K, S::V), S::Argument), AllocError>
-    requires there { HasPair S.K.cmp S.Argument.is_summary (S.slots store.old) path.old leaf slot }
+    requires there { HasPair S.K.cmp S.Argument.is_summary (S.slots store.old) path.old whole.now leaf slot }
     requires spare { 0 < length path.old → HasSpare (S.slots store.old) leaf }
-    ensures leaves { TakesOut S.K.cmp S.Argument.is_summary (S.slots store.old) (S.slots store.new) path.old leaf slot result }
+    ensures leaves { TakesOut S.K.cmp S.Argument.is_summary (S.slots store.old) (S.slots store.new) path.old whole.now leaf slot result }
     ensures refused { OnErr result (S.slots store.new ≡ S.slots store.old) }
     ensures infallible { S.Argument.needs_no_memory → IsOk result }
 {
@@ -142,37 +81,38 @@ fn take_in_place<S: NodeStore>(
         put_pair(store, leaf, slot, pair);
         return Err(AllocError);
     };
-    match ascend(store, path, summary) {
+    match ascend(store, path, whole, summary) {
         Ok(top) => Ok((pair, top)),
-        Err(_) => {
+        Err(refusal) => {
             put_pair(store, leaf, slot, pair);
-            Err(AllocError)
+            Err(refusal)
         }
     }
 }
 
-/// Removes the pair at a slot from the leaf at the end of a path. Returns the pair and a summary of
-/// all keys.
-pub fn take_out<S: NodeStore>(
+// Removes the pair at a slot from the leaf at the end of a path. Returns the pair and a summary of
+// all keys.
+fn take_out<S: NodeStore>(
     store: &mut S,
     path: &mut VisitStack,
+    whole: &S::Argument,
     leaf: LeafNodeId,
     slot: usize,
     statistic: &mut Statistic,
 ) -> Result<((S::K, S::V), S::Argument), AllocError>
-    requires { HasPair S.K.cmp S.Argument.is_summary (S.slots store.old) path.old leaf slot }
-    ensures leaves { TakesOut S.K.cmp S.Argument.is_summary (S.slots store.old) (S.slots store.new) path.old leaf slot result }
+    requires { HasPair S.K.cmp S.Argument.is_summary (S.slots store.old) path.old whole.now leaf slot }
+    ensures leaves { TakesOut S.K.cmp S.Argument.is_summary (S.slots store.old) (S.slots store.new) path.old whole.now leaf slot result }
     ensures refused { OnErr result (S.slots store.new ≡ S.slots store.old) }
-    ensures infallible { S.Argument.needs_no_memory → AllInfallible S.K.is_infallible → IsOk result }
+    ensures infallible { NeverFails S.Argument.needs_no_memory S.K.is_infallible result }
 {
     if store.get_leaf(leaf).able_to_lend() {
-        return take_in_place(store, path, leaf, slot);
+        return take_in_place(store, path, whole, leaf, slot);
     }
     let Some((id, place, _)) = path.pop() else {
-        return take_in_place(store, path, leaf, slot);
+        return take_in_place(store, path, whole, leaf, slot);
     };
     let pair = take_pair(store, leaf, slot);
-    match rebalance_leaf(store, path, id, place, statistic) {
+    match rebalance_leaf(store, path, whole, id, place, statistic) {
         Ok(top) => Ok((pair, top)),
         Err(refusal) => {
             put_pair(store, leaf, slot, pair);
@@ -200,99 +140,60 @@ fn shrink_root<S: NodeStore>(store: &mut S, root: NodeId, height: usize) -> (Nod
     (child, height - 1)
 }
 
-// Returns the leaf and the slot of the key below a root that equals `k`, if there is one. The inner
-// nodes on the way there are appended to the path.
-fn find_below<S: NodeStore>(
-    store: &S,
-    path: &mut VisitStack,
-    root: NodeId,
-    height: usize,
-    k: &S::K,
-) -> Option<(LeafNodeId, usize)>
-    requires shape { IsWellShaped S.K.cmp S.Argument.is_summary (S.slots store.now) height root }
-    requires few { length (pairs_at (S.slots store.now) height root) < 2 ^ 64 }
-    ensures way { IfSome result (λ at. IsEntryAt S.K.cmp S.Argument.is_summary (S.slots store.now) height root path.new at.0 at.1 k.now) }
-    ensures there { is_some result ≡ has S.K.cmp (pairs_at (S.slots store.now) height root) k.now }
-{
-    path.clear();
-    let leaf = find_path(store, root, height, k, path);
-    // What a removal moves waits for the search, so this begins with branches one level sooner.
-    let mut compares = Compares::below(height.saturating_add(1));
-    match store.get_leaf(leaf).locate_slot_counted(k, &mut compares) {
-        Ok(slot) => Some((leaf, slot)),
-        Err(_) => None,
-    }
-}
-
-// Removes the pair at a slot of the leaf at the end of a path from the tree below a root.
-fn take_below<S: NodeStore>(
-    store: &mut S,
-    path: &mut VisitStack,
-    root: NodeId,
-    height: usize,
-    leaf: LeafNodeId,
-    slot: usize,
-    statistic: &mut Statistic,
-) -> Result<Removed<(S::K, S::V), S::Argument>, AllocError>
-    requires { (k : S.K) × IsFound S.K.cmp S.Argument.is_summary (S.slots store.old) height root path.old leaf slot k }
-    ensures found { TakesFound S.K.cmp S.Argument.is_summary (S.slots store.old) (S.slots store.new) height root path.old leaf slot result }
-    ensures taken { TakesEntry S.K.cmp S.Argument.is_summary (S.slots store.old) (S.slots store.new) height root path.old leaf slot result }
-    ensures refused { OnErr result (S.slots store.new ≡ S.slots store.old) }
-    ensures infallible { S.Argument.needs_no_memory → AllInfallible S.K.is_infallible → IsOk result }
-{
-    let (value, summary) = take_out(store, path, leaf, slot, statistic)?;
-    let (root, height) = shrink_root(store, root, height);
-    Ok(Removed {
-        value,
-        root,
-        height,
-        summary,
-    })
-}
-
-/// Returns the leaf and the slot of the key of a tree that equals `k`, if there is one. Then `path`
-/// holds the inner nodes on the way there. What it held before is discarded. It allocates nothing.
+/// Returns the position of the key of a tree that equals `k`, if there is one. Then `path` holds the
+/// inner nodes on the way there. What it held before is discarded. It allocates nothing.
 pub fn find_entry<S: NodeStore>(
     tree: &Nodes<S>,
     path: &mut VisitStack,
     k: &S::K,
-) -> Option<(LeafNodeId, usize)>
+) -> Option<Position>
     ensures way { IfSome result (IsEntryIn S.slots S.K.cmp S.Argument.is_summary tree.now path.new k.now) }
     ensures there { is_some result ≡ has S.K.cmp tree.now.contents k.now }
 {
-    // Read, so that it is known to fit.
-    let _len = tree.len;
-    find_below(&tree.store, path, tree.root, tree.height, k)
+    tree.recall();
+    path.clear();
+    let leaf = find_path(&tree.store, tree.root, tree.height, k, path);
+    // A removal moves pairs behind the slot that the search finds, so the search begins with
+    // branches one level sooner than that of a look-up.
+    let hint = SearchHint::below(tree.height.saturating_add(1));
+    let found = tree
+        .store
+        .get_leaf(leaf)
+        .locate_slot_counted(k, hint, &mut Compares::new());
+    match found {
+        Ok(slot) => Some(Position { leaf, slot }),
+        Err(_) => None,
+    }
 }
 
-/// Removes the pair at a slot of the leaf at the end of a path from a tree. `find_entry` returns
-/// the leaf and the slot, and leaves such a path. If it fails, the tree is unchanged.
+/// Removes the pair at a position from a tree, and returns it. `find_entry` returns the position,
+/// and leaves in `path` the inner nodes on the way there. If it fails, the tree is unchanged.
 pub fn take_entry<S: NodeStore>(
     tree: &mut Nodes<S>,
     path: &mut VisitStack,
-    at: (LeafNodeId, usize),
+    at: Position,
     statistic: &mut Statistic,
 ) -> Result<(S::K, S::V), AllocError>
     requires { (k : S.K) × IsEntryIn S.slots S.K.cmp S.Argument.is_summary tree.old path.old k at }
     ensures taken { TakesAt S.slots S.K.cmp S.Argument.is_summary tree.old tree.new path.old at result }
     ensures whole { IsWhole S.K.cmp S.Argument.is_summary S.slots tree.new }
     ensures refused { OnErr result (IsUntouched S.slots tree.new tree.old) }
-    ensures infallible { S.Argument.needs_no_memory → AllInfallible S.K.is_infallible → IsOk result }
+    ensures infallible { NeverFails S.Argument.needs_no_memory S.K.is_infallible result }
 {
-    let gone = take_below(
+    let (pair, summary) = take_out(
         &mut tree.store,
         path,
-        tree.root,
-        tree.height,
-        at.0,
-        at.1,
+        &tree.summary,
+        at.leaf,
+        at.slot,
         statistic,
     )?;
-    tree.root = gone.root;
-    tree.height = gone.height;
+    let (root, height) = shrink_root(&mut tree.store, tree.root, tree.height);
+    tree.root = root;
+    tree.height = height;
     tree.len -= 1;
-    tree.summary = gone.summary;
-    Ok(gone.value)
+    tree.summary = summary;
+    Ok(pair)
 }
 
 /// Removes the pair whose key equals `k` from a tree, if there is one, and returns it with the key
@@ -309,40 +210,38 @@ pub fn remove_entry<S: NodeStore>(
     ensures whole { IsWhole S.K.cmp S.Argument.is_summary S.slots tree.new }
     ensures untouched { has S.K.cmp tree.old.contents k.now ≡ false → IsUntouched S.slots tree.new tree.old }
     ensures refused { OnErr result (IsUntouched S.slots tree.new tree.old) }
-    ensures infallible { S.Argument.needs_no_memory → AllInfallible S.K.is_infallible → IsOk result }
+    ensures infallible { NeverFails S.Argument.needs_no_memory S.K.is_infallible result }
 {
-    // Read, so that the tree is known to be right.
-    let _len = tree.len();
+    tree.recall();
     match find_entry(tree, path, k) {
         Some(at) => Ok(Some(take_entry(tree, path, at, statistic)?)),
         None => Ok(None),
     }
 }
 
-/// Removes the pair with the least key from a tree, or the one with the greatest, if there is one,
-/// and returns it. No key is compared or cloned on the way down. If there is none, it allocates
+/// Removes the pair at an end of a tree, if there is one, and returns it. No key is compared or cloned on the way down. If there is none, it allocates
 /// nothing. If it fails, the tree is unchanged. `path` is as for `remove_entry`.
 pub fn remove_end<S: NodeStore>(
     tree: &mut Nodes<S>,
     path: &mut VisitStack,
-    is_last: bool,
+    end: End,
     statistic: &mut Statistic,
 ) -> Result<Option<(S::K, S::V)>, AllocError>
-    ensures removed { IfOk result (RemovesEnd tree.old.contents tree.new.contents is_last) }
+    ensures removed { IfOk result (RemovesEnd tree.old.contents tree.new.contents (is_back end)) }
     ensures empty { tree.old.contents ≡ [] → result ≡ Ok None }
     ensures whole { IsWhole S.K.cmp S.Argument.is_summary S.slots tree.new }
     ensures untouched { tree.old.contents ≡ [] → IsUntouched S.slots tree.new tree.old }
     ensures refused { OnErr result (IsUntouched S.slots tree.new tree.old) }
-    ensures infallible { S.Argument.needs_no_memory → AllInfallible S.K.is_infallible → IsOk result }
+    ensures infallible { NeverFails S.Argument.needs_no_memory S.K.is_infallible result }
 {
     path.clear();
-    let leaf = end_path(&tree.store, tree.root, tree.height, is_last, path);
+    let leaf = end_path(&tree.store, tree.root, tree.height, end, path);
     let len = tree.store.get_leaf(leaf).len();
     if len == 0 {
         return Ok(None);
     }
-    let slot = end_place(len, is_last);
-    Ok(Some(take_entry(tree, path, (leaf, slot), statistic)?))
+    let slot = end_index(len, end);
+    Ok(Some(take_entry(tree, path, Position { leaf, slot }, statistic)?))
 }
 
 /// Removes a pair that the argument may find for the query from a tree, if it finds one. If it
@@ -359,10 +258,10 @@ where
     ensures whole { IsWhole S.K.cmp S.Argument.is_summary S.slots tree.new }
     ensures untouched { result ≡ Ok None → IsUntouched S.slots tree.new tree.old }
     ensures refused { OnErr result (IsUntouched S.slots tree.new tree.old) }
-    ensures infallible { S.Argument.needs_no_memory → AllInfallible S.K.is_infallible → IsOk result }
+    ensures infallible { NeverFails S.Argument.needs_no_memory S.K.is_infallible result }
 {
-    path.clear();
-    match find_path_by_argument(&tree.store, tree.root, tree.height, query, path)? {
+    tree.recall();
+    match find_path_by_argument(tree, query, path)? {
         None => Ok(None),
         Some(at) => Ok(Some(take_entry(tree, path, at, statistic)?)),
     }

@@ -7,8 +7,8 @@ use Rattle.bptree_nodes.proofs.Pairs.{last_apart}
 use Rattle.std.specs.List.{AllZip}
 use Rattle.std.specs.Option.{option_map}
 use Rattle.bptree_script.specs.Ends.{seen_from, TakesFrom, walked}
-use Rattle.bptree_script.specs.declared.walk.End.{End}
-use Rattle.bptree_script.specs.declared.walk.End.TheVariants.{Front, Back}
+use Rattle.bptree_keys.specs.declared.end.End.{End}
+use Rattle.bptree_keys.specs.declared.end.End.TheVariants.{Front, Back}
 
 module _ {X A : Type 0} (shows : A → X) where
   pub front_taken : (left rest : List X) (taken : Option A) → TakesFirst shows left taken rest → TakesFrom shows Front left taken rest

@@ -1,11 +1,15 @@
 -- Steps of commands on the cursors that are held.
-use Rattle.std.proofs.Common.{◌≡◌, ◌∙◌, ◌<◌, Bool, true, false, ℕ, zero, suc, List, [], ◌∷◌, length, map, refl, sym, ap, Option, Some, None, get_or, slice_get, slice_set}
+use Rattle.std.proofs.Common.{◌≡◌, ◌∙◌, ◌<◌, ℕ, zero, suc, List, [], ◌∷◌, length, map, refl, sym, ap, Option, Some, None, get_or, slice_get, slice_set}
 use Rattle.std.specs.Prelude.{option_map}
 use Rattle.std.specs.Cmp.{IsTotalOrder}
 use Rattle.std.proofs.lemmas.Cmp.{tied_back}
 use Rattle.std.proofs.lemmas.Option.{slice_get-get_or}
 use Rattle.std.specs.declared.cmp.Ordering.{Ordering}
 use Rattle.std.specs.declared.cmp.Ordering.TheVariants.{Equal}
+use Rattle.bptree_keys.specs.declared.end.End.{End}
+use Rattle.bptree_keys.specs.declared.end.End.TheVariants.{Front, Back}
+use Rattle.bptree_keys.specs.declared.end.Side.{Side}
+use Rattle.bptree_keys.specs.declared.end.Side.TheVariants.{Before, After}
 use Rattle.bptree_keys.specs.Contents.{value, next, previous}
 use Rattle.bptree_tree.specs.Cursor.{cursor_key, StandsAt}
 use Rattle.bptree_tree.specs.declared.cursor.Cursor as cursor
@@ -90,12 +94,12 @@ module _ {K V Q R : Type 0} (cmp : K → K → Ordering) (selects : Q → List K
   neighbour_step neighbour n k P NoCursor there step is = absurd step
   neighbour_step neighbour n k P Full there step is = absurd step
 
-  pub beside_step : (is_next : Bool) (n : ℕ) (k : K) (reply : Reply K V R) → slice_get held n ≡ Some k → NeighbourStep cmp (pair_beside cmp is_next old k) held n reply held_after
-      → Step cmp selects ranks old held (step_of is_next n) reply old held_after
-  beside_step true n k reply there step = (refl, neighbour_step (next cmp old k) n k (λ key. NeighbourStep cmp (next cmp old key) held n reply held_after) reply there step step)
-  beside_step false n k reply there step = (refl, neighbour_step (previous cmp old k) n k (λ key. NeighbourStep cmp (previous cmp old key) held n reply held_after) reply there step step)
+  pub beside_step : (side : Side) (n : ℕ) (k : K) (reply : Reply K V R) → slice_get held n ≡ Some k → NeighbourStep cmp (pair_beside cmp side old k) held n reply held_after
+      → Step cmp selects ranks old held (step_of side n) reply old held_after
+  beside_step After n k reply there step = (refl, neighbour_step (next cmp old k) n k (λ key. NeighbourStep cmp (next cmp old key) held n reply held_after) reply there step step)
+  beside_step Before n k reply there step = (refl, neighbour_step (previous cmp old k) n k (λ key. NeighbourStep cmp (previous cmp old key) held n reply held_after) reply there step step)
 
   -- a cursor is held at an end
-  pub end_step : (is_first : Bool) (reply : Reply K V R) → EndStep cmp (pair_at_end is_first old) held reply held_after → Step cmp selects ranks old held (cursor_at_end is_first) reply old held_after
-  end_step true reply step = (refl, step)
-  end_step false reply step = (refl, step)
+  pub end_step : (end : End) (reply : Reply K V R) → EndStep cmp (pair_at_end end old) held reply held_after → Step cmp selects ranks old held (cursor_at_end end) reply old held_after
+  end_step Front reply step = (refl, step)
+  end_step Back reply step = (refl, step)

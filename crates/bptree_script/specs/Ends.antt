@@ -1,7 +1,7 @@
 -- Both ends of a list.
 use Rattle.std.specs.Prelude.{◌≡◌, ◌-◌, List, [], ◌∷◌, length, drop, take, reverse, Option, MatchOption, option_map, slice_get}
-use Rattle.bptree_script.specs.declared.walk.End.{End}
-use Rattle.bptree_script.specs.declared.walk.End.TheVariants.{Front, Back}
+use Rattle.bptree_keys.specs.declared.end.End.{End}
+use Rattle.bptree_keys.specs.declared.end.End.TheVariants.{Front, Back}
 
 module _ {X : Type 0} where
   -- what stands at an end, if anything is left

@@ -7,6 +7,10 @@ use Rattle.std.specs.List.{AllZip}
 use Rattle.std.specs.Map.{keys_of}
 use Rattle.std.specs.Option.{option_map}
 use Rattle.bptree_arguments.specs.Selection.{IsPlaceIn}
+use Rattle.bptree_keys.specs.declared.end.End.{End}
+use Rattle.bptree_keys.specs.declared.end.End.TheVariants.{Front, Back}
+use Rattle.bptree_keys.specs.declared.end.Side.{Side}
+use Rattle.bptree_keys.specs.declared.end.Side.TheVariants.{Before, After}
 use Rattle.bptree_keys.specs.Contents.{has, value, put, del, next, previous}
 use Rattle.bptree_keys.specs.Ranges.{between}
 use Rattle.bptree_nodes.specs.Leaf.{set_value_at}
@@ -52,40 +56,40 @@ module _ {K V : Type 0} (cmp : K → K → Ordering) where
   RepliesWalk taken reply = ⊥
 
   -- the pair beside a key: the next one, or the previous one
-  abbrev pub pair_beside : Bool → List (K × V) → K → Option (K × V)
-  pair_beside true l k = next cmp l k
-  pair_beside false l k = previous cmp l k
+  abbrev pub pair_beside : Side → List (K × V) → K → Option (K × V)
+  pair_beside After l k = next cmp l k
+  pair_beside Before l k = previous cmp l k
 
   -- of a cursor beside a value that is lent: it stands at the pair beside another cursor's key, and the value is that pair's
-  module _ {S A : Type 0} (is_next : Bool) (tree : NodeTree S K V A) (cursor : CursorOf K) where
+  module _ {S A : Type 0} (side : Side) (tree : NodeTree S K V A) (cursor : CursorOf K) where
     abbrev pub PointsBeside : Option (CursorOf K × Bor V) → Type 0
-    PointsBeside answer = PointsAt cmp (pair_beside is_next tree.contents (cursor_key cursor)) answer
+    PointsBeside answer = PointsAt cmp (pair_beside side tree.contents (cursor_key cursor)) answer
 
     abbrev pub ShowsBeside : Option (CursorOf K × Bor V) → Type 0
-    ShowsBeside answer = ShowsValueOf (pair_beside is_next tree.contents (cursor_key cursor)) answer
+    ShowsBeside answer = ShowsValueOf (pair_beside side tree.contents (cursor_key cursor)) answer
 
     -- or there is no such pair
     abbrev pub HasNoneBeside : Type 0
-    HasNoneBeside = pair_beside is_next tree.contents (cursor_key cursor) ≡ None
+    HasNoneBeside = pair_beside side tree.contents (cursor_key cursor) ≡ None
 
   -- the list has the greatest length, and the key would make it longer
   abbrev pub HasNoRoomFor : List (K × V) → K → Type 0
   HasNoRoomFor l k = (length l ≡ 2 ^ 64 - 1) × (has cmp l k ≡ false)
 
 -- the first pair, or the last one
-abbrev pub pair_at_end : {X : Type 0} → Bool → List X → Option X
-pair_at_end true l = slice_get l 0
-pair_at_end false l = slice_get l (length l - 1)
+abbrev pub pair_at_end : {X : Type 0} → End → List X → Option X
+pair_at_end Front l = slice_get l 0
+pair_at_end Back l = slice_get l (length l - 1)
 
 -- the commands that differ by an end, by a direction and by what is read
 module _ {K V Q : Type 0} where
-  abbrev pub cursor_at_end : Bool → Command K V Q
-  cursor_at_end true = CursorFirst
-  cursor_at_end false = CursorLast
+  abbrev pub cursor_at_end : End → Command K V Q
+  cursor_at_end Front = CursorFirst
+  cursor_at_end Back = CursorLast
 
-  abbrev pub step_of : Bool → ℕ → Command K V Q
-  step_of true n = Next n
-  step_of false n = Prev n
+  abbrev pub step_of : Side → ℕ → Command K V Q
+  step_of After n = Next n
+  step_of Before n = Prev n
 
   abbrev pub reading_of : Bool → ℕ → Command K V Q
   reading_of true n = ValueOf n

@@ -8,6 +8,7 @@ ghost use Rattle.std.specs.Map.Iter.{deref_pair};
 use crate::held;
 use crate::walk::{End, walk, walk_range};
 use bptree_arguments::argument::{RankArgument, SearchArgument};
+use bptree_keys::end::Side;
 use bptree_keys::key::Key;
 use bptree_stores::node_stores::NodeStore;
 use bptree_tree::cursor::Cursor;
@@ -276,10 +277,10 @@ where
         Command::At(query) => at(tree, query),
         Command::Rank(key) => rank(tree, key),
         Command::Cursor(key) => held::hold(tree, cursors, key),
-        Command::CursorFirst => held::hold_end(tree, cursors, true),
-        Command::CursorLast => held::hold_end(tree, cursors, false),
-        Command::Next(number) => held::step(tree, cursors, number, true),
-        Command::Prev(number) => held::step(tree, cursors, number, false),
+        Command::CursorFirst => held::hold_end(tree, cursors, End::Front),
+        Command::CursorLast => held::hold_end(tree, cursors, End::Back),
+        Command::Next(number) => held::step(tree, cursors, number, Side::After),
+        Command::Prev(number) => held::step(tree, cursors, number, Side::Before),
         Command::Exists(number) => held::read(tree, cursors.as_slice(), number, false),
         Command::Value(number) => held::read(tree, cursors.as_slice(), number, true),
         Command::Walk(word) => walk(alloc, tree.iter(), word),

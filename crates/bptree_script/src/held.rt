@@ -5,6 +5,7 @@ ghost use Rattle.bptree_script.specs.Steps.{CursorJoins, ReadsWith, GoesTo, Join
 
 use crate::commands::{Command, Reply, ReplyOf};
 use bptree_arguments::argument::{RankArgument, SearchArgument};
+use bptree_keys::end::{End, Side};
 use bptree_keys::key::Key;
 use bptree_stores::node_stores::NodeStore;
 use bptree_tree::BPlusTree;
@@ -56,32 +57,32 @@ fn hold_found<K: Key, V: Copy, R>(
     }
 }
 
-// A cursor on the first pair, or on the last one, with the value there.
+// A cursor on the pair at an end, with the value there.
 fn at_end<'t, S: NodeStore>(
     tree: &'t BPlusTree<S>,
-    is_first: bool,
+    end: End,
 ) -> Result<Option<(Cursor<S::K>, &'t S::V)>, AllocError>
-    ensures cursor { IfOk result (PointsAt S.K.cmp (pair_at_end is_first tree.now.contents)) }
-    ensures value { IfOk result (ShowsValueOf (pair_at_end is_first tree.now.contents)) }
+    ensures cursor { IfOk result (PointsAt S.K.cmp (pair_at_end end tree.now.contents)) }
+    ensures value { IfOk result (ShowsValueOf (pair_at_end end tree.now.contents)) }
 {
-    if is_first {
-        return Cursor::first(tree);
+    match end {
+        End::Front => Cursor::first(tree),
+        End::Back => Cursor::last(tree),
     }
-    Cursor::last(tree)
 }
 
-/// Holds a cursor at the first pair, or at the last one.
+/// Holds a cursor on the pair at an end.
 pub(crate) fn hold_end<S: NodeStore>(
     tree: &BPlusTree<S>,
     cursors: &mut Vec<Cursor<S::K>>,
-    is_first: bool,
+    end: End,
 ) -> ReplyOf<S>
 where
     S::V: Copy,
     S::Argument: SearchArgument<S::K> + RankArgument<S::K>,
-    ensures { ReadsWith S.K.cmp S.Argument.selects S.Argument.ranks tree.now cursors.old.items (cursor_at_end is_first) result cursors.new.items }
+    ensures { ReadsWith S.K.cmp S.Argument.selects S.Argument.ranks tree.now cursors.old.items (cursor_at_end end) result cursors.new.items }
 {
-    match at_end(tree, is_first) {
+    match at_end(tree, end) {
         Ok(found) => hold_found(cursors, found),
         Err(_) => Reply::OutOfMemory,
     }
@@ -109,22 +110,22 @@ fn move_to<K: Key, V: Copy, R>(
     }
 }
 
-/// The pair beside a cursor's key, with a cursor on it: the one with the least greater key, or the
-/// one with the greatest smaller key.
+/// The pair beside a cursor's key on a side, with a cursor on it: the one with the least greater
+/// key, or the one with the greatest smaller key.
 pub(crate) fn beside<'t, S: NodeStore>(
     tree: &'t BPlusTree<S>,
     cursor: &Cursor<S::K>,
-    is_next: bool,
+    side: Side,
 ) -> Result<Option<(Cursor<S::K>, &'t S::V)>, AllocError>
-    ensures cursor { IfOk result (PointsBeside S.K.cmp is_next tree.now cursor.now) }
-    ensures value { IfOk result (ShowsBeside S.K.cmp is_next tree.now cursor.now) }
-    ensures end { HasNoneBeside S.K.cmp is_next tree.now cursor.now → result ≡ Ok None }
+    ensures cursor { IfOk result (PointsBeside S.K.cmp side tree.now cursor.now) }
+    ensures value { IfOk result (ShowsBeside S.K.cmp side tree.now cursor.now) }
+    ensures end { HasNoneBeside S.K.cmp side tree.now cursor.now → result ≡ Ok None }
     ensures sure { ((key : S.K) → S.K.is_infallible key) → IsOk result }
 {
-    if is_next {
-        return cursor.next_with_value(tree);
+    match side {
+        Side::Before => cursor.prev_with_value(tree),
+        Side::After => cursor.next_with_value(tree),
     }
-    cursor.prev_with_value(tree)
 }
 
 /// Moves the cursor of a number to the pair beside its key.
@@ -132,17 +133,17 @@ pub(crate) fn step<S: NodeStore>(
     tree: &BPlusTree<S>,
     cursors: &mut Vec<Cursor<S::K>>,
     number: usize,
-    is_next: bool,
+    side: Side,
 ) -> ReplyOf<S>
 where
     S::V: Copy,
     S::Argument: SearchArgument<S::K> + RankArgument<S::K>,
-    ensures { ReadsWith S.K.cmp S.Argument.selects S.Argument.ranks tree.now cursors.old.items (step_of is_next number) result cursors.new.items }
+    ensures { ReadsWith S.K.cmp S.Argument.selects S.Argument.ranks tree.now cursors.old.items (step_of side number) result cursors.new.items }
 {
     let Some(cursor) = cursors.get(number) else {
         return Reply::NoCursor;
     };
-    match beside(tree, cursor, is_next) {
+    match beside(tree, cursor, side) {
         Ok(moved) => move_to(cursors, number, moved),
         Err(_) => Reply::OutOfMemory,
     }

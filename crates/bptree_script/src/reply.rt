@@ -17,6 +17,7 @@ use crate::output::Output;
 use crate::walk::{End, take_pair};
 use arrayvec::ArrayString;
 use bptree_arguments::count::Count;
+use bptree_keys::end::Side;
 use bptree_requests::{Request, read_request};
 use bptree_stores::node_store_vec::NodeStoreVec;
 use bptree_stores::node_stores::NodeStore;
@@ -147,8 +148,7 @@ fn send_page<S: NodeStore<K = u64, V = u64, Argument = Count>, W: Write>(
     if s == 0 {
         return out.send(b"bad");
     }
-    // Read, so that it is known that no place is as great as the greatest number.
-    let _len = tree.len();
+    tree.recall();
     match tree.range_by_argument(p.saturating_mul(s) as usize, s as usize) {
         Ok(pairs) => send_pairs(out, pairs, End::Front),
         Err(_) => unreachable!(),
@@ -194,17 +194,16 @@ fn cursor_on<S: NodeStore<K = u64, V = u64, Argument = Count>>(
     }
 }
 
-// The pair beside a key, if there is one, with a cursor on it: the one with the least greater key,
-// or the one with the greatest smaller key.
+// The pair beside a key on a side, if there is one, with a cursor on it.
 fn neighbour<S: NodeStore<K = u64, V = u64, Argument = Count>>(
     tree: &BPlusTree<S>,
     key: u64,
-    is_next: bool,
+    side: Side,
 ) -> Option<(Cursor<u64>, &u64)>
-    ensures { told_pair result ≡ pair_beside nat_cmp is_next tree.now.contents key }
+    ensures { told_pair result ≡ pair_beside nat_cmp side tree.now.contents key }
 {
     let cursor = cursor_on(tree, key);
-    match beside(tree, &cursor, is_next) {
+    match beside(tree, &cursor, side) {
         Ok(found) => found,
         Err(_) => unreachable!(),
     }
@@ -289,8 +288,8 @@ fn carry_out<S: NodeStore<K = u64, V = u64, Argument = Count>, W: Write>(
         Request::Last => send_found(out, tree.last()),
         Request::At(place) => send_found(out, pair_at(tree, place)),
         Request::Rank(key) => send_rank(out, tree, key),
-        Request::Next(key) => send_beside(out, neighbour(tree, key, true)),
-        Request::Prev(key) => send_beside(out, neighbour(tree, key, false)),
+        Request::Next(key) => send_beside(out, neighbour(tree, key, Side::After)),
+        Request::Prev(key) => send_beside(out, neighbour(tree, key, Side::Before)),
         Request::Clear => delete_all(tree, out),
     }
 }

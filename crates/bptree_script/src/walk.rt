@@ -7,19 +7,11 @@ ghost use Rattle.bptree_script.specs.declared.commands.Command.TheVariants.{Rang
 
 use crate::commands::{Command, Reply, ReplyOf, copy_of};
 use bptree_arguments::argument::{RankArgument, SearchArgument};
+pub use bptree_keys::end::End;
 use bptree_stores::node_stores::NodeStore;
 use bptree_tree::BPlusTree;
 use bptree_tree::iterator::Iter;
 use std::alloc::{AllocError, Global};
-
-/// An end of what is left of a list.
-#[derive(Clone, Copy, Debug, PartialEq, Eq)]
-pub enum End {
-    /// The first that is left is taken.
-    Front,
-    /// The last that is left is taken.
-    Back,
-}
 
 /// Takes the pair at an end, if one is left.
 pub(crate) fn take_pair<'a, S: NodeStore>(

@@ -1,5 +1,5 @@
 //! An ordered set.
-ghost use Rattle.std.specs.Prelude.{◌≡◌, ◌*◌, ◌<◌, [], false, not, length, slice_get, IfOk, IfErr, OnErr, Ok, Err, None, IsOk, IsTrue, ◌↔◌, List};
+ghost use Rattle.std.specs.Prelude.{◌≡◌, ◌^◌, ◌*◌, ◌<◌, [], false, not, length, slice_get, IfOk, IfErr, OnErr, Ok, Err, None, IsOk, IsTrue, ◌↔◌, List};
 ghost use Rattle.std.specs.Borrow.{Lends, sem};
 ghost use Rattle.std.specs.Iterator.{IsFiniteIterable as AreFinite};
 ghost use Rattle.std.specs.List.Sorted.{IsStrictlySortedBy};
@@ -103,6 +103,16 @@ impl<K: Key> BPlusTreeSet<K> {
         ensures ascending { IsStrictlySortedBy K.cmp self.now }
     {
         self.map.len()
+    }
+
+    /// Recalls what holds of every set, for the proofs of callers: the length fits in 64 bits, and the
+    /// keys ascend. It does nothing, in constant time, and never fails.
+    #[inline(always)]
+    pub fn recall(&self)
+        ensures fits { length self.now < 2 ^ 64 }
+        ensures ascending { IsStrictlySortedBy K.cmp self.now }
+    {
+        self.map.recall();
     }
 
     /// Whether there are no keys.

@@ -1,26 +1,19 @@
 //! Ways down a tree that stands in a store.
-ghost use Rattle.std.specs.Prelude.{◌≡◌, ◌+◌, ◌-◌, ◌*◌, ◌≤◌, cond, List, ◌∷◌, ◌++◌, [], length};
+ghost use Rattle.std.specs.Prelude.{◌≡◌, ◌+◌, ◌-◌, ◌*◌, ◌≤◌, cond, length};
 ghost use Rattle.bptree_keys.specs.declared.node_id.LeafNodeId.{LeafNodeId};
-ghost use Rattle.bptree_shape.specs.Leaves.{Stands, IsEndLeaf, IsLeafFor, IsFirstLeaf, IsLastLeaf};
+ghost use Rattle.bptree_keys.specs.Ends.{is_back};
+ghost use Rattle.bptree_shape.specs.Leaves.{Stands, IsEndLeaf, IsLeafFor};
 ghost use Rattle.bptree_keys.specs.declared.node_id.NodeId.TheVariants as kind;
 ghost use Rattle.bptree_shape.specs.Path.{GoesOnTo};
-ghost use Rattle.bptree_shape.specs.Shape.{leaves_at};
 
 use bptree_keys::compares::Compares;
+use bptree_keys::end::End;
 use bptree_keys::entry_ref::VisitStack;
 use bptree_keys::node_id::{LeafNodeId, NodeId};
 use bptree_stores::node_stores::NodeStore;
 
-/// The leaf that a key belongs to, in the tree of a height under a number.
-#[inline(always)]
-pub fn find_leaf<S: NodeStore>(store: &S, id: NodeId, height: usize, key: &S::K) -> LeafNodeId
-    requires { Stands S.K.cmp (S.slots store.now) height id }
-    ensures { IsLeafFor S.K.cmp (S.slots store.now) height id key.now result }
-{
-    find_leaf_counted(store, id, height, key, &mut Compares::new())
-}
-
-/// The same as `find_leaf`, with its comparisons counted.
+/// The leaf that a key belongs to, in the tree of a height below a node. Its comparisons are
+/// counted: at most 7 a level.
 #[inline(always)]
 pub fn find_leaf_counted<S: NodeStore>(
     store: &S,
@@ -66,40 +59,27 @@ pub fn find_path<S: NodeStore>(
     }
 }
 
-/// The first of so many places, or the last of them.
-pub fn end_place(count: usize, is_last: bool) -> usize
-    ensures { result ≡ cond is_last (count - 1) 0 }
+/// The index of the item at an end of so many items: 0, or the last one.
+pub fn end_index(count: usize, end: End) -> usize
+    ensures { result ≡ cond (is_back end) (count - 1) 0 }
 {
-    if is_last { count.saturating_sub(1) } else { 0 }
+    match end {
+        End::Front => 0,
+        End::Back => count.saturating_sub(1),
+    }
 }
 
-// The first leaf of the tree of a height under a number, or the last one.
-fn end_leaf<S: NodeStore>(store: &S, id: NodeId, height: usize, is_last: bool) -> LeafNodeId
+/// The leaf at an end of the tree of a height below a node.
+pub(crate) fn end_leaf<S: NodeStore>(store: &S, id: NodeId, height: usize, end: End) -> LeafNodeId
     requires { Stands S.K.cmp (S.slots store.now) height id }
-    ensures { IsEndLeaf (S.slots store.now) is_last height id result }
+    ensures { IsEndLeaf (S.slots store.now) (is_back end) height id result }
 {
     match id {
         NodeId::Leaf(leaf) => leaf,
         NodeId::Inner(inner) => {
             let node = store.get_inner(inner);
-            let child = node.child_id(end_place(node.len() + 1, is_last));
-            end_leaf(store, child, height - 1, is_last)
+            let child = node.child_id(end_index(node.len() + 1, end));
+            end_leaf(store, child, height - 1, end)
         }
     }
-}
-
-/// The first leaf of the tree of a height under a number.
-pub(crate) fn first_below<S: NodeStore>(store: &S, id: NodeId, height: usize) -> LeafNodeId
-    requires { Stands S.K.cmp (S.slots store.now) height id }
-    ensures { IsFirstLeaf (S.slots store.now) height id result }
-{
-    end_leaf(store, id, height, false)
-}
-
-/// The last leaf of the tree of a height under a number.
-pub(crate) fn last_below<S: NodeStore>(store: &S, id: NodeId, height: usize) -> LeafNodeId
-    requires { Stands S.K.cmp (S.slots store.now) height id }
-    ensures { IsLastLeaf (S.slots store.now) height id result }
-{
-    end_leaf(store, id, height, true)
 }

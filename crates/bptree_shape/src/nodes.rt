@@ -1,16 +1,7 @@
 //! The nodes of one tree, with the store that holds them.
-use bptree_keys::node_id::{LeafNodeId, NodeId};
+use bptree_keys::node_id::NodeId;
 use bptree_stores::node_stores::NodeStore;
 use std::marker::Model;
-
-/// A place in the leaves of a tree.
-#[derive(Clone, Copy, Debug, Drop)]
-pub struct Position {
-    /// The leaf.
-    pub leaf: LeafNodeId,
-    /// The place in it: of a pair, or behind the last one.
-    pub slot: usize,
-}
 
 /// The nodes of one tree: those in the store, and no others.
 ///

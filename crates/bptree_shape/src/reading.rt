@@ -1,14 +1,15 @@
 //! Reads of the nodes of a tree.
-ghost use Rattle.std.specs.Prelude.{◌≡◌, ◌+◌, ◌*◌, ◌<◌, ◌≤◌, length, slice_get};
+ghost use Rattle.std.specs.Prelude.{◌≡◌, ◌+◌, ◌*◌, ◌^◌, ◌<◌, ◌≤◌, length, slice_get};
 ghost use Rattle.std.specs.Option.{option_copied, option_map};
 ghost use Rattle.std.specs.Map.Iter.{deref_pair};
 ghost use Rattle.bptree_keys.specs.Contents.{IsAscending, last_member, value};
 ghost use Rattle.bptree_keys.specs.Searches.{CountsOne};
 ghost use Rattle.bptree_shape.specs.NodeTree.{BeginsWith, EndsWith, IsWhole, LeadsTo};
 
-use crate::descent::{find_leaf_counted, first_below, last_below};
+use crate::descent::{end_leaf, find_leaf_counted};
 use crate::nodes::Nodes;
-use bptree_keys::compares::Compares;
+use bptree_keys::compares::{Compares, SearchHint};
+use bptree_keys::end::End;
 use bptree_keys::node_id::LeafNodeId;
 use bptree_stores::node_stores::NodeStore;
 
@@ -22,6 +23,16 @@ impl<S: NodeStore> Nodes<S> {
         self.len
     }
 
+    /// Recalls what holds of every tree, for the proofs of callers. It does nothing.
+    #[inline(always)]
+    pub fn recall(&self)
+        ensures fits { length self.now.contents < 2 ^ 64 }
+        ensures ascending { IsAscending S.K.cmp self.now.contents }
+        ensures whole { IsWhole S.K.cmp S.Argument.is_summary S.slots self.now }
+    {
+        let _len = self.len();
+    }
+
     /// The leaf that a key belongs to: the remembered one where it is that, else it is searched for
     /// from the root.
     ///
@@ -30,24 +41,22 @@ impl<S: NodeStore> Nodes<S> {
     pub fn leaf_for(&self, key: &S::K) -> LeafNodeId
         ensures { LeadsTo S.slots self.now S.K.cmp key.now result }
     {
-        self.leaf_for_counted(key, &mut Compares::new())
+        self.leaf_for_counted(key, &mut Compares::new()).0
     }
 
-    /// The same as `leaf_for`, with its comparisons counted. Where the leaf was searched for, the
-    /// next search is taken to be one in it.
+    /// Does what `leaf_for` does, and counts its comparisons. The hint is for a search in the leaf.
     #[inline(always)]
-    pub fn leaf_for_counted(&self, key: &S::K, compares: &mut Compares) -> LeafNodeId
-        ensures leaf { LeadsTo S.slots self.now S.K.cmp key.now result }
+    pub fn leaf_for_counted(&self, key: &S::K, compares: &mut Compares) -> (LeafNodeId, SearchHint)
+        ensures leaf { LeadsTo S.slots self.now S.K.cmp key.now result.0 }
         ensures counts_on { compares.old ≤ compares.new }
         ensures count { compares.new ≤ compares.old + (7 * self.now.height + S.HINT_COMPARES) }
     {
         if let Some(leaf) = self.store.try_cache_counted(key, compares) {
-            return leaf;
+            return (leaf, SearchHint::Near);
         }
         let leaf = find_leaf_counted(&self.store, self.root, self.height, key, compares);
-        compares.go_below(self.height);
         self.store.cache_leaf(leaf);
-        leaf
+        (leaf, SearchHint::below(self.height))
     }
 
     /// The value at a key.
@@ -66,11 +75,11 @@ impl<S: NodeStore> Nodes<S> {
         ensures counts { 0 < length self.now.contents → CountsOne compares.old compares.new }
         ensures count { compares.new ≤ compares.old + (7 * (self.now.height + 1) + S.HINT_COMPARES) }
     {
-        let leaf = self.leaf_for_counted(key, compares);
+        let (leaf, hint) = self.leaf_for_counted(key, compares);
         let (_, value) = self
             .store
             .get_leaf(leaf)
-            .locate_slot_with_value_counted(key, compares);
+            .locate_slot_with_value_counted(key, hint, compares);
         value
     }
 
@@ -78,14 +87,14 @@ impl<S: NodeStore> Nodes<S> {
     pub fn first_leaf(&self) -> LeafNodeId
         ensures { BeginsWith S.slots self.now result }
     {
-        first_below(&self.store, self.root, self.height)
+        end_leaf(&self.store, self.root, self.height, End::Front)
     }
 
     /// The last leaf.
     pub fn last_leaf(&self) -> LeafNodeId
         ensures { EndsWith S.slots self.now result }
     {
-        last_below(&self.store, self.root, self.height)
+        end_leaf(&self.store, self.root, self.height, End::Back)
     }
 
     /// The pair with the least key.

@@ -3,12 +3,14 @@ ghost use Rattle.std.specs.Prelude.{◌≡◌, ◌<◌, ◌^◌, [], length, tak
 ghost use Rattle.std.specs.Map.{keys_of};
 ghost use Rattle.bptree_arguments.specs.CountLaws.{count_below};
 ghost use Rattle.bptree_keys.specs.Contents.{IsAscending, has};
+ghost use Rattle.bptree_keys.specs.Ends.{is_back};
 ghost use Rattle.bptree_sharded.specs.Shown.{PushesAll, IsTaken, turned};
 ghost use Rattle.bptree_sharded.specs.Whole.{contents};
 
 use crate::shard::Shard;
 use crate::whole::Shards;
 use bptree_arguments::count::Count;
+use bptree_keys::end::End;
 use bptree_keys::key::Key;
 use bptree_maps::map::{BPlusTreeMap, Iter, MoveError, SplitError};
 use bptree_shards::laws::law_of_empty_shards;
@@ -23,7 +25,7 @@ fn rank_in<K: Key, V: Drop>(map: &BPlusTreeMap<K, V, Count>, k: &K) -> (usize, b
     ensures ascending { IsAscending K.cmp map.now }
     ensures small { length map.now < 2 ^ 64 }
 {
-    let _len = map.len();
+    map.recall();
     match map.rank_by_argument(k) {
         Ok(Ok(rank)) => (rank, true),
         Ok(Err(rank)) => (rank, false),
@@ -31,32 +33,31 @@ fn rank_in<K: Key, V: Drop>(map: &BPlusTreeMap<K, V, Count>, k: &K) -> (usize, b
     }
 }
 
-// Takes the first pair that is left, or the last one.
+// Takes the pair at an end of those that are left.
 fn take_pair<'a, K: Key, V: Drop>(
     pairs: &mut Iter<'a, K, V, Count>,
-    is_back: bool,
+    end: End,
 ) -> Option<(&'a K, &'a V)>
-    ensures { IsTaken (turned is_back pairs.old) result (turned is_back pairs.new) }
+    ensures { IsTaken (turned (is_back end) pairs.old) result (turned (is_back end) pairs.new) }
 {
-    if is_back {
-        return pairs.next_back();
+    match end {
+        End::Front => pairs.next(),
+        End::Back => pairs.next_back(),
     }
-    pairs.next()
 }
 
-// Puts `n` of the pairs that are left behind those of a vector: the first, or the last ones, the
-// last one first.
+// Pushes `n` of the pairs that are left to a vector, one after another from an end.
 fn put_from<'a, K: Key, V: Drop>(
     pairs: Iter<'a, K, V, Count>,
-    is_back: bool,
+    end: End,
     n: usize,
     found: &mut Vec<(&'a K, &'a V)>,
 ) -> Result<(), AllocError>
-    ensures { PushesAll (take n (turned is_back pairs.entry)) found.old found.new result }
+    ensures { PushesAll (take n (turned (is_back end) pairs.entry)) found.old found.new result }
 {
     let mut pairs = pairs;
     for _ in 0..n {
-        match take_pair(&mut pairs, is_back) {
+        match take_pair(&mut pairs, end) {
             None => return Ok(()),
             Some(pair) => found.push(pair)?,
         }
@@ -136,7 +137,7 @@ impl<K: Key, V: Drop> Shard for BPlusTreeMap<K, V, Count> {
         found: &mut Vec<(&'a K, &'a V)>,
     ) -> Result<(), AllocError> {
         let pairs = self.range_by_argument(from, count)?;
-        put_from(pairs, false, count, found)
+        put_from(pairs, End::Front, count, found)
     }
 
     fn range<'a, 'b>(
@@ -146,7 +147,7 @@ impl<K: Key, V: Drop> Shard for BPlusTreeMap<K, V, Count> {
         n: usize,
         found: &mut Vec<(&'a K, &'a V)>,
     ) -> Result<(), AllocError> {
-        put_from(BPlusTreeMap::range(self, lo, hi), false, n, found)
+        put_from(BPlusTreeMap::range(self, lo, hi), End::Front, n, found)
     }
 
     fn back<'a>(
@@ -157,7 +158,7 @@ impl<K: Key, V: Drop> Shard for BPlusTreeMap<K, V, Count> {
     ) -> Result<(), AllocError> {
         put_from(
             self.range_bounds(Bound::Unbounded, Bound::Included(k)),
-            true,
+            End::Back,
             n,
             found,
         )

@@ -44,20 +44,6 @@ pub trait NodeStore: Drop {
     // The store with the leaf under a number written.
     ghost with_leaf: { Self → ℕ → Leaf Self.K Self.V → Self };
 
-    /// The greatest number of keys of an inner node.
-    fn inner_n() -> u16
-        ensures { result ≡ 64 }
-    {
-        InnerNode::<Self::K, Self::Argument>::max_capacity()
-    }
-
-    /// The greatest number of pairs of a leaf.
-    fn leaf_n() -> u16
-        ensures { result ≡ 64 }
-    {
-        LeafNode::<Self::K, Self::V>::max_capacity()
-    }
-
     /// A store with no node and no number held, which takes memory from `alloc` as it grows. It
     /// takes none now.
     fn empty(alloc: Global) -> Self
@@ -91,18 +77,6 @@ pub trait NodeStore: Drop {
         ensures was_free { IfOk result (λ id. (slots self.old).leaf id.0 ≡ Free) }
         ensures updates { IfOk result (HoldsLeaf (slots self.old) (slots self.new)) }
         ensures refused { OnErr result (slots self.new ≡ slots self.old) };
-
-    /// Puts a leaf with no pairs and no links under a free number.
-    fn new_empty_leaf(&mut self) -> Result<LeafNodeId, AllocError>
-        ensures was_free { IfOk result (λ id. (slots self.old).leaf id.0 ≡ Free) }
-        ensures updates { IfOk result (AddsLeaf (slots self.old) (slots self.new) empty_leaf) }
-        ensures refused { OnErr result (slots self.new ≡ slots self.old) }
-    {
-        let leaf = LeafNode::new(self.allocator())?;
-        let id = self.reserve_leaf()?;
-        self.assign_leaf(id, leaf);
-        Ok(id)
-    }
 
     /// The inner node under a number.
     fn get_inner(&self, id: InnerNodeId) -> &InnerNode<Self::K, Self::Argument>
@@ -167,19 +141,12 @@ pub trait NodeStore: Drop {
         requires { (slots self.old).leaf id.0 ≡ Held }
         ensures { UpdatesLeaf (slots self.old) (slots self.new) id.0 Free };
 
-    /// Remembers the number of a leaf as a hint. Any number will do, since `try_cache` trusts none.
+    /// Remembers the number of a leaf as a hint. Any number will do, since `try_cache_counted` trusts none.
     fn cache_leaf(&self, id: LeafNodeId);
 
-    /// The remembered leaf, where one is present under that number and no leaf beside it can hold
-    /// the key. A store may forget the number at any time.
-    #[inline]
-    fn try_cache(&self, k: &Self::K) -> Option<LeafNodeId>
-        ensures { IfSome result (λ id. HoldsKey Self.K.cmp ((slots self.now).leaf id.0) k.now) }
-    {
-        self.try_cache_counted(k, &mut Compares::new())
-    }
-
-    /// The same as `try_cache`, with its comparisons counted: at most `HINT_COMPARES`.
+    /// Returns the cached leaf, if one is present under that number and no leaf beside it can hold
+    /// the key. A store may forget the number at any time. The comparisons are counted: at most
+    /// `HINT_COMPARES`.
     fn try_cache_counted(&self, k: &Self::K, compares: &mut Compares) -> Option<LeafNodeId>
         ensures value { IfSome result (λ id. HoldsKey Self.K.cmp ((slots self.now).leaf id.0) k.now) }
         ensures counts_on { compares.old ≤ compares.new }
@@ -197,6 +164,42 @@ pub trait NodeStore: Drop {
     ghost with_leaf_updates: { (s : Self) (id : ℕ) (leaf : Leaf Self.K Self.V)
         → IsPresent ((slots s).leaf id)
         → UpdatesLeaf (slots s) (slots (with_leaf s id leaf)) id (Present leaf) };
+}
+
+/// The greatest number of keys of an inner node.
+pub fn inner_n<S: NodeStore>() -> u16
+    ensures { result ≡ 64 }
+{
+    InnerNode::<S::K, S::Argument>::max_capacity()
+}
+
+/// The greatest number of pairs of a leaf.
+pub fn leaf_n<S: NodeStore>() -> u16
+    ensures { result ≡ 64 }
+{
+    LeafNode::<S::K, S::V>::max_capacity()
+}
+
+/// Puts a leaf with no pairs and no links under a free number. It allocates the leaf and, at times,
+/// more room in the store. If an allocation fails, nothing is changed.
+pub fn new_empty_leaf<S: NodeStore>(store: &mut S) -> Result<LeafNodeId, AllocError>
+    ensures was_free { IfOk result (λ id. (S.slots store.old).leaf id.0 ≡ Free) }
+    ensures updates { IfOk result (AddsLeaf (S.slots store.old) (S.slots store.new) empty_leaf) }
+    ensures refused { OnErr result (S.slots store.new ≡ S.slots store.old) }
+{
+    let leaf = LeafNode::new(store.allocator())?;
+    let id = store.reserve_leaf()?;
+    store.assign_leaf(id, leaf);
+    Ok(id)
+}
+
+/// Returns the cached leaf, if one is present under that number and no leaf beside it can hold the
+/// key. A store may forget the number at any time. It allocates nothing.
+#[inline]
+pub fn try_cache<S: NodeStore>(store: &S, k: &S::K) -> Option<LeafNodeId>
+    ensures { IfSome result (λ id. HoldsKey S.K.cmp ((S.slots store.now).leaf id.0) k.now) }
+{
+    store.try_cache_counted(k, &mut Compares::new())
 }
 
 /// A store that can be cloned.

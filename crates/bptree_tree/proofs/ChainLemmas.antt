@@ -1,10 +1,12 @@
 -- The first and the last leaf of a chain are taken out, and the others stay one.
-use Rattle.std.proofs.Common.{inl, inr, ◌≡◌, ◌≢◌, Bool, true, false, ℕ, zero, suc, ◌+◌, ◌-◌, ◌<◌, ◌≤◌, cond, List, [], ◌∷◌, ◌++◌, length, refl, sym, ap, subst, ◌∙◌, arith, Option, Some, None, eqb, append-nil, length-append}
+use Rattle.std.proofs.Common.{inl, inr, ◌≡◌, ◌≢◌, ℕ, zero, suc, ◌+◌, ◌-◌, ◌<◌, ◌≤◌, cond, List, [], ◌∷◌, ◌++◌, length, refl, sym, ap, subst, ◌∙◌, arith, Option, Some, None, eqb, append-nil, length-append}
 use Rattle.std.proofs.lemmas.Bool.Decides.{eqb_tells}
 use Rattle.std.specs.List.{AllByRecursion}
 use Rattle.std.specs.Option.{unwrap_or}
 use Rattle.std.specs.declared.cmp.Ordering.{Ordering}
 use Rattle.bptree_keys.proofs.PieceLemmas.{AllByRecursion-left, AllByRecursion-weaker}
+use Rattle.bptree_keys.specs.declared.end.End.{End}
+use Rattle.bptree_keys.specs.declared.end.End.TheVariants.{Back, Front}
 use Rattle.bptree_keys.specs.declared.node_id.LeafNodeId.{LeafNodeId}
 use Rattle.bptree_keys.specs.declared.node_id.NodeId.{NodeId}
 use Rattle.bptree_keys.specs.declared.node_id.NodeId.TheVariants as kind
@@ -205,9 +207,9 @@ left_of slots first last (x ∷ xs) len counted chain =
 
 module _ {K V A : Type 0} (old new : Slots (Inner K A) (Leaf K V)) (ends : Ends) (len : ℕ) (left : IsLeft old ends.first ends.last len) (more : 0 < len) where
   -- a leaf stands at each end
-  pub end_present : (is_last : Bool) → IsPresent (old.leaf (end_of is_last ends).0)
-  end_present false = let chain = left.chain more in present_with_pairs (old.leaf ends.first.0) (subst (AllByRecursion (λ (id : LeafNodeId). 0 < length (leaf_pairs (old.leaf id.0)))) chain.starts chain.full).0
-  end_present true =
+  pub end_present : (at : End) → IsPresent (old.leaf (end_of at ends).0)
+  end_present Front = let chain = left.chain more in present_with_pairs (old.leaf ends.first.0) (subst (AllByRecursion (λ (id : LeafNodeId). 0 < length (leaf_pairs (old.leaf id.0)))) chain.starts chain.full).0
+  end_present Back =
       let chain = left.chain more in
       let HasPair : LeafNodeId → Type 0 = λ id. 0 < length (leaf_pairs (old.leaf id.0)) in
       present_with_pairs (old.leaf ends.last.0) (all_last HasPair chain.ahead ends.last (subst (AllByRecursion HasPair) chain.ends chain.full))
@@ -221,18 +223,18 @@ module _ {K V A : Type 0} (old new : Slots (Inner K A) (Leaf K V)) (ends : Ends)
     names link_of here is named id e = named ∙ ap (λ (o : Option LeafNodeId). unwrap_or o here) (is ∙ (ap link_of seen_is ∙ e))
 
     -- what is left once the leaf at an end is taken out
-    pub record EndOut (is_last : Bool) : Type 0 where
+    pub record EndOut (at : End) : Type 0 where
       pub within : n ≤ len
-      pub left' : IsLeft new (with_end is_last ends to).first (with_end is_last ends to).last (len - n)
-      pub leave : LeaveAt is_last leaf.pairs (chain_pairs old ends.first len) (chain_pairs new (with_end is_last ends to).first (len - n))
+      pub left' : IsLeft new (with_end at ends to).first (with_end at ends to).last (len - n)
+      pub leave : LeaveAt at leaf.pairs (chain_pairs old ends.first len) (chain_pairs new (with_end at ends to).first (len - n))
 
-    pub end_out : (is_last : Bool) → link ≡ inward_link is_last seen → to ≡ unwrap_or link (end_of is_last ends) → old.leaf (end_of is_last ends).0 ≡ Present leaf → ((i : ℕ) → i ≢ (end_of is_last ends).0 → new.leaf i ≡ old.leaf i) → EndOut is_last
-    end_out false is named at others =
+    pub end_out : (at : End) → link ≡ inward_link at seen → to ≡ unwrap_or link (end_of at ends) → old.leaf (end_of at ends).0 ≡ Present leaf → ((i : ℕ) → i ≢ (end_of at ends).0 → new.leaf i ≡ old.leaf i) → EndOut at
+    end_out Front is named at others =
         let out = first_leaves old new ends.first ends.last (chain_pairs old ends.first len) (left.chain more) leaf at others in
         let parts : len ≡ length leaf.pairs + length out.rest = left.counted ∙ (ap length out.parts ∙ length-append leaf.pairs out.rest) in
         let rest = left_of new to ends.last out.rest (len - n) (omega (arith, long)) (λ some. let next' = out.next some in rw (names (λ l. l.next) ends.first is named next'.0 next'.1) next'.2) in
         record { within = omega (arith, long); left' = rest.0; leave = (rw rest.1 out.parts, out.some) }
-    end_out true is named at others =
+    end_out Back is named at others =
         let out = last_leaves old new ends.first ends.last (chain_pairs old ends.first len) (left.chain more) leaf at others in
         let parts : len ≡ length out.rest + length leaf.pairs = left.counted ∙ (ap length out.parts ∙ length-append out.rest leaf.pairs) in
         let rest = left_of new ends.first to out.rest (len - n) (omega (arith, long)) (λ some. let prev' = out.prev some in rw (names (λ l. l.prev) ends.last is named prev'.0 prev'.1) prev'.2) in

@@ -1,5 +1,5 @@
 -- The pair of a key, by the leaf that can hold the key.
-use Rattle.std.proofs.Common.{◌≡◌, ◌+◌, ℕ, suc, true, false, not, List, [], ◌∷◌, ◌++◌, length, take, drop, refl, ap, None, Some, slice_get}
+use Rattle.std.proofs.Common.{◌≡◌, ◌+◌, ℕ, suc, true, false, not, List, [], ◌∷◌, ◌++◌, length, take, drop, refl, None, Some, slice_get}
 use Rattle.std.specs.Prelude.{◌&&◌}
 use Rattle.std.specs.declared.cmp.Ordering.{Ordering}
 use Rattle.std.specs.declared.cmp.Ordering.TheVariants.{Less, Equal}
@@ -8,9 +8,8 @@ use Rattle.std.specs.Option.{option_map}
 use Rattle.std.specs.Ordering.{is_lt, is_eq}
 use Rattle.std.proofs.lemmas.List.Elements.{filter-append}
 use Rattle.std.proofs.lemmas.Option.{get_or_from_slice_get}
-use Rattle.bptree_keys.specs.Contents.{IsAscending, has, value, next, pairs_above}
+use Rattle.bptree_keys.specs.Contents.{IsAscending, has, value}
 use Rattle.bptree_keys.specs.Places.{AllAnswer, IsHit}
-use Rattle.bptree_keys.specs.Ranges.{between}
 use Rattle.bptree_keys.specs.declared.node_id.LeafNodeId.{LeafNodeId}
 use Rattle.bptree_keys.specs.declared.node_id.NodeId.{NodeId}
 use Rattle.bptree_keys.proofs.Found.{hit_at}
@@ -21,10 +20,8 @@ use Rattle.bptree_nodes.specs.LeafResults.{HasEqualAt}
 use Rattle.bptree_nodes.specs.Slot.{Slots, Present}
 use Rattle.bptree_shape.specs.Leaves.{pairs_of, IsLeafFor}
 use Rattle.bptree_shape.specs.Shape.{pairs_at, root_least, IsWellShaped}
-use Rattle.bptree_shape.proofs.LeafFor.{node_ascends, absent_there}
 use Rattle.bptree_shape.proofs.Ordered.{by_cases}
 use Rattle.bptree_shape.proofs.Walk.{tree_ascends}
-use Rattle.bptree_ascent.proofs.Lent.{none_if_absent}
 use Rattle.bptree_descents.proofs.Selected.{place_read}
 use Rattle.bptree_tree.specs.Entries.{entry, at_least}
 
@@ -52,16 +49,6 @@ module _ {K V : Type 0} (cmp : K → K → Ordering) where
   entry_value [] k = refl
   entry_value (p ∷ l) k = by_cases (cmp p.0 k) (λ less. rw less (entry_value l k)) (λ equal. rw equal refl) (λ greater. rw greater (entry_value l k))
 
-  -- and the keys that are not below it are above it
-  above_if_absent : (l : List (K × V)) (k : K) → has cmp l k ≡ false → between cmp l (Some k) None ≡ pairs_above cmp l k
-  above_if_absent [] k absent = refl
-  above_if_absent (p ∷ l) k absent =
-      by_cases (cmp p.0 k) (λ less. rw less (above_if_absent l k (rw less at absent))) (λ equal. let z : true ≡ false = rw equal at absent in cc)
-      (λ greater. rw greater (ap (λ rest. p ∷ rest) (above_if_absent l k (rw greater at absent))))
-
-  pub at_least_absent : (l : List (K × V)) (k : K) → has cmp l k ≡ false → at_least cmp l k ≡ next cmp l k
-  at_least_absent l k absent = ap (λ rest. slice_get rest 0) (above_if_absent l k absent)
-
 -- the pair at a place is the pair of each key that equals its key
 pub entry_at : {K V : Type 0} {cmp : K → K → Ordering} → IsTotalOrder cmp → (l : List (K × V)) (i : ℕ) (pair : K × V) (k : K) → IsAscending cmp l → slice_get l i ≡ Some pair → cmp pair.0 k ≡ Equal → entry cmp l k ≡ Some pair
 entry_at {cmp = cmp} total l i pair k sorted read equal = entry_hit cmp l _ pair _ k (rw (get_or_from_slice_get l i pair pair read) at (hit_at cmp total l sorted k i pair (rw read equal)).1)
@@ -88,15 +75,3 @@ module _ {K V A : Type 0} {cmp : K → K → Ordering} (total : IsTotalOrder cmp
 
   pub entry_there : entry cmp (pairs_at slots h root) k ≡ Some pair
   entry_there = entry_hit cmp whole _ pair _ k hit_there
-
-  pub at_least_there : at_least cmp (pairs_at slots h root) k ≡ Some pair
-  at_least_there = at_least_hit cmp whole _ pair _ k hit_there
-
--- the leaf that can hold a key lacks it, and so does the tree
-module _ {K V A : Type 0} {cmp : K → K → Ordering} (total : IsTotalOrder cmp) (is_summary : A → List K → Type 0) (slots : Slots (Inner K A) (Leaf K V)) (h : ℕ) (root : NodeId) (shape : IsWellShaped cmp is_summary slots h root)
-    (k : K) (leaf : LeafNodeId) (node : Leaf K V) (for' : IsLeafFor cmp slots h root k leaf) (here : slots.leaf leaf.0 ≡ Present node) (lacks : IsAscending cmp node.pairs → has cmp node.pairs k ≡ false) where
-  pub absent : has cmp (pairs_at slots h root) k ≡ false
-  absent = absent_there total is_summary slots h root k leaf node shape for' here (lacks (node_ascends total is_summary slots h root k leaf node shape for' here))
-
-  pub value_lacking : value cmp (pairs_at slots h root) k ≡ None
-  value_lacking = none_if_absent cmp (pairs_at slots h root) k absent

@@ -8,6 +8,7 @@ use Rattle.bptree_nodes.specs.Inner.{Inner}
 use Rattle.bptree_nodes.specs.Leaf.{Leaf}
 use Rattle.bptree_nodes.specs.Slot.{Slot, Slots, Free, Held, Present, IsPresent}
 use Rattle.bptree_keys.specs.declared.node_id.LeafNodeId.{LeafNodeId}
+use Rattle.bptree_keys.specs.declared.node_id.Position.{Position}
 use Rattle.bptree_keys.specs.declared.node_id.NodeId.{NodeId}
 use Rattle.bptree_keys.specs.Contents.{IsAscending}
 use Rattle.bptree_keys.specs.Ranges.{part}
@@ -15,7 +16,7 @@ use Rattle.bptree_keys.proofs.PieceLemmas.{AllByRecursion-right}
 use Rattle.bptree_iteration.specs.declared.part.Part.{Part}
 use Rattle.bptree_iteration.specs.declared.part.Extent.TheVariants.{Exact}
 use Rattle.bptree_shape.specs.Leaves.{pairs_of, IsFirstLeaf, IsLastLeaf}
-use Rattle.bptree_ranges.specs.Ranges.{ahead, start, IsPart}
+use Rattle.bptree_ranges.specs.Ranges.{ahead, place_on, start, IsPart}
 use Rattle.bptree_shape.specs.Shape.{leaf_pairs, leaf_prev, leaf_next, leaves_at, pairs_at, AreLinked, IsWellShaped}
 use Rattle.bptree_descents.proofs.Beside.{HasPair, others_have}
 use Rattle.bptree_ranges.proofs.Ranged.{sides, start_is, ahead_of, reached, comes_before, take_of_take}
@@ -137,32 +138,32 @@ module _ {K V A : Type 0} {cmp : K → K → Ordering} (is_summary : A → List 
 
   -- how many pairs stand between the two places of a part, and which
   abbrev wide : Part → ℕ
-  wide p = (start slots h root p.back + p.to) - (start slots h root p.front + p.from)
+  wide p = (start slots h root p.back.leaf + p.back.slot) - (start slots h root p.front.leaf + p.front.slot)
 
   abbrev within : Part → List (K × V)
-  within p = part (pairs_at slots h root) (start slots h root p.front + p.from) (wide p)
+  within p = part (pairs_at slots h root) (start slots h root p.front.leaf + p.front.slot) (wide p)
 
-  up : (p : Part) (xs : List (K × V)) → IsPart slots h root p xs → start slots h root p.front + p.from + wide p ≡ start slots h root p.back + p.to
+  up : (p : Part) (xs : List (K × V)) → IsPart slots h root p xs → start slots h root p.front.leaf + p.front.slot + wide p ≡ start slots h root p.back.leaf + p.back.slot
   up p xs is =
       elim is.rises [
         | inl behind ↦ omega (arith, behind)
-        | inr same ↦ (let e = ap (start slots h root) same.0 in omega (arith, e, same.1))
+        | inr same ↦ (let e = ap (place_on slots h root) same in omega (arith, e))
       ]
 
   -- a part that begins and ends in one leaf
-  one_leaf : (p : Part) (xs : List (K × V)) (is : IsPart slots h root p xs) → p.front ≡ p.back → IsSpan (leaves_of slots) p.front p.from [] p.back p.to (within p)
+  one_leaf : (p : Part) (xs : List (K × V)) (is : IsPart slots h root p xs) → p.front.leaf ≡ p.back.leaf → IsSpan (leaves_of slots) p.front.leaf p.front.slot [] p.back.leaf p.back.slot (within p)
   one_leaf p xs is same =
-      let at = present_slot (slots.leaf p.front.0) is.front.stands.present in
-      let e : start slots h root p.front ≡ start slots h root p.back = ap (start slots h root) same in
-      let s : size p.back ≡ size p.front = ap size (sym same) in
-      let long : size p.front ≡ length at.0.pairs = ap (λ s. length (leaf_pairs s)) at.1 in
+      let at = present_slot (slots.leaf p.front.leaf.0) is.front.stands.present in
+      let e : start slots h root p.front.leaf ≡ start slots h root p.back.leaf = ap (start slots h root) same in
+      let s : size p.back.leaf ≡ size p.front.leaf = ap size (sym same) in
+      let long : size p.front.leaf ≡ length at.0.pairs = ap (λ s. length (leaf_pairs s)) at.1 in
       let in' = is.front.stands in
-      let i : start slots h root p.front ≡ length (pairs_of slots in'.before) = start_is is_summary slots h root shape p.front in' in
-      let xs_is : within p ≡ drop p.from (take p.to (leaf_pairs (slots.leaf p.front.0))) =
-      (ap (λ l. part l (start slots h root p.front + p.from) (wide p)) (parts_of slots h root p.front in')
-      ∙ (ap (λ n. part (pairs_of slots in'.before ++ (leaf_pairs (slots.leaf p.front.0) ++ pairs_of slots in'.after)) (n + p.from) (wide p)) i
-      ∙ one_piece (pairs_of slots in'.before) (leaf_pairs (slots.leaf p.front.0)) (pairs_of slots in'.after) p.from p.to (wide p) (omega (arith, up p xs is, e)) (omega (arith, is.back.within, s)) (omega (arith, up p xs is, e)))) in
-      (at.0, ap leaf_of at.1, sym same, omega (arith, up p xs is, e), omega (arith, is.back.within, s, long), xs_is ∙ ap (λ s. drop p.from (take p.to (leaf_pairs s))) at.1)
+      let i : start slots h root p.front.leaf ≡ length (pairs_of slots in'.before) = start_is is_summary slots h root shape p.front.leaf in' in
+      let xs_is : within p ≡ drop p.front.slot (take p.back.slot (leaf_pairs (slots.leaf p.front.leaf.0))) =
+      (ap (λ l. part l (start slots h root p.front.leaf + p.front.slot) (wide p)) (parts_of slots h root p.front.leaf in')
+      ∙ (ap (λ n. part (pairs_of slots in'.before ++ (leaf_pairs (slots.leaf p.front.leaf.0) ++ pairs_of slots in'.after)) (n + p.front.slot) (wide p)) i
+      ∙ one_piece (pairs_of slots in'.before) (leaf_pairs (slots.leaf p.front.leaf.0)) (pairs_of slots in'.after) p.front.slot p.back.slot (wide p) (omega (arith, up p xs is, e)) (omega (arith, is.back.within, s)) (omega (arith, up p xs is, e)))) in
+      (at.0, ap leaf_of at.1, sym same, omega (arith, up p xs is, e), omega (arith, is.back.within, s, long), xs_is ∙ ap (λ s. drop p.front.slot (take p.back.slot (leaf_pairs s))) at.1)
     where
       present_slot : (s : Slot (Leaf K V)) → IsPresent s → (leaf : Leaf K V) × (s ≡ Present leaf)
       present_slot Free h = absurd h
@@ -170,57 +171,57 @@ module _ {K V A : Type 0} {cmp : K → K → Ordering} (is_summary : A → List 
       present_slot (Present leaf) h = (leaf, refl)
 
   -- one that goes over the ends of leaves
-  more_leaves : (p : Part) (xs : List (K × V)) (is : IsPart slots h root p xs) (mid : List LeafNodeId) → is.front.stands.after ≡ mid ++ p.back ∷ is.back.stands.after → is.back.stands.before ≡ is.front.stands.before ++ p.front ∷ mid
-      → IsSpan (leaves_of slots) p.front p.from (mid ++ p.back ∷ []) p.back p.to (within p)
+  more_leaves : (p : Part) (xs : List (K × V)) (is : IsPart slots h root p xs) (mid : List LeafNodeId) → is.front.stands.after ≡ mid ++ p.back.leaf ∷ is.back.stands.after → is.back.stands.before ≡ is.front.stands.before ++ p.front.leaf ∷ mid
+      → IsSpan (leaves_of slots) p.front.leaf p.front.slot (mid ++ p.back.leaf ∷ []) p.back.leaf p.back.slot (within p)
   more_leaves p xs is mid e f =
       let in' = is.front.stands in
       let out = is.back.stands in
-      let here = leaf_pairs (slots.leaf p.front.0) in
-      let last = leaf_pairs (slots.leaf p.back.0) in
-      let linked = linked_tail slots None in'.before (p.front ∷ in'.after) None (subst (λ ids. AreLinked slots None ids None) in'.leaves shape.linked) in
-      let some = (others_have slots cmp h root p.front in' shape.tree).1 in
-      let some' = AllByRecursion-right (HasPair slots) in'.before (p.front ∷ mid) (subst (AllByRecursion (HasPair slots)) f (others_have slots cmp h root p.back out shape.tree).0) in
-      let ids = ap (λ l. p.front ∷ l) e in
-      let span = span_over slots p.front mid p.back out.after p.from p.to linked.0 None (subst (λ l. AreLinked slots linked.0 l None) ids linked.1) (some'.0, subst (AllByRecursion (HasPair slots)) e some) is.front.within is.back.within in
-      let i : start slots h root p.front ≡ length (pairs_of slots in'.before) = start_is is_summary slots h root shape p.front in' in
-      let j : start slots h root p.back ≡ length (pairs_of slots in'.before) + (length here + length (pairs_of slots mid)) =
-      start_is is_summary slots h root shape p.back out ∙ (ap (λ l. length (pairs_of slots l)) f ∙ (ap length (flat-append (λ (l : LeafNodeId). leaf_pairs (slots.leaf l.0)) in'.before (p.front ∷ mid))
-      ∙ omega (arith, length-append (pairs_of slots in'.before) (pairs_of slots (p.front ∷ mid)), length-append here (pairs_of slots mid)))) in
+      let here = leaf_pairs (slots.leaf p.front.leaf.0) in
+      let last = leaf_pairs (slots.leaf p.back.leaf.0) in
+      let linked = linked_tail slots None in'.before (p.front.leaf ∷ in'.after) None (subst (λ ids. AreLinked slots None ids None) in'.leaves shape.linked) in
+      let some = (others_have slots cmp h root p.front.leaf in' shape.tree).1 in
+      let some' = AllByRecursion-right (HasPair slots) in'.before (p.front.leaf ∷ mid) (subst (AllByRecursion (HasPair slots)) f (others_have slots cmp h root p.back.leaf out shape.tree).0) in
+      let ids = ap (λ l. p.front.leaf ∷ l) e in
+      let span = span_over slots p.front.leaf mid p.back.leaf out.after p.front.slot p.back.slot linked.0 None (subst (λ l. AreLinked slots linked.0 l None) ids linked.1) (some'.0, subst (AllByRecursion (HasPair slots)) e some) is.front.within is.back.within in
+      let i : start slots h root p.front.leaf ≡ length (pairs_of slots in'.before) = start_is is_summary slots h root shape p.front.leaf in' in
+      let j : start slots h root p.back.leaf ≡ length (pairs_of slots in'.before) + (length here + length (pairs_of slots mid)) =
+      start_is is_summary slots h root shape p.back.leaf out ∙ (ap (λ l. length (pairs_of slots l)) f ∙ (ap length (flat-append (λ (l : LeafNodeId). leaf_pairs (slots.leaf l.0)) in'.before (p.front.leaf ∷ mid))
+      ∙ omega (arith, length-append (pairs_of slots in'.before) (pairs_of slots (p.front.leaf ∷ mid)), length-append here (pairs_of slots mid)))) in
       let all : pairs_at slots h root ≡ pairs_of slots in'.before ++ (here ++ (pairs_of slots mid ++ (last ++ pairs_of slots out.after))) =
-      parts_of slots h root p.front in' ∙ ap (λ l. pairs_of slots in'.before ++ (here ++ l)) (ap (pairs_of slots) e ∙ flat-append (λ (l : LeafNodeId). leaf_pairs (slots.leaf l.0)) mid (p.back ∷ out.after)) in
-      let xs_is : within p ≡ drop p.from here ++ (pairs_of slots mid ++ take p.to last) =
-      (ap (λ l. part l (start slots h root p.front + p.from) (wide p)) all
-      ∙ (ap (λ n. part (pairs_of slots in'.before ++ (here ++ (pairs_of slots mid ++ (last ++ pairs_of slots out.after)))) (n + p.from) (wide p)) i
-      ∙ more_pieces (pairs_of slots in'.before) here (pairs_of slots mid) last (pairs_of slots out.after) p.from p.to (wide p) is.front.within is.back.within (omega (arith, up p xs is, i, j)))) in
-      subst (IsSpan (leaves_of slots) p.front p.from (mid ++ p.back ∷ []) p.back p.to) (sym xs_is) span
+      parts_of slots h root p.front.leaf in' ∙ ap (λ l. pairs_of slots in'.before ++ (here ++ l)) (ap (pairs_of slots) e ∙ flat-append (λ (l : LeafNodeId). leaf_pairs (slots.leaf l.0)) mid (p.back.leaf ∷ out.after)) in
+      let xs_is : within p ≡ drop p.front.slot here ++ (pairs_of slots mid ++ take p.back.slot last) =
+      (ap (λ l. part l (start slots h root p.front.leaf + p.front.slot) (wide p)) all
+      ∙ (ap (λ n. part (pairs_of slots in'.before ++ (here ++ (pairs_of slots mid ++ (last ++ pairs_of slots out.after)))) (n + p.front.slot) (wide p)) i
+      ∙ more_pieces (pairs_of slots in'.before) here (pairs_of slots mid) last (pairs_of slots out.after) p.front.slot p.back.slot (wide p) is.front.within is.back.within (omega (arith, up p xs is, i, j)))) in
+      subst (IsSpan (leaves_of slots) p.front.leaf p.front.slot (mid ++ p.back.leaf ∷ []) p.back.leaf p.back.slot) (sym xs_is) span
 
-  others_between : (p : Part) (xs : List (K × V)) (is : IsPart slots h root p xs) (mid : List LeafNodeId) → is.back.stands.before ≡ is.front.stands.before ++ p.front ∷ mid → AreApart p.front (mid ++ p.back ∷ []) p.back
+  others_between : (p : Part) (xs : List (K × V)) (is : IsPart slots h root p xs) (mid : List LeafNodeId) → is.back.stands.before ≡ is.front.stands.before ++ p.front.leaf ∷ mid → AreApart p.front.leaf (mid ++ p.back.leaf ∷ []) p.back.leaf
   others_between p xs is mid f =
-      let all = subst (AllByRecursion (λ (y : LeafNodeId). y ≡ p.back → ⊥)) (ahead_of is_summary slots h root shape p.back is.back.stands ∙ f) (others_ahead p.back (leaves_at slots h root)) in
-      apart_over p.front mid p.back (AllByRecursion-right (λ (y : LeafNodeId). y ≡ p.back → ⊥) is.front.stands.before (p.front ∷ mid) all)
+      let all = subst (AllByRecursion (λ (y : LeafNodeId). y ≡ p.back.leaf → ⊥)) (ahead_of is_summary slots h root shape p.back.leaf is.back.stands ∙ f) (others_ahead p.back.leaf (leaves_at slots h root)) in
+      apart_over p.front.leaf mid p.back.leaf (AllByRecursion-right (λ (y : LeafNodeId). y ≡ p.back.leaf → ⊥) is.front.stands.before (p.front.leaf ∷ mid) all)
 
   long_within : (p : Part) (xs : List (K × V)) (is : IsPart slots h root p xs) → wide p ≡ length (within p)
   long_within p xs is =
-      let all = reached is_summary slots h root shape p.back is.back.stands in
-      let l = length-drop (start slots h root p.front + p.from) (pairs_at slots h root) in
-      sym (length-take-le (wide p) (drop (start slots h root p.front + p.from) (pairs_at slots h root)) (omega (arith, l, all, up p xs is, is.back.within)))
+      let all = reached is_summary slots h root shape p.back.leaf is.back.stands in
+      let l = length-drop (start slots h root p.front.leaf + p.front.slot) (pairs_at slots h root) in
+      sym (length-take-le (wide p) (drop (start slots h root p.front.leaf + p.front.slot) (pairs_at slots h root)) (omega (arith, l, all, up p xs is, is.back.within)))
 
   -- what an iterator over the part asks, and shows
-  pub part_between_places : (p : Part) (xs : List (K × V)) → IsPart slots h root p xs → IsBetween (leaves_of slots) p.front p.from p.back p.to p.limit p.extent × (first_between (leaves_of slots) p.front p.from p.back p.to p.limit ≡ xs)
+  pub part_between_places : (p : Part) (xs : List (K × V)) → IsPart slots h root p xs → IsBetween (leaves_of slots) p.front.leaf p.front.slot p.back.leaf p.back.slot p.limit p.extent × (first_between (leaves_of slots) p.front.leaf p.front.slot p.back.leaf p.back.slot p.limit ≡ xs)
   part_between_places p xs is =
       let tells = subst (Tells p.extent p.limit) (long_within p xs is) is.tells in
-      let cut : take p.limit (within p) ≡ xs = take_of_take p.limit (wide p) (drop (start slots h root p.front + p.from) (pairs_at slots h root)) ∙ sym is.pairs in
-      let so : (ids : List LeafNodeId) → IsSpan (leaves_of slots) p.front p.from ids p.back p.to (within p) → AreApart p.front ids p.back → IsBetween (leaves_of slots) p.front p.from p.back p.to p.limit p.extent × (first_between (leaves_of slots) p.front p.from p.back p.to p.limit ≡ xs) =
-      (λ ids span apart. (record { ids = ids; pairs = within p; span = span; apart = apart; tells = tells }, first_of_span (leaves_of slots) p.front p.from ids p.back p.to (within p) p.limit span apart ∙ cut)) in
-      elim (sides p.front p.back is.front.stands.before is.front.stands.after is.back.stands.before is.back.stands.after (sym is.front.stands.leaves ∙ is.back.stands.leaves)) [
+      let cut : take p.limit (within p) ≡ xs = take_of_take p.limit (wide p) (drop (start slots h root p.front.leaf + p.front.slot) (pairs_at slots h root)) ∙ sym is.pairs in
+      let so : (ids : List LeafNodeId) → IsSpan (leaves_of slots) p.front.leaf p.front.slot ids p.back.leaf p.back.slot (within p) → AreApart p.front.leaf ids p.back.leaf → IsBetween (leaves_of slots) p.front.leaf p.front.slot p.back.leaf p.back.slot p.limit p.extent × (first_between (leaves_of slots) p.front.leaf p.front.slot p.back.leaf p.back.slot p.limit ≡ xs) =
+      (λ ids span apart. (record { ids = ids; pairs = within p; span = span; apart = apart; tells = tells }, first_of_span (leaves_of slots) p.front.leaf p.front.slot ids p.back.leaf p.back.slot (within p) p.limit span apart ∙ cut)) in
+      elim (sides p.front.leaf p.back.leaf is.front.stands.before is.front.stands.after is.back.stands.before is.back.stands.after (sym is.front.stands.leaves ∙ is.back.stands.leaves)) [
         | inl same ↦ so [] (one_leaf p xs is same.1) tt
         | inr rest ↦ (elim rest [
-          | inl first ↦ so (first.0 ++ p.back ∷ []) (more_leaves p xs is first.0 first.2 first.1) (others_between p xs is first.0 first.1)
+          | inl first ↦ so (first.0 ++ p.back.leaf ∷ []) (more_leaves p xs is first.0 first.2 first.1) (others_between p xs is first.0 first.1)
           | inr last ↦
-              (let before = comes_before is_summary slots h root shape p.back p.front is.back.stands is.front.stands last.0 last.1 last.2 in
+              (let before = comes_before is_summary slots h root shape p.back.leaf p.front.leaf is.back.stands is.front.stands last.0 last.1 last.2 in
               elim is.rises [
                 | inl behind ↦ absurd (omega (arith, behind, before.from, is.back.within))
-                | inr same ↦ so [] (one_leaf p xs is (sym same.0)) tt
+                | inr same ↦ so [] (one_leaf p xs is (sym (ap (λ (at : Position). at.leaf) same))) tt
               ])
         ])
       ]

@@ -9,6 +9,7 @@ use Rattle.std.proofs.lemmas.List.{drop-take, drop_at, length-take-le, take-appe
 use Rattle.std.proofs.lemmas.Map.Entries.{length-keys_of}
 use Rattle.bptree_keys.specs.Ranges.{between, part}
 use Rattle.bptree_keys.specs.declared.node_id.LeafNodeId.{LeafNodeId}
+use Rattle.bptree_keys.specs.declared.node_id.Position.{Position}
 use Rattle.bptree_keys.specs.declared.node_id.NodeId.{NodeId}
 use Rattle.bptree_nodes.specs.Inner.{Inner}
 use Rattle.bptree_nodes.specs.Leaf.{Leaf}
@@ -92,17 +93,17 @@ module _ {K V A : Type 0} {cmp : K → K → Ordering} (is_summary : A → List 
     stands_now = record { before = in'.before; after = in'.after; leaves = leaves_alike cmp is_summary old mid alike h root ∙ in'.leaves; present = rw here tt }
 
     -- before another place stands a leaf that this one links to
-    pub step : (from : ℕ) (other : LeafNodeId × ℕ) → from ≤ length node.pairs → start old h root at + from ≤ place_on old h root other → IsSettled old h root (place_on old h root other) other → (at ≡ other.0 → ⊥)
+    pub step : (from : ℕ) (other : Position) → from ≤ length node.pairs → start old h root at + from ≤ place_on old h root other → IsSettled old h root (place_on old h root other) other → (at ≡ other.leaf → ⊥)
         → (next : LeafNodeId) × (node.next ≡ Some next) × NextLeaf is_summary old h root shape at next × (start old h root at + length node.pairs ≤ place_on old h root other)
     step from other within below there apart =
-        elim (order is_summary old h root shape at other.0 in' there.on.stands) as (λ _. (next : LeafNodeId) × (node.next ≡ Some next) × NextLeaf is_summary old h root shape at next × (start old h root at + length node.pairs ≤ place_on old h root other)) [
+        elim (order is_summary old h root shape at other.leaf in' there.on.stands) as (λ _. (next : LeafNodeId) × (node.next ≡ Some next) × NextLeaf is_summary old h root shape at next × (start old h root at + length node.pairs ≤ place_on old h root other)) [
           | inl same ↦ absurd (apart same)
           | inr rest ↦
               (elim rest as (λ _. (next : LeafNodeId) × (node.next ≡ Some next) × NextLeaf is_summary old h root shape at next × (start old h root at + length node.pairs ≤ place_on old h root other)) [
                 | inl before ↦
                     (let was = present_node (old.leaf at.0) in'.present in
                     let link : was.0.next ≡ node.next = sym (ap leaf_next was.1) ∙ next_was in
-                    let next = some_of node.next (λ none. let all = last_of is_summary old h root shape at was.0 in' was.1 (link ∙ none) in omega (arith, all, before.from, before.last, reached is_summary old h root shape other.0 there.on.stands)) in
+                    let next = some_of node.next (λ none. let all = last_of is_summary old h root shape at was.0 in' was.1 (link ∙ none) in omega (arith, all, before.from, before.last, reached is_summary old h root shape other.leaf there.on.stands)) in
                     (next.0, next.1, next_of is_summary old h root shape at next.0 was.0 in' was.1 (link ∙ next.1), omega (arith, long_here, before.from)))
                 | inr behind ↦ absurd (let pair = there.pair (omega (arith, behind.from, behind.last, there.on.within, reached is_summary old h root shape at in')) in omega (arith, pair, behind.from, below))
               ])
@@ -153,7 +154,7 @@ module _ {K V A : Type 0} {cmp : K → K → Ordering} (is_summary : A → List 
 pub same_leaf : (a b : LeafNodeId) → a.0 ≡ b.0 → a ≡ b
 same_leaf a b e = λ i. record { 0 = e i }
 
-module _ {F K V A : Type 0} (calls : Mut F (Bor K × (MutBor V × Unit {0})) (Unit {0} × (MutBor V × Unit {0}))) (old : Slots (Inner K A) (Leaf K V)) (h : ℕ) (root : NodeId) (f : F) (front back : LeafNodeId × ℕ) where
+module _ {F K V A : Type 0} (calls : Mut F (Bor K × (MutBor V × Unit {0})) (Unit {0} × (MutBor V × Unit {0}))) (old : Slots (Inner K A) (Leaf K V)) (h : ℕ) (root : NodeId) (f : F) (front back : Position) where
   -- the values between the first place and this one are changed
   pub record Walked (t : F) (at : LeafNodeId) (from : ℕ) (mid : Slots (Inner K A) (Leaf K V)) : Type 0 where
     pub alike : AllAlike old mid
@@ -161,25 +162,25 @@ module _ {F K V A : Type 0} (calls : Mut F (Bor K × (MutBor V × Unit {0})) (Un
     pub below : start old h root at + from ≤ place_on old h root back
     pub changed : ChangedUpTo calls f (pairs_at old h root) (place_on old h root front) (place_on old h root back) t (start old h root at + from) (pairs_at mid h root)
 
-  pub walked_none : IsSettled old h root (place_on old h root front) front → place_on old h root front ≤ place_on old h root back → Walked f front.0 front.1 old
+  pub walked_none : IsSettled old h root (place_on old h root front) front → place_on old h root front ≤ place_on old h root back → Walked f front.leaf front.slot old
   walked_none there rises = record { alike = alike_itself old; on = there.on; below = rises; changed = none_changed calls f (pairs_at old h root) (place_on old h root front) (place_on old h root back) }
 
 module _ {F K V A : Type 0} {cmp : K → K → Ordering} (is_summary : A → List K → Type 0) (calls : Mut F (Bor K × (MutBor V × Unit {0})) (Unit {0} × (MutBor V × Unit {0}))) (old : Slots (Inner K A) (Leaf K V)) (h : ℕ) (root : NodeId)
-    (f : F) (front back : LeafNodeId × ℕ) where
+    (f : F) (front back : Position) where
   module _ (shape : IsWellShaped cmp is_summary old h root) (there : IsSettled old h root (place_on old h root back) back) (rises : place_on old h root front ≤ place_on old h root back)
       (t : F) (at : LeafNodeId) (from : ℕ) (mid : Slots (Inner K A) (Leaf K V)) (walked : Walked calls old h root f front back t at from mid) where
     pub present_now : IsPresent (mid.leaf at.0)
     present_now = present_alike (old.leaf at.0) (mid.leaf at.0) (walked.alike.leaf at.0).stands walked.on.stands.present
 
     fits : place_on old h root back ≤ length (pairs_at old h root)
-    fits = omega (arith, there.on.within, reached is_summary old h root shape back.0 there.on.stands)
+    fits = omega (arith, there.on.within, reached is_summary old h root shape back.leaf there.on.stands)
 
     module _ (node : Leaf K V) (here : mid.leaf at.0 ≡ Present node) where
       pub within_leaf : from ≤ length node.pairs
       within_leaf = omega (arith, walked.on.within, long_here is_summary old h root shape mid walked.alike at node here walked.on.stands)
 
       -- the walk goes on at the next leaf
-      module _ (apart : at ≡ back.0 → ⊥) where
+      module _ (apart : at ≡ back.leaf → ⊥) where
         pub next_there : (next : LeafNodeId) × (node.next ≡ Some next) × NextLeaf is_summary old h root shape at next × (start old h root at + length node.pairs ≤ place_on old h root back)
         next_there = step is_summary old h root shape mid walked.alike at node here walked.on.stands from back within_leaf walked.below there apart
 
@@ -202,20 +203,20 @@ module _ {F K V A : Type 0} {cmp : K → K → Ordering} (is_summary : A → Lis
             )
 
       -- it ends in the leaf of the second place
-      module _ (same : at ≡ back.0) where
-        pub rises_here : from ≤ back.1
+      module _ (same : at ≡ back.leaf) where
+        pub rises_here : from ≤ back.slot
         rises_here = let e = ap (start old h root) same in omega (arith, e, walked.below)
 
-        pub within_last : back.1 ≤ length node.pairs
+        pub within_last : back.slot ≤ length node.pairs
         within_last = let e = ap (size is_summary old h root shape) same in omega (arith, e, there.on.within, long_here is_summary old h root shape mid walked.alike at node here walked.on.stands)
 
-        pub walked_last : (u : F) (changed : List (K × V)) → ChangesInTurn calls t (drop from (take back.1 node.pairs)) u changed → (new : Slots (Inner K A) (Leaf K V)) → UpdatesLeaf mid new at.0 (Present (record node { pairs = take from node.pairs ++ changed ++ drop back.1 node.pairs }))
+        pub walked_last : (u : F) (changed : List (K × V)) → ChangesInTurn calls t (drop from (take back.slot node.pairs)) u changed → (new : Slots (Inner K A) (Leaf K V)) → UpdatesLeaf mid new at.0 (Present (record node { pairs = take from node.pairs ++ changed ++ drop back.slot node.pairs }))
             → IsWellShaped cmp is_summary new h root
             × ((after : F) × (changed : List (K × V)) × ChangesInTurn calls f (drop (place_on old h root front) (take (place_on old h root back) (pairs_at old h root))) after changed × (pairs_at new h root ≡ take (place_on old h root front) (pairs_at old h root) ++ changed ++ drop (place_on old h root back) (pairs_at old h root)))
         walked_last u changed changes new updates =
             let e = ap (start old h root) same in
-            let alike = alike_after is_summary old h root shape mid walked.alike at node here walked.on.stands calls t u from back.1 rises_here within_last changed changes new updates in
-            let after = leaf_changed is_summary old h root shape mid walked.alike at node here walked.on.stands calls t u from back.1 rises_here within_last changed changes new updates f (place_on old h root front) (place_on old h root back)
+            let alike = alike_after is_summary old h root shape mid walked.alike at node here walked.on.stands calls t u from back.slot rises_here within_last changed changes new updates in
+            let after = leaf_changed is_summary old h root shape mid walked.alike at node here walked.on.stands calls t u from back.slot rises_here within_last changed changes new updates f (place_on old h root front) (place_on old h root back)
             (start old h root at + from) (place_on old h root back) rises fits refl (omega (arith, e)) (omega arith) walked.changed in
             let all = all_changed calls f (pairs_at old h root) (place_on old h root front) (place_on old h root back) u (pairs_at new h root) after in
             (shape_alike cmp is_summary old new alike h root shape, (u, all.0, all.1, all.2))

@@ -1,7 +1,9 @@
 -- Leaves of a store that follow one another by their links, of which none stands twice and each has a pair.
-use Rattle.std.specs.Prelude.{◌≡◌, ◌==◌, ℕ, ◌<◌, ◌≤◌, Bool, true, false, cond, List, [], ◌∷◌, ◌++◌, length, Option}
+use Rattle.std.specs.Prelude.{◌≡◌, ◌==◌, ℕ, ◌<◌, ◌≤◌, cond, List, [], ◌∷◌, ◌++◌, length, Option}
 use Rattle.std.specs.List.{AllByRecursion}
 use Rattle.std.specs.Map.Iter.{TakesFirst, TakesLast}
+use Rattle.bptree_keys.specs.declared.end.End.{End}
+use Rattle.bptree_keys.specs.declared.end.End.TheVariants.{Back, Front}
 use Rattle.bptree_keys.specs.declared.node_id.LeafNodeId.{LeafNodeId}
 use Rattle.bptree_nodes.specs.Inner.{Inner}
 use Rattle.bptree_nodes.specs.Leaf.{Leaf}
@@ -41,30 +43,34 @@ abbrev pub AreEmpty : {X : Type 0} → List X → List X → Type 0
 AreEmpty old new = (old ≡ []) × (new ≡ [])
 
 -- the leaf at one end, its link to the next one inwards, and the ends once another leaf is there
-abbrev pub end_of : Bool → Ends → LeafNodeId
-end_of false ends = ends.first
-end_of true ends = ends.last
+abbrev pub end_of : End → Ends → LeafNodeId
+end_of Front ends = ends.first
+end_of Back ends = ends.last
 
-abbrev pub inward_link : {K V : Type 0} → Bool → Leaf K V → Option LeafNodeId
-inward_link false leaf = leaf.next
-inward_link true leaf = leaf.prev
+abbrev pub inward_link : {K V : Type 0} → End → Leaf K V → Option LeafNodeId
+inward_link Front leaf = leaf.next
+inward_link Back leaf = leaf.prev
 
-abbrev pub with_end : Bool → Ends → LeafNodeId → Ends
-with_end false ends id = record { first = id; last = ends.last }
-with_end true ends id = record { first = ends.first; last = id }
+abbrev pub with_end : End → Ends → LeafNodeId → Ends
+with_end Front ends id = record { first = id; last = ends.last }
+with_end Back ends id = record { first = ends.first; last = id }
 
 module _ {X : Type 0} where
   -- members, one at least, left the front of a list, or its end
-  abbrev pub LeaveAt : Bool → List X → List X → List X → Type 0
-  LeaveAt false gone old new = (old ≡ gone ++ new) × (0 < length gone)
-  LeaveAt true gone old new = (old ≡ new ++ gone) × (0 < length gone)
+  abbrev pub LeaveAt : End → List X → List X → List X → Type 0
+  LeaveAt Front gone old new = (old ≡ gone ++ new) × (0 < length gone)
+  LeaveAt Back gone old new = (old ≡ new ++ gone) × (0 < length gone)
 
   -- the first member left, or the last one, or there was none
-  abbrev pub TakesEnd : Bool → List X → Option X → List X → Type 0
-  TakesEnd false old gone new = TakesFirst (λ x. x) old gone new
-  TakesEnd true old gone new = TakesLast (λ x. x) old gone new
+  abbrev pub TakesEnd : End → List X → Option X → List X → Type 0
+  TakesEnd Front old gone new = TakesFirst (λ x. x) old gone new
+  TakesEnd Back old gone new = TakesLast (λ x. x) old gone new
 
   -- three parts of a list, of which one is near the end that is asked for
-  abbrev pub all_from : Bool → List X → List X → List X → List X
-  all_from false near middle far = near ++ (middle ++ far)
-  all_from true near middle far = far ++ (middle ++ near)
+  abbrev pub all_from : End → List X → List X → List X → List X
+  all_from Front near middle far = near ++ (middle ++ far)
+  all_from Back near middle far = far ++ (middle ++ near)
+
+  -- the same of a list in three parts
+  abbrev pub TakesEndOfAll : End → List X → List X → List X → Option X → List X → List X → List X → Type 0
+  TakesEndOfAll at near middle far gone near' middle' far' = TakesEnd at (all_from at near middle far) gone (all_from at near' middle' far')

@@ -1,10 +1,11 @@
--- The pair of a key, and the first pair that is not below it.
-use Rattle.std.specs.Prelude.{◌≡◌, Option, Some, None, List, slice_get}
+-- The pair of a key, and parts of the contents.
+use Rattle.std.specs.Prelude.{◌≡◌, Option, Some, List}
 use Rattle.std.specs.declared.cmp.Ordering.{Ordering}
 use Rattle.std.specs.Map.{keys_of, lookup_entry}
 use Rattle.std.specs.Map.Iter.{deref_pair}
 use Rattle.std.specs.Ordering.{is_eq}
 use Rattle.bptree_keys.specs.Ranges.{between}
+pub use Rattle.bptree_descents.specs.Neighbours.{at_least}
 use Rattle.std.specs.Borrow.{Bor}
 use Rattle.std.specs.declared.ops.Bound.{Bound}
 use Rattle.std.specs.Option.{option_copied}
@@ -21,14 +22,9 @@ module _ {K V : Type 0} (cmp : K → K → Ordering) where
   abbrev pub entry : List (K × V) → K → Option (K × V)
   entry l k = lookup_entry (λ key. is_eq (cmp key k)) l
 
-  -- the pair with the least key that is not below k
-  abbrev pub at_least : List (K × V) → K → Option (K × V)
-  at_least l k = slice_get (between cmp l (Some k) None) 0
-
--- a pair that is lent beside its place is that of a key, and so the first that is not below it
-pub record IsFoundAt {P K V : Type 0} (cmp : K → K → Ordering) (l : List (K × V)) (k : K) (found : P × (Bor K × Bor V)) : Type 0 where
-  pub entry : entry cmp l k ≡ Some (deref_pair found.1)
-  pub first : at_least cmp l k ≡ Some (deref_pair found.1)
+-- a pair that is lent beside its place is that of a key
+abbrev pub IsFoundAt : {P K V : Type 0} → (K → K → Ordering) → List (K × V) → K → P × (Bor K × Bor V) → Type 0
+IsFoundAt cmp l k found = entry cmp l k ≡ Some (deref_pair found.1)
 
 module _ {K V : Type 0} (cmp : K → K → Ordering) (l : List (K × V)) where
   -- the pairs between two ends that are lent, either of which may be left out

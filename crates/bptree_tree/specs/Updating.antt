@@ -8,6 +8,7 @@ use Rattle.bptree_nodes.specs.Updating.{ChangesInTurn}
 use Rattle.std.specs.Option.{option_copied}
 use Rattle.bptree_keys.specs.declared.node_id.LeafNodeId.{LeafNodeId}
 use Rattle.bptree_keys.specs.declared.node_id.NodeId.{NodeId}
+use Rattle.bptree_keys.specs.declared.node_id.Position.{Position}
 use Rattle.bptree_nodes.specs.Inner.{Inner}
 use Rattle.bptree_nodes.specs.Leaf.{Leaf}
 use Rattle.bptree_nodes.specs.Slot.{Slots, Present, UpdatesLeaf}
@@ -37,7 +38,7 @@ module _ {F K V : Type 0} (calls : Mut F (Bor K × (MutBor V × Unit {0})) (Unit
       × UpdatesLeaf old new id.0 (Present (record was { pairs = take from was.pairs ++ changed ++ drop to was.pairs }))
 
   -- the values between two places of a tree were changed one after another
-  abbrev pub UpdatesPlaces : {A : Type 0} → F → Slots (Inner K A) (Leaf K V) → Slots (Inner K A) (Leaf K V) → ℕ → NodeId → LeafNodeId × ℕ → LeafNodeId × ℕ → Type 0
+  abbrev pub UpdatesPlaces : {A : Type 0} → F → Slots (Inner K A) (Leaf K V) → Slots (Inner K A) (Leaf K V) → ℕ → NodeId → Position → Position → Type 0
   UpdatesPlaces f old new height root front back =
       (after : F) × (changed : List (K × V))
       × ChangesInTurn calls f (drop (place_on old height root front) (take (place_on old height root back) (pairs_at old height root))) after changed
@@ -45,9 +46,9 @@ module _ {F K V : Type 0} (calls : Mut F (Bor K × (MutBor V × Unit {0})) (Unit
 
 module _ {K V A : Type 0} (slots : Slots (Inner K A) (Leaf K V)) (height : ℕ) (root : NodeId) where
   -- a place of the tree stands at a pair, or at the end of all
-  abbrev pub IsSettledAt : LeafNodeId × ℕ → Type 0
+  abbrev pub IsSettledAt : Position → Type 0
   IsSettledAt at = IsSettled slots height root (place_on slots height root at) at
 
   -- no more pairs stand before one place than before another
-  abbrev pub IsNotBehind : LeafNodeId × ℕ → LeafNodeId × ℕ → Type 0
+  abbrev pub IsNotBehind : Position → Position → Type 0
   IsNotBehind front back = place_on slots height root front ≤ place_on slots height root back

@@ -3,6 +3,7 @@ ghost use Rattle.std.specs.Prelude.{◌≡◌, ◌≢◌, ℕ, MatchOption};
 ghost use Rattle.bptree_nodes.specs.Slot.{Present, IsPresent};
 ghost use Rattle.bptree_tree.specs.Chain.{IsLeft, chain_pairs, AreEmpty, LeaveAt, end_of, inward_link, with_end};
 
+use bptree_keys::end::End;
 use bptree_keys::node_id::LeafNodeId;
 use bptree_nodes::leaf_node::LeafNode;
 use bptree_stores::node_stores::NodeStore;
@@ -37,29 +38,34 @@ pub(crate) struct Ends {
 }
 
 impl Ends {
-    fn at(self, is_last: bool) -> LeafNodeId
-        ensures { result ≡ end_of is_last self }
+    fn at(self, end: End) -> LeafNodeId
+        ensures { result ≡ end_of end self }
     {
-        if is_last { self.last } else { self.first }
+        match end {
+            End::Front => self.first,
+            End::Back => self.last,
+        }
     }
 
     // The ends once another leaf is at one of them.
-    fn with(self, is_last: bool, id: LeafNodeId) -> Ends
-        ensures { result ≡ with_end is_last self id }
+    fn with(self, end: End, id: LeafNodeId) -> Ends
+        ensures { result ≡ with_end end self id }
     {
-        if is_last {
-            Ends { last: id, ..self }
-        } else {
-            Ends { first: id, ..self }
+        match end {
+            End::Front => Ends { first: id, ..self },
+            End::Back => Ends { last: id, ..self },
         }
     }
 }
 
 // The number of the leaf beside one that stands at an end.
-fn link_inward<K: Drop, V: Drop>(leaf: &LeafNode<K, V>, is_last: bool) -> Option<LeafNodeId>
-    ensures { result ≡ inward_link is_last leaf.now }
+fn link_inward<K: Drop, V: Drop>(leaf: &LeafNode<K, V>, end: End) -> Option<LeafNodeId>
+    ensures { result ≡ inward_link end leaf.now }
 {
-    if is_last { leaf.prev() } else { leaf.next() }
+    match end {
+        End::Front => leaf.next(),
+        End::Back => leaf.prev(),
+    }
 }
 
 // The leaf under a number, which is released.
@@ -86,16 +92,16 @@ impl<S: NodeStore> Chain<S> {
     }
 
     /// The first leaf, or the last one, which has a pair.
-    pub(crate) fn take_end(&mut self, is_last: bool) -> Option<Box<LeafNode<S::K, S::V>>>
-        ensures { MatchOption result (AreEmpty self.old self.new) (λ leaf. LeaveAt is_last leaf.value.pairs self.old self.new) }
+    pub(crate) fn take_end(&mut self, end: End) -> Option<Box<LeafNode<S::K, S::V>>>
+        ensures { MatchOption result (AreEmpty self.old self.new) (λ leaf. LeaveAt end leaf.value.pairs self.old self.new) }
     {
         if self.len == 0 {
             return None;
         }
-        let end = self.ends.at(is_last);
-        let leaf = take_out(&mut self.store, end);
-        let next = link_inward(&leaf, is_last).unwrap_or(end);
-        self.ends = self.ends.with(is_last, next);
+        let id = self.ends.at(end);
+        let leaf = take_out(&mut self.store, id);
+        let next = link_inward(&leaf, end).unwrap_or(id);
+        self.ends = self.ends.with(end, next);
         self.len -= leaf.len();
         Some(leaf)
     }

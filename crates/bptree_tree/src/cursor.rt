@@ -7,7 +7,7 @@ ghost use Rattle.bptree_tree.specs.Cursor.{cursor_key, StandsAfter, StandsBefore
 
 use crate::tree::BPlusTree;
 use bptree_keys::key::Key;
-use bptree_shape::nodes::Position;
+use bptree_keys::node_id::Position;
 use bptree_stores::node_stores::NodeStore;
 use std::alloc::AllocError;
 

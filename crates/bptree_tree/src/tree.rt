@@ -3,11 +3,10 @@ ghost use Rattle.std.specs.Prelude.{◌≡◌, ◌+◌, ◌*◌, ◌^◌, ◌<�
 ghost use Rattle.std.specs.Map.{keys_of};
 ghost use Rattle.std.specs.Map.Iter.{ShowsInOrder, deref_pair};
 ghost use Rattle.std.specs.Option.{option_map, option_copied};
-ghost use Rattle.bptree_keys.specs.Keys.{AllInfallible};
+ghost use Rattle.bptree_ascent.specs.Failing.{NeverFails};
 ghost use Rattle.bptree_keys.specs.Contents.{IsAscending, has, value, last_member};
 ghost use Rattle.bptree_nodes.specs.Slot.{IsEmpty};
 ghost use Rattle.bptree_tree.specs.Refusal.{HandsBack};
-ghost use Rattle.bptree_shape.specs.Shape.{pairs_at, IsWellShaped};
 ghost use Rattle.bptree_tree.specs.Whole.{IsWhole, IsUntouched, HasSameNodes, HasShape, pairs_of_nodes};
 ghost use Rattle.bptree_tree.specs.Changes.{IsRefusedWhereFull, Puts, Removes};
 
@@ -32,10 +31,10 @@ use bptree_iteration::iterator::Iter;
 use bptree_iteration::part::{Extent, Part};
 use bptree_keys::compares::Compares;
 use bptree_keys::entry_ref::VisitStack;
-use bptree_keys::node_id::NodeId;
+use bptree_keys::node_id::{NodeId, Position};
 use bptree_rebalancing::statistics::Statistic;
 use bptree_shape::nodes::Nodes;
-use bptree_stores::node_stores::NodeStore;
+use bptree_stores::node_stores::{NodeStore, new_empty_leaf};
 pub use owning::IntoIter;
 use std::alloc::AllocError;
 use std::marker::Model;
@@ -76,7 +75,7 @@ impl<S: NodeStore> BPlusTree<S> {
         ensures empty { IfOk result (λ tree. tree.contents ≡ []) }
         ensures whole { IfOk result (IsWhole S.K.cmp S.Argument.is_summary S.slots) }
     {
-        let leaf = store.new_empty_leaf()?;
+        let leaf = new_empty_leaf(&mut store)?;
         let nodes = Nodes {
             store,
             root: NodeId::Leaf(leaf),
@@ -93,6 +92,16 @@ impl<S: NodeStore> BPlusTree<S> {
         ensures ascending { IsAscending S.K.cmp self.now.contents }
     {
         self.nodes.len()
+    }
+
+    /// Recalls what holds of every tree, for the proofs of callers: the length fits in 64 bits, and the
+    /// keys ascend. It does nothing, in constant time, and never fails.
+    #[inline(always)]
+    pub fn recall(&self)
+        ensures fits { length self.now.contents < 2 ^ 64 }
+        ensures ascending { IsAscending S.K.cmp self.now.contents }
+    {
+        self.nodes.recall();
     }
 
     /// Whether there are no pairs.
@@ -142,14 +151,18 @@ impl<S: NodeStore> BPlusTree<S> {
         ensures runs { ShowsInOrder (deref_pair {K = S.K} {X = S.V}) }
     {
         let nodes = &self.nodes;
-        let front = nodes.first_leaf();
-        let back = nodes.last_leaf();
-        let to = nodes.store.get_leaf(back).len();
+        let first = nodes.first_leaf();
+        let last = nodes.last_leaf();
+        let end = nodes.store.get_leaf(last).len();
         let part = Part {
-            front,
-            from: 0,
-            back,
-            to,
+            front: Position {
+                leaf: first,
+                slot: 0,
+            },
+            back: Position {
+                leaf: last,
+                slot: end,
+            },
             limit: nodes.len,
             extent: Extent::Exact,
         };
@@ -194,7 +207,7 @@ impl<S: NodeStore> BPlusTree<S> {
         ensures untouched { has S.K.cmp self.old.contents k.now ≡ false → HasSameNodes S.slots self.new self.old }
         ensures err { OnErr result (self.new.contents ≡ self.old.contents) }
         ensures unchanged { OnErr result (IsUntouched S.slots self.new self.old) }
-        ensures infallible { S.Argument.needs_no_memory → AllInfallible S.K.is_infallible → IsOk result }
+        ensures infallible { NeverFails S.Argument.needs_no_memory S.K.is_infallible result }
     {
         match self.remove_entry(k)? {
             None => Ok(None),
@@ -245,8 +258,7 @@ impl<S: NodeStore> BPlusTree<S> {
         ensures enough { 0 < result → 32 * 17 ^ (result - 1) ≤ length self.now.contents }
     {
         let nodes = &self.nodes;
-        // Read, so that it is known to fit.
-        let _len = nodes.len;
+        nodes.recall();
         nodes.height
     }
 }

@@ -1,9 +1,9 @@
 //! Calls that trees and maps have in common: changes of single pairs, and look-ups.
 
 use crate::record::Record;
-use crate::samples::{Asked, Sample};
+use crate::samples::{Sample, SampleSummary};
 use crate::subject::{NONE, no_call};
-use crate::words::{Told, Words};
+use crate::words::{Report, Words};
 use bptree_tree::{InsertError, SelectError};
 use std::alloc::{AllocError, Global};
 
@@ -48,7 +48,7 @@ pub trait Calls {
 
 /// A tree or a map whose summaries find and rank its keys.
 pub trait Queried: Calls {
-    type Summary: Asked<Self::Key>;
+    type Summary: SampleSummary<Self::Key>;
 
     fn take_found(&mut self, alloc: Global, number: u64, index: u64) -> Removed<Self::Key>;
 
@@ -66,47 +66,47 @@ pub trait Queried: Calls {
         index: u64,
     ) -> Result<Option<(&Self::Key, &u64)>, AllocError>;
 
-    /// Tells whether the key is there, and its rank.
-    fn tell_rank(&self, key: &Self::Key, words: &mut Words) -> bool;
+    /// Reports whether the key is there, and its rank.
+    fn report_rank(&self, key: &Self::Key, words: &mut Words) -> bool;
 
     fn summary(&self) -> &Self::Summary;
 }
 
-/// Tells an answer. Returns false if it is an error.
-pub fn told<T: Told + Drop>(answer: Result<T, AllocError>, words: &mut Words) -> bool {
+/// Reports an answer. Returns false if it is an error.
+pub fn report_if_ok<T: Report + Drop>(answer: Result<T, AllocError>, words: &mut Words) -> bool {
     match answer {
         Ok(it) => {
-            it.tell(words);
+            it.report(words);
             true
         }
         Err(_) => false,
     }
 }
 
-/// Tells the key and the value that an insertion returned in its error.
-pub fn tell_back<K: Told + Drop, V: Told + Drop>(
+/// Reports the key and the value that an insertion returned in its error.
+pub fn report_back<K: Report + Drop, V: Report + Drop>(
     error: InsertError<K, V>,
     words: &mut Words,
 ) -> bool {
     match error {
-        InsertError::OutOfMemory(key, value) => (key, value).tell(words),
+        InsertError::OutOfMemory(key, value) => (key, value).report(words),
         InsertError::Full(_key, _value) => words.add(NONE),
     }
     false
 }
 
-/// Tells whether a rank is that of a key that is there, and the rank.
-pub fn tell_rank_of<K: Sample, A: Asked<K>>(
+/// Reports whether a rank is that of a key that is there, and the rank.
+pub fn report_rank_of<K: Sample, A: SampleSummary<K>>(
     rank: Result<Result<A::Rank, A::Rank>, AllocError>,
     words: &mut Words,
 ) -> bool {
     let Ok(rank) = rank else {
         return false;
     };
-    rank.is_ok().tell(words);
+    rank.is_ok().report(words);
     match &rank {
-        Ok(rank) => A::tell_rank(rank, words),
-        Err(rank) => A::tell_rank(rank, words),
+        Ok(rank) => A::report_rank(rank, words),
+        Err(rank) => A::report_rank(rank, words),
     }
     true
 }
@@ -117,17 +117,17 @@ fn insert<C: Calls>(alloc: Global, calls: &mut C, record: &Record, words: &mut W
     };
     match calls.put(key, record.b) {
         Ok(old) => {
-            old.tell(words);
+            old.report(words);
             true
         }
-        Err(error) => tell_back(error, words),
+        Err(error) => report_back(error, words),
     }
 }
 
 fn set<C: Calls>(calls: &mut C, key: &C::Key, value: u64, words: &mut Words) -> bool {
     match calls.value_mut(key) {
         Some(at) => {
-            Some(*at).tell(words);
+            Some(*at).report(words);
             *at = value;
         }
         None => words.add(0),
@@ -141,8 +141,8 @@ fn change_at<C: Calls>(alloc: Global, calls: &mut C, record: &Record, words: &mu
         return false;
     };
     match record.member() {
-        1 => told(calls.take(&key), words),
-        2 => told(calls.take_entry(&key), words),
+        1 => report_if_ok(calls.take(&key), words),
+        2 => report_if_ok(calls.take_entry(&key), words),
         _ => set(calls, &key, record.b, words),
     }
 }
@@ -152,18 +152,18 @@ pub fn change<C: Calls>(alloc: Global, calls: &mut C, record: &Record, words: &m
     match record.member() {
         0 => insert(alloc, calls, record, words),
         1 | 2 | 7 => change_at(alloc, calls, record, words),
-        3 => told(calls.take_first(), words),
-        4 => told(calls.take_last(), words),
-        5 => told(calls.empty(), words),
+        3 => report_if_ok(calls.take_first(), words),
+        4 => report_if_ok(calls.take_last(), words),
+        5 => report_if_ok(calls.empty(), words),
         _ => no_call(words),
     }
 }
 
-// Writes a value that was found, and tells the one before.
+// Writes a value that was found, and reports the one before.
 fn write(found: Result<&mut u64, SelectError>, value: u64, words: &mut Words) -> bool {
     match found {
         Ok(at) => {
-            Some(*at).tell(words);
+            Some(*at).report(words);
             *at = value;
             true
         }
@@ -183,7 +183,7 @@ pub fn change_queried<C: Queried>(
     words: &mut Words,
 ) -> bool {
     match record.member() {
-        6 => told(calls.take_found(alloc, record.a, record.b), words),
+        6 => report_if_ok(calls.take_found(alloc, record.a, record.b), words),
         8 => write(calls.found_mut(alloc, record.a, record.c), record.b, words),
         _ => change(alloc, calls, record, words),
     }
@@ -195,10 +195,10 @@ fn read_at<C: Calls>(alloc: Global, calls: &C, record: &Record, words: &mut Word
         return false;
     };
     match record.member() {
-        0 => calls.value(&key).tell(words),
-        1 => calls.value_counted(&key).tell(words),
-        2 => calls.entry(&key).tell(words),
-        _ => calls.has(&key).tell(words),
+        0 => calls.value(&key).report(words),
+        1 => calls.value_counted(&key).report(words),
+        2 => calls.entry(&key).report(words),
+        _ => calls.has(&key).report(words),
     }
     true
 }
@@ -207,8 +207,8 @@ fn read_at<C: Calls>(alloc: Global, calls: &C, record: &Record, words: &mut Word
 pub fn read<C: Calls>(alloc: Global, calls: &C, record: &Record, words: &mut Words) -> bool {
     match record.member() {
         0..=3 => return read_at(alloc, calls, record, words),
-        4 => calls.ends().tell(words),
-        5 => calls.size().tell(words),
+        4 => calls.ends().report(words),
+        5 => calls.size().report(words),
         _ => return no_call(words),
     }
     true
@@ -218,7 +218,7 @@ fn rank<C: Queried>(alloc: Global, calls: &C, record: &Record, words: &mut Words
     let Ok(key) = C::Key::sample(alloc, record.a) else {
         return false;
     };
-    calls.tell_rank(&key, words)
+    calls.report_rank(&key, words)
 }
 
 /// All reads.
@@ -229,10 +229,10 @@ pub fn read_queried<C: Queried>(
     words: &mut Words,
 ) -> bool {
     match record.member() {
-        6 => told(calls.found(alloc, record.a, record.b), words),
+        6 => report_if_ok(calls.found(alloc, record.a, record.b), words),
         7 => rank(alloc, calls, record, words),
         8 => {
-            calls.summary().tell(words);
+            calls.summary().report(words);
             true
         }
         _ => read(alloc, calls, record, words),

@@ -1,10 +1,10 @@
 //! Lists of commands on a tree.
 
 use crate::record::Record;
-use crate::samples::{Asked, Sample};
+use crate::samples::{Sample, SampleSummary};
 use crate::subject::no_call;
 use crate::walk::bound;
-use crate::words::{Told, Words};
+use crate::words::{Report, Words};
 use bptree_arguments::argument::{RankArgument, SearchArgument};
 use bptree_script::commands::{Command, Reply, run};
 use bptree_script::walk::End;
@@ -30,7 +30,7 @@ fn ends(alloc: Global, bits: u64) -> Result<Vec<End>, AllocError> {
 }
 
 // The commands without a key and without a query.
-fn simple<K: Sample, A: Asked<K>>(
+fn simple<K: Sample, A: SampleSummary<K>>(
     alloc: Global,
     record: &Record,
 ) -> Result<Asking<K, A>, AllocError> {
@@ -51,7 +51,7 @@ fn simple<K: Sample, A: Asked<K>>(
 }
 
 // The commands with a key.
-fn keyed<K: Sample, A: Asked<K>>(
+fn keyed<K: Sample, A: SampleSummary<K>>(
     alloc: Global,
     record: &Record,
 ) -> Result<Asking<K, A>, AllocError> {
@@ -67,7 +67,7 @@ fn keyed<K: Sample, A: Asked<K>>(
 }
 
 // The commands with a query.
-fn queried<K: Sample, A: Asked<K>>(
+fn queried<K: Sample, A: SampleSummary<K>>(
     alloc: Global,
     record: &Record,
 ) -> Result<Asking<K, A>, AllocError> {
@@ -84,7 +84,7 @@ fn queried<K: Sample, A: Asked<K>>(
 }
 
 // The range between two keys.
-fn range<K: Sample, A: Asked<K>>(
+fn range<K: Sample, A: SampleSummary<K>>(
     alloc: Global,
     record: &Record,
 ) -> Result<Asking<K, A>, AllocError> {
@@ -93,7 +93,7 @@ fn range<K: Sample, A: Asked<K>>(
     Ok(Command::Range(lo, hi, ends(alloc, record.d)?))
 }
 
-fn command<K: Sample, A: Asked<K>>(
+fn command<K: Sample, A: SampleSummary<K>>(
     alloc: Global,
     record: &Record,
 ) -> Result<Asking<K, A>, AllocError> {
@@ -105,29 +105,29 @@ fn command<K: Sample, A: Asked<K>>(
     }
 }
 
-// Tells a number for the kind of a reply, and what it has.
-fn tell_reply<K: Sample, A: Asked<K>>(
+// Reports a number for the kind of a reply, and what it has.
+fn report_reply<K: Sample, A: SampleSummary<K>>(
     reply: &Reply<K, u64, <A as RankArgument<K>>::Rank>,
     words: &mut Words,
 ) -> bool {
     match reply {
-        Reply::Value(value) => (1u64, value).tell(words),
-        Reply::Pair(pair) => (2u64, pair).tell(words),
-        Reply::Number(number) => (3u64, *number).tell(words),
-        Reply::Done(done) => (4u64, *done).tell(words),
+        Reply::Value(value) => (1u64, value).report(words),
+        Reply::Pair(pair) => (2u64, pair).report(words),
+        Reply::Number(number) => (3u64, *number).report(words),
+        Reply::Done(done) => (4u64, *done).report(words),
         Reply::Rank(Ok(rank)) => {
             words.add(5);
-            A::tell_rank(rank, words);
+            A::report_rank(rank, words);
         }
         Reply::Rank(Err(rank)) => {
             words.add(6);
-            A::tell_rank(rank, words);
+            A::report_rank(rank, words);
         }
-        Reply::Held(number, value) => (7u64, (*number, value)).tell(words),
+        Reply::Held(number, value) => (7u64, (*number, value)).report(words),
         Reply::Walked(pairs) => {
-            (8u64, pairs.len()).tell(words);
+            (8u64, pairs.len()).report(words);
             for pair in pairs {
-                pair.tell(words);
+                pair.report(words);
             }
         }
         Reply::NoCursor => words.add(9),
@@ -140,13 +140,13 @@ fn tell_reply<K: Sample, A: Asked<K>>(
     true
 }
 
-fn tell_replies<K: Sample, A: Asked<K>>(
+fn report_replies<K: Sample, A: SampleSummary<K>>(
     replies: &[Reply<K, u64, <A as RankArgument<K>>::Rank>],
     words: &mut Words,
 ) -> bool {
     let mut is_done = true;
     for reply in replies {
-        is_done &= tell_reply::<K, A>(reply, words);
+        is_done &= report_reply::<K, A>(reply, words);
     }
     is_done
 }
@@ -159,10 +159,10 @@ fn run_all<S: NodeStore<V = u64>>(
 ) -> bool
 where
     S::K: Sample,
-    S::Argument: Asked<S::K>,
+    S::Argument: SampleSummary<S::K>,
 {
     let (replies, error) = run(alloc, tree, commands);
-    tell_replies::<S::K, S::Argument>(&replies, words) && error.is_none()
+    report_replies::<S::K, S::Argument>(&replies, words) && error.is_none()
 }
 
 /// Adds a command to those that are held, or runs them.
@@ -175,7 +175,7 @@ pub fn call<S: NodeStore<V = u64>>(
 ) -> bool
 where
     S::K: Sample,
-    S::Argument: Asked<S::K>,
+    S::Argument: SampleSummary<S::K>,
 {
     match record.member() {
         0 => match command::<S::K, S::Argument>(alloc, record) {

@@ -5,7 +5,7 @@ ghost use Rattle.std.specs.Cmp.{partial_order_from_own_ties};
 ghost use Rattle.std.specs.Cmp.Rules.{comparing};
 ghost use Rattle.std.specs.Ordering.{nat_cmp, on, as_partial_cmp};
 
-use crate::words::{Told, Words};
+use crate::words::{Report, Words};
 use bptree_keys::key::Key;
 use std::alloc::{AllocError, Global};
 use std::cell::Cell;
@@ -30,21 +30,21 @@ pub fn no_counts(alloc: Global) -> Result<Rc<Counts>, AllocError> {
 }
 
 /// Adds to a reply how many values were dropped, and how many pointers to the counts there are.
-pub fn tell_left(counts: &Rc<Counts>, words: &mut Words) {
+pub fn report_left(counts: &Rc<Counts>, words: &mut Words) {
     words.add(counts.dropped.get());
     words.add(Rc::strong_count(counts) as u64);
 }
 
 /// Adds all counts to a reply, and resets them.
-pub fn tell_counts(counts: &Rc<Counts>, words: &mut Words) {
+pub fn report_counts(counts: &Rc<Counts>, words: &mut Words) {
     words.add(counts.compared.get());
-    tell_left(counts, words);
+    report_left(counts, words);
     counts.compared.set(0);
     counts.dropped.set(0);
 }
 
 /// A key or a value that is made from a number, and counts.
-pub trait Counted: Told + Drop {
+pub trait Counted: Report + Drop {
     fn counted(counts: &Rc<Counts>, number: u64) -> Result<Self, AllocError>;
 }
 
@@ -80,8 +80,8 @@ fn key_of(counts: &Rc<Counts>, number: u64) -> Result<CountedKey, AllocError>
     })
 }
 
-impl Told for CountedKey {
-    fn tell(&self, words: &mut Words) {
+impl Report for CountedKey {
+    fn report(&self, words: &mut Words) {
         words.add(self.number);
     }
 }
@@ -157,8 +157,8 @@ fn value_of(counts: &Rc<Counts>, number: u64) -> Result<CountedValue, AllocError
     })
 }
 
-impl Told for CountedValue {
-    fn tell(&self, words: &mut Words) {
+impl Report for CountedValue {
+    fn report(&self, words: &mut Words) {
         words.add(self.number);
     }
 }

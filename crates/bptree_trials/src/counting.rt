@@ -1,14 +1,14 @@
 //! Two trees whose keys count their comparisons and whose values count their drops; and a map and a
 //! set of one key.
 
-use crate::calls::{tell_back, told};
-use crate::counted::{Counted, Counts, counted_pair, no_counts, tell_counts, tell_left};
+use crate::calls::{report_back, report_if_ok};
+use crate::counted::{Counted, Counts, counted_pair, no_counts, report_counts, report_left};
 use crate::nodes;
 use crate::record::Record;
 use crate::subject::{Subject, no_call};
 use crate::trees::{Both, exchange, new_tree, replace, tree_of, two_trees};
-use crate::walk::{tell_both_ends, walk};
-use crate::words::{Told, Words};
+use crate::walk::{report_both_ends, walk};
+use crate::words::{Report, Words};
 use bptree_arguments::argument::CloneArgument;
 use bptree_keys::key::Key;
 use bptree_maps::map::BPlusTreeMap;
@@ -36,10 +36,10 @@ where
     };
     match trees.both.here.insert(key, value) {
         Ok(old) => {
-            old.tell(words);
+            old.report(words);
             true
         }
-        Err(error) => tell_back(error, words),
+        Err(error) => report_back(error, words),
     }
 }
 
@@ -49,12 +49,12 @@ where
     S::V: Counted,
 {
     match S::K::counted(&trees.counts, record.a) {
-        Ok(key) => told(trees.both.here.remove(&key), words),
+        Ok(key) => report_if_ok(trees.both.here.remove(&key), words),
         Err(_) => false,
     }
 }
 
-// Writes the value of a key, and tells the one before.
+// Writes the value of a key, and reports the one before.
 fn set<S: NodeStore>(trees: &mut Counting<S>, record: &Record, words: &mut Words) -> bool
 where
     S::K: Counted,
@@ -66,7 +66,7 @@ where
     match trees.both.here.get_mut(&key) {
         Some(at) => {
             words.add(1);
-            at.tell(words);
+            at.report(words);
             *at = value;
         }
         None => words.add(0),
@@ -82,7 +82,7 @@ where
     match record.member() {
         0 => insert(trees, record, words),
         1 => remove(trees, record, words),
-        5 => told(trees.both.here.clear(), words),
+        5 => report_if_ok(trees.both.here.clear(), words),
         7 => set(trees, record, words),
         _ => no_call(words),
     }
@@ -98,15 +98,15 @@ where
         return false;
     };
     match record.member() {
-        0 => tree.get(&key).tell(words),
-        1 => tree.get_counted(&key).tell(words),
-        5 => (tree.len(), (tree.is_empty(), tree.height())).tell(words),
+        0 => tree.get(&key).report(words),
+        1 => tree.get_counted(&key).report(words),
+        5 => (tree.len(), (tree.is_empty(), tree.height())).report(words),
         _ => return no_call(words),
     }
     true
 }
 
-// So many pairs in runs of equal keys, whose values are ten times the key and then one more each.
+// Pairs in runs of equal keys, whose values are ten times the key and then one more each.
 fn pairs_in_runs<K: Counted, V: Counted>(
     alloc: Global,
     counts: &Rc<Counts>,
@@ -123,7 +123,7 @@ fn pairs_in_runs<K: Counted, V: Counted>(
     Ok(pairs)
 }
 
-// A tree that is loaded at once. Behind each first key of a run so many equal keys follow.
+// A tree that is loaded at once, from runs of equal keys.
 fn loaded<S: NodeStore>(
     alloc: Global,
     counts: &Rc<Counts>,
@@ -137,7 +137,7 @@ where
     tree_of(pairs_in_runs(alloc, counts, record.a, run)?)
 }
 
-// Takes pairs of the other tree from both ends, and tells how many values were dropped meanwhile.
+// Takes pairs of the other tree from both ends, and reports how many values were dropped meanwhile.
 fn drain_there<S: NodeStore>(
     alloc: Global,
     trees: &mut Counting<S>,
@@ -153,7 +153,7 @@ where
     };
     let before = trees.counts.dropped.get();
     let mut pairs = mem::replace(&mut trees.both.there, empty).into_iter();
-    tell_both_ends(&mut pairs, record.a, words);
+    report_both_ends(&mut pairs, record.a, words);
     words.add(trees.counts.dropped.get().wrapping_sub(before));
     true
 }
@@ -176,7 +176,7 @@ where
     }
 }
 
-// Puts pairs of one key into a map. After each tells the value that was there, the length, and what
+// Puts pairs of one key into a map. After each reports the value that was there, the length, and what
 // is left.
 fn put_in_map<K: Key + Counted, V: Counted>(
     map: &mut BPlusTreeMap<K, V>,
@@ -189,11 +189,11 @@ fn put_in_map<K: Key + Counted, V: Counted>(
             return false;
         };
         match map.insert(key, value) {
-            Ok(old) => old.tell(words),
-            Err(error) => return tell_back(error, words),
+            Ok(old) => old.report(words),
+            Err(error) => return report_back(error, words),
         }
-        map.len().tell(words);
-        tell_left(counts, words);
+        map.len().report(words);
+        report_left(counts, words);
     }
     true
 }
@@ -210,7 +210,7 @@ fn map_of_one<K: Key + Counted, V: Counted>(
     }
 }
 
-// Puts a key into a set again and again. After each time tells whether it is new, the length, and
+// Puts a key into a set again and again. After each time reports whether it is new, the length, and
 // what is left.
 fn put_in_set<K: Key + Counted>(
     set: &mut BPlusTreeSet<K>,
@@ -223,11 +223,11 @@ fn put_in_set<K: Key + Counted>(
             return false;
         };
         match set.insert(key) {
-            Ok(is_new) => is_new.tell(words),
-            Err(error) => return tell_back(error, words),
+            Ok(is_new) => is_new.report(words),
+            Err(error) => return report_back(error, words),
         }
-        set.len().tell(words);
-        tell_left(counts, words);
+        set.len().report(words);
+        report_left(counts, words);
     }
     true
 }
@@ -253,7 +253,7 @@ fn count<K: Key + Counted, V: Counted>(
 ) -> bool {
     match record.member() {
         0 => {
-            tell_counts(counts, words);
+            report_counts(counts, words);
             true
         }
         1 => map_of_one::<K, V>(alloc, counts, record.a, words),
@@ -266,7 +266,7 @@ impl<S: CloneStore> Subject for Counting<S>
 where
     S::K: Counted,
     S::V: Counted + Clone,
-    S::Argument: CloneArgument<S::K> + Told,
+    S::Argument: CloneArgument<S::K> + Report,
 {
     fn begin(alloc: Global) -> Result<Self, AllocError> {
         let counts = no_counts(alloc)?;

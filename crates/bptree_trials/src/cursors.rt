@@ -1,15 +1,15 @@
 //! One cursor that is held while a tree changes.
 
 use crate::record::Record;
-use crate::samples::{Asked, Sample};
+use crate::samples::{Sample, SampleSummary};
 use crate::subject::no_call;
-use crate::words::{Told, Words};
+use crate::words::{Report, Words};
 use bptree_stores::node_stores::NodeStore;
 use bptree_tree::BPlusTree;
 use bptree_tree::cursor::Cursor;
 use std::alloc::{AllocError, Global};
 
-// Holds the cursor that was found, and tells its key.
+// Holds the cursor that was found, and reports its key.
 fn hold<K: Sample>(
     held: &mut Option<Cursor<K>>,
     found: Result<Option<Cursor<K>>, AllocError>,
@@ -18,9 +18,9 @@ fn hold<K: Sample>(
     let Ok(found) = found else {
         return false;
     };
-    found.is_some().tell(words);
+    found.is_some().report(words);
     if let Some(cursor) = found {
-        cursor.key().tell(words);
+        cursor.key().report(words);
         *held = Some(cursor);
     }
     true
@@ -43,30 +43,30 @@ fn hold_copy<K: Sample>(held: &mut Option<Cursor<K>>, words: &mut Words) -> bool
     hold(held, copy, words)
 }
 
-/// Tells the key of a cursor that was found, and the value beside it.
-pub fn tell_found<K: Sample, V: Told + Drop>(
+/// Reports the key of a cursor that was found, and the value beside it.
+pub fn report_found<K: Sample, V: Report + Drop>(
     found: Result<Option<(Cursor<K>, V)>, AllocError>,
     words: &mut Words,
 ) -> Option<Option<Cursor<K>>> {
     let Ok(found) = found else {
         return None;
     };
-    found.is_some().tell(words);
+    found.is_some().report(words);
     let Some((cursor, value)) = found else {
         return Some(None);
     };
-    cursor.key().tell(words);
-    value.tell(words);
+    cursor.key().report(words);
+    value.report(words);
     Some(Some(cursor))
 }
 
-// Holds the cursor that was found, and tells its key and the value beside it.
-fn hold_with<K: Sample, V: Told + Drop>(
+// Holds the cursor that was found, and reports its key and the value beside it.
+fn hold_with<K: Sample, V: Report + Drop>(
     held: &mut Option<Cursor<K>>,
     found: Result<Option<(Cursor<K>, V)>, AllocError>,
     words: &mut Words,
 ) -> bool {
-    match tell_found(found, words) {
+    match report_found(found, words) {
         Some(Some(cursor)) => {
             *held = Some(cursor);
             true
@@ -148,7 +148,7 @@ where
 }
 
 // What the tree has at the key of the held cursor.
-fn asks<S: NodeStore<V = u64>>(
+fn queries<S: NodeStore<V = u64>>(
     tree: &BPlusTree<S>,
     held: &Option<Cursor<S::K>>,
     record: &Record,
@@ -162,9 +162,9 @@ where
         return true;
     };
     if record.member() == 7 {
-        cursor.exists(tree).tell(words);
+        cursor.exists(tree).report(words);
     } else {
-        cursor.value(tree).tell(words);
+        cursor.value(tree).report(words);
     }
     true
 }
@@ -185,7 +185,7 @@ where
         1 => hold_with(held, Cursor::last(tree), words),
         2..=4 => at_key(alloc, tree, held, record, words),
         5 | 6 | 10 | 11 => steps(tree, held, record, words),
-        7 | 8 => asks(tree, held, record, words),
+        7 | 8 => queries(tree, held, record, words),
         12 => hold_with(held, Cursor::first(tree), words),
         13 => {
             *held = None;
@@ -206,7 +206,7 @@ pub fn call_queried<S: NodeStore<V = u64>>(
 ) -> bool
 where
     S::K: Sample,
-    S::Argument: Asked<S::K>,
+    S::Argument: SampleSummary<S::K>,
 {
     if record.member() != 9 {
         return call(alloc, tree, held, record, words);

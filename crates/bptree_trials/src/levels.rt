@@ -3,7 +3,7 @@ ghost use Rattle.std.specs.Prelude.{⊤};
 
 use crate::record::Record;
 use crate::walk::pairs_of;
-use crate::words::{Told, Words};
+use crate::words::{Report, Words};
 use bptree_arguments::argument::{Argument, RankArgument, SearchArgument};
 use bptree_maps::map::BPlusTreeMap;
 use std::alloc::{AllocError, Global};
@@ -82,19 +82,19 @@ impl RankArgument<u64> for Levels {
     }
 }
 
-// Tells the pair that a query finds, and the rank of a key behind whether the key is there.
-fn tell_found<A: SearchArgument<u64, Query = usize> + RankArgument<u64, Rank = usize>>(
+// Reports the pair that a query finds, and the rank of a key behind whether the key is there.
+fn report_found<A: SearchArgument<u64, Query = usize> + RankArgument<u64, Rank = usize>>(
     map: &BPlusTreeMap<u64, u64, A>,
     record: &Record,
     words: &mut Words,
 ) -> bool {
     match map.get_by_argument(record.b as usize) {
-        Ok(found) => found.tell(words),
+        Ok(found) => found.report(words),
         Err(_) => return false,
     }
     match map.rank_by_argument(&record.c) {
-        Ok(Ok(rank)) => (1u64, rank).tell(words),
-        Ok(Err(rank)) => (0u64, rank).tell(words),
+        Ok(Ok(rank)) => (1u64, rank).report(words),
+        Ok(Err(rank)) => (0u64, rank).report(words),
         Err(_) => return false,
     }
     true
@@ -109,12 +109,12 @@ fn ask_map<A: SearchArgument<u64, Query = usize> + RankArgument<u64, Rank = usiz
         return false;
     };
     match BPlusTreeMap::<u64, u64, A>::from_iter(alloc, pairs) {
-        Ok(map) => tell_found(&map, record, words),
+        Ok(map) => report_found(&map, record, words),
         Err(_) => false,
     }
 }
 
-/// Asks a map of so many pairs with such summaries for a query and a rank.
-pub fn ask(alloc: Global, record: &Record, words: &mut Words) -> bool {
+/// Runs a query and a rank on a map of that many pairs with such summaries.
+pub fn query_map(alloc: Global, record: &Record, words: &mut Words) -> bool {
     ask_map::<Levels>(alloc, record, words)
 }

@@ -2,8 +2,8 @@
 //!
 //! Standard input has records of 40 bytes. The first selects what the calls are made on, and each
 //! further one is a call. A reply has a word for its status, the number of its words, their digest,
-//! and the first 1024 words. A status of 0 stands for a call that was made, and 1 for one in which
-//! an allocation failed. A read must not end within a record.
+//! and the first 1024 words. The status is 0 if the call was made, and 1 if an
+//! allocation failed in it. A read must not end within a record.
 #![tactic(auto)]
 
 mod calls;
@@ -124,7 +124,7 @@ fn serve<T: Subject, R: Read, W: Write>(alloc: Global, reader: &mut R, writer: &
     false
 }
 
-// Calls of what a form stands for, with keys of one type and summaries of another.
+// Calls on the subject of a form, with keys of one type and summaries of another.
 fn on_form<K: Sample, A: Special<K>, R: Read, W: Write>(
     alloc: Global,
     form: u64,
@@ -133,27 +133,37 @@ fn on_form<K: Sample, A: Special<K>, R: Read, W: Write>(
 ) -> bool {
     match form {
         0 => serve::<Trees<NodeStoreVec<K, u64, A>>, R, W>(alloc, reader, writer),
-        1 => serve::<Trees<Forgetful<NodeStoreVec<K, u64, A>>>, R, W>(alloc, reader, writer),
         2 => serve::<Maps<K, A>, R, W>(alloc, reader, writer),
         3 => serve::<Sets<K>, R, W>(alloc, reader, writer),
         4 => serve::<Plain<NodeStoreVec<K, u64>>, R, W>(alloc, reader, writer),
-        5 => serve::<Sharded<Map<K>>, R, W>(alloc, reader, writer),
-        6 => serve::<Parts<K, A>, R, W>(alloc, reader, writer),
-        8 => serve::<Input, R, W>(alloc, reader, writer),
-        _ => serve::<Owned, R, W>(alloc, reader, writer),
+        _ => serve::<Sharded<Map<K>>, R, W>(alloc, reader, writer),
     }
 }
 
 fn on_numbers<R: Read, W: Write>(alloc: Global, form: u64, reader: &mut R, writer: &mut W) -> bool {
-    on_form::<u64, Count, R, W>(alloc, form, reader, writer)
+    match form {
+        1 => serve::<Trees<Forgetful<NodeStoreVec<u64, u64, Count>>>, R, W>(alloc, reader, writer),
+        6 => serve::<Parts<u64, Count>, R, W>(alloc, reader, writer),
+        7 => serve::<Owned, R, W>(alloc, reader, writer),
+        8 => serve::<Input, R, W>(alloc, reader, writer),
+        _ => on_form::<u64, Count, R, W>(alloc, form, reader, writer),
+    }
 }
 
 fn on_texts<R: Read, W: Write>(alloc: Global, form: u64, reader: &mut R, writer: &mut W) -> bool {
     on_form::<String, Count, R, W>(alloc, form, reader, writer)
 }
 
+fn on_parts_of_pairs<R: Read, W: Write>(alloc: Global, reader: &mut R, writer: &mut W) -> bool {
+    serve::<Parts<(String, u64), GroupCount<Tuple2<String>>>, R, W>(alloc, reader, writer)
+}
+
 fn on_pairs<R: Read, W: Write>(alloc: Global, form: u64, reader: &mut R, writer: &mut W) -> bool {
-    on_form::<(String, u64), GroupCount<Tuple2<String>>, R, W>(alloc, form, reader, writer)
+    if form == 6 {
+        on_parts_of_pairs(alloc, reader, writer)
+    } else {
+        on_form::<(String, u64), GroupCount<Tuple2<String>>, R, W>(alloc, form, reader, writer)
+    }
 }
 
 fn on_counted<R: Read, W: Write>(alloc: Global, reader: &mut R, writer: &mut W) -> bool {
@@ -212,7 +222,7 @@ const KINDS: [(u64, u64); 23] = [
     (8, 0),
 ];
 
-// Calls of what a kind stands for.
+// Calls on the subject of a kind.
 fn on_kind<R: Read, W: Write>(alloc: Global, kind: u64, reader: &mut R, writer: &mut W) -> bool {
     let Some((form, keys)) = KINDS.get(kind as usize) else {
         return false;

@@ -1,27 +1,27 @@
 //! Two maps.
 
 use crate::calls::{
-    Calls, Queried, Removed, change_queried, read_queried, tell_back, tell_rank_of, told,
+    Calls, Queried, Removed, change_queried, read_queried, report_back, report_if_ok,
+    report_rank_of,
 };
-use crate::cursors::tell_found;
+use crate::cursors::report_found;
 use crate::record::Record;
-use crate::samples::{Asked, Group, Sample};
+use crate::samples::{Group, Sample, SampleSummary};
 use crate::subject::{Subject, no_call};
-use crate::trees::{bound_of, replace, says_of, tell_visit};
-use crate::walk::{Lends, bounds, drain, pairs_of, walk, walk_if};
-use crate::words::{Told, Words};
+use crate::trees::{bound_of, replace, report_visit, says_of};
+use crate::walk::{Steps, bounds, drain, pairs_of, walk, walk_if};
+use crate::words::{Report, Words};
 use crate::{moving, nodes};
 use bptree_arguments::count::Count;
 use bptree_arguments::group::GroupCount;
 use bptree_arguments::group_size::ExtractGroupSize;
 use bptree_maps::map::{BPlusTreeMap, Iter, Keys, Values};
-use bptree_maps::page::{group_page, page, page_of, pages};
 use bptree_tree::{InsertError, SelectError};
 use std::alloc::{AllocError, Global};
 use std::cmp::Ordering;
 use std::mem;
 
-impl<K: Sample, A: Asked<K>> Calls for BPlusTreeMap<K, u64, A> {
+impl<K: Sample, A: SampleSummary<K>> Calls for BPlusTreeMap<K, u64, A> {
     type Key = K;
 
     fn put(&mut self, key: K, value: u64) -> Result<Option<u64>, InsertError<K, u64>> {
@@ -77,7 +77,7 @@ impl<K: Sample, A: Asked<K>> Calls for BPlusTreeMap<K, u64, A> {
     }
 }
 
-impl<K: Sample, A: Asked<K>> Queried for BPlusTreeMap<K, u64, A> {
+impl<K: Sample, A: SampleSummary<K>> Queried for BPlusTreeMap<K, u64, A> {
     type Summary = A;
 
     fn take_found(&mut self, alloc: Global, number: u64, index: u64) -> Removed<K> {
@@ -107,8 +107,8 @@ impl<K: Sample, A: Asked<K>> Queried for BPlusTreeMap<K, u64, A> {
         self.get_by_argument(query)
     }
 
-    fn tell_rank(&self, key: &K, words: &mut Words) -> bool {
-        tell_rank_of::<K, A>(self.rank_by_argument(key), words)
+    fn report_rank(&self, key: &K, words: &mut Words) -> bool {
+        report_rank_of::<K, A>(self.rank_by_argument(key), words)
     }
 
     fn summary(&self) -> &A {
@@ -116,83 +116,134 @@ impl<K: Sample, A: Asked<K>> Queried for BPlusTreeMap<K, u64, A> {
     }
 }
 
-impl<'a, K: Sample, A: Asked<K>> Lends for Iter<'a, K, u64, A> {
+impl<'a, K: Sample, A: SampleSummary<K>> Steps for Iter<'a, K, u64, A> {
     fn step(&mut self, is_back: bool, words: &mut Words) {
         let item = if is_back {
             self.next_back()
         } else {
             self.next()
         };
-        item.tell(words);
+        item.report(words);
     }
 
-    fn tell_left(&self, words: &mut Words) {
-        self.len().tell(words);
+    fn report_left(&self, words: &mut Words) {
+        self.len().report(words);
     }
 
-    fn tell_hint(&self, words: &mut Words) {
-        self.size_hint().tell(words);
+    fn report_hint(&self, words: &mut Words) {
+        self.size_hint().report(words);
     }
 
-    fn tell_rest(&mut self, words: &mut Words) {
+    fn report_rest(&mut self, words: &mut Words) {
         while let Some(item) = self.next() {
-            item.tell(words);
+            item.report(words);
         }
     }
 }
 
-impl<'a, K: Sample, A: Asked<K>> Lends for Keys<'a, K, u64, A> {
+impl<'a, K: Sample, A: SampleSummary<K>> Steps for Keys<'a, K, u64, A> {
     fn step(&mut self, is_back: bool, words: &mut Words) {
         let item = if is_back {
             self.next_back()
         } else {
             self.next()
         };
-        item.tell(words);
+        item.report(words);
     }
 
-    fn tell_left(&self, words: &mut Words) {
-        self.len().tell(words);
+    fn report_left(&self, words: &mut Words) {
+        self.len().report(words);
     }
 
-    fn tell_hint(&self, words: &mut Words) {
-        self.size_hint().tell(words);
+    fn report_hint(&self, words: &mut Words) {
+        self.size_hint().report(words);
     }
 
-    fn tell_rest(&mut self, words: &mut Words) {
+    fn report_rest(&mut self, words: &mut Words) {
         while let Some(item) = self.next() {
-            item.tell(words);
+            item.report(words);
         }
     }
 }
 
-impl<'a, K: Sample, A: Asked<K>> Lends for Values<'a, K, u64, A> {
+impl<'a, K: Sample, A: SampleSummary<K>> Steps for Values<'a, K, u64, A> {
     fn step(&mut self, is_back: bool, words: &mut Words) {
         let item = if is_back {
             self.next_back()
         } else {
             self.next()
         };
-        item.tell(words);
+        item.report(words);
     }
 
-    fn tell_left(&self, words: &mut Words) {
-        self.len().tell(words);
+    fn report_left(&self, words: &mut Words) {
+        self.len().report(words);
     }
 
-    fn tell_hint(&self, words: &mut Words) {
-        self.size_hint().tell(words);
+    fn report_hint(&self, words: &mut Words) {
+        self.size_hint().report(words);
     }
 
-    fn tell_rest(&mut self, words: &mut Words) {
+    fn report_rest(&mut self, words: &mut Words) {
         while let Some(item) = self.next() {
-            item.tell(words);
+            item.report(words);
         }
     }
 }
 
-// The parts between the bounds of a record.
-fn part_between<K: Sample, A: Asked<K>>(
+// The pairs from a key on, by the range type that has such ends.
+fn range_from<K: Sample, A: SampleSummary<K>>(
+    map: &BPlusTreeMap<K, u64, A>,
+    lo: K,
+    hi: Option<K>,
+    is_inclusive: bool,
+) -> Iter<'_, K, u64, A> {
+    match hi {
+        Some(hi) => {
+            if is_inclusive {
+                map.range_within(lo..=hi)
+            } else {
+                map.range_within(lo..hi)
+            }
+        }
+        None => map.range_within(lo..),
+    }
+}
+
+// The pairs up to a key, by the range type that has such an end.
+fn range_upto<K: Sample, A: SampleSummary<K>>(
+    map: &BPlusTreeMap<K, u64, A>,
+    hi: Option<K>,
+    is_inclusive: bool,
+) -> Iter<'_, K, u64, A> {
+    match hi {
+        Some(hi) => {
+            if is_inclusive {
+                map.range_within(..=hi)
+            } else {
+                map.range_within(..hi)
+            }
+        }
+        None => map.range_within(..),
+    }
+}
+
+// The pairs in a range of keys, by the range type that has such ends.
+fn range_of<K: Sample, A: SampleSummary<K>>(
+    map: &BPlusTreeMap<K, u64, A>,
+    lo: Option<K>,
+    hi: Option<K>,
+    is_inclusive: bool,
+) -> Iter<'_, K, u64, A> {
+    match lo {
+        Some(lo) => range_from(map, lo, hi, is_inclusive),
+        None => range_upto(map, hi, is_inclusive),
+    }
+}
+
+// The parts between the bounds of a record. If the lower bound is included, half of the records use
+// a range of keys, and the others two bounds.
+fn part_between<K: Sample, A: SampleSummary<K>>(
     alloc: Global,
     map: &BPlusTreeMap<K, u64, A>,
     record: &Record,
@@ -203,16 +254,19 @@ fn part_between<K: Sample, A: Asked<K>>(
     };
     match record.member() {
         1 => walk(map.range(lo.as_ref(), hi.as_ref()), record, words),
+        2 if (record.d & 4) | (record.a & 1) == 0 => {
+            walk(range_of(map, lo, hi, record.d & 8 == 8), record, words)
+        }
         2 => {
             let from = bound_of(&lo, record.d & 4 == 0);
             let to = bound_of(&hi, record.d & 8 == 8);
             walk(map.range_bounds(from, to), record, words)
         }
-        _ => told(map.range_argument(lo.as_ref(), hi.as_ref()), words),
+        _ => report_if_ok(map.range_argument(lo.as_ref(), hi.as_ref()), words),
     }
 }
 
-fn range_found<K: Sample, A: Asked<K>>(
+fn range_found<K: Sample, A: SampleSummary<K>>(
     alloc: Global,
     map: &BPlusTreeMap<K, u64, A>,
     record: &Record,
@@ -225,7 +279,7 @@ fn range_found<K: Sample, A: Asked<K>>(
     walk_if(map.range_by_argument(query, many), record, words)
 }
 
-fn summary_of_part<K: Sample, A: Asked<K>>(
+fn summary_of_part<K: Sample, A: SampleSummary<K>>(
     alloc: Global,
     map: &BPlusTreeMap<K, u64, A>,
     record: &Record,
@@ -237,10 +291,10 @@ fn summary_of_part<K: Sample, A: Asked<K>>(
     let Ok(to) = A::query(alloc, record.c, record.d) else {
         return false;
     };
-    told(map.part_argument(from, to), words)
+    report_if_ok(map.part_argument(from, to), words)
 }
 
-fn part<K: Sample, A: Asked<K>>(
+fn part<K: Sample, A: SampleSummary<K>>(
     alloc: Global,
     map: &BPlusTreeMap<K, u64, A>,
     record: &Record,
@@ -259,12 +313,12 @@ fn part<K: Sample, A: Asked<K>>(
 
 /// Two maps.
 #[derive(Drop)]
-pub struct Maps<K: Sample, A: Asked<K>> {
+pub struct Maps<K: Sample, A: SampleSummary<K>> {
     pub here: BPlusTreeMap<K, u64, A>,
     pub there: BPlusTreeMap<K, u64, A>,
 }
 
-fn gathered<K: Sample, A: Asked<K>>(
+fn gathered<K: Sample, A: SampleSummary<K>>(
     alloc: Global,
     record: &Record,
 ) -> Result<BPlusTreeMap<K, u64, A>, AllocError> {
@@ -272,7 +326,7 @@ fn gathered<K: Sample, A: Asked<K>>(
 }
 
 // Takes a map apart by one of its owned iterators.
-fn drain_map<K: Sample, A: Asked<K>>(
+fn drain_map<K: Sample, A: SampleSummary<K>>(
     map: BPlusTreeMap<K, u64, A>,
     record: &Record,
     words: &mut Words,
@@ -284,7 +338,7 @@ fn drain_map<K: Sample, A: Asked<K>>(
     }
 }
 
-fn drain_there<K: Sample, A: Asked<K>>(
+fn drain_there<K: Sample, A: SampleSummary<K>>(
     alloc: Global,
     maps: &mut Maps<K, A>,
     record: &Record,
@@ -296,8 +350,8 @@ fn drain_there<K: Sample, A: Asked<K>>(
     }
 }
 
-/// Tells how two things compare: 0 for less, 1 for equal and 2 for greater.
-pub fn tell_order(order: Ordering, words: &mut Words) {
+/// Reports how two things compare: 0 for less, 1 for equal and 2 for greater.
+pub fn report_order(order: Ordering, words: &mut Words) {
     words.add(match order {
         Ordering::Less => 0,
         Ordering::Equal => 1,
@@ -305,13 +359,13 @@ pub fn tell_order(order: Ordering, words: &mut Words) {
     });
 }
 
-fn compare<K: Sample, A: Asked<K>>(maps: &Maps<K, A>, words: &mut Words) -> bool {
-    (maps.here == maps.there).tell(words);
-    tell_order(maps.here.cmp(&maps.there), words);
+fn compare<K: Sample, A: SampleSummary<K>>(maps: &Maps<K, A>, words: &mut Words) -> bool {
+    (maps.here == maps.there).report(words);
+    report_order(maps.here.cmp(&maps.there), words);
     true
 }
 
-fn whole<K: Sample, A: Asked<K>>(
+fn whole<K: Sample, A: SampleSummary<K>>(
     alloc: Global,
     maps: &mut Maps<K, A>,
     record: &Record,
@@ -332,7 +386,7 @@ fn whole<K: Sample, A: Asked<K>>(
 }
 
 // The cursors that need a key.
-fn cursor_at_key<K: Sample, A: Asked<K>>(
+fn cursor_at_key<K: Sample, A: SampleSummary<K>>(
     alloc: Global,
     map: &BPlusTreeMap<K, u64, A>,
     record: &Record,
@@ -342,13 +396,13 @@ fn cursor_at_key<K: Sample, A: Asked<K>>(
         return false;
     };
     if record.member() == 3 {
-        tell_found(map.lower_bound(&key), words).is_some()
+        report_found(map.lower_bound(&key), words).is_some()
     } else {
-        tell_found(map.upper_bound(&key), words).is_some()
+        report_found(map.upper_bound(&key), words).is_some()
     }
 }
 
-fn cursor<K: Sample, A: Asked<K>>(
+fn cursor<K: Sample, A: SampleSummary<K>>(
     alloc: Global,
     map: &BPlusTreeMap<K, u64, A>,
     record: &Record,
@@ -357,7 +411,7 @@ fn cursor<K: Sample, A: Asked<K>>(
     match record.member() {
         3 | 4 => cursor_at_key(alloc, map, record, words),
         9 => match A::query(alloc, record.a, record.b) {
-            Ok(query) => tell_found(map.cursor_by_argument(query), words).is_some(),
+            Ok(query) => report_found(map.cursor_by_argument(query), words).is_some(),
             Err(_) => false,
         },
         _ => no_call(words),
@@ -365,7 +419,7 @@ fn cursor<K: Sample, A: Asked<K>>(
 }
 
 /// The calls of maps with summaries of one kind alone.
-pub trait Special<K: Sample>: Asked<K> {
+pub trait Special<K: Sample>: SampleSummary<K> {
     fn call(
         alloc: Global,
         map: &mut BPlusTreeMap<K, u64, Self>,
@@ -391,7 +445,7 @@ impl<K: Sample, A: Special<K>> Subject for Maps<K, A> {
             3 => whole(alloc, self, record, words),
             4 => cursor(alloc, map, record, words),
             5 => nodes::call(map.tree(), record, words),
-            7 => tell_visit(map.descend_visit(says_of(record)), words),
+            7 => report_visit(map.descend_visit(says_of(record)), words),
             8 => moving::call(alloc, self, record, words),
             9 | 10 => A::call(alloc, map, record, words),
             _ => no_call(words),
@@ -410,12 +464,12 @@ fn index_of<K: Sample>(
         return false;
     };
     if record.member() == 1 {
-        map.place_of(&key).tell(words);
+        map.place_of(&key).report(words);
         return true;
     }
-    match page_of(map, &key, (record.b as usize).max(1)) {
-        Ok(Ok(page)) => (1u64, page).tell(words),
-        Ok(Err(page)) => (0u64, page).tell(words),
+    match map.page_of(&key, (record.b as usize).max(1)) {
+        Ok(Ok(page)) => (1u64, page).report(words),
+        Ok(Err(page)) => (0u64, page).report(words),
         Err(_) => return false,
     }
     true
@@ -430,7 +484,7 @@ fn range_len<K: Sample>(
     let Ok((lo, hi)) = bounds::<K>(alloc, record) else {
         return false;
     };
-    map.range_len(lo.as_ref(), hi.as_ref()).tell(words);
+    map.range_len(lo.as_ref(), hi.as_ref()).report(words);
     true
 }
 
@@ -441,7 +495,7 @@ fn set_at<K: Sample>(
 ) -> bool {
     match map.get_mut_at(record.a as usize) {
         Ok(at) => {
-            Some(*at).tell(words);
+            Some(*at).report(words);
             *at = record.b;
         }
         Err(SelectError::NotFound) => words.add(0),
@@ -455,17 +509,17 @@ fn get_at<K: Sample>(
     record: &Record,
     words: &mut Words,
 ) -> bool {
-    map.get_at(record.a as usize).tell(words);
+    map.get_at(record.a as usize).report(words);
     true
 }
 
-fn tell_page<K: Sample>(
+fn report_page<K: Sample>(
     map: &BPlusTreeMap<K, u64, Count>,
     record: &Record,
     words: &mut Words,
 ) -> bool {
     let size = (record.b as usize).max(1);
-    walk_if(page(map, record.a as usize, size), record, words)
+    walk_if(map.page(record.a as usize, size), record, words)
 }
 
 impl<K: Sample> Special<K> for Count {
@@ -480,13 +534,13 @@ impl<K: Sample> Special<K> for Count {
             1 | 7 => index_of(alloc, map, record, words),
             2 => get_at(map, record, words),
             3 => set_at(map, record, words),
-            4 => told(map.remove_at(record.a as usize), words),
-            5 => tell_page(map, record, words),
+            4 => report_if_ok(map.remove_at(record.a as usize), words),
+            5 => report_page(map, record, words),
             6 => {
-                pages(map, (record.a as usize).max(1)).tell(words);
+                map.pages((record.a as usize).max(1)).report(words);
                 true
             }
-            8 => tell_found(map.cursor_at(record.a as usize), words).is_some(),
+            8 => report_found(map.cursor_at(record.a as usize), words).is_some(),
             _ => no_call(words),
         }
     }
@@ -500,7 +554,7 @@ fn group_size<K: Sample, G: Group<K>>(
 ) -> bool {
     match map.descend_visit(ExtractGroupSize::new(group)) {
         Ok(size) => {
-            size.tell(words);
+            size.report(words);
             true
         }
         Err(_) => false,
@@ -519,7 +573,7 @@ fn group_part<K: Sample, G: Group<K>>(
     let pairs = match record.member() {
         0 => map.group_range(group),
         1 => map.group_part(group, from, many),
-        _ => group_page(map, group, from, many.max(1)),
+        _ => map.group_page(group, from, many.max(1)),
     };
     walk_if(pairs, record, words)
 }

@@ -2,7 +2,7 @@
 ghost use Rattle.std.proofs.Common.{rules};
 
 use crate::samples::Sample;
-use crate::words::{Told, Words};
+use crate::words::{Report, Words};
 use bptree_keys::key::Key;
 use std::alloc::{AllocError, Global};
 
@@ -29,8 +29,8 @@ impl Sample for Marked {
     }
 }
 
-impl Told for Marked {
-    fn tell(&self, words: &mut Words) {
+impl Report for Marked {
+    fn report(&self, words: &mut Words) {
         words.add(self.number);
         words.add(u64::from(self.letter as u32));
     }

@@ -1,16 +1,16 @@
 //! Calls that change many pairs of maps at once.
 
-use crate::calls::tell_back;
+use crate::calls::report_back;
 use crate::maps::Maps;
 use crate::record::Record;
-use crate::samples::{Asked, Sample};
+use crate::samples::{Sample, SampleSummary};
 use crate::subject::no_call;
-use crate::walk::{bounds, pairs_of, tell_all};
-use crate::words::{Told, Words};
+use crate::walk::{bounds, pairs_of, report_all};
+use crate::words::{Report, Words};
 use bptree_maps::map::{BPlusTreeMap, MoveError, RetainError, SplitError};
 use std::alloc::{AllocError, Global};
 
-fn extend<K: Sample, A: Asked<K>>(
+fn extend<K: Sample, A: SampleSummary<K>>(
     alloc: Global,
     map: &mut BPlusTreeMap<K, u64, A>,
     record: &Record,
@@ -21,12 +21,12 @@ fn extend<K: Sample, A: Asked<K>>(
     };
     match map.extend(pairs) {
         Ok(()) => true,
-        Err(error) => tell_back(error, words),
+        Err(error) => report_back(error, words),
     }
 }
 
-/// Tells the pair or key that was in hand when a move failed, if there is one.
-pub fn tell_in_hand<K: Told + Drop, V: Told + Drop>(
+/// Reports the pair or key that was in hand when a move failed, if there is one.
+pub fn report_in_hand<K: Report + Drop, V: Report + Drop>(
     error: MoveError<K, V>,
     words: &mut Words,
 ) -> bool {
@@ -37,20 +37,20 @@ pub fn tell_in_hand<K: Told + Drop, V: Told + Drop>(
         }
         MoveError::NotStored(error) => {
             words.add(1);
-            tell_back(error, words)
+            report_back(error, words)
         }
     }
 }
 
-fn append<K: Sample, A: Asked<K>>(maps: &mut Maps<K, A>, words: &mut Words) -> bool {
+fn append<K: Sample, A: SampleSummary<K>>(maps: &mut Maps<K, A>, words: &mut Words) -> bool {
     match maps.here.append(&mut maps.there) {
         Ok(()) => true,
-        Err(error) => tell_in_hand(error, words),
+        Err(error) => report_in_hand(error, words),
     }
 }
 
-/// Puts what was split off in its place, as far as it was, and tells why not all was.
-pub fn tell_split<M: Drop, K: Told + Drop, V: Told + Drop>(
+/// Stores the pairs or keys that were split off, and reports why others were not.
+pub fn report_split<M: Drop, K: Report + Drop, V: Report + Drop>(
     there: &mut M,
     answer: Result<M, SplitError<M, MoveError<K, V>>>,
     words: &mut Words,
@@ -67,12 +67,12 @@ pub fn tell_split<M: Drop, K: Told + Drop, V: Told + Drop>(
         Err(SplitError::NotAll(gone, error)) => {
             *there = gone;
             words.add(1);
-            tell_in_hand(error, words)
+            report_in_hand(error, words)
         }
     }
 }
 
-fn split_off<K: Sample, A: Asked<K>>(
+fn split_off<K: Sample, A: SampleSummary<K>>(
     alloc: Global,
     maps: &mut Maps<K, A>,
     record: &Record,
@@ -82,16 +82,16 @@ fn split_off<K: Sample, A: Asked<K>>(
         return false;
     };
     let answer = maps.here.split_off(&key);
-    tell_split(&mut maps.there, answer, words)
+    report_split(&mut maps.there, answer, words)
 }
 
-/// Tells why not all pairs or keys were asked whether they stay.
-pub fn tell_retained<X: Told + Drop, I: DoubleEndedIterator + ExactSizeIterator + Drop>(
+/// Reports why the predicate was not called on all pairs or keys.
+pub fn report_retained<X: Report + Drop, I: DoubleEndedIterator + ExactSizeIterator + Drop>(
     answer: Result<(), RetainError<X, I>>,
     words: &mut Words,
 ) -> bool
 where
-    I::Item: Told + Drop,
+    I::Item: Report + Drop,
     requires { (x : I) → I.can_next x × I.can_next_back x }
 {
     match answer {
@@ -102,14 +102,14 @@ where
         }
         Err(RetainError::NotStored(pair, mut rest)) => {
             words.add(1);
-            pair.tell(words);
-            tell_all(&mut rest, words);
+            pair.report(words);
+            report_all(&mut rest, words);
             false
         }
     }
 }
 
-fn retain<K: Sample, A: Asked<K>>(
+fn retain<K: Sample, A: SampleSummary<K>>(
     map: &mut BPlusTreeMap<K, u64, A>,
     record: &Record,
     words: &mut Words,
@@ -119,10 +119,13 @@ fn retain<K: Sample, A: Asked<K>>(
         let value = *value;
         modulus == 0 || value % modulus != residue
     });
-    tell_retained(answer, words)
+    report_retained(answer, words)
 }
 
-fn add_to_each<K: Sample, A: Asked<K>>(map: &mut BPlusTreeMap<K, u64, A>, more: u64) -> bool {
+fn add_to_each<K: Sample, A: SampleSummary<K>>(
+    map: &mut BPlusTreeMap<K, u64, A>,
+    more: u64,
+) -> bool {
     map.update_each(|_key: &K, value: &mut u64| {
         *value = value.wrapping_add(more);
     });
@@ -130,7 +133,7 @@ fn add_to_each<K: Sample, A: Asked<K>>(map: &mut BPlusTreeMap<K, u64, A>, more: 
 }
 
 // The calls on the pairs between two keys.
-fn between<K: Sample, A: Asked<K>>(
+fn between<K: Sample, A: SampleSummary<K>>(
     alloc: Global,
     map: &mut BPlusTreeMap<K, u64, A>,
     record: &Record,
@@ -140,7 +143,7 @@ fn between<K: Sample, A: Asked<K>>(
         return false;
     };
     if record.member() == 4 {
-        return tell_removed(map.remove_range(lo.as_ref(), hi.as_ref()), words);
+        return report_removed(map.remove_range(lo.as_ref(), hi.as_ref()), words);
     }
     let more = record.c;
     map.update_range(lo.as_ref(), hi.as_ref(), |_key: &K, value: &mut u64| {
@@ -149,18 +152,18 @@ fn between<K: Sample, A: Asked<K>>(
     true
 }
 
-/// Tells how many pairs or keys were removed.
-pub fn tell_removed(answer: Result<usize, AllocError>, words: &mut Words) -> bool {
+/// Reports how many pairs or keys were removed.
+pub fn report_removed(answer: Result<usize, AllocError>, words: &mut Words) -> bool {
     match answer {
         Ok(many) => {
-            many.tell(words);
+            many.report(words);
             true
         }
         Err(_) => false,
     }
 }
 
-fn upsert<K: Sample, A: Asked<K>>(
+fn upsert<K: Sample, A: SampleSummary<K>>(
     map: &mut BPlusTreeMap<K, u64, A>,
     key: K,
     record: &Record,
@@ -173,14 +176,14 @@ fn upsert<K: Sample, A: Asked<K>>(
         |value: &mut u64| *value = value.wrapping_add(more),
     ) {
         Ok(is_new) => {
-            is_new.tell(words);
+            is_new.report(words);
             true
         }
-        Err(error) => tell_back(error, words),
+        Err(error) => report_back(error, words),
     }
 }
 
-fn get_or_insert<K: Sample, A: Asked<K>>(
+fn get_or_insert<K: Sample, A: SampleSummary<K>>(
     map: &mut BPlusTreeMap<K, u64, A>,
     key: K,
     record: &Record,
@@ -189,16 +192,16 @@ fn get_or_insert<K: Sample, A: Asked<K>>(
     let made = record.b;
     match map.get_or_insert_with(key, || made) {
         Ok(at) => {
-            at.tell(words);
+            at.report(words);
             *at = record.c;
             true
         }
-        Err(error) => tell_back(error, words),
+        Err(error) => report_back(error, words),
     }
 }
 
 // The changes of one pair that depend on whether its key is there.
-fn entry<K: Sample, A: Asked<K>>(
+fn entry<K: Sample, A: SampleSummary<K>>(
     alloc: Global,
     map: &mut BPlusTreeMap<K, u64, A>,
     record: &Record,
@@ -215,7 +218,7 @@ fn entry<K: Sample, A: Asked<K>>(
 }
 
 /// The calls that change many pairs, or a pair that may not be there.
-pub fn call<K: Sample, A: Asked<K>>(
+pub fn call<K: Sample, A: SampleSummary<K>>(
     alloc: Global,
     maps: &mut Maps<K, A>,
     record: &Record,

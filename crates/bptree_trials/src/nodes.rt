@@ -2,7 +2,7 @@
 
 use crate::record::Record;
 use crate::subject::no_call;
-use crate::words::{Told, Words};
+use crate::words::{Report, Words};
 use bptree_keys::node_id::{InnerNodeId, LeafNodeId, NodeId};
 use bptree_nodes::inner_node::InnerNode;
 use bptree_nodes::leaf_node::LeafNode;
@@ -12,65 +12,68 @@ use bptree_tree::{BPlusTree, Statistic};
 /// The number of node numbers of each kind that are looked at.
 pub const NUMBERS: usize = 4_400;
 
-fn tell_number(id: NodeId, words: &mut Words) {
+fn report_number(id: NodeId, words: &mut Words) {
     match id {
-        NodeId::Inner(id) => (1u64, id.as_usize()).tell(words),
-        NodeId::Leaf(id) => (2u64, id.as_usize()).tell(words),
+        NodeId::Inner(id) => (1u64, id.as_usize()).report(words),
+        NodeId::Leaf(id) => (2u64, id.as_usize()).report(words),
     }
 }
 
-impl Told for LeafNodeId {
-    fn tell(&self, words: &mut Words) {
-        self.as_usize().tell(words);
+impl Report for LeafNodeId {
+    fn report(&self, words: &mut Words) {
+        self.as_usize().report(words);
     }
 }
 
-/// Tells an inner node: its keys, its summaries and the numbers of its children.
-pub fn tell_inner<K: Told + Drop, A: Told + Drop>(node: &InnerNode<K, A>, words: &mut Words) {
-    node.len().tell(words);
+/// Reports an inner node: its keys, its summaries and the numbers of its children.
+pub fn report_inner<K: Report + Drop, A: Report + Drop>(node: &InnerNode<K, A>, words: &mut Words) {
+    node.len().report(words);
     for key in node.keys() {
-        key.tell(words);
+        key.report(words);
     }
     for argument in node.arguments() {
-        argument.tell(words);
+        argument.report(words);
     }
     if node.len() == 0 {
         return;
     }
     for place in 0..node.len() {
-        tell_number(node.child_id(place), words);
+        report_number(node.child_id(place), words);
     }
-    tell_number(node.child_id(node.len()), words);
+    report_number(node.child_id(node.len()), words);
 }
 
-/// Tells a leaf: its keys, its values and its links.
-pub fn tell_leaf<K: Told + Ord + Drop, V: Told + Drop>(leaf: &LeafNode<K, V>, words: &mut Words) {
-    leaf.len().tell(words);
+/// Reports a leaf: its keys, its values and its links.
+pub fn report_leaf<K: Report + Ord + Drop, V: Report + Drop>(
+    leaf: &LeafNode<K, V>,
+    words: &mut Words,
+) {
+    leaf.len().report(words);
     for key in leaf.keys() {
-        key.tell(words);
+        key.report(words);
     }
     for value in leaf.values() {
-        value.tell(words);
+        value.report(words);
     }
-    leaf.prev().tell(words);
-    leaf.next().tell(words);
+    leaf.prev().report(words);
+    leaf.next().report(words);
 }
 
-/// Tells the nodes of a store under the first numbers.
-pub fn tell_store<S: NodeStore>(store: &S, words: &mut Words)
+/// Reports the nodes of a store under the first numbers.
+pub fn report_store<S: NodeStore>(store: &S, words: &mut Words)
 where
-    S::K: Told,
-    S::V: Told,
-    S::Argument: Told,
+    S::K: Report,
+    S::V: Report,
+    S::Argument: Report,
 {
     for number in 0..NUMBERS {
         if let Some(node) = store.try_get_inner(InnerNodeId::from_usize(number)) {
-            number.tell(words);
-            tell_inner(node, words);
+            number.report(words);
+            report_inner(node, words);
         }
         if let Some(leaf) = store.try_get_leaf(LeafNodeId::from_usize(number)) {
-            number.tell(words);
-            tell_leaf(leaf, words);
+            number.report(words);
+            report_leaf(leaf, words);
         }
     }
 }
@@ -78,16 +81,16 @@ where
 // The digest of the nodes of a store.
 fn digest_of<S: NodeStore>(store: &S) -> u64
 where
-    S::K: Told,
-    S::V: Told,
-    S::Argument: Told,
+    S::K: Report,
+    S::V: Report,
+    S::Argument: Report,
 {
     let mut words = Words::new();
-    tell_store(store, &mut words);
+    report_store(store, &mut words);
     words.digest()
 }
 
-fn tell_statistic(by: &Statistic, words: &mut Words) {
+fn report_statistic(by: &Statistic, words: &mut Words) {
     words.add(by.rotate_right_inner);
     words.add(by.rotate_left_inner);
     words.add(by.merge_with_left_inner);
@@ -98,23 +101,23 @@ fn tell_statistic(by: &Statistic, words: &mut Words) {
     words.add(by.merge_with_right_leaf);
 }
 
-/// Tells a tree: its length, height, root, statistic and summary, and its nodes.
-pub fn tell_state<S: NodeStore>(tree: &BPlusTree<S>, words: &mut Words)
+/// Reports a tree: its length, height, root, statistic and summary, and its nodes.
+pub fn report_state<S: NodeStore>(tree: &BPlusTree<S>, words: &mut Words)
 where
-    S::K: Told,
-    S::V: Told,
-    S::Argument: Told,
+    S::K: Report,
+    S::V: Report,
+    S::Argument: Report,
 {
-    tree.len().tell(words);
-    tree.height().tell(words);
-    tell_number(tree.root_id(), words);
-    tell_statistic(tree.statistic(), words);
-    tree.root_argument().tell(words);
-    tell_store(tree.node_store(), words);
+    tree.len().report(words);
+    tree.height().report(words);
+    report_number(tree.root_id(), words);
+    report_statistic(tree.statistic(), words);
+    tree.root_argument().report(words);
+    report_store(tree.node_store(), words);
 }
 
-/// Tells the height of a tree, the numbers of its nodes and its statistic.
-pub fn tell_shape<S: NodeStore>(tree: &BPlusTree<S>, words: &mut Words) {
+/// Reports the height of a tree, the numbers of its nodes and its statistic.
+pub fn report_shape<S: NodeStore>(tree: &BPlusTree<S>, words: &mut Words) {
     let store = tree.node_store();
     let mut leaves: u64 = 0;
     let mut inners: u64 = 0;
@@ -124,10 +127,10 @@ pub fn tell_shape<S: NodeStore>(tree: &BPlusTree<S>, words: &mut Words) {
         leaves = leaves.wrapping_add(leaf.is_some() as u64);
         inners = inners.wrapping_add(inner.is_some() as u64);
     }
-    tree.height().tell(words);
+    tree.height().report(words);
     words.add(leaves);
     words.add(inners);
-    tell_statistic(tree.statistic(), words);
+    report_statistic(tree.statistic(), words);
 }
 
 // Whether a store is empty once its nodes are taken out.
@@ -158,43 +161,43 @@ where
     }
 }
 
-/// Tells whether a clone of a store has the same nodes.
+/// Reports whether a clone of a store has the same nodes.
 pub fn is_cloned<S: CloneStore>(store: &S, words: &mut Words) -> bool
 where
-    S::K: Told,
-    S::V: Told + Clone,
-    S::Argument: Told,
+    S::K: Report,
+    S::V: Report + Clone,
+    S::Argument: Report,
 {
     let Ok(copy) = store.clone() else {
         return false;
     };
     let is_same = digest_of(&copy) == digest_of(store);
-    (is_same && holds_none(copy)).tell(words);
+    (is_same && holds_none(copy)).report(words);
     true
 }
 
-fn tell_one_leaf<S: NodeStore>(store: &S, number: u64, words: &mut Words) -> bool
+fn report_one_leaf<S: NodeStore>(store: &S, number: u64, words: &mut Words) -> bool
 where
-    S::K: Told,
-    S::V: Told,
+    S::K: Report,
+    S::V: Report,
 {
     let leaf = store.try_get_leaf(LeafNodeId::from_usize(number as usize));
-    leaf.is_some().tell(words);
+    leaf.is_some().report(words);
     if let Some(leaf) = leaf {
-        tell_leaf(leaf, words);
+        report_leaf(leaf, words);
     }
     true
 }
 
-fn tell_one_inner<S: NodeStore>(store: &S, number: u64, words: &mut Words) -> bool
+fn report_one_inner<S: NodeStore>(store: &S, number: u64, words: &mut Words) -> bool
 where
-    S::K: Told,
-    S::Argument: Told,
+    S::K: Report,
+    S::Argument: Report,
 {
     let node = store.try_get_inner(InnerNodeId::from_usize(number as usize));
-    node.is_some().tell(words);
+    node.is_some().report(words);
     if let Some(node) = node {
-        tell_inner(node, words);
+        report_inner(node, words);
     }
     true
 }
@@ -202,18 +205,18 @@ where
 /// The calls that look at nodes.
 pub fn call<S: CloneStore>(tree: &BPlusTree<S>, record: &Record, words: &mut Words) -> bool
 where
-    S::K: Told,
-    S::V: Told + Clone,
-    S::Argument: Told,
+    S::K: Report,
+    S::V: Report + Clone,
+    S::Argument: Report,
 {
     let store = tree.node_store();
     match record.member() {
-        0 => tell_state(tree, words),
-        1 => tell_shape(tree, words),
-        2 => is_tidy(store).tell(words),
+        0 => report_state(tree, words),
+        1 => report_shape(tree, words),
+        2 => is_tidy(store).report(words),
         3 => store.cache_leaf(LeafNodeId::from_usize(record.a as usize)),
-        4 => return tell_one_leaf(store, record.a, words),
-        5 => return tell_one_inner(store, record.a, words),
+        4 => return report_one_leaf(store, record.a, words),
+        5 => return report_one_inner(store, record.a, words),
         7 => return is_cloned(store, words),
         _ => return no_call(words),
     }

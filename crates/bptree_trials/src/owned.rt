@@ -1,14 +1,14 @@
 //! Keys and values that take memory, so that a leak or a second drop of one is seen from outside.
 
-use crate::calls::told;
+use crate::calls::report_if_ok;
 use crate::levels;
-use crate::printed::{tell_orders, tell_text};
+use crate::printed::{report_orders, report_text};
 use crate::record::Record;
 use crate::samples::Sample;
 use crate::sets::insert;
 use crate::subject::{Subject, no_call};
 use crate::walk::keys_of;
-use crate::words::{Told, Words};
+use crate::words::{Report, Words};
 use bptree_loading::loading::in_load_order;
 use bptree_maps::map::BPlusTreeMap;
 use bptree_sets::set::BPlusTreeSet;
@@ -59,9 +59,9 @@ fn gather_set(alloc: Global, many: u64) -> Result<BPlusTreeSet<String>, AllocErr
     BPlusTreeSet::from_iter(alloc, keys_of(alloc, 0, many, 1)?)
 }
 
-// Tells the number of keys, and inserts the first key again.
+// Reports the number of keys, and inserts the first key again.
 fn insert_again(alloc: Global, set: &mut BPlusTreeSet<String>, words: &mut Words) -> bool {
-    set.len().tell(words);
+    set.len().report(words);
     match String::sample(alloc, 0) {
         Ok(key) => insert(set, key, words),
         Err(_) => false,
@@ -75,15 +75,15 @@ impl Subject for Owned {
 
     fn call(&mut self, alloc: Global, record: &Record, words: &mut Words) -> bool {
         match (record.family(), record.member()) {
-            (1, 0) => tell_orders(alloc, words),
-            (3, 2) => told(load_tree(alloc, record.a), words),
-            (3, 5) => told(gather_map(alloc, record.a), words),
+            (1, 0) => report_orders(alloc, words),
+            (3, 2) => report_if_ok(load_tree(alloc, record.a), words),
+            (3, 5) => report_if_ok(gather_map(alloc, record.a), words),
             (3, 6) => match gather_set(alloc, record.a) {
                 Ok(mut set) => insert_again(alloc, &mut set, words),
                 Err(_) => false,
             },
-            (4, 0) => levels::ask(alloc, record, words),
-            (6, 0) => tell_text(alloc, record, words),
+            (4, 0) => levels::query_map(alloc, record, words),
+            (6, 0) => report_text(alloc, record, words),
             _ => no_call(words),
         }
     }

@@ -1,19 +1,19 @@
 //! Calls on a store, and on nodes in no store.
 ghost use Rattle.std.specs.Prelude.{◌≡◌, ◌≤◌, ◌<◌, ◌+◌, length, vec_len, IfOk};
 
-use crate::calls::told;
+use crate::calls::report_if_ok;
 use crate::nodes;
 use crate::record::Record;
 use crate::samples::Sample;
 use crate::subject::{Subject, no_call};
 use crate::trees::replace;
-use crate::words::{Told, Words};
+use crate::words::{Report, Words};
 use bptree_arguments::argument::{Argument, CloneArgument};
 use bptree_keys::node_id::{LeafNodeId, NodeId};
 use bptree_nodes::inner_node::InnerNode;
 use bptree_nodes::leaf_node::LeafNode;
 use bptree_stores::node_store_vec::NodeStoreVec;
-use bptree_stores::node_stores::{CloneStore, NodeStore};
+use bptree_stores::node_stores::{CloneStore, NodeStore, new_empty_leaf};
 use std::alloc::{AllocError, Global};
 
 /// A store.
@@ -22,12 +22,12 @@ pub struct Parts<K: Sample, A: Argument<K>> {
     store: NodeStoreVec<K, u64, A>,
 }
 
-// Tells whether no leaf has a number that is reserved. Then releases it.
+// Reports whether no leaf has a number that is reserved. Then releases it.
 fn reserve_leaf<S: NodeStore>(store: &mut S, words: &mut Words) -> bool {
     let Ok(id) = store.reserve_leaf() else {
         return false;
     };
-    store.try_get_leaf(id).is_none().tell(words);
+    store.try_get_leaf(id).is_none().report(words);
     store.release_leaf(id);
     true
 }
@@ -37,12 +37,12 @@ fn reserve_inner<S: NodeStore>(store: &mut S, words: &mut Words) -> bool {
     let Ok(id) = store.reserve_inner() else {
         return false;
     };
-    store.try_get_inner(id).is_none().tell(words);
+    store.try_get_inner(id).is_none().report(words);
     store.release_inner(id);
     true
 }
 
-// Reserves a number of each kind. Tells whether no node has either.
+// Reserves a number of each kind. Reports whether no node has either.
 fn reserve_both<S: NodeStore>(store: &mut S, words: &mut Words) -> bool {
     let Ok(leaf) = store.reserve_leaf() else {
         return false;
@@ -50,27 +50,27 @@ fn reserve_both<S: NodeStore>(store: &mut S, words: &mut Words) -> bool {
     let Ok(inner) = store.reserve_inner() else {
         return false;
     };
-    (store.try_get_leaf(leaf).is_none() && store.try_get_inner(inner).is_none()).tell(words);
+    (store.try_get_leaf(leaf).is_none() && store.try_get_inner(inner).is_none()).report(words);
     true
 }
 
 fn add_leaf<S: NodeStore>(store: &mut S, words: &mut Words) -> bool {
-    let Ok(id) = store.new_empty_leaf() else {
+    let Ok(id) = new_empty_leaf(store) else {
         return false;
     };
-    store.try_get_leaf(id).is_some().tell(words);
+    store.try_get_leaf(id).is_some().report(words);
     true
 }
 
-// Adds an empty inner node. If that fails, tells the length of the node that came back.
+// Adds an empty inner node. If that fails, reports the length of the node that came back.
 fn add_inner<S: NodeStore>(alloc: Global, store: &mut S, words: &mut Words) -> bool {
     let Ok(node) = InnerNode::empty(alloc) else {
         return false;
     };
     match store.add_inner(node) {
-        Ok(id) => store.try_get_inner(id).is_some().tell(words),
+        Ok(id) => store.try_get_inner(id).is_some().report(words),
         Err(node) => {
-            node.len().tell(words);
+            node.len().report(words);
             return false;
         }
     }
@@ -95,21 +95,21 @@ fn change<K: Sample, A: Argument<K>>(
     }
 }
 
-impl<T: Told> Told for Box<T> {
-    fn tell(&self, words: &mut Words) {
-        (**self).tell(words);
+impl<T: Report> Report for Box<T> {
+    fn report(&self, words: &mut Words) {
+        (**self).report(words);
     }
 }
 
-impl<K: Told + Drop, A: Told + Drop> Told for InnerNode<K, A> {
-    fn tell(&self, words: &mut Words) {
-        nodes::tell_inner(self, words);
+impl<K: Report + Drop, A: Report + Drop> Report for InnerNode<K, A> {
+    fn report(&self, words: &mut Words) {
+        nodes::report_inner(self, words);
     }
 }
 
-impl<K: Told + Ord + Drop, V: Told + Drop> Told for LeafNode<K, V> {
-    fn tell(&self, words: &mut Words) {
-        nodes::tell_leaf(self, words);
+impl<K: Report + Ord + Drop, V: Report + Drop> Report for LeafNode<K, V> {
+    fn report(&self, words: &mut Words) {
+        nodes::report_leaf(self, words);
     }
 }
 
@@ -126,11 +126,11 @@ fn leaf_of<K: Sample>(alloc: Global) -> Result<Box<LeafNode<K, u64>>, AllocError
     Ok(leaf)
 }
 
-// Tells a clone of a leaf, and clones of its first and its last key.
+// Reports a clone of a leaf, and clones of its first and its last key.
 fn copy_leaf<K: Sample>(leaf: &LeafNode<K, u64>, words: &mut Words) -> bool
     requires { 0 < length leaf.now.pairs }
 {
-    told(leaf.clone(), words) && told(leaf.key_range(), words)
+    report_if_ok(leaf.clone(), words) && report_if_ok(leaf.key_range(), words)
 }
 
 // An inner node of what three vectors give.
@@ -164,37 +164,38 @@ fn inner_of<K: Sample>(
     }
 }
 
-fn tell_node<K: Sample>(alloc: Global, member: u64, words: &mut Words) -> bool {
+fn report_node<K: Sample>(alloc: Global, member: u64, words: &mut Words) -> bool {
     match member {
         0 => match leaf_of::<K>(alloc) {
             Ok(leaf) => copy_leaf(&leaf, words),
             Err(_) => false,
         },
         1 => match inner_of::<K>(alloc, false) {
-            Ok(node) => told(node.clone(), words) && told(InnerNode::<K, u64>::empty(alloc), words),
+            Ok(node) => report_if_ok(node.clone(), words)
+                && report_if_ok(InnerNode::<K, u64>::empty(alloc), words),
             Err(_) => false,
         },
-        2 => told(inner_of::<K>(alloc, true), words),
+        2 => report_if_ok(inner_of::<K>(alloc, true), words),
         _ => no_call(words),
     }
 }
 
-fn tell_store<S: CloneStore>(store: &S, member: u64, words: &mut Words) -> bool
+fn report_store<S: CloneStore>(store: &S, member: u64, words: &mut Words) -> bool
 where
-    S::K: Told,
-    S::V: Told + Clone,
-    S::Argument: Told,
+    S::K: Report,
+    S::V: Report + Clone,
+    S::Argument: Report,
 {
     match member {
-        0 => nodes::tell_store(store, words),
-        2 => nodes::is_tidy(store).tell(words),
+        0 => nodes::report_store(store, words),
+        2 => nodes::is_tidy(store).report(words),
         7 => return nodes::is_cloned(store, words),
         _ => return no_call(words),
     }
     true
 }
 
-impl<K: Sample, A: CloneArgument<K> + Told> Subject for Parts<K, A> {
+impl<K: Sample, A: CloneArgument<K> + Report> Subject for Parts<K, A> {
     fn begin(alloc: Global) -> Result<Parts<K, A>, AllocError> {
         Ok(Parts {
             store: NodeStoreVec::new(alloc),
@@ -205,11 +206,11 @@ impl<K: Sample, A: CloneArgument<K> + Told> Subject for Parts<K, A> {
         match (record.family(), record.member()) {
             (0, _) => change(alloc, &mut self.store, record, words),
             (1, 3) => {
-                self.store.is_empty().tell(words);
+                self.store.is_empty().report(words);
                 true
             }
-            (1, member) => tell_node::<K>(alloc, member, words),
-            (5, member) => tell_store(&self.store, member, words),
+            (1, member) => report_node::<K>(alloc, member, words),
+            (5, member) => report_store(&self.store, member, words),
             _ => no_call(words),
         }
     }

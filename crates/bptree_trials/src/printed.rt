@@ -1,21 +1,21 @@
 //! The order of each type of key, and how each reply to a command prints.
 
-use crate::maps::tell_order;
+use crate::maps::report_order;
 use crate::marked::Marked;
 use crate::record::Record;
 use crate::samples::Sample;
-use crate::words::{Told, Words};
+use crate::words::{Report, Words};
 use bptree_keys::key::{Key, Tuple2};
 use bptree_script::commands::Reply;
 use std::alloc::{AllocError, Global};
 
-// Compares two keys in both directions, and a clone with its key. Tells what came of each.
-fn tell_ordered<K: Key>(small: K, great: K, words: &mut Words) -> bool {
-    tell_order(small.cmp(&great), words);
-    tell_order(great.cmp(&small), words);
+// Compares two keys in both directions, and a clone with its key. Reports what came of each.
+fn report_ordered<K: Key>(small: K, great: K, words: &mut Words) -> bool {
+    report_order(small.cmp(&great), words);
+    report_order(great.cmp(&small), words);
     match great.clone() {
         Ok(clone) => {
-            tell_order(clone.cmp(&great), words);
+            report_order(clone.cmp(&great), words);
             true
         }
         Err(_) => false,
@@ -23,35 +23,35 @@ fn tell_ordered<K: Key>(small: K, great: K, words: &mut Words) -> bool {
 }
 
 // Two texts.
-fn tell_texts(alloc: Global, words: &mut Words) -> bool {
+fn report_texts(alloc: Global, words: &mut Words) -> bool {
     let Ok(hello) = String::from_str(alloc, "hello") else {
         return false;
     };
     match String::from_str(alloc, "world") {
-        Ok(world) => tell_ordered(hello, world, words),
+        Ok(world) => report_ordered(hello, world, words),
         Err(_) => false,
     }
 }
 
 /// Compares a smaller key with a greater one, of each type of key.
-pub fn tell_orders(alloc: Global, words: &mut Words) -> bool {
-    let mut is_done = tell_ordered(1u8, 2, words);
-    is_done &= tell_ordered(1u16, 2, words);
-    is_done &= tell_ordered(1u32, 2, words);
-    is_done &= tell_ordered(1u64, 2, words);
-    is_done &= tell_ordered(1u128, 2, words);
-    is_done &= tell_ordered(1usize, 2, words);
-    is_done &= tell_ordered(-2i8, -1, words);
-    is_done &= tell_ordered(-2i16, -1, words);
-    is_done &= tell_ordered(-2i32, -1, words);
-    is_done &= tell_ordered(-2i64, -1, words);
-    is_done &= tell_ordered(-2i128, -1, words);
-    is_done &= tell_ordered(-2isize, -1, words);
-    is_done &= tell_ordered(false, true, words);
-    is_done &= tell_ordered('a', 'b', words);
-    is_done &= tell_ordered((1u8, 'b'), (2, 'a'), words);
-    is_done &= tell_ordered(Tuple2(1u64), Tuple2(2), words);
-    is_done && tell_texts(alloc, words)
+pub fn report_orders(alloc: Global, words: &mut Words) -> bool {
+    let mut is_done = report_ordered(1u8, 2, words);
+    is_done &= report_ordered(1u16, 2, words);
+    is_done &= report_ordered(1u32, 2, words);
+    is_done &= report_ordered(1u64, 2, words);
+    is_done &= report_ordered(1u128, 2, words);
+    is_done &= report_ordered(1usize, 2, words);
+    is_done &= report_ordered(-2i8, -1, words);
+    is_done &= report_ordered(-2i16, -1, words);
+    is_done &= report_ordered(-2i32, -1, words);
+    is_done &= report_ordered(-2i64, -1, words);
+    is_done &= report_ordered(-2i128, -1, words);
+    is_done &= report_ordered(-2isize, -1, words);
+    is_done &= report_ordered(false, true, words);
+    is_done &= report_ordered('a', 'b', words);
+    is_done &= report_ordered((1u8, 'b'), (2, 'a'), words);
+    is_done &= report_ordered(Tuple2(1u64), Tuple2(2), words);
+    is_done && report_texts(alloc, words)
 }
 
 type Printed = Reply<Marked, u64, usize>;
@@ -94,8 +94,8 @@ fn text_of(alloc: Global, record: &Record) -> Result<String, AllocError> {
     format!(in alloc; "{reply:?}")
 }
 
-/// Tells the bytes that a reply prints.
-pub fn tell_text(alloc: Global, record: &Record, words: &mut Words) -> bool {
+/// Reports the bytes that a reply prints.
+pub fn report_text(alloc: Global, record: &Record, words: &mut Words) -> bool {
     match text_of(alloc, record) {
         Ok(text) => {
             for byte in text.as_bytes() {

@@ -1,6 +1,6 @@
 //! Keys that are made from numbers, and are ordered as the numbers are.
 
-use crate::words::{Told, Words};
+use crate::words::{Report, Words};
 use bptree_arguments::argument::{Argument, CloneArgument, RankArgument, SearchArgument};
 use bptree_arguments::count::Count;
 use bptree_arguments::group::{FromRef, GroupCount};
@@ -8,7 +8,7 @@ use bptree_keys::key::{Key, Tuple2};
 use std::alloc::{AllocError, Global};
 
 /// A key for each number.
-pub trait Sample: Key + Told {
+pub trait Sample: Key + Report {
     fn sample(alloc: Global, number: u64) -> Result<Self, AllocError>;
 }
 
@@ -25,8 +25,8 @@ impl Sample for String {
 }
 
 // The number that the digits write. A text that is no sample may have the number of one.
-impl Told for String {
-    fn tell(&self, words: &mut Words) {
+impl Report for String {
+    fn report(&self, words: &mut Words) {
         let mut number: u64 = 0;
         for byte in self.as_bytes() {
             let digit = u64::from(*byte).wrapping_sub(48);
@@ -43,7 +43,7 @@ impl Sample for (String, u64) {
 }
 
 /// A group of keys.
-pub trait Group<K: Key>: FromRef<K> + Key + Told {
+pub trait Group<K: Key>: FromRef<K> + Key + Report {
     /// The group of a number's key.
     fn group(alloc: Global, number: u64) -> Result<Self, AllocError>;
 }
@@ -59,25 +59,25 @@ fn group_of(number: u64) -> u64 {
     (number / 170).min(25)
 }
 
-impl<T: Told> Told for Tuple2<T> {
-    fn tell(&self, words: &mut Words) {
-        self.0.tell(words);
+impl<T: Report> Report for Tuple2<T> {
+    fn report(&self, words: &mut Words) {
+        self.0.report(words);
     }
 }
 
-impl Told for Count {
-    fn tell(&self, words: &mut Words) {
+impl Report for Count {
+    fn report(&self, words: &mut Words) {
         words.add(self.count() as u64);
     }
 }
 
-impl<G: Told> Told for GroupCount<G> {
-    fn tell(&self, words: &mut Words) {
+impl<G: Report> Report for GroupCount<G> {
+    fn report(&self, words: &mut Words) {
         match self {
             GroupCount::Zero => words.add(0),
             GroupCount::One(group, size) => {
                 words.add(1);
-                group.tell(words);
+                group.report(words);
                 words.add(*size as u64);
             }
             GroupCount::Multiple {
@@ -86,9 +86,9 @@ impl<G: Told> Told for GroupCount<G> {
                 group_count,
             } => {
                 words.add(2);
-                min_group.0.tell(words);
+                min_group.0.report(words);
                 words.add(min_group.1 as u64);
-                max_group.0.tell(words);
+                max_group.0.report(words);
                 words.add(max_group.1 as u64);
                 words.add(*group_count as u64);
             }
@@ -97,30 +97,33 @@ impl<G: Told> Told for GroupCount<G> {
 }
 
 /// A summary that finds and ranks the keys of numbers.
-pub trait Asked<K: Sample>: SearchArgument<K> + RankArgument<K> + CloneArgument<K> + Told {
+pub trait SampleSummary<K: Sample>: SearchArgument<K>
+    + RankArgument<K>
+    + CloneArgument<K>
+    + Report {
     /// The query for the key at an index in the group of a number. Where there are no groups, the
     /// number is not used.
     fn query(alloc: Global, number: u64, index: u64) -> Result<Self::Query, AllocError>;
 
-    fn tell_rank(rank: &Self::Rank, words: &mut Words);
+    fn report_rank(rank: &Self::Rank, words: &mut Words);
 }
 
-impl<K: Sample> Asked<K> for Count {
+impl<K: Sample> SampleSummary<K> for Count {
     fn query(_alloc: Global, _number: u64, index: u64) -> Result<usize, AllocError> {
         Ok(index as usize)
     }
 
-    fn tell_rank(rank: &usize, words: &mut Words) {
-        rank.tell(words);
+    fn report_rank(rank: &usize, words: &mut Words) {
+        rank.report(words);
     }
 }
 
-impl<K: Sample, G: Group<K>> Asked<K> for GroupCount<G> {
+impl<K: Sample, G: Group<K>> SampleSummary<K> for GroupCount<G> {
     fn query(alloc: Global, number: u64, index: u64) -> Result<(G, usize), AllocError> {
         Ok((G::group(alloc, number)?, index as usize))
     }
 
-    fn tell_rank(rank: &Option<(G, usize)>, words: &mut Words) {
-        rank.tell(words);
+    fn report_rank(rank: &Option<(G, usize)>, words: &mut Words) {
+        rank.report(words);
     }
 }

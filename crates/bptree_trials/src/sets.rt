@@ -1,16 +1,16 @@
 //! Two sets.
 ghost use Rattle.std.specs.Iterator.{IsFinite};
 
-use crate::calls::{tell_back, told};
-use crate::maps::tell_order;
-use crate::moving::{tell_in_hand, tell_retained, tell_split};
+use crate::calls::{report_back, report_if_ok};
+use crate::maps::report_order;
+use crate::moving::{report_in_hand, report_retained, report_split};
 use crate::nodes;
 use crate::record::Record;
 use crate::samples::Sample;
 use crate::subject::{Subject, no_call};
 use crate::trees::{bound_of, replace};
-use crate::walk::{Lends, bounds, drain, keys_of, walk};
-use crate::words::{Told, Words};
+use crate::walk::{Steps, bounds, drain, keys_of, walk};
+use crate::words::{Report, Words};
 use bptree_sets::set::{BPlusTreeSet, Iter, ReplaceError};
 use std::alloc::{AllocError, Global};
 use std::mem;
@@ -24,25 +24,25 @@ pub struct Sets<K: Sample> {
     there: Set<K>,
 }
 
-/// Inserts a key, and tells whether no key equalled it.
+/// Inserts a key, and reports whether no key equalled it.
 pub fn insert<K: Sample>(set: &mut Set<K>, key: K, words: &mut Words) -> bool {
     match set.insert(key) {
         Ok(is_new) => {
-            is_new.tell(words);
+            is_new.report(words);
             true
         }
-        Err(error) => tell_back(error, words),
+        Err(error) => report_back(error, words),
     }
 }
 
-// Tells the new key that is not stored, and the key that left.
-fn tell_not_replaced<K: Sample>(error: ReplaceError<K>, words: &mut Words) -> bool {
+// Reports the new key that is not stored, and the key that left.
+fn report_not_replaced<K: Sample>(error: ReplaceError<K>, words: &mut Words) -> bool {
     match error {
-        ReplaceError::NotTaken(key) => (0u64, key).tell(words),
+        ReplaceError::NotTaken(key) => (0u64, key).report(words),
         ReplaceError::NotStored(error, gone) => {
             words.add(1);
-            tell_back(error, words);
-            gone.tell(words);
+            report_back(error, words);
+            gone.report(words);
         }
     }
     false
@@ -51,10 +51,10 @@ fn tell_not_replaced<K: Sample>(error: ReplaceError<K>, words: &mut Words) -> bo
 fn replace_key<K: Sample>(set: &mut Set<K>, key: K, words: &mut Words) -> bool {
     match set.replace(key) {
         Ok(gone) => {
-            gone.tell(words);
+            gone.report(words);
             true
         }
-        Err(error) => tell_not_replaced(error, words),
+        Err(error) => report_not_replaced(error, words),
     }
 }
 
@@ -70,8 +70,8 @@ fn change_at<K: Sample>(
     };
     match record.member() {
         0 => insert(set, key, words),
-        1 => told(set.remove(&key), words),
-        2 => told(set.take(&key), words),
+        1 => report_if_ok(set.remove(&key), words),
+        2 => report_if_ok(set.take(&key), words),
         _ => replace_key(set, key, words),
     }
 }
@@ -79,9 +79,9 @@ fn change_at<K: Sample>(
 fn change<K: Sample>(alloc: Global, set: &mut Set<K>, record: &Record, words: &mut Words) -> bool {
     match record.member() {
         0..=2 | 6 => change_at(alloc, set, record, words),
-        3 => told(set.pop_first(), words),
-        4 => told(set.pop_last(), words),
-        5 => told(set.clear(), words),
+        3 => report_if_ok(set.pop_first(), words),
+        4 => report_if_ok(set.pop_last(), words),
+        5 => report_if_ok(set.clear(), words),
         _ => no_call(words),
     }
 }
@@ -92,9 +92,9 @@ fn read_at<K: Sample>(alloc: Global, set: &Set<K>, record: &Record, words: &mut 
         return false;
     };
     match record.member() {
-        0 => set.contains(&key).tell(words),
-        1 => set.contains_counted(&key).tell(words),
-        _ => set.get(&key).tell(words),
+        0 => set.contains(&key).report(words),
+        1 => set.contains_counted(&key).report(words),
+        _ => set.get(&key).report(words),
     }
     true
 }
@@ -102,39 +102,40 @@ fn read_at<K: Sample>(alloc: Global, set: &Set<K>, record: &Record, words: &mut 
 fn read<K: Sample>(alloc: Global, set: &Set<K>, record: &Record, words: &mut Words) -> bool {
     match record.member() {
         0..=2 => return read_at(alloc, set, record, words),
-        4 => (set.first(), set.last()).tell(words),
-        5 => (set.len(), set.is_empty()).tell(words),
+        4 => (set.first(), set.last()).report(words),
+        5 => (set.len(), set.is_empty()).report(words),
         _ => return no_call(words),
     }
     true
 }
 
-impl<'a, K: Sample> Lends for Iter<'a, K> {
+impl<'a, K: Sample> Steps for Iter<'a, K> {
     fn step(&mut self, is_back: bool, words: &mut Words) {
         let item = if is_back {
             self.next_back()
         } else {
             self.next()
         };
-        item.tell(words);
+        item.report(words);
     }
 
-    fn tell_left(&self, words: &mut Words) {
-        self.len().tell(words);
+    fn report_left(&self, words: &mut Words) {
+        self.len().report(words);
     }
 
-    fn tell_hint(&self, words: &mut Words) {
-        self.size_hint().tell(words);
+    fn report_hint(&self, words: &mut Words) {
+        self.size_hint().report(words);
     }
 
-    fn tell_rest(&mut self, words: &mut Words) {
+    fn report_rest(&mut self, words: &mut Words) {
         while let Some(item) = self.next() {
-            item.tell(words);
+            item.report(words);
         }
     }
 }
 
-// The parts between the bounds of a record.
+// The parts between the bounds of a record. If there are two and the lower is included, half of the
+// records use a range of keys, and the others two bounds.
 fn part_between<K: Sample>(
     alloc: Global,
     set: &Set<K>,
@@ -146,6 +147,16 @@ fn part_between<K: Sample>(
     };
     if record.member() == 1 {
         return walk(set.range(lo.as_ref(), hi.as_ref()), record, words);
+    }
+    if record.d & 7 == 3 && record.a & 1 == 0 {
+        let (Some(lo), Some(hi)) = (lo, hi) else {
+            return false;
+        };
+        return if record.d & 8 == 8 {
+            walk(set.range_within(lo..=hi), record, words)
+        } else {
+            walk(set.range_within(lo..hi), record, words)
+        };
     }
     let from = bound_of(&lo, record.d & 4 == 0);
     let to = bound_of(&hi, record.d & 8 == 8);
@@ -178,8 +189,8 @@ fn drain_set<K: Sample>(
 }
 
 fn compare<K: Sample>(sets: &Sets<K>, words: &mut Words) -> bool {
-    (sets.here == sets.there).tell(words);
-    tell_order(sets.here.cmp(&sets.there), words);
+    (sets.here == sets.there).report(words);
+    report_order(sets.here.cmp(&sets.there), words);
     true
 }
 
@@ -204,14 +215,14 @@ fn extend<K: Sample>(alloc: Global, set: &mut Set<K>, record: &Record, words: &m
     };
     match set.extend(keys) {
         Ok(()) => true,
-        Err(error) => tell_back(error, words),
+        Err(error) => report_back(error, words),
     }
 }
 
 fn append<K: Sample>(sets: &mut Sets<K>, words: &mut Words) -> bool {
     match sets.here.append(&mut sets.there) {
         Ok(()) => true,
-        Err(error) => tell_in_hand(error, words),
+        Err(error) => report_in_hand(error, words),
     }
 }
 
@@ -225,20 +236,20 @@ fn split_off<K: Sample>(
         return false;
     };
     let answer = sets.here.split_off(&key);
-    tell_split(&mut sets.there, answer, words)
+    report_split(&mut sets.there, answer, words)
 }
 
 // The first word of a key.
-fn number_of<K: Told>(key: &K) -> u64 {
+fn number_of<K: Report>(key: &K) -> u64 {
     let mut words = Words::new();
-    key.tell(&mut words);
+    key.report(&mut words);
     words.sent().first().copied().unwrap_or(0)
 }
 
 fn retain<K: Sample>(set: &mut Set<K>, record: &Record, words: &mut Words) -> bool {
     let (modulus, residue) = (record.a, record.b);
     let answer = set.retain(|key: &K| modulus == 0 || number_of(key) % modulus != residue);
-    tell_retained(answer, words)
+    report_retained(answer, words)
 }
 
 fn remove_range<K: Sample>(
@@ -250,7 +261,7 @@ fn remove_range<K: Sample>(
     let Ok((lo, hi)) = bounds::<K>(alloc, record) else {
         return false;
     };
-    told(set.remove_range(lo.as_ref(), hi.as_ref()), words)
+    report_if_ok(set.remove_range(lo.as_ref(), hi.as_ref()), words)
 }
 
 // The calls that move or remove many keys.
@@ -270,22 +281,25 @@ fn move_keys<K: Sample>(
     }
 }
 
-// Tells the keys that an iterator gives. Returns how many there are.
-fn tell_keys<'a, K: Told + 'a, I: Iterator<Item = &'a K> + Drop>(keys: I, words: &mut Words) -> u64
+// Reports the keys that an iterator gives. Returns how many there are.
+fn report_keys<'a, K: Report + 'a, I: Iterator<Item = &'a K> + Drop>(
+    keys: I,
+    words: &mut Words,
+) -> u64
     requires can { I.can_next keys }
     requires ends { IsFinite (I.remaining keys) }
 {
     let mut count: u64 = 0;
     for key in keys {
-        key.tell(words);
+        key.report(words);
         count = count.wrapping_add(1);
     }
     count
 }
 
-// Takes so many keys, and tells how many came. Then tells the size hint, and whether there is one
-// more key.
-fn tell_end<'a, K: Told + 'a, I: Iterator<Item = &'a K> + Drop>(
+// Takes up to `many` keys, and reports how many there were. Then reports the size hint, and whether
+// there is one more key.
+fn report_end<'a, K: Report + 'a, I: Iterator<Item = &'a K> + Drop>(
     keys: I,
     many: u64,
     words: &mut Words,
@@ -299,13 +313,13 @@ fn tell_end<'a, K: Told + 'a, I: Iterator<Item = &'a K> + Drop>(
         count = count.wrapping_add(keys.next().is_some() as u64);
     }
     words.add(count);
-    keys.size_hint().tell(words);
-    keys.next().is_some().tell(words);
+    keys.size_hint().report(words);
+    keys.next().is_some().report(words);
 }
 
-// Tells the size hint of an iterator and its keys. A clone, made after the first key, must have as
+// Reports the size hint of an iterator and its keys. A clone, made after the first key, must have as
 // many more.
-fn tell_joined<'a, K: Told + 'a, I: Iterator<Item = &'a K> + Clone + Drop>(
+fn report_joined<'a, K: Report + 'a, I: Iterator<Item = &'a K> + Clone + Drop>(
     keys: I,
     words: &mut Words,
 ) -> bool
@@ -313,22 +327,22 @@ fn tell_joined<'a, K: Told + 'a, I: Iterator<Item = &'a K> + Clone + Drop>(
     requires ends { (x : I) → IsFinite (I.remaining x) }
 {
     let mut keys = keys;
-    keys.size_hint().tell(words);
+    keys.size_hint().report(words);
     if let Some(key) = keys.next() {
-        key.tell(words);
+        key.report(words);
     }
     let Ok(copy) = keys.clone() else {
         return false;
     };
-    let many = tell_keys(keys, words);
-    tell_end(copy, many, words);
+    let many = report_keys(keys, words);
+    report_end(copy, many, words);
     true
 }
 
 fn relate<K: Sample>(sets: &Sets<K>, words: &mut Words) -> bool {
-    sets.here.is_subset(&sets.there).tell(words);
-    sets.here.is_superset(&sets.there).tell(words);
-    sets.here.is_disjoint(&sets.there).tell(words);
+    sets.here.is_subset(&sets.there).report(words);
+    sets.here.is_superset(&sets.there).report(words);
+    sets.here.is_disjoint(&sets.there).report(words);
     true
 }
 
@@ -336,10 +350,10 @@ fn relate<K: Sample>(sets: &Sets<K>, words: &mut Words) -> bool {
 fn join<K: Sample>(sets: &Sets<K>, member: u64, words: &mut Words) -> bool {
     let (here, there) = (&sets.here, &sets.there);
     match member {
-        0 => tell_joined(here.union(there), words),
-        1 => tell_joined(here.difference(there), words),
-        2 => tell_joined(here.intersection(there), words),
-        3 => tell_joined(here.symmetric_difference(there), words),
+        0 => report_joined(here.union(there), words),
+        1 => report_joined(here.difference(there), words),
+        2 => report_joined(here.intersection(there), words),
+        3 => report_joined(here.symmetric_difference(there), words),
         4 => relate(sets, words),
         _ => no_call(words),
     }

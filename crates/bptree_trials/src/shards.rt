@@ -1,13 +1,13 @@
 //! A map over shards, and the functions that choose shards.
 
-use crate::calls::{tell_back, told};
-use crate::moving::tell_in_hand;
+use crate::calls::{report_back, report_if_ok};
+use crate::moving::report_in_hand;
 use crate::record::Record;
 use crate::samples::Sample;
 use crate::subject::{Subject, no_call};
 use crate::trees::replace;
 use crate::walk::bounds;
-use crate::words::{Told, Words};
+use crate::words::{Report, Words};
 use bptree_arguments::count::Count;
 use bptree_maps::map::{BPlusTreeMap, MoveError, SplitError};
 use bptree_sharded::map_shard::empty_over;
@@ -28,23 +28,23 @@ pub struct Sharded<S: Shard> {
     whole: Shards<S>,
 }
 
-fn tell_each<T: Told>(items: &[T], words: &mut Words) {
-    items.len().tell(words);
+fn report_each<T: Report>(items: &[T], words: &mut Words) {
+    items.len().report(words);
     for item in items {
-        item.tell(words);
+        item.report(words);
     }
 }
 
-fn tell_pairs<K: Sample>(pairs: &[(&K, &u64)], words: &mut Words) {
+fn report_pairs<K: Sample>(pairs: &[(&K, &u64)], words: &mut Words) {
     for pair in pairs {
-        pair.tell(words);
+        pair.report(words);
     }
 }
 
-fn tell_found<K: Sample>(found: Result<Vec<(&K, &u64)>, AllocError>, words: &mut Words) -> bool {
+fn report_found<K: Sample>(found: Result<Vec<(&K, &u64)>, AllocError>, words: &mut Words) -> bool {
     match found {
         Ok(found) => {
-            tell_pairs(&found, words);
+            report_pairs(&found, words);
             true
         }
         Err(_) => false,
@@ -58,10 +58,10 @@ where
     fn put(&mut self, key: S::K, value: u64, words: &mut Words) -> bool {
         match self.whole.put(key, value) {
             Ok(old) => {
-                old.tell(words);
+                old.report(words);
                 true
             }
-            Err(error) => tell_back(error, words),
+            Err(error) => report_back(error, words),
         }
     }
 
@@ -71,7 +71,7 @@ where
         };
         match record.member() {
             0 => self.put(key, record.b, words),
-            1 => told(self.whole.del(&key), words),
+            1 => report_if_ok(self.whole.del(&key), words),
             _ => no_call(words),
         }
     }
@@ -82,23 +82,23 @@ where
             return false;
         };
         match record.member() {
-            0 => self.whole.get(&key).tell(words),
-            7 => self.whole.rank(&key).tell(words),
-            9 => self.whole.next(&key).tell(words),
-            _ => self.whole.prev(&key).tell(words),
+            0 => self.whole.get(&key).report(words),
+            7 => self.whole.rank(&key).report(words),
+            9 => self.whole.next(&key).report(words),
+            _ => self.whole.prev(&key).report(words),
         }
         true
     }
 
     fn read(&self, alloc: Global, record: &Record, words: &mut Words) -> bool {
         match record.member() {
-            4 => (self.whole.first(), self.whole.last()).tell(words),
+            4 => (self.whole.first(), self.whole.last()).report(words),
             5 => {
-                self.whole.len().tell(words);
-                tell_each(self.whole.lengths(), words);
-                tell_each(self.whole.bounds(), words);
+                self.whole.len().report(words);
+                report_each(self.whole.lengths(), words);
+                report_each(self.whole.bounds(), words);
             }
-            6 => self.whole.at(record.a as usize).tell(words),
+            6 => self.whole.at(record.a as usize).report(words),
             0 | 7 | 9 | 10 => return self.read_at(alloc, record, words),
             _ => return no_call(words),
         }
@@ -107,7 +107,7 @@ where
 
     fn page(&self, alloc: Global, record: &Record, words: &mut Words) -> bool {
         let (place, most) = (record.a as usize, record.b as usize);
-        tell_found(self.whole.page(alloc, place, most), words)
+        report_found(self.whole.page(alloc, place, most), words)
     }
 
     fn range(&self, alloc: Global, record: &Record, words: &mut Words) -> bool {
@@ -115,7 +115,7 @@ where
             return false;
         };
         let most = record.c as usize;
-        tell_found(
+        report_found(
             self.whole.range(alloc, lo.as_ref(), hi.as_ref(), most),
             words,
         )
@@ -125,7 +125,7 @@ where
         let Ok(key) = S::K::sample(alloc, record.a) else {
             return false;
         };
-        tell_found(self.whole.back(alloc, &key, record.b as usize), words)
+        report_found(self.whole.back(alloc, &key, record.b as usize), words)
     }
 
     fn part(&self, alloc: Global, record: &Record, words: &mut Words) -> bool {
@@ -141,32 +141,32 @@ where
         let Ok(key) = S::K::sample(alloc, record.a) else {
             return false;
         };
-        tell_moved(self.whole.split(key), words)
+        report_moved(self.whole.split(key), words)
     }
 
     // The calls that change how many shards there are.
     fn move_bounds(&mut self, alloc: Global, record: &Record, words: &mut Words) -> bool {
         match record.member() {
             0 => self.split(alloc, record, words),
-            1 => tell_moved(self.whole.merge(record.a as usize), words),
+            1 => report_moved(self.whole.merge(record.a as usize), words),
             _ => no_call(words),
         }
     }
 }
 
-fn tell_shard<S: Shard<V = u64>>(shard: &S, words: &mut Words)
+fn report_shard<S: Shard<V = u64>>(shard: &S, words: &mut Words)
 where
     S::K: Sample,
 {
     for place in 0..shard.len() {
         if let Some(pair) = shard.at(place) {
-            pair.tell(words);
+            pair.report(words);
         }
     }
 }
 
-// Tells why not all pairs moved. The pairs of the shard that came back are told last.
-fn tell_moved<S: Shard<V = u64>>(
+// Reports why not all pairs moved. The pairs of the shard that came back are reported last.
+fn report_moved<S: Shard<V = u64>>(
     answer: Result<(), SplitError<S, MoveError<S::K, u64>>>,
     words: &mut Words,
 ) -> bool
@@ -178,18 +178,18 @@ where
         Err(SplitError::NotMade) => words.add(0),
         Err(SplitError::NotAll(shard, error)) => {
             words.add(1);
-            tell_in_hand(error, words);
-            tell_shard(&shard, words);
+            report_in_hand(error, words);
+            report_shard(&shard, words);
         }
     }
     false
 }
 
-impl Told for Part {
-    fn tell(&self, words: &mut Words) {
-        self.shard.tell(words);
-        self.from.tell(words);
-        self.count.tell(words);
+impl Report for Part {
+    fn report(&self, words: &mut Words) {
+        self.shard.report(words);
+        self.from.report(words);
+        self.count.report(words);
     }
 }
 
@@ -201,21 +201,21 @@ fn used(numbers: &[usize; 3], d: u64) -> &[usize] {
 // The calls that are given the bounds of shards, and keys.
 fn route_keys(bounds: &[usize], lo: usize, hi: usize, member: u64, words: &mut Words) {
     match member {
-        0 => route(bounds, &lo).tell(words),
-        1 => route_below(bounds, &lo).tell(words),
-        2 => route_range(bounds, Some(&lo), None).tell(words),
-        3 => route_range(bounds, None, Some(&hi)).tell(words),
-        _ => route_range(bounds, Some(&lo), Some(&hi)).tell(words),
+        0 => route(bounds, &lo).report(words),
+        1 => route_below(bounds, &lo).report(words),
+        2 => route_range(bounds, Some(&lo), None).report(words),
+        3 => route_range(bounds, None, Some(&hi)).report(words),
+        _ => route_range(bounds, Some(&lo), Some(&hi)).report(words),
     }
 }
 
 // The calls that are given the lengths of shards, and the number of a shard.
 fn find_full(lengths: &[usize], shard: usize, member: u64, words: &mut Words) -> bool {
     match member {
-        7 => first_full(lengths).tell(words),
-        8 => last_full(lengths).tell(words),
-        9 if shard < lengths.len() => next_full(lengths, shard).tell(words),
-        10 if shard <= lengths.len() => prev_full(lengths, shard).tell(words),
+        7 => first_full(lengths).report(words),
+        8 => last_full(lengths).report(words),
+        9 if shard < lengths.len() => next_full(lengths, shard).report(words),
+        10 if shard <= lengths.len() => prev_full(lengths, shard).report(words),
         _ => return no_call(words),
     }
     true
@@ -230,8 +230,8 @@ fn choose(record: &Record, words: &mut Words) -> bool {
     let second = (record.d >> 32) as usize;
     match record.member() {
         0..=4 => route_keys(numbers, first, second, record.member(), words),
-        5 => locate(numbers, first).tell(words),
-        6 => next_part(numbers, first, second).tell(words),
+        5 => locate(numbers, first).report(words),
+        6 => next_part(numbers, first, second).report(words),
         member => return find_full(numbers, first, member, words),
     }
     true

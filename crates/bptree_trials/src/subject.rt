@@ -4,20 +4,20 @@ use crate::record::Record;
 use crate::words::Words;
 use std::alloc::{AllocError, Global};
 
-/// What is held for a caller, and changed by its calls.
+/// What a caller makes its calls on.
 pub trait Subject: Drop + Sized {
-    /// One on which no call was made.
+    /// Creates a subject on which no call has been made.
     fn begin(alloc: Global) -> Result<Self, AllocError>;
 
-    /// Makes a call, and tells its reply. Returns false if an allocation failed. If there is no such
-    /// call, the reply is `NONE`.
+    /// Makes the call of a record, and writes its reply to `words`. Returns false if an allocation
+    /// failed. If the record names no call, the reply is `NONE`.
     fn call(&mut self, alloc: Global, record: &Record, words: &mut Words) -> bool;
 }
 
-/// The only word of the reply to a call that there is none of.
+/// The only word of the reply to a record that names no call.
 pub const NONE: u64 = u64::MAX - 7;
 
-/// Replies to a call that there is none of.
+/// Replies to a record that names no call.
 pub fn no_call(words: &mut Words) -> bool {
     words.add(NONE);
     false

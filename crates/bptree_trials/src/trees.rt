@@ -1,15 +1,16 @@
 //! Two trees, a cursor and a list of commands.
 
 use crate::calls::{
-    Calls, Queried, Removed, change, change_queried, read, read_queried, tell_rank_of, told,
+    Calls, Queried, Removed, change, change_queried, read, read_queried, report_if_ok,
+    report_rank_of,
 };
 use crate::commands::{self, Held};
 use crate::record::Record;
-use crate::samples::{Asked, Sample};
+use crate::samples::{Sample, SampleSummary};
 use crate::says::{Say, Says};
 use crate::subject::{Subject, no_call};
-use crate::walk::{Lends, bounds, drain, pairs_of, walk, walk_if};
-use crate::words::{Told, Words};
+use crate::walk::{Steps, bounds, drain, pairs_of, walk, walk_if};
+use crate::words::{Report, Words};
 use crate::{cursors, nodes};
 use bptree_arguments::argument::CloneArgument;
 use bptree_arguments::visit::DescendError;
@@ -84,7 +85,7 @@ where
 impl<S: NodeStore<V = u64>> Queried for BPlusTree<S>
 where
     S::K: Sample,
-    S::Argument: Asked<S::K>,
+    S::Argument: SampleSummary<S::K>,
 {
     type Summary = S::Argument;
 
@@ -115,8 +116,8 @@ where
         self.get_by_argument(query)
     }
 
-    fn tell_rank(&self, key: &S::K, words: &mut Words) -> bool {
-        tell_rank_of::<S::K, S::Argument>(self.rank_by_argument(key), words)
+    fn report_rank(&self, key: &S::K, words: &mut Words) -> bool {
+        report_rank_of::<S::K, S::Argument>(self.rank_by_argument(key), words)
     }
 
     fn summary(&self) -> &S::Argument {
@@ -124,10 +125,10 @@ where
     }
 }
 
-impl<'a, S: NodeStore> Lends for Iter<'a, S>
+impl<'a, S: NodeStore> Steps for Iter<'a, S>
 where
-    S::K: Told,
-    S::V: Told,
+    S::K: Report,
+    S::V: Report,
 {
     fn step(&mut self, is_back: bool, words: &mut Words) {
         let item = if is_back {
@@ -135,20 +136,20 @@ where
         } else {
             self.next()
         };
-        item.tell(words);
+        item.report(words);
     }
 
-    fn tell_left(&self, words: &mut Words) {
-        self.len().tell(words);
+    fn report_left(&self, words: &mut Words) {
+        self.len().report(words);
     }
 
-    fn tell_hint(&self, words: &mut Words) {
-        self.size_hint().tell(words);
+    fn report_hint(&self, words: &mut Words) {
+        self.size_hint().report(words);
     }
 
-    fn tell_rest(&mut self, words: &mut Words) {
+    fn report_rest(&mut self, words: &mut Words) {
         while let Some(item) = self.next() {
-            item.tell(words);
+            item.report(words);
         }
     }
 }
@@ -202,7 +203,7 @@ fn range_found<S: NodeStore<V = u64>>(
 ) -> bool
 where
     S::K: Sample,
-    S::Argument: Asked<S::K>,
+    S::Argument: SampleSummary<S::K>,
 {
     let Ok(query) = S::Argument::query(alloc, record.a, record.b) else {
         return false;
@@ -219,12 +220,12 @@ fn summary_between<S: NodeStore<V = u64>>(
 ) -> bool
 where
     S::K: Sample,
-    S::Argument: Told,
+    S::Argument: Report,
 {
     let Ok((lo, hi)) = bounds::<S::K>(alloc, record) else {
         return false;
     };
-    told(tree.range_argument(lo.as_ref(), hi.as_ref()), words)
+    report_if_ok(tree.range_argument(lo.as_ref(), hi.as_ref()), words)
 }
 
 fn summary_of_part<S: NodeStore<V = u64>>(
@@ -235,7 +236,7 @@ fn summary_of_part<S: NodeStore<V = u64>>(
 ) -> bool
 where
     S::K: Sample,
-    S::Argument: Asked<S::K>,
+    S::Argument: SampleSummary<S::K>,
 {
     let Ok(from) = S::Argument::query(alloc, record.a, record.b) else {
         return false;
@@ -243,7 +244,7 @@ where
     let Ok(to) = S::Argument::query(alloc, record.c, record.d) else {
         return false;
     };
-    told(tree.part_argument(from, to), words)
+    report_if_ok(tree.part_argument(from, to), words)
 }
 
 // The parts that need no query.
@@ -255,7 +256,7 @@ fn part<S: NodeStore<V = u64>>(
 ) -> bool
 where
     S::K: Sample,
-    S::Argument: Told,
+    S::Argument: Report,
 {
     match record.member() {
         0 => walk(tree.iter(), record, words),
@@ -275,7 +276,7 @@ fn part_queried<S: NodeStore<V = u64>>(
 ) -> bool
 where
     S::K: Sample,
-    S::Argument: Asked<S::K>,
+    S::Argument: SampleSummary<S::K>,
 {
     match record.member() {
         3 => range_found(alloc, tree, record, words),
@@ -397,12 +398,15 @@ pub fn says_of(record: &Record) -> Says {
     })
 }
 
-/// Tells what a visitor returned.
-pub fn tell_visit(answer: Result<Option<(usize, usize)>, DescendError>, words: &mut Words) -> bool {
+/// Reports what a visitor returned.
+pub fn report_visit(
+    answer: Result<Option<(usize, usize)>, DescendError>,
+    words: &mut Words,
+) -> bool {
     match answer {
         Ok(answer) => {
             words.add(0);
-            answer.tell(words);
+            answer.report(words);
             true
         }
         Err(DescendError::InvalidChild) => {
@@ -421,7 +425,7 @@ pub fn tell_visit(answer: Result<Option<(usize, usize)>, DescendError>, words: &
 pub struct Trees<S: NodeStore<V = u64>>
 where
     S::K: Sample,
-    S::Argument: Asked<S::K>,
+    S::Argument: SampleSummary<S::K>,
 {
     both: Both<S>,
     cursor: Option<Cursor<S::K>>,
@@ -431,7 +435,7 @@ where
 impl<S: CloneStore<V = u64>> Subject for Trees<S>
 where
     S::K: Sample,
-    S::Argument: Asked<S::K>,
+    S::Argument: SampleSummary<S::K>,
 {
     fn begin(alloc: Global) -> Result<Self, AllocError> {
         Ok(Trees {
@@ -451,7 +455,7 @@ where
             4 => cursors::call_queried(alloc, tree, &mut self.cursor, record, words),
             5 => nodes::call(tree, record, words),
             6 => commands::call(alloc, tree, &mut self.commands, record, words),
-            7 => tell_visit(tree.descend_visit(says_of(record)), words),
+            7 => report_visit(tree.descend_visit(says_of(record)), words),
             _ => no_call(words),
         }
     }
@@ -467,7 +471,7 @@ pub struct Plain<S: NodeStore> {
 impl<S: CloneStore<V = u64>> Subject for Plain<S>
 where
     S::K: Sample,
-    S::Argument: CloneArgument<S::K> + Told,
+    S::Argument: CloneArgument<S::K> + Report,
 {
     fn begin(alloc: Global) -> Result<Self, AllocError> {
         Ok(Plain {

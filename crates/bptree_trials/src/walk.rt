@@ -2,7 +2,7 @@
 
 use crate::record::Record;
 use crate::samples::Sample;
-use crate::words::{Told, Words};
+use crate::words::{Report, Words};
 use std::alloc::{AllocError, Global};
 
 // The number whose key comes in a turn, and its value.
@@ -65,122 +65,123 @@ pub fn bounds<K: Sample>(
     Ok((lo, hi))
 }
 
-// Takes items from both ends as the record says, and tells them and how many are left.
-fn tell_steps<I: DoubleEndedIterator + ExactSizeIterator>(
+// Takes items from both ends as the record says, and reports them and how many are left.
+fn report_steps<I: DoubleEndedIterator + ExactSizeIterator>(
     items: &mut I,
     record: &Record,
     words: &mut Words,
 )
 where
-    I::Item: Told + Drop,
+    I::Item: Report + Drop,
     requires { (x : I) → I.can_next x × I.can_next_back x }
 {
-    items.len().tell(words);
+    items.len().report(words);
     for step in 0..(record.d >> 8) & 255 {
         let item = if (record.c >> (step & 63)) & 1 == 1 {
             items.next_back()
         } else {
             items.next()
         };
-        item.tell(words);
+        item.report(words);
     }
     let (lower, upper) = items.size_hint();
-    items.len().tell(words);
-    lower.tell(words);
-    upper.tell(words);
+    items.len().report(words);
+    lower.report(words);
+    upper.report(words);
 }
 
-/// Takes so many items from each end in turn, and tells them and how many are left before and after.
-pub fn tell_both_ends<I: DoubleEndedIterator + ExactSizeIterator>(
+/// Takes `many` items from each end in turn, and reports them and how many are left before and after.
+pub fn report_both_ends<I: DoubleEndedIterator + ExactSizeIterator>(
     items: &mut I,
     many: u64,
     words: &mut Words,
 )
 where
-    I::Item: Told + Drop,
+    I::Item: Report + Drop,
     requires { (x : I) → I.can_next x × I.can_next_back x }
 {
     for _ in 0..many {
-        items.len().tell(words);
-        items.next().tell(words);
-        items.next_back().tell(words);
+        items.len().report(words);
+        items.next().report(words);
+        items.next_back().report(words);
     }
-    items.len().tell(words);
+    items.len().report(words);
 }
 
-/// Takes all items, and tells them.
-pub fn tell_all<I: DoubleEndedIterator + ExactSizeIterator>(items: &mut I, words: &mut Words)
+/// Takes all items, and reports them.
+pub fn report_all<I: DoubleEndedIterator + ExactSizeIterator>(items: &mut I, words: &mut Words)
 where
-    I::Item: Told + Drop,
+    I::Item: Report + Drop,
     requires { (x : I) → I.can_next x × I.can_next_back x }
 {
     for _ in 0..items.len() {
         if let Some(item) = items.next() {
-            item.tell(words);
+            item.report(words);
         }
     }
 }
 
-/// An iterator that lends its items. It is no generic `Iterator`: where the items are references, a
-/// call of a function that is generic in such a one needs a proof of what their lifetimes are.
-pub trait Lends: Clone + Drop {
-    /// Takes an item from an end, and tells it if there is one.
+/// An iterator over references, which reports its items itself. The functions below are not generic
+/// in `Iterator`: if the items are references, each call of such a function needs a proof about their
+/// lifetimes.
+pub trait Steps: Clone + Drop {
+    /// Takes an item from an end, and reports it if there is one.
     fn step(&mut self, is_back: bool, words: &mut Words);
 
-    /// Tells how many items are left.
-    fn tell_left(&self, words: &mut Words);
+    /// Reports how many items are left.
+    fn report_left(&self, words: &mut Words);
 
-    /// Tells the bounds of how many items are left.
-    fn tell_hint(&self, words: &mut Words);
+    /// Reports the bounds of how many items are left.
+    fn report_hint(&self, words: &mut Words);
 
-    /// Takes all items, and tells them.
-    fn tell_rest(&mut self, words: &mut Words);
+    /// Takes all items, and reports them.
+    fn report_rest(&mut self, words: &mut Words);
 }
 
-// Takes items from both ends as the record says, and tells them and how many are left.
-fn lend_steps<I: Lends>(items: &mut I, record: &Record, words: &mut Words) {
-    items.tell_left(words);
+// Takes items from both ends as the record says, and reports them and how many are left.
+fn take_steps<I: Steps>(items: &mut I, record: &Record, words: &mut Words) {
+    items.report_left(words);
     for step in 0..(record.d >> 8) & 255 {
         items.step((record.c >> (step & 63)) & 1 == 1, words);
     }
-    items.tell_left(words);
-    items.tell_hint(words);
+    items.report_left(words);
+    items.report_hint(words);
 }
 
-/// Takes items from both ends, tells them, and then the rest of a clone, behind which there is no
+/// Takes items from both ends, reports them, and then the rest of a clone, behind which there is no
 /// other at the back.
-pub fn walk<I: Lends>(items: I, record: &Record, words: &mut Words) -> bool {
+pub fn walk<I: Steps>(items: I, record: &Record, words: &mut Words) -> bool {
     let mut items = items;
-    lend_steps(&mut items, record, words);
+    take_steps(&mut items, record, words);
     let Ok(mut rest) = items.clone() else {
         return false;
     };
-    rest.tell_rest(words);
+    rest.report_rest(words);
     rest.step(true, words);
-    items.tell_left(words);
+    items.report_left(words);
     true
 }
 
 /// Does the same if the iterator was made.
-pub fn walk_if<I: Lends>(items: Result<I, AllocError>, record: &Record, words: &mut Words) -> bool {
+pub fn walk_if<I: Steps>(items: Result<I, AllocError>, record: &Record, words: &mut Words) -> bool {
     match items {
         Ok(items) => walk(items, record, words),
         Err(_) => false,
     }
 }
 
-/// Takes items from both ends and then the others, and tells them.
+/// Takes items from both ends and then the others, and reports them.
 pub fn drain<I: DoubleEndedIterator + ExactSizeIterator + Drop>(
     items: I,
     record: &Record,
     words: &mut Words,
 ) -> bool
 where
-    I::Item: Told + Drop,
+    I::Item: Report + Drop,
     requires { (x : I) → I.can_next x × I.can_next_back x }
 {
     let mut items = items;
-    tell_steps(&mut items, record, words);
-    tell_all(&mut items, words);
+    report_steps(&mut items, record, words);
+    report_all(&mut items, words);
     true
 }

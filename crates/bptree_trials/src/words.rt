@@ -56,54 +56,54 @@ impl Words {
 }
 
 /// What adds itself to a reply.
-pub trait Told {
-    fn tell(&self, words: &mut Words);
+pub trait Report {
+    fn report(&self, words: &mut Words);
 }
 
-impl Told for u64 {
-    fn tell(&self, words: &mut Words) {
+impl Report for u64 {
+    fn report(&self, words: &mut Words) {
         words.add(*self);
     }
 }
 
-impl Told for usize {
-    fn tell(&self, words: &mut Words) {
+impl Report for usize {
+    fn report(&self, words: &mut Words) {
         words.add(*self as u64);
     }
 }
 
-impl Told for bool {
-    fn tell(&self, words: &mut Words) {
+impl Report for bool {
+    fn report(&self, words: &mut Words) {
         words.add(*self as u64);
     }
 }
 
-impl Told for () {
-    fn tell(&self, _words: &mut Words) {}
+impl Report for () {
+    fn report(&self, _words: &mut Words) {}
 }
 
 /// A 1 and the value, or a 0.
-impl<T: Told> Told for Option<T> {
-    fn tell(&self, words: &mut Words) {
+impl<T: Report> Report for Option<T> {
+    fn report(&self, words: &mut Words) {
         match self {
             Some(value) => {
                 words.add(1);
-                value.tell(words);
+                value.report(words);
             }
             None => words.add(0),
         }
     }
 }
 
-impl<T: Told> Told for &T {
-    fn tell(&self, words: &mut Words) {
-        (**self).tell(words);
+impl<T: Report> Report for &T {
+    fn report(&self, words: &mut Words) {
+        (**self).report(words);
     }
 }
 
-impl<A: Told, B: Told> Told for (A, B) {
-    fn tell(&self, words: &mut Words) {
-        self.0.tell(words);
-        self.1.tell(words);
+impl<A: Report, B: Report> Report for (A, B) {
+    fn report(&self, words: &mut Words) {
+        self.0.report(words);
+        self.1.report(words);
     }
 }

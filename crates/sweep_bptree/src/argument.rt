@@ -1,9 +1,13 @@
-//! Summaries of keys, and what they answer.
+//! Summaries of keys, and the queries and ranks that they answer.
 
 pub use bptree_arguments::argument::{Argument, CloneArgument, RankArgument, SearchArgument};
-pub use bptree_arguments::count;
 
-/// Groups of keys.
+/// The number of keys as a summary: selects by an index, and ranks.
+pub mod count {
+    pub use bptree_arguments::count::Count;
+}
+
+/// Groups of keys as a summary: selects and ranks in a group.
 pub mod group {
     pub use bptree_arguments::group::{FromRef, GroupCount, Tuple2};
     pub use bptree_arguments::group_size::ExtractGroupSize;

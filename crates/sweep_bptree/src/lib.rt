@@ -3,15 +3,21 @@
 #![tactic(auto)]
 
 pub mod argument;
+pub mod map;
 pub mod script;
+pub mod set;
 pub mod tree;
 
-pub use bptree_maps::{map, page};
+pub use argument::count::Count;
+pub use argument::group::{ExtractGroupSize, FromRef, GroupCount, Tuple2};
+pub use argument::{Argument, RankArgument, SearchArgument};
 pub use bptree_merging::merge_iter;
-pub use bptree_sets::set;
+pub use bptree_stores::node_stores::CloneStore;
+pub use bptree_tree::{InsertError, SelectError};
 pub use map::BPlusTreeMap;
 pub use set::BPlusTreeSet;
-pub use tree::{BPlusTree, CloneStore, InsertError, Key, NodeStore, NodeStoreVec};
+pub use tree::visit::{DescendError, DescendVisit, DescendVisitResult};
+pub use tree::{BPlusTree, Cursor, Key, NodeStore, NodeStoreVec, Statistic};
 
 /// The version of the library, which README.md, CHANGELOG.md and the packages for Python and Rust
 /// name too.

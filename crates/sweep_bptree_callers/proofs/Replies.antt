@@ -16,8 +16,8 @@ use Rattle.bptree_script.proofs.PlaceLemmas.{selected_is}
 use Rattle.bptree_script.specs.Steps.{TreeStep, IsCopyOf}
 use Rattle.bptree_script.specs.declared.commands.Command.TheVariants.{Insert, Get, Set, SetAt, Len, At, Range, Rank as RankOf}
 use Rattle.bptree_script.specs.declared.commands.Reply.{Reply}
-use Rattle.bptree_script.specs.declared.walk.End.{End}
-use Rattle.bptree_script.specs.declared.walk.End.TheVariants.{Front}
+use Rattle.bptree_keys.specs.declared.end.End.{End}
+use Rattle.bptree_keys.specs.declared.end.End.TheVariants.{Front}
 use Rattle.bptree_script.specs.declared.commands.Reply.TheVariants.{Value, Pair, Number, Done, Rank, Held, Walked, NoCursor, OutOfMemory, Full}
 
 -- a fact of a reply, where there is one

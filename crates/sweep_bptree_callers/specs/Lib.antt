@@ -1,3 +1,4 @@
 pub mod Replies
+pub mod Running
 pub mod Serving
 pub mod Sharded

@@ -8,7 +8,7 @@ use Rattle.bptree_ascent.specs.Lending.{written}
 use Rattle.bptree_keys.specs.Contents.{has, value, put}
 use Rattle.bptree_nodes.specs.Leaf.{set_value_at}
 use Rattle.bptree_script.specs.declared.commands.Reply.{Reply}
-use Rattle.bptree_script.specs.declared.commands.Reply.TheVariants.{Value, Pair, Done, Rank, OutOfMemory, Full}
+use Rattle.bptree_script.specs.declared.commands.Reply.TheVariants.{Value, Pair, Number, Done, Rank, OutOfMemory, Full}
 
 module _ {K V R : Type 0} where
   -- a pair is put, or nothing changes: for want of memory, or since the tree is full
@@ -20,13 +20,25 @@ module _ {K V R : Type 0} where
   abbrev pub RepliesToSet : (K → K → Ordering) → K → V → List (K × V) → List (K × V) → Reply K V R → Type 0
   RepliesToSet cmp k v old new reply = (reply ≡ Done (has cmp old k)) × (new ≡ (if has cmp old k then written cmp k old v else old))
 
+  -- the value of a key, and nothing changes
+  abbrev pub RepliesToGet : (K → K → Ordering) → K → List (K × V) → List (K × V) → Reply K V R → Type 0
+  RepliesToGet cmp k old new reply = (reply ≡ Value (value cmp old k)) × (new ≡ old)
+
+  -- the length, and nothing changes
+  abbrev pub RepliesToLen : List (K × V) → List (K × V) → Reply K V R → Type 0
+  RepliesToLen old new reply = (reply ≡ Number (length old)) × (new ≡ old)
+
   -- the pair at an index, or no memory
   abbrev pub ShowsPairAt : ℕ → List (K × V) → Reply K V R → Type 0
   ShowsPairAt i l reply = (reply ≡ Pair (slice_get l i)) ⊎ (reply ≡ OutOfMemory)
 
-  -- both ends of a list
-  abbrev pub ShowsEnds : List (K × V) → Reply K V R × Reply K V R → Type 0
-  ShowsEnds l replies = ShowsPairAt 0 l replies.0 × ShowsPairAt (length l - 1) l replies.1
+  -- the same, and nothing changes
+  abbrev pub RepliesToAt : ℕ → List (K × V) → List (K × V) → Reply K V R → Type 0
+  RepliesToAt i old new reply = ShowsPairAt i old reply × (new ≡ old)
+
+  -- both ends of a list, and nothing changes
+  abbrev pub RepliesToEnds : List (K × V) → List (K × V) → Reply K V R × Reply K V R → Type 0
+  RepliesToEnds old new replies = (ShowsPairAt 0 old replies.0 × ShowsPairAt (length old - 1) old replies.1) × (new ≡ old)
 
   -- the value at an index is written, or there is none
   abbrev pub RepliesToSetAt : ℕ → V → List (K × V) → List (K × V) → Reply K V R → Type 0
@@ -39,3 +51,7 @@ abbrev pub ShowsRank : {V : Type 0} → ℕ → List (ℕ × V) → Reply ℕ V 
 ShowsRank k l reply =
     let smaller = count_below nat_cmp k (keys_of l) in
     (reply ≡ Rank (if has nat_cmp l k then Ok smaller else Err smaller)) ⊎ (reply ≡ OutOfMemory)
+
+-- the same, and nothing changes
+abbrev pub RepliesToRank : {V : Type 0} → ℕ → List (ℕ × V) → List (ℕ × V) → Reply ℕ V ℕ → Type 0
+RepliesToRank k old new reply = ShowsRank k old reply × (new ≡ old)

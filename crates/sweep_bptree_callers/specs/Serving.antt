@@ -8,8 +8,22 @@ abbrev pub StoppedByStream : Option (List ℕ) → Option (List ℕ) → Option 
 StoppedByStream input left old new = StoppedBy Reader input left old new ⊎ StoppedBy Writer input left old new
 
 -- lines on the pairs beside a key, all pairs from the last one, those between two keys, and pages
-abbrev pub neighbour_lines : List ℕ
-neighbour_lines = codes "back\nnext 0\nput 7 70\nput 9 90\nnext 7\nnext 8\nnext 9\nprev 9\nprev 8\nprev 7\nback\nrange 7 9\nrange 8 18446744073709551615\nrange 9 9\nrange 7\npage 0 1\npage 1 1\npage 9223372036854775808 2\npage 0 0\n"
+abbrev pub beside_lines : List ℕ
+beside_lines = codes "back\nnext 0\nput 7 70\nput 9 90\nnext 7\nnext 8\nnext 9\nprev 9\nprev 8\nprev 7\nback\nrange 7 9\nrange 8 18446744073709551615\nrange 9 9\nrange 7\npage 0 1\npage 1 1\npage 9223372036854775808 2\npage 0 0\n"
 
-abbrev pub neighbour_answers : List ℕ
-neighbour_answers = codes "empty\nnone\nnew\nnew\n9 90\n9 90\nnone\n7 70\n7 70\nnone\n9 90,7 70\n7 70\n9 90\nempty\nbad\n7 70\n9 90\nempty\nbad\n"
+abbrev pub beside_answers : List ℕ
+beside_answers = codes "empty\nnone\nnew\nnew\n9 90\n9 90\nnone\n7 70\n7 70\nnone\n9 90,7 70\n7 70\n9 90\nempty\nbad\n7 70\n9 90\nempty\nbad\n"
+
+-- lines that put pairs and look for keys, the last without a line feed
+abbrev pub put_lines : List ℕ
+put_lines = codes "put 2 20\nput 1 10\nput 2 21\nget 2\nget 3\nlen\nall\nget 01\n\nlen"
+
+abbrev pub put_answers : List ℕ
+put_answers = codes "new\nnew\nold 20\n21\nnone\n2\n1 10,2 21\nbad\nbad\n2\n"
+
+-- lines on ends, indexes and ranks, in a tree without pairs and in one with two
+abbrev pub rank_lines : List ℕ
+rank_lines = codes "first\nlast\nat 0\nrank 7\nall\nput 7 70\nput 9 90\nfirst\nlast\nat 0\nat 1\nat 2\nrank 7\nrank 8\nrank 9\n"
+
+abbrev pub rank_answers : List ℕ
+rank_answers = codes "none\nnone\nnone\nout 0\nempty\nnew\nnew\n7 70\n9 90\n7 70\n9 90\nnone\nin 0\nout 1\nin 1\n"

@@ -4,24 +4,23 @@ ghost use Rattle.std.specs.Io.KnownBytes.{Appends};
 ghost use Rattle.std.specs.List.{slice_split};
 ghost use Rattle.std.specs.Ordering.{nat_cmp};
 ghost use Rattle.bptree_script.specs.Answers.{text};
-ghost use Rattle.sweep_bptree_callers.specs.Replies.{RepliesToInsert, RepliesToSet, RepliesToSetAt, ShowsEnds, ShowsPairAt, ShowsRank};
-ghost use Rattle.sweep_bptree_callers.specs.Serving.{StoppedByStream, neighbour_answers, neighbour_lines};
+ghost use Rattle.sweep_bptree_callers.specs.Replies.{RepliesToAt, RepliesToEnds, RepliesToGet, RepliesToInsert, RepliesToLen, RepliesToRank, RepliesToSet, RepliesToSetAt};
+ghost use Rattle.sweep_bptree_callers.specs.Serving.{StoppedByStream, beside_answers, beside_lines, put_answers, put_lines, rank_answers, rank_lines};
+ghost use Rattle.bptree_ascent.specs.Failing.{OkIs};
 ghost use Rattle.sweep_bptree.specs.Contents.{has, value, put};
 ghost use Rattle.bptree_keys.specs.Ranges.{between};
 ghost use Rattle.bptree_script.specs.Lines.{ended_lines};
 ghost use Rattle.bptree_script.specs.Sent.{AppendsBeginning};
-ghost use Rattle.bptree_script.specs.Steps.{Run, Step};
-ghost use Rattle.bptree_shape.specs.Shape.{pairs_at};
+ghost use Rattle.bptree_script.specs.Steps.{Step};
+ghost use Rattle.sweep_bptree_callers.specs.Running.{EndsInNodes};
 ghost use Rattle.bptree_ascent.specs.Lending.{written};
 
 use std::alloc::{AllocError, Global};
 use std::io::{Read, Write};
-use sweep_bptree::argument::count::Count;
-use sweep_bptree::argument::{RankArgument, SearchArgument};
 use sweep_bptree::script::{
     Command, CommandOn, End, Reply, ReplyOf, ServeError, exit_status, parts_are_lines, run, serve,
 };
-use sweep_bptree::{BPlusTree, NodeStore, NodeStoreVec};
+use sweep_bptree::{BPlusTree, Count, NodeStore, NodeStoreVec, RankArgument, SearchArgument};
 
 // ---- how a program ends
 
@@ -78,9 +77,8 @@ pub fn puts_and_gets<R: Read, W: Write>(
     reader: &mut R,
     writer: &mut W,
 ) -> Result<(), ServeError>
-    requires { R.remaining reader.old ≡ Some (codes "put 2 20\nput 1 10\nput 2 21\nget 2\nget 3\nlen\nall\nget 01\n\nlen") }
-    ensures { OnOk result (Appends (W.contents writer.old) (W.contents writer.new)
-        (codes "new\nnew\nold 20\n21\nnone\n2\n1 10,2 21\nbad\nbad\n2\n")) }
+    requires { R.remaining reader.old ≡ Some put_lines }
+    ensures { OnOk result (Appends (W.contents writer.old) (W.contents writer.new) put_answers) }
 {
     serve(alloc, reader, writer)
 }
@@ -91,9 +89,8 @@ pub fn places_and_ranks<R: Read, W: Write>(
     reader: &mut R,
     writer: &mut W,
 ) -> Result<(), ServeError>
-    requires { R.remaining reader.old ≡ Some (codes "first\nlast\nat 0\nrank 7\nall\nput 7 70\nput 9 90\nfirst\nlast\nat 0\nat 1\nat 2\nrank 7\nrank 8\nrank 9\n") }
-    ensures { OnOk result (Appends (W.contents writer.old) (W.contents writer.new)
-        (codes "none\nnone\nnone\nout 0\nempty\nnew\nnew\n7 70\n9 90\n7 70\n9 90\nnone\nin 0\nout 1\nin 1\n")) }
+    requires { R.remaining reader.old ≡ Some rank_lines }
+    ensures { OnOk result (Appends (W.contents writer.old) (W.contents writer.new) rank_answers) }
 {
     serve(alloc, reader, writer)
 }
@@ -105,8 +102,8 @@ pub fn neighbours_and_back<R: Read, W: Write>(
     reader: &mut R,
     writer: &mut W,
 ) -> Result<(), ServeError>
-    requires { R.remaining reader.old ≡ Some neighbour_lines }
-    ensures { OnOk result (Appends (W.contents writer.old) (W.contents writer.new) neighbour_answers) }
+    requires { R.remaining reader.old ≡ Some beside_lines }
+    ensures { OnOk result (Appends (W.contents writer.old) (W.contents writer.new) beside_answers) }
 {
     serve(alloc, reader, writer)
 }
@@ -196,7 +193,7 @@ pub fn leaves_its_list_in_the_nodes<S: NodeStore>(
 where
     S::V: Copy,
     S::Argument: SearchArgument<S::K> + RankArgument<S::K>,
-    ensures { IsNone result.1 → (held : List S.K) × Run S.K.cmp S.Argument.selects S.Argument.ranks tree.old.contents [] commands.items result.0.items (pairs_at (S.slots tree.new.store) tree.new.height tree.new.root) held }
+    ensures { IsNone result.1 → EndsInNodes S.slots S.K.cmp S.Argument.selects S.Argument.ranks tree.old tree.new commands.items result.0.items }
 {
     let answered = run(alloc, tree, commands);
     tree.node_store();
@@ -212,8 +209,7 @@ pub fn reply_to_get<S: NodeStore>(
 where
     S::V: Copy,
     S::Argument: SearchArgument<S::K> + RankArgument<S::K>,
-    ensures { IfOk result (λ reply. (reply ≡ Reply.Value (value S.K.cmp tree.old.contents key))
-        × (tree.new.contents ≡ tree.old.contents)) }
+    ensures { IfOk result (RepliesToGet S.K.cmp key tree.old.contents tree.new.contents) }
 {
     reply_to(alloc, tree, Command::Get(key))
 }
@@ -226,8 +222,7 @@ pub fn reply_to_len<S: NodeStore>(
 where
     S::V: Copy,
     S::Argument: SearchArgument<S::K> + RankArgument<S::K>,
-    ensures { IfOk result (λ reply. (reply ≡ Reply.Number (length tree.old.contents))
-        × (tree.new.contents ≡ tree.old.contents)) }
+    ensures { IfOk result (RepliesToLen tree.old.contents tree.new.contents) }
 {
     reply_to(alloc, tree, Command::Len)
 }
@@ -270,7 +265,7 @@ pub fn replies_to_ends(
     alloc: Global,
     tree: &mut NumberTree,
 ) -> Result<(Reply<u64, u64, usize>, Reply<u64, u64, usize>), AllocError>
-    ensures { IfOk result (λ it. ShowsEnds tree.old.contents it × (tree.new.contents ≡ tree.old.contents)) }
+    ensures { IfOk result (RepliesToEnds tree.old.contents tree.new.contents) }
 {
     let first = reply_to(alloc, tree, Command::First)?;
     let last = reply_to(alloc, tree, Command::Last)?;
@@ -283,7 +278,7 @@ pub fn reply_to_at(
     tree: &mut NumberTree,
     place: usize,
 ) -> Result<Reply<u64, u64, usize>, AllocError>
-    ensures { IfOk result (λ reply. ShowsPairAt place tree.old.contents reply × (tree.new.contents ≡ tree.old.contents)) }
+    ensures { IfOk result (RepliesToAt place tree.old.contents tree.new.contents) }
 {
     reply_to(alloc, tree, Command::At(place))
 }
@@ -294,7 +289,7 @@ pub fn reply_to_rank(
     tree: &mut NumberTree,
     key: u64,
 ) -> Result<Reply<u64, u64, usize>, AllocError>
-    ensures { IfOk result (λ reply. ShowsRank key tree.old.contents reply × (tree.new.contents ≡ tree.old.contents)) }
+    ensures { IfOk result (RepliesToRank key tree.old.contents tree.new.contents) }
 {
     reply_to(alloc, tree, Command::Rank(key))
 }
@@ -317,7 +312,7 @@ pub fn first_from(
     tree: &mut NumberTree,
     lo: u64,
 ) -> Result<Option<(u64, u64)>, AllocError>
-    ensures { IfOk result (λ first. first ≡ slice_get (between nat_cmp tree.old.contents (Some lo) None) 0) }
+    ensures { OkIs result (slice_get (between nat_cmp tree.old.contents (Some lo) None) 0) }
 {
     let mut word = Vec::new(alloc);
     word.push(End::Front)?;

@@ -2,43 +2,66 @@
 
 pub mod root {
     pub use sweep_bptree::{
-        BPlusTree, CloneStore, InsertError, Key, NodeStore, NodeStoreVec, argument, script, tree,
+        Argument, BPlusTree, BPlusTreeMap, BPlusTreeSet, CloneStore, Count, Cursor, DescendError,
+        DescendVisit, DescendVisitResult, ExtractGroupSize, FromRef, GroupCount, InsertError, Key,
+        NodeStore, NodeStoreVec, RankArgument, SearchArgument, SelectError, Statistic, Tuple2,
+        VERSION, argument, map, merge_iter, script, set, tree,
     };
 }
 
 pub mod of_argument {
+    pub use sweep_bptree::argument::{
+        Argument, CloneArgument, RankArgument, SearchArgument, count, group,
+    };
+}
+
+pub mod of_count {
     pub use sweep_bptree::argument::count::Count;
+}
+
+pub mod of_group {
     pub use sweep_bptree::argument::group::{ExtractGroupSize, FromRef, GroupCount, Tuple2};
-    pub use sweep_bptree::argument::{Argument, RankArgument, SearchArgument, count, group};
+}
+
+pub mod of_map {
+    pub use sweep_bptree::map::{
+        BPlusTreeMap, IntoIter, IntoKeys, IntoValues, Iter, Keys, MoveError, RetainError,
+        SplitError, Values, law_of_from_iter, laws_of_pages,
+    };
+}
+
+pub mod of_merge_iter {
+    pub use sweep_bptree::merge_iter::{Listed, MergeIterInner, laws_of_merge};
 }
 
 pub mod of_script {
     pub use sweep_bptree::script::{
-        Command, CommandOn, Reply, ReplyOf, ServeError, exit_status, parts_are_lines, run, serve,
+        Command, CommandOn, End, Reply, ReplyOf, ServeError, exit_status, parts_are_lines, run,
+        serve,
+    };
+}
+
+pub mod of_set {
+    pub use sweep_bptree::set::{
+        BPlusTreeSet, Difference, Intersection, IntoIter, Iter, MoveError, ReplaceError,
+        RetainError, SplitError, SymmetricDifference, Union, laws_of_keys, laws_of_two_sets,
+        laws_of_union,
     };
 }
 
 pub mod of_tree {
     pub use sweep_bptree::tree::{
-        Argument, BPlusTree, CloneStore, Compares, DescendError, DescendVisit, DescendVisitResult,
-        EntryRef, EntryRefDetached, InnerMergeResult, InnerNode, InnerNodeId, InsertError, Iter,
-        Key, LeafDeleteResult, LeafNode, LeafNodeId, LeafUpsertResult, NodeId, NodeStore,
-        NodeStoreVec, RankArgument, SearchArgument, SelectError, Statistic, Tuple2, VisitStack,
-        count, group, in_load_order, visit,
+        Argument, BPlusTree, Compares, Cursor, InnerNode, InnerNodeId, IntoIter, Iter, Key,
+        LeafNode, LeafNodeId, NodeId, NodeStore, NodeStoreVec, RankArgument, SearchArgument,
+        SearchHint, Statistic, bulk_load, in_load_order, inner_n, leaf_n, new_empty_leaf,
+        try_cache, visit,
     };
 }
 
-pub mod of_modules {
+pub mod of_bulk_load {
     pub use sweep_bptree::tree::bulk_load::{DeDupKeepLast, DedupByExt};
-    pub use sweep_bptree::tree::compares::Compares;
-    pub use sweep_bptree::tree::entry_ref::{EntryRef, EntryRefDetached, VisitStack};
-    pub use sweep_bptree::tree::inner_node::{InnerMergeResult, InnerNode};
-    pub use sweep_bptree::tree::iterator::Iter;
-    pub use sweep_bptree::tree::leaf_node::{LeafDeleteResult, LeafNode, LeafUpsertResult};
-    pub use sweep_bptree::tree::node_id::{InnerNodeId, LeafNodeId, NodeId};
-    pub use sweep_bptree::tree::node_stores::{CloneStore, NodeStore};
 }
 
-pub mod of_page {
-    pub use sweep_bptree::page::{laws_of_pages, page, page_of, pages};
+pub mod of_visit {
+    pub use sweep_bptree::tree::visit::{DescendError, DescendVisit, DescendVisitResult};
 }

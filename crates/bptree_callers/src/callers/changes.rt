@@ -1,9 +1,9 @@
 //! Callers that put and remove pairs, and write values.
-ghost use Rattle.std.specs.Prelude.{◌≡◌, ◌<◌, ◌-◌, ◌^◌, [], length, true, false, IfOk, OnErr, IfSome, IsOk, OnOk, IsTrue, Some, None, Ok};
+ghost use Rattle.std.specs.Prelude.{◌≡◌, ◌<◌, ◌-◌, ◌^◌, [], length, true, false, IfOk, OnErr, IfSome, OnOk, IsTrue, Some, None, Ok};
 ghost use Rattle.std.specs.declared.cmp.Ordering.TheVariants.{Equal};
 ghost use Rattle.bptree_keys.specs.Contents.{has, value as value_of, put, del};
 ghost use Rattle.bptree_ascent.specs.Lending.{written};
-ghost use Rattle.bptree_keys.specs.Keys.{AllInfallible};
+ghost use Rattle.bptree_ascent.specs.Failing.{NeverFails};
 ghost use Rattle.bptree_tree.specs.Changes.{PopsFirst, PopsLast, RemovesEntry};
 ghost use Rattle.bptree_tree.specs.Whole.{HasSameTop};
 ghost use Rattle.bptree_callers.specs.Words.{AddsBetween, HoldsTheSame, KeepsSlots, Lacks, Loses, PopsFirstOfTwo, PopsLastOfTwo, WritesValue, told_value, StaysWhole};
@@ -56,7 +56,7 @@ fn is_full<S: NodeStore>(tree: &mut BPlusTree<S>, k: S::K, v: S::V) -> (S::K, S:
 // before.
 fn has_room<S: NodeStore>(tree: &mut BPlusTree<S>, k: S::K, v: S::V) -> Option<(S::K, S::V)>
     requires { length tree.old.contents < 2 ^ 64 - 1 }
-    ensures { IfSome result (λ pair. (pair ≡ (k, v)) × (tree.new.contents ≡ tree.old.contents) × (S.slots tree.new.store ≡ S.slots tree.old.store) × HasSameTop tree.new tree.old) }
+    ensures { IfSome result (λ pair. (pair ≡ (k, v)) × StaysWhole S.slots tree.new tree.old) }
 {
     match tree.insert(k, v) {
         Ok(_) => None,
@@ -74,7 +74,7 @@ fn removes<S: NodeStore>(tree: &mut BPlusTree<S>, k: &S::K) -> Result<Option<S::
     ensures less { Lacks S.K.cmp k.now tree.old → Loses S.K.cmp k.now tree.old tree.new }
     ensures slots { Lacks S.K.cmp k.now tree.old → KeepsSlots S.slots tree.new tree.old }
     ensures refused { OnErr result (StaysWhole S.slots tree.new tree.old) }
-    ensures sure { S.Argument.needs_no_memory → AllInfallible S.K.is_infallible → IsOk result }
+    ensures sure { NeverFails S.Argument.needs_no_memory S.K.is_infallible result }
 {
     tree.remove(k)
 }
@@ -82,7 +82,7 @@ fn removes<S: NodeStore>(tree: &mut BPlusTree<S>, k: &S::K) -> Result<Option<S::
 // A tree that was cleared has no pairs. A refusal changes nothing.
 fn clears<S: NodeStore>(tree: &mut BPlusTree<S>) -> Result<(), AllocError>
     ensures empty { OnOk result (tree.new.contents ≡ []) }
-    ensures refused { OnErr result ((tree.new.contents ≡ tree.old.contents) × (S.slots tree.new.store ≡ S.slots tree.old.store) × HasSameTop tree.new tree.old) }
+    ensures refused { OnErr result (StaysWhole S.slots tree.new tree.old) }
 {
     tree.clear()
 }
@@ -125,7 +125,7 @@ fn takes_the_pair_of_a_key<S: NodeStore>(
     ensures value { IfOk result (λ g. told_value g ≡ value_of S.K.cmp tree.old.contents k.now) }
     ensures stored { IfOk result (RemovesEntry S.K.cmp k.now tree.old.contents tree.new.contents) }
     ensures refused { OnErr result (S.slots tree.new.store ≡ S.slots tree.old.store) }
-    ensures sure { S.Argument.needs_no_memory → AllInfallible S.K.is_infallible → IsOk result }
+    ensures sure { NeverFails S.Argument.needs_no_memory S.K.is_infallible result }
 {
     tree.remove_entry(k)
 }
@@ -139,7 +139,7 @@ fn pops_the_first_of_two<S: NodeStore>(tree: &mut BPlusTree<S>) -> Gone<S>
     ensures popped { IfOk result (PopsFirstOfTwo tree.old.contents tree.new.contents) }
     ensures ends { IfOk result (PopsFirst tree.old.contents tree.new.contents) }
     ensures refused { OnErr result (S.slots tree.new.store ≡ S.slots tree.old.store) }
-    ensures sure { S.Argument.needs_no_memory → AllInfallible S.K.is_infallible → IsOk result }
+    ensures sure { NeverFails S.Argument.needs_no_memory S.K.is_infallible result }
 {
     tree.pop_first()
 }
@@ -148,7 +148,7 @@ fn pops_the_last_of_two<S: NodeStore>(tree: &mut BPlusTree<S>) -> Gone<S>
     ensures popped { IfOk result (PopsLastOfTwo tree.old.contents tree.new.contents) }
     ensures ends { IfOk result (PopsLast tree.old.contents tree.new.contents) }
     ensures refused { OnErr result (S.slots tree.new.store ≡ S.slots tree.old.store) }
-    ensures sure { S.Argument.needs_no_memory → AllInfallible S.K.is_infallible → IsOk result }
+    ensures sure { NeverFails S.Argument.needs_no_memory S.K.is_infallible result }
 {
     tree.pop_last()
 }

@@ -5,7 +5,8 @@ ghost use Rattle.std.specs.Option.{option_map};
 ghost use Rattle.bptree_keys.specs.Contents.{has, next, last_member};
 ghost use Rattle.bptree_keys.specs.Neighbours.{IsAfter};
 ghost use Rattle.bptree_tree.specs.Cursor.{cursor_key, pair_after, pair_before};
-ghost use Rattle.bptree_callers.specs.Words.{OkIs, ReadsAt, StepsBackTo, key_before_without, told_key};
+ghost use Rattle.bptree_ascent.specs.Failing.{OkIs};
+ghost use Rattle.bptree_callers.specs.Words.{ReadsAt, StepsBackTo, key_before_without, told_key};
 
 use bptree_keys::contents::laws_of_neighbours;
 use bptree_keys::key::Key;

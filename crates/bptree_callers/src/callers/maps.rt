@@ -448,8 +448,7 @@ fn begins_at_its_key<'a, K: Key, V: Drop, A: Argument<K>>(
     ensures least { IfFound result (λ it. is_lt (K.cmp (cursor_key it.0) k.now) ≡ false) }
     ensures there { has K.cmp map.now k.now ≡ true → FindsOne result (StandsOn K.cmp k.now) }
 {
-    // Read, so that the keys are known to ascend.
-    let _len = map.len();
+    map.recall();
     map.lower_bound(k)
 }
 
@@ -515,8 +514,7 @@ fn finds_a_key_at_its_place<'a, K: Key, V: Drop>(
 ) -> Option<(&'a K, &'a V)>
     ensures { option_map deref_pair result ≡ entry K.cmp map.now k.now }
 {
-    // Read, so that the keys are known to ascend.
-    let _len = map.len();
+    map.recall();
     match map.place_of(k) {
         Some(place) => map.get_at(place),
         None => None,

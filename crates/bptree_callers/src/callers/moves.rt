@@ -82,7 +82,7 @@ fn puts_the_last_of_each_key<K: Key, V: Drop, A: Argument<K>>(
     ensures others { OnOk result (KeepsOthers K.cmp pairs.items map.old map.new) }
     ensures failed { IfErr result (λ error. has K.cmp map.old (pair_of error).0 ≡ false) }
 {
-    let _len = map.len();
+    map.recall();
     map.extend(pairs)
 }
 
@@ -95,7 +95,7 @@ fn holds_what_came<K: Key>(
     ensures held { OnOk result (HoldsEither K.cmp set.old keys.items set.new) }
     ensures failed { IfErr result (λ error. holds K.cmp set.old (pair_of error).0 ≡ false) }
 {
-    let _len = set.len();
+    set.recall();
     set.extend(keys)
 }
 
@@ -191,7 +191,7 @@ fn splits_without_being_full<K: Key, V: Drop, A: Argument<K>>(
 ) -> bool
     ensures { result ≡ true → has K.cmp map.new k.now ≡ false }
 {
-    let _len = map.len();
+    map.recall();
     match map.split_off(k) {
         Ok(_) => true,
         Err(SplitError::NotAll(_, MoveError::NotStored(InsertError::Full(..)))) => unreachable!(),

@@ -5,14 +5,14 @@ ghost use Rattle.bptree_arguments.specs.CountLaws.{count_below};
 ghost use Rattle.bptree_arguments.specs.Groups.{of_group};
 ghost use Rattle.bptree_keys.specs.Contents.{has};
 ghost use Rattle.bptree_callers.specs.Groups.{is_of_group};
-ghost use Rattle.bptree_callers.specs.Words.{LendsAt, OkIs};
+ghost use Rattle.bptree_ascent.specs.Failing.{OkIs};
+ghost use Rattle.bptree_callers.specs.Words.{LendsAt};
 
 use bptree_arguments::argument::Argument;
 use bptree_arguments::count::Count;
 use bptree_arguments::group::FromRef;
 use bptree_keys::key::Key;
-use bptree_maps::map::BPlusTreeMap;
-use bptree_maps::page::{group_page, laws_of_pages, page, page_of, pages};
+use bptree_maps::map::{BPlusTreeMap, laws_of_pages};
 use std::alloc::AllocError;
 
 // The page behind the last one is empty. No memory is asked for.
@@ -21,8 +21,8 @@ fn shows_none_behind_the_last<K: Key, V: Drop>(map: &BPlusTreeMap<K, V, Count>, 
     ensures { result ≡ 0 }
 {
     laws_of_pages::<K, V>();
-    let after = pages(map, s);
-    match page(map, after, s) {
+    let after = map.pages(s);
+    match map.page(after, s) {
         Ok(pairs) => pairs.len(),
         Err(_) => unreachable!(),
     }
@@ -37,7 +37,7 @@ fn begins_with_the_first<K: Key, V: Drop>(
     ensures len { IfOk result (λ answer. answer.0 ≡ min s (length map.now)) }
     ensures first { IfOk result (λ answer. LendsAt answer.1 map.now 0) }
 {
-    let mut pairs = page(map, 0, s)?;
+    let mut pairs = map.page(0, s)?;
     let len = pairs.len();
     Ok((len, pairs.next()))
 }
@@ -48,7 +48,7 @@ fn finds_its_page<K: Key, V: Drop>(map: &BPlusTreeMap<K, V, Count>, k: &K, s: us
     requires there { has K.cmp map.now k.now ≡ true }
     ensures { result ≡ count_below K.cmp k.now (keys_of map.now) / s }
 {
-    match page_of(map, k, s) {
+    match map.page_of(k, s) {
         Ok(Ok(p)) => p,
         Ok(Err(_)) | Err(_) => unreachable!(),
     }
@@ -64,7 +64,7 @@ fn holds_what_is_left_of_a_group<K: Key, V: Drop, A: Argument<K>, G: FromRef<K> 
     requires { 1 ≤ s }
     ensures { OkIs result (min s (length (of_group G.cmp G.group_of group.now map.now) - p * s)) }
 {
-    Ok(group_page(map, group, p, s)?.len())
+    Ok(map.group_page(group, p, s)?.len())
 }
 
 // All pairs of a group have its group, and none is left out.

@@ -8,7 +8,8 @@ ghost use Rattle.bptree_maps.specs.Keys.{holds, gathered, keys_within, keys_with
 ghost use Rattle.bptree_sets.specs.Symmetric.{symmetric};
 ghost use Rattle.bptree_sets.specs.TwoSets.{IsDifference, IsIntersection, IsSymmetricDifference};
 ghost use Rattle.bptree_sets.specs.Union.{union};
-ghost use Rattle.bptree_callers.specs.Words.{AreEndsOfTwo, HoldsEither, LendsKeyAt, OkIs, PopsFirstOfTwo, PopsLastOfTwo, held_between, left_within, left_without, union_of};
+ghost use Rattle.bptree_ascent.specs.Failing.{OkIs};
+ghost use Rattle.bptree_callers.specs.Words.{AreEndsOfTwo, HoldsEither, LendsKeyAt, PopsFirstOfTwo, PopsLastOfTwo, held_between, left_within, left_without, union_of};
 
 use bptree_keys::key::Key;
 use bptree_sets::set::{
@@ -72,7 +73,7 @@ fn holds_what_was_put_in<K: Key>(
     ensures { OkIs result (is_eq (K.cmp k other.now) || holds K.cmp set.old other.now) }
 {
     laws_of_keys::<K>();
-    let _len = set.len();
+    set.recall();
     set.insert(k)?;
     Ok(set.contains(other))
 }
@@ -89,7 +90,7 @@ fn lacks_what_was_taken_out<K: Key>(set: &mut Set<K>, k: &K, other: &K) -> Resul
     ensures { OkIs result (not (is_eq (K.cmp k.now other.now)) && holds K.cmp set.old other.now) }
 {
     laws_of_keys::<K>();
-    let _len = set.len();
+    set.recall();
     set.remove(k)?;
     Ok(set.contains(other))
 }
@@ -232,7 +233,8 @@ fn sets_apart<'a, K: Key>(first: &'a Set<K>, second: &'a Set<K>) -> SymmetricDif
     ensures { IsSymmetricDifference K.cmp first.now second.now (symmetric K.cmp result.0 result.1) }
 {
     laws_of_two_sets::<K>();
-    let _lens = (first.len(), second.len());
+    first.recall();
+    second.recall();
     first.symmetric_difference(second)
 }
 

@@ -6,7 +6,7 @@ ghost use Rattle.bptree_keys.specs.Contents.{has};
 ghost use Rattle.bptree_keys.specs.Ranges.{between};
 ghost use Rattle.bptree_callers.specs.Numbers.{counted_on};
 ghost use Rattle.bptree_tree.specs.Refusal.{HandsBack};
-ghost use Rattle.bptree_callers.specs.Words.{HasValue, between_keys};
+ghost use Rattle.bptree_callers.specs.Words.{HasValue, between_keys, held_between};
 
 use bptree_arguments::argument::Argument;
 use bptree_arguments::count::Count;
@@ -146,6 +146,24 @@ fn has_no_key_beside_itself<K: Key>(set: &BPlusTreeSet<K>, k: &K) -> bool
 {
     let mut keys = set.range_bounds(Bound::Excluded(k), Bound::Excluded(k));
     keys.next().is_none()
+}
+
+// A half-open range has as many pairs as there are between its ends.
+fn counts_the_pairs_in_a_range<K: Key, V: Drop, A: Argument<K>>(
+    map: &BPlusTreeMap<K, V, A>,
+    lo: K,
+    hi: K,
+) -> usize
+    ensures { result ≡ length (between_keys K.cmp map.now lo hi) }
+{
+    map.range_within(lo..hi).len()
+}
+
+// The same of a set.
+fn counts_the_keys_in_a_range<K: Key>(set: &BPlusTreeSet<K>, lo: K, hi: K) -> usize
+    ensures { result ≡ length (held_between K.cmp set.now lo hi) }
+{
+    set.range_within(lo..hi).len()
 }
 
 // Past the end no cursor can stand.

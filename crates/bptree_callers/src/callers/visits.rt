@@ -2,7 +2,8 @@
 ghost use Rattle.std.specs.Prelude.{IfOk, Some};
 ghost use Rattle.bptree_arguments.specs.Visits.{answered};
 ghost use Rattle.bptree_callers.specs.Groups.{group_len};
-ghost use Rattle.bptree_callers.specs.Words.{IsOkOrRefused, NeverMisses, OkIs};
+ghost use Rattle.bptree_ascent.specs.Failing.{OkIs};
+ghost use Rattle.bptree_callers.specs.Words.{IsOkOrRefused, NeverMisses};
 
 use crate::firsts::First;
 use bptree_arguments::group::{GroupCount, laws_of_groups};
@@ -32,7 +33,6 @@ fn sizes_a_group<S: NodeStore<K = (u64, u64), Argument = GroupCount<First>>>(
     ensures refused { IsOkOrRefused result }
 {
     laws_of_groups::<(u64, u64), First>();
-    // Read, so that it is known to fit.
-    let _len = tree.len();
+    tree.recall();
     tree.descend_visit(ExtractGroupSize::new(g))
 }

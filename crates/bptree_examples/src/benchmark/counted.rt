@@ -3,8 +3,7 @@
 use crate::benchmark::numbers::Numbers;
 use crate::benchmark::ordered::{Mapped, add_keys, empty, fill_and_read};
 use crate::benchmark::timing::{Reads, Report, read_each};
-use sweep_bptree::tree::count::Count;
-use sweep_bptree::tree::{BPlusTree, NodeStore, RankArgument, SearchArgument};
+use sweep_bptree::{BPlusTree, Count, NodeStore, RankArgument, SearchArgument};
 
 /// A summary that is a number.
 pub trait Numbered {

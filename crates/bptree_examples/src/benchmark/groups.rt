@@ -3,8 +3,7 @@
 use crate::benchmark::numbers::Numbers;
 use crate::benchmark::ordered::Mapped;
 use crate::benchmark::timing::{Reads, Report, read_each};
-use sweep_bptree::tree::group::Tuple2;
-use sweep_bptree::tree::{BPlusTree, NodeStore, RankArgument, SearchArgument};
+use sweep_bptree::{BPlusTree, NodeStore, RankArgument, SearchArgument, Tuple2};
 
 pub type Pair = (u64, u64);
 

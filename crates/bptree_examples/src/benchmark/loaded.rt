@@ -4,7 +4,9 @@ use crate::benchmark::numbers::Numbers;
 use crate::benchmark::ordered::step_through;
 use crate::benchmark::timing::Report;
 use std::alloc::{AllocError, Global};
-use sweep_bptree::tree::{BPlusTree, CloneArgument, CloneStore, Cursor, NodeStore, in_load_order};
+use sweep_bptree::argument::CloneArgument;
+use sweep_bptree::tree::in_load_order;
+use sweep_bptree::{BPlusTree, CloneStore, Cursor, NodeStore};
 
 /// Pairs of keys, each with itself as its value.
 pub fn pairs_of(alloc: Global, keys: &[u64]) -> Result<Vec<(u64, u64)>, AllocError> {

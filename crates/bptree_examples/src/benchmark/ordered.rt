@@ -4,7 +4,8 @@ use crate::benchmark::numbers::Numbers;
 use crate::benchmark::timing::{Changes, Reads, Report, change_each, read_each};
 use std::alloc::{AllocError, Global};
 use std::collections::BTreeMap;
-use sweep_bptree::tree::{BPlusTree, Iter, Key, NodeStore};
+use sweep_bptree::tree::Iter;
+use sweep_bptree::{BPlusTree, Key, NodeStore};
 
 /// A map from keys to numbers.
 pub trait Mapped<K>: Drop + Sized {

@@ -5,9 +5,7 @@ ghost use Rattle.bptree_script.specs.Answers.{pairs_with, pairs_with_put};
 
 use bptree_requests::{Request, read_request};
 use std::alloc::AllocError;
-use sweep_bptree::BPlusTreeMap;
-use sweep_bptree::tree::InsertError;
-use sweep_bptree::tree::count::Count;
+use sweep_bptree::{BPlusTreeMap, Count, InsertError};
 
 // Puts a pair; in a map with no place for a new key nothing changes.
 fn put(map: &mut BPlusTreeMap<u64, u64, Count>, key: u64, value: u64) -> Result<(), AllocError>

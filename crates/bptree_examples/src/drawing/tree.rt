@@ -3,8 +3,8 @@ ghost use Rattle.std.specs.Prelude.{◌≤◌};
 
 use crate::drawing::text::Text;
 use std::alloc::{AllocError, Global};
-use sweep_bptree::tree::count::Count;
-use sweep_bptree::tree::{BPlusTree, InnerNode, InnerNodeId, LeafNodeId, NodeId, NodeStore};
+use sweep_bptree::tree::{InnerNode, InnerNodeId, LeafNodeId, NodeId};
+use sweep_bptree::{BPlusTree, Count, NodeStore};
 
 /// How many of the first keys, or children, of a long node are drawn, and how many of its last.
 const ENDS: usize = 2;

@@ -6,8 +6,7 @@ ghost use Rattle.std.proofs.Common.{rules};
 
 use crate::filling::{filled, removed};
 use std::alloc::{AllocError, Global};
-use sweep_bptree::BPlusTreeMap;
-use sweep_bptree::tree::Argument;
+use sweep_bptree::{Argument, BPlusTreeMap};
 
 /// The number of even keys below a node.
 #[derive(Clone, Copy, Default)]

@@ -9,8 +9,7 @@ ghost use Rattle.bptree_examples.specs.Dates.{day_with, in_year, month_with, yea
 use crate::examples::calendar::day_count;
 use crate::filling::{filled, removed};
 use std::alloc::{AllocError, Global};
-use sweep_bptree::BPlusTreeMap;
-use sweep_bptree::tree::{Argument, DescendError, DescendVisit, DescendVisitResult, Key};
+use sweep_bptree::{Argument, BPlusTreeMap, DescendError, DescendVisit, DescendVisitResult, Key};
 
 /// A day of the calendar. Months and days are counted from 1.
 #[derive(Clone, Copy, PartialEq, Eq, PartialOrd, Ord, Default)]
@@ -237,8 +236,7 @@ pub fn days_of(calendar: &Calendar, year: u16) -> Result<Option<usize>, DescendE
     ensures counted { IfOk result (λ days. days ≡ Some (in_year year (keys_of calendar.now))) }
     ensures refused { IfErr result (λ error. error ≡ OutOfMemory) }
 {
-    // Read, so that it is known to fit.
-    let _len = calendar.len();
+    calendar.recall();
     calendar.descend_visit(CountForYear::new(year))
 }
 

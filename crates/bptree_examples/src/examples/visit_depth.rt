@@ -2,8 +2,7 @@
 ghost use Rattle.bptree_examples.specs.Depths.{IsDepth};
 
 use std::alloc::{AllocError, Global};
-use sweep_bptree::BPlusTreeMap;
-use sweep_bptree::tree::{Argument, DescendVisit, DescendVisitResult, Key};
+use sweep_bptree::{Argument, BPlusTreeMap, DescendVisit, DescendVisitResult, Key};
 
 /// Counts the nodes on the way to the first leaf. Any number from 1 on is allowed.
 #[derive(Default, Drop)]

@@ -6,9 +6,7 @@ ghost use Rattle.bptree_examples.specs.Items.{items_in, number_at};
 
 use crate::filling::filled;
 use std::alloc::{AllocError, Global};
-use sweep_bptree::BPlusTreeMap;
-use sweep_bptree::tree::group::{ExtractGroupSize, FromRef, GroupCount};
-use sweep_bptree::tree::{DescendError, Key};
+use sweep_bptree::{BPlusTreeMap, DescendError, ExtractGroupSize, FromRef, GroupCount, Key};
 
 /// An item of a group. The items of a group stand side by side.
 #[derive(Clone, Copy, PartialEq, Eq, PartialOrd, Ord)]
@@ -66,8 +64,7 @@ pub fn group_len(items: &Items, group: u32) -> Result<Option<usize>, DescendErro
     ensures counted { IfOk result (λ it. it ≡ Some (length (items_in group items.now))) }
     ensures refused { IfErr result (λ error. error ≡ OutOfMemory) }
 {
-    // Read, so that it is known to fit.
-    let _len = items.len();
+    items.recall();
     items.descend_visit(ExtractGroupSize::new(Group(group)))
 }
 

@@ -7,9 +7,7 @@ ghost use Rattle.bptree_examples.specs.Ranks.{rank_in};
 use crate::filling::filled;
 use std::alloc::{AllocError, Global};
 use std::cmp::Reverse;
-use sweep_bptree::BPlusTreeMap;
-use sweep_bptree::tree::Key;
-use sweep_bptree::tree::count::Count;
+use sweep_bptree::{BPlusTreeMap, Count, Key};
 
 /// A score and who has it. The greatest score comes first, and of equal scores the least player.
 #[derive(Clone, Copy, PartialEq, Eq, PartialOrd, Ord)]

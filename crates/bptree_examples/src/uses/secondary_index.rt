@@ -7,8 +7,7 @@ ghost use Rattle.bptree_examples.specs.EntryMoves.{FollowsRow, RowHas, StaysOrPu
 
 use crate::filling::filled;
 use std::alloc::{AllocError, Global};
-use sweep_bptree::BPlusTreeMap;
-use sweep_bptree::tree::Key;
+use sweep_bptree::{BPlusTreeMap, Key};
 
 /// A value and the number of a row that has it.
 #[derive(Clone, Copy, PartialEq, Eq, PartialOrd, Ord)]
@@ -53,8 +52,7 @@ pub fn move_entry(index: &mut Index, old: Entry, new: Entry) -> Result<(), Alloc
     ensures kept { OnOk result (old ≡ new → index.new ≡ put ⟦<Entry as Ord>⟧.cmp index.old new tt) }
     ensures refused { OnErr result (StaysOrPuts ⟦<Entry as Ord>⟧.cmp index.old index.new new) }
 {
-    // Read, so that it is known to ascend.
-    let _len = index.len();
+    index.recall();
     let was = match index.insert(new, ()) {
         Ok(was) => was,
         Err(_) => return Err(AllocError),

@@ -6,8 +6,7 @@ ghost use Rattle.bptree_examples.specs.Beside.{values_beside};
 
 use crate::filling::filled;
 use std::alloc::{AllocError, Global};
-use sweep_bptree::BPlusTreeMap;
-use sweep_bptree::tree::{BPlusTree, Cursor, NodeStore};
+use sweep_bptree::{BPlusTree, BPlusTreeMap, Cursor, NodeStore};
 
 /// The number of a segment at each height.
 pub type Line = BPlusTreeMap<u64, u32>;

@@ -5,8 +5,7 @@ ghost use Rattle.bptree_examples.specs.Sales.{start_of_day, sum_of_amounts, take
 
 use crate::filling::filled;
 use std::alloc::{AllocError, Global};
-use sweep_bptree::BPlusTreeMap;
-use sweep_bptree::tree::{Argument, Key};
+use sweep_bptree::{Argument, BPlusTreeMap, Key};
 
 /// A sale. Its amount is in the key, since a summary is of keys alone; day and number come first,
 /// and so give the order.

@@ -1,13 +1,14 @@
-//! The pairs of a map between two bounds.
+//! The pairs of a map between two bounds, and in a range.
 ghost use Rattle.std.specs.Prelude.{◌≡◌};
 ghost use Rattle.std.specs.Map.Iter.{ShowsInOrder, deref_pair};
 ghost use Rattle.bptree_keys.specs.Contents.{IsAscending};
+ghost use Rattle.bptree_ranges.specs.Bounds.{between_bounds};
 ghost use Rattle.bptree_tree.specs.Entries.{pairs_within};
 
 use super::{BPlusTreeMap, Iter};
 use bptree_arguments::argument::Argument;
 use bptree_keys::key::Key;
-use std::ops::Bound;
+use std::ops::{Bound, RangeBounds};
 
 impl<K: Key, V: Drop, A: Argument<K>> BPlusTreeMap<K, V, A> {
     /// The pairs from a start on up to an end, in the order of their keys: each bound takes the
@@ -21,5 +22,20 @@ impl<K: Key, V: Drop, A: Argument<K>> BPlusTreeMap<K, V, A> {
         ensures runs { ShowsInOrder (deref_pair {K = K} {X = V}) }
     {
         Iter::new(self.inner.range_bounds(lo, hi))
+    }
+
+    /// The pairs whose keys are in a range, in the order of their keys: any `RangeBounds` of keys,
+    /// as `a..b`, `a..=b`, `a..`, `..b` and `..`. If the range runs backwards, there are no pairs.
+    ///
+    /// Of an inclusive range that an iteration has exhausted, nothing is promised but the order.
+    /// One root-to-leaf descent for each end that the range has, O(log n). It allocates nothing,
+    /// and neither do the steps, so it never fails.
+    pub fn range_within<R: RangeBounds<K>>(&self, range: R) -> Iter<'_, K, V, A>
+        ensures rest { R.has_bounds range
+            → result ≡ between_bounds K.cmp self.now (R.start_bound range) (R.end_bound range) }
+        ensures ascending { IsAscending K.cmp result }
+        ensures runs { ShowsInOrder (deref_pair {K = K} {X = V}) }
+    {
+        self.range_bounds(range.start_bound(), range.end_bound())
     }
 }

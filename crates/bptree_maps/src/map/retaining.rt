@@ -1,5 +1,6 @@
 //! The pairs of a map that a closure keeps, and those outside a range.
 ghost use Rattle.std.specs.Prelude.{◌≡◌, length, IfErr, IfOk, OnErr, OnOk};
+ghost use Rattle.bptree_ascent.specs.Failing.{OkIs};
 ghost use Rattle.bptree_maps.specs.Retaining.{IsRetained, IsRetainRefused};
 ghost use Rattle.bptree_tree.specs.RangeRemoval.{outside, FirstsBetweenLeft, KeepsAllIfNone, KeepsOutside};
 ghost use Rattle.bptree_tree.specs.Entries.{pairs_between};
@@ -59,7 +60,7 @@ impl<K: Key, V: Drop, A: Argument<K>> BPlusTreeMap<K, V, A> {
         hi: Option<&'b K>,
     ) -> Result<usize, AllocError>
         ensures rest { IfOk result (λ _. KeepsOutside K.cmp lo.entry hi.entry self.old self.new) }
-        ensures count { IfOk result (λ n. n ≡ length (pairs_between K.cmp self.old lo.entry hi.entry)) }
+        ensures count { OkIs result (length (pairs_between K.cmp self.old lo.entry hi.entry)) }
         ensures empty { KeepsAllIfNone K.cmp lo.entry hi.entry self.old self.new result }
         ensures err { OnErr result (FirstsBetweenLeft K.cmp lo.entry hi.entry self.old self.new) }
     {

@@ -9,7 +9,7 @@ ghost use Rattle.bptree_nodes.specs.Inner.{Gives};
 
 use bptree_keys::compares::Compares;
 use bptree_keys::node_id::NodeId;
-use bptree_nodes::inner_node::{InnerMergeResult, InnerNode};
+use bptree_nodes::inner_node::InnerNode;
 use std::alloc::{AllocError, Global};
 
 // A shell that takes its first child, and then an entry, is a node of one key.
@@ -70,13 +70,6 @@ fn tells_its_bounds<K: Drop, A: Drop>(node: &InnerNode<K, A>) -> ((bool, bool), 
 {
     let room = usize::from(InnerNode::<K, A>::max_capacity()) - node.len();
     ((node.able_to_lend(), node.is_full()), room)
-}
-
-// The parts of a split and the key that goes up are all keys of a full node and the new one.
-fn splits_into_all<K: Drop, A: Drop>() -> usize
-    ensures { result ≡ 65 }
-{
-    InnerNode::<K, A>::split_origin_size() + 1 + InnerNode::<K, A>::split_new_size()
 }
 
 // The keys and the summaries, and each by its place.
@@ -183,19 +176,6 @@ fn pops_what_was_pushed_in_front<K: Drop, A: Drop>(
 {
     node.push_front(key, child, argument);
     node.pop_front()
-}
-
-// A node of two keys that loses the first: the child before it stays, and the one behind goes. Then
-// it is too small.
-fn removes_the_right_child<K: Drop, A: Drop>(node: &mut InnerNode<K, A>) -> (InnerMergeResult, K)
-    requires { 0 < length node.old.keys }
-    ensures key { (first : K) → (rest : List K) → node.old.keys ≡ first ∷ rest → (result.1 ≡ first) × (node.new.keys ≡ rest) }
-    ensures children { (first second : NodeId) → (rest : List NodeId) → node.old.children ≡ first ∷ second ∷ rest → node.new.children ≡ first ∷ rest }
-    ensures arguments { (first second : A) → (rest : List A) → node.old.arguments ≡ first ∷ second ∷ rest → node.new.arguments ≡ first ∷ rest }
-    ensures minimum { length node.new.keys ≡ 16 → result.0 ≡ InnerMergeResult.Done }
-    ensures below_minimum { length node.new.keys ≡ 15 → result.0 ≡ InnerMergeResult.UnderSize }
-{
-    node.remove_slot_with_right(0)
 }
 
 // A full node that is split: each part has 32 keys, and the key between the parts goes up. A new

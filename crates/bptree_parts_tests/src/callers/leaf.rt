@@ -1,5 +1,5 @@
 //! Callers of a leaf.
-ghost use Rattle.std.specs.Prelude.{◌≡◌, ◌<◌, ◌≤◌, ◌+◌, ◌-◌, ◌∷◌, ◌++◌, [], ℕ, List, Ok, Err, Some, None, true, false, length, take, drop, slice_get, remove, IfOk, IfSome, IsSomeAnd, option_copied};
+ghost use Rattle.std.specs.Prelude.{◌≡◌, ◌<◌, ◌≤◌, ◌+◌, ◌-◌, ◌∷◌, ◌++◌, [], List, Ok, Err, Some, None, true, false, length, take, drop, slice_get, IfOk, IfSome, IsSomeAnd, option_copied};
 ghost use Rattle.std.specs.declared.cmp.Ordering.TheVariants.{Less, Equal, Greater};
 ghost use Rattle.std.specs.List.{AllZip};
 ghost use Rattle.std.specs.Iterator.{Yields, YieldsThen};
@@ -7,9 +7,9 @@ ghost use Rattle.std.specs.Vec.Iter.{into_iter_items};
 ghost use Rattle.bptree_keys.specs.Contents.{IsAscending, below, has, value as value_of, put};
 ghost use Rattle.bptree_keys.specs.declared.node_id.LeafNodeId.{LeafNodeId};
 
-use bptree_keys::compares::Compares;
+use bptree_keys::compares::{Compares, SearchHint};
 use bptree_keys::node_id::LeafNodeId;
-use bptree_nodes::leaf_node::{LeafDeleteResult, LeafNode, LeafUpsertResult};
+use bptree_nodes::leaf_node::LeafNode;
 use std::alloc::{AllocError, Global};
 use std::cmp::Ordering;
 use std::vec::IntoIter;
@@ -145,21 +145,6 @@ fn replaces_the_second<K: Drop, V: Drop>(leaf: &mut LeafNode<K, V>, value: V) ->
     leaf.replace_value(1, value)
 }
 
-// At a place where a key was found the value is written, and at one to insert at nothing is.
-fn writes_where_it_was_found<K: Drop, V: Drop>(
-    leaf: &mut LeafNode<K, V>,
-    slot: Result<usize, usize>,
-    value: V,
-)
-    requires { IfOk slot (λ i. i < length leaf.old.pairs) }
-    ensures found { (first second : K × V) → (rest : List (K × V)) → slot ≡ Ok 1 → leaf.old.pairs ≡ first ∷ second ∷ rest → leaf.new ≡ record leaf.old { pairs = first ∷ (second.0, value) ∷ rest } }
-    ensures none { (i : ℕ) → slot ≡ Err i → leaf.new ≡ leaf.old }
-{
-    if let Some(there) = leaf.value_if_present(slot) {
-        *there = value;
-    }
-}
-
 // A search that finds a key finds an equal one, in whatever order the pairs stand.
 fn finds_an_equal_key<K: Ord + Drop, V: Drop>(leaf: &LeafNode<K, V>, key: &K) -> Option<Ordering>
     ensures { IfSome result (λ order. order ≡ Equal) }
@@ -183,7 +168,9 @@ fn counts_smaller_keys<K: Ord + Drop, V: Drop>(
     ensures count { result.2 ≤ 7 }
 {
     let mut compares = Compares::new();
-    let counted = leaf.locate_slot_counted(key, &mut compares).err();
+    let counted = leaf
+        .locate_slot_counted(key, SearchHint::Near, &mut compares)
+        .err();
     (leaf.locate_slot(key).err(), counted, compares.count())
 }
 
@@ -198,7 +185,9 @@ fn reads_the_value<'a, K: Ord + Drop, V: Drop>(
     ensures count { result.2 ≤ 7 }
 {
     let mut compares = Compares::new();
-    let counted = leaf.locate_slot_with_value_counted(key, &mut compares).1;
+    let counted = leaf
+        .locate_slot_with_value_counted(key, SearchHint::Near, &mut compares)
+        .1;
     let value = leaf.locate_slot_with_value(key).1;
     (value, counted, compares.count())
 }
@@ -211,41 +200,6 @@ fn tells_its_range_in_two<K: Ord + Drop, V: Drop>(leaf: &LeafNode<K, V>, key: &K
     let mut compares = Compares::new();
     let within = leaf.in_range_counted(key, &mut compares);
     (within == leaf.in_range(key), compares.count())
-}
-
-// A pair that is put where there is room: the contents are those of a map, and an old value is
-// handed back.
-fn puts_a_pair<K: Ord + Drop, V: Drop>(leaf: &mut LeafNode<K, V>, key: K, value: V) -> Option<V>
-    requires ascending { IsAscending K.cmp leaf.old.pairs }
-    requires room { length leaf.old.pairs < 64 }
-    ensures contents { leaf.new ≡ record leaf.old { pairs = put K.cmp leaf.old.pairs key value } }
-    ensures replaced { IfSome result (λ old. value_of K.cmp leaf.old.pairs key ≡ Some old) }
-    ensures is_new { result ≡ None → has K.cmp leaf.old.pairs key ≡ false }
-{
-    match leaf.try_upsert(key, value) {
-        LeafUpsertResult::Updated(old) => Some(old),
-        LeafUpsertResult::Inserted => None,
-        LeafUpsertResult::IsFull(..) => None,
-    }
-}
-
-// A full leaf hands a new pair back with its place, and stays.
-fn hands_back_what_is_too_much<K: Ord + Drop, V: Drop>(
-    leaf: &mut LeafNode<K, V>,
-    key: K,
-    value: V,
-) -> Option<(usize, K, V)>
-    requires ascending { IsAscending K.cmp leaf.old.pairs }
-    requires full { length leaf.old.pairs ≡ 64 }
-    requires absent { value_of K.cmp leaf.old.pairs key ≡ None }
-    ensures back { result ≡ Some (length (below K.cmp leaf.old.pairs key), key, value) }
-    ensures leaf { leaf.new ≡ leaf.old }
-{
-    match leaf.try_upsert(key, value) {
-        LeafUpsertResult::IsFull(place, key, value) => Some((place, key, value)),
-        LeafUpsertResult::Updated(_) => None,
-        LeafUpsertResult::Inserted => None,
-    }
 }
 
 // A pair that is put at a slot is the one that is removed there, and the leaf is as before.
@@ -277,21 +231,6 @@ fn pushes_behind_all<K: Drop, V: Drop>(leaf: &mut LeafNode<K, V>, key: K, value:
     place
 }
 
-// A leaf of more than 16 pairs gives up the one at a slot, and one of 16 stays.
-fn deletes_above_the_minimum<K: Drop, V: Drop>(
-    leaf: &mut LeafNode<K, V>,
-    slot: usize,
-) -> Option<(K, V)>
-    requires { slot < length leaf.old.pairs }
-    ensures stays { length leaf.old.pairs ≡ 16 → (result ≡ None) × (leaf.new ≡ leaf.old) }
-    ensures deleted { length leaf.old.pairs ≡ 17 → (result ≡ slice_get leaf.old.pairs slot) × (leaf.new ≡ record leaf.old { pairs = remove leaf.old.pairs slot }) }
-{
-    match leaf.try_delete_at(slot) {
-        LeafDeleteResult::Done(pair) => Some(pair),
-        LeafDeleteResult::UnderSize(_) => None,
-    }
-}
-
 // The last pair, and the pairs before it.
 #[tactic(auto, using(bptree_nodes::proofs::Pairs::last_apart))]
 fn pops_the_last<K: Drop, V: Drop>(leaf: &mut LeafNode<K, V>) -> (K, V)
@@ -308,21 +247,6 @@ fn pops_the_first<K: Drop, V: Drop>(leaf: &mut LeafNode<K, V>) -> (K, V)
     ensures { (first : K × V) → (rest : List (K × V)) → leaf.old.pairs ≡ first ∷ rest → (result ≡ first) × (leaf.new ≡ record leaf.old { pairs = rest }) }
 {
     leaf.pop_front()
-}
-
-// The first pair gives way to one at the end, and to one in its own place.
-fn puts_at_the_end<K: Drop, V: Drop>(leaf: &mut LeafNode<K, V>, item: (K, V)) -> (K, V)
-    requires { 0 < length leaf.old.pairs }
-    ensures { (first : K × V) → (rest : List (K × V)) → leaf.old.pairs ≡ first ∷ rest → (result ≡ first) × (leaf.new ≡ record leaf.old { pairs = rest ++ item ∷ [] }) }
-{
-    leaf.delete_with_push(0, item)
-}
-
-fn puts_at_the_front<K: Drop, V: Drop>(leaf: &mut LeafNode<K, V>, item: (K, V)) -> (K, V)
-    requires { 1 < length leaf.old.pairs }
-    ensures { (first second : K × V) → (rest : List (K × V)) → leaf.old.pairs ≡ first ∷ second ∷ rest → (result ≡ second) × (leaf.new ≡ record leaf.old { pairs = item ∷ first ∷ rest }) }
-{
-    leaf.delete_with_push_front(1, item)
 }
 
 // A leaf that is cut keeps its links, and merged again it has the pairs that it had.

@@ -3,7 +3,9 @@ ghost use Rattle.std.specs.Prelude.{◌≡◌, ◌≤◌, ◌∷◌, [], length,
 ghost use Rattle.std.specs.declared.cmp.Ordering.TheVariants.{Less, Equal, Greater};
 ghost use Rattle.std.specs.List.Sorted.{IsStrictlySortedBy};
 
-use bptree_keys::compares::{Compares, count_upto_counted, locate_below_counted, locate_counted};
+use bptree_keys::compares::{
+    Compares, SearchHint, count_upto_counted, locate_counted, locate_hinted_counted,
+};
 use bptree_keys::key::Key;
 use std::alloc::AllocError;
 use std::cmp::Ordering;
@@ -23,7 +25,6 @@ fn counts_two<K: Ord>(a: &K, b: &K) -> (Ordering, Ordering, usize)
 {
     let mut compares = Compares::new();
     let first = compares.compare(a, b);
-    compares.go_below(3);
     let second = compares.compare(b, a);
     (first, second, compares.count())
 }
@@ -40,8 +41,8 @@ fn finds_in_seven<K: Ord>(keys: &[K], key: &K, levels: usize) -> (Result<usize, 
     ensures past { (x y : K) → keys.now ≡ x ∷ y ∷ [] → K.cmp x key.now ≡ Less → K.cmp y key.now ≡ Less → result.0 ≡ Err 2 }
     ensures count { result.1 ≤ 7 }
 {
-    let mut compares = Compares::below(levels);
-    let place = locate_below_counted(keys, key, &mut compares);
+    let mut compares = Compares::new();
+    let place = locate_hinted_counted(keys, key, SearchHint::below(levels), &mut compares);
     (place, compares.count())
 }
 
@@ -53,8 +54,8 @@ fn finds_from_the_end<K: Ord>(keys: &[K], key: &K) -> (Result<usize, usize>, usi
     ensures first { (x y : K) → keys.now ≡ x ∷ y ∷ [] → K.cmp x key.now ≡ Equal → result.0 ≡ Ok 0 }
     ensures count { result.1 ≤ 7 }
 {
-    let mut compares = Compares::at_end();
-    let place = locate_below_counted(keys, key, &mut compares);
+    let mut compares = Compares::new();
+    let place = locate_hinted_counted(keys, key, SearchHint::Last, &mut compares);
     (place, compares.count())
 }
 

@@ -14,7 +14,9 @@ use bptree_keys::node_id::{InnerNodeId, LeafNodeId};
 use bptree_nodes::inner_node::InnerNode;
 use bptree_nodes::leaf_node::LeafNode;
 use bptree_stores::node_store_vec::NodeStoreVec;
-use bptree_stores::node_stores::{CloneStore, NodeStore};
+use bptree_stores::node_stores::{
+    CloneStore, NodeStore, inner_n, leaf_n, new_empty_leaf, try_cache,
+};
 use std::alloc::{AllocError, Global};
 
 // A new store has nothing under any number, and says so.
@@ -50,7 +52,7 @@ fn is_not_empty_with_a_held_number<S: NodeStore>(store: &S) -> bool
 fn knows_the_sizes<S: NodeStore>() -> (u16, u16)
     ensures { result ≡ (64, 64) }
 {
-    (S::inner_n(), S::leaf_n())
+    (inner_n::<S>(), leaf_n::<S>())
 }
 
 // A new node stands under a number apart from one that is held, which stays held. A refusal hands
@@ -137,7 +139,7 @@ pub fn starts_a_leaf<S: NodeStore>(
     ensures others { IfOk result (λ id. (other : ℕ) → other ≢ id.0 → (S.slots store.new).leaf other ≡ (S.slots store.old).leaf other) }
     ensures inner { (S.slots store.new).inner ≡ (S.slots store.old).inner }
 {
-    let id = store.new_empty_leaf()?;
+    let id = new_empty_leaf(store)?;
     store.get_mut_leaf(id).insert_at(0, key, value);
     Ok(id)
 }
@@ -217,7 +219,7 @@ fn trusts_the_hint<S: NodeStore>(store: &S, any: LeafNodeId, key: &S::K) -> Opti
     ensures { IfSome result (λ holds. holds ≡ true) }
 {
     store.cache_leaf(any);
-    let id = store.try_cache(key)?;
+    let id = try_cache(store, key)?;
     Some(store.get_leaf(id).in_range(key))
 }
 

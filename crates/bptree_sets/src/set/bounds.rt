@@ -1,4 +1,4 @@
-//! The keys of a set between two bounds.
+//! The keys of a set between two bounds, and in a range.
 ghost use Rattle.std.specs.Prelude.{◌≡◌};
 ghost use Rattle.std.specs.List.Sorted.{IsStrictlySortedBy};
 ghost use Rattle.std.specs.Map.Iter.{ShowsInOrder, deref};
@@ -8,7 +8,7 @@ ghost use Rattle.bptree_ranges.specs.Bounds.{bound_copied as given};
 use super::{BPlusTreeSet, Iter};
 use bptree_keys::key::Key;
 use bptree_maps::map::Keys;
-use std::ops::Bound;
+use std::ops::{Bound, RangeBounds};
 
 impl<K: Key> BPlusTreeSet<K> {
     /// The keys from a start on up to an end, in their order: each bound takes its key in, leaves
@@ -22,5 +22,21 @@ impl<K: Key> BPlusTreeSet<K> {
         ensures runs { ShowsInOrder (deref {X = K}) }
     {
         Keys::new(self.map.range_bounds(lo, hi))
+    }
+
+    /// The keys in a range, in their order: any `RangeBounds` of keys, as `a..b`, `a..=b`, `a..`,
+    /// `..b` and `..`. If the range runs backwards, there are no keys.
+    ///
+    /// Of an inclusive range that an iteration has exhausted, nothing is promised but the order.
+    /// One root-to-leaf descent for each end that the range has, O(log n). It allocates nothing,
+    /// and neither do the steps, so it never fails.
+    pub fn range_within<R: RangeBounds<K>>(&self, range: R) -> Iter<'_, K>
+        ensures rest { R.has_bounds range
+            → result ≡ keys_between_bounds K.cmp self.now (R.start_bound range)
+            (R.end_bound range) }
+        ensures ascending { IsStrictlySortedBy K.cmp result }
+        ensures runs { ShowsInOrder (deref {X = K}) }
+    {
+        self.range_bounds(range.start_bound(), range.end_bound())
     }
 }

@@ -53,8 +53,7 @@ impl<K: Key> BPlusTreeSet<K> {
         ensures err { IfErr result (IsNotReplaced K.cmp k self.old self.new) }
         ensures kind { IfErr result (IsReplaceFailure K.cmp usize.MAX k self.old self.new) }
     {
-        // Read, so that the length is known to fit.
-        let _len = self.len();
+        self.recall();
         match self.take(&k) {
             Ok(gone) => match self.insert(k) {
                 Ok(_) => Ok(gone),

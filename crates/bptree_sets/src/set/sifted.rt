@@ -99,8 +99,7 @@ impl<'a, K: Key> Sifted<'a, K, Shared> {
         ensures rest { result ≡ (first.now, second.now) }
         ensures ascending { IsStrictlySortedBy K.cmp (keys_within K.cmp first.now second.now) }
     {
-        // Read, so that it is known to ascend.
-        let _len = first.len();
+        first.recall();
         Sifted {
             by: By::Fetch(second.iter()),
             other: first,

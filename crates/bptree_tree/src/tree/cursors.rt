@@ -8,8 +8,7 @@ ghost use Rattle.bptree_tree.specs.Entries.{at_least};
 use crate::cursor::Cursor;
 use crate::tree::BPlusTree;
 use bptree_descents::neighbours::{self, Found};
-use bptree_keys::compares::Compares;
-use bptree_shape::nodes::Position;
+use bptree_keys::node_id::Position;
 use bptree_stores::node_stores::NodeStore;
 use std::alloc::AllocError;
 
@@ -36,20 +35,14 @@ impl<S: NodeStore> BPlusTree<S> {
         ensures cursor { IfOk result (λ answer. IsSomeAnd answer (PointsAtKey S.K.cmp self.now.contents k.now)) }
         ensures sure { S.K.is_infallible k.now → IsOk result }
     {
-        let nodes = &self.nodes;
-        let leaf = nodes.leaf_for(k);
-        let mut compares = Compares::below(nodes.height);
-        let (slot, value) = nodes
-            .store
-            .get_leaf(leaf)
-            .locate_slot_with_value_counted(k, &mut compares);
-        Ok(Some((Cursor::at(Position { leaf, slot }, k)?, value)))
+        let (at, value) = self.place_with_value(k);
+        Ok(Some((Cursor::at(at, k)?, value)))
     }
 
     /// A cursor on the least key that is not below `k`, and the value there. It takes what a clone
     /// of that key takes, and where there is none it takes nothing.
     ///
-    /// It costs what `get` does, and where `k` itself is not there one more search of its leaf.
+    /// It costs what `get` does.
     pub fn lower_bound(&self, k: &S::K) -> Result<Option<(Cursor<S::K>, &S::V)>, AllocError>
         ensures cursor { IfOk result (PointsAt S.K.cmp (at_least S.K.cmp self.now.contents k.now)) }
         ensures value { IfOk result (ShowsValueOf (at_least S.K.cmp self.now.contents k.now)) }
@@ -71,6 +64,16 @@ impl<S: NodeStore> BPlusTree<S> {
     {
         let leaf = self.nodes.leaf_for(k);
         self.cursor_after(Position { leaf, slot: 0 }, k)
+    }
+
+    // The position of a key, or where it would be inserted, and the value at the key if it is there.
+    fn place_with_value(&self, k: &S::K) -> (Position, Option<&S::V>)
+        ensures { option_copied result.1 ≡ value S.K.cmp self.now.contents k.now }
+    {
+        match self.find(k) {
+            Ok((at, (_, value))) => (at, Some(value)),
+            Err(at) => (at, None),
+        }
     }
 
     // A cursor on a clone of the key of a pair that was found, and the value there.
@@ -134,10 +137,7 @@ impl<S: NodeStore> BPlusTree<S> {
     fn place_from(&self, k: &S::K) -> Found<'_, S::K, S::V>
         ensures { found_pair result ≡ at_least S.K.cmp self.now.contents k.now }
     {
-        match self.find(k) {
-            Ok(found) => Some(found),
-            Err(at) => self.place_after(at, k),
-        }
+        neighbours::pair_at_least(&self.nodes, k)
     }
 
     fn place_before(&self, at: Position, key: &S::K) -> Found<'_, S::K, S::V>

@@ -6,8 +6,8 @@ ghost use Rattle.bptree_tree.specs.Entries.{IsFoundAt, entry};
 ghost use Rattle.std.specs.Map.Iter.{deref_pair};
 
 use crate::tree::BPlusTree;
-use bptree_keys::compares::Compares;
-use bptree_shape::nodes::Position;
+use bptree_descents::neighbours::locate;
+use bptree_keys::node_id::Position;
 use bptree_stores::node_stores::NodeStore;
 
 impl<S: NodeStore> BPlusTree<S> {
@@ -28,19 +28,16 @@ impl<S: NodeStore> BPlusTree<S> {
         }
     }
 
-    // The pair whose key equals `k`, with the leaf and the slot where it stands; else the leaf that
-    // can hold the key, and the slot where it would stand.
+    // The pair whose key equals `k`, with its position; else the position where it would be inserted.
     #[inline(always)]
     pub(crate) fn find(&self, k: &S::K) -> Result<(Position, (&S::K, &S::V)), Position>
         ensures found { IfOk result (IsFoundAt S.K.cmp self.now.contents k.now) }
         ensures absent { IfErr result (λ _. has S.K.cmp self.now.contents k.now ≡ false) }
     {
         let nodes = &self.nodes;
-        let id = nodes.leaf_for(k);
-        let leaf = nodes.store.get_leaf(id);
-        match leaf.locate_slot_counted(k, &mut Compares::below(nodes.height)) {
-            Ok(slot) => Ok((Position { leaf: id, slot }, leaf.data_at(slot))),
-            Err(slot) => Err(Position { leaf: id, slot }),
+        match locate(nodes, k) {
+            Ok(at) => Ok((at, nodes.store.get_leaf(at.leaf).data_at(at.slot))),
+            Err(at) => Err(at),
         }
     }
 

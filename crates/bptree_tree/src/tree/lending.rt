@@ -1,5 +1,5 @@
 //! Values of a tree that are lent for writing.
-ghost use Rattle.std.specs.Prelude.{◌≡◌, IfErr, IfOk, IsOk};
+ghost use Rattle.std.specs.Prelude.{◌≡◌, IfErr, IfOk};
 ghost use Rattle.std.specs.Borrow.{sem};
 ghost use Rattle.std.specs.Option.{option_copied_mut};
 ghost use Rattle.bptree_keys.specs.Contents.{value};
@@ -10,7 +10,7 @@ ghost use Rattle.std.specs.Prelude.{IsOkUnless};
 use crate::SelectError;
 use bptree_arguments::argument::SearchArgument;
 use bptree_descents::by_argument::find_by_argument;
-use bptree_keys::compares::Compares;
+use bptree_descents::neighbours::locate;
 use bptree_shape::nodes::Nodes;
 use bptree_stores::node_stores::NodeStore;
 
@@ -19,14 +19,8 @@ pub(crate) fn value_mut<'a, S: NodeStore>(tree: &'a mut Nodes<S>, k: &S::K) -> O
     ensures* writes_back { sem 𝓛 (lends_written S.row S.K.row S.V.row S.Argument.row S.NodeStore S.K.Key S.Argument.Argument tree.entry k.now result) }
     ensures value { option_copied_mut result ≡ value S.K.cmp tree.old.contents k.now }
 {
-    let leaf = tree.leaf_for(k);
-    let mut compares = Compares::below(tree.height);
-    match tree
-        .store
-        .get_leaf(leaf)
-        .locate_slot_counted(k, &mut compares)
-    {
-        Ok(slot) => Some(tree.store.get_mut_leaf(leaf).value_at_mut(slot)),
+    match locate(tree, k) {
+        Ok(at) => Some(tree.store.get_mut_leaf(at.leaf).value_at_mut(at.slot)),
         Err(_) => None,
     }
 }
@@ -44,7 +38,7 @@ where
     ensures sure { S.Argument.needs_no_memory → IsOkUnless result SelectError.NotFound }
 {
     match find_by_argument(tree, query) {
-        Ok(Some((leaf, slot))) => Ok(tree.store.get_mut_leaf(leaf).value_at_mut(slot)),
+        Ok(Some(at)) => Ok(tree.store.get_mut_leaf(at.leaf).value_at_mut(at.slot)),
         Ok(None) => Err(SelectError::NotFound),
         Err(_) => Err(SelectError::OutOfMemory),
     }

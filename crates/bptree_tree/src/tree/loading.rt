@@ -5,9 +5,8 @@ ghost use Rattle.bptree_loading.specs.Loading.{IsInLoadOrder};
 ghost use Rattle.bptree_tree.specs.Whole.{IsWhole};
 
 use crate::tree::BPlusTree;
-use bptree_building::building::{Built, build};
+use bptree_building::building::build;
 use bptree_loading::loading::keep_last_of_each_run;
-use bptree_shape::nodes::Nodes;
 use bptree_stores::node_stores::NodeStore;
 use std::alloc::AllocError;
 
@@ -25,23 +24,10 @@ impl<S: NodeStore> BPlusTree<S> {
         ensures whole { IfOk result (IsWhole S.K.cmp S.Argument.is_summary S.slots) }
     {
         keep_last_of_each_run(&mut pairs);
-        let mut store = S::empty(*pairs.allocator());
-        let len = pairs.len();
-        if len == 0 {
+        let store = S::empty(*pairs.allocator());
+        if pairs.len() == 0 {
             return BPlusTree::new(store);
         }
-        let Built {
-            root,
-            height,
-            summary,
-        } = build(&mut store, pairs)?;
-        let nodes = Nodes {
-            store,
-            root,
-            height,
-            len,
-            summary,
-        };
-        Ok(BPlusTree::of_nodes(nodes))
+        Ok(BPlusTree::of_nodes(build(store, pairs)?))
     }
 }

@@ -4,10 +4,11 @@ ghost use Rattle.std.specs.Iterator.{at_most, item_count, UpTo};
 ghost use Rattle.std.specs.Iterator.SizeHint.{IsWithinCount};
 ghost use Rattle.std.specs.Map.Iter.{TakesFirst, TakesLast, GivesInOrder, GivesInReverse};
 ghost use Rattle.bptree_keys.specs.Contents.{IsAscending};
-ghost use Rattle.bptree_tree.specs.Chain.{TakesEnd, all_from};
+ghost use Rattle.bptree_tree.specs.Chain.{TakesEnd, TakesEndOfAll};
 
 use crate::chain::Chain;
 use crate::tree::BPlusTree;
+use bptree_keys::end::End;
 use bptree_nodes::leaf_node::LeafNode;
 use bptree_nodes::leaf_pairs::LeafPairs;
 use bptree_shape::nodes::Nodes;
@@ -98,13 +99,12 @@ impl<S: NodeStore> IntoIterator for BPlusTree<S> {
 
 // The first pair of an open leaf, or the last one.
 #[inline(always)]
-fn pair_at_end<K: Drop, V: Drop>(pairs: &mut LeafPairs<K, V>, is_last: bool) -> Option<(K, V)>
-    ensures { TakesEnd is_last pairs.old result pairs.new }
+fn pair_at_end<K: Drop, V: Drop>(pairs: &mut LeafPairs<K, V>, end: End) -> Option<(K, V)>
+    ensures { TakesEnd end pairs.old result pairs.new }
 {
-    if is_last {
-        pairs.next_back()
-    } else {
-        pairs.next()
+    match end {
+        End::Front => pairs.next(),
+        End::Back => pairs.next_back(),
     }
 }
 
@@ -115,37 +115,36 @@ fn pair_left<S: NodeStore>(
     near: &mut LeafPairs<S::K, S::V>,
     leaves: &mut Chain<S>,
     far: &mut LeafPairs<S::K, S::V>,
-    is_last: bool,
+    end: End,
 ) -> Option<(S::K, S::V)>
-    ensures { TakesEnd is_last (all_from is_last near.old leaves.old far.old) result (all_from is_last near.new leaves.new far.new) }
+    ensures { TakesEndOfAll end near.old leaves.old far.old result near.new leaves.new far.new }
 {
-    match pair_at_end(near, is_last) {
+    match pair_at_end(near, end) {
         Some(pair) => return Some(pair),
         None => {}
     }
-    match leaves.take_end(is_last) {
+    match leaves.take_end(end) {
         Some(leaf) => {
             *near = LeafNode::into_pairs(leaf);
-            pair_at_end(near, is_last)
+            pair_at_end(near, end)
         }
-        None => pair_at_end(far, is_last),
+        None => pair_at_end(far, end),
     }
 }
 
 impl<S: NodeStore> IntoIter<S> {
     // The first pair that is left, or the last one.
     #[inline(always)]
-    fn pair_at(&mut self, is_last: bool) -> Option<(S::K, S::V)>
-        ensures { TakesEnd is_last self.old result self.new }
+    fn pair_at(&mut self, end: End) -> Option<(S::K, S::V)>
+        ensures { TakesEnd end self.old result self.new }
     {
         if self.len == 0 {
             return None;
         }
         self.len -= 1;
-        if is_last {
-            pair_left(&mut self.back, &mut self.leaves, &mut self.front, true)
-        } else {
-            pair_left(&mut self.front, &mut self.leaves, &mut self.back, false)
+        match end {
+            End::Front => pair_left(&mut self.front, &mut self.leaves, &mut self.back, end),
+            End::Back => pair_left(&mut self.back, &mut self.leaves, &mut self.front, end),
         }
     }
 }
@@ -158,7 +157,7 @@ impl<S: NodeStore> Iterator for IntoIter<S> {
     ghost remaining = { item_count (λ left. left) };
 
     fn next(&mut self) -> Option<(S::K, S::V)> {
-        self.pair_at(false)
+        self.pair_at(End::Front)
     }
 
     fn size_hint(&self) -> (usize, Option<usize>)
@@ -174,7 +173,7 @@ impl<S: NodeStore> DoubleEndedIterator for IntoIter<S> {
     ghost next_back_gives = { TakesLast (λ pair. pair) };
 
     fn next_back(&mut self) -> Option<(S::K, S::V)> {
-        self.pair_at(true)
+        self.pair_at(End::Back)
     }
 }
 

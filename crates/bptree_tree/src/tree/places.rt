@@ -10,7 +10,6 @@ use crate::tree::BPlusTree;
 use bptree_arguments::argument::SearchArgument;
 use bptree_descents::by_argument;
 use bptree_descents::neighbours::Found;
-use bptree_shape::nodes::Position;
 use bptree_stores::node_stores::NodeStore;
 use std::alloc::AllocError;
 
@@ -45,10 +44,7 @@ impl<S: NodeStore> BPlusTree<S> {
         let nodes = &self.nodes;
         match by_argument::find_by_argument(nodes, query)? {
             None => Ok(None),
-            Some((leaf, slot)) => {
-                let pair = nodes.store.get_leaf(leaf).data_at(slot);
-                Ok(Some((Position { leaf, slot }, pair)))
-            }
+            Some(at) => Ok(Some((at, nodes.store.get_leaf(at.leaf).data_at(at.slot)))),
         }
     }
 }

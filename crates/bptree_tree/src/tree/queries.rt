@@ -98,8 +98,7 @@ impl<S: NodeStore> BPlusTree<S> {
         S::Argument: SearchArgument<S::K>,
         ensures { IfOk result (IsPartSummary S.Argument.is_summary S.Argument.selects from to (keys_of self.now.contents)) }
     {
-        // Read, so that the keys are known to ascend.
-        let _len = self.len();
+        self.recall();
         let Some((lo, _)) = self.get_by_argument(from)? else {
             return Ok(Default::default());
         };
@@ -163,6 +162,7 @@ impl<K: Key, V: Drop> BPlusTree<NodeStoreVec<K, V, Count>> {
         ensures { result ≡ length (pairs_between K.cmp self.now.contents lo.entry hi.entry) }
     {
         let nodes = &self.nodes;
-        len_between(&nodes.store, nodes.root, nodes.height, nodes.len, lo, hi)
+        nodes.recall();
+        len_between(nodes, lo, hi)
     }
 }

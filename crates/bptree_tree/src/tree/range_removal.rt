@@ -28,8 +28,7 @@ fn drop_first_of<'b, S: NodeStore>(
     ensures empty { FindsNoneBetween S.K.cmp lo.entry hi.entry tree.old.contents result }
     ensures unchanged { OnErr result (IsUntouched S.slots tree.new tree.old) }
 {
-    // Read, so that the keys are known to ascend.
-    let _len = tree.len();
+    tree.recall();
     let Some((k, _)) = pairs_from(tree, part_between(tree, lo, hi)).next() else {
         return Ok(false);
     };
@@ -75,8 +74,7 @@ impl<S: NodeStore> BPlusTree<S> {
         ensures empty { KeepsAllIfNone S.K.cmp lo.entry hi.entry self.old.contents self.new.contents result }
         ensures err { OnErr result (FirstsBetweenLeft S.K.cmp lo.entry hi.entry self.old.contents self.new.contents) }
     {
-        // Read, so that it is known to fit.
-        let _len = self.nodes.len();
+        self.nodes.recall();
         let mut gone = 0;
         'pairs: while self.drop_first_between(lo, hi)? {
             gone += 1;

@@ -1,13 +1,15 @@
 //! Removals of pairs: with their keys, at both ends, by the summaries of keys, and of all.
-ghost use Rattle.std.specs.Prelude.{◌≡◌, [], false, None, Ok, IfOk, IsOk, OnErr};
+ghost use Rattle.std.specs.Prelude.{◌≡◌, [], false, None, Ok, IfOk, OnErr};
 ghost use Rattle.bptree_keys.specs.Contents.{has};
-ghost use Rattle.bptree_keys.specs.Keys.{AllInfallible};
+ghost use Rattle.bptree_keys.specs.Ends.{is_back};
+ghost use Rattle.bptree_ascent.specs.Failing.{NeverFails};
 ghost use Rattle.bptree_descents.specs.ByArgument.{IsTaken};
 ghost use Rattle.bptree_tree.specs.Whole.{IsWhole, IsUntouched, HasSameNodes};
 ghost use Rattle.bptree_tree.specs.Changes.{PopsEnd, PopsFirst, PopsLast, RemovesEntry, RemovesTold};
 
 use crate::tree::BPlusTree;
 use bptree_arguments::argument::SearchArgument;
+use bptree_keys::end::End;
 use bptree_removal::removal;
 use bptree_stores::node_stores::NodeStore;
 use std::alloc::AllocError;
@@ -32,10 +34,9 @@ impl<S: NodeStore> BPlusTree<S> {
         ensures untouched { result ≡ Ok None → HasSameNodes S.slots self.new self.old }
         ensures err { OnErr result (self.new.contents ≡ self.old.contents) }
         ensures unchanged { OnErr result (IsUntouched S.slots self.new self.old) }
-        ensures infallible { S.Argument.needs_no_memory → AllInfallible S.K.is_infallible → IsOk result }
+        ensures infallible { NeverFails S.Argument.needs_no_memory S.K.is_infallible result }
     {
-        // Read, so that the keys are known to ascend.
-        let _len = self.nodes.len();
+        self.nodes.recall();
         removal::remove_by_argument(&mut self.nodes, &mut self.path, query, &mut self.statistic)
     }
 
@@ -50,29 +51,23 @@ impl<S: NodeStore> BPlusTree<S> {
         ensures untouched { has S.K.cmp self.old.contents k.now ≡ false → IsUntouched S.slots self.new self.old }
         ensures err { OnErr result (self.new.contents ≡ self.old.contents) }
         ensures unchanged { OnErr result (IsUntouched S.slots self.new self.old) }
-        ensures infallible { S.Argument.needs_no_memory → AllInfallible S.K.is_infallible → IsOk result }
+        ensures infallible { NeverFails S.Argument.needs_no_memory S.K.is_infallible result }
     {
-        // Read, so that the keys are known to ascend.
-        let _len = self.nodes.len();
+        self.nodes.recall();
         removal::remove_entry(&mut self.nodes, &mut self.path, k, &mut self.statistic)
     }
 
     // Removes the pair with the least key, or the one with the greatest, and hands it back.
-    fn pop_end(&mut self, is_last: bool) -> Result<Option<(S::K, S::V)>, AllocError>
-        ensures ok { IfOk result (PopsEnd is_last self.old.contents self.new.contents) }
+    fn pop_end(&mut self, end: End) -> Result<Option<(S::K, S::V)>, AllocError>
+        ensures ok { IfOk result (PopsEnd (is_back end) self.old.contents self.new.contents) }
         ensures empty { self.old.contents ≡ [] → result ≡ Ok None }
         ensures whole { IsWhole S.K.cmp S.Argument.is_summary S.slots self.new }
         ensures untouched { self.old.contents ≡ [] → IsUntouched S.slots self.new self.old }
         ensures err { OnErr result (self.new.contents ≡ self.old.contents) }
         ensures unchanged { OnErr result (IsUntouched S.slots self.new self.old) }
-        ensures infallible { S.Argument.needs_no_memory → AllInfallible S.K.is_infallible → IsOk result }
+        ensures infallible { NeverFails S.Argument.needs_no_memory S.K.is_infallible result }
     {
-        removal::remove_end(
-            &mut self.nodes,
-            &mut self.path,
-            is_last,
-            &mut self.statistic,
-        )
+        removal::remove_end(&mut self.nodes, &mut self.path, end, &mut self.statistic)
     }
 
     /// Removes the pair with the least key, and hands it back: none of an empty tree, where nothing
@@ -87,9 +82,9 @@ impl<S: NodeStore> BPlusTree<S> {
         ensures untouched { self.old.contents ≡ [] → IsUntouched S.slots self.new self.old }
         ensures err { OnErr result (self.new.contents ≡ self.old.contents) }
         ensures unchanged { OnErr result (IsUntouched S.slots self.new self.old) }
-        ensures infallible { S.Argument.needs_no_memory → AllInfallible S.K.is_infallible → IsOk result }
+        ensures infallible { NeverFails S.Argument.needs_no_memory S.K.is_infallible result }
     {
-        self.pop_end(false)
+        self.pop_end(End::Front)
     }
 
     /// Removes the pair with the greatest key, and hands it back: none of an empty tree, where
@@ -104,9 +99,9 @@ impl<S: NodeStore> BPlusTree<S> {
         ensures untouched { self.old.contents ≡ [] → IsUntouched S.slots self.new self.old }
         ensures err { OnErr result (self.new.contents ≡ self.old.contents) }
         ensures unchanged { OnErr result (IsUntouched S.slots self.new self.old) }
-        ensures infallible { S.Argument.needs_no_memory → AllInfallible S.K.is_infallible → IsOk result }
+        ensures infallible { NeverFails S.Argument.needs_no_memory S.K.is_infallible result }
     {
-        self.pop_end(true)
+        self.pop_end(End::Back)
     }
 
     /// Removes all pairs. It takes memory for one leaf, before the nodes are let go: a refusal

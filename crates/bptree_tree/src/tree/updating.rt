@@ -6,7 +6,7 @@ ghost use Rattle.bptree_shape.specs.Shape.{leaf_pairs, IsWellShaped};
 ghost use Rattle.bptree_tree.specs.Updating.{IsNotBehind, IsSettledAt, UpdatesBetween, UpdatesPlaces, UpdatesSlots};
 
 use crate::tree::BPlusTree;
-use bptree_keys::node_id::{LeafNodeId, NodeId};
+use bptree_keys::node_id::{LeafNodeId, NodeId, Position};
 use bptree_ranges::ranges::places_between;
 use bptree_shape::nodes::Nodes;
 use bptree_stores::node_stores::NodeStore;
@@ -34,8 +34,8 @@ fn update_leaves<S: NodeStore, F: FnMut(&S::K, &mut S::V)>(
     store: &mut S,
     root: NodeId,
     height: usize,
-    front: (LeafNodeId, usize),
-    back: (LeafNodeId, usize),
+    front: Position,
+    back: Position,
     mut f: F,
 )
     requires callable { F.IsAlwaysCallable f }
@@ -46,9 +46,9 @@ fn update_leaves<S: NodeStore, F: FnMut(&S::K, &mut S::V)>(
     ensures shape { IsWellShaped S.K.cmp S.Argument.is_summary (S.slots store.new) height root }
     ensures changed { UpdatesPlaces F.FnMut f (S.slots store.old) (S.slots store.new) height root front back }
 {
-    let mut at = front.0;
-    let mut from = front.1;
-    'leaves: while at.as_usize() != back.0.as_usize() {
+    let mut at = front.leaf;
+    let mut from = front.slot;
+    'leaves: while at.as_usize() != back.leaf.as_usize() {
         let leaf = store.get_leaf(at);
         let len = leaf.len();
         let next = leaf.next().unwrap();
@@ -56,7 +56,7 @@ fn update_leaves<S: NodeStore, F: FnMut(&S::K, &mut S::V)>(
         at = next;
         from = 0;
     }
-    update_leaf(store, at, from, back.1, f);
+    update_leaf(store, at, from, back.slot, f);
 }
 
 // Changes the values between two ends, which are lent no longer than the tree.

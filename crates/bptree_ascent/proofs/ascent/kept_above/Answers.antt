@@ -1,14 +1,7 @@
-use Rattle.std.proofs.Common.{◌≡◌, ℕ, ◌<◌, ◌-◌, Bor, List, [], ◌∷◌, length, take, ap, inl, inr, sym, subst, refl, ◌∙◌, slice_get, Option, Some, None, IfSome}
+use Rattle.std.proofs.Common.{◌≡◌, ◌<◌, ◌-◌, List, [], ◌∷◌, length, take, ap, inl, inr, sym, subst, refl, ◌∙◌, slice_get, Some, None}
 use native.Mathlib.Numerals.{unary_clauses}
-use Rattle.std.specs.Option.{option_copied}
 use Rattle.std.proofs.lemmas.Option.{slice_get_read}
-use Rattle.bptree_keys.specs.declared.node_id.InnerNodeId.{InnerNodeId}
-use Rattle.bptree_keys.specs.declared.node_id.NodeId.{NodeId}
-use Rattle.bptree_nodes.specs.Inner.{Inner}
-use Rattle.bptree_nodes.specs.Leaf.{Leaf}
-use Rattle.bptree_nodes.specs.Slot.{Slots}
 use Rattle.bptree_shape.specs.Shape.{inner_arguments}
-use Rattle.bptree_ascent.specs.Sums.{IsKept}
 use Rattle.bptree_ascent.proofs.ascent.kept_above.Goals as goal
 
 -- a list with no last member is empty
@@ -20,12 +13,8 @@ empty_of : {X : Type 0} (xs : List X) → slice_get xs (length xs - 1) ≡ None 
 empty_of [] none = refl
 empty_of (x ∷ xs) none = absurd (has_last x xs (simp unary_clauses at none))
 
-kept_whole : {K V A : Type 0} (slots : Slots (Inner K A) (Leaf K V)) (path : List (InnerNodeId × ℕ × NodeId)) (whole : Option (Bor A)) → path ≡ [] → IfSome whole (λ kept. IsKept slots path (option_copied whole) kept.now)
-kept_whole slots path None e = tt
-kept_whole slots path (Some r) e = inr (e, refl)
-
 pub returns-in-None : goal.returns-in-None
-returns-in-None g c = kept_whole (g.S.NodeStore.slots c.args.store.now) c.args.path.now c.args.whole (empty_of c.args.path.now (sym c.in-None.ensures.value))
+returns-in-None g c = inr (empty_of c.args.path.now (sym c.in-None.ensures.value), refl)
 
 pub returns-in-Some : goal.returns-in-Some
 returns-in-Some g c =

@@ -1,15 +1,14 @@
-use Rattle.std.proofs.Common.{MatchResult, arith}
+use Rattle.std.proofs.Common.{MatchResult}
 use Rattle.std.specs.Map.{keys_of}
 use Rattle.std.proofs.lemmas.Result.{IfOk-weaker}
 use Rattle.bptree_descents.specs.ByArgument.{RanksAmong}
 use Rattle.bptree_shape.specs.Shape.{pairs_at}
-use Rattle.bptree_descents.proofs.Summed.{ranked_alone, whole_subtree}
+use Rattle.bptree_descents.proofs.Summed.{ranked_alone, known_subtree}
 use Rattle.bptree_descents.proofs.by_argument.rank_by_argument.Goals as goal
 
 pub rank_below-requires : goal.rank_below-requires
 rank_below-requires g c =
-    let tree = c.tree.inside in
-    whole_subtree g.met.S.K.Ord.total g.S.Argument.Argument.is_summary (g.S.NodeStore.slots tree.store) tree.height tree.root tree.len c.tree.invariant.0 c.tree.invariant.1 (omega arith)
+    rw (← c.tree.view_is) at (known_subtree g.S.NodeStore.slots c.recall.ensures.whole c.recall.ensures.fits)
 
 pub returns-clause-ranked : goal.returns-clause-ranked
 returns-clause-ranked g c =
@@ -19,7 +18,7 @@ returns-clause-ranked g c =
     let stands_for = g.S.Argument.RankArgument.stands_for in
     let ranks = g.S.Argument.RankArgument.ranks in
     let rank = c.initial_value-rank.result in
-    let subtree = whole_subtree g.met.S.K.Ord.total g.S.Argument.Argument.is_summary slots tree.height tree.root tree.len c.tree.invariant.0 c.tree.invariant.1 (omega arith) in
+    let subtree = rw (← c.tree.view_is) at (known_subtree g.S.NodeStore.slots c.recall.ensures.whole c.recall.ensures.fits) in
     rw (← c.tree.view_is)
     (IfOk-weaker c.rank_below.result (RanksAmong g.S.K.Ord.cmp stands_for ranks c.args.k.now rank keys) (λ answer. MatchResult answer (ranks c.args.k.now keys) (ranks c.args.k.now keys))
     (λ answer there. ranked_alone g.met.S.K.Ord.total g.S.Argument.Argument.is_summary slots stands_for ranks c.args.k.now rank (c.initial_value-rank.ensures.stands c.args.k.now) tree.height tree.root subtree answer there) c.rank_below.ensures.ranked)

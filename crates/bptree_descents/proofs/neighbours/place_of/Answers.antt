@@ -1,4 +1,4 @@
-use Rattle.bptree_descents.proofs.Beside.{equal_at, hinted_at}
+use Rattle.bptree_descents.proofs.Beside.{equal_at, hinted_at, in_positions}
 use Rattle.bptree_descents.proofs.neighbours.place_of.Goals as goal
 
 pub returns-then-stands_at : goal.returns-then-stands_at
@@ -12,5 +12,6 @@ pub returns-then-in_range : goal.returns-then-in_range
 returns-then-in_range g c =
     let tree = c.tree.inside in
     rw (← c.tree.view_is)
+    (in_positions (g.S.NodeStore.slots tree.store) tree.height tree.root c.args.key.now c.args.hint.leaf c.locate_slot.result c.in_leaf.result c.in_leaf.ensures
     (hinted_at g.met.S.K.Ord.total g.S.Argument.Argument.is_summary (g.S.NodeStore.slots tree.store) tree.height tree.root c.tree.invariant.0 c.args.key.now c.args.hint.leaf c.in-Some.leaf.now c.locate_slot.result
-    c.in_range.result c.in-Some.ensures c.in_range.ensures c.if-in_range.true c.locate_slot.ensures.place c.stands_at.ensures.fits)
+    c.in_range.result c.in-Some.ensures c.in_range.ensures c.if-in_range.true c.locate_slot.ensures.place c.stands_at.ensures.fits))

@@ -1,29 +1,63 @@
-use Rattle.std.proofs.Common.{◌≡◌, ◌∙◌, ◌+◌, false, sym, refl, ap, arith, is_some, None}
-use Rattle.bptree_keys.specs.Contents.{has}
-use Rattle.bptree_keys.proofs.Equal.{has_where_value}
-use Rattle.bptree_keys.proofs.Updates.{length_put}
-use Rattle.bptree_shape.specs.Shape.{root_least, pairs_at}
-use Rattle.bptree_shape.proofs.Walk.{tree_ascends}
+use Rattle.std.proofs.Common.{ap, arith, length, refl, sym}
+use Rattle.bptree_ascent.proofs.Lent.{none_if_absent}
+use Rattle.bptree_ascent.proofs.Rooted.{low_tree}
+use Rattle.bptree_insertion.proofs.Upserted.{absent, as_many, due, replaced}
 use Rattle.bptree_insertion.proofs.insertion.upsert.Goals as goal
 
-pub overflow_add-tree : goal.overflow_add-tree
-overflow_add-tree g c =
+pub find_path-leaf-requires-clause-room : goal.find_path-leaf-requires-clause-room
+find_path-leaf-requires-clause-room g c =
     let tree = c.tree.inside in
-    let pairs = pairs_at (g.S.NodeStore.slots tree.store) tree.height tree.root in
-    let put = rw c.in-Ok-Added.field-0-is at c.in-Ok-Added.ensures.put in
-    let absent : has g.S.K.Ord.cmp pairs c.args.k ≡ false = sym (has_where_value g.S.K.Ord.cmp pairs c.args.k) ∙ ap is_some put.0 in
-    omega (arith, (rw (← c.tree.view_is) at c.requires) absent, c.tree.invariant.1)
+    omega (arith, low_tree g.S.K.Ord.cmp g.S.Argument.Argument.is_summary (g.S.NodeStore.slots tree.store) tree.height tree.root c.tree.invariant.0 (omega (arith, c.tree.invariant.1)), ap length c.clear.ensures)
 
-pub invariant_of-tree-in-Ok-Added : goal.invariant_of-tree-in-Ok-Added
-invariant_of-tree-in-Ok-Added g c =
+pub invariant_of-tree : goal.invariant_of-tree
+invariant_of-tree g c =
     let total = g.met.S.K.Ord.total in
+    let slots = g.S.NodeStore.slots in
     let tree = c.tree.inside in
-    let slots = g.S.NodeStore.slots tree.store in
-    let pairs = pairs_at slots tree.height tree.root in
-    let sorted = tree_ascends total slots (root_least tree.height) tree.height tree.root None None c.tree.invariant.0.tree in
-    let put = rw c.in-Ok-Added.field-0-is at c.in-Ok-Added.ensures.put in
-    let absent : has g.S.K.Ord.cmp pairs c.args.k ≡ false = sym (has_where_value g.S.K.Ord.cmp pairs c.args.k) ∙ ap is_some put.0 in (
-      put.1.shape,
-      rw put.1.pairs (ap (λ n. n + 1) c.tree.invariant.1 ∙ sym (length_put g.S.K.Ord.cmp total pairs sorted c.args.k c.args.v ∙ rw absent refl)),
-      put.1.told,
-    )
+    let node = c.get_leaf.result.now in
+    let r = replaced total g.S.Argument.Argument.is_summary (slots tree.store) tree.height tree.root c.args.k c.find_path-leaf.result node c.tree.invariant.0 c.find_path-leaf.ensures.leaf c.get_leaf.ensures c.in-Ok.slot c.in-Ok.ensures.found c.args.v c.replace_at.result
+    (rw c.get_leaf.ensures at c.replace_at.ensures.old) (slots c.replace_at.new.store) (c.replace_at.ensures.sets node c.get_leaf.ensures) in
+    as_many total tree.len c.tree.invariant.1 r c.tree.invariant.2
+
+pub returns-in-Ok-clause-put : goal.returns-in-Ok-clause-put
+returns-in-Ok-clause-put g c =
+    let slots = g.S.NodeStore.slots in
+    let tree = c.tree.inside in
+    let node = c.get_leaf.result.now in
+    let r = replaced g.met.S.K.Ord.total g.S.Argument.Argument.is_summary (slots tree.store) tree.height tree.root c.args.k c.find_path-leaf.result node c.tree.invariant.0 c.find_path-leaf.ensures.leaf c.get_leaf.ensures c.in-Ok.slot c.in-Ok.ensures.found c.args.v c.replace_at.result
+    (rw c.get_leaf.ensures at c.replace_at.ensures.old) (slots c.replace_at.new.store) (c.replace_at.ensures.sets node c.get_leaf.ensures) in
+    rw (← c.tree.view_is) (sym r.there, r.pairs)
+
+pub returns-in-Ok-clause-whole : goal.returns-in-Ok-clause-whole
+returns-in-Ok-clause-whole g c =
+    let total = g.met.S.K.Ord.total in
+    let slots = g.S.NodeStore.slots in
+    let tree = c.tree.inside in
+    let node = c.get_leaf.result.now in
+    let r = replaced total g.S.Argument.Argument.is_summary (slots tree.store) tree.height tree.root c.args.k c.find_path-leaf.result node c.tree.invariant.0 c.find_path-leaf.ensures.leaf c.get_leaf.ensures c.in-Ok.slot c.in-Ok.ensures.found c.args.v c.replace_at.result
+    (rw c.get_leaf.ensures at c.replace_at.ensures.old) (slots c.replace_at.new.store) (c.replace_at.ensures.sets node c.get_leaf.ensures) in
+    let i = as_many total tree.len c.tree.invariant.1 r c.tree.invariant.2 in
+    record { shape = i.0; contents = refl; summary = i.2 }
+
+pub insert_new-requires-clause-due : goal.insert_new-requires-clause-due
+insert_new-requires-clause-due g c =
+    let tree = c.tree.inside in
+    rw (← c.tree.view_is)
+    (due g.met.S.K.Ord.total g.S.Argument.Argument.is_summary (g.S.NodeStore.slots tree.store) tree.height tree.root c.args.k c.find_path-leaf.result c.get_leaf.result.now c.tree.invariant.0 c.find_path-leaf.ensures.leaf c.get_leaf.ensures c.in-Err.slot c.in-Err.ensures.place (rw (← c.tree.view_is) at c.requires)
+    c.find_path-leaf.new.path (c.find_path-leaf.ensures.way tree.height tree.root (rw c.clear.ensures (refl, refl))))
+
+pub insert_new-requires-clause-absent : goal.insert_new-requires-clause-absent
+insert_new-requires-clause-absent g c =
+    let tree = c.tree.inside in
+    rw (← c.tree.view_is) (absent g.met.S.K.Ord.total g.S.Argument.Argument.is_summary (g.S.NodeStore.slots tree.store) tree.height tree.root c.args.k c.find_path-leaf.result c.get_leaf.result.now c.tree.invariant.0 c.find_path-leaf.ensures.leaf c.get_leaf.ensures c.in-Err.slot c.in-Err.ensures.place)
+
+pub returns-in-Err-insert_new-clause-absent : goal.returns-in-Err-insert_new-clause-absent
+returns-in-Err-insert_new-clause-absent g c =
+    let tree = c.tree.inside in
+    rw (← c.tree.view_is) (absent g.met.S.K.Ord.total g.S.Argument.Argument.is_summary (g.S.NodeStore.slots tree.store) tree.height tree.root c.args.k c.find_path-leaf.result c.get_leaf.result.now c.tree.invariant.0 c.find_path-leaf.ensures.leaf c.get_leaf.ensures c.in-Err.slot c.in-Err.ensures.place)
+
+pub returns-in-Ok-insert_new-clause-put : goal.returns-in-Ok-insert_new-clause-put
+returns-in-Ok-insert_new-clause-put g c =
+    let tree = c.tree.inside in
+    let none = absent g.met.S.K.Ord.total g.S.Argument.Argument.is_summary (g.S.NodeStore.slots tree.store) tree.height tree.root c.args.k c.find_path-leaf.result c.get_leaf.result.now c.tree.invariant.0 c.find_path-leaf.ensures.leaf c.get_leaf.ensures c.in-Err.slot c.in-Err.ensures.place in
+    (rw (← c.tree.view_is) (sym (none_if_absent g.S.K.Ord.cmp _ c.args.k none)), c.in-Ok-insert_new.ensures.put)

@@ -20,7 +20,7 @@ pub returns-then-left-here : goal.returns-then-left-here
 returns-then-left-here g c =
     let fits = place_of_walk _ _ _ _ _ _ _ _ _ _ c.leaves.invariant.walked c.leaf_at-leaf.ensures in
     let end = ends_here _ _ _ _ _ _ _ _ _ _ c.leaves.invariant.walked c.leaf_at-leaf.ensures (omega (arith, fits, c.len.ensures.value, c.if-left-here.true)) (λ same. absurd (c.leaves-test.true (c.as_usize.ensures ∙ (ap (λ (x : LeafNodeId). x.0) same ∙ sym c.as_usize-in-leaves.ensures)))) in
-    record { part = end.between; same = (refl, refl, end.same); known = refl }
+    record { part = end.between; same = (refl, end.same); known = refl }
 
 pub unwrap-at-requires : goal.unwrap-at-requires
 unwrap-at-requires g c =
@@ -40,22 +40,22 @@ leaves-preserved g c =
 
 pub overflow_sub-here-2 : goal.overflow_sub-here-2
 overflow_sub-here-2 g c =
-    let same : c.leaves.at ≡ c.args.part.back = same_id _ _ (sym c.as_usize.ensures ∙ (c.leaves-test.false ∙ c.as_usize-in-leaves.ensures)) in
+    let same : c.leaves.at ≡ c.args.part.back.leaf = same_id _ _ (sym c.as_usize.ensures ∙ (c.leaves-test.false ∙ c.as_usize-in-leaves.ensures)) in
     (last_of_walk _ _ _ _ _ _ _ _ _ c.leaves.invariant.walked same).2
 
 pub returns-then-left-here-2 : goal.returns-then-left-here-2
 returns-then-left-here-2 g c =
     let part = c.args.part in
     let leaves = leaves_of (g.S.NodeStore.slots c.args.store.now) in
-    let same : c.leaves.at ≡ part.back = same_id _ _ (sym c.as_usize.ensures ∙ (c.leaves-test.false ∙ c.as_usize-in-leaves.ensures)) in
+    let same : c.leaves.at ≡ part.back.leaf = same_id _ _ (sym c.as_usize.ensures ∙ (c.leaves-test.false ∙ c.as_usize-in-leaves.ensures)) in
     let last = last_of_walk _ _ _ _ _ _ _ _ _ c.leaves.invariant.walked same in
-    let short : c.leaves.passed + c.leaves.left ≤ part.to = omega (arith, last.2, c.if-left-here-2.true) in
+    let short : c.leaves.passed + c.leaves.left ≤ part.back.slot = omega (arith, last.2, c.if-left-here-2.true) in
     let here = ends_here _ _ _ _ _ _ _ _ _ last.0 c.leaves.invariant.walked (ap leaves same ∙ last.1) (omega (arith, last.3, short)) (λ _. short) in
-    let end = subst (λ b. Ended leaves part.front part.from part.back part.to part.limit b (c.leaves.passed + c.leaves.left) part.limit) same here in
-    record { part = end.between; same = (refl, refl, end.same); known = refl }
+    let end = subst (λ b. Ended leaves part.front.leaf part.front.slot part.back.leaf part.back.slot part.limit b (c.leaves.passed + c.leaves.left) part.limit) same here in
+    record { part = end.between; same = (refl, end.same); known = refl }
 
 pub returns-else-left-here-2 : goal.returns-else-left-here-2
 returns-else-left-here-2 g c =
-    let same : c.leaves.at ≡ c.args.part.back = same_id _ _ (sym c.as_usize.ensures ∙ (c.leaves-test.false ∙ c.as_usize-in-leaves.ensures)) in
+    let same : c.leaves.at ≡ c.args.part.back.leaf = same_id _ _ (sym c.as_usize.ensures ∙ (c.leaves-test.false ∙ c.as_usize-in-leaves.ensures)) in
     let end = ends_behind _ _ _ _ _ _ _ _ _ c.leaves.invariant.walked same c.if-left-here-2.false in
-    record { part = end.between; same = (refl, refl, end.same); known = refl }
+    record { part = end.between; same = (refl, end.same); known = refl }

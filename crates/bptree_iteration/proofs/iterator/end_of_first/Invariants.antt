@@ -5,7 +5,7 @@ use Rattle.bptree_iteration.proofs.iterator.end_of_first.Given as goal
 
 abbrev pub invariant-leaves : goal.invariant-leaves
 invariant-leaves g l = record {
-  walked : Walked (leaves_of (g.S.NodeStore.slots l.fn.store)) l.fn.part.front l.fn.part.from l.fn.part.back l.fn.part.to l.fn.part.limit l.at l.passed l.left;
+  walked : Walked (leaves_of (g.S.NodeStore.slots l.fn.store)) l.fn.part.front.leaf l.fn.part.front.slot l.fn.part.back.leaf l.fn.part.back.slot l.fn.part.limit l.at l.passed l.left;
 }
 
 abbrev pub decreases-leaves : goal.decreases-leaves

@@ -1,10 +1,9 @@
-use Rattle.std.proofs.Common.{◌≡◌, ◌-◌, ◌∙◌, ap, arith, length, min, subst, sym, refl}
+use Rattle.std.proofs.Common.{◌≡◌, ◌-◌, ◌∙◌, ap, arith, length, min, subst, sym}
 use Rattle.bptree_keys.specs.Ranges.{part}
 use Rattle.bptree_ranges.specs.Ranges.{place_on, IsPart}
 use Rattle.bptree_shape.specs.Shape.{pairs_at}
 use Rattle.bptree_ranges.proofs.Bordered.{of_group_is, group_rises}
 use Rattle.bptree_ranges.proofs.Ranged.{contents_ascend, reached}
-use Rattle.bptree_shape.proofs.Whole.{contents_of, right}
 use Rattle.bptree_ranges.proofs.groups.part_of_group.Goals as goal
 
 pub part_of_places-requires-clause-rises : goal.part_of_places-requires-clause-rises
@@ -16,8 +15,8 @@ part_of_places-requires-clause-rises g c =
 pub part_of_places-requires-clause-tells : goal.part_of_places-requires-clause-tells
 part_of_places-requires-clause-tells g c =
     let slots = g.S.NodeStore.slots c.args.tree.now.store in
-    let fits : c.tree.inside.len ≡ length (pairs_at slots c.args.tree.now.height c.args.tree.now.root) = rw (← c.tree.view_is) c.tree.invariant.1 in
-    omega (arith, fits, c.in_ok-back.ensures.0.within, reached g.S.Argument.Argument.is_summary slots c.args.tree.now.height c.args.tree.now.root (right g.S.NodeStore.slots c.tree.view_is c.tree.invariant.0) c.in_ok-back.back.0 c.in_ok-back.ensures.0.stands)
+    let fits : c.len-len.result ≡ length (pairs_at slots c.args.tree.now.height c.args.tree.now.root) = c.len-len.ensures.value ∙ ap length c.len-len.ensures.whole.contents in
+    omega (arith, fits, c.in_ok-back.ensures.0.within, reached g.S.Argument.Argument.is_summary slots c.args.tree.now.height c.args.tree.now.root c.len-len.ensures.whole.shape c.in_ok-back.back.leaf c.in_ok-back.ensures.0.stands)
 
 pub returns : goal.returns
 returns g c =
@@ -26,9 +25,9 @@ returns g c =
     let pairs = pairs_at slots c.args.tree.now.height c.args.tree.now.root in
     let i = place_on slots c.args.tree.now.height c.args.tree.now.root c.in_ok-front.front in
     let j = place_on slots c.args.tree.now.height c.args.tree.now.root c.in_ok-back.back in
-    let ends = reached g.S.Argument.Argument.is_summary slots c.args.tree.now.height c.args.tree.now.root (right g.S.NodeStore.slots c.tree.view_is c.tree.invariant.0) c.in_ok-back.back.0 c.in_ok-back.ensures.0.stands in
-    let fits : c.tree.inside.len ≡ length (pairs_at slots c.args.tree.now.height c.args.tree.now.root) = rw (← c.tree.view_is) c.tree.invariant.1 in
-    let all : min c.tree.inside.len (j - i) ≡ j - i = omega (arith, fits, c.in_ok-back.ensures.0.within, ends) in
-    let is = of_group_is total g.met.G.Ord.total g.G.FromRef.group_of g.met.G.FromRef.keeps_order c.args.group.now pairs i j (contents_ascend g.S.Argument.Argument.is_summary slots c.args.tree.now.height c.args.tree.now.root (right g.S.NodeStore.slots c.tree.view_is c.tree.invariant.0) total) c.in_ok-front.ensures.1 c.in_ok-back.ensures.1 in
-    rw (contents_of g.S.NodeStore.slots c.tree.view_is refl)
+    let ends = reached g.S.Argument.Argument.is_summary slots c.args.tree.now.height c.args.tree.now.root c.len-len.ensures.whole.shape c.in_ok-back.back.leaf c.in_ok-back.ensures.0.stands in
+    let fits : c.len-len.result ≡ length (pairs_at slots c.args.tree.now.height c.args.tree.now.root) = c.len-len.ensures.value ∙ ap length c.len-len.ensures.whole.contents in
+    let all : min c.len-len.result (j - i) ≡ j - i = omega (arith, fits, c.in_ok-back.ensures.0.within, ends) in
+    let is = of_group_is total g.met.G.Ord.total g.G.FromRef.group_of g.met.G.FromRef.keeps_order c.args.group.now pairs i j (contents_ascend g.S.Argument.Argument.is_summary slots c.args.tree.now.height c.args.tree.now.root c.len-len.ensures.whole.shape total) c.in_ok-front.ensures.1 c.in_ok-back.ensures.1 in
+    rw c.len-len.ensures.whole.contents
     (subst (IsPart slots c.args.tree.now.height c.args.tree.now.root c.part_of_places.result) (ap (part pairs i) all ∙ sym is) c.part_of_places.ensures)

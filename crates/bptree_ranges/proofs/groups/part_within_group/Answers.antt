@@ -1,21 +1,19 @@
-use Rattle.std.proofs.Common.{subst, sym, refl}
+use Rattle.std.proofs.Common.{subst, sym}
 use Rattle.bptree_arguments.specs.Groups.{of_group}
 use Rattle.bptree_ranges.specs.Ranges.{place_on, IsPart}
 use Rattle.bptree_shape.specs.Shape.{pairs_at}
 use Rattle.bptree_ranges.proofs.GroupPlaces.{rest_of_group}
-use Rattle.bptree_ranges.proofs.Ranged.{contents_ascend, empty_part, first_place, part_past}
-use Rattle.bptree_shape.proofs.Whole.{contents_of, right}
+use Rattle.bptree_ranges.proofs.Ranged.{contents_ascend, empty_part, part_past}
 use Rattle.bptree_ranges.proofs.groups.part_within_group.Goals as goal
 
 pub returns-in-None : goal.returns-in-None
 returns-in-None g c =
     let slots = g.S.NodeStore.slots c.args.tree.now.store in
     let pairs = pairs_at slots c.args.tree.now.height c.args.tree.now.root in
-    let at = (first_place g.S.Argument.Argument.is_summary slots c.args.tree.now.height c.args.tree.now.root (right g.S.NodeStore.slots c.tree.view_is c.tree.invariant.0) c.first_leaf.result c.first_leaf.ensures).0 in
     let less = rw c.in-None.is at c.in_ok-place_in_group.ensures in
     let none = part_past (of_group g.G.Ord.cmp g.G.FromRef.group_of c.args.group.now pairs) c.args.i c.args.n less in
-    rw (contents_of g.S.NodeStore.slots c.tree.view_is refl)
-    (subst (IsPart slots c.args.tree.now.height c.args.tree.now.root c.no_part.result) (sym none) (rw c.no_part.ensures (empty_part slots c.args.tree.now.height c.args.tree.now.root (c.first_leaf.result, 0) at)))
+    rw c.recall.ensures.whole.contents
+    (subst (IsPart slots c.args.tree.now.height c.args.tree.now.root c.no_part.result) (sym none) (rw c.no_part.ensures (empty_part slots c.args.tree.now.height c.args.tree.now.root c.start_of_all.result c.start_of_all.ensures.place)))
 
 pub part_of_places-requires-clause-front : goal.part_of_places-requires-clause-front
 part_of_places-requires-clause-front g c =
@@ -26,12 +24,12 @@ part_of_places-requires-clause-rises g c =
     let slots = g.S.NodeStore.slots c.args.tree.now.store in
     let pairs = pairs_at slots c.args.tree.now.height c.args.tree.now.root in
     let there = rw c.in-Some.is at c.in_ok-place_in_group.ensures in
-    (rest_of_group g.met.S.K.Ord.total g.met.G.Ord.total g.G.FromRef.group_of g.met.G.FromRef.keeps_order c.args.group.now pairs (place_on slots c.args.tree.now.height c.args.tree.now.root c.in-Some.front) (place_on slots c.args.tree.now.height c.args.tree.now.root c.in_ok-back-in-Some.back) c.args.i c.args.n (contents_ascend g.S.Argument.Argument.is_summary slots c.args.tree.now.height c.args.tree.now.root (right g.S.NodeStore.slots c.tree.view_is c.tree.invariant.0) g.met.S.K.Ord.total) there.1 there.2 c.in_ok-back-in-Some.ensures.1).0
+    (rest_of_group g.met.S.K.Ord.total g.met.G.Ord.total g.G.FromRef.group_of g.met.G.FromRef.keeps_order c.args.group.now pairs (place_on slots c.args.tree.now.height c.args.tree.now.root c.in-Some.front) (place_on slots c.args.tree.now.height c.args.tree.now.root c.in_ok-back-in-Some.back) c.args.i c.args.n (contents_ascend g.S.Argument.Argument.is_summary slots c.args.tree.now.height c.args.tree.now.root c.recall.ensures.whole.shape g.met.S.K.Ord.total) there.1 there.2 c.in_ok-back-in-Some.ensures.1).0
 
 pub returns-in_ok-back-in-Some : goal.returns-in_ok-back-in-Some
 returns-in_ok-back-in-Some g c =
     let slots = g.S.NodeStore.slots c.args.tree.now.store in
     let pairs = pairs_at slots c.args.tree.now.height c.args.tree.now.root in
     let there = rw c.in-Some.is at c.in_ok-place_in_group.ensures in
-    rw (contents_of g.S.NodeStore.slots c.tree.view_is refl)
-    (subst (IsPart slots c.args.tree.now.height c.args.tree.now.root c.part_of_places.result) (rest_of_group g.met.S.K.Ord.total g.met.G.Ord.total g.G.FromRef.group_of g.met.G.FromRef.keeps_order c.args.group.now pairs (place_on slots c.args.tree.now.height c.args.tree.now.root c.in-Some.front) (place_on slots c.args.tree.now.height c.args.tree.now.root c.in_ok-back-in-Some.back) c.args.i c.args.n (contents_ascend g.S.Argument.Argument.is_summary slots c.args.tree.now.height c.args.tree.now.root (right g.S.NodeStore.slots c.tree.view_is c.tree.invariant.0) g.met.S.K.Ord.total) there.1 there.2 c.in_ok-back-in-Some.ensures.1).1 c.part_of_places.ensures)
+    rw c.recall.ensures.whole.contents
+    (subst (IsPart slots c.args.tree.now.height c.args.tree.now.root c.part_of_places.result) (rest_of_group g.met.S.K.Ord.total g.met.G.Ord.total g.G.FromRef.group_of g.met.G.FromRef.keeps_order c.args.group.now pairs (place_on slots c.args.tree.now.height c.args.tree.now.root c.in-Some.front) (place_on slots c.args.tree.now.height c.args.tree.now.root c.in_ok-back-in-Some.back) c.args.i c.args.n (contents_ascend g.S.Argument.Argument.is_summary slots c.args.tree.now.height c.args.tree.now.root c.recall.ensures.whole.shape g.met.S.K.Ord.total) there.1 there.2 c.in_ok-back-in-Some.ensures.1).1 c.part_of_places.ensures)

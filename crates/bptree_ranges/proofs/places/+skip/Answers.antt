@@ -29,7 +29,7 @@ returns-in-Found g t c =
     let node = c.get_inner-node.result.now in
     let at = node_at g.met.S.K.Ord.total g.S.Argument.Argument.is_summary (g.S.NodeStore.slots c.args.store.now) c.args.height c.args.id c.in-Inner.inner node c.requires c.in-Inner.is c.get_inner-node.ensures in
     let there = child_of g.met.S.K.Ord.total g.S.Argument.Argument.is_summary (g.S.NodeStore.slots c.args.store.now) c.args.id c.in-Inner.inner node c.loop-place.place c.args.height at c.arguments-arguments.result.now c.arguments-arguments.ensures.value c.loop-place-test.true c.child_id.result c.child_id.ensures in
-    found_first g.met.S.K.Ord.total g.S.Argument.Argument.is_summary (g.S.NodeStore.slots c.args.store.now) c.args.id c.in-Inner.inner node c.loop-place.place c.args.height c.child_id.result there c.loop-place.rest (before_entry (g.S.NodeStore.slots c.args.store.now) c.args.height c.args.id c.args.first) c.args.i c.in-Found.leaf c.in-Found.slot
+    found_first g.met.S.K.Ord.total g.S.Argument.Argument.is_summary (g.S.NodeStore.slots c.args.store.now) c.args.id c.in-Inner.inner node c.loop-place.place c.args.height c.child_id.result there c.loop-place.rest (before_entry (g.S.NodeStore.slots c.args.store.now) c.args.height c.args.id c.args.first) c.args.i c.in-Found.at
     c.loop-place.invariant (rw c.in-Found.is at c.skip.ensures)
 
 pub loop-place-preserved : goal.loop-place-preserved

@@ -26,9 +26,9 @@ returns-in_ok-first-in-Leaf g t c =
 pub returns-in-Found : goal.returns-in-Found
 returns-in-Found g t c =
     found_in_child g.met.S.K.Ord.total g.met.G.Ord.total g.G.FromRef.group_of g.met.G.FromRef.keeps_order c.args.group.now (g.S.NodeStore.slots c.args.store.now) g.S.Argument.Argument.is_summary c.args.height c.args.id c.in-Inner.inner c.get_inner-node.result.now c.requires c.in-Inner.is c.get_inner-node.ensures
-    c.keys-in-Inner.result.now c.in_ok-place-in-Inner.place c.keys-in-Inner.ensures.value c.in_ok-place-in-Inner.ensures.in_range c.in_ok-place-in-Inner.ensures.border c.child_id-child.result c.child_id-child.ensures c.args.i c.in-Found.leaf c.in-Found.slot (rw c.in-Found.is at c.in_ok-leaf-in-Inner.ensures)
+    c.keys-in-Inner.result.now c.in_ok-place-in-Inner.place c.keys-in-Inner.ensures.value c.in_ok-place-in-Inner.ensures.in_range c.in_ok-place-in-Inner.ensures.border c.child_id-child.result c.child_id-child.ensures c.args.i c.in-Found.at (rw c.in-Found.is at c.in_ok-at-in-Inner.ensures)
 
 pub returns-in-Short : goal.returns-in-Short
 returns-in-Short g t c =
     found_behind g.met.S.K.Ord.total g.met.G.Ord.total g.G.FromRef.group_of g.met.G.FromRef.keeps_order c.args.group.now (g.S.NodeStore.slots c.args.store.now) g.S.Argument.Argument.is_summary c.args.height c.args.id c.in-Inner.inner c.get_inner-node.result.now c.requires c.in-Inner.is c.get_inner-node.ensures
-    c.keys-in-Inner.result.now c.in_ok-place-in-Inner.place c.keys-in-Inner.ensures.value c.in_ok-place-in-Inner.ensures.in_range c.in_ok-place-in-Inner.ensures.border c.child_id-child.result c.child_id-child.ensures c.args.i c.in-Short.rest c.skip-in-Short.result (rw c.in-Short.is at c.in_ok-leaf-in-Inner.ensures) c.skip-in-Short.ensures
+    c.keys-in-Inner.result.now c.in_ok-place-in-Inner.place c.keys-in-Inner.ensures.value c.in_ok-place-in-Inner.ensures.in_range c.in_ok-place-in-Inner.ensures.border c.child_id-child.result c.child_id-child.ensures c.args.i c.in-Short.rest c.skip-in-Short.result (rw c.in-Short.is at c.in_ok-at-in-Inner.ensures) c.skip-in-Short.ensures

@@ -7,4 +7,4 @@ pub returns-clause-end : goal.returns-clause-end
 returns-clause-end g c =
     let slots = g.S.NodeStore.slots c.args.tree.now.store in
     let at = (last_place g.S.Argument.Argument.is_summary slots c.args.tree.now.height c.args.tree.now.root (right g.S.NodeStore.slots c.tree.view_is c.tree.invariant.0) c.last_leaf-leaf.result c.get_leaf.result.now c.last_leaf-leaf.ensures (rw (← c.tree.view_is) c.get_leaf.ensures)).1 in
-    omega (arith, at, c.len.ensures.value)
+    omega (arith, at, c.len-slot.ensures.value)

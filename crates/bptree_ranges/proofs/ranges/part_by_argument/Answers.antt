@@ -1,37 +1,35 @@
-use Rattle.std.proofs.Common.{◌+◌, None, Some, refl}
+use Rattle.std.proofs.Common.{◌+◌, None, Some}
 use Rattle.bptree_ranges.specs.Ranges.{start}
-use Rattle.bptree_ranges.proofs.Ranged.{first_place, selected_place, selected_within, empty_part}
+use Rattle.bptree_ranges.proofs.Ranged.{selected_place, selected_within, empty_part}
 use Rattle.bptree_descents.specs.ByArgument.{IsSelectedAt}
-use Rattle.bptree_shape.proofs.Whole.{contents_of, right}
 use Rattle.bptree_ranges.proofs.ranges.part_by_argument.Goals as goal
 
 pub returns-in-None-clause-part : goal.returns-in-None-clause-part
 returns-in-None-clause-part g c =
     let slots = g.S.NodeStore.slots c.args.tree.now.store in
-    rw (contents_of g.S.NodeStore.slots c.tree.view_is refl)
-    (let at = (first_place g.S.Argument.Argument.is_summary slots c.args.tree.now.height c.args.tree.now.root (right g.S.NodeStore.slots c.tree.view_is c.tree.invariant.0) c.first_leaf.result c.first_leaf.ensures).0 in (
+    rw c.recall.ensures.whole.contents (
       None,
       tt,
       rw c.in-None.is at c.in_ok-find_by_argument.ensures.selected,
-      rw c.no_part.ensures (empty_part slots c.args.tree.now.height c.args.tree.now.root (c.first_leaf.result, 0) at),
-    ))
+      rw c.no_part.ensures (empty_part slots c.args.tree.now.height c.args.tree.now.root c.start_of_all.result c.start_of_all.ensures.place),
+    )
 
 pub part_from-requires : goal.part_from-requires
 part_from-requires g c =
     let slots = g.S.NodeStore.slots c.args.tree.now.store in
-    (selected_place g.S.Argument.Argument.is_summary slots c.args.tree.now.height c.args.tree.now.root (right g.S.NodeStore.slots c.tree.view_is c.tree.invariant.0) g.S.Argument.SearchArgument.selects c.args.query c.in-Some.front.0 c.in-Some.front.1 (rw c.in-Some.is at c.in_ok-find_by_argument.ensures.selected)).0
+    (selected_place g.S.Argument.Argument.is_summary slots c.args.tree.now.height c.args.tree.now.root c.recall.ensures.whole.shape g.S.Argument.SearchArgument.selects c.args.query c.in-Some.front.leaf c.in-Some.front.slot (rw c.in-Some.is at c.in_ok-find_by_argument.ensures.selected)).0
 
 pub returns-in-Some-clause-part : goal.returns-in-Some-clause-part
 returns-in-Some-clause-part g c =
     let sum = g.S.Argument.Argument.is_summary in
     let slots = g.S.NodeStore.slots c.args.tree.now.store in
     let selects = g.S.Argument.SearchArgument.selects in
-    let leaf = c.in-Some.front.0 in
-    let slot = c.in-Some.front.1 in
-    rw (contents_of g.S.NodeStore.slots c.tree.view_is refl)
-    (let found : IsSelectedAt selects c.args.query slots c.args.tree.now.height c.args.tree.now.root (Some (leaf, slot)) = rw c.in-Some.is at c.in_ok-find_by_argument.ensures.selected in (
+    let leaf = c.in-Some.front.leaf in
+    let slot = c.in-Some.front.slot in
+    rw c.recall.ensures.whole.contents
+    (let found : IsSelectedAt selects c.args.query slots c.args.tree.now.height c.args.tree.now.root (Some c.in-Some.front) = rw c.in-Some.is at c.in_ok-find_by_argument.ensures.selected in (
       Some (start slots c.args.tree.now.height c.args.tree.now.root leaf + slot),
-      selected_within sum slots c.args.tree.now.height c.args.tree.now.root (right g.S.NodeStore.slots c.tree.view_is c.tree.invariant.0) selects c.args.query leaf slot found,
-      (selected_place sum slots c.args.tree.now.height c.args.tree.now.root (right g.S.NodeStore.slots c.tree.view_is c.tree.invariant.0) selects c.args.query leaf slot found).1,
+      selected_within sum slots c.args.tree.now.height c.args.tree.now.root c.recall.ensures.whole.shape selects c.args.query leaf slot found,
+      (selected_place sum slots c.args.tree.now.height c.args.tree.now.root c.recall.ensures.whole.shape selects c.args.query leaf slot found).1,
       c.part_from.ensures,
     ))

@@ -2,13 +2,12 @@ use Rattle.std.proofs.Common.{arith, subst}
 use Rattle.bptree_ranges.specs.Ranges.{place_on, IsPart}
 use Rattle.bptree_shape.specs.Shape.{pairs_at}
 use Rattle.bptree_ranges.proofs.Ranged.{part_upto_end, reached}
-use Rattle.bptree_shape.proofs.Whole.{right}
 use Rattle.bptree_ranges.proofs.ranges.part_from.Goals as goal
 
 pub part_of_places-requires-clause-rises : goal.part_of_places-requires-clause-rises
 part_of_places-requires-clause-rises g c =
     let slots = g.S.NodeStore.slots c.args.tree.now.store in
-    omega (arith, c.end_of_all-back.ensures.end, c.requires.within, reached g.S.Argument.Argument.is_summary slots c.args.tree.now.height c.args.tree.now.root (right g.S.NodeStore.slots c.tree.view_is c.tree.invariant.0) c.args.front.0 c.requires.stands)
+    omega (arith, c.end_of_all-back.ensures.end, c.requires.within, reached g.S.Argument.Argument.is_summary slots c.args.tree.now.height c.args.tree.now.root c.recall.ensures.whole.shape c.args.front.leaf c.requires.stands)
 
 pub returns : goal.returns
 returns g c =

@@ -1,5 +1,6 @@
 use Rattle.std.proofs.Common.{◌≡◌, ◌<◌, ◌-◌, ◌∙◌, ap, arith, cond, length, refl, slice_get, sym}
 use Rattle.bptree_ascent.proofs.Rooted.{low_tree}
+use Rattle.bptree_keys.specs.Ends.{is_back}
 use Rattle.bptree_shape.specs.Shape.{leaf_pairs, pairs_at}
 use Rattle.bptree_shape.proofs.Ends.{end_pair, end_within}
 use Rattle.bptree_descents.proofs.Summed.{whole_subtree}
@@ -22,10 +23,10 @@ take_entry-requires g c =
     let tree = c.tree.inside in
     let old = g.S.NodeStore.slots tree.store in
     let leaf = c.end_path-leaf.result in
-    let slot = c.end_place-slot.result in
+    let slot = c.end_index-slot.result in
     let few = few_of c.tree.inside.len _ c.tree.invariant.1 (omega arith) in
     let some : 0 < length c.get_leaf.result.now.pairs = omega (arith, c.len-len.ensures.value) in
-    let within : slot < length (leaf_pairs (old.leaf leaf.0)) = rw c.get_leaf.ensures (end_within c.args.is_last (length c.get_leaf.result.now.pairs) slot some (rw c.len-len.ensures.value at c.end_place-slot.ensures)) in
+    let within : slot < length (leaf_pairs (old.leaf leaf.0)) = rw c.get_leaf.ensures (end_within (is_back c.args.end) (length c.get_leaf.result.now.pairs) slot some (rw c.len-len.ensures.value at c.end_index-slot.ensures)) in
     rw (← c.tree.view_is) (
       (pair_there total sum old tree.height tree.root c.tree.invariant.0 few leaf slot within c.clear.new.self c.end_path-leaf.new.path c.clear.ensures (c.end_path-leaf.ensures.way slot)).0.0,
       entry_there total sum old tree.height tree.root c.tree.invariant.0 few leaf slot within c.clear.new.self c.end_path-leaf.new.path c.clear.ensures (c.end_path-leaf.ensures.way slot),
@@ -35,8 +36,8 @@ pub returns-then-len-eq0-clause-removed : goal.returns-then-len-eq0-clause-remov
 returns-then-len-eq0-clause-removed g c =
     let old = g.S.NodeStore.slots c.tree.inside.store in
     let node = c.get_leaf.result.now in
-    let at = end_pair g.S.K.Ord.cmp old c.tree.inside.height c.tree.inside.root c.tree.invariant.0.tree c.end_path-leaf.result node c.get_leaf.ensures c.args.is_last c.end_path-leaf.ensures.leaf in
-    rw (← c.tree.view_is) (none_at_end c.args.is_last _ (sym at ∙ none_here node.pairs _ (omega (arith, c.len-len.ensures.value))), refl)
+    let at = end_pair g.S.K.Ord.cmp old c.tree.inside.height c.tree.inside.root c.tree.invariant.0.tree c.end_path-leaf.result node c.get_leaf.ensures (is_back c.args.end) c.end_path-leaf.ensures.leaf in
+    rw (← c.tree.view_is) (none_at_end (is_back c.args.end) _ (sym at ∙ none_here node.pairs _ (omega (arith, c.len-len.ensures.value))), refl)
 
 pub returns-clause-removed : goal.returns-clause-removed
 returns-clause-removed g c =
@@ -46,13 +47,13 @@ returns-clause-removed g c =
     let old = g.S.NodeStore.slots tree.store in
     let leaf = c.end_path-leaf.result in
     let node = c.get_leaf.result.now in
-    let slot = c.end_place-slot.result in
+    let slot = c.end_index-slot.result in
     let few = few_of c.tree.inside.len _ c.tree.invariant.1 (omega arith) in
-    let place = cond c.args.is_last (length (pairs_at old tree.height tree.root) - 1) 0 in
+    let place = cond (is_back c.args.end) (length (pairs_at old tree.height tree.root) - 1) 0 in
     let some : 0 < length node.pairs = omega (arith, c.len-len.ensures.value) in
-    let stands : slot ≡ cond c.args.is_last (length node.pairs - 1) 0 = rw c.len-len.ensures.value at c.end_place-slot.ensures in
-    let within : slot < length (leaf_pairs (old.leaf leaf.0)) = rw c.get_leaf.ensures (end_within c.args.is_last (length node.pairs) slot some stands) in
-    let at = end_pair g.S.K.Ord.cmp old tree.height tree.root c.tree.invariant.0.tree leaf node c.get_leaf.ensures c.args.is_last c.end_path-leaf.ensures.leaf in
+    let stands : slot ≡ cond (is_back c.args.end) (length node.pairs - 1) 0 = rw c.len-len.ensures.value at c.end_index-slot.ensures in
+    let within : slot < length (leaf_pairs (old.leaf leaf.0)) = rw c.get_leaf.ensures (end_within (is_back c.args.end) (length node.pairs) slot some stands) in
+    let at = end_pair g.S.K.Ord.cmp old tree.height tree.root c.tree.invariant.0.tree leaf node c.get_leaf.ensures (is_back c.args.end) c.end_path-leaf.ensures.leaf in
     let here : slice_get (leaf_pairs (old.leaf leaf.0)) slot ≡ slice_get (pairs_at old tree.height tree.root) place = rw (c.get_leaf.ensures, stands) at in
     let pair = pair_there total sum old tree.height tree.root c.tree.invariant.0 few leaf slot within c.clear.new.self c.end_path-leaf.new.path c.clear.ensures (c.end_path-leaf.ensures.way slot) in
     let there = entry_there total sum old tree.height tree.root c.tree.invariant.0 few leaf slot within c.clear.new.self c.end_path-leaf.new.path c.clear.ensures (c.end_path-leaf.ensures.way slot) in
@@ -63,22 +64,22 @@ pub returns-in_err-take_entry-clause-empty : goal.returns-in_err-take_entry-clau
 returns-in_err-take_entry-clause-empty g c empty =
     let tree = c.tree.inside in
     let node = c.get_leaf.result.now in
-    let at = end_pair g.S.K.Ord.cmp (g.S.NodeStore.slots tree.store) tree.height tree.root c.tree.invariant.0.tree c.end_path-leaf.result node c.get_leaf.ensures c.args.is_last c.end_path-leaf.ensures.leaf in
+    let at = end_pair g.S.K.Ord.cmp (g.S.NodeStore.slots tree.store) tree.height tree.root c.tree.invariant.0.tree c.end_path-leaf.result node c.get_leaf.ensures (is_back c.args.end) c.end_path-leaf.ensures.leaf in
     let some : 0 < length node.pairs = omega (arith, c.len-len.ensures.value) in
-    absurd (some_here node.pairs _ (end_within c.args.is_last (length node.pairs) _ some refl) (at ∙ none_here _ _ (ap length (rw (← c.tree.view_is) at empty))))
+    absurd (some_here node.pairs _ (end_within (is_back c.args.end) (length node.pairs) _ some refl) (at ∙ none_here _ _ (ap length (rw (← c.tree.view_is) at empty))))
 
 pub returns-clause-empty : goal.returns-clause-empty
 returns-clause-empty g c empty =
     let tree = c.tree.inside in
     let node = c.get_leaf.result.now in
-    let at = end_pair g.S.K.Ord.cmp (g.S.NodeStore.slots tree.store) tree.height tree.root c.tree.invariant.0.tree c.end_path-leaf.result node c.get_leaf.ensures c.args.is_last c.end_path-leaf.ensures.leaf in
+    let at = end_pair g.S.K.Ord.cmp (g.S.NodeStore.slots tree.store) tree.height tree.root c.tree.invariant.0.tree c.end_path-leaf.result node c.get_leaf.ensures (is_back c.args.end) c.end_path-leaf.ensures.leaf in
     let some : 0 < length node.pairs = omega (arith, c.len-len.ensures.value) in
-    absurd (some_here node.pairs _ (end_within c.args.is_last (length node.pairs) _ some refl) (at ∙ none_here _ _ (ap length (rw (← c.tree.view_is) at empty))))
+    absurd (some_here node.pairs _ (end_within (is_back c.args.end) (length node.pairs) _ some refl) (at ∙ none_here _ _ (ap length (rw (← c.tree.view_is) at empty))))
 
 pub returns-clause-untouched : goal.returns-clause-untouched
 returns-clause-untouched g c empty =
     let tree = c.tree.inside in
     let node = c.get_leaf.result.now in
-    let at = end_pair g.S.K.Ord.cmp (g.S.NodeStore.slots tree.store) tree.height tree.root c.tree.invariant.0.tree c.end_path-leaf.result node c.get_leaf.ensures c.args.is_last c.end_path-leaf.ensures.leaf in
+    let at = end_pair g.S.K.Ord.cmp (g.S.NodeStore.slots tree.store) tree.height tree.root c.tree.invariant.0.tree c.end_path-leaf.result node c.get_leaf.ensures (is_back c.args.end) c.end_path-leaf.ensures.leaf in
     let some : 0 < length node.pairs = omega (arith, c.len-len.ensures.value) in
-    absurd (some_here node.pairs _ (end_within c.args.is_last (length node.pairs) _ some refl) (at ∙ none_here _ _ (ap length (rw (← c.tree.view_is) at empty))))
+    absurd (some_here node.pairs _ (end_within (is_back c.args.end) (length node.pairs) _ some refl) (at ∙ none_here _ _ (ap length (rw (← c.tree.view_is) at empty))))

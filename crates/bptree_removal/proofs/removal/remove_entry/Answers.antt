@@ -12,8 +12,8 @@ returns-in_ok-take_entry-in-Some-clause-removed g c =
     let slots = g.S.NodeStore.slots tree.store in
     let at = c.in-Some.ensures.way in
     let taken = c.in_ok-take_entry-in-Some.ensures.taken c.args.k.now at in (
-      length (pairs_of slots at.1.stands.before) + c.in-Some.at.1,
-      rw c.len-len.ensures.whole.contents (place_read slots tree.height tree.root c.in-Some.at.0 at.1.stands c.in-Some.at.1 _ taken.0),
+      length (pairs_of slots at.1.stands.before) + c.in-Some.at.slot,
+      rw c.recall.ensures.whole.contents (place_read slots tree.height tree.root c.in-Some.at.leaf at.1.stands c.in-Some.at.slot _ taken.0),
       taken.1,
       taken.2,
     )

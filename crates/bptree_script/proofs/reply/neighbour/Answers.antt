@@ -7,5 +7,5 @@ use Rattle.bptree_script.proofs.reply.neighbour.Goals as goal
 
 pub returns : goal.returns
 returns g c =
-    let beside = pair_beside nat_cmp c.args.is_next c.args.tree.now.contents in
+    let beside = pair_beside nat_cmp c.args.side c.args.tree.now.contents in
     beside_is (λ v. v.now) (beside (cursor_key c.cursor_on-cursor.result)) c.in-Ok.found c.in-Ok.ensures.cursor c.in-Ok.ensures.value ∙ ap beside c.cursor_on-cursor.ensures

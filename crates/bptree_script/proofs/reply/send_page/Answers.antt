@@ -1,4 +1,4 @@
-use Rattle.std.proofs.Common.{rules, ◌<◌, ◌^◌, length, arith}
+use Rattle.std.proofs.Common.{rules}
 use Rattle.bptree_tree.proofs.PageLemmas.{page_is}
 use Rattle.bptree_script.proofs.PairLemmas.{page_text-is}
 use Rattle.bptree_script.proofs.reply.send_page.Goals as goal
@@ -6,7 +6,6 @@ use Rattle.bptree_script.proofs.reply.send_page.Goals as goal
 pub returns : goal.returns
 returns g c =
     let pairs = c.args.tree.now.contents in
-    let fits : length pairs < 2 ^ 64 = omega (arith, c.len-len.ensures.value, c.len-len.type_inv) in
-    let shown = page_is pairs c.args.p c.args.s _ c.in-Ok.pairs c.saturating_mul.ensures fits c.in-Ok.ensures.rest in
+    let shown = page_is pairs c.args.p c.args.s _ c.in-Ok.pairs c.saturating_mul.ensures c.recall.ensures.fits c.in-Ok.ensures.rest in
     let text = page_text-is pairs c.in-Ok.pairs c.args.p c.args.s c.if-s-eq0.false shown in
     rw text (search rules)

@@ -1,7 +1,7 @@
 use Rattle.std.proofs.Common.{◌≡◌, ◌++◌, ◌∷◌, [], nat_cmp, ap, ◌∙◌}
 use Rattle.std.proofs.lemmas.Result.{IfOk-weaker}
 use Rattle.bptree_arguments.specs.CountLaws.{SelectsPlace, count_below}
-use Rattle.bptree_script.specs.declared.walk.End.TheVariants.{Front}
+use Rattle.bptree_keys.specs.declared.end.End.TheVariants.{Front}
 use Rattle.sweep_bptree_callers.proofs.Replies.{first_ranged}
 use Rattle.sweep_bptree_callers.proofs.callers.first_from.Goals as goal
 

@@ -17,4 +17,4 @@ pub returns-clause-least : goal.returns-clause-least
 returns-clause-least g c = IfOk-weaker c.lower_bound.result _ _ (λ found points. none_below _ _ found (no_smaller_key g.K.Ord.cmp c.args.k.now g.met.K.Ord.total _ _ c.args.map.now refl points)) c.lower_bound.ensures.cursor
 
 pub returns-clause-there : goal.returns-clause-there
-returns-clause-there g c = λ there. IfOk-weaker c.lower_bound.result _ _ (λ found points. there_too _ _ found (least_is g.K.Ord.cmp c.args.k.now g.met.K.Ord.total c.args.map.now c.len-len.ensures.ascending there _ points)) c.lower_bound.ensures.cursor
+returns-clause-there g c = λ there. IfOk-weaker c.lower_bound.result _ _ (λ found points. there_too _ _ found (least_is g.K.Ord.cmp c.args.k.now g.met.K.Ord.total c.args.map.now c.recall.ensures.ascending there _ points)) c.lower_bound.ensures.cursor

@@ -5,10 +5,10 @@ use Rattle.bptree_callers.proofs.ExtendLemmas.{absent_before, kept_beside, last_
 use Rattle.bptree_callers.proofs.callers.moves.puts_the_last_of_each_key.Goals as goal
 
 pub returns-clause-last : goal.returns-clause-last
-returns-clause-last g c = IfOk-weaker c.extend.result _ _ (λ _ (it, gives, put). last_of_all g.met.K.Ord.total c.args.pairs.items _ _ (YieldsList-from_vec c.args.pairs.items gives.0 (omega (arith, gives.1))) c.len-len.ensures.ascending put) c.extend.ensures.ok
+returns-clause-last g c = IfOk-weaker c.extend.result _ _ (λ _ (it, gives, put). last_of_all g.met.K.Ord.total c.args.pairs.items _ _ (YieldsList-from_vec c.args.pairs.items gives.0 (omega (arith, gives.1))) c.recall.ensures.ascending put) c.extend.ensures.ok
 
 pub returns-clause-others : goal.returns-clause-others
-returns-clause-others g c = IfOk-weaker c.extend.result _ _ (λ _ (it, gives, put). kept_beside g.met.K.Ord.total c.args.pairs.items _ _ (YieldsList-from_vec c.args.pairs.items gives.0 (omega (arith, gives.1))) c.len-len.ensures.ascending put) c.extend.ensures.ok
+returns-clause-others g c = IfOk-weaker c.extend.result _ _ (λ _ (it, gives, put). kept_beside g.met.K.Ord.total c.args.pairs.items _ _ (YieldsList-from_vec c.args.pairs.items gives.0 (omega (arith, gives.1))) c.recall.ensures.ascending put) c.extend.ensures.ok
 
 pub returns-clause-failed : goal.returns-clause-failed
-returns-clause-failed g c = of_both c.extend.result _ _ _ (λ e (it, becomes, came) failed. absent_before g.met.K.Ord.total _ _ _ came.0 e c.len-len.ensures.ascending came.3 failed) c.extend.ensures.err c.extend.ensures.kind
+returns-clause-failed g c = of_both c.extend.result _ _ _ (λ e (it, becomes, came) failed. absent_before g.met.K.Ord.total _ _ _ came.0 e c.recall.ensures.ascending came.3 failed) c.extend.ensures.err c.extend.ensures.kind

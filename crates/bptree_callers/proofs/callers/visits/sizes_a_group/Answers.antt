@@ -1,4 +1,4 @@
-use Rattle.std.proofs.Common.{rules, ◌≡◌, ◌^◌, ◌<◌, length, Some, subst, arith}
+use Rattle.std.proofs.Common.{◌≡◌, length, Some, subst, arith}
 use Rattle.std.proofs.lemmas.List.Sums.{length-filter, count_by-le-length}
 use Rattle.std.proofs.lemmas.Map.Entries.{length-keys_of}
 use Rattle.std.proofs.lemmas.Result.{IfOk-weaker}
@@ -10,11 +10,10 @@ use Rattle.bptree_callers.proofs.callers.visits.sizes_a_group.Goals as goal
 
 pub returns-clause-counted : goal.returns-clause-counted
 returns-clause-counted g c =
-    let fits : c.len-len.result < 2 ^ 64 = search rules in
     let keys = keys_of c.args.tree.now.contents in
     let v = c.new.result.group in
     IfOk-weaker c.descend_visit.result _ _
     (λ answer e. subst (λ h. answer ≡ Some (length (filter (λ k. is_eq (nat_cmp k.0 h.0)) keys))) c.new.ensures.group
     (size_told answer _ _ _ e c.new.ensures.counted (c.laws_of_groups.ensures.size v keys)
-    (omega (arith, length-filter (λ k. is_eq (nat_cmp k.0 v.0)) keys, count_by-le-length (λ k. is_eq (nat_cmp k.0 v.0)) keys, length-keys_of c.args.tree.now.contents, c.len-len.ensures.value, fits))))
+    (omega (arith, length-filter (λ k. is_eq (nat_cmp k.0 v.0)) keys, count_by-le-length (λ k. is_eq (nat_cmp k.0 v.0)) keys, length-keys_of c.args.tree.now.contents, c.recall.ensures.fits))))
     c.descend_visit.ensures.answer

@@ -1,4 +1,4 @@
-use Rattle.std.proofs.Common.{rules, ◌^◌, ◌<◌, arith}
+use Rattle.std.proofs.Common.{arith}
 use Rattle.std.proofs.lemmas.Map.Entries.{length-keys_of}
 use Rattle.std.proofs.lemmas.Result.{IfOk-weaker}
 use Rattle.std.specs.Map.{keys_of}
@@ -7,8 +7,7 @@ use Rattle.bptree_examples.proofs.uses.grouped_index.group_len.Goals as goal
 
 pub returns-clause-counted : goal.returns-clause-counted
 returns-clause-counted c =
-    let fits : c.len-len.result < 2 ^ 64 = search rules in
     let pairs = c.args.items.now in
     IfOk-weaker c.descend_visit.result _ _
-    (λ answer e. size_told answer c.args.group c.new.result (keys_of pairs) e c.new.ensures.group c.new.ensures.counted (omega (arith, length-keys_of pairs, c.len-len.ensures.value, fits)))
+    (λ answer e. size_told answer c.args.group c.new.result (keys_of pairs) e c.new.ensures.group c.new.ensures.counted (omega (arith, length-keys_of pairs, c.recall.ensures.fits)))
     c.descend_visit.ensures.answer

@@ -1,16 +1,28 @@
-use Rattle.bptree_tree.proofs.EntryLemmas.{entry_there, at_least_there, absent}
+use Rattle.std.proofs.Common.{Err, Ok, refl}
+use Rattle.bptree_descents.proofs.Beside.{lacks_key, present_there, slot_there}
+use Rattle.bptree_tree.proofs.EntryLemmas.{entry_there}
 use Rattle.bptree_tree.proofs.tree.BPlusTree.find.Goals as goal
+
+pub get_leaf-requires : goal.get_leaf-requires
+get_leaf-requires g c =
+    let tree = c.nodes.inside in
+    present_there g.met.S.K.Ord.total g.S.Argument.Argument.is_summary (g.S.NodeStore.slots tree.store) tree.height tree.root c.nodes.invariant.0 c.args.k.now c.in-Ok.at.leaf (Ok c.in-Ok.at.slot) (rw (← c.nodes.view_is) at c.in-Ok.ensures)
+
+pub data_at-requires : goal.data_at-requires
+data_at-requires g c =
+    let tree = c.nodes.inside in
+    slot_there g.met.S.K.Ord.total g.S.Argument.Argument.is_summary (g.S.NodeStore.slots tree.store) tree.height tree.root c.nodes.invariant.0 c.args.k.now c.in-Ok.at.leaf (Ok c.in-Ok.at.slot) (rw (← c.nodes.view_is) at c.in-Ok.ensures) c.get_leaf.result.now c.get_leaf.ensures c.in-Ok.at.slot refl
 
 pub returns-in-Ok : goal.returns-in-Ok
 returns-in-Ok g c =
     let tree = c.nodes.inside in
+    let at = rw (← c.nodes.view_is) at c.in-Ok.ensures in
     record {
-      found = record {
-        entry = rw (← c.self.view_is, ← c.nodes.view_is) (entry_there g.met.S.K.Ord.total g.S.Argument.Argument.is_summary (g.S.NodeStore.slots tree.store) tree.height tree.root c.nodes.invariant.0 c.args.k.now c.leaf_for-id.result c.get_leaf-leaf.result.now (rw (← c.nodes.view_is) at c.leaf_for-id.ensures) c.get_leaf-leaf.ensures c.in-Ok.slot _ c.in-Ok.ensures.found c.data_at.ensures.value);
-        first = rw (← c.self.view_is, ← c.nodes.view_is) (at_least_there g.met.S.K.Ord.total g.S.Argument.Argument.is_summary (g.S.NodeStore.slots tree.store) tree.height tree.root c.nodes.invariant.0 c.args.k.now c.leaf_for-id.result c.get_leaf-leaf.result.now (rw (← c.nodes.view_is) at c.leaf_for-id.ensures) c.get_leaf-leaf.ensures c.in-Ok.slot _ c.in-Ok.ensures.found c.data_at.ensures.value);
-      };
+      found = rw (← c.self.view_is, ← c.nodes.view_is) (entry_there g.met.S.K.Ord.total g.S.Argument.Argument.is_summary (g.S.NodeStore.slots tree.store) tree.height tree.root c.nodes.invariant.0 c.args.k.now c.in-Ok.at.leaf c.get_leaf.result.now at.for_key c.get_leaf.ensures c.in-Ok.at.slot _ (rw c.get_leaf.ensures at at.place_is) c.data_at.ensures.value);
       absent = tt;
     }
 
 pub returns-in-Err : goal.returns-in-Err
-returns-in-Err g c = let tree = c.nodes.inside in record { found = tt; absent = rw (← c.self.view_is, ← c.nodes.view_is) (absent g.met.S.K.Ord.total g.S.Argument.Argument.is_summary (g.S.NodeStore.slots tree.store) tree.height tree.root c.nodes.invariant.0 c.args.k.now c.leaf_for-id.result c.get_leaf-leaf.result.now (rw (← c.nodes.view_is) at c.leaf_for-id.ensures) c.get_leaf-leaf.ensures (λ sorted. (c.in-Err.ensures.place sorted).0)) }
+returns-in-Err g c =
+    let tree = c.nodes.inside in
+    record { found = tt; absent = rw (← c.self.view_is, ← c.nodes.view_is) (lacks_key g.met.S.K.Ord.total g.S.Argument.Argument.is_summary (g.S.NodeStore.slots tree.store) tree.height tree.root c.nodes.invariant.0 c.args.k.now c.in-Err.at.leaf (Err c.in-Err.at.slot) (rw (← c.nodes.view_is) at c.in-Err.ensures) c.in-Err.at.slot refl) }

@@ -10,14 +10,14 @@ pub new-requires : goal.new-requires
 new-requires g c =
     let slots = g.S.NodeStore.slots c.nodes.inside.store in
     let tree = c.nodes.inside in
-    rw c.len-to.ensures.value (whole_between g.S.Argument.Argument.is_summary slots tree.height tree.root c.nodes.invariant.0 c.first_leaf-front.result c.last_leaf-back.result c.get_leaf.result.now tree.len (rw (← c.nodes.view_is) at c.first_leaf-front.ensures) (rw (← c.nodes.view_is) at c.last_leaf-back.ensures) c.get_leaf.ensures c.nodes.invariant.1).0
+    rw c.len-end.ensures.value (whole_between g.S.Argument.Argument.is_summary slots tree.height tree.root c.nodes.invariant.0 c.first_leaf-first.result c.last_leaf-last.result c.get_leaf.result.now tree.len (rw (← c.nodes.view_is) at c.first_leaf-first.ensures) (rw (← c.nodes.view_is) at c.last_leaf-last.ensures) c.get_leaf.ensures c.nodes.invariant.1).0
 
 pub returns-clause-rest : goal.returns-clause-rest
 returns-clause-rest g c =
     let slots = g.S.NodeStore.slots c.nodes.inside.store in
     let tree = c.nodes.inside in
-    let shown = (whole_between g.S.Argument.Argument.is_summary slots tree.height tree.root c.nodes.invariant.0 c.first_leaf-front.result c.last_leaf-back.result c.get_leaf.result.now tree.len (rw (← c.nodes.view_is) at c.first_leaf-front.ensures) (rw (← c.nodes.view_is) at c.last_leaf-back.ensures) c.get_leaf.ensures c.nodes.invariant.1).1 in
-    rw (← c.self.view_is, ← c.nodes.view_is) (c.new.ensures ∙ rw c.len-to.ensures.value shown)
+    let shown = (whole_between g.S.Argument.Argument.is_summary slots tree.height tree.root c.nodes.invariant.0 c.first_leaf-first.result c.last_leaf-last.result c.get_leaf.result.now tree.len (rw (← c.nodes.view_is) at c.first_leaf-first.ensures) (rw (← c.nodes.view_is) at c.last_leaf-last.ensures) c.get_leaf.ensures c.nodes.invariant.1).1 in
+    rw (← c.self.view_is, ← c.nodes.view_is) (c.new.ensures ∙ rw c.len-end.ensures.value shown)
 
 pub returns-clause-ascending : goal.returns-clause-ascending
 returns-clause-ascending g c =

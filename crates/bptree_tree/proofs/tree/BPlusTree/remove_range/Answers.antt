@@ -12,7 +12,7 @@ overflow_add-gone g c =
     let cmp = g.S.K.Ord.cmp in
     let found = rw c.if-branch.true at c.in_ok-drop_first_between.ensures.ok in
     let bound = no_longer (λ pair. not (falls_short cmp lo pair.0) && stays_below cmp hi pair.0) c.args.self.now.contents in
-    omega (arith, now.count, ap length now.parts, ap length found.1, length-append now.left (between cmp c.pairs.self.contents lo hi), bound, ap (λ tree. length tree.contents) c.self.view_is, c.len-len.ensures.value, c.len-len.type_inv)
+    omega (arith, now.count, ap length now.parts, ap length found.1, length-append now.left (between cmp c.pairs.self.contents lo hi), bound, ap (λ tree. length tree.contents) c.self.view_is, c.recall.ensures.fits)
 
 pub pairs-preserved : goal.pairs-preserved
 pairs-preserved g c =

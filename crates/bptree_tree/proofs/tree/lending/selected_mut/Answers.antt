@@ -10,11 +10,11 @@ pub invariant_of-tree-lent : goal.invariant_of-tree-lent
 invariant_of-tree-lent g c = λ w.
     let tree = c.tree.inside in
     let slots = g.S.NodeStore.slots in
-    let leaf = c.in-Ok-Some.leaf in
+    let leaf = c.in-Ok-Some.at.leaf in
     let node = c.get_mut_leaf.result.now in
-    let found : IsSelectedAt g.S.Argument.SearchArgument.selects c.args.query (slots tree.store) tree.height tree.root (Some (leaf, c.in-Ok-Some.slot)) = rw c.in-Ok-Some.field-0-is at c.in-Ok-Some.ensures.selected in
-    let written = record node { pairs = set_value_at node.pairs c.in-Ok-Some.slot w } in
-    lent_right g.S.K.Ord.cmp g.S.Argument.Argument.is_summary (slots tree.store) (slots (g.S.NodeStore.with_leaf tree.store leaf.0 written)) tree.height tree.root c.tree.invariant.0 leaf node c.get_mut_leaf.ensures.value found.0 c.in-Ok-Some.slot w (g.met.S.NodeStore.with_leaf_updates tree.store leaf.0 written found.0.present)
+    let found : IsSelectedAt g.S.Argument.SearchArgument.selects c.args.query (slots tree.store) tree.height tree.root (Some c.in-Ok-Some.at) = rw c.in-Ok-Some.field-0-is at c.in-Ok-Some.ensures.selected in
+    let written = record node { pairs = set_value_at node.pairs c.in-Ok-Some.at.slot w } in
+    lent_right g.S.K.Ord.cmp g.S.Argument.Argument.is_summary (slots tree.store) (slots (g.S.NodeStore.with_leaf tree.store leaf.0 written)) tree.height tree.root c.tree.invariant.0 leaf node c.get_mut_leaf.ensures.value found.0 c.in-Ok-Some.at.slot w (g.met.S.NodeStore.with_leaf_updates tree.store leaf.0 written found.0.present)
     tree.len c.tree.invariant.1 tree.summary c.tree.invariant.2
 
 -- the value that is lent stands at an allowed place, and the tree ends with what is written there
@@ -23,11 +23,11 @@ returns-in-Ok-Some g c =
     let tree = c.tree.inside in
     let store = g.S.NodeStore.slots in
     let slots = store tree.store in
-    let leaf = c.in-Ok-Some.leaf in
-    let slot = c.in-Ok-Some.slot in
+    let leaf = c.in-Ok-Some.at.leaf in
+    let slot = c.in-Ok-Some.at.slot in
     let node = c.get_mut_leaf.result.now in
     let read = c.get_mut_leaf.ensures.value in
-    let found : IsSelectedAt g.S.Argument.SearchArgument.selects c.args.query slots tree.height tree.root (Some (leaf, slot)) = rw c.in-Ok-Some.field-0-is at c.in-Ok-Some.ensures.selected in
+    let found : IsSelectedAt g.S.Argument.SearchArgument.selects c.args.query slots tree.height tree.root (Some c.in-Ok-Some.at) = rw c.in-Ok-Some.field-0-is at c.in-Ok-Some.ensures.selected in
     let within = slot_within slots leaf node slot read found.1 in
     let sum = g.S.Argument.Argument.is_summary in
     let place = length (pairs_of slots found.0.before) + slot in

@@ -27,7 +27,7 @@ returns-clause-ascending g c =
     let is = rw (← c.tree.view_is) at c.requires.1 in
     let shown = c.new.ensures ∙ (part_between_places g.S.Argument.Argument.is_summary slots tree.height tree.root c.tree.invariant.0 c.args.part c.requires.0 is).1 in
     let all = tree_ascends g.met.S.K.Ord.total slots (root_least tree.height) tree.height tree.root None None c.tree.invariant.0.tree in
-    subst (IsAscending g.S.K.Ord.cmp) (sym (shown ∙ is.pairs)) (part_ascends g.met.S.K.Ord.total (pairs_at slots tree.height tree.root) (start slots tree.height tree.root c.args.part.front + c.args.part.from) _ all)
+    subst (IsAscending g.S.K.Ord.cmp) (sym (shown ∙ is.pairs)) (part_ascends g.met.S.K.Ord.total (pairs_at slots tree.height tree.root) (start slots tree.height tree.root c.args.part.front.leaf + c.args.part.front.slot) _ all)
 
 -- each step gives the first of what is left
 pub returns-clause-runs : goal.returns-clause-runs

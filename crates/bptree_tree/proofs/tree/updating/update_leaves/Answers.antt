@@ -17,7 +17,7 @@ get_leaf-leaf-requires g c =
 
 pub unwrap-next-requires : goal.unwrap-next-requires
 unwrap-next-requires g c =
-    let apart = λ (same : c.leaves.at ≡ c.args.back.0). c.leaves-test.true (c.as_usize.ensures ∙ (ap (λ (x : LeafNodeId). x.0) same ∙ sym c.as_usize-in-leaves.ensures)) in
+    let apart = λ (same : c.leaves.at ≡ c.args.back.leaf). c.leaves-test.true (c.as_usize.ensures ∙ (ap (λ (x : LeafNodeId). x.0) same ∙ sym c.as_usize-in-leaves.ensures)) in
     let there = next_there g.S.Argument.Argument.is_summary g.F.FnMut (g.S.NodeStore.slots c.args.store.now) c.args.height c.args.root c.args.f c.args.front c.args.back c.requires.shape c.requires.back c.requires.rises
     c.leaves.f c.leaves.at c.leaves.from (g.S.NodeStore.slots c.leaves.store) c.leaves.invariant.walked c.get_leaf-leaf.result.now c.get_leaf-leaf.ensures apart in
     subst IsSome (sym (c.next.ensures ∙ there.1)) refl
@@ -33,7 +33,7 @@ update_leaf-f-requires-clause-within g c =
 pub leaves-preserved : goal.leaves-preserved
 leaves-preserved g c =
     let node = c.get_leaf-leaf.result.now in
-    let apart = λ (same : c.leaves.at ≡ c.args.back.0). c.leaves-test.true (c.as_usize.ensures ∙ (ap (λ (x : LeafNodeId). x.0) same ∙ sym c.as_usize-in-leaves.ensures)) in
+    let apart = λ (same : c.leaves.at ≡ c.args.back.leaf). c.leaves-test.true (c.as_usize.ensures ∙ (ap (λ (x : LeafNodeId). x.0) same ∙ sym c.as_usize-in-leaves.ensures)) in
     let changed = rw c.len-len.ensures.value at (c.update_leaf-f.ensures.changed node c.get_leaf-leaf.ensures) in
     record {
       callable = c.update_leaf-f.ensures.callable;
@@ -45,7 +45,7 @@ leaves-preserved g c =
 pub leaves-smaller : goal.leaves-smaller
 leaves-smaller g c =
     let node = c.get_leaf-leaf.result.now in
-    let apart = λ (same : c.leaves.at ≡ c.args.back.0). c.leaves-test.true (c.as_usize.ensures ∙ (ap (λ (x : LeafNodeId). x.0) same ∙ sym c.as_usize-in-leaves.ensures)) in
+    let apart = λ (same : c.leaves.at ≡ c.args.back.leaf). c.leaves-test.true (c.as_usize.ensures ∙ (ap (λ (x : LeafNodeId). x.0) same ∙ sym c.as_usize-in-leaves.ensures)) in
     let changed = rw c.len-len.ensures.value at (c.update_leaf-f.ensures.changed node c.get_leaf-leaf.ensures) in
     let follows = (walked_leaf g.S.Argument.Argument.is_summary g.F.FnMut (g.S.NodeStore.slots c.args.store.now) c.args.height c.args.root c.args.f c.args.front c.args.back c.requires.shape c.requires.back c.requires.rises
     c.leaves.f c.leaves.at c.leaves.from (g.S.NodeStore.slots c.leaves.store) c.leaves.invariant.walked node c.get_leaf-leaf.ensures apart c.unwrap-next.result (sym c.next.ensures ∙ c.unwrap-next.ensures)
@@ -60,7 +60,7 @@ update_leaf-requires-clause-present g c =
 pub update_leaf-requires-clause-within : goal.update_leaf-requires-clause-within
 update_leaf-requires-clause-within g c =
     let slots = g.S.NodeStore.slots c.leaves.store in
-    let same : c.leaves.at ≡ c.args.back.0 = same_leaf _ _ (sym c.as_usize.ensures ∙ (c.leaves-test.false ∙ c.as_usize-in-leaves.ensures)) in
+    let same : c.leaves.at ≡ c.args.back.leaf = same_leaf _ _ (sym c.as_usize.ensures ∙ (c.leaves-test.false ∙ c.as_usize-in-leaves.ensures)) in
     let present = present_now g.S.Argument.Argument.is_summary g.F.FnMut (g.S.NodeStore.slots c.args.store.now) c.args.height c.args.root c.args.f c.args.front c.args.back c.requires.shape c.requires.back c.requires.rises
     c.leaves.f c.leaves.at c.leaves.from slots c.leaves.invariant.walked in
     let here = present_node (slots.leaf c.leaves.at.0) present in
@@ -74,7 +74,7 @@ update_leaf-requires-clause-within g c =
 pub returns : goal.returns
 returns g c =
     let slots = g.S.NodeStore.slots c.leaves.store in
-    let same : c.leaves.at ≡ c.args.back.0 = same_leaf _ _ (sym c.as_usize.ensures ∙ (c.leaves-test.false ∙ c.as_usize-in-leaves.ensures)) in
+    let same : c.leaves.at ≡ c.args.back.leaf = same_leaf _ _ (sym c.as_usize.ensures ∙ (c.leaves-test.false ∙ c.as_usize-in-leaves.ensures)) in
     let present = present_now g.S.Argument.Argument.is_summary g.F.FnMut (g.S.NodeStore.slots c.args.store.now) c.args.height c.args.root c.args.f c.args.front c.args.back c.requires.shape c.requires.back c.requires.rises
     c.leaves.f c.leaves.at c.leaves.from slots c.leaves.invariant.walked in
     let here = present_node (slots.leaf c.leaves.at.0) present in
