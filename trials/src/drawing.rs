@@ -120,7 +120,8 @@ impl Drawing {
             1 => calls::pop_last(),
             2 | 3 if self.model.kind.has_queries() => call(0, 6, &[group, index]),
             4 if self.model.kind.has_places() => call(9, 4, &[index]),
-            5..=7 => calls::remove_entry(key),
+            5 | 6 => calls::remove_entry(key),
+            7 | 8 if !self.model.kind.is_set() => call(0, 9, &[key]),
             _ => calls::remove(key),
         }
     }

@@ -6,7 +6,7 @@ use crate::model::pairs::Pairs;
 use crate::model::shards::bounds_before;
 use crate::model::Model;
 use crate::record::Record;
-use crate::words::{option, Reply};
+use crate::words::Reply;
 
 /// The lengths that a call left, of `here` and of `there`.
 #[derive(Clone, Copy, Debug)]
@@ -19,7 +19,6 @@ pub struct Left {
 pub fn can_stop(model: &Model, record: &Record) -> bool {
     let (family, member) = (record.family(), record.member());
     match family {
-        0 => model.kind.is_set() && member == 6,
         8 if model.kind.is_shards() => true,
         8 => member <= 4,
         _ => false,
@@ -61,7 +60,6 @@ pub fn after(model: &Model, record: &Record, reply: &Reply, left: Left) -> Resul
     }
     match (record.family(), member) {
         _ if model.kind.is_shards() => stop.shards(),
-        (0, _) => stop.replaced(),
         (_, 0) => stop.extended(),
         (_, 1) => stop.appended(),
         (_, 2) => stop.split(),
@@ -195,19 +193,6 @@ impl Stop<'_> {
         }
         after.here = without(after.kind, &after.here, from, from + gone);
         self.has(&[], after)
-    }
-
-    // The key is not taken, or it is in hand and its equal has left.
-    fn replaced(&self) -> Result<Model, String> {
-        let mut after = self.model.clone();
-        let key = self.record.a;
-        let mut words = vec![self.reply.word(0)];
-        words.extend(self.model.key(key));
-        if self.reply.word(0) == 1 {
-            let gone = after.here.take(key);
-            words.extend(option(gone.map(|_| self.model.key(key))));
-        }
-        self.has(&words, after)
     }
 
     // A shard that is cut, or one that goes to the one before it, may lose its last pairs. They

@@ -438,15 +438,23 @@ impl Sweep<'_> {
         }
     }
 
-    // The reply has what comes back: of an insertion its key and value, and of the others nothing,
-    // or a part of the whole reply.
+    // The reply has what comes back: of an insertion its key and value, of a key that replaces one
+    // that key, and of the others nothing, or a part of the whole reply.
     fn is_handed_back(&self, record: &Record, whole: &Whole, reply: &Reply) -> Told<()> {
         let model = &self.trial.model;
-        let is_put = record.member() == 0 && record.family() == 0 && !model.kind.is_store()
-            || record.family() == 8 && matches!(record.member(), 7 | 8);
+        let is_set = model.kind.is_set();
+        let is_put = match (record.family(), record.member()) {
+            (0, 0) => !model.kind.is_store(),
+            (0, 6) => is_set,
+            (8, 7 | 8) => true,
+            _ => false,
+        };
+        let is_replaced = (record.family(), record.member()) == (0, 9);
         let is_well = if is_put && reply.len > 0 {
             reply.has(&model.pair((record.a, record.b)))
-        } else if is_put {
+        } else if is_replaced && reply.len > 0 {
+            reply.has(&model.key(record.a))
+        } else if is_put || is_replaced {
             model.kind.has_large_keys()
         } else if record.family() == 6 && record.member() == 1 {
             is_part_of(&reply.words, &whole.reply.words, &[11])

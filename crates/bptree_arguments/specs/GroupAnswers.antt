@@ -5,6 +5,8 @@ use Rattle.std.specs.declared.cmp.Ordering.TheVariants.{Equal}
 use Rattle.std.specs.Ordering.{is_eq, is_gt, is_lt}
 use Rattle.std.specs.List.{AllByRecursion}
 use Rattle.std.specs.List.Sorted.{IsStrictlySortedBy}
+use Rattle.bptree_keys.specs.Ends.{is_back}
+use Rattle.bptree_keys.specs.declared.end.End.{End}
 use Rattle.bptree_arguments.specs.declared.group.GroupCount.{GroupCount}
 use Rattle.bptree_arguments.specs.CountLaws.{count_below}
 use Rattle.bptree_arguments.specs.GroupSums.{carried_over}
@@ -47,6 +49,9 @@ module _ {G : Type 0} (cmp : G → G → Ordering) (g : G) where
 -- among keys that ascend, this is where a group begins or ends
 abbrev pub IsGroupBorder : {K G : Type 0} → (K → K → Ordering) → (G → G → Ordering) → (K → G) → G → Bool → List K → ℕ → Type 0
 IsGroupBorder cmp compare group_of g end keys n = IsStrictlySortedBy cmp keys → IsBorderOf compare g end (map group_of keys) n
+
+abbrev pub HasGroupBorder : {K G : Type 0} → (K → K → Ordering) → (G → G → Ordering) → (K → G) → G → End → List K → ℕ → Type 0
+HasGroupBorder cmp compare group_of g end = IsGroupBorder cmp compare group_of g (is_back end)
 
 module _ {K G : Type 0} (compare : G → G → Ordering) (group_of : K → G) (k : K) where
   -- a rank carries how many of the keys are in the group of k

@@ -1,32 +1,38 @@
 //! Where a group begins and where it ends among keys.
 ghost use Rattle.std.specs.Prelude.{◌≡◌, ◌≤◌, length, IfOk};
-ghost use Rattle.bptree_arguments.specs.GroupAnswers.{is_before, IsGroupBorder};
+ghost use Rattle.bptree_arguments.specs.GroupAnswers.{is_before, HasGroupBorder};
+ghost use Rattle.bptree_keys.specs.Ends.{is_back};
 
 use crate::group::FromRef;
+use bptree_keys::end::End;
 use bptree_keys::key::Key;
 use std::alloc::AllocError;
 use std::cmp::Ordering;
 
-// Whether what compares so to a group is before the group's end, or else before its beginning.
-fn is_before(order: Ordering, end: bool) -> bool
-    ensures { result ≡ is_before end order }
+// Whether a key is before an end of a group, by how its own group compares to that group. A key of
+// the group is before the back.
+fn is_before(order: Ordering, end: End) -> bool
+    ensures { result ≡ is_before (is_back end) order }
 {
     match order {
         Ordering::Less => true,
-        Ordering::Equal => end,
+        Ordering::Equal => end.is_back(),
         Ordering::Greater => false,
     }
 }
 
-/// How many of ascending keys are before the end of a group, or else before its beginning: a binary
-/// search. Of 64 keys it makes the groups of at most 7, and it fails only where one of those does.
+/// The number of ascending keys before an end of a group: `Front` counts the keys of smaller groups,
+/// and `Back` those of the group too.
+///
+/// It is a binary search, which makes the groups of at most 7 of 64 keys. It allocates what these
+/// groups do, and fails only if one of them does.
 pub fn keys_before<K: Key, G: FromRef<K> + Key>(
     keys: &[K],
     group: &G,
-    end: bool,
+    end: End,
 ) -> Result<usize, AllocError>
     ensures in_range { IfOk result (λ n. n ≤ length keys.now) }
-    ensures border { IfOk result (IsGroupBorder K.cmp G.cmp G.group_of group.now end keys.now) }
+    ensures border { IfOk result (HasGroupBorder K.cmp G.cmp G.group_of group.now end keys.now) }
 {
     let mut low = 0;
     let mut high = keys.len();

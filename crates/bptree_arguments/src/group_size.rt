@@ -6,6 +6,7 @@ ghost use Rattle.bptree_arguments.specs.GroupSizes.{IsSizeAnswer};
 use crate::group::{FromRef, GroupCount};
 use crate::group_order::keys_before;
 use crate::visit::{DescendVisit, DescendVisitResult};
+use bptree_keys::end::End;
 use bptree_keys::key::Key;
 use std::alloc::AllocError;
 use std::cmp::Ordering;
@@ -81,8 +82,8 @@ impl<K: Key, V, G: FromRef<K> + Key> DescendVisit<K, V, GroupCount<G>> for Extra
 
     /// Two binary searches, for where the group begins and where it ends.
     fn visit_leaf(&mut self, keys: &[K], _values: &[V]) -> Result<Option<usize>, AllocError> {
-        let start = keys_before(keys, &self.group, false)?;
-        let size = keys_before(&keys[start..], &self.group, true)?;
+        let start = keys_before(keys, &self.group, End::Front)?;
+        let size = keys_before(&keys[start..], &self.group, End::Back)?;
         let counted = self.counted.saturating_add(size);
         Ok(Some(counted))
     }

@@ -1,9 +1,7 @@
--- The whole tree: that it can be reached, how high it may be, and that it is well shaped after an edit.
-use Rattle.std.proofs.Common.{◌≡◌, ℕ, zero, suc, ◌+◌, ◌*◌, ◌^◌, ◌<◌, ◌≤◌, inl, inr, cond, List, [], ◌∷◌, ◌++◌, length, refl, sym, ap, subst, ◌∙◌, arith, Option, Some, None, eqb, append-nil, length-append}
+-- The whole tree: that it can be reached, and that it is well shaped after an edit.
+use Rattle.std.proofs.Common.{◌≡◌, ℕ, suc, ◌+◌, ◌≤◌, inl, inr, cond, List, ◌∷◌, ◌++◌, refl, sym, ap, subst, ◌∙◌, arith, Some, None, eqb, append-nil}
 use Rattle.std.specs.declared.cmp.Ordering.{Ordering}
 use Rattle.std.specs.Map.{keys_of}
-use Rattle.std.proofs.Math.Nat.{mul-le-mul_left, pow-le-pow_right}
-use Rattle.std.proofs.lemmas.Bool.{cases_lt}
 use Rattle.std.proofs.lemmas.Bool.Decides.{eqb_tells}
 use Rattle.bptree_nodes.specs.Inner.{Inner}
 use Rattle.bptree_nodes.specs.Leaf.{Leaf}
@@ -15,52 +13,14 @@ use Rattle.bptree_keys.specs.declared.node_id.NodeId.TheVariants as kind
 use Rattle.bptree_ascent.specs.Change.{Roots, RelinksNext}
 use Rattle.bptree_ascent.specs.Climb.{NoneHeld, IsUnlinked}
 use Rattle.bptree_shape.specs.Edit.{CanReach, Turn, Stays, Gains, fresh_of, SameLinks, LinksAt, Edits}
-use Rattle.bptree_shape.specs.Order.{flat, Chain}
-use Rattle.bptree_shape.specs.Shape.{leaf_next, inner_keys, inner_children, pairs_at, leaves_at, inner_count, stands, AreLinked, IsTree, IsWellShaped, root_least}
+use Rattle.bptree_shape.specs.Shape.{leaf_next, pairs_at, leaves_at, inner_count, stands, AreLinked, IsWellShaped, root_least}
 use Rattle.bptree_shape.specs.Outcome.{Done, Split}
 use Rattle.bptree_shape.proofs.Hinted.{count_of, count_leaves, first_or, linked_next}
 use Rattle.bptree_shape.proofs.Agreeing.{stands_le, present_if_stands, stands_if_absent}
 use Rattle.bptree_shape.proofs.Frame.{Same}
 use Rattle.bptree_ascent.proofs.Relinked.{KeepsPairs, reads_same, linked_same, each_counted, linked_relinked, relinked_pairs, relinked_inner, relinked_held}
 
-module _ {C K V : Type 0} (cmp : K → K → Ordering) (f : C → List (K × V)) (P : C → Option K → Option K → Type 0) (b : ℕ) (each : (c : C) (lo hi : Option K) → P c lo hi → b ≤ length (f c)) where
-  chain_long : (ks : List K) (cs : List C) (lo hi : Option K) → Chain cmp P ks cs lo hi → b + b * length ks ≤ length (flat f cs)
-  chain_long ks [] lo hi h = absurd h
-  chain_long [] (c ∷ []) lo hi h = omega (arith, each c lo hi h, length-append (f c) [])
-  chain_long [] (c ∷ d ∷ cs) lo hi h = absurd h
-  chain_long (k ∷ ks) (c ∷ cs) lo hi h = omega (arith, each c lo (Some k) h.0, chain_long ks cs (Some k) hi h.2, length-append (f c) (flat f cs))
-
-module _ {K V A : Type 0} (cmp : K → K → Ordering) (slots : Slots (Inner K A) (Leaf K V)) where
-  -- a tree below a root has at least 16 * 17 ^ h pairs
-  pub tree_long : (h : ℕ) (id : NodeId) (lo hi : Option K) → IsTree cmp slots 16 h id lo hi → 16 * 17 ^ h ≤ length (pairs_at slots h id)
-  tree_long zero (kind.Leaf id) lo hi t = omega (arith, t.3)
-  tree_long zero (kind.Inner id) lo hi t = absurd t
-  tree_long (suc h) (kind.Leaf id) lo hi t = absurd t
-  tree_long (suc h) (kind.Inner id) lo hi t =
-      let b = 16 * 17 ^ h in
-      let c = chain_long cmp (pairs_at slots h) (IsTree cmp slots 16 h) b (λ c x y u. tree_long h c x y u) (inner_keys (slots.inner id.0)) (inner_children (slots.inner id.0)) lo hi t.1 in
-      let d : b * 16 ≤ b * length (inner_keys (slots.inner id.0)) = mul-le-mul_left b t.2 in
-      omega (arith, c, d)
-
 module _ {K V A : Type 0} (cmp : K → K → Ordering) (is_summary : A → List K → Type 0) (slots : Slots (Inner K A) (Leaf K V)) where
-  -- and a root above others twice as many as one of them
-  pub root_long : (h : ℕ) (root : NodeId) → IsWellShaped cmp is_summary slots (suc h) root → 32 * 17 ^ h ≤ length (pairs_at slots (suc h) root)
-  root_long h (kind.Leaf id) w = absurd w.tree
-  root_long h (kind.Inner id) w =
-      let b = 16 * 17 ^ h in
-      let c = chain_long cmp (pairs_at slots h) (IsTree cmp slots 16 h) b (λ c x y u. tree_long cmp slots h c x y u) (inner_keys (slots.inner id.0)) (inner_children (slots.inner id.0)) None None w.tree.1 in
-      let d : b * 1 ≤ b * length (inner_keys (slots.inner id.0)) = mul-le-mul_left b w.tree.2 in
-      omega (arith, c, d)
-
-  -- so no tree has more than 15 levels of inner nodes
-  pub low_tree : (h : ℕ) (root : NodeId) → IsWellShaped cmp is_summary slots h root → length (pairs_at slots h root) < 2 ^ 64 → h ≤ 15
-  low_tree zero root w few = omega arith
-  low_tree (suc h) root w few =
-      elim (cases_lt h 15) [
-        | inl low ↦ omega arith
-        | inr high ↦ absurd (let p : 17 ^ 15 ≤ 17 ^ h = pow-le-pow_right (omega arith) high in omega (arith, root_long h root w))
-      ]
-
   -- each key can be reached from the root
   pub reach_of : (h : ℕ) (root : NodeId) (k : K) → IsWellShaped cmp is_summary slots h root → CanReach cmp slots h root k
   reach_of h root k w = record {

@@ -1,10 +1,10 @@
 //! A changed child's summary, or the node that it was split into, carried up a path to the root.
 //! What can't be had on the way is refused, and then every node of the path is again what it was.
-ghost use Rattle.std.specs.Prelude.{◌≡◌, ◌+◌, ◌<◌, ◌≤◌, length, IfOk, IfErr, IsOk, OnErr};
+ghost use Rattle.std.specs.Prelude.{◌≡◌, ◌+◌, ◌<◌, ◌≤◌, length, IfOk, IfErr, IfSome, IsOk, OnErr};
 ghost use Rattle.bptree_nodes.specs.Slot.{Free, IsPresent};
 ghost use Rattle.bptree_keys.specs.declared.node_id.NodeId.{NodeId};
 ghost use Rattle.bptree_keys.specs.declared.node_id.NodeId.TheVariants as kind;
-ghost use Rattle.bptree_ascent.specs.Change.{Links, GrowsRoot, TakesSummary};
+ghost use Rattle.bptree_ascent.specs.Change.{Links, GrowsRoot, RelinksNext, TakesSummary};
 ghost use Rattle.bptree_ascent.specs.Climb.{ClimbsFrom, ClimbsTwoFrom, ReachesTopFrom, RisesFrom};
 ghost use Rattle.bptree_ascent.specs.Sums.{PlaceAt, HasKeysAt, LinksChild, SplitsNode, SumsUpAbove, SumsUpLeft, SumsUpRight, SumsUpRoot};
 ghost use Rattle.bptree_ascent.specs.Sums.{HasPlaceAbove, IsKept, SumsUpChanged};
@@ -17,7 +17,7 @@ use crate::node_changes::{
 };
 use bptree_arguments::argument::Argument;
 use bptree_keys::entry_ref::VisitStack;
-use bptree_keys::node_id::{InnerNodeId, NodeId};
+use bptree_keys::node_id::{InnerNodeId, LeafNodeId, NodeId};
 use bptree_nodes::inner_node::InnerNode;
 use bptree_stores::node_stores::NodeStore;
 use std::alloc::AllocError;
@@ -295,5 +295,17 @@ pub fn ascend_split<S: NodeStore>(
     match ascend_split(store, path, whole, root, above) {
         Ok(top) => Ok(top),
         Err(above) => Err(undo_split_inner_at(store, id, place, above.separator, fresh, old)),
+    }
+}
+
+/// Sets the link of the leaf `next`, if there is one, to `left`, which is now the leaf before it.
+///
+/// O(1). It takes no memory and cannot fail.
+pub fn relink_next<S: NodeStore>(store: &mut S, left: LeafNodeId, next: Option<LeafNodeId>)
+    requires next { IfSome next (λ next. IsPresent ((S.slots store.old).leaf next.0)) }
+    ensures { RelinksNext (S.slots store.old) (S.slots store.new) next left }
+{
+    if let Some(next) = next {
+        store.get_mut_leaf(next).set_prev(Some(left));
     }
 }

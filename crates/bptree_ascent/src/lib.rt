@@ -3,5 +3,4 @@
 #![tactic(auto)]
 
 pub mod ascent;
-pub mod links;
 pub mod node_changes;

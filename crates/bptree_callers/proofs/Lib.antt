@@ -12,3 +12,4 @@ pub mod Sizes
 pub mod SplitAtKey
 pub mod ThinLemmas
 pub mod UpdateLemmas
+pub mod ReplacedLemmas

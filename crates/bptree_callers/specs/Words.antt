@@ -23,6 +23,7 @@ use Rattle.bptree_nodes.specs.Leaf.{Leaf, set_value_at}
 use Rattle.bptree_nodes.specs.Slot.{Slots, IsPresent}
 use Rattle.bptree_shape.specs.Shape.{IsWellShaped, leaf_count, inner_count, leaf_pairs, pairs_at}
 use Rattle.bptree_tree.specs.Cursor.{cursor_key, pair_before}
+use Rattle.bptree_tree.specs.Entries.{entry}
 use Rattle.bptree_tree.specs.Whole.{HasSameNodes, pairs_of_nodes}
 use Rattle.bptree_tree.specs.declared.cursor.Cursor.{Cursor}
 
@@ -277,3 +278,7 @@ module _ {S K V A : Type 0} (slots : S → Slots (Inner K A) (Leaf K V)) where
   -- each leaf of a clone has as many pairs as the leaf under the same number
   abbrev pub HasLeavesAsLong : NodeTree S K V A → NodeTree S K V A → Type 0
   HasLeavesAsLong tree copy = (number : ℕ) → count_in (slots copy.store) number ≡ count_in (slots tree.store) number
+
+-- a key is stored, with the value that stood at its equal
+abbrev pub StoresKey : {K V : Type 0} → (K → K → Ordering) → K → List (K × V) → List (K × V) → Type 0
+StoresKey {V = V} cmp k old new = (v : V) × (entry cmp new k ≡ Some (k, v)) × (value cmp old k ≡ Some v)

@@ -17,6 +17,7 @@ mod queries;
 mod ranges;
 mod reads;
 mod removals;
+mod replacing;
 mod sets;
 mod thinned;
 mod together;

@@ -32,7 +32,7 @@ use Rattle.bptree_shape.proofs.Hinted.{present_stands}
 use Rattle.bptree_nodes.specs.Slot.{Slot, Slots, Free, Held, Present, IsPresent}
 use Rattle.bptree_stores.specs.Hint.{HoldsKey}
 use Rattle.bptree_shape.specs.Leaves.{pairs_of, StandsIn, IsLeafFor}
-use Rattle.bptree_descents.specs.Neighbours.{at_least, beside, first_from, in_leaf, IsPlaceAt, last_upto, leaf_pairs_of, leaf_told, slot_told}
+use Rattle.bptree_descents.specs.Neighbours.{at_least, beside, first_beside, first_from, in_leaf, IsPlaceAt, last_upto, leaf_pairs_of, leaf_told, slot_told}
 use Rattle.bptree_shape.specs.Shape.{leaf_pairs, leaf_prev, leaf_next, pairs_at, AreLinked, IsTree, IsWellShaped, root_least}
 use Rattle.bptree_shape.proofs.Ends.{alone, leaves_have, get_right}
 use Rattle.bptree_shape.proofs.Hinted.{first_or, last_or, hinted, linked_next, linked_prev}
@@ -165,6 +165,11 @@ pub in_positions : {K V A : Type 0} {cmp : K → K → Ordering} (slots : Slots 
 in_positions slots h root k id (Ok i) found is at = rw is at
 in_positions slots h root k id (Err i) found is at = rw is at
 
+-- and its leaf is the one that was searched
+pub leaf_kept : (id : LeafNodeId) (place : Result ℕ ℕ) (found : Result Position Position) → found ≡ in_leaf id place → leaf_told found ≡ id
+leaf_kept id (Ok i) found is = ap leaf_told is
+leaf_kept id (Err i) found is = ap leaf_told is
+
 module _ {K V A : Type 0} {cmp : K → K → Ordering} (total : IsTotalOrder cmp) (is_summary : A → List K → Type 0) (slots : Slots (Inner K A) (Leaf K V)) (h : ℕ) (root : NodeId) (shape : IsWellShaped cmp is_summary slots h root) where
   ascends : (id : LeafNodeId) (leaf : Leaf K V) → StandsIn slots h root id → slots.leaf id.0 ≡ Present leaf → IsAscending cmp leaf.pairs
   ascends id leaf in' here = leaf_ascends total slots h root id leaf in' (tree_ascends total slots (root_least h) h root None None shape.tree) here
@@ -256,7 +261,7 @@ module _ {K V A : Type 0} {cmp : K → K → Ordering} (total : IsTotalOrder cmp
         ∙ (first_behind slots (drop (child_place place) here) in'.after (others_have slots cmp h root id in' shape.tree).1
         ∙ ap (λ l. slice_get l 0) (sym around))
 
-    pub next_found : (n : ℕ) (found : Option (K × V)) → n ≡ beside place true → found ≡ first_from slots (record { leaf = id; slot = n }) → found ≡ next cmp (pairs_at slots h root) k
+    next_found : (n : ℕ) (found : Option (K × V)) → n ≡ beside place true → found ≡ first_from slots (record { leaf = id; slot = n }) → found ≡ next cmp (pairs_at slots h root) k
     next_found n found is read = read ∙ (ap (λ m. slice_get (drop m here ++ leaf_pairs_of slots (leaf_next (slots.leaf id.0))) 0) (is ∙ behind_place place) ∙ next_beside)
 
     -- the pair at the place of a key is the one with the least key that is not below
@@ -271,8 +276,12 @@ module _ {K V A : Type 0} {cmp : K → K → Ordering} (total : IsTotalOrder cmp
         ∙ (first_behind slots (drop (place_of place) here) in'.after (others_have slots cmp h root id in' shape.tree).1
         ∙ ap (λ l. slice_get l 0) (sym around))
 
-    pub least_found : (n : ℕ) (found : Option (K × V)) → n ≡ beside place false → found ≡ first_from slots (record { leaf = id; slot = n }) → found ≡ at_least cmp (pairs_at slots h root) k
+    least_found : (n : ℕ) (found : Option (K × V)) → n ≡ beside place false → found ≡ first_from slots (record { leaf = id; slot = n }) → found ≡ at_least cmp (pairs_at slots h root) k
     least_found n found is read = read ∙ (ap (λ m. slice_get (drop m here ++ leaf_pairs_of slots (leaf_next (slots.leaf id.0))) 0) (is ∙ before_place place) ∙ least_beside)
+
+    pub found_beside : (after : Bool) (n : ℕ) (found : Option (K × V)) → n ≡ beside place after → found ≡ first_from slots (record { leaf = id; slot = n }) → found ≡ first_beside cmp (pairs_at slots h root) k after
+    found_beside true = next_found
+    found_beside false = least_found
 
     -- the pair before the place of a key is the one with the greatest smaller key
     previous_beside : last_member (leaf_pairs_of slots (leaf_prev (slots.leaf id.0)) ++ take (place_of place) here) ≡ previous cmp (pairs_at slots h root) k

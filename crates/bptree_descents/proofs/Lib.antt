@@ -1,6 +1,5 @@
 pub mod Beside
 pub mod Child
-pub mod Low
 pub mod Queried
 pub mod Selected
 pub mod Slots

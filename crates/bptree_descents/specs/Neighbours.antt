@@ -1,16 +1,18 @@
 -- Where a key is found in a tree, and what stands beside its leaf.
-use Rattle.std.specs.Prelude.{ℕ, ◌+◌, ◌≤◌, ◌++◌, Bool, true, false, List, [], drop, length, slice_get, take, Option, Some, None, Result, Ok, Err}
+use Rattle.std.specs.Prelude.{◌≡◌, ℕ, ◌+◌, ◌≤◌, ◌++◌, Bool, true, false, List, [], drop, length, slice_get, take, Option, Some, None, Result, Ok, Err}
 use Rattle.std.specs.Borrow.{Bor}
 use Rattle.std.specs.declared.cmp.Ordering.{Ordering}
-use Rattle.bptree_keys.specs.Contents.{last_member}
+use Rattle.bptree_keys.specs.Contents.{last_member, next}
+use Rattle.bptree_keys.specs.Ends.{is_after}
 use Rattle.bptree_keys.specs.Places.{IsPlaceOf}
 use Rattle.bptree_keys.specs.Ranges.{between}
+use Rattle.bptree_keys.specs.declared.end.Side.{Side}
 use Rattle.bptree_keys.specs.declared.node_id.LeafNodeId.{LeafNodeId}
 use Rattle.bptree_keys.specs.declared.node_id.NodeId.{NodeId}
 use Rattle.bptree_keys.specs.declared.node_id.Position.{Position}
 use Rattle.bptree_nodes.specs.Inner.{Inner}
 use Rattle.bptree_nodes.specs.Leaf.{Leaf}
-use Rattle.bptree_nodes.specs.Slot.{Slots}
+use Rattle.bptree_nodes.specs.Slot.{Present, Slots}
 use Rattle.bptree_shape.specs.Leaves.{IsLeafFor}
 use Rattle.bptree_shape.specs.NodeTree.{NodeTree}
 use Rattle.bptree_shape.specs.Shape.{leaf_next, leaf_pairs, leaf_prev}
@@ -20,11 +22,11 @@ abbrev pub leaf_pairs_of : {K V A : Type 0} → Slots (Inner K A) (Leaf K V) →
 leaf_pairs_of slots None = []
 leaf_pairs_of slots (Some id) = leaf_pairs (slots.leaf id.0)
 
--- the slot of a key that was searched for, or the one behind it, where the key is there and that is asked
+-- the slot of a key that was searched for, or the slot after it if there is such a key and `after` is true
 abbrev pub beside : Result ℕ ℕ → Bool → ℕ
 beside (Ok i) true = i + 1
 beside (Ok i) false = i
-beside (Err i) behind = i
+beside (Err i) after = i
 
 -- what a search of a leaf found, as positions
 abbrev pub in_leaf : LeafNodeId → Result ℕ ℕ → Result Position Position
@@ -40,9 +42,13 @@ abbrev pub slot_told : Result Position Position → Result ℕ ℕ
 slot_told (Ok at) = Ok at.slot
 slot_told (Err at) = Err at.slot
 
--- the position that was found, or the one behind it, where the key is there and that is asked
+-- the position that was found, or the one after it if there is such a key and `after` is true
 abbrev pub position_beside : Result Position Position → Bool → Position
-position_beside found behind = record { leaf = leaf_told found; slot = beside (slot_told found) behind }
+position_beside found after = record { leaf = leaf_told found; slot = beside (slot_told found) after }
+
+-- the leaf under an id
+abbrev pub IsLeafAt : {K V A : Type 0} → Slots (Inner K A) (Leaf K V) → LeafNodeId → Leaf K V → Type 0
+IsLeafAt slots id leaf = slots.leaf id.0 ≡ Present leaf
 
 -- the leaf for the key, and the key's place in it
 pub record IsPlaceAt {K V A : Type 0} (cmp : K → K → Ordering) (slots : Slots (Inner K A) (Leaf K V)) (h : ℕ) (root : NodeId) (k : K) (id : LeafNodeId) (place : Result ℕ ℕ) : Type 0 where
@@ -57,6 +63,14 @@ LocatesKey slots tree cmp k found = IsPlaceAt cmp (slots tree.store) tree.height
 -- the pair with the least key that is not below k
 abbrev pub at_least : {K V : Type 0} → (K → K → Ordering) → List (K × V) → K → Option (K × V)
 at_least cmp l k = slice_get (between cmp l (Some k) None) 0
+
+-- the pair with the least key that is not below k, or with the least one above it
+abbrev pub first_beside : {K V : Type 0} → (K → K → Ordering) → List (K × V) → K → Bool → Option (K × V)
+first_beside cmp l k false = at_least cmp l k
+first_beside cmp l k true = next cmp l k
+
+abbrev pub pair_on : {K V : Type 0} → (K → K → Ordering) → List (K × V) → K → Side → Option (K × V)
+pair_on cmp l k side = first_beside cmp l k (is_after side)
 
 -- the pair that was read, by the keys and values that references show
 abbrev pub pair_read : {K V X : Type 0} → X × (Bor K × Bor V) → K × V

@@ -4,10 +4,8 @@ ghost use Rattle.std.specs.Option.{option_copied, option_map};
 ghost use Rattle.bptree_keys.specs.Contents.{last_member, next, previous, value};
 ghost use Rattle.bptree_keys.specs.Ends.{is_after};
 ghost use Rattle.bptree_descents.specs.Neighbours.{beside, leaf_pairs_of, LocatesKey, first_from, last_upto, pair_read};
-ghost use Rattle.bptree_descents.specs.Neighbours.{at_least, in_leaf, position_beside, slot_told};
+ghost use Rattle.bptree_descents.specs.Neighbours.{in_leaf, leaf_told, pair_on, position_beside, slot_told, IsLeafAt};
 ghost use Rattle.bptree_nodes.specs.LeafResults.{place_of, HasEqualAt};
-ghost use Rattle.bptree_nodes.specs.Slot.{IsPresent};
-ghost use Rattle.bptree_shape.specs.Shape.{leaf_pairs};
 
 use bptree_keys::compares::Compares;
 use bptree_keys::end::Side;
@@ -19,20 +17,42 @@ use bptree_stores::node_stores::NodeStore;
 /// A pair and its position, if there is one.
 pub type Found<'a, K, V> = Option<(Position, (&'a K, &'a V))>;
 
-// Finds a key, as `locate` does. If `hint` is the key's position, that costs one comparison. If it
-// is in the key's leaf, only that leaf is searched. Else the search begins at the root.
-fn place_of<S: NodeStore>(tree: &Nodes<S>, hint: Position, key: &S::K) -> Result<Position, Position>
-    ensures { LocatesKey S.slots tree.now S.K.cmp key.now result }
+// A leaf, and the position in it of a key that was searched for, or where it would be inserted.
+type Located<'a, K, V> = (&'a LeafNode<K, V>, Result<Position, Position>);
+
+// Finds a key and its leaf, as `search` does. If `hint` is the key's position, that costs one
+// comparison. If it is in the key's leaf, only that leaf is searched. Else the search begins at the
+// root.
+fn place_of<'a, S: NodeStore>(
+    tree: &'a Nodes<S>,
+    hint: Position,
+    key: &S::K,
+) -> Located<'a, S::K, S::V>
+    ensures place { LocatesKey S.slots tree.now S.K.cmp key.now result.1 }
+    ensures leaf { IsLeafAt (S.slots tree.now.store) (leaf_told result.1) result.0.now }
 {
     if let Some(leaf) = tree.store.try_get_leaf(hint.leaf) {
         if stands_at(leaf, hint.slot, key) {
-            return Ok(hint);
+            return (leaf, Ok(hint));
         }
         if leaf.in_range(key) {
-            return in_leaf(hint.leaf, leaf.locate_slot(key));
+            return (leaf, in_leaf(hint.leaf, leaf.locate_slot(key)));
         }
     }
-    locate(tree, key)
+    search(tree, key)
+}
+
+// Finds a key and its leaf, from the root.
+#[inline(always)]
+fn search<'a, S: NodeStore>(tree: &'a Nodes<S>, key: &S::K) -> Located<'a, S::K, S::V>
+    ensures place { LocatesKey S.slots tree.now S.K.cmp key.now result.1 }
+    ensures leaf { IsLeafAt (S.slots tree.now.store) (leaf_told result.1) result.0.now }
+{
+    let mut compares = Compares::new();
+    let (id, hint) = tree.leaf_for(key, &mut compares);
+    let leaf = tree.store.get_leaf(id);
+    let place = leaf.locate_slot_counted(key, hint, &mut compares);
+    (leaf, in_leaf(id, place))
 }
 
 /// Finds a key: `Ok` with its position, or `Err` with the position where it would be inserted.
@@ -43,10 +63,7 @@ fn place_of<S: NodeStore>(tree: &Nodes<S>, hint: Position, key: &S::K) -> Result
 pub fn locate<S: NodeStore>(tree: &Nodes<S>, key: &S::K) -> Result<Position, Position>
     ensures { LocatesKey S.slots tree.now S.K.cmp key.now result }
 {
-    let mut compares = Compares::new();
-    let (id, hint) = tree.leaf_for_counted(key, &mut compares);
-    let leaf = tree.store.get_leaf(id);
-    in_leaf(id, leaf.locate_slot_counted(key, hint, &mut compares))
+    search(tree, key).1
 }
 
 // What a search of a leaf found, as positions.
@@ -117,11 +134,14 @@ fn read_at<K: Drop, V: Drop>(id: LeafNodeId, leaf: &LeafNode<K, V>, slot: usize)
 }
 
 // The pair at a position, or the first one of the leaf after it.
-fn pair_from<S: NodeStore>(store: &S, at: Position) -> Found<'_, S::K, S::V>
-    requires { IsPresent ((S.slots store.now).leaf at.leaf.0) }
+fn pair_from<'a, S: NodeStore>(
+    store: &'a S,
+    leaf: &'a LeafNode<S::K, S::V>,
+    at: Position,
+) -> Found<'a, S::K, S::V>
+    requires { IsLeafAt (S.slots store.now) at.leaf leaf.now }
     ensures { option_map pair_read result ≡ first_from (S.slots store.now) at }
 {
-    let leaf = store.get_leaf(at.leaf);
     match leaf.try_data_at(at.slot) {
         Some(pair) => Some((at, pair)),
         None => first_of(store, leaf.next()),
@@ -137,12 +157,15 @@ fn first_of<S: NodeStore>(store: &S, id: Option<LeafNodeId>) -> Found<'_, S::K, 
 }
 
 // The pair before a position, or the last one of the leaf before it.
-fn pair_upto<S: NodeStore>(store: &S, at: Position) -> Found<'_, S::K, S::V>
-    requires present { IsPresent ((S.slots store.now).leaf at.leaf.0) }
-    requires within { at.slot ≤ length (leaf_pairs ((S.slots store.now).leaf at.leaf.0)) }
+fn pair_upto<'a, S: NodeStore>(
+    store: &'a S,
+    leaf: &'a LeafNode<S::K, S::V>,
+    at: Position,
+) -> Found<'a, S::K, S::V>
+    requires leaf { IsLeafAt (S.slots store.now) at.leaf leaf.now }
+    requires within { at.slot ≤ length leaf.now.pairs }
     ensures { option_map pair_read result ≡ last_upto (S.slots store.now) at }
 {
-    let leaf = store.get_leaf(at.leaf);
     match at.slot {
         0 => last_of(store, leaf.prev()),
         _ => Some((
@@ -164,6 +187,22 @@ fn last_of<S: NodeStore>(store: &S, id: Option<LeafNodeId>) -> Found<'_, S::K, S
     read_at(id, leaf, leaf.len().saturating_sub(1))
 }
 
+// The pair beside a key that was searched for: the one with the least key that is not smaller, or
+// on the side `After` with the least greater key.
+fn pair_past<'a, S: NodeStore>(
+    tree: &'a Nodes<S>,
+    found: Located<'a, S::K, S::V>,
+    _key: &S::K,
+    side: Side,
+) -> Found<'a, S::K, S::V>
+    requires place { LocatesKey S.slots tree.now S.K.cmp _key.now found.1 }
+    requires leaf { IsLeafAt (S.slots tree.now.store) (leaf_told found.1) found.0.now }
+    ensures { option_map pair_read result ≡ pair_on S.K.cmp tree.now.contents _key.now side }
+{
+    let (leaf, place) = found;
+    pair_from(&tree.store, leaf, position_beside(place, side))
+}
+
 /// The pair with the least greater key, and its position. The key need not be there.
 ///
 /// `hint` may be any position. If it is the key's, the search takes one comparison. If it is in the
@@ -177,17 +216,18 @@ pub fn pair_after<'a, S: NodeStore>(
     ensures { option_map pair_read result ≡ next S.K.cmp tree.now.contents key.now }
 {
     let found = place_of(tree, hint, key);
-    pair_from(&tree.store, position_beside(found, Side::After))
+    pair_past(tree, found, key, Side::After)
 }
 
-/// The pair with the least key that is not below `key`, and its position.
+/// The pair with the least key that is not smaller than `key`, or on the side `After` with the least
+/// greater key, and its position.
 ///
 /// It searches as `locate` does, and makes no other comparison. It takes no memory and cannot fail.
-pub fn pair_at_least<'a, S: NodeStore>(tree: &'a Nodes<S>, key: &S::K) -> Found<'a, S::K, S::V>
-    ensures { option_map pair_read result ≡ at_least S.K.cmp tree.now.contents key.now }
+pub fn bound<'a, S: NodeStore>(tree: &'a Nodes<S>, key: &S::K, side: Side) -> Found<'a, S::K, S::V>
+    ensures { option_map pair_read result ≡ pair_on S.K.cmp tree.now.contents key.now side }
 {
-    let found = locate(tree, key);
-    pair_from(&tree.store, position_beside(found, Side::Before))
+    let found = search(tree, key);
+    pair_past(tree, found, key, side)
 }
 
 /// The pair with the greatest smaller key, and its position. The key need not be there.
@@ -200,8 +240,8 @@ pub fn pair_before<'a, S: NodeStore>(
 ) -> Found<'a, S::K, S::V>
     ensures { option_map pair_read result ≡ previous S.K.cmp tree.now.contents key.now }
 {
-    let found = place_of(tree, hint, key);
-    pair_upto(&tree.store, position_beside(found, Side::Before))
+    let (leaf, place) = place_of(tree, hint, key);
+    pair_upto(&tree.store, leaf, position_beside(place, Side::Before))
 }
 
 /// The value at a key, if the key is there.
@@ -215,8 +255,9 @@ pub fn value_at<'a, S: NodeStore>(
     ensures { option_copied result ≡ value S.K.cmp tree.now.contents key.now }
 {
     tree.recall();
-    match place_of(tree, hint, key) {
-        Ok(at) => Some(tree.store.get_leaf(at.leaf).data_at(at.slot).1),
+    let (leaf, place) = place_of(tree, hint, key);
+    match place {
+        Ok(at) => Some(leaf.data_at(at.slot).1),
         Err(_) => None,
     }
 }

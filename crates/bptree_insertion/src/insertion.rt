@@ -11,8 +11,7 @@ ghost use Rattle.bptree_shape.specs.NodeTree.{IsUntouched, IsWhole};
 ghost use Rattle.bptree_shape.specs.Shape.{leaf_pairs};
 
 use bptree_arguments::argument::Argument;
-use bptree_ascent::ascent::{ascend, ascend_split};
-use bptree_ascent::links::relink_next;
+use bptree_ascent::ascent::{ascend, ascend_split, relink_next};
 use bptree_ascent::node_changes::Division;
 use bptree_keys::compares::{Compares, SearchHint};
 use bptree_keys::entry_ref::VisitStack;
@@ -21,7 +20,7 @@ use bptree_keys::node_id::{InnerNodeId, LeafNodeId, NodeId, Position};
 use bptree_nodes::leaf_node::LeafNode;
 use bptree_shape::descent::find_path;
 use bptree_shape::nodes::Nodes;
-use bptree_stores::node_stores::{NodeStore, try_cache};
+use bptree_stores::node_stores::NodeStore;
 use std::alloc::AllocError;
 
 // A clone of the key that will be the first of the right half, where a full leaf is split with a
@@ -293,7 +292,7 @@ fn leaf_at_hand<S: NodeStore>(store: &S, k: &S::K) -> Option<LeafNodeId>
     if !S::Argument::is_zst() {
         return None;
     }
-    let leaf = try_cache(store, k)?;
+    let leaf = store.try_cache(k, &mut Compares::new())?;
     if store.get_leaf(leaf).is_full() {
         return None;
     }

@@ -24,9 +24,10 @@ ghost use Rattle.bptree_maps.specs.Writing.{WritesLent};
 ghost use Rattle.bptree_nodes.specs.Leaf.{set_value_at};
 ghost use Rattle.bptree_ranges.specs.Summaries.{IsPartSummary};
 ghost use Rattle.bptree_tree.specs.Changes.{EitherWay, IsRefusedWhereFull, PopsFirst, PopsLast, Puts, Removes, RemovesEntry, RemovesTold};
+ghost use Rattle.bptree_tree.specs.Changes.{IsReplaceFailure, ReplacesKeyOf};
 ghost use Rattle.bptree_tree.specs.Cursor.{PointsAt, ShowsValueOf};
 ghost use Rattle.bptree_tree.specs.Entries.{entry, at_least, SumsUpBetween, pairs_between};
-ghost use Rattle.bptree_tree.specs.Refusal.{HandsBack};
+ghost use Rattle.bptree_tree.specs.Refusal.{HandsBack, HandsKeyBack};
 ghost use Rattle.bptree_tree.specs.Selected.{LendsSelected, SelectsNone, ShowsSelected};
 ghost use Rattle.bptree_tree.specs.Whole.{ArePairsCloned};
 
@@ -50,7 +51,7 @@ use bptree_arguments::group::FromRef;
 use bptree_arguments::visit::{DescendError, DescendVisit};
 use bptree_keys::key::Key;
 use bptree_stores::node_store_vec::NodeStoreVec;
-use bptree_tree::{BPlusTree, Cursor, InsertError, SelectError};
+use bptree_tree::{BPlusTree, Cursor, InsertError, ReplaceError, SelectError};
 pub use iter::Iter;
 pub use owned::IntoIter;
 pub use pages::laws_of_pages;
@@ -171,7 +172,7 @@ impl<K: Key, V: Drop, A: Argument<K>> BPlusTreeMap<K, V, A> {
         ensures count { AreFewFor (length self.now) result.1 }
         ensures some { 0 < length self.now → 0 < result.1 }
     {
-        // Read, so that it is known to be low.
+        // That the height is low bounds the count.
         let _height = self.inner.height();
         self.inner.get_counted(k)
     }
@@ -274,6 +275,20 @@ impl<K: Key, V: Drop, A: Argument<K>> BPlusTreeMap<K, V, A> {
         ensures infallible { A.needs_no_memory → AllInfallible K.is_infallible → IsOk result }
     {
         self.inner.remove_entry(k)
+    }
+
+    /// Replaces the key that equals `k` by `k`, and returns it. Its value stays.
+    ///
+    /// O(log n): one descent. The summaries above the key are computed anew. Only they can allocate,
+    /// so without summaries a key that is present never fails. If no key equals `k`, or if an
+    /// allocation fails, `k` is returned, and the map is unchanged.
+    pub fn replace_key(&mut self, k: K) -> Result<K, ReplaceError<K>>
+        ensures ok { IfOk result (ReplacesKeyOf K.cmp k self.old self.new) }
+        ensures err { IfErr result (HandsKeyBack k self.old self.new) }
+        ensures kind { IfErr result (IsReplaceFailure K.cmp self.old) }
+        ensures infallible { A.needs_no_memory → IsTrue (has K.cmp self.old k) → IsOk result }
+    {
+        self.inner.replace_key(k)
     }
 
     /// Removes the pair with the least key, and hands it back with the key that was stored: none of

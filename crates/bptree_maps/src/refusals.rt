@@ -11,17 +11,6 @@ pub enum MoveError<K, V> {
     NotStored(InsertError<K, V>),
 }
 
-/// Why a key did not take the place of the one that equals it.
-#[derive(Debug, Drop)]
-pub enum ReplaceError<K> {
-    /// The removal of the key that equals it was refused: nothing has changed. The new key is
-    /// handed back.
-    NotTaken(K),
-    /// The insertion was refused. The new key is handed back, and the key that equalled it, where
-    /// there was one: that key has left.
-    NotStored(InsertError<K, ()>, Option<K>),
-}
-
 /// Why not all keys from one on left for a map or a set of their own.
 #[derive(Debug, Drop)]
 pub enum SplitError<M, R> {

@@ -1,5 +1,5 @@
 -- Places in a tree, and parts of its contents, as contracts see them.
-use Rattle.std.specs.Prelude.{◌≡◌, ℕ, ◌-◌, ◌≤◌, Bool, List, Option, filter, length, min}
+use Rattle.std.specs.Prelude.{◌≡◌, ℕ, ◌-◌, ◌≤◌, List, Option, filter, length, min}
 use Rattle.std.specs.Borrow.{Bor}
 use Rattle.std.specs.Map.{keys_of}
 use Rattle.std.specs.Option.{option_copied}

@@ -64,7 +64,7 @@ fn place_of_group<S: NodeStore, G: FromRef<S::K> + Key>(
     ensures { IfOk result (HasBorder S.slots tree.now G.cmp G.group_of group.now end) }
 {
     let leaf = leaf_of_group(&tree.store, tree.root, tree.height, group, end)?;
-    let slot = keys_before(tree.store.get_leaf(leaf).keys(), group, end.is_back())?;
+    let slot = keys_before(tree.store.get_leaf(leaf).keys(), group, end)?;
     Ok(Position { leaf, slot })
 }
 
@@ -83,7 +83,7 @@ fn leaf_of_group<S: NodeStore, G: FromRef<S::K> + Key>(
         NodeId::Leaf(leaf) => Ok(leaf),
         NodeId::Inner(inner) => {
             let node = store.get_inner(inner);
-            let place = keys_before(node.keys(), group, end.is_back())?;
+            let place = keys_before(node.keys(), group, end)?;
             let child = node.child_id(place);
             leaf_of_group(store, child, height - 1, group, end)
         }

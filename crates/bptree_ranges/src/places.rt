@@ -8,6 +8,7 @@ ghost use Rattle.bptree_arguments.specs.Sums.{TellsLength};
 use bptree_arguments::argument::Argument;
 use bptree_arguments::group::FromRef;
 use bptree_arguments::group_order::keys_before;
+use bptree_keys::end::End;
 use bptree_keys::key::Key;
 use bptree_keys::node_id::{NodeId, Position};
 use bptree_shape::nodes::Nodes;
@@ -40,7 +41,7 @@ pub(crate) fn place_in_group<S: NodeStore, G: FromRef<S::K> + Key>(
     match skip_from_group(&tree.store, tree.root, tree.height, group, i)? {
         Skipped::Short(_) => Ok(None),
         Skipped::Found(at) => {
-            let end = keys_before(tree.store.get_leaf(at.leaf).keys(), group, true)?;
+            let end = keys_before(tree.store.get_leaf(at.leaf).keys(), group, End::Back)?;
             if at.slot < end {
                 Ok(Some(at))
             } else {
@@ -63,12 +64,12 @@ fn skip_from_group<S: NodeStore, G: FromRef<S::K> + Key>(
 {
     match id {
         NodeId::Leaf(leaf) => {
-            let first = keys_before(store.get_leaf(leaf).keys(), group, false)?;
+            let first = keys_before(store.get_leaf(leaf).keys(), group, End::Front)?;
             Ok(skip(store, id, height, first, i))
         }
         NodeId::Inner(inner) => {
             let node = store.get_inner(inner);
-            let place = keys_before(node.keys(), group, false)?;
+            let place = keys_before(node.keys(), group, End::Front)?;
             let child = node.child_id(place);
             match skip_from_group(store, child, height - 1, group, i)? {
                 Skipped::Found(at) => Ok(Skipped::Found(at)),

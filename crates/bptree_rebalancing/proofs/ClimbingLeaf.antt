@@ -36,7 +36,7 @@ use Rattle.bptree_rebalancing.proofs.Choosing.{inserted_is, before_is, most_so}
 use Rattle.bptree_shape.proofs.Hinted.{count_of, count_leaves, first_or, linked_next}
 use Rattle.bptree_rebalancing.proofs.LeafSpot as spot
 use Rattle.bptree_ascent.proofs.Relinked.{reads_same, relinked_pairs, relinked_inner, relinked_held, one_at, other_leaf, linked_closed}
-use Rattle.bptree_rebalancing.proofs.RebalanceLeaf as relink_next
+use Rattle.bptree_rebalancing.proofs.RebalanceLeaf as leaf_step
 use Rattle.bptree_rebalancing.proofs.Pair as pair
 use Rattle.bptree_ascent.proofs.Rooted.{whole_done, present_leaf}
 use Rattle.bptree_rebalancing.proofs.Seated.{seat_size}
@@ -134,7 +134,7 @@ module _ {K V A : Type 0} {cmp : K → K → Ordering} (total' : IsTotalOrder cm
       merge_rebalances : RebalancesPair cmp is_summary now after c.climb.height number.0 (get_or j.transfers.bare.children slot c.climb.id) joint.separator (kind.Leaf right) Done
       merge_rebalances =
           from_low j.transfers.bare j.transfers.child je (λ m x. RebalancesPair cmp is_summary now after m number.0 x joint.separator (kind.Leaf right) Done)
-          (relink_next.leaves_joined total' is_summary now after number.0 left right j.three.one j.three.other j.three.one' joint.separator j.three.at_left j.three.at_right j.three.is_left j.inners j.leaves j.three.apart emptied j.three.is_right j.transfers.leaves j.fits)
+          (leaf_step.leaves_joined total' is_summary now after number.0 left right j.three.one j.three.other j.three.one' joint.separator j.three.at_left j.three.at_right j.three.is_left j.inners j.leaves j.three.apart emptied j.three.is_right j.transfers.leaves j.fits)
 
       j_told : is_summary j.transfers.merges.both (keys_of (pairs_at after c.climb.height (get_or j.transfers.bare.children slot c.climb.id)))
       j_told =
@@ -296,7 +296,7 @@ module _ {K V A : Type 0} {cmp : K → K → Ordering} (total' : IsTotalOrder cm
       left_rebalances : RebalancesPair cmp is_summary now after c.climb.height number.0 (get_or l.transfers.bare.children slot c.climb.id) joint.separator (kind.Leaf right) (Split up (kind.Leaf right))
       left_rebalances =
           from_low l.transfers.bare l.transfers.child le (λ m x. RebalancesPair cmp is_summary now after m number.0 x joint.separator (kind.Leaf right) (Split up (kind.Leaf right)))
-          (relink_next.leaves_rotated total' is_summary now after number.0 left right l.three.one l.three.other l.three.one' joint.separator l.three.at_left l.three.at_right l.three.is_left l.inners l.leaves l.three.apart giver l.other' up l.three.is_right l.transfers.moves l.transfers.rotates.separates least
+          (leaf_step.leaves_rotated total' is_summary now after number.0 left right l.three.one l.three.other l.three.one' joint.separator l.three.at_left l.three.at_right l.three.is_left l.inners l.leaves l.three.apart giver l.other' up l.three.is_right l.transfers.moves l.transfers.rotates.separates least
           (most_so giver (length l.three.one.pairs) (length l.three.other.pairs) (length l.three.one'.pairs) (length l.other'.pairs) l.can l.transfers.moves.sizes))
 
       sums_leaf : (x : LeafNodeId) (node' : Leaf K V) (lo hi : Option K) (b : A) → after.leaf x.0 ≡ Present node' → IsTree cmp after 16 0 (kind.Leaf x) lo hi → SumsUpLeaf cmp is_summary node'.pairs b → is_summary b (keys_of (pairs_at after 0 (kind.Leaf x)))

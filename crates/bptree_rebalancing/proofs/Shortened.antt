@@ -28,7 +28,7 @@ use Rattle.bptree_ascent.proofs.Climbing.{edits_less, held_is}
 use Rattle.bptree_rebalancing.proofs.ClimbingUnderflow as short
 use Rattle.bptree_shape.proofs.Frame.{Same, same}
 use Rattle.bptree_ascent.proofs.Lift.{links_moved}
-use Rattle.bptree_rebalancing.proofs.RebalanceInner as relink_next
+use Rattle.bptree_rebalancing.proofs.RebalanceInner as inner_step
 use Rattle.bptree_rebalancing.proofs.InnerUnderflow as spot
 use Rattle.bptree_rebalancing.proofs.Transfers.{entry_of}
 
@@ -84,13 +84,13 @@ module _ {K V A : Type 0} {cmp : K → K → Ordering} (total : IsTotalOrder cmp
       pub merge_rebalances : RebalancesPair cmp is_summary now after c.climb.height number.0 (kind.Inner left) j.transfers.separator (kind.Inner right) Done
       merge_rebalances =
           subst (λ n. RebalancesPair cmp is_summary now after n number.0 (kind.Inner left) j.transfers.separator (kind.Inner right) Done) (sym high.1)
-          (relink_next.inners_merged total is_summary now after high.0 number left right j.three.one j.three.other j.three.one' j.transfers.separator j.three.at_left j.three.at_right j.three.is_left j.inners j.leaf (j.three.apart, j.far.0, j.far.1)
+          (inner_step.inners_merged total is_summary now after high.0 number left right j.three.one j.three.other j.three.one' j.transfers.separator j.three.at_left j.three.at_right j.three.is_left j.inners j.leaf (j.three.apart, j.far.0, j.far.1)
           (short.own_high total is_summary now after path nid a c rest number i child e slot left right j.transfers.bare j.transfers.child j.transfers.separator sides.right j_entry beside read_left read_right) emptied j.three.is_right j.transfers.nodes j.fits)
 
       pub j_order : leaves_at after c.climb.height (kind.Inner left) ≡ leaves_at now c.climb.height (kind.Inner left) ++ leaves_at now c.climb.height (kind.Inner right)
       j_order =
           subst (λ n. leaves_at after n (kind.Inner left) ≡ leaves_at now n (kind.Inner left) ++ leaves_at now n (kind.Inner right)) (sym high.1)
-          (relink_next.order_merged total is_summary now after high.0 number left right j.three.one j.three.other j.three.one' j.transfers.separator j.three.at_left j.three.at_right j.three.is_left j.inners j.leaf (j.three.apart, j.far.0, j.far.1)
+          (inner_step.order_merged total is_summary now after high.0 number left right j.three.one j.three.other j.three.one' j.transfers.separator j.three.at_left j.three.at_right j.three.is_left j.inners j.leaf (j.three.apart, j.far.0, j.far.1)
           (short.own_high total is_summary now after path nid a c rest number i child e slot left right j.transfers.bare j.transfers.child j.transfers.separator sides.right j_entry beside read_left read_right) emptied j.three.is_right j.transfers.nodes j.fits)
 
       pub j_held : HeldAre (λ n. cond (eqb right.0 n) true (c.climb.held_inner n)) c.climb.held_leaf after
@@ -150,13 +150,13 @@ module _ {K V A : Type 0} {cmp : K → K → Ordering} (total : IsTotalOrder cmp
       pub left_rebalances : RebalancesPair cmp is_summary now after c.climb.height number.0 (kind.Inner left) l.transfers.separator (kind.Inner right) (Split l.transfers.up (kind.Inner right))
       left_rebalances =
           subst (λ n. RebalancesPair cmp is_summary now after n number.0 (kind.Inner left) l.transfers.separator (kind.Inner right) (Split l.transfers.up (kind.Inner right))) (sym high.1)
-          (relink_next.inners_rotated total is_summary now after high.0 number left right l.three.one l.three.other l.three.one' l.transfers.separator l.three.at_left l.three.at_right l.three.is_left l.inners l.leaf (l.three.apart, l.far.0, l.far.1)
+          (inner_step.inners_rotated total is_summary now after high.0 number left right l.three.one l.three.other l.three.one' l.transfers.separator l.three.at_left l.three.at_right l.three.is_left l.inners l.leaf (l.three.apart, l.far.0, l.far.1)
           (short.own_high total is_summary now after path nid a c rest number i child e slot left right l.transfers.bare l.transfers.child l.transfers.separator sides.right l_entry beside read_left read_right) giver l.other' l.transfers.up l.three.is_right l.transfers.moves least)
 
       pub l_order : leaves_at after c.climb.height (kind.Inner left) ++ leaves_at after c.climb.height (kind.Inner right) ≡ leaves_at now c.climb.height (kind.Inner left) ++ leaves_at now c.climb.height (kind.Inner right)
       l_order =
           subst (λ n. leaves_at after n (kind.Inner left) ++ leaves_at after n (kind.Inner right) ≡ leaves_at now n (kind.Inner left) ++ leaves_at now n (kind.Inner right)) (sym high.1)
-          (relink_next.order_rotated total is_summary now after high.0 number left right l.three.one l.three.other l.three.one' l.transfers.separator l.three.at_left l.three.at_right l.three.is_left l.inners l.leaf (l.three.apart, l.far.0, l.far.1)
+          (inner_step.order_rotated total is_summary now after high.0 number left right l.three.one l.three.other l.three.one' l.transfers.separator l.three.at_left l.three.at_right l.three.is_left l.inners l.leaf (l.three.apart, l.far.0, l.far.1)
           (short.own_high total is_summary now after path nid a c rest number i child e slot left right l.transfers.bare l.transfers.child l.transfers.separator sides.right l_entry beside read_left read_right) giver l.other' l.transfers.up l.three.is_right l.transfers.moves least)
 
       pub l_held : HeldAre c.climb.held_inner c.climb.held_leaf after

@@ -353,8 +353,7 @@ pub(crate) fn merge_inners<K: Key, A: Argument<K>>(
     ensures infallible { A.needs_no_memory → IsOk result }
 {
     let kept = left.len();
-    // Read, so that it is known to fit.
-    let _moved = right.len();
+    right.recall();
     let (separator, child, old) = node.remove_at(slot);
     left.take_over(separator, right);
     match ask_inner(node, slot, left) {

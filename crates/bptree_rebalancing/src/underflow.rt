@@ -13,8 +13,7 @@ use crate::siblings::{
     undo_merge_leaves_at, undo_rotate_inners_at, undo_rotate_leaves_at,
 };
 use crate::statistics::{Rebalanced, Statistic};
-use bptree_ascent::ascent::ascend;
-use bptree_ascent::links::relink_next;
+use bptree_ascent::ascent::{ascend, relink_next};
 use bptree_keys::entry_ref::VisitStack;
 use bptree_keys::node_id::{InnerNodeId, LeafNodeId, NodeId};
 use bptree_nodes::inner_node::INNER_MINIMUM;

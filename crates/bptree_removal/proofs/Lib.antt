@@ -7,3 +7,5 @@ pub mod ShrunkRoot
 pub mod Taken
 pub mod TakenOut
 pub mod Withdrawn
+pub mod Rekeyed
+pub mod ReplacedKey

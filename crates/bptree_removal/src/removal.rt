@@ -47,8 +47,8 @@ fn put_pair<S: NodeStore>(store: &mut S, id: LeafNodeId, slot: usize, pair: (S::
     store.get_mut_leaf(id).insert_at(slot, key, value);
 }
 
-// A summary of a leaf's keys. For a leaf without keys it is the default summary.
-fn sum_of<S: NodeStore>(store: &S, id: LeafNodeId) -> Result<S::Argument, AllocError>
+/// A summary of a leaf's keys. For a leaf without keys it is the default summary.
+pub(crate) fn sum_of<S: NodeStore>(store: &S, id: LeafNodeId) -> Result<S::Argument, AllocError>
     requires { IsPresent ((S.slots store.now).leaf id.0) }
     ensures some { IfOk result (SumsUpLeafAt S.K.cmp S.Argument.is_summary (S.slots store.now) id) }
     ensures none { NoPairIn (S.slots store.now) id → IfOk result (λ a. S.Argument.is_summary a []) }

@@ -1,34 +1,45 @@
--- A key that no key of a list equals, and how its replacement failed.
-use Rattle.std.proofs.Common.{◌≡◌, ◌≤◌, ◌∙◌, ℕ, Bool, true, false, not, cond, Option, None, List, [], ◌∷◌, length, ap, arith, refl, sym}
+-- A key that comes in the place of one that equals it, or of none.
+use Rattle.std.proofs.Common.{◌≡◌, ◌∙◌, ◌||◌, Bool, true, false, None, Some, List, [], ◌∷◌, ap, refl, subst, sym}
 use Rattle.std.specs.declared.cmp.Ordering.{Ordering}
+use Rattle.std.specs.Map.{keys_of}
 use Rattle.std.specs.Ordering.{is_eq}
-use Rattle.bptree_maps.specs.Keys.{holds, key_found, without_key}
-use Rattle.bptree_maps.specs.KeyChanges.{IsKeyFailureOf}
-use Rattle.bptree_maps.specs.declared.refusals.ReplaceError.TheVariants.{NotStored}
-use Rattle.bptree_sets.specs.Replacing.{IsReplaceFailure}
-use Rattle.bptree_tree.proofs.RangeRemovalLemmas.{no_longer}
-use Rattle.bptree_tree.specs.declared.InsertError.{InsertError}
-use Rattle.bptree_tree.specs.declared.InsertError.TheVariants.{Full, OutOfMemory}
+use Rattle.bptree_keys.specs.Contents.{del, has}
+use Rattle.bptree_maps.specs.Keys.{holds, key_found, with_key, without_key}
+use Rattle.bptree_maps.specs.KeyChanges.{ReplacesKey}
+use Rattle.bptree_maps.proofs.KeyLemmas.{holds_keys, keys_del, keys_put}
+use Rattle.bptree_sets.proofs.EntryKeys.{entry_key, key_of}
+use Rattle.bptree_tree.specs.Changes.{IsReplaceFailure, ReplacesKeyOf}
+use Rattle.bptree_tree.specs.Refusal.{HandsKeyBack}
+use Rattle.bptree_tree.specs.declared.ReplaceError.{ReplaceError}
+use Rattle.bptree_tree.specs.declared.ReplaceError.TheVariants.{Absent}
 
 module _ {K : Type 0} (cmp : K → K → Ordering) (k : K) where
   -- no key of the list equals k
-  abbrev pub HasNone : List K → Type 0
-  HasNone keys = (key_found cmp keys k ≡ None) × (holds cmp keys k ≡ false) × (without_key cmp keys k ≡ keys)
+  abbrev HasNone : List K → Type 0
+  HasNone keys = (key_found cmp keys k ≡ None) × (without_key cmp keys k ≡ keys)
 
-  none_with : (b : Bool) (x : K) (keys : List K) → is_eq (cmp x k) ≡ b → length (x ∷ keys) ≤ length (cond (not b) (x ∷ without_key cmp keys k) (without_key cmp keys k)) → (length keys ≤ length (without_key cmp keys k) → HasNone keys) → HasNone (x ∷ keys)
-  none_with true x keys is all rest = absurd (omega (arith, all, no_longer (λ key. not (is_eq (cmp key k))) keys))
-  none_with false x keys is all rest =
-      let none = rest (omega (arith, all)) in
-      rw (is, none.0, none.1, none.2) (refl, refl, refl)
+  none_with : (b : Bool) (x : K) (keys : List K) → is_eq (cmp x k) ≡ b → (b || holds cmp keys k) ≡ false → (holds cmp keys k ≡ false → HasNone keys) → HasNone (x ∷ keys)
+  none_with true x keys is absent rest = absurd (let z : true ≡ false = absent in cc)
+  none_with false x keys is absent rest = let none = rest absent in rw (is, none.0, none.1) (refl, refl)
 
-  -- where as many are left without k, none does
-  pub none_if_all_stay : (keys : List K) → length keys ≤ length (without_key cmp keys k) → HasNone keys
-  none_if_all_stay [] all = (refl, refl, refl)
-  none_if_all_stay (x ∷ keys) all = none_with (is_eq (cmp x k)) x keys refl all (none_if_all_stay keys)
+  none_if_absent : (keys : List K) → holds cmp keys k ≡ false → HasNone keys
+  none_if_absent [] absent = (refl, refl)
+  none_if_absent (x ∷ keys) absent = none_with (is_eq (cmp x k)) x keys refl absent (none_if_absent keys)
 
-  -- where the length is not below the greatest after the removal, no key was removed
-  pub not_stored : (most : ℕ) (old new : List K) (error : InsertError K (Unit {0})) (stored : Option K) → length old ≤ most → stored ≡ key_found cmp old k → new ≡ without_key cmp old k → IsKeyFailureOf cmp most new error → IsReplaceFailure cmp most k old new (NotStored error stored)
-  not_stored most old new (Full j v) stored fits is left failed =
-      let none = none_if_all_stay old (omega (arith, fits, failed.0, ap length left)) in
-      (is ∙ none.0, left ∙ none.2, (ap length (sym (left ∙ none.2)) ∙ failed.0, none.1))
-  not_stored most old new (OutOfMemory j v) stored fits is left failed = failed
+  -- so k is added
+  pub replaces_none : (keys new : List K) → holds cmp keys k ≡ false → new ≡ with_key cmp keys k → ReplacesKey cmp k keys new None
+  replaces_none keys new absent is = let none = none_if_absent keys absent in (sym none.0, is ∙ ap (λ l. with_key cmp l k) (sym none.1))
+
+-- the keys of pairs of which one key was replaced
+pub replaces_one : {K V : Type 0} (cmp : K → K → Ordering) (k gone : K) (old new : List (K × V)) → ReplacesKeyOf cmp k old new gone → ReplacesKey cmp k (keys_of old) (keys_of new) (Some gone)
+replaces_one cmp k gone old new (v, was, is) = (
+  sym (ap key_of was) ∙ entry_key cmp old k,
+  ap keys_of is ∙ (keys_put cmp (del cmp old k) k v ∙ ap (λ l. with_key cmp l k) (keys_del cmp old k)),
+)
+
+-- the keys of pairs to which a key was added that replaced none
+pub replaces_absent : {K V : Type 0} (cmp : K → K → Ordering) (k j : K) (old now : List (K × V)) (error : ReplaceError K) → error ≡ Absent j → HandsKeyBack k old now error → IsReplaceFailure cmp old error → (new : List K) → new ≡ with_key cmp (keys_of now) j → ReplacesKey cmp k (keys_of old) new None
+replaces_absent cmp k j old now error is back kind new put =
+    let came : HandsKeyBack k old now (Absent j) = subst (HandsKeyBack k old now) is back in
+    let absent : has cmp old j ≡ false = subst (IsReplaceFailure cmp old) is kind in
+    replaces_none cmp k (keys_of old) new (sym (holds_keys cmp old k) ∙ (ap (λ x. has cmp old x) (sym came.0) ∙ absent)) (put ∙ (ap (λ l. with_key cmp (keys_of l) j) came.1 ∙ ap (λ x. with_key cmp (keys_of old) x) came.0))

@@ -1,7 +1,6 @@
 pub mod Beside
 pub mod Joined
 pub mod KeyLaws
-pub mod Replacing
 pub mod Rows
 pub mod Symmetric
 pub mod TwoSets

@@ -31,7 +31,7 @@ mod union;
 use bptree_keys::key::Key;
 use bptree_maps::gathering::gather_map;
 use bptree_maps::map::{BPlusTreeMap, IntoKeys, Keys};
-pub use bptree_maps::refusals::{MoveError, ReplaceError, RetainError, SplitError};
+pub use bptree_maps::refusals::{MoveError, RetainError, SplitError};
 use bptree_stores::node_store_vec::NodeStoreVec;
 use bptree_tree::{BPlusTree, InsertError};
 pub use difference::Lacking;
@@ -272,6 +272,8 @@ impl<K: Key> BPlusTreeSet<K> {
     pub fn union<'a>(&'a self, other: &'a Self) -> Union<'a, K>
         ensures { result ≡ (self.now, other.now) }
     {
+        self.recall();
+        other.recall();
         Union::new(self.iter(), other.iter())
     }
 
@@ -309,6 +311,8 @@ impl<K: Key> BPlusTreeSet<K> {
     pub fn symmetric_difference<'a>(&'a self, other: &'a Self) -> SymmetricDifference<'a, K>
         ensures { result ≡ (self.now, other.now) }
     {
+        self.recall();
+        other.recall();
         SymmetricDifference::new(self.iter(), other.iter())
     }
 

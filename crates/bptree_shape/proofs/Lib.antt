@@ -7,6 +7,7 @@ pub mod Frame
 pub mod Hinted
 pub mod LeafFor
 pub mod ListReads
+pub mod Low
 pub mod NodePieces
 pub mod Ordered
 pub mod Remembered

@@ -15,7 +15,7 @@ use bptree_stores::node_stores::NodeStore;
 /// The leaf that a key belongs to, in the tree of a height below a node. Its comparisons are
 /// counted: at most 7 a level.
 #[inline(always)]
-pub fn find_leaf_counted<S: NodeStore>(
+pub fn find_leaf<S: NodeStore>(
     store: &S,
     id: NodeId,
     height: usize,
@@ -31,7 +31,7 @@ pub fn find_leaf_counted<S: NodeStore>(
         NodeId::Leaf(leaf) => leaf,
         NodeId::Inner(inner) => {
             let (_, child) = store.get_inner(inner).locate_child_counted(key, compares);
-            find_leaf_counted(store, child, height - 1, key, compares)
+            find_leaf(store, child, height - 1, key, compares)
         }
     }
 }

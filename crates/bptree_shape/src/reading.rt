@@ -6,7 +6,7 @@ ghost use Rattle.bptree_keys.specs.Contents.{IsAscending, last_member, value};
 ghost use Rattle.bptree_keys.specs.Searches.{CountsOne};
 ghost use Rattle.bptree_shape.specs.NodeTree.{BeginsWith, EndsWith, IsWhole, LeadsTo};
 
-use crate::descent::{end_leaf, find_leaf_counted};
+use crate::descent::{end_leaf, find_leaf};
 use crate::nodes::Nodes;
 use bptree_keys::compares::{Compares, SearchHint};
 use bptree_keys::end::End;
@@ -33,49 +33,36 @@ impl<S: NodeStore> Nodes<S> {
         let _len = self.len();
     }
 
-    /// The leaf that a key belongs to: the remembered one where it is that, else it is searched for
-    /// from the root.
+    /// Finds the leaf that a key belongs to, with a hint for a search of that leaf. Counts its
+    /// comparisons.
     ///
-    /// The leaf is then remembered.
+    /// O(1) if the store has cached that leaf, else O(log n): one descent from the root, and the store
+    /// then caches the leaf. It takes no memory and cannot fail.
     #[inline(always)]
-    pub fn leaf_for(&self, key: &S::K) -> LeafNodeId
-        ensures { LeadsTo S.slots self.now S.K.cmp key.now result }
-    {
-        self.leaf_for_counted(key, &mut Compares::new()).0
-    }
-
-    /// Does what `leaf_for` does, and counts its comparisons. The hint is for a search in the leaf.
-    #[inline(always)]
-    pub fn leaf_for_counted(&self, key: &S::K, compares: &mut Compares) -> (LeafNodeId, SearchHint)
+    pub fn leaf_for(&self, key: &S::K, compares: &mut Compares) -> (LeafNodeId, SearchHint)
         ensures leaf { LeadsTo S.slots self.now S.K.cmp key.now result.0 }
         ensures counts_on { compares.old ≤ compares.new }
         ensures count { compares.new ≤ compares.old + (7 * self.now.height + S.HINT_COMPARES) }
     {
-        if let Some(leaf) = self.store.try_cache_counted(key, compares) {
+        if let Some(leaf) = self.store.try_cache(key, compares) {
             return (leaf, SearchHint::Near);
         }
-        let leaf = find_leaf_counted(&self.store, self.root, self.height, key, compares);
+        let leaf = find_leaf(&self.store, self.root, self.height, key, compares);
         self.store.cache_leaf(leaf);
         (leaf, SearchHint::below(self.height))
     }
 
-    /// The value at a key.
+    /// The value at a key, if the key is there. Counts its comparisons.
+    ///
+    /// It costs what `leaf_for` does, and one search of the leaf. It takes no memory and cannot fail.
     #[inline(always)]
-    pub fn get(&self, key: &S::K) -> Option<&S::V>
-        ensures { option_copied result ≡ value S.K.cmp self.now.contents key.now }
-    {
-        self.get_counted(key, &mut Compares::new())
-    }
-
-    /// The same as `get`, with its comparisons counted.
-    #[inline(always)]
-    pub fn get_counted<'a>(&'a self, key: &S::K, compares: &mut Compares) -> Option<&'a S::V>
+    pub fn get<'a>(&'a self, key: &S::K, compares: &mut Compares) -> Option<&'a S::V>
         ensures value { option_copied result ≡ value S.K.cmp self.now.contents key.now }
         ensures counts_on { compares.old ≤ compares.new }
         ensures counts { 0 < length self.now.contents → CountsOne compares.old compares.new }
         ensures count { compares.new ≤ compares.old + (7 * (self.now.height + 1) + S.HINT_COMPARES) }
     {
-        let (leaf, hint) = self.leaf_for_counted(key, compares);
+        let (leaf, hint) = self.leaf_for(key, compares);
         let (_, value) = self
             .store
             .get_leaf(leaf)

@@ -137,6 +137,17 @@ impl<S: Shard> Shards<S> {
         len_of_whole(&self.lengths)
     }
 
+    /// Recalls what holds of every list over shards, for the proofs of callers: the keys ascend, and
+    /// each shard has the keys between its bounds. It does nothing, in constant time, and never fails.
+    #[inline(always)]
+    pub fn recall(&self)
+        ensures ascending { IsAscending S.K.cmp (contents self.now) }
+        ensures cut { AreShards S.K.cmp self.now.bounds self.now.shards }
+    {
+        let _bounds = self.bounds();
+        let _len = self.len();
+    }
+
     /// The number of pairs of each shard, in the order of the shards. No shard is asked.
     pub fn lengths(&self) -> &[usize]
         ensures each { result.now ≡ lengths_of self.now.shards }

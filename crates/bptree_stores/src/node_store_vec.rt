@@ -31,7 +31,7 @@ fn is_vacant<H>(places: &Slab<Place<H>>) -> bool
 /// did.
 ///
 /// A new number takes amortised constant time, moves no key and no value, and takes no memory where
-/// a released one is left. A clone copies every node; `try_cache_counted` compares the key with at most two
+/// a released one is left. A clone copies every node; `try_cache` compares the key with at most two
 /// others. Each other call takes constant time. A store that is dropped drops each node that is
 /// present.
 #[derive(Drop)]
@@ -206,7 +206,7 @@ impl<K: Key, V: Drop, A: Argument<K>> NodeStore for NodeStoreVec<K, V, A> {
     }
 
     #[inline(always)]
-    fn try_cache_counted(&self, k: &K, compares: &mut Compares) -> Option<LeafNodeId> {
+    fn try_cache(&self, k: &K, compares: &mut Compares) -> Option<LeafNodeId> {
         let id = LeafNodeId::from_usize(self.cached_leaf.get());
         if self.try_get_leaf(id)?.in_range_counted(k, compares) {
             Some(id)

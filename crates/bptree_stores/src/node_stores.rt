@@ -141,13 +141,13 @@ pub trait NodeStore: Drop {
         requires { (slots self.old).leaf id.0 ≡ Held }
         ensures { UpdatesLeaf (slots self.old) (slots self.new) id.0 Free };
 
-    /// Remembers the number of a leaf as a hint. Any number will do, since `try_cache_counted` trusts none.
+    /// Remembers the number of a leaf as a hint. Any number will do, since `try_cache` trusts none.
     fn cache_leaf(&self, id: LeafNodeId);
 
     /// Returns the cached leaf, if one is present under that number and no leaf beside it can hold
     /// the key. A store may forget the number at any time. The comparisons are counted: at most
     /// `HINT_COMPARES`.
-    fn try_cache_counted(&self, k: &Self::K, compares: &mut Compares) -> Option<LeafNodeId>
+    fn try_cache(&self, k: &Self::K, compares: &mut Compares) -> Option<LeafNodeId>
         ensures value { IfSome result (λ id. HoldsKey Self.K.cmp ((slots self.now).leaf id.0) k.now) }
         ensures counts_on { compares.old ≤ compares.new }
         ensures count { compares.new ≤ compares.old + HINT_COMPARES };
@@ -191,15 +191,6 @@ pub fn new_empty_leaf<S: NodeStore>(store: &mut S) -> Result<LeafNodeId, AllocEr
     let id = store.reserve_leaf()?;
     store.assign_leaf(id, leaf);
     Ok(id)
-}
-
-/// Returns the cached leaf, if one is present under that number and no leaf beside it can hold the
-/// key. A store may forget the number at any time. It allocates nothing.
-#[inline]
-pub fn try_cache<S: NodeStore>(store: &S, k: &S::K) -> Option<LeafNodeId>
-    ensures { IfSome result (λ id. HoldsKey S.K.cmp ((S.slots store.now).leaf id.0) k.now) }
-{
-    store.try_cache_counted(k, &mut Compares::new())
 }
 
 /// A store that can be cloned.

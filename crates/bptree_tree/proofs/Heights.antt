@@ -6,7 +6,7 @@ use Rattle.bptree_nodes.specs.Leaf.{Leaf}
 use Rattle.bptree_nodes.specs.Slot.{Slots}
 use Rattle.bptree_keys.specs.declared.node_id.NodeId.{NodeId}
 use Rattle.bptree_shape.specs.Shape.{pairs_at, IsWellShaped}
-use Rattle.bptree_ascent.proofs.Rooted.{root_long}
+use Rattle.bptree_shape.proofs.Low.{root_long}
 
 -- 32 with one level of inner nodes, and 17 times as many with each more
 pub high_long : {K V A : Type 0} (cmp : K → K → Ordering) (is_summary : A → List K → Type 0) (slots : Slots (Inner K A) (Leaf K V)) (h : ℕ) (root : NodeId) → IsWellShaped cmp is_summary slots h root

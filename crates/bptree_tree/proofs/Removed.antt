@@ -9,14 +9,18 @@ use Rattle.bptree_keys.proofs.Parted.{del_gap}
 use Rattle.bptree_descents.specs.ByArgument.{IsTaken}
 use Rattle.bptree_removal.proofs.Deleted.{deleted_at}
 use Rattle.bptree_removal.specs.Removal.{RemovesEnd, RemovesKey, RemovesSelected}
+use Rattle.bptree_removal.specs.Replacement.{RekeysPairs}
 use Rattle.bptree_shape.proofs.ListReads.{read_below}
 use Rattle.bptree_tree.proofs.EndLemmas.{end_taken, none_taken}
 use Rattle.bptree_tree.proofs.EntryLemmas.{entry_absent, entry_at}
-use Rattle.bptree_tree.specs.Changes.{PopsEnd, RemovesEntry, RemovesTold}
+use Rattle.bptree_tree.specs.Changes.{PopsEnd, RemovesEntry, RemovesTold, ReplacesKeyOf}
 
 pub entry_removed : {K V : Type 0} {cmp : K → K → Ordering} → IsTotalOrder cmp → (k : K) (old new : List (K × V)) → IsAscending cmp old → (gone : Option (K × V)) → RemovesKey old new cmp k gone → RemovesEntry cmp k old new gone
 entry_removed {cmp = cmp} total k old new sorted None (absent, same) = (sym (entry_absent cmp old k absent), same ∙ sym (del_gap cmp old _ _ k (gap_if_absent cmp total old k sorted absent)))
 entry_removed {cmp = cmp} total k old new sorted (Some pair) (place, was, equal, is) = (sym (entry_at total old place pair k sorted was equal), is)
+
+pub key_replaced : {K V : Type 0} {cmp : K → K → Ordering} → IsTotalOrder cmp → (k : K) (old new : List (K × V)) → IsAscending cmp old → (gone : K) → RekeysPairs cmp k old new gone → ReplacesKeyOf cmp k old new gone
+key_replaced total k old new sorted gone (place, v, was, equal, is) = (v, entry_at total old place (gone, v) k sorted was equal, is)
 
 pub end_removed : {K V : Type 0} (is_last : Bool) (old new : List (K × V)) (gone : Option (K × V)) → RemovesEnd old new is_last gone → PopsEnd is_last old new gone
 end_removed is_last old new None (none, same) = none_taken is_last old new none (same ∙ none)

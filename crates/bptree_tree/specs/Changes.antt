@@ -1,10 +1,12 @@
 -- What a call that changes a list of pairs answers, beside the list that it leaves.
-use Rattle.std.specs.Prelude.{◌≡◌, ◌≢◌, ℕ, Bool, cond, false, List, Option, MatchOption, length, Result, Err, MatchResult, ◌↔◌}
+use Rattle.std.specs.Prelude.{◌≡◌, ◌≢◌, ℕ, Bool, cond, true, false, List, Option, Some, MatchOption, length, Result, Err, MatchResult, ◌↔◌}
 use Rattle.std.specs.declared.cmp.Ordering.{Ordering}
 use Rattle.bptree_keys.specs.Contents.{has, value, put, del}
 use Rattle.bptree_tree.specs.Entries.{entry}
 use Rattle.bptree_tree.specs.declared.InsertError.{InsertError}
 use Rattle.bptree_tree.specs.declared.InsertError.TheVariants.{Full, OutOfMemory}
+use Rattle.bptree_tree.specs.declared.ReplaceError.{ReplaceError}
+use Rattle.bptree_tree.specs.declared.ReplaceError.TheVariants as why
 use Rattle.std.specs.Map.Iter.{TakesFirst, TakesLast}
 
 -- an insertion failed where n keys were stored and there were those that is_there names: the key was absent, and n was the most for Full alone
@@ -24,6 +26,15 @@ module _ {K V : Type 0} (cmp : K → K → Ordering) where
   -- the pair at a key leaves, and is told as it stood there
   abbrev pub RemovesEntry : K → List (K × V) → List (K × V) → Option (K × V) → Type 0
   RemovesEntry k old new told = (told ≡ entry cmp old k) × (new ≡ del cmp old k)
+
+  -- k comes in the place of the key that equals it, which is told, and the value stays
+  abbrev pub ReplacesKeyOf : K → List (K × V) → List (K × V) → K → Type 0
+  ReplacesKeyOf k old new gone = (v : V) × (entry cmp old k ≡ Some (gone, v)) × (new ≡ put cmp (del cmp old k) k v)
+
+  -- why a key replaced none: no key equals it, or one does and memory was refused
+  abbrev pub IsReplaceFailure : List (K × V) → ReplaceError K → Type 0
+  IsReplaceFailure l (why.Absent k) = has cmp l k ≡ false
+  IsReplaceFailure l (why.OutOfMemory k) = has cmp l k ≡ true
 
   -- the pair that is told leaves, by its key; or nothing changes
   abbrev pub RemovesTold : List (K × V) → List (K × V) → Option (K × V) → Type 0

@@ -20,6 +20,15 @@ pub enum InsertError<K, V> {
     Full(K, V),
 }
 
+/// Why no key was replaced. It returns the key that was to be stored.
+#[derive(Debug, Drop)]
+pub enum ReplaceError<K> {
+    /// No key equals it.
+    Absent(K),
+    /// A key equals it, and an allocation failed.
+    OutOfMemory(K),
+}
+
 /// Why no value was lent.
 #[derive(Debug, PartialEq, Drop)]
 pub enum SelectError {

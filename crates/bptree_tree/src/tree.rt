@@ -22,6 +22,7 @@ mod queries;
 mod range_removal;
 mod ranges;
 mod removals;
+mod replacing;
 mod updating;
 
 use crate::InsertError;
@@ -115,7 +116,7 @@ impl<S: NodeStore> BPlusTree<S> {
     pub fn get(&self, k: &S::K) -> Option<&S::V>
         ensures { option_copied result ≡ value S.K.cmp self.now.contents k.now }
     {
-        self.nodes.get(k)
+        self.nodes.get(k, &mut Compares::new())
     }
 
     /// The value at a key equal to `k`, and a count of comparisons of keys: at least 1 unless the
@@ -126,7 +127,7 @@ impl<S: NodeStore> BPlusTree<S> {
         ensures some { 0 < length self.now.contents → 0 < result.1 }
     {
         let mut compares = Compares::new();
-        let value = self.nodes.get_counted(k, &mut compares);
+        let value = self.nodes.get(k, &mut compares);
         (value, compares.count())
     }
 

@@ -4,7 +4,7 @@ use crate::record::Record;
 use crate::samples::{Sample, SampleSummary};
 use crate::subject::{NONE, no_call};
 use crate::words::{Report, Words};
-use bptree_tree::{InsertError, SelectError};
+use bptree_tree::{InsertError, ReplaceError, SelectError};
 use std::alloc::{AllocError, Global};
 
 /// A pair that was removed, or none.
@@ -27,6 +27,8 @@ pub trait Calls {
     fn take_first(&mut self) -> Removed<Self::Key>;
 
     fn take_last(&mut self) -> Removed<Self::Key>;
+
+    fn swap_key(&mut self, key: Self::Key) -> Result<Self::Key, ReplaceError<Self::Key>>;
 
     fn empty(&mut self) -> Result<(), AllocError>;
 
@@ -124,6 +126,23 @@ fn insert<C: Calls>(alloc: Global, calls: &mut C, record: &Record, words: &mut W
     }
 }
 
+// Reports whether a key was replaced, and the key that comes back. Without memory it reports that
+// key alone.
+fn replace_key<C: Calls>(alloc: Global, calls: &mut C, record: &Record, words: &mut Words) -> bool {
+    let Ok(key) = C::Key::sample(alloc, record.a) else {
+        return false;
+    };
+    match calls.swap_key(key) {
+        Ok(old) => Some(old).report(words),
+        Err(ReplaceError::Absent(key)) => (0u64, key).report(words),
+        Err(ReplaceError::OutOfMemory(key)) => {
+            key.report(words);
+            return false;
+        }
+    }
+    true
+}
+
 fn set<C: Calls>(calls: &mut C, key: &C::Key, value: u64, words: &mut Words) -> bool {
     match calls.value_mut(key) {
         Some(at) => {
@@ -155,6 +174,7 @@ pub fn change<C: Calls>(alloc: Global, calls: &mut C, record: &Record, words: &m
         3 => report_if_ok(calls.take_first(), words),
         4 => report_if_ok(calls.take_last(), words),
         5 => report_if_ok(calls.empty(), words),
+        9 => replace_key(alloc, calls, record, words),
         _ => no_call(words),
     }
 }

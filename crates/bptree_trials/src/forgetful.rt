@@ -124,7 +124,7 @@ impl<S: NodeStore> NodeStore for Forgetful<S> {
 
     fn cache_leaf(&self, _id: LeafNodeId) {}
 
-    fn try_cache_counted(&self, _k: &S::K, _compares: &mut Compares) -> Option<LeafNodeId> {
+    fn try_cache(&self, _k: &S::K, _compares: &mut Compares) -> Option<LeafNodeId> {
         None
     }
 

@@ -1,8 +1,7 @@
 //! Two maps.
 
 use crate::calls::{
-    Calls, Queried, Removed, change_queried, read_queried, report_back, report_if_ok,
-    report_rank_of,
+    Calls, Queried, Removed, change_queried, read_queried, report_if_ok, report_rank_of,
 };
 use crate::cursors::report_found;
 use crate::record::Record;
@@ -16,7 +15,7 @@ use bptree_arguments::count::Count;
 use bptree_arguments::group::GroupCount;
 use bptree_arguments::group_size::ExtractGroupSize;
 use bptree_maps::map::{BPlusTreeMap, Iter, Keys, Values};
-use bptree_tree::{InsertError, SelectError};
+use bptree_tree::{InsertError, ReplaceError, SelectError};
 use std::alloc::{AllocError, Global};
 use std::cmp::Ordering;
 use std::mem;
@@ -42,6 +41,10 @@ impl<K: Sample, A: SampleSummary<K>> Calls for BPlusTreeMap<K, u64, A> {
 
     fn take_last(&mut self) -> Removed<K> {
         self.pop_last()
+    }
+
+    fn swap_key(&mut self, key: K) -> Result<K, ReplaceError<K>> {
+        self.replace_key(key)
     }
 
     fn empty(&mut self) -> Result<(), AllocError> {

@@ -11,7 +11,7 @@ use crate::subject::{Subject, no_call};
 use crate::trees::{bound_of, replace};
 use crate::walk::{Steps, bounds, drain, keys_of, walk};
 use crate::words::{Report, Words};
-use bptree_sets::set::{BPlusTreeSet, Iter, ReplaceError};
+use bptree_sets::set::{BPlusTreeSet, Iter};
 use std::alloc::{AllocError, Global};
 use std::mem;
 
@@ -35,26 +35,14 @@ pub fn insert<K: Sample>(set: &mut Set<K>, key: K, words: &mut Words) -> bool {
     }
 }
 
-// Reports the new key that is not stored, and the key that left.
-fn report_not_replaced<K: Sample>(error: ReplaceError<K>, words: &mut Words) -> bool {
-    match error {
-        ReplaceError::NotTaken(key) => (0u64, key).report(words),
-        ReplaceError::NotStored(error, gone) => {
-            words.add(1);
-            report_back(error, words);
-            gone.report(words);
-        }
-    }
-    false
-}
-
+// Replaces a key, and reports the one that left.
 fn replace_key<K: Sample>(set: &mut Set<K>, key: K, words: &mut Words) -> bool {
     match set.replace(key) {
         Ok(gone) => {
             gone.report(words);
             true
         }
-        Err(error) => report_not_replaced(error, words),
+        Err(error) => report_back(error, words),
     }
 }
 

@@ -18,7 +18,7 @@ use bptree_loading::loading::in_load_order;
 use bptree_stores::node_stores::{CloneStore, NodeStore};
 use bptree_tree::cursor::Cursor;
 use bptree_tree::iterator::Iter;
-use bptree_tree::{BPlusTree, InsertError, SelectError};
+use bptree_tree::{BPlusTree, InsertError, ReplaceError, SelectError};
 use std::alloc::{AllocError, Global};
 use std::mem;
 use std::ops::Bound;
@@ -47,6 +47,10 @@ where
 
     fn take_last(&mut self) -> Removed<S::K> {
         self.pop_last()
+    }
+
+    fn swap_key(&mut self, key: S::K) -> Result<S::K, ReplaceError<S::K>> {
+        self.replace_key(key)
     }
 
     fn empty(&mut self) -> Result<(), AllocError> {

@@ -13,7 +13,7 @@ pub use argument::group::{ExtractGroupSize, FromRef, GroupCount, Tuple2};
 pub use argument::{Argument, RankArgument, SearchArgument};
 pub use bptree_merging::merge_iter;
 pub use bptree_stores::node_stores::CloneStore;
-pub use bptree_tree::{InsertError, SelectError};
+pub use bptree_tree::{InsertError, ReplaceError, SelectError};
 pub use map::BPlusTreeMap;
 pub use set::BPlusTreeSet;
 pub use tree::visit::{DescendError, DescendVisit, DescendVisitResult};

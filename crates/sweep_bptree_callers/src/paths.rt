@@ -4,8 +4,8 @@ pub mod root {
     pub use sweep_bptree::{
         Argument, BPlusTree, BPlusTreeMap, BPlusTreeSet, CloneStore, Count, Cursor, DescendError,
         DescendVisit, DescendVisitResult, ExtractGroupSize, FromRef, GroupCount, InsertError, Key,
-        NodeStore, NodeStoreVec, RankArgument, SearchArgument, SelectError, Statistic, Tuple2,
-        VERSION, argument, map, merge_iter, script, set, tree,
+        NodeStore, NodeStoreVec, RankArgument, ReplaceError, SearchArgument, SelectError,
+        Statistic, Tuple2, VERSION, argument, map, merge_iter, script, set, tree,
     };
 }
 
@@ -43,9 +43,8 @@ pub mod of_script {
 
 pub mod of_set {
     pub use sweep_bptree::set::{
-        BPlusTreeSet, Difference, Intersection, IntoIter, Iter, MoveError, ReplaceError,
-        RetainError, SplitError, SymmetricDifference, Union, laws_of_keys, laws_of_two_sets,
-        laws_of_union,
+        BPlusTreeSet, Difference, Intersection, IntoIter, Iter, MoveError, RetainError, SplitError,
+        SymmetricDifference, Union, laws_of_keys, laws_of_two_sets, laws_of_union,
     };
 }
 
@@ -53,8 +52,7 @@ pub mod of_tree {
     pub use sweep_bptree::tree::{
         Argument, BPlusTree, Compares, Cursor, InnerNode, InnerNodeId, IntoIter, Iter, Key,
         LeafNode, LeafNodeId, NodeId, NodeStore, NodeStoreVec, RankArgument, SearchArgument,
-        SearchHint, Statistic, bulk_load, in_load_order, inner_n, leaf_n, new_empty_leaf,
-        try_cache, visit,
+        SearchHint, Statistic, bulk_load, in_load_order, inner_n, leaf_n, new_empty_leaf, visit,
     };
 }
 

@@ -22,7 +22,7 @@ fn finds_what_was_put<S: Shard>(whole: &mut Shards<S>, k: S::K, v: S::V) -> bool
     ensures { result ≡ true → value S.K.cmp (contents whole.new) k ≡ Some v }
 {
     laws_of_put::<S::K, S::V>();
-    let _len = whole.len();
+    whole.recall();
     whole.put(k, v).is_ok()
 }
 
@@ -31,7 +31,7 @@ fn finds_nothing_deleted<S: Shard>(whole: &mut Shards<S>, k: &S::K) -> bool
     ensures { result ≡ true → value S.K.cmp (contents whole.new) k.now ≡ None }
 {
     laws_of_del::<S::K, S::V>();
-    let _len = whole.len();
+    whole.recall();
     whole.del(k).is_ok()
 }
 
@@ -223,7 +223,7 @@ fn cuts_as_before<S: Shard>(whole: &mut Shards<S>, k: S::K, v: S::V, j: &S::K) -
 {
     let is_put = whole.put(k, v).is_ok();
     let is_gone = whole.del(j).is_ok();
-    let _bounds = whole.bounds();
+    whole.recall();
     is_put && is_gone
 }
 

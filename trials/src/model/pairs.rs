@@ -154,6 +154,13 @@ impl Pairs {
         Some((key.word(), value))
     }
 
+    /// Puts a key in the place of the one that equals it, and answers that one.
+    pub fn rekey(&mut self, key: u64) -> Option<u64> {
+        let (old, value) = self.take_entry(key)?;
+        self.put(key, value);
+        Some(old)
+    }
+
     pub fn take(&mut self, key: u64) -> Option<u64> {
         Some(self.take_entry(key)?.1)
     }

@@ -34,6 +34,12 @@ impl Model {
                 Vec::new()
             }
             7 => number(self.here.set(a, b)),
+            9 => {
+                let old = self.here.rekey(a);
+                let mut words = vec![u64::from(old.is_some())];
+                words.extend(self.key(old.unwrap_or(a)));
+                words
+            }
             8 => {
                 let place = self.found(a, c);
                 number(self.set_at(place, b))

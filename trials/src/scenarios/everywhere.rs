@@ -89,6 +89,13 @@ fn changes(kind: Kind, keys: Keys) -> Vec<Record> {
     let mut all = vec![
         calls::insert(keys.gone, 70),
         calls::insert(keys.here, 71),
+    ];
+    if !kind.is_set() {
+        // The key in the tree has another mark.
+        all.push(call(0, 9, &[keys.here]));
+        all.push(call(0, 9, &[keys.last() + 1]));
+    }
+    all.extend([
         calls::remove(keys.gone),
         calls::remove(keys.gone),
         calls::remove(keys.here),
@@ -96,7 +103,7 @@ fn changes(kind: Kind, keys: Keys) -> Vec<Record> {
         calls::remove_entry(keys.here),
         calls::pop_first(),
         calls::pop_last(),
-    ];
+    ]);
     if !kind.is_set() {
         all.push(call(0, 7, &[2, 73]));
     } else {

@@ -6,6 +6,7 @@ ghost use Rattle.bptree_arguments.specs.Ranks.{IsSlotIn};
 use crate::argument::RankArgument;
 use crate::group::{FromRef, GroupCount};
 use crate::group_order::keys_before;
+use bptree_keys::end::End;
 use bptree_keys::key::Key;
 use std::alloc::AllocError;
 use std::cmp::Ordering;
@@ -32,7 +33,7 @@ fn ranked_after<K: Key, G: FromRef<K> + Key>(
     ensures empty { smaller.now ≡ [] → IfOk result (CarriesOnly G.cmp (G.group_of k.now) rank) }
 {
     let group = G::from_ref(k)?;
-    let start = keys_before(smaller, &group, false)?;
+    let start = keys_before(smaller, &group, End::Front)?;
     let count = smaller.len() - start;
     if start > 0 {
         return Ok((group, count));

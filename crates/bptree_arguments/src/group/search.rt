@@ -7,6 +7,7 @@ ghost use Rattle.bptree_keys.specs.Locate.{IfAscending};
 use crate::argument::SearchArgument;
 use crate::group::{FromRef, GroupCount};
 use crate::group_order::keys_before;
+use bptree_keys::end::End;
 use bptree_keys::key::Key;
 use std::alloc::AllocError;
 use std::cmp::Ordering;
@@ -25,7 +26,7 @@ impl<K: Key, G: FromRef<K> + Key> SearchArgument<K> for GroupCount<G> {
         ensures selected { IfOk result (IfAscending K.cmp keys.now (SelectsInGroup G.cmp query.0 query.1 (map G.group_of keys.now))) }
     {
         let (group, offset) = query;
-        let start = keys_before(keys, &group, false)?;
+        let start = keys_before(keys, &group, End::Front)?;
         if offset < keys.len() - start {
             let place = start + offset;
             let of_key = G::from_ref(&keys[place])?;

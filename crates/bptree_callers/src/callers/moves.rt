@@ -8,7 +8,7 @@ ghost use Rattle.bptree_callers.specs.Words.{HoldsEither, KeepsOthers, MovesOne,
 use bptree_arguments::argument::Argument;
 use bptree_keys::key::Key;
 use bptree_maps::map::{BPlusTreeMap, MoveError, SplitError};
-use bptree_sets::set::{BPlusTreeSet, ReplaceError};
+use bptree_sets::set::BPlusTreeSet;
 use bptree_tree::InsertError;
 use std::alloc::AllocError;
 
@@ -43,7 +43,7 @@ fn moves_one_key<K: Key>(
 }
 
 // A key that comes into an empty set takes no other's place.
-fn replaces_none<K: Key>(set: &mut BPlusTreeSet<K>, k: K) -> Result<Option<K>, ReplaceError<K>>
+fn replaces_none<K: Key>(set: &mut BPlusTreeSet<K>, k: K) -> Result<Option<K>, InsertError<K, ()>>
     ensures none { IfOk result (λ gone. set.old ≡ [] → gone ≡ None) }
     ensures alone { OnOk result (set.old ≡ [] → set.new ≡ k ∷ []) }
 {
@@ -199,45 +199,38 @@ fn splits_without_being_full<K: Key, V: Drop, A: Argument<K>>(
     }
 }
 
-// A key that is present is replaced, or memory is exhausted: its set is never full.
-fn replaces_a_present_key<K: Key>(set: &mut BPlusTreeSet<K>, k: K) -> Result<Option<K>, AllocError>
+// A key that is present is replaced, whatever memory there is.
+fn replaces_a_present_key<K: Key>(set: &mut BPlusTreeSet<K>, k: K) -> Option<K>
     requires { holds K.cmp set.old k ≡ true }
-    ensures { IfOk result (λ gone. gone ≡ key_found K.cmp set.old k) }
+    ensures { result ≡ key_found K.cmp set.old k }
 {
     match set.replace(k) {
-        Ok(gone) => Ok(gone),
-        Err(ReplaceError::NotTaken(_)) => Err(AllocError),
-        Err(ReplaceError::NotStored(InsertError::OutOfMemory(..), _)) => Err(AllocError),
-        Err(ReplaceError::NotStored(InsertError::Full(..), _)) => unreachable!(),
+        Ok(gone) => gone,
+        Err(_) => unreachable!(),
     }
 }
 
-// A key that is absent is put in, or returned by the insertion: nothing is to be removed.
+// A key that is absent is put in, or is returned by the insertion. The set is then as before.
 fn replaces_an_absent_key<K: Key>(
     set: &mut BPlusTreeSet<K>,
     k: K,
 ) -> Result<Option<K>, InsertError<K, ()>>
     requires { holds K.cmp set.old k ≡ false }
-    ensures { IfErr result (λ error. (pair_of error).0 ≡ k) }
+    ensures back { IfErr result (λ error. (pair_of error).0 ≡ k) }
+    ensures unchanged { OnErr result (set.new ≡ set.old) }
 {
-    match set.replace(k) {
-        Ok(gone) => Ok(gone),
-        Err(ReplaceError::NotTaken(_)) => unreachable!(),
-        Err(ReplaceError::NotStored(error, _)) => Err(error),
-    }
+    set.replace(k)
 }
 
-// `Full` means that the set has the most keys, that nothing has changed and that no key has left.
-// Without memory the set, as it is left, has room.
+// `Full` means that the set has the most keys. Without memory the set has room.
 fn replace_is_full<K: Key>(set: &mut BPlusTreeSet<K>, k: K) -> Option<bool>
     ensures full { result ≡ Some true → length set.old ≡ 2 ^ 64 - 1 }
     ensures unchanged { result ≡ Some true → set.new ≡ set.old }
     ensures room { result ≡ Some false → length set.new ≢ 2 ^ 64 - 1 }
 {
     match set.replace(k) {
-        Err(ReplaceError::NotStored(InsertError::Full(..), Some(_))) => unreachable!(),
-        Err(ReplaceError::NotStored(InsertError::Full(..), None)) => Some(true),
-        Err(ReplaceError::NotStored(InsertError::OutOfMemory(..), _)) => Some(false),
+        Err(InsertError::Full(..)) => Some(true),
+        Err(InsertError::OutOfMemory(..)) => Some(false),
         _ => None,
     }
 }

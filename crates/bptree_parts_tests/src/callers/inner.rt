@@ -137,7 +137,7 @@ fn takes_an_insertion_back<K: Drop, A: Drop>(
     ensures children { node.new.children ≡ node.old.children }
     ensures arguments { node.new.arguments ≡ node.old.arguments }
 {
-    let _before = node.len();
+    node.recall();
     node.insert_at(slot, key, child, argument);
     node.remove_at(slot)
 }
@@ -216,7 +216,7 @@ fn takes_a_split_back<K: Drop, A: Drop>(
     ensures entry { result ≡ (key, child, argument) }
     ensures node { node.new ≡ node.old }
 {
-    let _before = node.len();
+    node.recall();
     let (promoted, right) = node.split(slot, key, child, argument, room);
     node.undo_split(slot, promoted, right)
 }
@@ -233,9 +233,10 @@ fn merges_what_was_cut<K: Drop, A: Drop>(
     ensures children { node.new.children ≡ node.old.children }
     ensures arguments { node.new.arguments ≡ node.old.arguments }
 {
-    let _before = node.len();
+    node.recall();
     let (between, right) = node.split_off(place, room);
-    let _parts = (node.len(), right.len());
+    node.recall();
+    right.recall();
     node.merge_next(between, right);
 }
 
@@ -291,8 +292,7 @@ fn hands_over_what_it_took<K: Drop, A: Drop>(
     ensures arguments { right.new.arguments ≡ right.old.arguments }
 {
     let kept = node.len();
-    // Read, so that it is known to fit.
-    let _moved = right.len();
+    right.recall();
     node.take_over(key, right);
     node.hand_over(kept + 1, right)
 }

@@ -14,9 +14,7 @@ use bptree_keys::node_id::{InnerNodeId, LeafNodeId};
 use bptree_nodes::inner_node::InnerNode;
 use bptree_nodes::leaf_node::LeafNode;
 use bptree_stores::node_store_vec::NodeStoreVec;
-use bptree_stores::node_stores::{
-    CloneStore, NodeStore, inner_n, leaf_n, new_empty_leaf, try_cache,
-};
+use bptree_stores::node_stores::{CloneStore, NodeStore, inner_n, leaf_n, new_empty_leaf};
 use std::alloc::{AllocError, Global};
 
 // A new store has nothing under any number, and says so.
@@ -219,7 +217,7 @@ fn trusts_the_hint<S: NodeStore>(store: &S, any: LeafNodeId, key: &S::K) -> Opti
     ensures { IfSome result (λ holds. holds ≡ true) }
 {
     store.cache_leaf(any);
-    let id = try_cache(store, key)?;
+    let id = store.try_cache(key, &mut Compares::new())?;
     Some(store.get_leaf(id).in_range(key))
 }
 
@@ -230,7 +228,7 @@ fn counts_the_hint<S: NodeStore>(store: &S, key: &S::K) -> (Option<bool>, usize)
     ensures few { result.1 ≤ 1000 }
 {
     let mut compares = Compares::new();
-    let holds = match store.try_cache_counted(key, &mut compares) {
+    let holds = match store.try_cache(key, &mut compares) {
         Some(id) => Some(store.get_leaf(id).in_range(key)),
         None => None,
     };
@@ -246,7 +244,7 @@ fn compares_two_keys<K: Key, V: Drop, A: Argument<K>>(
     ensures count { result.1 ≤ 2 }
 {
     let mut compares = Compares::new();
-    let holds = match store.try_cache_counted(key, &mut compares) {
+    let holds = match store.try_cache(key, &mut compares) {
         Some(id) => Some(store.get_leaf(id).in_range(key)),
         None => None,
     };

@@ -65,10 +65,10 @@ impl<'a, K: Key, J: Joining<K>> Model for Joined<'a, K, J> {
 
 impl<'a, K: Key, J: Joining<K>> Joined<'a, K, J> {
     pub(crate) fn new(first: Iter<'a, K>, second: Iter<'a, K>) -> Self
+        requires first { length first < 2 ^ 64 }
+        requires second { length second < 2 ^ 64 }
         ensures { result ≡ (first.entry, second.entry) }
     {
-        // That these are numbers bounds what is left of both.
-        let _lens = (first.len(), second.len());
         Joined {
             merge: MergeIterInner::new(first, second),
             by: PhantomData,

@@ -1,19 +1,18 @@
 //! One key that is handed out or takes another's place, and many keys at once.
-ghost use Rattle.std.specs.Prelude.{◌≡◌, ◌++◌, [], false, IsOk, IfOk, IfErr, OnErr, OnOk, Ok, Some, None};
+ghost use Rattle.std.specs.Prelude.{◌≡◌, ◌++◌, [], false, IsOk, IsTrue, IfOk, IfErr, OnErr, OnOk, Ok, Some, None};
 ghost use Rattle.std.specs.Iterator.{IsFiniteIterable as AreFinite};
 ghost use Rattle.std.specs.Option.{option_map};
 ghost use Rattle.bptree_tree.specs.Refusal.{pair_of};
 ghost use Rattle.bptree_keys.specs.Keys.{AllInfallible};
 ghost use Rattle.bptree_maps.specs.Keys.{holds, with_key};
 ghost use Rattle.bptree_maps.specs.Moving.{Moves, AllMove, Extends, ExtendsUpTo, IsKeyMoveFailure, MovesKeys};
-ghost use Rattle.bptree_sets.specs.Replacing.{IsNotReplaced, IsReplaceFailure};
 ghost use Rattle.bptree_maps.specs.Splitting.{keys_gone, IsKeySplitFailure, KeepsKeysBelow, SplitsKeysOff};
 ghost use Rattle.bptree_maps.specs.KeyChanges.{IsKeyFailureOf, ReplacesKey, TakesKey};
 
 use crate::set::BPlusTreeSet;
 use bptree_keys::key::Key;
-use bptree_maps::refusals::{MoveError, ReplaceError, SplitError};
-use bptree_tree::InsertError;
+use bptree_maps::refusals::{MoveError, SplitError};
+use bptree_tree::{InsertError, ReplaceError};
 use std::alloc::AllocError;
 
 // The key of a pair, where there is one.
@@ -41,25 +40,25 @@ impl<K: Key> BPlusTreeSet<K> {
         Ok(key_alone(gone))
     }
 
-    /// Puts `k` in the place of the key that equals it, and hands that key out: none where no key
-    /// does.
+    /// Replaces the key that equals `k` by `k`, and returns it. If no key equals `k`, inserts `k`, and
+    /// returns `None`.
     ///
-    /// It costs a removal and an insertion, since the summaries above the key are computed anew. If
-    /// the removal fails, nothing has changed, and `k` is returned. If the insertion fails, the key
-    /// that equals `k` has left, and both are returned. The error is `Full` only if no key equalled
-    /// `k` and the set has `usize::MAX` keys.
-    pub fn replace(&mut self, k: K) -> Result<Option<K>, ReplaceError<K>>
+    /// O(log n): one descent, and a second one if `k` is inserted. If a key equals `k`, it allocates
+    /// nothing and cannot fail. Else it fails where `insert` does; then `k` is returned, and the set
+    /// is unchanged.
+    pub fn replace(&mut self, k: K) -> Result<Option<K>, InsertError<K, ()>>
         ensures ok { IfOk result (ReplacesKey K.cmp k self.old self.new) }
-        ensures err { IfErr result (IsNotReplaced K.cmp k self.old self.new) }
-        ensures kind { IfErr result (IsReplaceFailure K.cmp usize.MAX k self.old self.new) }
+        ensures err { IfErr result (λ r. (pair_of r ≡ (k, tt)) × (self.new ≡ self.old)) }
+        ensures kind { IfErr result (IsKeyFailureOf K.cmp usize.MAX self.old) }
+        ensures present { IsTrue (holds K.cmp self.old k) → IsOk result }
     {
-        self.recall();
-        match self.take(&k) {
-            Ok(gone) => match self.insert(k) {
-                Ok(_) => Ok(gone),
-                Err(refusal) => Err(ReplaceError::NotStored(refusal, gone)),
+        match self.map.replace_key(k) {
+            Ok(old) => Ok(Some(old)),
+            Err(ReplaceError::Absent(k)) => match self.insert(k) {
+                Ok(_) => Ok(None),
+                Err(refusal) => Err(refusal),
             },
-            Err(_) => Err(ReplaceError::NotTaken(k)),
+            Err(ReplaceError::OutOfMemory(k)) => Err(InsertError::OutOfMemory(k, ())),
         }
     }
 

@@ -3,11 +3,12 @@ ghost use Rattle.std.specs.Prelude.{◌≡◌, [], slice_get, IfOk, IsOk, IsSome
 ghost use Rattle.std.specs.Option.{option_copied};
 ghost use Rattle.bptree_keys.specs.Contents.{next, previous, value, last_member};
 ghost use Rattle.bptree_tree.specs.Cursor.{AnswersCursor, AnswersNext, AnswersPrevious, StandsAt, PointsAt, PointsAtKey, ShowsValueOf, found_pair};
-ghost use Rattle.bptree_tree.specs.Entries.{at_least};
+ghost use Rattle.bptree_descents.specs.Neighbours.{at_least, pair_on};
 
 use crate::cursor::Cursor;
 use crate::tree::BPlusTree;
 use bptree_descents::neighbours::{self, Found};
+use bptree_keys::end::Side;
 use bptree_keys::node_id::Position;
 use bptree_stores::node_stores::NodeStore;
 use std::alloc::AllocError;
@@ -49,21 +50,20 @@ impl<S: NodeStore> BPlusTree<S> {
         ensures end { at_least S.K.cmp self.now.contents k.now ≡ None → result ≡ Ok None }
         ensures sure { ((key : S.K) → S.K.is_infallible key) → IsOk result }
     {
-        Self::cursor_on(self.place_from(k))
+        Self::cursor_on(self.place_beside(k, Side::Before))
     }
 
     /// A cursor on the least key above `k`, and the value there. It takes what a clone of that key
     /// takes, and where there is none it takes nothing.
     ///
-    /// It costs what `get` does, and one more search of the leaf.
+    /// It costs what `get` does.
     pub fn upper_bound(&self, k: &S::K) -> Result<Option<(Cursor<S::K>, &S::V)>, AllocError>
         ensures cursor { IfOk result (PointsAt S.K.cmp (next S.K.cmp self.now.contents k.now)) }
         ensures value { IfOk result (ShowsValueOf (next S.K.cmp self.now.contents k.now)) }
         ensures end { next S.K.cmp self.now.contents k.now ≡ None → result ≡ Ok None }
         ensures sure { ((key : S.K) → S.K.is_infallible key) → IsOk result }
     {
-        let leaf = self.nodes.leaf_for(k);
-        self.cursor_after(Position { leaf, slot: 0 }, k)
+        Self::cursor_on(self.place_beside(k, Side::After))
     }
 
     // The position of a key, or where it would be inserted, and the value at the key if it is there.
@@ -133,11 +133,11 @@ impl<S: NodeStore> BPlusTree<S> {
         neighbours::pair_after(&self.nodes, at, key)
     }
 
-    // The pair with the least key that is not below a key.
-    fn place_from(&self, k: &S::K) -> Found<'_, S::K, S::V>
-        ensures { found_pair result ≡ at_least S.K.cmp self.now.contents k.now }
+    // The pair with the least key that is not below a key, or on the side `After` above it.
+    fn place_beside(&self, k: &S::K, side: Side) -> Found<'_, S::K, S::V>
+        ensures { found_pair result ≡ pair_on S.K.cmp self.now.contents k.now side }
     {
-        neighbours::pair_at_least(&self.nodes, k)
+        neighbours::bound(&self.nodes, k, side)
     }
 
     fn place_before(&self, at: Position, key: &S::K) -> Found<'_, S::K, S::V>

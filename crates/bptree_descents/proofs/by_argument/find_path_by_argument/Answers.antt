@@ -1,5 +1,5 @@
 use Rattle.std.proofs.Common.{ap, arith, length}
-use Rattle.bptree_descents.proofs.Low.{known_low}
+use Rattle.bptree_shape.proofs.Low.{known_low}
 use Rattle.bptree_descents.proofs.Summed.{known_subtree}
 use Rattle.bptree_descents.proofs.by_argument.find_path_by_argument.Goals as goal
 

@@ -4,7 +4,7 @@ use Rattle.bptree_descents.proofs.Beside.{first_after, first_here}
 use Rattle.bptree_descents.proofs.neighbours.pair_from.Goals as goal
 
 pub returns-in-Some : goal.returns-in-Some
-returns-in-Some g c = first_here (g.S.NodeStore.slots c.args.store.now) c.get_leaf-leaf.result.now c.args.at c.get_leaf-leaf.ensures (c.in-Some.pair.0.now, c.in-Some.pair.1.now) c.in-Some.ensures.value
+returns-in-Some g c = first_here (g.S.NodeStore.slots c.args.store.now) c.args.leaf.now c.args.at c.requires (c.in-Some.pair.0.now, c.in-Some.pair.1.now) c.in-Some.ensures.value
 
 pub returns-in-None : goal.returns-in-None
-returns-in-None g c = first_after (g.S.NodeStore.slots c.args.store.now) c.get_leaf-leaf.result.now c.args.at c.get_leaf-leaf.ensures c.next.result (option_map pair_read c.first_of.result) c.in-None.ensures.variant.1 c.next.ensures c.first_of.ensures
+returns-in-None g c = first_after (g.S.NodeStore.slots c.args.store.now) c.args.leaf.now c.args.at c.requires c.next.result (option_map pair_read c.first_of.result) c.in-None.ensures.variant.1 c.next.ensures c.first_of.ensures

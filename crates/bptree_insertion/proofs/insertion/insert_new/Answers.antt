@@ -1,5 +1,5 @@
 use Rattle.std.proofs.Common.{arith, None, refl, subst}
-use Rattle.bptree_ascent.proofs.Rooted.{low_tree}
+use Rattle.bptree_shape.proofs.Low.{low_tree}
 use Rattle.bptree_shape.specs.Shape.{root_least}
 use Rattle.bptree_shape.proofs.Walk.{tree_ascends}
 use Rattle.bptree_insertion.specs.Puts.{IsPlacedUpTo}

@@ -1,4 +1,4 @@
-use Rattle.std.proofs.Common.{◌∙◌, subst, arith}
+use Rattle.std.proofs.Common.{subst, arith}
 use Rattle.bptree_insertion.specs.Puts.{IsPlacedUpTo}
 use Rattle.bptree_insertion.proofs.Placed.{full_of, leaf_there, slot_within, climbs_divided, next_risen, placed_divided, halves_divided, when_divided}
 use Rattle.bptree_insertion.proofs.insertion.put_new.Goals as goal

@@ -1,6 +1,6 @@
 use Rattle.std.proofs.Common.{ap, arith, length, refl, sym}
 use Rattle.bptree_ascent.proofs.Lent.{none_if_absent}
-use Rattle.bptree_ascent.proofs.Rooted.{low_tree}
+use Rattle.bptree_shape.proofs.Low.{low_tree}
 use Rattle.bptree_insertion.proofs.Upserted.{absent, as_many, due, replaced}
 use Rattle.bptree_insertion.proofs.insertion.upsert.Goals as goal
 

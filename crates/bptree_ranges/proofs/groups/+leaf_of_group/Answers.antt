@@ -44,7 +44,7 @@ returns-in_ok-place-in-Inner g t c =
     let falls = key_falls total g.met.G.Ord.total g.G.FromRef.group_of g.met.G.FromRef.keeps_order c.args.group.now (is_back c.args.end) in
     let place = c.in_ok-place-in-Inner.place in
     let sorted = node_keys total slots c.args.height c.in-Inner.inner node s c.get_inner-node.ensures in
-    let parts = border_cut total g.met.G.Ord.total g.G.FromRef.group_of g.met.G.FromRef.keeps_order c.args.group.now (is_back c.args.end) node.keys c.keys.result.now place c.keys.ensures.value sorted c.in_ok-place-in-Inner.ensures.in_range (rw c.is_back.ensures at c.in_ok-place-in-Inner.ensures.border) in
+    let parts = border_cut total g.met.G.Ord.total g.G.FromRef.group_of g.met.G.FromRef.keeps_order c.args.group.now (is_back c.args.end) node.keys c.keys.result.now place c.keys.ensures.value sorted c.in_ok-place-in-Inner.ensures.in_range c.in_ok-place-in-Inner.ensures.border in
     rw c.in-Inner.is
     (IfOk-weaker c.leaf_of_group.result (IsBorderLeaf slots test (c.args.height - 1) c.child_id-child.result) (IsBorderLeaf slots test c.args.height (Inner c.in-Inner.inner))
     (border_node total test falls slots c.args.height c.in-Inner.inner node place c.child_id-child.result s c.get_inner-node.ensures parts c.child_id-child.ensures)

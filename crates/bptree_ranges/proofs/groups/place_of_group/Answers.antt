@@ -12,6 +12,6 @@ returns g c =
     let tree = c.tree.inside in
     let slots = g.S.NodeStore.slots tree.store in
     let border = c.in_ok-leaf.ensures in
-    let parts = leaf_cut total order group_of keeps c.args.group.now sum slots tree.height tree.root c.tree.invariant.0 c.in_ok-leaf.leaf c.get_leaf.result.now border.stands c.get_leaf.ensures (is_back c.args.end) c.keys.result.now c.in_ok-slot.slot c.keys.ensures.value c.in_ok-slot.ensures.in_range (rw c.is_back.ensures at c.in_ok-slot.ensures.border) in
+    let parts = leaf_cut total order group_of keeps c.args.group.now sum slots tree.height tree.root c.tree.invariant.0 c.in_ok-leaf.leaf c.get_leaf.result.now border.stands c.get_leaf.ensures (is_back c.args.end) c.keys.result.now c.in_ok-slot.slot c.keys.ensures.value c.in_ok-slot.ensures.in_range c.in_ok-slot.ensures.border in
     rw (← c.tree.view_is)
     (border_place total (is_key_before total order group_of keeps c.args.group.now (is_back c.args.end)) (key_falls total order group_of keeps c.args.group.now (is_back c.args.end)) slots sum tree.height tree.root c.tree.invariant.0 c.in_ok-leaf.leaf c.get_leaf.result.now border c.get_leaf.ensures c.in_ok-slot.slot parts)

@@ -1,5 +1,5 @@
 use Rattle.std.proofs.Common.{length, ap, arith, refl, sym}
-use Rattle.bptree_ascent.proofs.Rooted.{low_tree}
+use Rattle.bptree_shape.proofs.Low.{low_tree}
 use Rattle.bptree_shape.proofs.LeafFor.{node_ascends, absent_there}
 use Rattle.bptree_removal.proofs.Removals.{found_there}
 use Rattle.bptree_removal.proofs.removal.find_entry.Goals as goal

@@ -1,5 +1,5 @@
 use Rattle.std.proofs.Common.{◌≡◌, ◌<◌, ◌-◌, ◌∙◌, ap, arith, cond, length, refl, slice_get, sym}
-use Rattle.bptree_ascent.proofs.Rooted.{low_tree}
+use Rattle.bptree_shape.proofs.Low.{low_tree}
 use Rattle.bptree_keys.specs.Ends.{is_back}
 use Rattle.bptree_shape.specs.Shape.{leaf_pairs, pairs_at}
 use Rattle.bptree_shape.proofs.Ends.{end_pair, end_within}

@@ -18,7 +18,7 @@ pub returns-clause-right_len : goal.returns-clause-right_len
 returns-clause-right_len g c = omega (arith, ap length c.pop_front-up.ensures.key)
 
 pub returns-clause-left : goal.returns-clause-left
-returns-clause-left g c = (c.len-3.ensures.fits, c.len.ensures.fits)
+returns-clause-left g c = (c.recall-3.ensures, c.recall.ensures)
 
 pub returns-clause-right : goal.returns-clause-right
-returns-clause-right g c = (c.len-4.ensures.fits, c.len-2.ensures.fits)
+returns-clause-right g c = (c.recall-4.ensures, c.recall-2.ensures)

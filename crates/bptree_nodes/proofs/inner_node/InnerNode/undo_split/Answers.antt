@@ -46,7 +46,7 @@ merge_next-requires-clause-node g c =
 
 pub merge_next-requires-clause-right : goal.merge_next-requires-clause-right
 merge_next-requires-clause-right g c =
-    let fits = c.len-moved.ensures.fits in
+    let fits = c.recall.ensures in
     omega (arith, rw c.deref.ensures at fits.children, c.requires.right)
 
 pub merge_next-requires-clause-fits : goal.merge_next-requires-clause-fits
@@ -64,7 +64,7 @@ merge_next-requires-then-slot-kept-2-clause-node g c =
 
 pub merge_next-requires-then-slot-kept-2-clause-right : goal.merge_next-requires-then-slot-kept-2-clause-right
 merge_next-requires-then-slot-kept-2-clause-right g c =
-    let fits = c.len-moved.ensures.fits in
+    let fits = c.recall.ensures in
     omega (arith, rw c.deref.ensures at fits.children, c.requires.right, ap length (rw c.deref_mut.ensures.value at c.pop_front-key.ensures.child))
 
 pub merge_next-requires-then-slot-kept-2-clause-fits : goal.merge_next-requires-then-slot-kept-2-clause-fits
@@ -81,7 +81,7 @@ merge_next-requires-2-clause-node g c =
 pub merge_next-requires-2-clause-right : goal.merge_next-requires-2-clause-right
 merge_next-requires-2-clause-right g c =
     let after = rw c.deref_mut-2.ensures.value at c.remove_at-taken-2.ensures.after in
-    let fits = rw c.deref.ensures at c.len-moved.ensures.fits.children in
+    let fits = rw c.deref.ensures at c.recall.ensures.children in
     let place = c.args.slot - c.len-kept.result - 1 in
     omega (arith, fits, c.requires.slot, ap (λ node. length node.children) after, length-remove c.args.right.value.children (place + 1) (omega (arith, fits, c.requires.slot)))
 

@@ -1,5 +1,5 @@
 -- How high a tree may be.
-use Rattle.std.proofs.Common.{◌≡◌, ℕ, zero, suc, ◌+◌, ◌*◌, ◌^◌, ◌<◌, ◌≤◌, inl, inr, List, [], ◌∷◌, length, ap, arith, Option, Some, None, length-append}
+use Rattle.std.proofs.Common.{ℕ, zero, suc, ◌+◌, ◌*◌, ◌^◌, ◌<◌, ◌≤◌, inl, inr, List, [], ◌∷◌, length, ap, arith, Option, Some, None, length-append}
 use Rattle.std.specs.declared.cmp.Ordering.{Ordering}
 use Rattle.std.proofs.Math.Nat.{mul-le-mul_left, pow-le-pow_right}
 use Rattle.std.proofs.lemmas.Bool.{cases_lt}
@@ -42,14 +42,14 @@ module _ {K V A : Type 0} (cmp : K → K → Ordering) (is_summary : A → List 
       omega (arith, c, d)
 
   -- so no tree has more than 15 levels of inner nodes
-  pub low_tree : (h : ℕ) (root : NodeId) (n : ℕ) → IsWellShaped cmp is_summary slots h root → n ≡ length (pairs_at slots h root) → n < 2 ^ 64 → h ≤ 15
-  low_tree zero root n w is few = omega arith
-  low_tree (suc h) root n w is few =
+  pub low_tree : (h : ℕ) (root : NodeId) → IsWellShaped cmp is_summary slots h root → length (pairs_at slots h root) < 2 ^ 64 → h ≤ 15
+  low_tree zero root w few = omega arith
+  low_tree (suc h) root w few =
       elim (cases_lt h 15) [
         | inl low ↦ omega arith
-        | inr high ↦ absurd (let p : 17 ^ 15 ≤ 17 ^ h = pow-le-pow_right (omega arith) high in omega (arith, is, few, root_long h root w))
+        | inr high ↦ absurd (let p : 17 ^ 15 ≤ 17 ^ h = pow-le-pow_right (omega arith) high in omega (arith, few, root_long h root w))
       ]
 
--- the same of a tree as contracts see it
+-- the same of a tree as contracts name it
 pub known_low : {S K V A : Type 0} {cmp : K → K → Ordering} {is_summary : A → List K → Type 0} (slots : S → Slots (Inner K A) (Leaf K V)) {tree : NodeTree S K V A} → IsWhole cmp is_summary slots tree → length tree.contents < 2 ^ 64 → tree.height ≤ 15
-known_low {cmp = cmp} {is_summary} slots {tree} whole fits = low_tree cmp is_summary (slots tree.store) tree.height tree.root (length tree.contents) whole.shape (ap length whole.contents) fits
+known_low {cmp = cmp} {is_summary} slots {tree} whole fits = low_tree cmp is_summary (slots tree.store) tree.height tree.root whole.shape (omega (arith, ap length whole.contents, fits))

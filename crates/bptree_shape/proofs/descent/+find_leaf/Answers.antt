@@ -2,10 +2,10 @@ use Rattle.std.proofs.Common.{arith}
 use Rattle.bptree_shape.specs.Leaves.{Stands}
 use Rattle.bptree_keys.specs.declared.node_id.NodeId.TheVariants.{Inner}
 use Rattle.bptree_shape.proofs.Down.{inner_present, node_leads, child_stands, leaf_for_node, leaf_for_leaf}
-use Rattle.bptree_shape.proofs.descent.+find_leaf_counted.Goals as goal
+use Rattle.bptree_shape.proofs.descent.+find_leaf.Goals as goal
 
-pub find_leaf_counted-requires : goal.find_leaf_counted-requires
-find_leaf_counted-requires g t c κs within =
+pub find_leaf-requires : goal.find_leaf-requires
+find_leaf-requires g t c κs within =
     let total = g.met.S.K.Ord.total in
     let slots = g.S.NodeStore.slots c.args.store.now in
     let s : Stands g.S.K.Ord.cmp slots c.args.height (Inner c.in-Inner.inner) = rw c.in-Inner.is at c.requires in
@@ -27,5 +27,5 @@ returns-in-Inner-clause-leaf g t c =
     let at = c.locate_child_counted-child.ensures in
     let leads = node_leads total slots c.args.height c.in-Inner.inner node s c.get_inner.ensures c.args.key.now c.locate_child_counted-child.result.0 at.leads in
     rw c.in-Inner.is
-    (leaf_for_node total slots c.args.height c.in-Inner.inner node c.args.key.now c.locate_child_counted-child.result.0 c.locate_child_counted-child.result.1 c.find_leaf_counted.result s c.get_inner.ensures
-    leads at.in_range at.child c.find_leaf_counted.ensures.leaf)
+    (leaf_for_node total slots c.args.height c.in-Inner.inner node c.args.key.now c.locate_child_counted-child.result.0 c.locate_child_counted-child.result.1 c.find_leaf.result s c.get_inner.ensures
+    leads at.in_range at.child c.find_leaf.ensures.leaf)

@@ -1,5 +1,5 @@
 use Rattle.bptree_shape.proofs.Hinted.{hinted}
-use Rattle.bptree_shape.proofs.nodes.Nodes.leaf_for_counted.Goals as goal
+use Rattle.bptree_shape.proofs.nodes.Nodes.leaf_for.Goals as goal
 
 pub returns-in-Some-clause-leaf : goal.returns-in-Some-clause-leaf
 returns-in-Some-clause-leaf g c =
