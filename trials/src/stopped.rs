@@ -3,7 +3,6 @@
 
 use crate::kind::Kind;
 use crate::model::pairs::Pairs;
-use crate::model::shards::bounds_before;
 use crate::model::Model;
 use crate::record::Record;
 use crate::words::Reply;
@@ -19,8 +18,8 @@ pub struct Left {
 pub fn can_stop(model: &Model, record: &Record) -> bool {
     let (family, member) = (record.family(), record.member());
     match family {
-        8 if model.kind.is_shards() => true,
-        8 => member <= 4,
+        8 if model.kind.is_shards() => member == 1,
+        8 => member <= 4 && member != 2,
         _ => false,
     }
 }
@@ -55,14 +54,13 @@ pub fn after(model: &Model, record: &Record, reply: &Reply, left: Left) -> Resul
     if reply.len == 0 {
         // A key, or a list of them, was not made.
         let takes_memory = model.kind.has_large_keys() || record.family() == 8 && member == 0;
-        let is_made = !takes_memory || model.kind.is_shards() && member == 1;
+        let is_made = !takes_memory || model.kind.is_shards();
         return stop.is_well(!is_made, "there are no words", model.clone());
     }
     match (record.family(), member) {
-        _ if model.kind.is_shards() => stop.shards(),
+        _ if model.kind.is_shards() => stop.merged(),
         (_, 0) => stop.extended(),
         (_, 1) => stop.appended(),
-        (_, 2) => stop.split(),
         _ => stop.retained(),
     }
 }
@@ -135,30 +133,6 @@ impl Stop<'_> {
         self.has(&self.model.pair_if(in_hand), after)
     }
 
-    // The greatest pairs have moved, and the next one may be in hand.
-    fn split(&self) -> Result<Model, String> {
-        let mut after = self.model.clone();
-        if self.reply.word(0) == 0 {
-            return self.has(&[0], after);
-        }
-        let in_hand = self.pair_if(1);
-        let held = usize::from(in_hand.is_some());
-        let len = after.here.len();
-        let end = len.checked_sub(self.left.there).ok_or("too many left")?;
-        let rest = end.checked_sub(held).ok_or("too many left")?;
-        if in_hand.is_some() && after.here.at(rest) != in_hand {
-            return Err(format!("{in_hand:?} is in hand"));
-        }
-        if rest < after.here.rank(self.record.a) {
-            return Err("pairs below the key have left".to_string());
-        }
-        after.there = Pairs::gathered(after.kind, after.here.part(end, len));
-        after.here = without(after.kind, &after.here, rest, len);
-        let mut words = vec![1];
-        words.extend(self.model.pair_if(in_hand));
-        self.has(&words, after)
-    }
-
     // Those before the pair in hand are asked; those behind it come back.
     fn retained(&self) -> Result<Model, String> {
         let (model, record) = (self.model, self.record);
@@ -195,29 +169,19 @@ impl Stop<'_> {
         self.has(&[], after)
     }
 
-    // A shard that is cut, or one that goes to the one before it, may lose its last pairs. They
-    // come back, the first of them perhaps in hand.
-    fn shards(&self) -> Result<Model, String> {
+    // A shard that goes to the one before it may keep its last pairs. They come back, the first of
+    // them perhaps in hand.
+    fn merged(&self) -> Result<Model, String> {
         let (model, record) = (self.model, self.record);
         let mut after = model.clone();
-        if self.reply.word(0) == 0 {
-            return self.has(&[0], after);
-        }
-        let is_merge = record.member() == 1;
-        let shard = if is_merge {
-            record.a as usize + 1
-        } else {
-            bounds_before(&model.bounds, record.a, false)
-        };
+        let shard = record.a as usize + 1;
         let lengths = model.lengths();
         let end: u64 = lengths.iter().take(shard + 1).sum();
         let own = lengths.get(shard).copied().unwrap_or(0) as usize;
         let gone = model.here.len().checked_sub(self.left.here);
         let gone = gone.ok_or("there are more than before")?;
-        let least = if is_merge { 0 } else { record.a };
         let from = (end as usize).wrapping_sub(gone);
-        let is_above = model.here.key_at(from).map_or(true, |key| key >= least);
-        if gone > own || !is_above && gone > 0 {
+        if gone > own {
             return Err(format!("{gone} have left a shard of {own}"));
         }
         let mut back = model.here.part(from, end as usize);
@@ -235,10 +199,8 @@ impl Stop<'_> {
         for pair in back {
             words.extend(model.pair(pair));
         }
-        if is_merge {
-            let bound = after.merged_bound(record.a).ok_or("no shard was merged")?;
-            after.bounds.remove(bound);
-        }
+        let bound = after.merged_bound(record.a).ok_or("no shard was merged")?;
+        after.bounds.remove(bound);
         self.has(&words, after)
     }
 }

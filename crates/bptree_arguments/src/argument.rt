@@ -20,6 +20,16 @@ pub trait Argument<K: Key>: Clone + Default + Drop {
     /// No call of the argument takes memory, so that none is refused.
     ghost needs_no_memory: { Type 0 } = { ⊥ };
 
+    /// Whether no call of the argument takes memory. The default is `false`, which is always
+    /// allowed.
+    ///
+    /// O(1). It takes no memory and cannot fail.
+    fn never_fails() -> bool
+        ensures free { IsTrue result → needs_no_memory }
+    {
+        false
+    }
+
     /// Whether every value is a summary of every list, so that a tree need not keep summaries up.
     fn is_zst() -> bool
         ensures any { IsTrue result → (a : Self) (keys : List K) → is_summary a keys }
@@ -133,6 +143,10 @@ impl<K: Key> Argument<K> for () {
     ghost is_summary = { λ _ _. ⊤ };
 
     ghost needs_no_memory = { ⊤ };
+
+    fn never_fails() -> bool {
+        true
+    }
 
     fn is_zst() -> bool
         ensures { result ≡ true }

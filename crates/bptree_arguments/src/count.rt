@@ -79,6 +79,10 @@ impl<K: Key> Argument<K> for Count {
 
     ghost needs_no_memory = { ⊤ };
 
+    fn never_fails() -> bool {
+        true
+    }
+
     fn from_leaf(keys: &[K]) -> Result<Count, AllocError>
         ensures summary { IfOk result (SumsUpKeys CountsKeys K.cmp keys.now) }
         ensures exact { IfOk result (λ a. a.0 ≡ length keys.now) }

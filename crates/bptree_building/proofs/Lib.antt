@@ -3,3 +3,7 @@ pub mod Lists
 pub mod Raised
 pub mod Seated
 pub mod Spread
+pub mod Planted
+pub mod Standing
+pub mod PlanLemmas
+pub mod LeafIds

@@ -26,7 +26,7 @@ use Rattle.bptree_shape.proofs.Ordered.{ascending_after}
 use Rattle.bptree_shape.proofs.Spot.{ascending_before}
 use Rattle.bptree_shape.proofs.Widen.{tree_less}
 use Rattle.bptree_ascent.proofs.Relinked.{each_counted, linked_same}
-use Rattle.bptree_building.specs.Layer.{roots, firsts, summaries, IsSeated, IsLayer, IsRising, IsBuilt}
+use Rattle.bptree_building.specs.Layer.{roots, firsts, summaries, with_leaves, IsSeated, IsLayer, IsRising, IsBuilt}
 use Rattle.bptree_building.specs.Steps.{IsRaised}
 use Rattle.bptree_building.specs.declared.subtree.Subtree.{Subtree}
 use Rattle.bptree_building.proofs.Lists.{nothing, flat_parts_of, flat_moved, total_parts_of, total_end}
@@ -232,6 +232,19 @@ module _ {K V A : Type 0} {cmp : K → K → Ordering} (total' : IsTotalOrder cm
       last_raised 1 [] (omega arith) (λ many. absurd (omega (arith, many))) (omega (arith, several))
       (record { seated_done = tt; seated_rest = rising.seated_rest; pairs_are = rising.pairs_are; leaves = rising.leaves; inners = rising.inners; no_leaf_held = rising.no_leaf_held; no_inner_held = rising.no_inner_held; linked = rising.linked })
   rises_last (first ∷ done) several enough rising = last_raised 16 (first ∷ done) (omega arith) (λ many. omega arith) (omega (arith, enough (omega arith))) rising
+
+-- it stands whatever the leaves are
+pub raised_with : {K V A : Type 0} (cmp : K → K → Ordering) (is_summary : A → List K → Type 0) (old new : Slots (Inner K A) (Leaf K V)) (all : List (Subtree K A)) (count : ℕ) (tree : Subtree K A) (rest : List (Subtree K A)) → IsRaised cmp is_summary old new all count tree rest
+    → (leaves : ℕ → Slot (Leaf K V)) → IsRaised cmp is_summary (with_leaves old leaves) (with_leaves new leaves) all count tree rest
+raised_with cmp is_summary old new all count tree rest raised leaves = record {
+  id = raised.id;
+  node = raised.node;
+  above = raised.above;
+  is = raised.is;
+  was_free = raised.was_free;
+  updates = record { inner = raised.updates.inner; leaf = refl };
+  told = raised.told;
+}
 
 -- what is left when a node took the first trees
 pub raised_long : {K V A : Type 0} (cmp : K → K → Ordering) (is_summary : A → List K → Type 0) (old new : Slots (Inner K A) (Leaf K V)) (all : List (Subtree K A)) (count : ℕ) (tree : Subtree K A) (rest : List (Subtree K A)) → IsRaised cmp is_summary old new all count tree rest → length rest + count ≡ length all

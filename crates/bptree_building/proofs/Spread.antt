@@ -28,12 +28,12 @@ use Rattle.bptree_building.proofs.Lists.{nothing, flat_end, total_end}
 use Rattle.bptree_building.proofs.Raised.{pairs_same, order_same, leaves_same}
 use Rattle.bptree_building.proofs.Seated.{seated_same}
 
-last_end : (p : Option LeafNodeId) (ids : List LeafNodeId) (id : LeafNodeId) → last_of p (ids ++ id ∷ []) ≡ Some id
+pub last_end : (p : Option LeafNodeId) (ids : List LeafNodeId) (id : LeafNodeId) → last_of p (ids ++ id ∷ []) ≡ Some id
 last_end p [] id = refl
 last_end p (x ∷ ids) id = last_end (Some x) ids id
 
 -- a leaf is linked behind others
-linked_end : {K V A : Type 0} (slots : Slots (Inner K A) (Leaf K V)) (p : Option LeafNodeId) (ids : List LeafNodeId) (id : LeafNodeId) (q : Option LeafNodeId) → AreLinked slots p ids (Some id)
+pub linked_end : {K V A : Type 0} (slots : Slots (Inner K A) (Leaf K V)) (p : Option LeafNodeId) (ids : List LeafNodeId) (id : LeafNodeId) (q : Option LeafNodeId) → AreLinked slots p ids (Some id)
     → leaf_prev (slots.leaf id.0) ≡ last_of p ids → leaf_next (slots.leaf id.0) ≡ q → AreLinked slots p (ids ++ id ∷ []) q
 linked_end slots p [] id q linked prev next = (prev, next)
 linked_end slots p (x ∷ []) id q linked prev next = (linked.0, linked.1, (prev, next))

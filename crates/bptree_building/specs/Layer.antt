@@ -1,16 +1,18 @@
 -- Trees of one height that stand beside each other in a store.
-use Rattle.std.specs.Prelude.{◌≡◌, ℕ, suc, ◌+◌, ◌<◌, ◌≤◌, List, [], ◌∷◌, ◌++◌, length, map, Option, None, Some}
+use Rattle.std.specs.Prelude.{◌≡◌, ℕ, suc, ◌+◌, ◌<◌, ◌≤◌, ◌^◌, List, [], ◌∷◌, ◌++◌, length, map, Option, None, Some}
 use Rattle.std.specs.declared.cmp.Ordering.{Ordering}
 use Rattle.std.specs.List.{AllByRecursion}
 use Rattle.std.specs.Map.{keys_of}
+use Rattle.bptree_keys.specs.Contents.{IsAscending}
 use Rattle.bptree_keys.specs.declared.node_id.LeafNodeId.{LeafNodeId}
 use Rattle.bptree_keys.specs.declared.node_id.NodeId.{NodeId}
 use Rattle.bptree_nodes.specs.Inner.{Inner}
 use Rattle.bptree_nodes.specs.Leaf.{Leaf}
-use Rattle.bptree_nodes.specs.Slot.{Slots, Held, IsPresent}
+use Rattle.bptree_nodes.specs.Slot.{Slot, Slots, Held, IsPresent}
 use Rattle.bptree_shape.specs.Order.{flat, total, Within}
 use Rattle.bptree_shape.specs.Shape.{pairs_at, leaves_at, leaf_count, inner_count, stands, AreLinked, IsSummed, IsTree, IsWellShaped, root_least}
 use Rattle.bptree_ascent.specs.Change.{StartsAt}
+use Rattle.bptree_building.specs.declared.building.Built.{Built}
 use Rattle.bptree_building.specs.declared.subtree.Subtree.{Subtree}
 
 module _ {K A : Type 0} where
@@ -28,6 +30,10 @@ module _ {K A : Type 0} where
 abbrev pub last_of : Option LeafNodeId → List LeafNodeId → Option LeafNodeId
 last_of p [] = p
 last_of p (x ∷ xs) = last_of (Some x) xs
+
+-- a store with other leaves
+abbrev pub with_leaves : {I L : Type 0} → Slots I L → (ℕ → Slot L) → Slots I L
+with_leaves slots leaves = record { inner = slots.inner; leaf = leaves }
 
 module _ {K V A : Type 0} (cmp : K → K → Ordering) (is_summary : A → List K → Type 0) (slots : Slots (Inner K A) (Leaf K V)) where
   -- a tree that can stand between any bounds around its pairs, with what is told of it
@@ -78,3 +84,14 @@ module _ {K V A : Type 0} (cmp : K → K → Ordering) (is_summary : A → List 
     pub shape : IsWellShaped cmp is_summary slots h root
     pub contents : pairs_at slots h root ≡ pairs
     pub told : is_summary summary (keys_of pairs)
+
+  -- that tree, as a call names it
+  abbrev pub Builds : List (K × V) → Built A → Type 0
+  Builds pairs built = IsBuilt built.root built.height built.summary pairs
+
+-- whatever the leaves of a store are: where they are trees of no height that hold the pairs, they stand below a whole tree
+abbrev pub RaisesAll : {K V A : Type 0} → (K → K → Ordering) → (A → List K → Type 0) → Slots (Inner K A) (Leaf K V) → Slots (Inner K A) (Leaf K V) → List (Subtree K A) → Built A → Type 0
+RaisesAll {K} {V} {A} cmp is_summary old new trees built =
+    (new.leaf ≡ old.leaf)
+    × ((leaves : ℕ → Slot (Leaf K V)) (pairs : List (K × V)) → IsAscending cmp pairs → length pairs < 2 ^ 64 → IsLayer cmp is_summary (with_leaves old leaves) 0 trees pairs
+    → Builds cmp is_summary (with_leaves new leaves) pairs built)

@@ -1,2 +1,3 @@
 pub mod Layer
 pub mod Steps
+pub mod Rooms

@@ -12,9 +12,9 @@ use Rattle.bptree_keys.specs.declared.node_id.LeafNodeId.{LeafNodeId}
 use Rattle.bptree_keys.specs.declared.node_id.NodeId.TheVariants as kind
 use Rattle.bptree_nodes.specs.Inner.{Inner}
 use Rattle.bptree_nodes.specs.Leaf.{Leaf}
-use Rattle.bptree_nodes.specs.Slot.{Slots, Free, Held, Present, UpdatesInner}
+use Rattle.bptree_nodes.specs.Slot.{Slot, Slots, Free, Held, Present, UpdatesInner}
 use Rattle.bptree_ascent.specs.Change.{StartsAt}
-use Rattle.bptree_building.specs.Layer.{roots, firsts, summaries, IsLayer, IsSpreading}
+use Rattle.bptree_building.specs.Layer.{roots, firsts, summaries, with_leaves, IsLayer, IsSpreading}
 use Rattle.bptree_building.specs.declared.subtree.Subtree.{Subtree}
 
 -- a leaf of the first pairs, with the key that it starts at and a summary of its keys
@@ -72,11 +72,11 @@ module _ {K V A : Type 0} (cmp : K → K → Ordering) (is_summary : A → List 
     RaisesNode trees trees' count tree =
         (into_iter_len trees' ≡ length (into_iter_items trees')) × IsRaised cmp is_summary old new (into_iter_items trees) count tree (into_iter_items trees')
 
-    -- the trees of a layer stand below those of the layer above, which are fewer
+    -- the trees of a layer stand below those of the layer above, which are fewer, whatever the leaves of the store are
     abbrev pub RaisesLayer : ℕ → List (Subtree K A) → List (Subtree K A) → Type 0
     RaisesLayer height layer above =
-        (0 < length above) × (length above < length layer)
-        × ((pairs : List (K × V)) → IsAscending cmp pairs → length pairs < 2 ^ 64 → IsLayer cmp is_summary old height layer pairs → IsLayer cmp is_summary new (height + 1) above pairs)
+        (0 < length above) × (length above < length layer) × (new.leaf ≡ old.leaf)
+        × ((leaves : ℕ → Slot (Leaf K V)) (pairs : List (K × V)) → IsAscending cmp pairs → length pairs < 2 ^ 64 → IsLayer cmp is_summary (with_leaves old leaves) height layer pairs → IsLayer cmp is_summary (with_leaves new leaves) (height + 1) above pairs)
 
     -- a leaf of the first pairs stands under the number that was held for it, behind those that are done, and a number is held
     -- for the next one

@@ -2,14 +2,55 @@
 ghost use Rattle.std.specs.Prelude.{◌≡◌, ◌<◌, length, IfOk};
 ghost use Rattle.bptree_keys.specs.Contents.{IsAscending};
 ghost use Rattle.bptree_nodes.specs.Slot.{IsEmpty};
+ghost use Rattle.bptree_building.specs.Layer.{RaisesAll};
 ghost use Rattle.bptree_shape.specs.NodeTree.{IsWhole};
 
 use crate::inner_layer::raise_layer;
 use crate::leaf_layer::build_leaves;
 use crate::subtree::Subtree;
+use bptree_keys::node_id::NodeId;
 use bptree_shape::nodes::Nodes;
 use bptree_stores::node_stores::NodeStore;
 use std::alloc::AllocError;
+
+/// The top of a tree that is built.
+#[derive(Drop)]
+pub struct Built<A> {
+    pub root: NodeId,
+    /// The number of levels of inner nodes.
+    pub height: usize,
+    /// A summary of all keys.
+    pub summary: A,
+}
+
+/// Builds the layers above at least one tree of height 0, up to a node that stands alone.
+///
+/// It takes O(n) steps for n trees, and clones no key. It reads no leaf, so the leaves may take
+/// their pairs later. If an allocation fails, what was built so far stays in the store.
+pub fn raise_all<S: NodeStore>(
+    store: &mut S,
+    trees: Vec<Subtree<S::K, S::Argument>>,
+) -> Result<Built<S::Argument>, AllocError>
+    requires { 0 < length trees.items }
+    ensures { IfOk result (RaisesAll S.K.cmp S.Argument.is_summary (S.slots store.old) (S.slots store.new) trees.items) }
+{
+    let mut layer = trees;
+    let mut height = 0;
+    'layers: while layer.len() > 1 {
+        layer = raise_layer(store, layer, height)?;
+        height += 1;
+    }
+    let Subtree {
+        root,
+        first: _,
+        summary,
+    } = layer.pop().unwrap();
+    Ok(Built {
+        root,
+        height,
+        summary,
+    })
+}
 
 /// Builds a tree of ascending pairs in an empty store.
 ///
@@ -25,17 +66,13 @@ pub fn build<S: NodeStore>(store: S, pairs: Vec<(S::K, S::V)>) -> Result<Nodes<S
 {
     let mut store = store;
     let len = pairs.len();
-    let mut layer = build_leaves(&mut store, pairs)?;
-    let mut height = 0;
-    'layers: while layer.len() > 1 {
-        layer = raise_layer(&mut store, layer, height)?;
-        height += 1;
-    }
-    let Subtree {
+    let layer = build_leaves(&mut store, pairs)?;
+    let built = raise_all(&mut store, layer)?;
+    let Built {
         root,
-        first: _,
+        height,
         summary,
-    } = layer.pop().unwrap();
+    } = built;
     let tree = Nodes {
         store,
         root,

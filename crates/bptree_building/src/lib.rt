@@ -4,4 +4,8 @@
 pub mod building;
 mod inner_layer;
 mod leaf_layer;
+pub mod leaves;
+pub mod plan;
+pub mod planting;
+pub mod rooms;
 pub mod subtree;

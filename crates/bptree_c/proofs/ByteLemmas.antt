@@ -8,7 +8,7 @@ use Rattle.std.specs.Map.Iter.{TakesFirst, TakesLast, deref_pair}
 use Rattle.std.specs.Option.{option_map}
 use Rattle.std.specs.Ordering.{is_eq, is_gt}
 use Rattle.bptree_keys.specs.Contents.{pairs_above}
-use Rattle.bptree_maps.proofs.SplitLemmas.{keys_joined}
+use Rattle.bptree_maps.proofs.KeyLemmas.{keys_joined}
 use Rattle.bptree_maps.specs.Keys.{holds, without_key}
 use Rattle.bptree_nodes.proofs.Pairs.{last_apart}
 use Rattle.bptree_ranges.specs.Bounds.{between_bounds}

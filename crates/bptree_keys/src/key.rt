@@ -1,70 +1,135 @@
 //! The law of the keys of a tree, and the keys of the library.
 
-ghost use Rattle.std.specs.Prelude.{◌≡◌, string_bytes};
+ghost use Rattle.std.specs.Prelude.{◌≡◌, string_bytes, IsTrue};
 ghost use Rattle.std.specs.declared.cmp.Ordering.{Ordering};
 ghost use Rattle.std.specs.declared.cmp.Ordering.TheVariants.{Equal};
 ghost use Rattle.std.proofs.Common.{rules};
 ghost use Rattle.std.proofs.lemmas.Cmp.{nat_list_cmp_total};
-ghost use Rattle.bptree_keys.specs.Keys.{equal_if_same, then_equal};
+ghost use Rattle.bptree_keys.specs.Keys.{equal_if_same, then_equal, AllInfallible};
 
 /// A type whose values are put in order, and whose clones are equal to their originals.
 pub trait Key: Clone + Ord {
+    /// Whether no clone of a key fails. The default is `false`, which is always allowed.
+    ///
+    /// O(1). It takes no memory and cannot fail.
+    fn clones_never_fail() -> bool
+        ensures { IsTrue result → AllInfallible Self.is_infallible }
+    {
+        false
+    }
+
     ghost clone_is_equal: { (x y : Self) → Self.is_clone x y → Self.cmp x y ≡ Equal };
 }
 
 impl Key for u8 {
+    fn clones_never_fail() -> bool {
+        true
+    }
+
     ghost clone_is_equal = { Prim.search rules };
 }
 
 impl Key for u16 {
+    fn clones_never_fail() -> bool {
+        true
+    }
+
     ghost clone_is_equal = { Prim.search rules };
 }
 
 impl Key for u32 {
+    fn clones_never_fail() -> bool {
+        true
+    }
+
     ghost clone_is_equal = { Prim.search rules };
 }
 
 impl Key for u64 {
+    fn clones_never_fail() -> bool {
+        true
+    }
+
     ghost clone_is_equal = { Prim.search rules };
 }
 
 impl Key for u128 {
+    fn clones_never_fail() -> bool {
+        true
+    }
+
     ghost clone_is_equal = { Prim.search rules };
 }
 
 impl Key for usize {
+    fn clones_never_fail() -> bool {
+        true
+    }
+
     ghost clone_is_equal = { Prim.search rules };
 }
 
 impl Key for i8 {
+    fn clones_never_fail() -> bool {
+        true
+    }
+
     ghost clone_is_equal = { Prim.search rules };
 }
 
 impl Key for i16 {
+    fn clones_never_fail() -> bool {
+        true
+    }
+
     ghost clone_is_equal = { Prim.search rules };
 }
 
 impl Key for i32 {
+    fn clones_never_fail() -> bool {
+        true
+    }
+
     ghost clone_is_equal = { Prim.search rules };
 }
 
 impl Key for i64 {
+    fn clones_never_fail() -> bool {
+        true
+    }
+
     ghost clone_is_equal = { Prim.search rules };
 }
 
 impl Key for i128 {
+    fn clones_never_fail() -> bool {
+        true
+    }
+
     ghost clone_is_equal = { Prim.search rules };
 }
 
 impl Key for isize {
+    fn clones_never_fail() -> bool {
+        true
+    }
+
     ghost clone_is_equal = { Prim.search rules };
 }
 
 impl Key for char {
+    fn clones_never_fail() -> bool {
+        true
+    }
+
     ghost clone_is_equal = { Prim.search rules };
 }
 
 impl Key for bool {
+    fn clones_never_fail() -> bool {
+        true
+    }
+
     ghost clone_is_equal = { Prim.search rules };
 }
 
@@ -73,6 +138,10 @@ impl Key for String {
 }
 
 impl<A: Key, B: Key> Key for (A, B) {
+    fn clones_never_fail() -> bool {
+        A::clones_never_fail() && B::clones_never_fail()
+    }
+
     ghost clone_is_equal = { λ x y is. then_equal (A.clone_is_equal x.0 y.0 is.0) (B.clone_is_equal x.1 y.1 is.1) };
 }
 
@@ -81,5 +150,9 @@ impl<A: Key, B: Key> Key for (A, B) {
 pub struct Tuple2<T>(pub T);
 
 impl<T: Key> Key for Tuple2<T> {
+    fn clones_never_fail() -> bool {
+        T::clones_never_fail()
+    }
+
     ghost clone_is_equal = { λ x y is. T.clone_is_equal x.0 y.0 is };
 }

@@ -27,7 +27,6 @@ use Rattle.bptree_tree.specs.declared.InsertError.{InsertError}
 use Rattle.bptree_tree.specs.declared.InsertError.TheVariants.{Full, OutOfMemory}
 use Rattle.bptree_tree.proofs.FailureLemmas.{failure_is}
 use Rattle.bptree_maps.specs.KeyChanges.{IsFullForKey, IsKeyFailureOf}
-use Rattle.bptree_maps.specs.Splitting.{IsKeyPartingFailure, IsPartingFailure}
 use Rattle.bptree_maps.specs.declared.refusals.MoveError.{MoveError}
 use Rattle.bptree_maps.specs.declared.refusals.MoveError.TheVariants.{NotTaken, NotStored}
 use Rattle.bptree_maps.specs.KeyBounds.{keys_between_bounds}
@@ -199,6 +198,7 @@ pub failure_of_keys : {K V : Type 0} (cmp : K → K → Ordering) (most : ℕ) (
 failure_of_keys cmp most l (Full k v) failed = (length-keys_of l ∙ failed.0, sym (holds_keys cmp l k) ∙ failed.1)
 failure_of_keys cmp most l (OutOfMemory k v) failed = (λ full. failed.0 (sym (length-keys_of l) ∙ full), sym (holds_keys cmp l k) ∙ failed.1)
 
-pub parting_failure_of_keys : {K V : Type 0} (cmp : K → K → Ordering) (k : K) (most : ℕ) (there new : List (K × V)) (error : MoveError K V) → IsPartingFailure cmp k most there new error → IsKeyPartingFailure cmp k most (keys_of there) (keys_of new) error
-parting_failure_of_keys cmp k most there new NotTaken some = λ none. some (empty_keys _ (keys_between-is cmp new (Some k) None ∙ none))
-parting_failure_of_keys cmp k most there new (NotStored error) failed = failure_of_keys cmp most there error failed
+-- the keys of two lists
+pub keys_joined : {K V : Type 0} (l m : List (K × V)) → keys_of (l ++ m) ≡ keys_of l ++ keys_of m
+keys_joined [] m = refl
+keys_joined (p ∷ l) m = ap (λ keys. p.0 ∷ keys) (keys_joined l m)

@@ -4,5 +4,4 @@ pub mod MovingLemmas
 pub mod PlaceLemmas
 pub mod PopLemmas
 pub mod RetainLemmas
-pub mod SplitLemmas
 pub mod UpsertLemmas

@@ -19,7 +19,7 @@ use Rattle.bptree_maps.specs.Keys.{with_key}
 use Rattle.bptree_maps.specs.RetainedKeys.{FirstKeysLeft}
 use Rattle.bptree_maps.specs.Retaining.{CallsAtPair, IsRetained, IsRetainedUpTo}
 use Rattle.bptree_maps.proofs.KeyLemmas.{keys_between-is, keys_outside-is, keys_put}
-use Rattle.bptree_maps.proofs.SplitLemmas.{keys_joined}
+use Rattle.bptree_maps.proofs.KeyLemmas.{keys_joined}
 
 module _ {K V : Type 0} {cmp : K → K → Ordering} (total : IsTotalOrder cmp) where
   -- without a pair between

@@ -7,4 +7,3 @@ pub mod gathering;
 pub mod map;
 pub mod refusals;
 mod retaining;
-mod splitting;

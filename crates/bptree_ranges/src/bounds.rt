@@ -62,11 +62,7 @@ pub(crate) fn can_hold<K: Ord>(lo: Bound<&K>, hi: Bound<&K>) -> bool
 /// Where a range with a bound begins or ends, as `end` says. Without a key in the bound, that is at
 /// the first of all pairs, or behind the last one.
 #[inline(always)]
-pub(crate) fn place_of_bound<S: NodeStore>(
-    tree: &Nodes<S>,
-    bound: Bound<&S::K>,
-    end: End,
-) -> Position
+pub fn place_of_bound<S: NodeStore>(tree: &Nodes<S>, bound: Bound<&S::K>, end: End) -> Position
     ensures place { HasPlace S.slots tree.now result }
     ensures before { HasBound S.slots tree.now S.K.cmp end bound.entry result }
 {

@@ -31,7 +31,7 @@ mod union;
 use bptree_keys::key::Key;
 use bptree_maps::gathering::gather_map;
 use bptree_maps::map::{BPlusTreeMap, IntoKeys, Keys};
-pub use bptree_maps::refusals::{MoveError, RetainError, SplitError};
+pub use bptree_maps::refusals::{MoveError, RetainError};
 use bptree_stores::node_store_vec::NodeStoreVec;
 use bptree_tree::{BPlusTree, InsertError};
 pub use difference::Lacking;

@@ -6,6 +6,7 @@ use Rattle.std.specs.Ordering.{is_lt, is_gt, ordering_reverse}
 use Rattle.std.specs.Cmp.{IsTotalOrder}
 use Rattle.std.specs.List.{AllByRecursion, sum}
 use Rattle.std.specs.Map.{keys_of}
+use Rattle.std.proofs.Math.Seq.{map-set_same}
 use Rattle.std.proofs.lemmas.List.{take-append-drop, length-take, length-map, map-set}
 use Rattle.std.proofs.lemmas.List.Edits.{length-remove}
 use Rattle.std.proofs.lemmas.Cmp.{alike_right}
@@ -29,7 +30,7 @@ use Rattle.bptree_shards.proofs.MoveLemmas.{shard_splits}
 use Rattle.bptree_shards.proofs.RangeLemmas.{shards_count}
 use Rattle.bptree_shards.proofs.PartLemmas.{flatten_set}
 use Rattle.bptree_shards.proofs.ShardLemmas.{stand_set}
-use Rattle.bptree_sharded.specs.Whole.{IsWhole, descends_at}
+use Rattle.bptree_sharded.specs.Whole.{IsWhole, Partition, descends_at}
 use Rattle.bptree_sharded.proofs.Asked.{asked, lengths-set, same_count, routed_within, changed, counted, read_back}
 
 -- ---- pairs that are put back
@@ -206,35 +207,18 @@ module _ {T K V : Type 0} {cmp : K → K → Ordering} (order : IsTotalOrder cmp
         fits = omega (arith, ap sum split_counts, total (map pairs (insert (set items i y) (i + 1) z)), ap length split_list, ap sum whole.counted, total shards, whole.fits);
       }
 
-  -- ---- a split that ends early
+  -- ---- a split that fails
 
-  module _ (y : T) (gone : List (K × V)) (all : pairs x ≡ pairs y ++ gone) where
-    left_whole : flatten (map pairs (set items i y)) ≡ (ahead ++ pairs y) ++ behind
-    left_whole = ap flatten (map-set pairs items i y) ∙ flatten_set shards i (pairs y) within ∙ sym (append_assoc ahead (pairs y) behind)
+  pub same_shards : (y : T) → pairs y ≡ pairs x → map pairs (set items i y) ≡ shards
+  same_shards y unchanged = map-set_same pairs items i y x (unchanged ∙ ap pairs here)
 
-    full : flatten shards ≡ (ahead ++ pairs y) ++ (gone ++ behind)
-    full = cut ∙ ap (λ l. ahead ++ (l ++ behind)) all ∙ ap (λ l. ahead ++ l) (append_assoc (pairs y) gone behind) ∙ sym (append_assoc ahead (pairs y) (gone ++ behind))
+-- ---- a whole of the same parts
 
-    back : (put_all (put_pair cmp) ((ahead ++ pairs y) ++ behind) gone ≡ (ahead ++ pairs y) ++ (gone ++ behind)) × IsAscending cmp ((ahead ++ pairs y) ++ behind)
-    back = put_back cmp order gone (ahead ++ pairs y) behind (subst (IsAscending cmp) full whole.are.ascending)
+abbrev whole_of : {K V : Type 0} → List K → List (List (K × V)) → Partition K V
+whole_of bounds shards = record { bounds = bounds; shards = shards }
 
-    pub early_list : put_all (put_pair cmp) (flatten (map pairs (set items i y))) gone ≡ flatten shards
-    early_list = ap (λ l. put_all (put_pair cmp) l gone) left_whole ∙ back.0 ∙ sym full
-
-    pub early_whole : (n : ℕ) (w : T) → n ≡ length (pairs w) → w ≡ get_or (set items i y) i w → IsWhole cmp bounds (map pairs (set items i y)) (set lengths i n)
-    early_whole n w long written =
-        let at : shard_of cmp bounds k ≡ i = sym is in
-        let kept = λ (P : K → Type 0) (own_holds : P k) (every : AllByRecursion (λ pair. P pair.0) (piece_at shards (shard_of cmp bounds k))).
-        AllByRecursion-left (λ pair. P pair.0) (pairs y) gone (subst (AllByRecursion (λ pair. P pair.0)) (ap (piece_at shards) at ∙ sym own ∙ all) every) in
-        let counts = counted order pairs items whole k i route same x here y n w long written in
-        record {
-          are = record {
-            between = subst (StandBetween cmp bounds) (sym (changed order pairs items whole k i route same x here y (pairs y) refl)) (stand_set cmp k (pairs y) bounds shards whole.are.between kept);
-            ascending = subst (IsAscending cmp) (sym left_whole) back.1;
-          };
-          counted = counts;
-          fits = omega (arith, ap sum counts, total (map pairs (set items i y)), ap length left_whole, ap length full, length-append (ahead ++ pairs y) behind, length-append (ahead ++ pairs y) (gone ++ behind), length-append gone behind, ap sum whole.counted, total shards, whole.fits);
-        }
+pub same_whole : {K V : Type 0} {bounds bounds' : List K} {shards shards' : List (List (K × V))} → bounds ≡ bounds' → shards ≡ shards' → whole_of bounds shards ≡ whole_of bounds' shards'
+same_whole {bounds' = bounds'} {shards = shards} one other = ap (λ l. whole_of l shards) one ∙ ap (whole_of bounds') other
 
 -- ---- two shards that become one
 

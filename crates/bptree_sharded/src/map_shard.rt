@@ -12,7 +12,7 @@ use crate::whole::Shards;
 use bptree_arguments::count::Count;
 use bptree_keys::end::End;
 use bptree_keys::key::Key;
-use bptree_maps::map::{BPlusTreeMap, Iter, MoveError, SplitError};
+use bptree_maps::map::{BPlusTreeMap, Iter, MoveError};
 use bptree_shards::laws::law_of_empty_shards;
 use bptree_tree::InsertError;
 use std::alloc::{AllocError, Global};
@@ -164,7 +164,7 @@ impl<K: Key, V: Drop> Shard for BPlusTreeMap<K, V, Count> {
         )
     }
 
-    fn split_off(&mut self, k: &K) -> Result<Self, SplitError<Self, MoveError<K, V>>> {
+    fn split_off(&mut self, k: &K) -> Result<Self, AllocError> {
         BPlusTreeMap::split_off(self, k)
     }
 

@@ -1,9 +1,8 @@
 //! What is asked of a shard.
-ghost use Rattle.std.specs.Prelude.{◌≡◌, ◌++◌, ⊤, List, Ok, None, false, length, slice_get, IfOk, IfErr, OnErr, IsOk, IsTrue};
+ghost use Rattle.std.specs.Prelude.{◌≡◌, ⊤, List, Ok, None, false, length, slice_get, IfOk, IfErr, OnErr, IsOk, IsTrue};
 ghost use Rattle.std.specs.Option.{option_copied, option_map};
 ghost use Rattle.bptree_keys.specs.Contents.{has, value, put, del, next, previous, pairs_below};
 ghost use Rattle.bptree_keys.specs.Ranges.{part};
-ghost use Rattle.bptree_maps.specs.Splitting.{gone};
 ghost use Rattle.bptree_sharded.specs.Shown.{PushesAll, PushesBetween, PushesBack, SplitsShard, AppendsAll, AppendsSome};
 ghost use Rattle.bptree_sharded.specs.Failures.{NoMemoryOnlyIf};
 ghost use Rattle.bptree_tree.specs.Changes.{IsRefusedWhereFull};
@@ -11,7 +10,7 @@ ghost use Rattle.bptree_tree.specs.Refusal.{pair_of};
 ghost use Rattle.std.specs.Map.Iter.{deref_pair};
 
 use bptree_keys::key::Key;
-use bptree_maps::map::{MoveError, SplitError};
+use bptree_maps::map::MoveError;
 use bptree_tree::InsertError;
 use std::alloc::AllocError;
 
@@ -111,14 +110,11 @@ pub trait Shard: Drop {
     ) -> Result<(), AllocError>
         ensures { PushesBack Self.K.cmp (pairs self.now) k.now n found.old found.new result };
 
-    /// The pairs whose keys are not below `k` leave for a shard of their own. Where not all of them
-    /// could, those that left are handed back: the greatest, and the pair in hand, if there is one.
-    fn split_off(
-        &mut self,
-        k: &Self::K,
-    ) -> Result<Self, SplitError<Self, MoveError<Self::K, Self::V>>>
+    /// Moves the pairs whose keys are not below `k` to a shard of their own. If an allocation fails,
+    /// nothing changes.
+    fn split_off(&mut self, k: &Self::K) -> Result<Self, AllocError>
         ensures ok { IfOk result (SplitsShard pairs Self.K.cmp k.now self.old self.new) }
-        ensures err { IfErr result (λ r. pairs self.old ≡ pairs self.new ++ gone pairs r) };
+        ensures unchanged { OnErr result (pairs self.new ≡ pairs self.old) };
 
     /// All pairs of another shard come here, one after another. Where one could not, those before
     /// it have come, and the others stay there; the pair in hand is handed back, if there is one.

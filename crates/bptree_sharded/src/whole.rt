@@ -345,39 +345,27 @@ impl<S: Shard> Shards<S> {
         Ok(found)
     }
 
-    /// The shard of a key is cut in two at it, and the key is a bound from then on. The list stays.
+    /// Cuts the shard of a key in two at that key, which is a bound from then on. The list of pairs
+    /// stays the same.
     ///
-    /// Room for one more shard comes first: where that is refused, nothing has changed. Where a
-    /// pair could not move, the greatest pairs of the shard have left the list, and are handed
-    /// back.
+    /// It allocates room for one more shard, and costs and fails as `split_off` of the shard does.
+    /// If an allocation fails, nothing changes.
     #[tactic(auto, using(crate::proofs::Asked::routed_within))]
-    pub fn split(&mut self, k: S::K) -> Result<(), SplitError<S, MoveError<S::K, S::V>>>
+    pub fn split(&mut self, k: S::K) -> Result<(), AllocError>
         ensures ok { OnOk result (contents self.new ≡ contents self.old) }
         ensures cut { OnOk result (self.new.bounds ≡ bounds_with S.K.cmp self.old.bounds k) }
-        ensures uncut { OnErr result (self.new.bounds ≡ self.old.bounds) }
-        ensures err { IfErr result (GivesBack S.K.cmp (λ shard. S.pairs shard) self.old self.new) }
+        ensures unchanged { OnErr result (self.new ≡ self.old) }
     {
-        if self.bounds.reserve(1).is_err() {
-            return Err(SplitError::NotMade);
-        }
-        if self.shards.reserve(1).is_err() {
-            return Err(SplitError::NotMade);
-        }
-        if self.lengths.reserve(1).is_err() {
-            return Err(SplitError::NotMade);
-        }
+        self.bounds.reserve(1)?;
+        self.shards.reserve(1)?;
+        self.lengths.reserve(1)?;
         let at = route(&self.bounds, &k);
-        let cut = self.shards[at].split_off(&k);
+        let there = self.shards[at].split_off(&k)?;
         self.lengths[at] = self.shards[at].len();
-        match cut {
-            Ok(there) => {
-                insert_reserved(&mut self.lengths, at + 1, there.len());
-                insert_reserved(&mut self.shards, at + 1, there);
-                insert_reserved(&mut self.bounds, at, k);
-                Ok(())
-            }
-            Err(refusal) => Err(refusal),
-        }
+        insert_reserved(&mut self.lengths, at + 1, there.len());
+        insert_reserved(&mut self.shards, at + 1, there);
+        insert_reserved(&mut self.bounds, at, k);
+        Ok(())
     }
 
     /// A shard and the next one become one, by the number of the first of them. The bound between

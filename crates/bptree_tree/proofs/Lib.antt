@@ -5,6 +5,7 @@ pub mod EndLemmas
 pub mod EntryLemmas
 pub mod FailureLemmas
 pub mod Heights
+pub mod LastTaken
 pub mod LentAt
 pub mod PageLemmas
 pub mod PartSpans

@@ -23,6 +23,7 @@ mod range_removal;
 mod ranges;
 mod removals;
 mod replacing;
+mod splitting;
 mod updating;
 
 use crate::InsertError;

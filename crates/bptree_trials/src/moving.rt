@@ -7,7 +7,7 @@ use crate::samples::{Sample, SampleSummary};
 use crate::subject::no_call;
 use crate::walk::{bounds, pairs_of, report_all};
 use crate::words::{Report, Words};
-use bptree_maps::map::{BPlusTreeMap, MoveError, RetainError, SplitError};
+use bptree_maps::map::{BPlusTreeMap, MoveError, RetainError};
 use std::alloc::{AllocError, Global};
 
 fn extend<K: Sample, A: SampleSummary<K>>(
@@ -49,26 +49,14 @@ fn append<K: Sample, A: SampleSummary<K>>(maps: &mut Maps<K, A>, words: &mut Wor
     }
 }
 
-/// Stores the pairs or keys that were split off, and reports why others were not.
-pub fn report_split<M: Drop, K: Report + Drop, V: Report + Drop>(
-    there: &mut M,
-    answer: Result<M, SplitError<M, MoveError<K, V>>>,
-    words: &mut Words,
-) -> bool {
+/// Stores the pairs or keys that were split off.
+pub fn keep_split<M: Drop>(there: &mut M, answer: Result<M, AllocError>) -> bool {
     match answer {
         Ok(gone) => {
             *there = gone;
             true
         }
-        Err(SplitError::NotMade) => {
-            words.add(0);
-            false
-        }
-        Err(SplitError::NotAll(gone, error)) => {
-            *there = gone;
-            words.add(1);
-            report_in_hand(error, words)
-        }
+        Err(_) => false,
     }
 }
 
@@ -76,13 +64,12 @@ fn split_off<K: Sample, A: SampleSummary<K>>(
     alloc: Global,
     maps: &mut Maps<K, A>,
     record: &Record,
-    words: &mut Words,
 ) -> bool {
     let Ok(key) = K::sample(alloc, record.a) else {
         return false;
     };
     let answer = maps.here.split_off(&key);
-    report_split(&mut maps.there, answer, words)
+    keep_split(&mut maps.there, answer)
 }
 
 /// Reports why the predicate was not called on all pairs or keys.
@@ -227,7 +214,7 @@ pub fn call<K: Sample, A: SampleSummary<K>>(
     match record.member() {
         0 => extend(alloc, &mut maps.here, record, words),
         1 => append(maps, words),
-        2 => split_off(alloc, maps, record, words),
+        2 => split_off(alloc, maps, record),
         3 => retain(&mut maps.here, record, words),
         4 | 6 => between(alloc, &mut maps.here, record, words),
         5 => add_to_each(&mut maps.here, record.a),

@@ -3,7 +3,7 @@ ghost use Rattle.std.specs.Iterator.{IsFinite};
 
 use crate::calls::{report_back, report_if_ok};
 use crate::maps::report_order;
-use crate::moving::{report_in_hand, report_retained, report_split};
+use crate::moving::{keep_split, report_in_hand, report_retained};
 use crate::nodes;
 use crate::record::Record;
 use crate::samples::Sample;
@@ -214,17 +214,12 @@ fn append<K: Sample>(sets: &mut Sets<K>, words: &mut Words) -> bool {
     }
 }
 
-fn split_off<K: Sample>(
-    alloc: Global,
-    sets: &mut Sets<K>,
-    record: &Record,
-    words: &mut Words,
-) -> bool {
+fn split_off<K: Sample>(alloc: Global, sets: &mut Sets<K>, record: &Record) -> bool {
     let Ok(key) = K::sample(alloc, record.a) else {
         return false;
     };
     let answer = sets.here.split_off(&key);
-    report_split(&mut sets.there, answer, words)
+    keep_split(&mut sets.there, answer)
 }
 
 // The first word of a key.
@@ -262,7 +257,7 @@ fn move_keys<K: Sample>(
     match record.member() {
         0 => extend(alloc, &mut sets.here, record, words),
         1 => append(sets, words),
-        2 => split_off(alloc, sets, record, words),
+        2 => split_off(alloc, sets, record),
         3 => retain(&mut sets.here, record, words),
         4 => remove_range(alloc, &mut sets.here, record, words),
         _ => no_call(words),

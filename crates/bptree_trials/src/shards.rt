@@ -137,17 +137,17 @@ where
         }
     }
 
-    fn split(&mut self, alloc: Global, record: &Record, words: &mut Words) -> bool {
+    fn split(&mut self, alloc: Global, record: &Record) -> bool {
         let Ok(key) = S::K::sample(alloc, record.a) else {
             return false;
         };
-        report_moved(self.whole.split(key), words)
+        self.whole.split(key).is_ok()
     }
 
     // The calls that change how many shards there are.
     fn move_bounds(&mut self, alloc: Global, record: &Record, words: &mut Words) -> bool {
         match record.member() {
-            0 => self.split(alloc, record, words),
+            0 => self.split(alloc, record),
             1 => report_moved(self.whole.merge(record.a as usize), words),
             _ => no_call(words),
         }

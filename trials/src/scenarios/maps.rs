@@ -36,12 +36,17 @@ fn by_places() -> Vec<Step> {
     all
 }
 
-// Many pairs leave and come back; others come, and values change.
-fn moved(many: u64) -> Vec<Step> {
+// Many pairs leave and come back; others come, and values change. Where keys take no memory, three
+// pairs leave and come back before: of 128 pairs or more they move one by one.
+fn moved(many: u64, takes_memory: bool) -> Vec<Step> {
     let first = first_to_leave(many);
     let between = [first, many, 1, LOWER | UPPER];
     let back = [first, many, u64::MAX, LOWER | UPPER];
     let mut all = vec![quiet(calls::load(many, 0))];
+    if !takes_memory {
+        all.push(swept(call(8, 2, &[many - 3])));
+        all.push(swept(call(8, 1, &[])));
+    }
     let moves = [
         call(8, 2, &[first]),
         call(8, 1, &[]),
@@ -173,7 +178,8 @@ pub fn all(sort: &Sort) -> Vec<Scenario> {
         // Too much is made anew after each refusal of many groups.
         if !sort.takes_memory() || many < 4000 {
             let end = format!(", {word}moved between maps");
-            all.push(scenario(&end, moved(many)).ending(many as usize + 5));
+            let steps = moved(many, sort.takes_memory());
+            all.push(scenario(&end, steps).ending(many as usize + 5));
         }
         let many = if many == 150 { 400 } else { many };
         let end = format!(", {word}bounded{memory}");

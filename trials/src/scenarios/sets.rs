@@ -64,8 +64,8 @@ fn read() -> Vec<Step> {
 
 // A map with the even numbers over four shards. The first two have a quarter of its pairs each, the
 // third has none, and the last has the others. The last leaf of each of these trees is full. Two
-// pairs on each side of the first bound are read in three ways; the last 20 pairs get a shard of
-// their own; one more pair comes; they come back; and a pair comes and goes.
+// pairs on each side of the first bound are read in three ways; the last 40 pairs get a shard of
+// their own; one more pair comes; they come back, so that a leaf is split; and a pair comes and goes.
 fn over_shards(many: u64) -> Vec<Step> {
     let bound = many / 2;
     let first = bound - 4;
@@ -75,7 +75,7 @@ fn over_shards(many: u64) -> Vec<Step> {
         call(2, 0, &[first / 2, 4]),
         call(2, 1, &[first, bound + 4, 9, LOWER | UPPER]),
         call(2, 2, &[bound + 3, 4]),
-        call(8, 0, &[(many - 20) * 2]),
+        call(8, 0, &[(many - 40) * 2]),
         calls::insert(many * 2, many * 2),
         call(8, 1, &[3]),
         calls::insert(many - 1, many - 1),

@@ -7,7 +7,7 @@ ghost use Rattle.bptree_callers.specs.Words.{HoldsEither, KeepsOthers, MovesOne,
 
 use bptree_arguments::argument::Argument;
 use bptree_keys::key::Key;
-use bptree_maps::map::{BPlusTreeMap, MoveError, SplitError};
+use bptree_maps::map::{BPlusTreeMap, MoveError};
 use bptree_sets::set::BPlusTreeSet;
 use bptree_tree::InsertError;
 use std::alloc::AllocError;
@@ -54,7 +54,7 @@ fn replaces_none<K: Key>(set: &mut BPlusTreeSet<K>, k: K) -> Result<Option<K>, I
 fn splits_at_a_key<K: Key, V: Drop, A: Argument<K>>(
     map: &mut BPlusTreeMap<K, V, A>,
     k: &K,
-) -> Result<BPlusTreeMap<K, V, A>, SplitError<BPlusTreeMap<K, V, A>, MoveError<K, V>>>
+) -> Result<BPlusTreeMap<K, V, A>, AllocError>
     ensures here { OnOk result (has K.cmp map.new k.now ≡ false) }
     ensures there { IfOk result (λ there. has K.cmp there k.now ≡ has K.cmp map.old k.now) }
 {
@@ -65,7 +65,7 @@ fn splits_at_a_key<K: Key, V: Drop, A: Argument<K>>(
 fn splits_a_set_at_a_key<K: Key>(
     set: &mut BPlusTreeSet<K>,
     k: &K,
-) -> Result<BPlusTreeSet<K>, SplitError<BPlusTreeSet<K>, MoveError<K, ()>>>
+) -> Result<BPlusTreeSet<K>, AllocError>
     ensures here { OnOk result (holds K.cmp set.new k.now ≡ false) }
     ensures there { IfOk result (λ there. holds K.cmp there k.now ≡ holds K.cmp set.old k.now) }
 {
@@ -184,17 +184,15 @@ fn extend_with_keys_is_full<K: Key>(set: &mut BPlusTreeSet<K>, keys: Vec<K>) -> 
     }
 }
 
-// A split needs memory, and is never full.
-fn splits_without_being_full<K: Key, V: Drop, A: Argument<K>>(
+// A split that fails leaves all pairs here.
+fn keeps_all_where_a_split_fails<K: Key, V: Drop, A: Argument<K>>(
     map: &mut BPlusTreeMap<K, V, A>,
     k: &K,
 ) -> bool
-    ensures { result ≡ true → has K.cmp map.new k.now ≡ false }
+    ensures { result ≡ false → map.new ≡ map.old }
 {
-    map.recall();
     match map.split_off(k) {
         Ok(_) => true,
-        Err(SplitError::NotAll(_, MoveError::NotStored(InsertError::Full(..)))) => unreachable!(),
         Err(_) => false,
     }
 }

@@ -1,17 +1,17 @@
 //! Many pairs at once: those of an iterator, and those of another map.
-ghost use Rattle.std.specs.Prelude.{◌≡◌, ◌++◌, [], Some, None, IsOk, IfOk, IfErr, OnOk};
+ghost use Rattle.std.specs.Prelude.{◌≡◌, ◌++◌, [], Some, None, IsOk, IfOk, IfErr, OnErr, OnOk};
 ghost use Rattle.std.specs.Iterator.{IsFiniteIterable as AreFinite};
 ghost use Rattle.bptree_tree.specs.Changes.{IsFailureOf};
 ghost use Rattle.bptree_tree.specs.Refusal.{pair_of};
 ghost use Rattle.bptree_maps.specs.Moving.{put_pair, Moves, AllMove, Extends, ExtendsUpTo, IsMoveFailure, MovesPairs};
-ghost use Rattle.bptree_maps.specs.Splitting.{gone, IsSplitFailure, KeepsBelow, SplitsOff};
+ghost use Rattle.bptree_maps.specs.Splitting.{SplitsOff};
 
 use crate::map::BPlusTreeMap;
-use crate::refusals::{MoveError, SplitError};
-use crate::splitting::split_tree;
+use crate::refusals::MoveError;
 use bptree_arguments::argument::Argument;
 use bptree_keys::key::Key;
 use bptree_tree::InsertError;
+use std::alloc::AllocError;
 
 impl<K: Key, V: Drop, A: Argument<K>> BPlusTreeMap<K, V, A> {
     /// Puts the pairs that an iterator gives, one after another, as `insert` does: of pairs with
@@ -63,24 +63,19 @@ impl<K: Key, V: Drop, A: Argument<K>> BPlusTreeMap<K, V, A> {
         }
     }
 
-    /// Moves the pairs whose key is not below `k` to a map of their own, the greatest first.
+    /// Moves the pairs whose key is not below `k` to a map of their own.
     ///
-    /// It costs a removal and an insertion a pair that moves, and what a map with no pairs takes.
-    /// If that fails, nothing has changed. If a move fails, the greatest pairs have left and are
-    /// returned in their map. With them comes the pair that was removed and not stored, if there is
-    /// one. The others stayed. The error is `Full` if the returned map has `usize::MAX` pairs.
-    pub fn split_off(&mut self, k: &K) -> Result<Self, SplitError<Self, MoveError<K, V>>>
+    /// It searches for `k` in O(log n) comparisons. Then each leaf moves as it is, but for the three
+    /// at the cut: O(n / 32) for n pairs. Before that it allocates the nodes above the leaves, clones
+    /// the first key of each leaf and computes a summary of its keys. If one of these fails, nothing
+    /// changes. Where fewer than n / 32 pairs move and no removal can fail, as `clones_never_fail`
+    /// and `never_fails` say, it removes these one by one. Where all pairs stay or all move, it
+    /// allocates one leaf and moves none.
+    pub fn split_off(&mut self, k: &K) -> Result<Self, AllocError>
         ensures ok { IfOk result (SplitsOff K.cmp k.now self.old self.new) }
-        ensures err { IfErr result (λ r. self.old ≡ self.new ++ gone (λ there. there) r) }
-        ensures kind { IfErr result (IsSplitFailure (λ there. there) K.cmp k.now usize.MAX self.new) }
-        ensures kept { KeepsBelow K.cmp k.now self.old self.new }
+        ensures err { OnErr result (self.new ≡ self.old) }
     {
-        match split_tree(&mut self.inner, k) {
-            Ok(inner) => Ok(BPlusTreeMap { inner }),
-            Err(SplitError::NotMade) => Err(SplitError::NotMade),
-            Err(SplitError::NotAll(inner, refusal)) => {
-                Err(SplitError::NotAll(BPlusTreeMap { inner }, refusal))
-            }
-        }
+        let inner = self.inner.split_off(k)?;
+        Ok(BPlusTreeMap { inner })
     }
 }

@@ -6,12 +6,12 @@ ghost use Rattle.bptree_tree.specs.Refusal.{pair_of};
 ghost use Rattle.bptree_keys.specs.Keys.{AllInfallible};
 ghost use Rattle.bptree_maps.specs.Keys.{holds, with_key};
 ghost use Rattle.bptree_maps.specs.Moving.{Moves, AllMove, Extends, ExtendsUpTo, IsKeyMoveFailure, MovesKeys};
-ghost use Rattle.bptree_maps.specs.Splitting.{keys_gone, IsKeySplitFailure, KeepsKeysBelow, SplitsKeysOff};
+ghost use Rattle.bptree_maps.specs.Splitting.{SplitsKeysOff};
 ghost use Rattle.bptree_maps.specs.KeyChanges.{IsKeyFailureOf, ReplacesKey, TakesKey};
 
 use crate::set::BPlusTreeSet;
 use bptree_keys::key::Key;
-use bptree_maps::refusals::{MoveError, SplitError};
+use bptree_maps::refusals::MoveError;
 use bptree_tree::{InsertError, ReplaceError};
 use std::alloc::AllocError;
 
@@ -108,24 +108,18 @@ impl<K: Key> BPlusTreeSet<K> {
         }
     }
 
-    /// Moves the keys that are not below `k` to a set of their own, the greatest first.
+    /// Moves the keys that are not below `k` to a set of their own.
     ///
-    /// It costs a removal and an insertion a key that moves, and what a set with no keys takes. If
-    /// that fails, nothing has changed. If a move fails, the greatest keys have left and are
-    /// returned in their set. With them comes the key that was removed and not stored, if there is
-    /// one. The others stayed. The error is `Full` if the returned set has `usize::MAX` keys.
-    pub fn split_off(&mut self, k: &K) -> Result<Self, SplitError<Self, MoveError<K, ()>>>
+    /// It searches for `k` in O(log n) comparisons. Then each leaf moves as it is, but for the three
+    /// at the cut: O(n / 32) for n keys. Before that it allocates the nodes above the leaves and
+    /// clones the first key of each leaf. If one of these fails, nothing changes. Where fewer than
+    /// n / 32 keys move and no clone of a key can fail, as `clones_never_fail` says, it removes these
+    /// one by one. Where all keys stay or all move, it allocates one leaf and moves none.
+    pub fn split_off(&mut self, k: &K) -> Result<Self, AllocError>
         ensures ok { IfOk result (SplitsKeysOff K.cmp k.now self.old self.new) }
-        ensures err { IfErr result (λ refusal. self.old ≡ self.new ++ keys_gone refusal) }
-        ensures kind { IfErr result (IsKeySplitFailure K.cmp k.now usize.MAX self.new) }
-        ensures kept { KeepsKeysBelow K.cmp k.now self.old self.new }
+        ensures err { OnErr result (self.new ≡ self.old) }
     {
-        match self.map.split_off(k) {
-            Ok(map) => Ok(BPlusTreeSet { map }),
-            Err(SplitError::NotMade) => Err(SplitError::NotMade),
-            Err(SplitError::NotAll(map, refusal)) => {
-                Err(SplitError::NotAll(BPlusTreeSet { map }, refusal))
-            }
-        }
+        let map = self.map.split_off(k)?;
+        Ok(BPlusTreeSet { map })
     }
 }

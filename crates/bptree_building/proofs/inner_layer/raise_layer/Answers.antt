@@ -1,6 +1,7 @@
-use Rattle.std.proofs.Common.{[], ◌∷◌, ap, length, arith, rules, add-one, length-append}
+use Rattle.std.proofs.Common.{[], ◌∷◌, ◌∙◌, ap, refl, length, arith, rules, add-one, length-append}
 use Rattle.std.specs.Vec.Iter.{into_iter_items}
-use Rattle.bptree_building.proofs.Raised.{begins, rises, rises_last, raised_long}
+use Rattle.bptree_building.specs.Layer.{with_leaves}
+use Rattle.bptree_building.proofs.Raised.{begins, raised_with, rises, rises_last, raised_long}
 use Rattle.bptree_building.proofs.inner_layer.raise_layer.Goals as goal
 
 pub nodes-init : goal.nodes-init
@@ -9,8 +10,9 @@ nodes-init g c = record {
   several = search rules;
   enough = λ some. absurd (omega (arith, some, ap length c.new-above.ensures.items));
   fewer = omega (arith, ap length c.new-above.ensures.items, c.len-left.ensures);
-  rising = λ pairs ascending fits layer.
-      rw (c.new-above.ensures.items, c.into_iter-trees.ensures.rest) (begins g.S.K.Ord.cmp g.S.Argument.Argument.is_summary (g.S.NodeStore.slots c.args.store.now) 16 c.args.height c.args.layer.items pairs c.requires layer);
+  leaves = refl;
+  rising = λ leaves pairs ascending fits layer.
+      rw (c.new-above.ensures.items, c.into_iter-trees.ensures.rest) (begins g.S.K.Ord.cmp g.S.Argument.Argument.is_summary (with_leaves (g.S.NodeStore.slots c.args.store.now) leaves) 16 c.args.height c.args.layer.items pairs c.requires layer);
 }
 
 pub nodes-preserved : goal.nodes-preserved
@@ -26,9 +28,10 @@ nodes-preserved g c =
       several = omega (arith, rest);
       enough = λ some. omega (arith, rest);
       fewer = omega (arith, ap length c.in_ok-append.ensures, more, rest, enough, c.nodes.invariant.fewer);
-      rising = λ pairs ascending fits layer.
-          rw c.in_ok-append.ensures (rises g.met.S.K.Ord.total g.S.Argument.Argument.is_summary (g.S.NodeStore.slots c.nodes.store) (g.S.NodeStore.slots c.raise.new.store) 16 c.args.height c.nodes.above.items (into_iter_items c.nodes.trees) c.first_of_layer-count.result c.in_ok-tree.tree (into_iter_items c.raise.new.trees) pairs
-          (c.nodes.invariant.rising pairs ascending fits layer) raised ascending fits enough cut.room);
+      leaves = raised.updates.leaf ∙ c.nodes.invariant.leaves;
+      rising = λ leaves pairs ascending fits layer.
+          rw c.in_ok-append.ensures (rises g.met.S.K.Ord.total g.S.Argument.Argument.is_summary (with_leaves (g.S.NodeStore.slots c.nodes.store) leaves) (with_leaves (g.S.NodeStore.slots c.raise.new.store) leaves) 16 c.args.height c.nodes.above.items (into_iter_items c.nodes.trees) c.first_of_layer-count.result c.in_ok-tree.tree (into_iter_items c.raise.new.trees) pairs
+          (c.nodes.invariant.rising leaves pairs ascending fits layer) (raised_with g.S.K.Ord.cmp g.S.Argument.Argument.is_summary (g.S.NodeStore.slots c.nodes.store) (g.S.NodeStore.slots c.raise.new.store) (into_iter_items c.nodes.trees) c.first_of_layer-count.result c.in_ok-tree.tree (into_iter_items c.raise.new.trees) raised leaves) ascending fits enough cut.room);
     }
 
 pub returns : goal.returns
@@ -38,7 +41,8 @@ returns g c =
     let more = length-append c.nodes.above.items (c.in_ok-tree-2.tree ∷ []) in (
       omega (arith, ap length c.in_ok-append-2.ensures, more),
       omega (arith, ap length c.in_ok-append-2.ensures, more, c.nodes.invariant.fewer, c.nodes.invariant.several),
-      λ pairs ascending fits layer.
-          rw (c.in_ok-append-2.ensures, add-one) (rises_last g.met.S.K.Ord.total g.S.Argument.Argument.is_summary (g.S.NodeStore.slots c.nodes.store) (g.S.NodeStore.slots c.raise-2.new.store) c.args.height (into_iter_items c.nodes.trees) c.nodes.left c.in_ok-tree-2.tree (into_iter_items c.raise-2.new.trees) pairs
-          raised ascending fits (omega (arith, long, c.nodes.invariant.has_left.are)) (omega (arith, c.nodes-test.false)) c.nodes.above.items c.nodes.invariant.several c.nodes.invariant.enough (c.nodes.invariant.rising pairs ascending fits layer)),
+      raised.updates.leaf ∙ c.nodes.invariant.leaves,
+      λ leaves pairs ascending fits layer.
+          rw (c.in_ok-append-2.ensures, add-one) (rises_last g.met.S.K.Ord.total g.S.Argument.Argument.is_summary (with_leaves (g.S.NodeStore.slots c.nodes.store) leaves) (with_leaves (g.S.NodeStore.slots c.raise-2.new.store) leaves) c.args.height (into_iter_items c.nodes.trees) c.nodes.left c.in_ok-tree-2.tree (into_iter_items c.raise-2.new.trees) pairs
+          (raised_with g.S.K.Ord.cmp g.S.Argument.Argument.is_summary (g.S.NodeStore.slots c.nodes.store) (g.S.NodeStore.slots c.raise-2.new.store) (into_iter_items c.nodes.trees) c.nodes.left c.in_ok-tree-2.tree (into_iter_items c.raise-2.new.trees) raised leaves) ascending fits (omega (arith, long, c.nodes.invariant.has_left.are)) (omega (arith, c.nodes-test.false)) c.nodes.above.items c.nodes.invariant.several c.nodes.invariant.enough (c.nodes.invariant.rising leaves pairs ascending fits layer)),
     )

@@ -1,0 +1,111 @@
+//! What is found for a tree before any leaf moves to it.
+ghost use Rattle.std.specs.Prelude.{◌<◌, ◌≤◌, ◌++◌, ◌∷◌, List, [], length, map, IfOk};
+ghost use Rattle.std.specs.List.{AllByRecursion};
+ghost use Rattle.std.specs.Map.{keys_of};
+ghost use Rattle.bptree_ascent.specs.Change.{StartsAt};
+ghost use Rattle.bptree_building.specs.Rooms.{pairs_under, ArePlanned, AreAllPlanned, IsFilledAt, IsFrame};
+ghost use Rattle.bptree_keys.specs.Contents.{IsAscending};
+ghost use Rattle.bptree_nodes.specs.Slot.{IsEmpty};
+
+use crate::building::raise_all;
+use crate::planting::Frame;
+use crate::rooms::add_room;
+use crate::subtree::Subtree;
+use bptree_arguments::argument::Argument;
+use bptree_keys::node_id::LeafNodeId;
+use bptree_nodes::leaf_node::LeafNode;
+use bptree_stores::node_stores::NodeStore;
+use std::alloc::AllocError;
+
+/// Numbers that are held for leaves in a store of their own, and what is known of each leaf.
+#[derive(Drop)]
+pub struct Plan<S: NodeStore> {
+    pub store: S,
+    pub ids: Vec<LeafNodeId>,
+    pub trees: Vec<Subtree<S::K, S::Argument>>,
+}
+
+/// A plan of no leaf, in an empty store. It takes no memory.
+pub fn empty_plan<S: NodeStore>(store: S) -> Plan<S>
+    requires { IsEmpty (S.slots store) }
+    ensures { ArePlanned S.K.cmp S.Argument.is_summary (S.slots result.store) result.ids.items result.trees.items [] }
+{
+    let alloc = store.allocator();
+    Plan {
+        store,
+        ids: Vec::new(alloc),
+        trees: Vec::new(alloc),
+    }
+}
+
+/// Plans a leaf behind others: for pairs the first of which has a key that equals `first`, and of
+/// whose keys `summary` is a summary.
+///
+/// O(1). It allocates the room for what is kept. If that fails, the plan is to be dropped.
+pub fn plan_part<S: NodeStore>(
+    plan: &mut Plan<S>,
+    first: S::K,
+    summary: S::Argument,
+) -> Result<(), AllocError>
+    ensures { IfOk result (λ _. (parts : List (List (S.K × S.V))) (part : List (S.K × S.V)) → ArePlanned S.K.cmp S.Argument.is_summary (S.slots plan.old.store) plan.old.ids.items plan.old.trees.items parts → length part ≤ 64 → StartsAt S.K.cmp first part → S.Argument.is_summary summary (keys_of part) → ArePlanned S.K.cmp S.Argument.is_summary (S.slots plan.new.store) plan.new.ids.items plan.new.trees.items (parts ++ part ∷ [])) }
+{
+    add_room(
+        &mut plan.store,
+        &mut plan.ids,
+        &mut plan.trees,
+        first,
+        summary,
+    )
+}
+
+/// Plans a leaf behind others, for the pairs of a leaf of another store.
+///
+/// It clones the leaf's first key and computes a summary of its keys, and fails where one of these
+/// does.
+pub fn plan_leaf<S: NodeStore>(
+    plan: &mut Plan<S>,
+    leaf: &LeafNode<S::K, S::V>,
+) -> Result<(), AllocError>
+    requires some { 0 < length leaf.now.pairs }
+    requires ascending { IsAscending S.K.cmp leaf.now.pairs }
+    ensures { IfOk result (λ _. (parts : List (List (S.K × S.V))) → ArePlanned S.K.cmp S.Argument.is_summary (S.slots plan.old.store) plan.old.ids.items plan.old.trees.items parts → ArePlanned S.K.cmp S.Argument.is_summary (S.slots plan.new.store) plan.new.ids.items plan.new.trees.items (parts ++ leaf.now.pairs ∷ [])) }
+{
+    leaf.recall();
+    let summary = S::Argument::from_leaf(leaf.keys())?;
+    let first = leaf.data_at(0).0.clone()?;
+    plan_part(plan, first, summary)
+}
+
+/// Plans leaves behind others, for the pairs of leaves of another store, in this order.
+///
+/// It costs what `plan_leaf` does for each, and fails where that does.
+pub fn plan_leaves<S: NodeStore>(
+    plan: &mut Plan<S>,
+    store: &S,
+    ids: &[LeafNodeId],
+) -> Result<(), AllocError>
+    requires { AllByRecursion (IsFilledAt S.K.cmp (S.slots store.now)) ids.now }
+    ensures { IfOk result (λ _. (parts : List (List (S.K × S.V))) → ArePlanned S.K.cmp S.Argument.is_summary (S.slots plan.old.store) plan.old.ids.items plan.old.trees.items parts → ArePlanned S.K.cmp S.Argument.is_summary (S.slots plan.new.store) plan.new.ids.items plan.new.trees.items (parts ++ map (pairs_under (S.slots store.now)) ids.now)) }
+{
+    let mut i = 0;
+    'ids: while i < ids.len() {
+        let id = ids[i];
+        plan_leaf(plan, store.get_leaf(id))?;
+        i += 1;
+    }
+    Ok(())
+}
+
+/// A frame for the leaves that were planned, which are all of a tree.
+pub fn frame<S: NodeStore>(plan: Plan<S>) -> Result<Frame<S>, AllocError>
+    requires { (parts : List (List (S.K × S.V))) × AreAllPlanned S.K.cmp S.Argument.is_summary (S.slots plan.store) plan.ids.items plan.trees.items parts }
+    ensures { IfOk result (λ frame. (parts : List (List (S.K × S.V))) → AreAllPlanned S.K.cmp S.Argument.is_summary (S.slots plan.store) plan.ids.items plan.trees.items parts → IsFrame S.K.cmp S.Argument.is_summary (S.slots frame.store) frame.ids.items frame.built parts) }
+{
+    let Plan {
+        mut store,
+        ids,
+        trees,
+    } = plan;
+    let built = raise_all(&mut store, trees)?;
+    Ok(Frame { store, ids, built })
+}

@@ -1,0 +1,106 @@
+//! Leaves that come to stand below a tree that is whole but for them.
+ghost use Rattle.std.specs.Prelude.{◌≡◌, length, slice_get};
+ghost use Rattle.bptree_building.specs.Layer.{Builds};
+ghost use Rattle.bptree_building.specs.Rooms.{joined, parts_of, IsFrame, IsPlanted};
+ghost use Rattle.bptree_keys.specs.Contents.{IsAscending};
+ghost use Rattle.bptree_nodes.specs.Slot.{Held};
+ghost use Rattle.bptree_shape.specs.NodeTree.{IsWhole};
+
+use crate::building::Built;
+use bptree_keys::node_id::LeafNodeId;
+use bptree_nodes::leaf_node::LeafNode;
+use bptree_shape::nodes::Nodes;
+use bptree_stores::node_stores::NodeStore;
+
+/// A store that holds numbers for leaves, below a tree that is whole but for these leaves.
+#[derive(Drop)]
+pub struct Frame<S: NodeStore> {
+    pub store: S,
+    /// The numbers that are held, in the order of the leaves.
+    pub ids: Vec<LeafNodeId>,
+    /// The root, the height and the summary of the tree.
+    pub built: Built<S::Argument>,
+}
+
+// Puts a leaf under a held number, with its links.
+fn plant_leaf<S: NodeStore>(
+    store: &mut S,
+    id: LeafNodeId,
+    leaf: Box<LeafNode<S::K, S::V>>,
+    prev: Option<LeafNodeId>,
+    next: Option<LeafNodeId>,
+)
+    requires { (S.slots store.old).leaf id.0 ≡ Held }
+    ensures { IsPlanted (S.slots store.old) (S.slots store.new) id leaf.value.pairs prev next }
+{
+    let mut leaf = leaf;
+    leaf.set_prev(prev);
+    leaf.set_next(next);
+    store.assign_leaf(id, leaf);
+}
+
+// The member at an index, if there is one.
+fn id_at(ids: &[LeafNodeId], i: usize) -> Option<LeafNodeId>
+    ensures { result ≡ slice_get ids.now i }
+{
+    ids.get(i).copied()
+}
+
+// Puts the leaves under the numbers of a frame, in their order.
+fn plant_leaves<S: NodeStore>(
+    store: &mut S,
+    ids: &[LeafNodeId],
+    leaves: Vec<Box<LeafNode<S::K, S::V>>>,
+    _built: &Built<S::Argument>,
+)
+    requires framed { IsFrame S.K.cmp S.Argument.is_summary (S.slots store.old) ids.now _built.now (parts_of leaves.items) }
+    requires ascending { IsAscending S.K.cmp (joined (parts_of leaves.items)) }
+    ensures { Builds S.K.cmp S.Argument.is_summary (S.slots store.new) (joined (parts_of leaves.items)) _built.now }
+{
+    let mut boxes = leaves.into_iter();
+    let mut prev = None;
+    let mut i = 0;
+    'leaves: while i < ids.len() {
+        let id = ids[i];
+        let next = id_at(ids, i + 1);
+        let leaf = boxes.next().unwrap();
+        plant_leaf(store, id, leaf, prev, next);
+        prev = Some(id);
+        i += 1;
+    }
+}
+
+/// The tree of a frame once its leaves stand there: one for each number, in the order of their keys.
+///
+/// O(1) for a leaf: no pair is moved. It takes no memory and cannot fail. `len` is the number of all
+/// pairs.
+pub fn plant<S: NodeStore>(
+    frame: Frame<S>,
+    leaves: Vec<Box<LeafNode<S::K, S::V>>>,
+    len: usize,
+) -> Nodes<S>
+    requires framed { IsFrame S.K.cmp S.Argument.is_summary (S.slots frame.store) frame.ids.items frame.built (parts_of leaves.items) }
+    requires ascending { IsAscending S.K.cmp (joined (parts_of leaves.items)) }
+    requires len { len ≡ length (joined (parts_of leaves.items)) }
+    ensures contents { result.contents ≡ joined (parts_of leaves.items) }
+    ensures whole { IsWhole S.K.cmp S.Argument.is_summary S.slots result }
+{
+    let Frame {
+        mut store,
+        ids,
+        built,
+    } = frame;
+    plant_leaves(&mut store, &ids, leaves, &built);
+    let Built {
+        root,
+        height,
+        summary,
+    } = built;
+    Nodes {
+        store,
+        root,
+        height,
+        len,
+        summary,
+    }
+}

@@ -1,0 +1,9 @@
+pub mod Cuts
+pub mod Dealt
+pub mod Filled
+pub mod KeyCuts
+pub mod Passed
+pub mod Placed
+pub mod Segments
+pub mod Sides
+pub mod Tails

@@ -1,0 +1,69 @@
+use Rattle.std.proofs.Common.{◌≡◌, ◌∙◌, ◌+◌, ◌-◌, ◌∷◌, ◌++◌, ◌<◌, [], ap, arith, drop, length, length-append, subst, sym, take}
+use Rattle.std.proofs.lemmas.List.{length-drop, take-append-drop}
+use Rattle.std.specs.List.{AllByRecursion}
+use Rattle.bptree_building.proofs.Standing.{drop_all}
+use Rattle.bptree_bulk.specs.Tail.{place_of, AreParts, IsEmptyLeaf, IsSize}
+use Rattle.bptree_bulk.proofs.Tails.{all_parts, by_size, part_next, sized}
+use Rattle.bptree_keys.specs.Contents.{IsAscending}
+use Rattle.bptree_keys.specs.Ranges.{part}
+use Rattle.bptree_keys.proofs.PieceLemmas.{AllByRecursion-append}
+use Rattle.bptree_shape.proofs.Ordered.{ascending_after}
+use Rattle.bptree_bulk.proofs.tail.plan_tail.Goals as goal
+
+pub parts-preserved : goal.parts-preserved
+parts-preserved g c =
+    let tree = c.args.tree.now in
+    let all = tree.contents in
+    let inv = c.parts.invariant in
+    let from = place_of g.S.NodeStore.slots tree c.parts.from in
+    let to = place_of g.S.NodeStore.slots tree c.advance.result.0 in
+    let size = c.size_of-size.result in
+    let s = sized c.parts.left size c.size_of-size.ensures in
+    let left : c.parts.left ≡ length all - from = omega (arith, inv.sum) in
+    let sum : from + size ≡ to = by_size c.advance.result.1 0
+    (λ none. omega (arith, none, c.advance.ensures.sum))
+    (λ some. absurd (omega (arith, c.advance.ensures.end some, c.advance.ensures.sum, s.within, inv.sum, some))) in
+    let these = part all from (to - from) in
+    record {
+      parts = inv.parts ++ these ∷ [];
+      are = part_next (drop (place_of g.S.NodeStore.slots tree c.args.at) all) all inv.parts from to size inv.are (subst (λ n. IsSize n size) left c.size_of-size.ensures) sum (omega (arith, inv.sum, c.parts-test.true));
+      planned = c.in_ok-plan_between.ensures inv.parts inv.planned;
+      settled = c.advance.ensures.settled;
+      sum = omega (arith, sum, inv.sum, s.within);
+      empty = subst (AllByRecursion IsEmptyLeaf) (sym c.in_ok-push.ensures.items) (AllByRecursion-append IsEmptyLeaf c.parts.rooms.items (c.in_ok-room.room ∷ []) inv.empty (ap (λ l. l.pairs) c.in_ok-room.ensures, tt));
+      as_many = omega (arith, inv.as_many, ap length c.in_ok-push.ensures.items, length-append c.parts.rooms.items (c.in_ok-room.room ∷ []), length-append inv.parts (these ∷ []));
+    }
+
+pub frame-requires : goal.frame-requires
+frame-requires g c =
+    let tree = c.args.tree.now in
+    let all = tree.contents in
+    let inv = c.parts.invariant in
+    let n = place_of g.S.NodeStore.slots tree c.args.at in
+    let none = drop_all all (place_of g.S.NodeStore.slots tree c.parts.from) (omega (arith, inv.sum, c.parts-test.false)) in
+    let are = subst (AreParts (drop n all) inv.parts) none inv.are in
+    let long = length-drop n all in
+    let ascending = ascending_after g.met.S.K.Ord.total (take n all) (drop n all) (subst (IsAscending g.S.K.Ord.cmp) (sym (take-append-drop n all)) c.recall.ensures.ascending) in
+    (inv.parts, all_parts g.S.K.Ord.cmp g.S.Argument.Argument.is_summary (g.S.NodeStore.slots c.parts.plan.store) c.parts.plan.ids.items c.parts.plan.trees.items (drop n all) inv.parts are (omega (arith, long, c.requires.count, c.requires.some)) ascending (omega (arith, long, c.recall.ensures.fits)) inv.planned)
+
+pub returns-clause-tail : goal.returns-clause-tail
+returns-clause-tail g c =
+    let tree = c.args.tree.now in
+    let all = tree.contents in
+    let inv = c.parts.invariant in
+    let n = place_of g.S.NodeStore.slots tree c.args.at in
+    let none = drop_all all (place_of g.S.NodeStore.slots tree c.parts.from) (omega (arith, inv.sum, c.parts-test.false)) in
+    let are = subst (AreParts (drop n all) inv.parts) none inv.are in
+    let long = length-drop n all in
+    let ascending = ascending_after g.met.S.K.Ord.total (take n all) (drop n all) (subst (IsAscending g.S.K.Ord.cmp) (sym (take-append-drop n all)) c.recall.ensures.ascending) in
+    let planned = all_parts g.S.K.Ord.cmp g.S.Argument.Argument.is_summary (g.S.NodeStore.slots c.parts.plan.store) c.parts.plan.ids.items c.parts.plan.trees.items (drop n all) inv.parts are (omega (arith, long, c.requires.count, c.requires.some)) ascending (omega (arith, long, c.recall.ensures.fits)) inv.planned in
+    record {
+      parts = inv.parts;
+      are = are;
+      framed = c.in_ok-frame.ensures inv.parts planned;
+      empty = inv.empty;
+      as_many = inv.as_many;
+      leaves = (c.in_ok-leaves.ensures.items, c.in_ok-leaves.ensures.len, omega (arith, c.in_ok-leaves.ensures.exact, c.len.ensures, inv.as_many));
+      count = omega (arith, long, c.requires.count);
+      ascending = ascending;
+    }

@@ -1,0 +1,4 @@
+pub mod Cut
+pub mod Split
+pub mod Tail
+pub mod Cutting

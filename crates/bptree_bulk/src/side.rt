@@ -1,0 +1,112 @@
+//! What is found for one side of a cut while the tree is only read.
+ghost use Rattle.std.specs.Prelude.{◌≡◌, ◌+◌, ◌<◌, ◌≤◌, ◌++◌, ◌∷◌, [], List, length, IfOk};
+ghost use Rattle.std.specs.List.{AllByRecursion};
+ghost use Rattle.bptree_building.specs.Rooms.{ArePlanned, IsFrame, IsPresentAt};
+ghost use Rattle.bptree_bulk.specs.Cut.{from_cut, lower_parts, pieces, upper_parts, IsCut, IsHalf};
+ghost use Rattle.bptree_keys.specs.Ranges.{part};
+ghost use Rattle.bptree_shape.specs.Leaves.{pairs_of};
+ghost use Rattle.bptree_shape.specs.Shape.{leaves_at};
+
+use crate::cut::{Cut, key_at};
+use bptree_building::plan::{Plan, empty_plan, frame, plan_leaves, plan_part};
+use bptree_building::planting::Frame;
+use bptree_keys::node_id::LeafNodeId;
+use bptree_ranges::summaries::summary_between;
+use bptree_shape::nodes::Nodes;
+use bptree_stores::node_stores::NodeStore;
+use std::alloc::AllocError;
+
+// Plans a leaf behind others, for `count` pairs of some of the tree's last leaves.
+fn plan_piece<S: NodeStore>(
+    plan: &mut Plan<S>,
+    tree: &Nodes<S>,
+    ids: &[LeafNodeId],
+    from: usize,
+    count: usize,
+) -> Result<(), AllocError>
+    requires present { AllByRecursion (IsPresentAt (S.slots tree.now.store)) ids.now }
+    requires last { (before : List (S.K × S.V)) × (tree.now.contents ≡ before ++ pairs_of (S.slots tree.now.store) ids.now) }
+    requires count { (0 < count) × (count ≤ 64) × (from + count ≤ length (pairs_of (S.slots tree.now.store) ids.now)) }
+    ensures { IfOk result (λ _. (parts : List (List (S.K × S.V))) → ArePlanned S.K.cmp S.Argument.is_summary (S.slots plan.old.store) plan.old.ids.items plan.old.trees.items parts → ArePlanned S.K.cmp S.Argument.is_summary (S.slots plan.new.store) plan.new.ids.items plan.new.trees.items (parts ++ part (pairs_of (S.slots tree.now.store) ids.now) from count ∷ [])) }
+{
+    tree.recall();
+    let first = key_at(&tree.store, ids, from).unwrap();
+    let after = key_at(&tree.store, ids, from + count);
+    let summary = summary_between(tree, Some(first), after)?;
+    let start = first.clone()?;
+    plan_part(plan, start, summary)
+}
+
+// Plans one leaf or two behind others, for `count` pairs of some of the tree's last leaves.
+fn plan_pieces<S: NodeStore>(
+    plan: &mut Plan<S>,
+    tree: &Nodes<S>,
+    ids: &[LeafNodeId],
+    from: usize,
+    count: usize,
+    half: usize,
+) -> Result<(), AllocError>
+    requires present { AllByRecursion (IsPresentAt (S.slots tree.now.store)) ids.now }
+    requires last { (before : List (S.K × S.V)) × (tree.now.contents ≡ before ++ pairs_of (S.slots tree.now.store) ids.now) }
+    requires count { (0 < count) × (from + count ≤ length (pairs_of (S.slots tree.now.store) ids.now)) }
+    requires half { IsHalf count half }
+    ensures { IfOk result (λ _. (parts : List (List (S.K × S.V))) → ArePlanned S.K.cmp S.Argument.is_summary (S.slots plan.old.store) plan.old.ids.items plan.old.trees.items parts → ArePlanned S.K.cmp S.Argument.is_summary (S.slots plan.new.store) plan.new.ids.items plan.new.trees.items (parts ++ pieces half (part (pairs_of (S.slots tree.now.store) ids.now) from count))) }
+{
+    tree.recall();
+    if half == 0 {
+        return plan_piece(plan, tree, ids, from, count);
+    }
+    plan_piece(plan, tree, ids, from, half)?;
+    plan_piece(plan, tree, ids, from + half, count - half)
+}
+
+/// A frame for the pairs before a cut.
+///
+/// O(n / 32) for n pairs. It clones the first key of each leaf and computes a summary of its keys,
+/// and fails where one of these or an allocation fails.
+pub(crate) fn lower_frame<S: NodeStore>(
+    tree: &Nodes<S>,
+    ids: &[LeafNodeId],
+    cut: Cut,
+) -> Result<Frame<S>, AllocError>
+    requires ids { ids.now ≡ leaves_at (S.slots tree.now.store) tree.now.height tree.now.root }
+    requires cut { IsCut (S.slots tree.now.store) ids.now cut }
+    ensures { IfOk result (λ frame. IsFrame S.K.cmp S.Argument.is_summary (S.slots frame.store) frame.ids.items frame.built (lower_parts (S.slots tree.now.store) ids.now cut)) }
+{
+    tree.recall();
+    let mut plan = empty_plan(S::empty(tree.store.allocator()));
+    plan_leaves(&mut plan, &tree.store, &ids[..cut.from])?;
+    plan_pieces(
+        &mut plan,
+        tree,
+        &ids[cut.from..],
+        0,
+        cut.below,
+        cut.below_half,
+    )?;
+    frame(plan)
+}
+
+/// A frame for the pairs behind a cut, in the same way.
+pub(crate) fn upper_frame<S: NodeStore>(
+    tree: &Nodes<S>,
+    ids: &[LeafNodeId],
+    cut: Cut,
+) -> Result<Frame<S>, AllocError>
+    requires ids { ids.now ≡ leaves_at (S.slots tree.now.store) tree.now.height tree.now.root }
+    requires cut { IsCut (S.slots tree.now.store) ids.now cut }
+    ensures { IfOk result (λ frame. IsFrame S.K.cmp S.Argument.is_summary (S.slots frame.store) frame.ids.items frame.built (upper_parts (S.slots tree.now.store) ids.now cut)) }
+{
+    tree.recall();
+    let mut plan = empty_plan(S::empty(tree.store.allocator()));
+    plan_pieces(
+        &mut plan,
+        tree,
+        &ids[cut.from..],
+        cut.below,
+        cut.above,
+        cut.above_half,
+    )?;
+    plan_leaves(&mut plan, &tree.store, &ids[cut.to..])?;
+    frame(plan)
+}

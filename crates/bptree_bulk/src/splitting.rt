@@ -1,0 +1,213 @@
+//! A tree that is cut in two.
+ghost use Rattle.std.specs.Prelude.{IsTrue, ◌↔◌, ◌≡◌, ◌<◌, ◌+◌, ◌^◌, ℕ, List, length, take, drop, IfOk};
+ghost use Rattle.bptree_bulk.specs.Cutting.{IsCutting};
+ghost use Rattle.bptree_bulk.specs.Split.{HasRoom, IsReady, IsSplit};
+ghost use Rattle.bptree_keys.specs.Contents.{IsAscending};
+ghost use Rattle.bptree_ranges.specs.InTree.{HasPlace, StartsAt};
+ghost use Rattle.bptree_ranges.specs.Ranges.{place_on, IsPlaceOn};
+ghost use Rattle.bptree_shape.specs.NodeTree.{IsWhole};
+
+use crate::cut::{Cut, cut_before};
+use crate::moving::{fill_pieces, pairs_in, pass, pour};
+use crate::side::{lower_frame, upper_frame};
+use crate::tail::{Tail, few_from, plan_tail};
+use bptree_building::leaves::{leaf_ids, take_leaves};
+use bptree_building::planting::{Frame, plant};
+use bptree_keys::end::End;
+use bptree_keys::node_id::{LeafNodeId, Position};
+use bptree_nodes::leaf_node::LeafNode;
+use bptree_ranges::bounds::place_of_bound;
+use bptree_ranges::ranges::settled;
+use bptree_shape::nodes::Nodes;
+use bptree_stores::node_stores::NodeStore;
+use std::alloc::AllocError;
+use std::ops::Bound;
+
+/// What is found for one side of a cut: the nodes above the leaves, the empty leaves for the pairs at
+/// the cut, and the room for the list of all leaves.
+#[derive(Drop)]
+pub struct Side<S: NodeStore> {
+    frame: Frame<S>,
+    rooms: (Box<LeafNode<S::K, S::V>>, Box<LeafNode<S::K, S::V>>),
+    leaves: Vec<Box<LeafNode<S::K, S::V>>>,
+}
+
+/// All that is found before a tree is cut in two. Dropping it leaves the tree as it was.
+#[derive(Drop)]
+pub struct Split<S: NodeStore> {
+    ids: Vec<LeafNodeId>,
+    cut: Cut,
+    lower: Side<S>,
+    upper: Side<S>,
+    leaves: Vec<Box<LeafNode<S::K, S::V>>>,
+    pairs: Vec<(S::K, S::V)>,
+}
+
+// A side with room for some leaves that move as they are.
+fn side_of<S: NodeStore>(frame: Frame<S>, count: usize) -> Result<Side<S>, AllocError>
+    requires few { count + 2 < 2 ^ 64 }
+    ensures frame { IfOk result (λ side. side.frame ≡ frame) }
+    ensures room { IfOk result (λ side. HasRoom side count) }
+{
+    let alloc = frame.store.allocator();
+    let one = LeafNode::new(alloc)?;
+    let other = LeafNode::new(alloc)?;
+    let leaves = Vec::with_capacity(alloc, count + 2)?;
+    Ok(Side {
+        frame,
+        rooms: (one, other),
+        leaves,
+    })
+}
+
+/// Finds all that is needed to cut a tree in two before the pair at a position.
+///
+/// O(n / 32) for n pairs. It clones the first key of each leaf and computes a summary of its keys,
+/// and fails where one of these or an allocation fails.
+pub fn plan_split<S: NodeStore>(tree: &Nodes<S>, at: Position) -> Result<Split<S>, AllocError>
+    requires place { IsPlaceOn (S.slots tree.now.store) tree.now.height tree.now.root at.leaf at.slot }
+    requires first { 0 < place_on (S.slots tree.now.store) tree.now.height tree.now.root at }
+    requires last { place_on (S.slots tree.now.store) tree.now.height tree.now.root at < length tree.now.contents }
+    ensures { IfOk result (IsSplit S.K.cmp S.Argument.is_summary S.slots tree.now (place_on (S.slots tree.now.store) tree.now.height tree.now.root at)) }
+{
+    let ids = leaf_ids(tree)?;
+    let cut = cut_before(tree, &ids, at);
+    let lower = side_of(lower_frame(tree, &ids, cut)?, cut.from)?;
+    let upper = side_of(upper_frame(tree, &ids, cut)?, ids.len() - cut.to)?;
+    let alloc = tree.store.allocator();
+    let leaves = Vec::with_capacity(alloc, ids.len())?;
+    let pairs = Vec::with_capacity(alloc, cut.below + cut.above)?;
+    Ok(Split {
+        ids,
+        cut,
+        lower,
+        upper,
+        leaves,
+        pairs,
+    })
+}
+
+// The nodes above the leaves of a tree, and these leaves.
+#[derive(Drop)]
+struct Ready<S: NodeStore> {
+    frame: Frame<S>,
+    leaves: Vec<Box<LeafNode<S::K, S::V>>>,
+}
+
+// Moves all leaves out of a tree, and gives each side its own.
+fn deal<S: NodeStore>(tree: Nodes<S>, split: Split<S>) -> (Ready<S>, Ready<S>)
+    requires { (n : ℕ) × IsSplit S.K.cmp S.Argument.is_summary S.slots tree n split }
+    ensures lower { (n : ℕ) → IsSplit S.K.cmp S.Argument.is_summary S.slots tree n split → IsReady S.K.cmp S.Argument.is_summary S.slots result.0 (take n tree.contents) }
+    ensures upper { (n : ℕ) → IsSplit S.K.cmp S.Argument.is_summary S.slots tree n split → IsReady S.K.cmp S.Argument.is_summary S.slots result.1 (drop n tree.contents) }
+{
+    tree.recall();
+    let Split {
+        ids,
+        cut,
+        lower,
+        upper,
+        mut leaves,
+        mut pairs,
+    } = split;
+    let Nodes { mut store, .. } = tree;
+    let behind = ids.len() - cut.to;
+    take_leaves(&mut store, &ids, &mut leaves);
+    let mut boxes = leaves.into_iter();
+    let mut low = lower.leaves;
+    let mut high = upper.leaves;
+    pass(&mut boxes, cut.from, &mut low);
+    pour(&mut boxes, cut.to - cut.from, &mut pairs);
+    let mut items = pairs.into_iter();
+    fill_pieces(&mut items, cut.below, cut.below_half, lower.rooms, &mut low);
+    fill_pieces(
+        &mut items,
+        cut.above,
+        cut.above_half,
+        upper.rooms,
+        &mut high,
+    );
+    pass(&mut boxes, behind, &mut high);
+    let lower = Ready {
+        frame: lower.frame,
+        leaves: low,
+    };
+    let upper = Ready {
+        frame: upper.frame,
+        leaves: high,
+    };
+    (lower, upper)
+}
+
+// The tree of a frame with its leaves.
+fn stand<S: NodeStore>(ready: Ready<S>) -> Nodes<S>
+    requires { (pairs : List (S.K × S.V)) × IsReady S.K.cmp S.Argument.is_summary S.slots ready pairs × IsAscending S.K.cmp pairs × (length pairs < 2 ^ 64) }
+    ensures contents { (pairs : List (S.K × S.V)) → IsReady S.K.cmp S.Argument.is_summary S.slots ready pairs → result.contents ≡ pairs }
+    ensures whole { IsWhole S.K.cmp S.Argument.is_summary S.slots result }
+{
+    let len = pairs_in(&ready.leaves);
+    plant(ready.frame, ready.leaves, len)
+}
+
+/// Cuts a tree in two.
+///
+/// O(n / 32) for n pairs: only the pairs of three leaves move to other leaves. It takes no memory
+/// and cannot fail.
+pub fn cut_in_two<S: NodeStore>(tree: Nodes<S>, split: Split<S>) -> (Nodes<S>, Nodes<S>)
+    requires { (n : ℕ) × IsSplit S.K.cmp S.Argument.is_summary S.slots tree n split }
+    ensures lower { (n : ℕ) → IsSplit S.K.cmp S.Argument.is_summary S.slots tree n split → result.0.contents ≡ take n tree.contents }
+    ensures upper { (n : ℕ) → IsSplit S.K.cmp S.Argument.is_summary S.slots tree n split → result.1.contents ≡ drop n tree.contents }
+    ensures lower_whole { IsWhole S.K.cmp S.Argument.is_summary S.slots result.0 }
+    ensures upper_whole { IsWhole S.K.cmp S.Argument.is_summary S.slots result.1 }
+{
+    tree.recall();
+    let (lower, upper) = deal(tree, split);
+    (stand(lower), stand(upper))
+}
+
+/// How a tree is cut in two before the first pair whose key is not below a given key.
+#[derive(Drop)]
+pub enum Cutting<S: NodeStore> {
+    /// No key is that great, so that all pairs stay.
+    Stays,
+    /// No key is below the given key, so that all pairs move.
+    Moves,
+    /// Some pairs stay, and some move.
+    Parts(Split<S>),
+    /// Some pairs stay, and those that move are so few that they move one by one.
+    Last(Tail<S>),
+}
+
+// Whether a position is before all pairs.
+fn is_start<S: NodeStore>(tree: &Nodes<S>, at: Position) -> bool
+    requires { HasPlace S.slots tree.now at }
+    ensures { IsTrue result ↔ StartsAt S.slots tree.now at }
+{
+    tree.recall();
+    if at.slot > 0 {
+        return false;
+    }
+    tree.first_leaf() == at.leaf
+}
+
+/// Finds all that is needed to cut a tree in two before the first pair whose key is not below `k`.
+///
+/// It searches for that key in O(log n) comparisons, and costs and fails as `plan_split` does. Where
+/// all pairs stay or all move, it takes no memory and cannot fail.
+pub fn plan_at_key<S: NodeStore>(tree: &Nodes<S>, k: &S::K) -> Result<Cutting<S>, AllocError>
+    ensures { IfOk result (IsCutting S.K.cmp S.Argument.is_summary S.K.is_infallible S.Argument.needs_no_memory S.slots tree.now k.now) }
+{
+    tree.recall();
+    let at = settled(tree, place_of_bound(tree, Bound::Included(k), End::Front));
+    if at.slot == tree.store.get_leaf(at.leaf).len() {
+        return Ok(Cutting::Stays);
+    }
+    if is_start(tree, at) {
+        return Ok(Cutting::Moves);
+    }
+    if let Some(count) = few_from(tree, at) {
+        let tail = plan_tail(tree, at, count)?;
+        return Ok(Cutting::Last(tail));
+    }
+    let split = plan_split(tree, at)?;
+    Ok(Cutting::Parts(split))
+}

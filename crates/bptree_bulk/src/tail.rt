@@ -1,0 +1,220 @@
+//! The last pairs of a tree, which move one by one to a tree of their own.
+ghost use Rattle.std.specs.Prelude.{◌≡◌, ◌+◌, ◌-◌, ◌<◌, ◌≤◌, ◌^◌, ◌++◌, ◌∷◌, [], List, length, drop, reverse, vec_capacity, vec_len, IfOk, IfSome};
+ghost use Rattle.std.specs.List.{AllByRecursion};
+ghost use Rattle.std.specs.Option.{option_copied};
+ghost use Rattle.std.specs.Vec.Iter.{into_iter_items, into_iter_len};
+ghost use Rattle.bptree_building.specs.Rooms.{parts_of, ArePlanned};
+ghost use Rattle.bptree_bulk.specs.Cut.{first_key};
+ghost use Rattle.bptree_bulk.specs.Tail.{place_of, AreParts, IsAtPair, IsBehind, IsEmptyLeaf, IsSize, IsTail};
+ghost use Rattle.bptree_bulk.specs.Split.{HasRoomFor};
+ghost use Rattle.bptree_keys.specs.Keys.{AllInfallible};
+ghost use Rattle.bptree_keys.specs.Ranges.{part};
+ghost use Rattle.bptree_shape.specs.NodeTree.{IsWhole};
+
+use crate::moving::fill_piece;
+use bptree_arguments::argument::Argument;
+use bptree_building::plan::{Plan, empty_plan, frame, plan_part};
+use bptree_building::planting::{Frame, plant};
+use bptree_keys::key::Key;
+use bptree_keys::node_id::Position;
+use bptree_nodes::leaf_node::{LEAF_CAPACITY, LeafNode};
+use bptree_ranges::ranges::settled;
+use bptree_ranges::summaries::summary_between;
+use bptree_shape::nodes::Nodes;
+use bptree_stores::node_stores::NodeStore;
+use std::alloc::AllocError;
+use std::vec::IntoIter;
+
+/// What is found before the last pairs of a tree move to a tree of their own. Dropping it leaves the
+/// tree as it was.
+#[derive(Drop)]
+pub struct Tail<S: NodeStore> {
+    frame: Frame<S>,
+    /// The empty leaves, and the room for the list of the filled ones.
+    rooms: Vec<Box<LeafNode<S::K, S::V>>>,
+    leaves: Vec<Box<LeafNode<S::K, S::V>>>,
+    /// How many pairs move, and the room for them.
+    pub count: usize,
+    pub pairs: Vec<(S::K, S::V)>,
+}
+
+// How many of some pairs the next leaf takes. No leaf gets fewer than 32, but where it gets all.
+fn size_of(left: usize) -> usize
+    ensures { IsSize left result }
+{
+    if left <= LEAF_CAPACITY {
+        return left;
+    }
+    if left <= 2 * LEAF_CAPACITY {
+        return LEAF_CAPACITY / 2;
+    }
+    LEAF_CAPACITY
+}
+
+// The position `count` pairs behind another, and how many of them are missing at the end of all.
+fn advance<S: NodeStore>(tree: &Nodes<S>, at: Position, count: usize) -> (Position, usize)
+    requires { IsAtPair S.slots tree.now at }
+    ensures { IsBehind S.slots tree.now at count result.0 result.1 }
+{
+    tree.recall();
+    let mut at = at;
+    let mut left = count;
+    'leaves: while left > 0 {
+        let here = tree.store.get_leaf(at.leaf).len() - at.slot;
+        if left < here {
+            let there = Position {
+                leaf: at.leaf,
+                slot: at.slot + left,
+            };
+            return (there, 0);
+        }
+        if here == 0 {
+            return (at, left);
+        }
+        let end = Position {
+            leaf: at.leaf,
+            slot: at.slot + here,
+        };
+        at = settled(tree, end);
+        left -= here;
+    }
+    (at, left)
+}
+
+// The key of the pair at a position, if one is there.
+fn key_from<'a, S: NodeStore>(tree: &'a Nodes<S>, at: Position) -> Option<&'a S::K>
+    requires { IsAtPair S.slots tree.now at }
+    ensures { option_copied result ≡ first_key (drop (place_of S.slots tree.now at) tree.now.contents) }
+{
+    tree.recall();
+    let leaf = tree.store.get_leaf(at.leaf);
+    if at.slot < leaf.len() {
+        Some(leaf.data_at(at.slot).0)
+    } else {
+        None
+    }
+}
+
+// Plans a leaf behind others, for the pairs from one position up to another.
+fn plan_between<S: NodeStore>(
+    plan: &mut Plan<S>,
+    tree: &Nodes<S>,
+    from: Position,
+    to: Position,
+) -> Result<(), AllocError>
+    requires from { IsAtPair S.slots tree.now from }
+    requires to { IsAtPair S.slots tree.now to }
+    requires some { place_of S.slots tree.now from < place_of S.slots tree.now to }
+    requires most { place_of S.slots tree.now to ≤ place_of S.slots tree.now from + 64 }
+    ensures { IfOk result (λ _. (parts : List (List (S.K × S.V))) → ArePlanned S.K.cmp S.Argument.is_summary (S.slots plan.old.store) plan.old.ids.items plan.old.trees.items parts → ArePlanned S.K.cmp S.Argument.is_summary (S.slots plan.new.store) plan.new.ids.items plan.new.trees.items (parts ++ part tree.now.contents (place_of S.slots tree.now from) (place_of S.slots tree.now to - place_of S.slots tree.now from) ∷ [])) }
+{
+    tree.recall();
+    let first = key_from(tree, from).unwrap();
+    let after = key_from(tree, to);
+    let summary = summary_between(tree, Some(first), after)?;
+    let start = first.clone()?;
+    plan_part(plan, start, summary)
+}
+
+/// The number of pairs from a position on, if they are so few that they move one by one: below a
+/// thirty-second of all, where no removal can fail.
+///
+/// O(n / 1024) for n pairs. It takes no memory and cannot fail.
+pub(crate) fn few_from<S: NodeStore>(tree: &Nodes<S>, at: Position) -> Option<usize>
+    requires { IsAtPair S.slots tree.now at }
+    ensures count { IfSome result (λ count. place_of S.slots tree.now at + count ≡ length tree.now.contents) }
+    ensures sure { IfSome result (λ _. S.Argument.needs_no_memory × AllInfallible S.K.is_infallible) }
+{
+    tree.recall();
+    if !(S::K::clones_never_fail() && S::Argument::never_fails()) {
+        return None;
+    }
+    let most = tree.len() / 32;
+    let (_, short) = advance(tree, at, most);
+    if short == 0 {
+        return None;
+    }
+    Some(most - short)
+}
+
+/// Finds all that is needed to move the last `count` pairs of a tree, which begin at a position.
+///
+/// O(`count` / 32 · log n) for n pairs. For each new leaf it clones a key and computes a summary of
+/// its keys, and fails where one of these or an allocation fails.
+pub(crate) fn plan_tail<S: NodeStore>(
+    tree: &Nodes<S>,
+    at: Position,
+    count: usize,
+) -> Result<Tail<S>, AllocError>
+    requires at { IsAtPair S.slots tree.now at }
+    requires some { 0 < count }
+    requires count { place_of S.slots tree.now at + count ≡ length tree.now.contents }
+    ensures tail { IfOk result (λ tail. IsTail S.K.cmp S.Argument.is_summary S.slots tail (drop (place_of S.slots tree.now at) tree.now.contents)) }
+    ensures room { IfOk result (λ tail. HasRoomFor tail.count tail.pairs) }
+{
+    tree.recall();
+    let alloc = tree.store.allocator();
+    let mut plan = empty_plan(S::empty(alloc));
+    let mut rooms = Vec::new(alloc);
+    let mut from = at;
+    let mut left = count;
+    'parts: while left > 0 {
+        let size = size_of(left);
+        let (to, _) = advance(tree, from, size);
+        plan_between(&mut plan, tree, from, to)?;
+        let room = LeafNode::new(alloc)?;
+        rooms.push(room)?;
+        from = to;
+        left -= size;
+    }
+    let leaves = Vec::with_capacity(alloc, rooms.len())?;
+    let pairs = Vec::with_capacity(alloc, count)?;
+    let frame = frame(plan)?;
+    Ok(Tail {
+        frame,
+        rooms,
+        leaves,
+        count,
+        pairs,
+    })
+}
+
+// Fills empty leaves with pairs, and puts them behind others.
+fn fill_all<K: Key, V: Drop>(
+    pairs: IntoIter<(K, V)>,
+    rooms: IntoIter<Box<LeafNode<K, V>>>,
+    leaves: &mut Vec<Box<LeafNode<K, V>>>,
+)
+    requires counted { into_iter_len pairs ≡ length (into_iter_items pairs) }
+    requires empty { AllByRecursion IsEmptyLeaf (into_iter_items rooms) }
+    requires parts { (parts : List (List (K × V))) × AreParts (into_iter_items pairs) parts [] × (length (into_iter_items rooms) ≡ length parts) }
+    requires room { vec_len leaves.old + length (into_iter_items rooms) ≤ vec_capacity leaves.old }
+    ensures { (parts : List (List (K × V))) → AreParts (into_iter_items pairs) parts [] → parts_of leaves.new.items ≡ parts_of leaves.old.items ++ parts }
+{
+    let mut pairs = pairs;
+    let mut rooms = rooms;
+    'rooms: while pairs.len() > 0 {
+        let size = size_of(pairs.len());
+        fill_piece(&mut pairs, size, rooms.next().unwrap(), leaves);
+    }
+}
+
+/// The tree of the pairs that moved, the greatest of which moved first.
+///
+/// O(1) a pair. It takes no memory and cannot fail.
+pub fn plant_tail<S: NodeStore>(tail: Tail<S>) -> Nodes<S>
+    requires { IsTail S.K.cmp S.Argument.is_summary S.slots tail (reverse tail.pairs.items) }
+    ensures contents { result.contents ≡ reverse tail.pairs.items }
+    ensures whole { IsWhole S.K.cmp S.Argument.is_summary S.slots result }
+{
+    let Tail {
+        frame,
+        rooms,
+        mut leaves,
+        count,
+        mut pairs,
+    } = tail;
+    pairs.reverse();
+    fill_all(pairs.into_iter(), rooms.into_iter(), &mut leaves);
+    plant(frame, leaves, count)
+}

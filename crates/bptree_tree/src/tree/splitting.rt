@@ -1,0 +1,74 @@
+//! A tree that is cut in two at a key.
+ghost use Rattle.std.specs.Prelude.{◌≡◌, ◌+◌, ◌-◌, ◌≤◌, ◌++◌, length, take, drop, reverse, vec_capacity, vec_len, IfOk, OnErr};
+ghost use Rattle.bptree_ascent.specs.NodeTree.{IsWhole};
+ghost use Rattle.bptree_bulk.specs.Split.{PartsAt};
+ghost use Rattle.bptree_keys.specs.Keys.{AllInfallible};
+
+use crate::tree::BPlusTree;
+use bptree_bulk::splitting::{Cutting, cut_in_two, plan_at_key};
+use bptree_bulk::tail::plant_tail;
+use bptree_stores::node_stores::NodeStore;
+use std::alloc::AllocError;
+use std::mem;
+
+impl<S: NodeStore> BPlusTree<S> {
+    // Moves the last `count` pairs behind others, the greatest first.
+    fn take_last(&mut self, count: usize, pairs: &mut Vec<(S::K, S::V)>)
+        requires sure { S.Argument.needs_no_memory × AllInfallible S.K.is_infallible }
+        requires some { count ≤ length self.old.contents }
+        requires room { vec_len pairs.old + count ≤ vec_capacity pairs.old }
+        ensures whole { IsWhole S.K.cmp S.Argument.is_summary S.slots self.new }
+        ensures kept { self.new.contents ≡ take (length self.old.contents - count) self.old.contents }
+        ensures moved { pairs.new.items ≡ pairs.old.items ++ reverse (drop (length self.old.contents - count) self.old.contents) }
+    {
+        let mut left = count;
+        'pairs: while left > 0 {
+            match self.pop_last() {
+                Ok(Some(pair)) => pairs.push_reserved(pair),
+                _ => unreachable!(),
+            }
+            left -= 1;
+        }
+        self.nodes.recall();
+    }
+
+    /// Moves the pairs whose key is not below `k` to a tree of their own.
+    ///
+    /// It searches for `k` in O(log n) comparisons. Then each leaf moves as it is, but for the three
+    /// at the cut: O(n / 32) for n pairs. Before that it allocates the nodes above the leaves, clones
+    /// the first key of each leaf and computes a summary of its keys. If one of these fails, nothing
+    /// changes. Where fewer than n / 32 pairs move and no removal can fail, as `clones_never_fail`
+    /// and `never_fails` say, it removes these one by one. Where all pairs stay or all move, it
+    /// allocates one leaf and moves none.
+    pub fn split_off(&mut self, k: &S::K) -> Result<Self, AllocError>
+        ensures ok { IfOk result (λ there. PartsAt S.K.cmp k.now self.old.contents self.new.contents there.contents) }
+        ensures whole { IsWhole S.K.cmp S.Argument.is_summary S.slots self.new }
+        ensures there { IfOk result (IsWhole S.K.cmp S.Argument.is_summary S.slots) }
+        ensures unchanged { OnErr result (self.new ≡ self.old) }
+    {
+        let spare = BPlusTree::new(S::empty(self.nodes.store.allocator()))?;
+        match plan_at_key(&self.nodes, k)? {
+            Cutting::Stays => Ok(spare),
+            Cutting::Moves => Ok(mem::replace(self, spare)),
+            Cutting::Last(tail) => {
+                let mut tail = tail;
+                self.take_last(tail.count, &mut tail.pairs);
+                Ok(BPlusTree::of_nodes(plant_tail(tail)))
+            }
+            Cutting::Parts(split) => {
+                let BPlusTree {
+                    nodes,
+                    statistic,
+                    path,
+                } = mem::replace(self, spare);
+                let (lower, upper) = cut_in_two(nodes, split);
+                *self = BPlusTree {
+                    nodes: lower,
+                    statistic,
+                    path,
+                };
+                Ok(BPlusTree::of_nodes(upper))
+            }
+        }
+    }
+}
