@@ -7,19 +7,19 @@ use crate::model::Model;
 use crate::record::Record;
 use crate::words::Reply;
 
-/// The lengths that a call left, of `here` and of `there`.
-#[derive(Clone, Copy, Debug)]
-pub struct Left {
-    pub here: usize,
-    pub there: usize,
+// Whether a call is an append that inserts few pairs one by one, and takes them back if one fails. The
+// pairs are then those from before it, but the nodes need not be.
+fn takes_back(model: &Model, record: &Record) -> bool {
+    let is_append = (record.family(), record.member()) == (8, 1);
+    let can_fail = model.kind.has_large_keys() || model.kind.has_groups();
+    is_append && !can_fail && model.there.len() < model.here.len() / 16
 }
 
-/// Whether a call can stop in the middle.
+/// Whether a call can stop in the middle, or leaves other nodes if it fails.
 pub fn can_stop(model: &Model, record: &Record) -> bool {
     let (family, member) = (record.family(), record.member());
     match family {
-        8 if model.kind.is_shards() => member == 1,
-        8 => member <= 4 && member != 2,
+        8 if !model.kind.is_shards() => matches!(member, 0 | 3 | 4) || takes_back(model, record),
         _ => false,
     }
 }
@@ -36,11 +36,12 @@ struct Stop<'a> {
     model: &'a Model,
     record: &'a Record,
     reply: &'a Reply,
-    left: Left,
+    // How many pairs the call left.
+    left: usize,
 }
 
 /// What a model is after a call that stopped. An error says what is not as it may be.
-pub fn after(model: &Model, record: &Record, reply: &Reply, left: Left) -> Result<Model, String> {
+pub fn after(model: &Model, record: &Record, reply: &Reply, left: usize) -> Result<Model, String> {
     let stop = Stop {
         model,
         record,
@@ -48,19 +49,19 @@ pub fn after(model: &Model, record: &Record, reply: &Reply, left: Left) -> Resul
         left,
     };
     let member = record.member();
-    if !model.kind.is_shards() && record.family() == 8 && member == 4 {
+    if takes_back(model, record) {
+        return stop.has(&[], model.clone());
+    }
+    if record.family() == 8 && member == 4 {
         return stop.removed();
     }
     if reply.len == 0 {
         // A key, or a list of them, was not made.
         let takes_memory = model.kind.has_large_keys() || record.family() == 8 && member == 0;
-        let is_made = !takes_memory || model.kind.is_shards();
-        return stop.is_well(!is_made, "there are no words", model.clone());
+        return stop.is_well(takes_memory, "there are no words", model.clone());
     }
     match (record.family(), member) {
-        _ if model.kind.is_shards() => stop.merged(),
         (_, 0) => stop.extended(),
-        (_, 1) => stop.appended(),
         _ => stop.retained(),
     }
 }
@@ -93,15 +94,6 @@ impl Stop<'_> {
         (kind.key_of(&words), value)
     }
 
-    // The same behind a 1, or none.
-    fn pair_if(&self, place: usize) -> Option<(u64, u64)> {
-        if self.reply.word(place) == 1 {
-            Some(self.pair_at(place + 1))
-        } else {
-            None
-        }
-    }
-
     // The pairs before the one in hand have come.
     fn extended(&self) -> Result<Model, String> {
         let (record, back) = (self.record, self.pair_at(0));
@@ -113,24 +105,6 @@ impl Stop<'_> {
             after.here.put(pair.0, pair.1);
         }
         Err(format!("{back:?} was not to come"))
-    }
-
-    // The first pairs have moved, and the next one may be in hand.
-    fn appended(&self) -> Result<Model, String> {
-        let mut after = self.model.clone();
-        let in_hand = self.pair_if(0);
-        let held = usize::from(in_hand.is_some());
-        let gone = after.there.len().checked_sub(self.left.there);
-        let moved = gone.and_then(|gone| gone.checked_sub(held));
-        let moved = moved.ok_or("there are more than before")?;
-        if in_hand.is_some() && after.there.at(moved) != in_hand {
-            return Err(format!("{in_hand:?} is in hand"));
-        }
-        for (key, value) in after.there.part(0, moved) {
-            after.here.put(key, value);
-        }
-        after.there = without(after.kind, &after.there, 0, moved + held);
-        self.has(&self.model.pair_if(in_hand), after)
     }
 
     // Those before the pair in hand are asked; those behind it come back.
@@ -160,47 +134,12 @@ impl Stop<'_> {
     fn removed(&self) -> Result<Model, String> {
         let mut after = self.model.clone();
         let (from, to) = after.between(self.record);
-        let gone = after.here.len().checked_sub(self.left.here);
+        let gone = after.here.len().checked_sub(self.left);
         let gone = gone.ok_or("there are more than before")?;
         if from + gone > to || gone > 0 && from + gone == to {
             return Err(format!("{gone} have left"));
         }
         after.here = without(after.kind, &after.here, from, from + gone);
         self.has(&[], after)
-    }
-
-    // A shard that goes to the one before it may keep its last pairs. They come back, the first of
-    // them perhaps in hand.
-    fn merged(&self) -> Result<Model, String> {
-        let (model, record) = (self.model, self.record);
-        let mut after = model.clone();
-        let shard = record.a as usize + 1;
-        let lengths = model.lengths();
-        let end: u64 = lengths.iter().take(shard + 1).sum();
-        let own = lengths.get(shard).copied().unwrap_or(0) as usize;
-        let gone = model.here.len().checked_sub(self.left.here);
-        let gone = gone.ok_or("there are more than before")?;
-        let from = (end as usize).wrapping_sub(gone);
-        if gone > own {
-            return Err(format!("{gone} have left a shard of {own}"));
-        }
-        let mut back = model.here.part(from, end as usize);
-        for (key, _) in &back {
-            after.here.take(*key);
-        }
-        let is_in_hand = self.reply.word(1) == 1 && !back.is_empty();
-        let in_hand = if is_in_hand {
-            Some(back.remove(0))
-        } else {
-            None
-        };
-        let mut words = vec![1];
-        words.extend(model.pair_if(in_hand));
-        for pair in back {
-            words.extend(model.pair(pair));
-        }
-        let bound = after.merged_bound(record.a).ok_or("no shard was merged")?;
-        after.bounds.remove(bound);
-        self.has(&words, after)
     }
 }

@@ -6,7 +6,7 @@ use crate::process::{Process, Program};
 use crate::record::{calls, Record};
 use crate::scenario::{Scenario, Step};
 use crate::shapes::{met, Shape};
-use crate::stopped::{after, can_stop, Left};
+use crate::stopped::{after, can_stop};
 use crate::words::Reply;
 use std::collections::BTreeMap;
 
@@ -184,17 +184,8 @@ impl Trial {
         Ok(())
     }
 
-    fn lengths(&mut self) -> Told<Left> {
-        let len = crate::record::call(1, 5, &[]);
-        if self.model.kind.is_shards() {
-            let here = self.ask(len)?.word(0) as usize;
-            return Ok(Left { here, there: 0 });
-        }
-        let replies = self.ask_all(&[len, calls::swap(), len, calls::swap()])?;
-        Ok(Left {
-            here: replies[0].word(0) as usize,
-            there: replies[2].word(0) as usize,
-        })
+    fn len(&mut self) -> Told<usize> {
+        Ok(self.ask(crate::record::call(1, 5, &[]))?.word(0) as usize)
     }
 }
 
@@ -425,7 +416,7 @@ impl Sweep<'_> {
             return Err(format!("status {}", reply.status));
         }
         if can_stop(&self.trial.model, &record) {
-            let left = self.trial.lengths()?;
+            let left = self.trial.len()?;
             self.trial.model = after(&self.trial.model, &record, reply, left)?;
             return self.trial.has_pairs_of_model();
         }

@@ -1,16 +1,16 @@
 -- The pairs of leaves one after another, and where leaves are cut.
-use Rattle.std.proofs.Common.{◌≡◌, ◌∙◌, ◌+◌, ◌-◌, ◌<◌, ◌≤◌, ℕ, zero, suc, inl, inr, cond, eqb, sym, ap, subst, refl, Option, Some, None, List, [], ◌∷◌, ◌++◌, length, take, drop, arith, append_assoc, append-nil, length-append, slice_index_or}
+use Rattle.std.proofs.Common.{◌≡◌, ◌∙◌, ◌+◌, ◌-◌, ◌<◌, ◌≤◌, ℕ, zero, suc, inl, inr, ap, refl, Some, List, [], ◌∷◌, ◌++◌, length, take, drop, arith, append-nil, length-append, slice_index_or}
 use Rattle.std.proofs.Math.Seq.{drop-append-add, take-append-add, take-append_seam}
 use Rattle.std.proofs.lemmas.Bool.Decides.{eqb_tells}
 use Rattle.std.specs.List.{AllByRecursion, slice_get}
 use Rattle.bptree_building.specs.Rooms.{pairs_under}
 use Rattle.bptree_building.proofs.LeafIds.{all_at, take_on}
-use Rattle.bptree_building.proofs.Standing.{drop_all, drop_on}
+use Rattle.bptree_building.proofs.Standing.{drop_on}
 use Rattle.bptree_bulk.specs.Cut.{first_key, pairs_before, BeginsBorder, EndsBorder, IsCut, IsHalf}
 use Rattle.bptree_keys.specs.declared.node_id.LeafNodeId.{LeafNodeId}
 use Rattle.bptree_nodes.specs.Inner.{Inner}
 use Rattle.bptree_nodes.specs.Leaf.{Leaf}
-use Rattle.bptree_nodes.specs.Slot.{Slots, Present}
+use Rattle.bptree_nodes.specs.Slot.{Slots}
 use Rattle.bptree_ranges.specs.Ranges.{ahead}
 use Rattle.bptree_shape.specs.Leaves.{pairs_of}
 use Rattle.bptree_shape.specs.Shape.{leaf_pairs}

@@ -1,5 +1,5 @@
 -- The leaves of a tree that are dealt to both sides of a cut.
-use Rattle.std.proofs.Common.{◌≡◌, ◌∙◌, ◌+◌, ◌-◌, ◌≤◌, ℕ, zero, suc, sym, ap, subst, refl, List, [], ◌∷◌, ◌++◌, length, map, take, drop, arith, length-append}
+use Rattle.std.proofs.Common.{◌≡◌, ◌∙◌, ◌-◌, ℕ, zero, suc, sym, ap, refl, List, [], ◌∷◌, ◌++◌, length, map, take, drop, arith}
 use Rattle.std.proofs.Math.Seq.{drop-append_seam, take-append_seam}
 use Rattle.std.proofs.lemmas.List.{drop-append-le, length-drop, take-append-le, take_rest}
 use Rattle.std.specs.declared.alloc.Global.{Global}
@@ -9,7 +9,7 @@ use Rattle.bptree_building.proofs.LeafIds.{map_on}
 use Rattle.bptree_bulk.specs.Cut.{cut_at, lower_parts, pieces, upper_parts, IsCut}
 use Rattle.bptree_bulk.specs.declared.cut.Cut.{Cut}
 use Rattle.bptree_bulk.proofs.Segments.{drop_more}
-use Rattle.bptree_bulk.proofs.Sides.{behind, border, border_len, from_border, joined_leaves, l, lower_len, sides_are_all}
+use Rattle.bptree_bulk.proofs.Sides.{border, border_len, from_border, joined_leaves, l, lower_len, sides_are_all}
 use Rattle.bptree_keys.specs.Ranges.{part}
 use Rattle.bptree_keys.specs.declared.node_id.LeafNodeId.{LeafNodeId}
 use Rattle.bptree_nodes.specs.Inner.{Inner}

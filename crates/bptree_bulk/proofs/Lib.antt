@@ -6,4 +6,7 @@ pub mod Passed
 pub mod Placed
 pub mod Segments
 pub mod Sides
+pub mod Summed
 pub mod Tails
+pub mod Weaves
+pub mod Woven

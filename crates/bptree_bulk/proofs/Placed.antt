@@ -1,5 +1,5 @@
 -- A leaf of a tree among the numbers of all.
-use Rattle.std.proofs.Common.{◌≡◌, ◌∙◌, ◌+◌, ◌<◌, ◌≤◌, ℕ, sym, ap, subst, refl, List, [], ◌∷◌, ◌++◌, length, arith, length-append}
+use Rattle.std.proofs.Common.{◌≡◌, ◌∙◌, ◌+◌, ◌<◌, ◌≤◌, ℕ, sym, ap, List, [], ◌∷◌, ◌++◌, length, arith, length-append}
 use Rattle.std.specs.declared.cmp.Ordering.{Ordering}
 use Rattle.std.specs.List.{AllByRecursion}
 use Rattle.bptree_building.specs.Rooms.{id_count, pairs_under}

@@ -1,5 +1,5 @@
 -- A part of an ascending list is what is between its first key and the key behind it.
-use Rattle.std.proofs.Common.{◌≡◌, ◌∙◌, ◌+◌, ◌-◌, ◌<◌, ◌≤◌, ℕ, zero, suc, sym, ap, subst, refl, Bool, true, false, not, ◌&&◌, filter, Option, Some, None, List, [], ◌∷◌, ◌++◌, length, take, drop, arith, append_assoc, append-nil, length-append}
+use Rattle.std.proofs.Common.{◌≡◌, ◌∙◌, ◌+◌, ◌-◌, ◌<◌, ◌≤◌, ℕ, zero, suc, sym, ap, subst, refl, Bool, true, false, not, ◌&&◌, filter, Option, Some, None, List, [], ◌∷◌, ◌++◌, length, take, drop, arith, append_assoc, append-nil}
 use Rattle.std.specs.declared.cmp.Ordering.{Ordering}
 use Rattle.std.specs.declared.cmp.Ordering.TheVariants.{Less, Equal}
 use Rattle.std.specs.Cmp.{IsTotalOrder}

@@ -1,5 +1,5 @@
 -- The parts of pairs that move one by one.
-use Rattle.std.proofs.Common.{◌≡◌, ◌∙◌, ◌+◌, ◌-◌, ◌<◌, ◌≤◌, ◌^◌, ℕ, min, inl, inr, sym, ap, subst, refl, Some, List, [], ◌∷◌, ◌++◌, length, take, drop, arith, append_assoc, slice_get}
+use Rattle.std.proofs.Common.{◌≡◌, ◌∙◌, ◌+◌, ◌-◌, ◌<◌, ◌≤◌, ◌^◌, ℕ, min, inl, inr, sym, ap, subst, refl, List, [], ◌∷◌, ◌++◌, length, take, drop, arith, append_assoc}
 use Rattle.std.proofs.Math.Nat.{eq-or-lt_of_le}
 use Rattle.std.proofs.Math.Seq.{drop-append-add}
 use Rattle.std.proofs.lemmas.List.{length-drop, length-take-le, take-append-drop}
@@ -9,8 +9,8 @@ use Rattle.std.specs.declared.alloc.Global.{Global}
 use Rattle.std.specs.declared.boxed.Box.{Box}
 use Rattle.bptree_building.specs.Rooms.{joined, parts_of, AreAllPlanned, ArePlanned}
 use Rattle.bptree_building.specs.declared.subtree.Subtree.{Subtree}
-use Rattle.bptree_bulk.specs.Tail.{AreParts, IsSize, IsTail}
-use Rattle.bptree_bulk.specs.declared.tail.Tail.{Tail}
+use Rattle.bptree_bulk.specs.Filling.{AreParts, IsFilling, IsSize}
+use Rattle.bptree_bulk.specs.declared.filling.Filling.{Filling}
 use Rattle.bptree_bulk.proofs.Segments.{drop_more}
 use Rattle.bptree_keys.specs.Contents.{IsAscending}
 use Rattle.bptree_keys.specs.Ranges.{part}
@@ -22,7 +22,7 @@ use Rattle.bptree_nodes.specs.Slot.{Slots}
 use Rattle.bptree_ranges.specs.Ranges.{start}
 use Rattle.bptree_ranges.proofs.Ranged.{start_is}
 use Rattle.bptree_shape.specs.Leaves.{pairs_of, StandsIn}
-use Rattle.bptree_shape.specs.Shape.{leaf_pairs, leaves_at, pairs_at, IsWellShaped}
+use Rattle.bptree_shape.specs.Shape.{leaf_pairs, pairs_at, IsWellShaped}
 use Rattle.bptree_shape.proofs.Down.{pairs_of_leaves}
 use Rattle.bptree_shape.proofs.Walk.{flat-append}
 
@@ -119,12 +119,12 @@ module _ {K V A : Type 0} {cmp : K → K → Ordering} (is_summary : A → List 
       ap (λ n. drop (n + slot) (pairs_at slots h root)) (start_is is_summary slots h root shape leaf in') ∙ (ap (drop (length (pairs_of slots in'.before) + slot)) all ∙ drop-append-add (pairs_of slots in'.before) here slot)
 
 -- these lists and the parts of the pairs that are left are all lists
-pub record IsFilling {X : Type 0} (items : List X) (all done : List (List X)) : Type 0 where
+pub record IsPartlyFilled {X : Type 0} (items : List X) (all done : List (List X)) : Type 0 where
   pub rest : List (List X)
   pub are : AreParts items rest []
   pub sum : all ≡ done ++ rest
 
-pub filled_more : {X : Type 0} (items : List X) (all done after : List (List X)) (n : ℕ) → IsFilling items all done → IsSize (length items) n → 0 < length items → after ≡ done ++ take n items ∷ [] → IsFilling (drop n items) all after
+pub filled_more : {X : Type 0} (items : List X) (all done after : List (List X)) (n : ℕ) → IsPartlyFilled items all done → IsSize (length items) n → 0 < length items → after ≡ done ++ take n items ∷ [] → IsPartlyFilled (drop n items) all after
 filled_more items all done after n filling size some one =
     let next = next_part items filling.rest n filling.are some size in
     record {
@@ -134,8 +134,8 @@ filled_more items all done after n filling size some one =
     }
 
 -- once all leaves are filled they have the parts, and these are all pairs
-pub tail_filled : {S K V A : Type 0} (cmp : K → K → Ordering) (is_summary : A → List K → Type 0) (slots : S → Slots (Inner K A) (Leaf K V)) (tail : Tail S K V A) (l : List (K × V)) (is : IsTail cmp is_summary slots tail l) (items : List (K × V)) (leaves : List (Box (Leaf K V) Global)) → items ≡ l
-    → ((parts : List (List (K × V))) → AreParts items parts [] → parts_of leaves ≡ parts_of tail.leaves.items ++ parts) → (parts_of leaves ≡ is.parts) × (joined (parts_of leaves) ≡ l)
-tail_filled cmp is_summary slots tail l is items leaves same fills =
+pub all_filled : {S K V A : Type 0} (cmp : K → K → Ordering) (is_summary : A → List K → Type 0) (slots : S → Slots (Inner K A) (Leaf K V)) (filling : Filling S K V A) (l : List (K × V)) (is : IsFilling cmp is_summary slots filling l) (items : List (K × V)) (leaves : List (Box (Leaf K V) Global)) → items ≡ l
+    → ((parts : List (List (K × V))) → AreParts items parts [] → parts_of leaves ≡ parts_of filling.leaves.items ++ parts) → (parts_of leaves ≡ is.parts) × (joined (parts_of leaves) ≡ l)
+all_filled cmp is_summary slots filling l is items leaves same fills =
     let filled = fills is.parts (subst (λ m. AreParts m is.parts []) (sym same) is.are) ∙ ap (λ m. parts_of m ++ is.parts) is.leaves.0 in
     (filled, ap joined filled ∙ joined_parts l is.parts is.are)

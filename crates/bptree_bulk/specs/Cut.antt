@@ -1,5 +1,5 @@
 -- The leaves of a tree on both sides of a cut, and the leaves that are built of those at the cut.
-use Rattle.std.specs.Prelude.{◌≡◌, ℕ, zero, suc, ◌+◌, ◌-◌, ◌<◌, ◌≤◌, List, [], ◌∷◌, ◌++◌, Option, None, Some, length, map, take, drop}
+use Rattle.std.specs.Prelude.{◌≡◌, ℕ, zero, suc, ◌+◌, ◌<◌, ◌≤◌, List, [], ◌∷◌, ◌++◌, Option, None, Some, length, map, take, drop}
 use Rattle.std.specs.List.{AllByRecursion}
 use Rattle.bptree_building.specs.Rooms.{pairs_under}
 use Rattle.bptree_bulk.specs.declared.cut.Cut.{Cut}

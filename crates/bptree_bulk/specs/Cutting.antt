@@ -2,10 +2,10 @@
 use Rattle.std.specs.Prelude.{◌≡◌, ℕ, ◌+◌, List, [], length, take, drop}
 use Rattle.std.specs.declared.cmp.Ordering.{Ordering}
 use Rattle.bptree_bulk.specs.Split.{HasRoomFor, IsSplit, PartsAt}
-use Rattle.bptree_bulk.specs.Tail.{IsTail}
+use Rattle.bptree_bulk.specs.Filling.{IsFilling}
 use Rattle.bptree_bulk.specs.declared.splitting.Cutting.{Cutting}
 use Rattle.bptree_bulk.specs.declared.splitting.Cutting.TheVariants.{Last, Moves, Parts, Stays}
-use Rattle.bptree_bulk.specs.declared.tail.Tail.{Tail}
+use Rattle.bptree_bulk.specs.declared.filling.Filling.{Filling}
 use Rattle.bptree_keys.specs.Keys.{AllInfallible}
 use Rattle.bptree_nodes.specs.Inner.{Inner}
 use Rattle.bptree_nodes.specs.Leaf.{Leaf}
@@ -14,9 +14,9 @@ use Rattle.bptree_shape.specs.NodeTree.{NodeTree}
 
 module _ {S K V A : Type 0} (cmp : K → K → Ordering) (is_summary : A → List K → Type 0) (is_infallible : K → Type 0) (needs_no_memory : Type 0) (slots : S → Slots (Inner K A) (Leaf K V)) (tree : NodeTree S K V A) (k : K) where
   -- everything is found to move the pairs behind the first n, and no removal can fail
-  pub record IsLast (n : ℕ) (tail : Tail S K V A) : Type 0 where
+  pub record IsLast (n : ℕ) (tail : Filling S K V A) : Type 0 where
     pub sum : n + tail.count ≡ length tree.contents
-    pub moves : IsTail cmp is_summary slots tail (drop n tree.contents)
+    pub moves : IsFilling cmp is_summary slots tail (drop n tree.contents)
     pub room : HasRoomFor tail.count tail.pairs
     pub sure : needs_no_memory × AllInfallible is_infallible
 

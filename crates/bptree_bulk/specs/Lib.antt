@@ -1,4 +1,6 @@
 pub mod Cut
 pub mod Split
-pub mod Tail
+pub mod Positions
+pub mod Filling
 pub mod Cutting
+pub mod Weave

@@ -1,17 +1,13 @@
 -- All that is found before a tree is cut in two.
-use Rattle.std.specs.Prelude.{◌≡◌, ℕ, ◌+◌, ◌-◌, ◌≤◌, List, [], Option, None, Some, length, take, drop, vec_capacity, vec_len}
-use Rattle.std.specs.declared.alloc.Global.{Global}
-use Rattle.std.specs.declared.boxed.Box.{Box}
+use Rattle.std.specs.Prelude.{◌≡◌, ℕ, ◌+◌, ◌-◌, ◌≤◌, List, [], None, Some, length, vec_capacity, vec_len}
 use Rattle.std.specs.declared.cmp.Ordering.{Ordering}
 use Rattle.std.specs.declared.vec.Vec.{Vec}
 use Rattle.bptree_building.specs.Rooms.{joined, parts_of, IsFrame}
-use Rattle.bptree_building.specs.declared.planting.Frame.{Frame}
 use Rattle.bptree_bulk.specs.Cut.{cut_at, lower_parts, upper_parts, IsCut}
 use Rattle.bptree_bulk.specs.declared.splitting.Ready.{Ready}
 use Rattle.bptree_bulk.specs.declared.splitting.Side.{Side}
 use Rattle.bptree_bulk.specs.declared.splitting.Split.{Split}
 use Rattle.bptree_keys.specs.Ranges.{between}
-use Rattle.bptree_keys.specs.declared.node_id.LeafNodeId.{LeafNodeId}
 use Rattle.bptree_nodes.specs.Inner.{Inner}
 use Rattle.bptree_nodes.specs.Leaf.{Leaf}
 use Rattle.bptree_nodes.specs.Slot.{Slots}

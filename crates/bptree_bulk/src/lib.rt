@@ -2,7 +2,9 @@
 #![tactic(auto)]
 
 mod cut;
+pub mod filling;
 mod moving;
 mod side;
 pub mod splitting;
 pub mod tail;
+pub mod weaving;

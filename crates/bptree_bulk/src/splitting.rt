@@ -8,9 +8,10 @@ ghost use Rattle.bptree_ranges.specs.Ranges.{place_on, IsPlaceOn};
 ghost use Rattle.bptree_shape.specs.NodeTree.{IsWhole};
 
 use crate::cut::{Cut, cut_before};
+use crate::filling::Filling;
 use crate::moving::{fill_pieces, pairs_in, pass, pour};
 use crate::side::{lower_frame, upper_frame};
-use crate::tail::{Tail, few_from, plan_tail};
+use crate::tail::{few_from, plan_tail};
 use bptree_building::leaves::{leaf_ids, take_leaves};
 use bptree_building::planting::{Frame, plant};
 use bptree_keys::end::End;
@@ -174,7 +175,7 @@ pub enum Cutting<S: NodeStore> {
     /// Some pairs stay, and some move.
     Parts(Split<S>),
     /// Some pairs stay, and those that move are so few that they move one by one.
-    Last(Tail<S>),
+    Last(Filling<S>),
 }
 
 // Whether a position is before all pairs.

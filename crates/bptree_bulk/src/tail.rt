@@ -1,54 +1,38 @@
 //! The last pairs of a tree, which move one by one to a tree of their own.
-ghost use Rattle.std.specs.Prelude.{◌≡◌, ◌+◌, ◌-◌, ◌<◌, ◌≤◌, ◌^◌, ◌++◌, ◌∷◌, [], List, length, drop, reverse, vec_capacity, vec_len, IfOk, IfSome};
-ghost use Rattle.std.specs.List.{AllByRecursion};
+ghost use Rattle.std.specs.Prelude.{◌≡◌, ◌+◌, ◌-◌, ◌<◌, ◌≤◌, ◌++◌, ◌∷◌, [], List, length, drop, reverse, IfOk, IfSome};
 ghost use Rattle.std.specs.Option.{option_copied};
-ghost use Rattle.std.specs.Vec.Iter.{into_iter_items, into_iter_len};
-ghost use Rattle.bptree_building.specs.Rooms.{parts_of, ArePlanned};
+ghost use Rattle.bptree_building.specs.Rooms.{ArePlanned};
 ghost use Rattle.bptree_bulk.specs.Cut.{first_key};
-ghost use Rattle.bptree_bulk.specs.Tail.{place_of, AreParts, IsAtPair, IsBehind, IsEmptyLeaf, IsSize, IsTail};
+ghost use Rattle.bptree_bulk.specs.Filling.{IsFilling};
+ghost use Rattle.bptree_bulk.specs.Positions.{place_of, rest_of, IsAtPair, IsBehind};
 ghost use Rattle.bptree_bulk.specs.Split.{HasRoomFor};
 ghost use Rattle.bptree_keys.specs.Keys.{AllInfallible};
 ghost use Rattle.bptree_keys.specs.Ranges.{part};
 ghost use Rattle.bptree_shape.specs.NodeTree.{IsWhole};
 
-use crate::moving::fill_piece;
+use crate::filling::{Filling, filling_of, plant_filling, size_of};
 use bptree_arguments::argument::Argument;
-use bptree_building::plan::{Plan, empty_plan, frame, plan_part};
-use bptree_building::planting::{Frame, plant};
+use bptree_building::plan::{Plan, empty_plan, plan_part};
 use bptree_keys::key::Key;
 use bptree_keys::node_id::Position;
-use bptree_nodes::leaf_node::{LEAF_CAPACITY, LeafNode};
+use bptree_nodes::leaf_node::LeafNode;
 use bptree_ranges::ranges::settled;
 use bptree_ranges::summaries::summary_between;
 use bptree_shape::nodes::Nodes;
 use bptree_stores::node_stores::NodeStore;
 use std::alloc::AllocError;
-use std::vec::IntoIter;
 
-/// What is found before the last pairs of a tree move to a tree of their own. Dropping it leaves the
-/// tree as it was.
-#[derive(Drop)]
-pub struct Tail<S: NodeStore> {
-    frame: Frame<S>,
-    /// The empty leaves, and the room for the list of the filled ones.
-    rooms: Vec<Box<LeafNode<S::K, S::V>>>,
-    leaves: Vec<Box<LeafNode<S::K, S::V>>>,
-    /// How many pairs move, and the room for them.
-    pub count: usize,
-    pub pairs: Vec<(S::K, S::V)>,
-}
-
-// How many of some pairs the next leaf takes. No leaf gets fewer than 32, but where it gets all.
-fn size_of(left: usize) -> usize
-    ensures { IsSize left result }
+// The position of the first pair.
+pub(crate) fn start_of<S: NodeStore>(tree: &Nodes<S>) -> Position
+    ensures at { IsAtPair S.slots tree.now result }
+    ensures all { rest_of S.slots tree.now result ≡ tree.now.contents }
 {
-    if left <= LEAF_CAPACITY {
-        return left;
-    }
-    if left <= 2 * LEAF_CAPACITY {
-        return LEAF_CAPACITY / 2;
-    }
-    LEAF_CAPACITY
+    tree.recall();
+    let first = Position {
+        leaf: tree.first_leaf(),
+        slot: 0,
+    };
+    settled(tree, first)
 }
 
 // The position `count` pairs behind another, and how many of them are missing at the end of all.
@@ -82,7 +66,7 @@ fn advance<S: NodeStore>(tree: &Nodes<S>, at: Position, count: usize) -> (Positi
 }
 
 // The key of the pair at a position, if one is there.
-fn key_from<'a, S: NodeStore>(tree: &'a Nodes<S>, at: Position) -> Option<&'a S::K>
+pub(crate) fn key_from<'a, S: NodeStore>(tree: &'a Nodes<S>, at: Position) -> Option<&'a S::K>
     requires { IsAtPair S.slots tree.now at }
     ensures { option_copied result ≡ first_key (drop (place_of S.slots tree.now at) tree.now.contents) }
 {
@@ -145,11 +129,11 @@ pub(crate) fn plan_tail<S: NodeStore>(
     tree: &Nodes<S>,
     at: Position,
     count: usize,
-) -> Result<Tail<S>, AllocError>
+) -> Result<Filling<S>, AllocError>
     requires at { IsAtPair S.slots tree.now at }
     requires some { 0 < count }
     requires count { place_of S.slots tree.now at + count ≡ length tree.now.contents }
-    ensures tail { IfOk result (λ tail. IsTail S.K.cmp S.Argument.is_summary S.slots tail (drop (place_of S.slots tree.now at) tree.now.contents)) }
+    ensures tail { IfOk result (λ tail. IsFilling S.K.cmp S.Argument.is_summary S.slots tail (drop (place_of S.slots tree.now at) tree.now.contents)) }
     ensures room { IfOk result (λ tail. HasRoomFor tail.count tail.pairs) }
 {
     tree.recall();
@@ -167,54 +151,30 @@ pub(crate) fn plan_tail<S: NodeStore>(
         from = to;
         left -= size;
     }
-    let leaves = Vec::with_capacity(alloc, rooms.len())?;
-    let pairs = Vec::with_capacity(alloc, count)?;
-    let frame = frame(plan)?;
-    Ok(Tail {
-        frame,
-        rooms,
-        leaves,
-        count,
-        pairs,
-    })
+    filling_of(plan, rooms, count)
 }
 
-// Fills empty leaves with pairs, and puts them behind others.
-fn fill_all<K: Key, V: Drop>(
-    pairs: IntoIter<(K, V)>,
-    rooms: IntoIter<Box<LeafNode<K, V>>>,
-    leaves: &mut Vec<Box<LeafNode<K, V>>>,
-)
-    requires counted { into_iter_len pairs ≡ length (into_iter_items pairs) }
-    requires empty { AllByRecursion IsEmptyLeaf (into_iter_items rooms) }
-    requires parts { (parts : List (List (K × V))) × AreParts (into_iter_items pairs) parts [] × (length (into_iter_items rooms) ≡ length parts) }
-    requires room { vec_len leaves.old + length (into_iter_items rooms) ≤ vec_capacity leaves.old }
-    ensures { (parts : List (List (K × V))) → AreParts (into_iter_items pairs) parts [] → parts_of leaves.new.items ≡ parts_of leaves.old.items ++ parts }
+/// Finds all that is needed to move all pairs of a tree.
+///
+/// It costs and fails as `plan_tail` does.
+pub fn plan_all<S: NodeStore>(tree: &Nodes<S>) -> Result<Filling<S>, AllocError>
+    requires { 0 < length tree.now.contents }
+    ensures filling { IfOk result (λ filling. IsFilling S.K.cmp S.Argument.is_summary S.slots filling tree.now.contents) }
+    ensures room { IfOk result (λ filling. HasRoomFor (length tree.now.contents) filling.pairs) }
 {
-    let mut pairs = pairs;
-    let mut rooms = rooms;
-    'rooms: while pairs.len() > 0 {
-        let size = size_of(pairs.len());
-        fill_piece(&mut pairs, size, rooms.next().unwrap(), leaves);
-    }
+    let filling = plan_tail(tree, start_of(tree), tree.len())?;
+    Ok(filling)
 }
 
 /// The tree of the pairs that moved, the greatest of which moved first.
 ///
 /// O(1) a pair. It takes no memory and cannot fail.
-pub fn plant_tail<S: NodeStore>(tail: Tail<S>) -> Nodes<S>
-    requires { IsTail S.K.cmp S.Argument.is_summary S.slots tail (reverse tail.pairs.items) }
+pub fn plant_tail<S: NodeStore>(tail: Filling<S>) -> Nodes<S>
+    requires { IsFilling S.K.cmp S.Argument.is_summary S.slots tail (reverse tail.pairs.items) }
     ensures contents { result.contents ≡ reverse tail.pairs.items }
     ensures whole { IsWhole S.K.cmp S.Argument.is_summary S.slots result }
 {
-    let Tail {
-        frame,
-        rooms,
-        mut leaves,
-        count,
-        mut pairs,
-    } = tail;
-    pairs.reverse();
-    fill_all(pairs.into_iter(), rooms.into_iter(), &mut leaves);
-    plant(frame, leaves, count)
+    let mut tail = tail;
+    tail.pairs.reverse();
+    plant_filling(tail)
 }

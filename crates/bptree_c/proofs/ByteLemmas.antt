@@ -8,7 +8,7 @@ use Rattle.std.specs.Map.Iter.{TakesFirst, TakesLast, deref_pair}
 use Rattle.std.specs.Option.{option_map}
 use Rattle.std.specs.Ordering.{is_eq, is_gt}
 use Rattle.bptree_keys.specs.Contents.{pairs_above}
-use Rattle.bptree_maps.proofs.KeyLemmas.{keys_joined}
+use Rattle.bptree_maps.proofs.KeyLemmas.{keys_append}
 use Rattle.bptree_maps.specs.Keys.{holds, without_key}
 use Rattle.bptree_nodes.proofs.Pairs.{last_apart}
 use Rattle.bptree_ranges.specs.Bounds.{between_bounds}
@@ -67,4 +67,4 @@ module _ {K V : Type 0} where
   -- and the last one's
   pub last_key : (l left : List (K × V)) (r : Option (Bor K × Bor V)) → TakesLast deref_pair l r left → option_map (λ it. it.0.now) r ≡ slice_get (keys_of l) (length (keys_of l) - 1)
   last_key l left None takes = rw takes.0 refl
-  last_key l left (Some it) takes = sym (last_apart (keys_of l) (keys_of left) it.0.now (ap keys_of takes ∙ keys_joined left (deref_pair it ∷ []))).0
+  last_key l left (Some it) takes = sym (last_apart (keys_of l) (keys_of left) it.0.now (ap keys_of takes ∙ keys_append left (deref_pair it ∷ []))).0

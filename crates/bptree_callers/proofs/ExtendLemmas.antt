@@ -13,7 +13,8 @@ use Rattle.bptree_keys.proofs.Laws.{put_ascending}
 use Rattle.bptree_keys.proofs.Updates.{has_put, value_put}
 use Rattle.bptree_maps.specs.Keys.{holds, with_key}
 use Rattle.bptree_maps.specs.KeyChanges.{IsKeyFailureOf}
-use Rattle.bptree_maps.specs.Moving.{put_all, put_pair, IsExtended}
+use Rattle.bptree_bulk.specs.Weave.{put_all, put_pair}
+use Rattle.bptree_maps.specs.Moving.{IsExtended}
 use Rattle.bptree_tree.specs.Changes.{IsFailureOf, IsInsertFailure}
 use Rattle.bptree_tree.specs.Refusal.{pair_of}
 use Rattle.bptree_tree.specs.declared.InsertError.{InsertError}

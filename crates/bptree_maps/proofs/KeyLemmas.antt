@@ -27,14 +27,12 @@ use Rattle.bptree_tree.specs.declared.InsertError.{InsertError}
 use Rattle.bptree_tree.specs.declared.InsertError.TheVariants.{Full, OutOfMemory}
 use Rattle.bptree_tree.proofs.FailureLemmas.{failure_is}
 use Rattle.bptree_maps.specs.KeyChanges.{IsFullForKey, IsKeyFailureOf}
-use Rattle.bptree_maps.specs.declared.refusals.MoveError.{MoveError}
-use Rattle.bptree_maps.specs.declared.refusals.MoveError.TheVariants.{NotTaken, NotStored}
 use Rattle.bptree_maps.specs.KeyBounds.{keys_between_bounds}
 use Rattle.bptree_ranges.specs.Bounds.{between_bounds, is_before_start, is_upto_end}
 
 module _ {K V : Type 0} where
   -- keys of two lists, one behind the other
-  keys_append : (l m : List (K × V)) → keys_of (l ++ m) ≡ keys_of l ++ keys_of m
+  pub keys_append : (l m : List (K × V)) → keys_of (l ++ m) ≡ keys_of l ++ keys_of m
   keys_append [] m = refl
   keys_append (pair ∷ l) m = ap (λ keys. pair.0 ∷ keys) (keys_append l m)
 
@@ -197,8 +195,3 @@ module _ {R K : Type 0} (cmp : K → K → Ordering) (most : ℕ) (old new : Lis
 pub failure_of_keys : {K V : Type 0} (cmp : K → K → Ordering) (most : ℕ) (l : List (K × V)) (error : InsertError K V) → IsFailureOf cmp most l error → IsKeyFailureOf cmp most (keys_of l) error
 failure_of_keys cmp most l (Full k v) failed = (length-keys_of l ∙ failed.0, sym (holds_keys cmp l k) ∙ failed.1)
 failure_of_keys cmp most l (OutOfMemory k v) failed = (λ full. failed.0 (sym (length-keys_of l) ∙ full), sym (holds_keys cmp l k) ∙ failed.1)
-
--- the keys of two lists
-pub keys_joined : {K V : Type 0} (l m : List (K × V)) → keys_of (l ++ m) ≡ keys_of l ++ keys_of m
-keys_joined [] m = refl
-keys_joined (p ∷ l) m = ap (λ keys. p.0 ∷ keys) (keys_joined l m)

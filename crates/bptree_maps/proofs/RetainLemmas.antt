@@ -19,7 +19,7 @@ use Rattle.bptree_maps.specs.Keys.{with_key}
 use Rattle.bptree_maps.specs.RetainedKeys.{FirstKeysLeft}
 use Rattle.bptree_maps.specs.Retaining.{CallsAtPair, IsRetained, IsRetainedUpTo}
 use Rattle.bptree_maps.proofs.KeyLemmas.{keys_between-is, keys_outside-is, keys_put}
-use Rattle.bptree_maps.proofs.KeyLemmas.{keys_joined}
+use Rattle.bptree_maps.proofs.KeyLemmas.{keys_append}
 
 module _ {K V : Type 0} {cmp : K → K → Ordering} (total : IsTotalOrder cmp) where
   -- without a pair between
@@ -117,13 +117,13 @@ keys_back (k ∷ keys) = ap (λ rest. k ∷ rest) (keys_back keys)
 
 module _ {K : Type 0} {cmp : K → K → Ordering} (total : IsTotalOrder cmp) (kept : List K) (k : K) (rest : List K) (sorted : IsStrictlySortedBy cmp (kept ++ k ∷ rest)) where
   ascending : IsAscending cmp (as_pairs kept ++ (k, tt) ∷ as_pairs rest)
-  ascending = rw (keys_joined (as_pairs kept) ((k, tt) ∷ as_pairs rest), keys_back kept, keys_back rest) sorted
+  ascending = rw (keys_append (as_pairs kept) ((k, tt) ∷ as_pairs rest), keys_back kept, keys_back rest) sorted
 
   -- the next key comes behind those that stay
   pub key_behind : with_key cmp kept k ≡ kept ++ k ∷ []
   key_behind =
       let put = put_behind total (as_pairs kept) (k, tt) (as_pairs rest) ascending tt in
-      let keys = sym (keys_put cmp (as_pairs kept) k tt) ∙ ap keys_of put ∙ keys_joined (as_pairs kept) ((k, tt) ∷ []) in
+      let keys = sym (keys_put cmp (as_pairs kept) k tt) ∙ ap keys_of put ∙ keys_append (as_pairs kept) ((k, tt) ∷ []) in
       rw (keys_back kept) at keys
 
   pub keys_still_sorted : IsStrictlySortedBy cmp ((kept ++ k ∷ []) ++ rest)
@@ -132,12 +132,12 @@ module _ {K : Type 0} {cmp : K → K → Ordering} (total : IsTotalOrder cmp) (k
   pub keys_without : IsStrictlySortedBy cmp (kept ++ rest)
   keys_without =
       let left = ascending_without total (as_pairs kept) (k, tt) (as_pairs rest) ascending in
-      rw (keys_joined (as_pairs kept) (as_pairs rest), keys_back kept, keys_back rest) at left
+      rw (keys_append (as_pairs kept) (as_pairs rest), keys_back kept, keys_back rest) at left
 
 -- the first pairs between two keys left, and so did their keys
 pub first_keys_left : {K V : Type 0} (cmp : K → K → Ordering) (lo hi : Option K) (old new : List (K × V)) → FirstsLeft cmp lo hi old new → FirstKeysLeft cmp lo hi (keys_of old) (keys_of new)
 first_keys_left cmp lo hi old new left = (
   keys_of left.0,
-  sym (keys_between-is cmp old lo hi) ∙ ap keys_of left.1 ∙ keys_joined left.0 (between cmp new lo hi) ∙ ap (λ l. keys_of left.0 ++ l) (keys_between-is cmp new lo hi),
+  sym (keys_between-is cmp old lo hi) ∙ ap keys_of left.1 ∙ keys_append left.0 (between cmp new lo hi) ∙ ap (λ l. keys_of left.0 ++ l) (keys_between-is cmp new lo hi),
   sym (keys_outside-is cmp new lo hi) ∙ ap keys_of left.2 ∙ keys_outside-is cmp old lo hi,
 )

@@ -44,13 +44,14 @@ mod updates;
 
 use crate::gathering::gather_tree;
 pub use crate::gathering::law_of_from_iter;
-pub use crate::refusals::{MoveError, RetainError, SplitError};
+pub use crate::refusals::RetainError;
 use bptree_arguments::argument::{Argument, CloneArgument, RankArgument, SearchArgument};
 use bptree_arguments::count::Count;
 use bptree_arguments::group::FromRef;
 use bptree_arguments::visit::{DescendError, DescendVisit};
 use bptree_keys::key::Key;
 use bptree_stores::node_store_vec::NodeStoreVec;
+pub use bptree_tree::AppendError;
 use bptree_tree::{BPlusTree, Cursor, InsertError, ReplaceError, SelectError};
 pub use iter::Iter;
 pub use owned::IntoIter;

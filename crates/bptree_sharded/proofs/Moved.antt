@@ -21,7 +21,7 @@ use Rattle.bptree_keys.proofs.Updates.{del_ascending}
 use Rattle.bptree_keys.proofs.PieceLemmas.{flatten-cut, AllByRecursion-append, AllByRecursion-left, AllByRecursion-right, AllByRecursion-weaker}
 use Rattle.bptree_shape.proofs.Ordered.{ascending_after}
 use Rattle.bptree_shape.proofs.Spot.{ascending_before}
-use Rattle.bptree_maps.specs.Moving.{put_all, put_pair}
+use Rattle.bptree_bulk.specs.Weave.{put_all, put_pair}
 use Rattle.bptree_shards.specs.Lengths.{lengths_of}
 use Rattle.bptree_shards.specs.Shards.{AreShards, StandBetween, NoneBelow, shard_of}
 use Rattle.bptree_shards.proofs.LengthLemmas.{total}
@@ -258,6 +258,15 @@ map-remove f [] j = ap (map f) (remove-none j) ∙ sym (remove-none j)
 map-remove f (z ∷ l) zero = refl
 map-remove f (z ∷ l) (suc j) = ap (λ m. f z ∷ m) (map-remove f l j)
 
+-- shards that were taken apart for a merge that failed, and put back, have the pairs that they had
+restored : {T X : Type 0} (pairs : T → X) (items : List T) (i : ℕ) (x y next z : T) → suc i < length items → x ≡ get_or items i x → next ≡ get_or items (suc i) next → pairs y ≡ pairs x → pairs z ≡ pairs next → map pairs (insert (set (remove items (suc i)) i y) (suc i) z) ≡ map pairs items
+restored pairs [] i x y next z short here there same other = absurd (omega arith)
+restored pairs (a ∷ []) i x y next z short here there same other = absurd (omega arith)
+restored pairs (a ∷ b ∷ items) zero x y next z short here there same other = ap (λ p. p ∷ pairs z ∷ map pairs items) (same ∙ ap pairs here) ∙ ap (λ p. pairs a ∷ p ∷ map pairs items) (other ∙ ap pairs there)
+restored pairs (a ∷ b ∷ items) (suc i) x y next z short here there same other =
+    let less : suc i < length (b ∷ items) = omega arith in
+    ap (λ l. pairs a ∷ l) (restored pairs (b ∷ items) i x y next z less here there same other)
+
 module _ {K V : Type 0} (cmp : K → K → Ordering) (order : IsTotalOrder cmp) (new : List (K × V)) where
   -- what holds of each pair of two pieces holds of each of the new one
   abbrev Holds : List (List (K × V)) → ℕ → Type 1
@@ -347,6 +356,14 @@ module _ {T K V : Type 0} {cmp : K → K → Ordering} (order : IsTotalOrder cmp
 
     second_is : pairs next ≡ piece_at pieces (suc i)
     second_is = asked pairs items (i + 1) next next_there there ∙ ap (piece_at pieces) one
+
+    -- where they are put back, all shards have the pairs that they had
+    pub put_again : (y z : T) (all : List T) → all ≡ insert (set rest i y) (i + 1) z → pairs y ≡ pairs x → pairs z ≡ pairs next → map pairs all ≡ pieces
+    put_again y z all is same other =
+        let first : x ≡ get_or items i x = here ∙ ap (λ l. get_or l i x) taken ∙ ap (λ j. get_or (remove items j) i x) one ∙ get-removed items i x in
+        let short : suc i < length items = omega (arith, next_there) in
+        ap (map pairs) (is ∙ ap (λ l. insert (set l i y) (i + 1) z) taken ∙ ap (λ j. insert (set (remove items j) i y) j z) one)
+        ∙ restored pairs items i x y next z short first (there ∙ ap (λ j. get_or items j next) one) same other
 
     abbrev front : List (K × V)
     front = flatten (take i pieces)

@@ -1,12 +1,11 @@
 -- What pairs that are lent show.
-use Rattle.std.specs.Prelude.{◌≡◌, ◌++◌, ℕ, Bool, true, false, List, [], ◌∷◌, Option, MatchOption, Result, OnOk, IfErr, Vec, map, reverse, take}
+use Rattle.std.specs.Prelude.{◌≡◌, ◌++◌, ℕ, Bool, true, false, List, [], ◌∷◌, Option, MatchOption, Result, OnOk, Vec, map, reverse, take}
 use Rattle.std.specs.declared.cmp.Ordering.{Ordering}
 use Rattle.std.specs.Borrow.{Bor}
 use Rattle.std.specs.Map.Iter.{deref_pair}
-use Rattle.bptree_maps.specs.Moving.{AllMove, MovesPairs, put_all, put_pair}
-use Rattle.bptree_maps.specs.Splitting.{SplitsOff, gone}
-use Rattle.bptree_maps.specs.declared.refusals.MoveError.{MoveError}
-use Rattle.bptree_maps.specs.declared.refusals.SplitError.{SplitError}
+use Rattle.bptree_bulk.specs.Weave.{put_pair}
+use Rattle.bptree_maps.specs.Moving.{AllMove}
+use Rattle.bptree_maps.specs.Splitting.{SplitsOff}
 use Rattle.bptree_shards.specs.Shards.{back_from}
 use Rattle.bptree_sharded.specs.Whole.{Partition, contents}
 use Rattle.bptree_tree.specs.Entries.{pairs_between}
@@ -49,10 +48,6 @@ turned true l = reverse l
 abbrev pub IsTaken : {K V : Type 0} → List (K × V) → Option (Bor K × Bor V) → List (K × V) → Type 0
 IsTaken old pair new = MatchOption pair (old ≡ []) (λ at. old ≡ deref_pair at ∷ new)
 
--- a whole is as it was once what is handed back is put again
-abbrev pub GivesBack : {S K V : Type 0} → (K → K → Ordering) → (S → List (K × V)) → Partition K V → Partition K V → SplitError S (MoveError K V) → Type 0
-GivesBack cmp pairs old new refusal = put_all (put_pair cmp) (contents new) (gone pairs refusal) ≡ contents old
-
 -- ---- what becomes of a shard, by the list of its pairs
 
 module _ {S K V : Type 0} (pairs : S → List (K × V)) (cmp : K → K → Ordering) where
@@ -60,9 +55,6 @@ module _ {S K V : Type 0} (pairs : S → List (K × V)) (cmp : K → K → Order
   abbrev pub SplitsShard : K → S → S → S → Type 0
   SplitsShard k old new there = SplitsOff cmp k (pairs old) (pairs new) (pairs there)
 
-  -- all pairs of another shard came, where the call was not refused; else the first of them
+  -- all pairs of another shard moved here, if the call did not fail
   abbrev pub AppendsAll : {T E : Type 0} → S → S → S → S → Result T E → Type 0
   AppendsAll old other new rest r = OnOk r (AllMove (put_pair cmp) (pairs old) (pairs other) (pairs new) (pairs rest))
-
-  abbrev pub AppendsSome : {T : Type 0} → S → S → S → S → Result T (MoveError K V) → Type 0
-  AppendsSome old other new rest r = IfErr r (MovesPairs cmp (pairs old) (pairs other) (pairs new) (pairs rest))

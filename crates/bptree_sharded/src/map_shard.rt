@@ -12,9 +12,9 @@ use crate::whole::Shards;
 use bptree_arguments::count::Count;
 use bptree_keys::end::End;
 use bptree_keys::key::Key;
-use bptree_maps::map::{BPlusTreeMap, Iter, MoveError};
+use bptree_maps::map::{BPlusTreeMap, Iter};
 use bptree_shards::laws::law_of_empty_shards;
-use bptree_tree::InsertError;
+use bptree_tree::{AppendError, InsertError};
 use std::alloc::{AllocError, Global};
 use std::ops::Bound;
 
@@ -168,7 +168,7 @@ impl<K: Key, V: Drop> Shard for BPlusTreeMap<K, V, Count> {
         BPlusTreeMap::split_off(self, k)
     }
 
-    fn append(&mut self, other: &mut Self) -> Result<(), MoveError<K, V>> {
+    fn append(&mut self, other: &mut Self) -> Result<(), AppendError> {
         BPlusTreeMap::append(self, other)
     }
 }

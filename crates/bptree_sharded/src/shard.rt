@@ -3,15 +3,14 @@ ghost use Rattle.std.specs.Prelude.{◌≡◌, ⊤, List, Ok, None, false, lengt
 ghost use Rattle.std.specs.Option.{option_copied, option_map};
 ghost use Rattle.bptree_keys.specs.Contents.{has, value, put, del, next, previous, pairs_below};
 ghost use Rattle.bptree_keys.specs.Ranges.{part};
-ghost use Rattle.bptree_sharded.specs.Shown.{PushesAll, PushesBetween, PushesBack, SplitsShard, AppendsAll, AppendsSome};
+ghost use Rattle.bptree_sharded.specs.Shown.{PushesAll, PushesBetween, PushesBack, SplitsShard, AppendsAll};
 ghost use Rattle.bptree_sharded.specs.Failures.{NoMemoryOnlyIf};
 ghost use Rattle.bptree_tree.specs.Changes.{IsRefusedWhereFull};
 ghost use Rattle.bptree_tree.specs.Refusal.{pair_of};
 ghost use Rattle.std.specs.Map.Iter.{deref_pair};
 
 use bptree_keys::key::Key;
-use bptree_maps::map::MoveError;
-use bptree_tree::InsertError;
+use bptree_tree::{AppendError, InsertError};
 use std::alloc::AllocError;
 
 /// Ascending pairs that answer about themselves alone: a map in memory, or one that stands
@@ -116,9 +115,9 @@ pub trait Shard: Drop {
         ensures ok { IfOk result (SplitsShard pairs Self.K.cmp k.now self.old self.new) }
         ensures unchanged { OnErr result (pairs self.new ≡ pairs self.old) };
 
-    /// All pairs of another shard come here, one after another. Where one could not, those before
-    /// it have come, and the others stay there; the pair in hand is handed back, if there is one.
-    fn append(&mut self, other: &mut Self) -> Result<(), MoveError<Self::K, Self::V>>
+    /// Moves all pairs of another shard here. Of two equal keys this shard's key stays, and it takes
+    /// the other's value. On an error neither shard changes.
+    fn append(&mut self, other: &mut Self) -> Result<(), AppendError>
         ensures ok { AppendsAll pairs Self.K.cmp self.old other.old self.new other.new result }
-        ensures err { AppendsSome pairs Self.K.cmp self.old other.old self.new other.new result };
+        ensures unchanged { OnErr result ((pairs self.new ≡ pairs self.old) × (pairs other.new ≡ pairs other.old)) };
 }

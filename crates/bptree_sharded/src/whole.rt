@@ -7,7 +7,7 @@ ghost use Rattle.bptree_keys.specs.Pieces.{flatten};
 ghost use Rattle.bptree_keys.specs.Ranges.{between, part};
 ghost use Rattle.bptree_shards.specs.Lengths.{lengths_of};
 ghost use Rattle.bptree_shards.specs.Shards.{AreShards, back_from};
-ghost use Rattle.bptree_sharded.specs.Shown.{Shows, ShowsBetween, GivesBack};
+ghost use Rattle.bptree_sharded.specs.Shown.{Shows, ShowsBetween};
 ghost use Rattle.bptree_sharded.specs.Failures.{HasRoom, InOwnShard, NoMemoryOnlyIf};
 ghost use Rattle.bptree_sharded.specs.Whole.{MergesBounds, bounds_with, contents, descends_at, last_pair_before};
 ghost use Rattle.bptree_tree.specs.Changes.{IsRefusedWhereFull};
@@ -16,12 +16,11 @@ ghost use Rattle.std.specs.Map.Iter.{deref_pair};
 
 use crate::shard::Shard;
 use bptree_keys::key::Key;
-use bptree_maps::map::{MoveError, SplitError};
 use bptree_shards::combining::{
     len_of_whole, locate, next_full, next_part, prev_full, rank_of_whole,
 };
 use bptree_shards::routing::{route, route_below, route_range};
-use bptree_tree::InsertError;
+use bptree_tree::{AppendError, InsertError};
 use std::alloc::{AllocError, Global};
 use std::marker::Model;
 
@@ -368,31 +367,32 @@ impl<S: Shard> Shards<S> {
         Ok(())
     }
 
-    /// A shard and the next one become one, by the number of the first of them. The bound between
-    /// them goes, or the one behind it where that is the lesser. The list stays. Where there is no
-    /// next one, nothing changes.
+    /// Makes one shard of a shard and the next one, by the index of the first of them. The bound
+    /// between them goes, or the one behind it where that is the lesser. The list of pairs stays the
+    /// same. If there is no next one, nothing changes.
     ///
-    /// The pairs of the second one move, one after another. Where one could not, those that had not
-    /// moved have left the list, and are handed back with the shard that they are in.
-    pub fn merge(&mut self, shard: usize) -> Result<(), SplitError<S, MoveError<S::K, S::V>>>
+    /// It costs and fails as `append` of the shard does. On an error nothing changes.
+    pub fn merge(&mut self, shard: usize) -> Result<(), AppendError>
         ensures ok { OnOk result (contents self.new ≡ contents self.old) }
-        ensures merged { MergesBounds S.K.cmp shard self.old self.new }
+        ensures merged { OnOk result (MergesBounds S.K.cmp shard self.old self.new) }
         ensures past { length self.old.bounds ≤ shard → IsOk result × (self.new ≡ self.old) }
-        ensures err { IfErr result (GivesBack S.K.cmp (λ shard. S.pairs shard) self.old self.new) }
+        ensures unchanged { OnErr result (self.new ≡ self.old) }
     {
         if shard >= self.bounds.len() {
             return Ok(());
         }
+        let mut next = self.shards.remove(shard + 1);
+        match self.shards[shard].append(&mut next) {
+            Ok(()) => {}
+            Err(error) => {
+                insert_reserved(&mut self.shards, shard + 1, next);
+                return Err(error);
+            }
+        }
         let bound = bound_to_go(&self.bounds, shard);
         self.bounds.remove(bound);
         self.lengths.remove(shard + 1);
-        let mut next = self.shards.remove(shard + 1);
-        let moved = self.shards[shard].append(&mut next);
         self.lengths[shard] = self.shards[shard].len();
-        match moved {
-            Ok(()) => {}
-            Err(refusal) => return Err(SplitError::NotAll(next, refusal)),
-        }
         Ok(())
     }
 }

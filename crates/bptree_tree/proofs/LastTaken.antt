@@ -1,5 +1,5 @@
 -- The last members of a list leave it one by one.
-use Rattle.std.proofs.Common.{◌≡◌, ◌∙◌, ◌+◌, ◌-◌, ℕ, sym, ap, subst, List, [], ◌∷◌, ◌++◌, length, take, drop, reverse, arith, append_assoc, length-append}
+use Rattle.std.proofs.Common.{◌≡◌, ◌∙◌, ◌+◌, ◌-◌, ℕ, sym, ap, List, [], ◌∷◌, ◌++◌, length, take, drop, reverse, arith, append_assoc, length-append}
 use Rattle.std.proofs.Math.Seq.{drop-append_seam, take-append_seam}
 use Rattle.std.proofs.lemmas.Grind.{reverse_onto}
 

@@ -13,4 +13,5 @@ pub mod RangeRemovalLemmas
 pub mod Removed
 pub mod Spans
 pub mod Started
+pub mod UndoLemmas
 pub mod UpdateLemmas

@@ -8,6 +8,7 @@ pub mod NodeRows
 pub mod Pages
 pub mod Rows
 pub mod Selected
+pub mod Undoing
 pub mod Updating
 pub mod Whole
 pub mod Writing

@@ -29,6 +29,15 @@ pub enum ReplaceError<K> {
     OutOfMemory(K),
 }
 
+/// Why the pairs of one tree did not move to another. Neither has changed.
+#[derive(Clone, Copy, Debug, PartialEq, Drop)]
+pub enum AppendError {
+    /// An allocation failed.
+    OutOfMemory,
+    /// Both together have more than `usize::MAX` pairs.
+    Full,
+}
+
 /// Why no value was lent.
 #[derive(Debug, PartialEq, Drop)]
 pub enum SelectError {

@@ -16,6 +16,7 @@ mod cursors;
 mod entries;
 mod lending;
 mod loading;
+mod merging;
 mod owning;
 mod places;
 mod queries;

@@ -7,7 +7,7 @@ use crate::samples::{Sample, SampleSummary};
 use crate::subject::no_call;
 use crate::walk::{bounds, pairs_of, report_all};
 use crate::words::{Report, Words};
-use bptree_maps::map::{BPlusTreeMap, MoveError, RetainError};
+use bptree_maps::map::{BPlusTreeMap, RetainError};
 use std::alloc::{AllocError, Global};
 
 fn extend<K: Sample, A: SampleSummary<K>>(
@@ -25,28 +25,8 @@ fn extend<K: Sample, A: SampleSummary<K>>(
     }
 }
 
-/// Reports the pair or key that was in hand when a move failed, if there is one.
-pub fn report_in_hand<K: Report + Drop, V: Report + Drop>(
-    error: MoveError<K, V>,
-    words: &mut Words,
-) -> bool {
-    match error {
-        MoveError::NotTaken => {
-            words.add(0);
-            false
-        }
-        MoveError::NotStored(error) => {
-            words.add(1);
-            report_back(error, words)
-        }
-    }
-}
-
-fn append<K: Sample, A: SampleSummary<K>>(maps: &mut Maps<K, A>, words: &mut Words) -> bool {
-    match maps.here.append(&mut maps.there) {
-        Ok(()) => true,
-        Err(error) => report_in_hand(error, words),
-    }
+fn append<K: Sample, A: SampleSummary<K>>(maps: &mut Maps<K, A>) -> bool {
+    maps.here.append(&mut maps.there).is_ok()
 }
 
 /// Stores the pairs or keys that were split off.
@@ -213,7 +193,7 @@ pub fn call<K: Sample, A: SampleSummary<K>>(
 ) -> bool {
     match record.member() {
         0 => extend(alloc, &mut maps.here, record, words),
-        1 => append(maps, words),
+        1 => append(maps),
         2 => split_off(alloc, maps, record),
         3 => retain(&mut maps.here, record, words),
         4 | 6 => between(alloc, &mut maps.here, record, words),

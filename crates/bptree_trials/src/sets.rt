@@ -3,7 +3,7 @@ ghost use Rattle.std.specs.Iterator.{IsFinite};
 
 use crate::calls::{report_back, report_if_ok};
 use crate::maps::report_order;
-use crate::moving::{keep_split, report_in_hand, report_retained};
+use crate::moving::{keep_split, report_retained};
 use crate::nodes;
 use crate::record::Record;
 use crate::samples::Sample;
@@ -207,11 +207,8 @@ fn extend<K: Sample>(alloc: Global, set: &mut Set<K>, record: &Record, words: &m
     }
 }
 
-fn append<K: Sample>(sets: &mut Sets<K>, words: &mut Words) -> bool {
-    match sets.here.append(&mut sets.there) {
-        Ok(()) => true,
-        Err(error) => report_in_hand(error, words),
-    }
+fn append<K: Sample>(sets: &mut Sets<K>) -> bool {
+    sets.here.append(&mut sets.there).is_ok()
 }
 
 fn split_off<K: Sample>(alloc: Global, sets: &mut Sets<K>, record: &Record) -> bool {
@@ -256,7 +253,7 @@ fn move_keys<K: Sample>(
 ) -> bool {
     match record.member() {
         0 => extend(alloc, &mut sets.here, record, words),
-        1 => append(sets, words),
+        1 => append(sets),
         2 => split_off(alloc, sets, record),
         3 => retain(&mut sets.here, record, words),
         4 => remove_range(alloc, &mut sets.here, record, words),

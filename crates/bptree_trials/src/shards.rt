@@ -1,7 +1,6 @@
 //! A map over shards, and the functions that choose shards.
 
 use crate::calls::{report_back, report_if_ok};
-use crate::moving::report_in_hand;
 use crate::record::Record;
 use crate::samples::Sample;
 use crate::subject::{Subject, no_call};
@@ -9,7 +8,7 @@ use crate::trees::replace;
 use crate::walk::bounds;
 use crate::words::{Report, Words};
 use bptree_arguments::count::Count;
-use bptree_maps::map::{BPlusTreeMap, MoveError, SplitError};
+use bptree_maps::map::BPlusTreeMap;
 use bptree_sharded::map_shard::empty_over;
 use bptree_sharded::shard::Shard;
 use bptree_sharded::whole::Shards;
@@ -148,41 +147,10 @@ where
     fn move_bounds(&mut self, alloc: Global, record: &Record, words: &mut Words) -> bool {
         match record.member() {
             0 => self.split(alloc, record),
-            1 => report_moved(self.whole.merge(record.a as usize), words),
+            1 => self.whole.merge(record.a as usize).is_ok(),
             _ => no_call(words),
         }
     }
-}
-
-fn report_shard<S: Shard<V = u64>>(shard: &S, words: &mut Words)
-where
-    S::K: Sample,
-{
-    for place in 0..shard.len() {
-        if let Some(pair) = shard.at(place) {
-            pair.report(words);
-        }
-    }
-}
-
-// Reports why not all pairs moved. The pairs of the shard that came back are reported last.
-fn report_moved<S: Shard<V = u64>>(
-    answer: Result<(), SplitError<S, MoveError<S::K, u64>>>,
-    words: &mut Words,
-) -> bool
-where
-    S::K: Sample,
-{
-    match answer {
-        Ok(()) => return true,
-        Err(SplitError::NotMade) => words.add(0),
-        Err(SplitError::NotAll(shard, error)) => {
-            words.add(1);
-            report_in_hand(error, words);
-            report_shard(&shard, words);
-        }
-    }
-    false
 }
 
 impl Report for Part {

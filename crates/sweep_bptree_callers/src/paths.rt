@@ -25,7 +25,7 @@ pub mod of_group {
 
 pub mod of_map {
     pub use sweep_bptree::map::{
-        BPlusTreeMap, IntoIter, IntoKeys, IntoValues, Iter, Keys, MoveError, RetainError, Values,
+        AppendError, BPlusTreeMap, IntoIter, IntoKeys, IntoValues, Iter, Keys, RetainError, Values,
         law_of_from_iter, laws_of_pages,
     };
 }
@@ -43,7 +43,7 @@ pub mod of_script {
 
 pub mod of_set {
     pub use sweep_bptree::set::{
-        BPlusTreeSet, Difference, Intersection, IntoIter, Iter, MoveError, RetainError,
+        AppendError, BPlusTreeSet, Difference, Intersection, IntoIter, Iter, RetainError,
         SymmetricDifference, Union, laws_of_keys, laws_of_two_sets, laws_of_union,
     };
 }

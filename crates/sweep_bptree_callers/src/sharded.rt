@@ -235,13 +235,13 @@ fn splits_at<S: Shard>(whole: &mut Shards<S>, k: S::K) -> bool
     whole.split(k).is_ok()
 }
 
-// Two neighbours that became one have one bound fewer.
-fn merges_at<S: Shard>(whole: &mut Shards<S>, shard: usize) -> usize
+// Two neighbours that became one have one bound fewer. If they did not, nothing has changed.
+fn merges_at<S: Shard>(whole: &mut Shards<S>, shard: usize) -> bool
     requires { shard < length whole.old.bounds }
-    ensures { result ≡ length (bounds_merged S.K.cmp whole.old.bounds shard) }
+    ensures merged { result ≡ true → whole.new.bounds ≡ bounds_merged S.K.cmp whole.old.bounds shard }
+    ensures unchanged { result ≡ false → whole.new ≡ whole.old }
 {
-    let _merged = whole.merge(shard);
-    whole.bounds().len()
+    whole.merge(shard).is_ok()
 }
 
 // The last shard has no next one.

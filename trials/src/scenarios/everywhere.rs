@@ -86,10 +86,7 @@ fn reads(kind: Kind, keys: Keys) -> Vec<Record> {
 
 // Changes of one pair.
 fn changes(kind: Kind, keys: Keys) -> Vec<Record> {
-    let mut all = vec![
-        calls::insert(keys.gone, 70),
-        calls::insert(keys.here, 71),
-    ];
+    let mut all = vec![calls::insert(keys.gone, 70), calls::insert(keys.here, 71)];
     if !kind.is_set() {
         // The key in the tree has another mark.
         all.push(call(0, 9, &[keys.here]));

@@ -36,13 +36,31 @@ fn by_places() -> Vec<Step> {
     all
 }
 
-// Many pairs leave and come back; others come, and values change. Where keys take no memory, three
-// pairs leave and come back before: of 128 pairs or more they move one by one.
+// Two pairs with keys that are there and one with a new key go to three full leaves. So two values
+// change before a leaf splits, which can fail.
+fn few_added() -> Vec<Step> {
+    vec![
+        quiet(calls::new()),
+        quiet(calls::insert(0, 90)),
+        quiet(calls::insert(1, 91)),
+        quiet(calls::insert(500, 92)),
+        quiet(calls::swap()),
+        quiet(calls::load(192, 0)),
+        swept(call(8, 1, &[])),
+    ]
+}
+
+// Many pairs leave and come back; others come, and values change. Where keys take no memory, few
+// pairs come before, and three leave and come back: of 128 pairs or more they move one by one.
 fn moved(many: u64, takes_memory: bool) -> Vec<Step> {
     let first = first_to_leave(many);
     let between = [first, many, 1, LOWER | UPPER];
     let back = [first, many, u64::MAX, LOWER | UPPER];
-    let mut all = vec![quiet(calls::load(many, 0))];
+    let mut all = Vec::new();
+    if !takes_memory {
+        all.extend(few_added());
+    }
+    all.push(quiet(calls::load(many, 0)));
     if !takes_memory {
         all.push(swept(call(8, 2, &[many - 3])));
         all.push(swept(call(8, 1, &[])));

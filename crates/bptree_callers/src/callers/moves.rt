@@ -1,5 +1,5 @@
 //! Callers that move many pairs or keys at once, and one that hands a key out.
-ghost use Rattle.std.specs.Prelude.{◌≡◌, ◌≢◌, ◌-◌, ◌^◌, ◌∷◌, [], true, false, length, IfErr, IfOk, OnErr, OnOk, None, Some};
+ghost use Rattle.std.specs.Prelude.{◌≡◌, ◌≢◌, ◌+◌, ◌-◌, ◌^◌, ◌<◌, ◌≤◌, ◌∷◌, [], true, false, length, IfErr, IfOk, OnErr, OnOk, None, Some};
 ghost use Rattle.bptree_keys.specs.Contents.{has, put};
 ghost use Rattle.bptree_maps.specs.Keys.{holds, key_found};
 ghost use Rattle.bptree_tree.specs.Refusal.{pair_of};
@@ -7,17 +7,16 @@ ghost use Rattle.bptree_callers.specs.Words.{HoldsEither, KeepsOthers, MovesOne,
 
 use bptree_arguments::argument::Argument;
 use bptree_keys::key::Key;
-use bptree_maps::map::{BPlusTreeMap, MoveError};
+use bptree_maps::map::BPlusTreeMap;
 use bptree_sets::set::BPlusTreeSet;
-use bptree_tree::InsertError;
+use bptree_tree::{AppendError, InsertError};
 use std::alloc::AllocError;
 
-// One pair of another map is put here, and its value stays. Where that is refused, it is still
-// there or is handed back.
+// One pair of another map is put here, and its value stays.
 fn moves_one_pair<K: Key, V: Drop, A: Argument<K>>(
     map: &mut BPlusTreeMap<K, V, A>,
     other: &mut BPlusTreeMap<K, V, A>,
-) -> Result<(), MoveError<K, V>>
+) -> Result<(), AppendError>
     ensures moved { OnOk result (MovesOne K.cmp map.old other.old map.new other.new) }
     ensures left { OnOk result (other.new ≡ []) }
 {
@@ -36,7 +35,7 @@ fn takes_a_key<K: Key>(set: &mut BPlusTreeSet<K>, k: &K) -> Result<Option<K>, Al
 fn moves_one_key<K: Key>(
     set: &mut BPlusTreeSet<K>,
     other: &mut BPlusTreeSet<K>,
-) -> Result<(), MoveError<K, ()>>
+) -> Result<(), AppendError>
     ensures { OnOk result (MovesOneKey K.cmp set.old other.old set.new other.new) }
 {
     set.append(other)
@@ -126,19 +125,33 @@ fn append_of_no_keys<K: Key>(set: &mut BPlusTreeSet<K>, other: &mut BPlusTreeSet
     }
 }
 
-// Whether a move ended because the map, as it is left, has the most pairs. Without memory it has
-// room.
+// All of another map moves to an empty one: that never fails.
+fn append_to_nothing<K: Key, V: Drop, A: Argument<K>>(
+    map: &mut BPlusTreeMap<K, V, A>,
+    other: &mut BPlusTreeMap<K, V, A>,
+)
+    requires { map.old ≡ [] }
+    ensures there { other.new ≡ [] }
+{
+    match map.append(other) {
+        Ok(()) => {}
+        Err(_) => unreachable!(),
+    }
+}
+
+// `Full` means that both maps have too many pairs together. Without memory they do not.
 fn append_is_full<K: Key, V: Drop, A: Argument<K>>(
     map: &mut BPlusTreeMap<K, V, A>,
     other: &mut BPlusTreeMap<K, V, A>,
 ) -> Option<bool>
-    ensures full { result ≡ Some true → length map.new ≡ 2 ^ 64 - 1 }
-    ensures room { result ≡ Some false → length map.new ≢ 2 ^ 64 - 1 }
+    ensures full { result ≡ Some true → 2 ^ 64 - 1 < length map.old + length other.old }
+    ensures room { result ≡ Some false → length map.old + length other.old ≤ 2 ^ 64 - 1 }
+    ensures unchanged { result ≢ None → (map.new ≡ map.old) × (other.new ≡ other.old) }
 {
     match map.append(other) {
-        Err(MoveError::NotStored(InsertError::Full(..))) => Some(true),
-        Err(MoveError::NotStored(InsertError::OutOfMemory(..))) => Some(false),
-        _ => None,
+        Err(AppendError::Full) => Some(true),
+        Err(AppendError::OutOfMemory) => Some(false),
+        Ok(()) => None,
     }
 }
 
@@ -147,17 +160,19 @@ fn append_of_keys_is_full<K: Key>(
     set: &mut BPlusTreeSet<K>,
     other: &mut BPlusTreeSet<K>,
 ) -> Option<bool>
-    ensures full { result ≡ Some true → length set.new ≡ 2 ^ 64 - 1 }
-    ensures room { result ≡ Some false → length set.new ≢ 2 ^ 64 - 1 }
+    ensures full { result ≡ Some true → 2 ^ 64 - 1 < length set.old + length other.old }
+    ensures room { result ≡ Some false → length set.old + length other.old ≤ 2 ^ 64 - 1 }
+    ensures unchanged { result ≢ None → (set.new ≡ set.old) × (other.new ≡ other.old) }
 {
     match set.append(other) {
-        Err(MoveError::NotStored(InsertError::Full(..))) => Some(true),
-        Err(MoveError::NotStored(InsertError::OutOfMemory(..))) => Some(false),
-        _ => None,
+        Err(AppendError::Full) => Some(true),
+        Err(AppendError::OutOfMemory) => Some(false),
+        Ok(()) => None,
     }
 }
 
-// The same of the pairs that an iterator gives.
+// Whether an extension ended since the map, as it is left, has the most pairs. Without memory it has
+// room.
 fn extend_is_full<K: Key, V: Drop, A: Argument<K>>(
     map: &mut BPlusTreeMap<K, V, A>,
     pairs: Vec<(K, V)>,

@@ -1,16 +1,17 @@
 //! Many pairs at once: those of an iterator, and those of another map.
-ghost use Rattle.std.specs.Prelude.{◌≡◌, ◌++◌, [], Some, None, IsOk, IfOk, IfErr, OnErr, OnOk};
+ghost use Rattle.std.specs.Prelude.{◌≡◌, ◌↔◌, ◌⊎◌, ◌+◌, ◌<◌, [], Err, length, IsOk, IfOk, IfErr, OnErr, OnOk};
 ghost use Rattle.std.specs.Iterator.{IsFiniteIterable as AreFinite};
 ghost use Rattle.bptree_tree.specs.Changes.{IsFailureOf};
 ghost use Rattle.bptree_tree.specs.Refusal.{pair_of};
-ghost use Rattle.bptree_maps.specs.Moving.{put_pair, Moves, AllMove, Extends, ExtendsUpTo, IsMoveFailure, MovesPairs};
+ghost use Rattle.bptree_tree.specs.declared.AppendError.TheVariants.{Full};
+ghost use Rattle.bptree_bulk.specs.Weave.{put_pair};
+ghost use Rattle.bptree_maps.specs.Moving.{AllMove, Extends, ExtendsUpTo};
 ghost use Rattle.bptree_maps.specs.Splitting.{SplitsOff};
 
 use crate::map::BPlusTreeMap;
-use crate::refusals::MoveError;
 use bptree_arguments::argument::Argument;
 use bptree_keys::key::Key;
-use bptree_tree::InsertError;
+use bptree_tree::{AppendError, InsertError};
 use std::alloc::AllocError;
 
 impl<K: Key, V: Drop, A: Argument<K>> BPlusTreeMap<K, V, A> {
@@ -38,29 +39,20 @@ impl<K: Key, V: Drop, A: Argument<K>> BPlusTreeMap<K, V, A> {
         Ok(())
     }
 
-    /// Moves all pairs of another map here, one after another, as `insert` does: of two equal keys
-    /// the other map's value stays, and this map's key.
+    /// Moves all pairs of another map here. Of two equal keys this map's key stays, and it takes the
+    /// other's value.
     ///
-    /// It costs a removal and an insertion a pair. If one fails, the first pairs have moved, and
-    /// the others are still in the other map. A pair that was removed and not stored is returned in
-    /// the error. The error is `Full` if this map as it is left has `usize::MAX` pairs. If the
-    /// other map is empty, nothing fails.
-    pub fn append(&mut self, other: &mut Self) -> Result<(), MoveError<K, V>>
+    /// O(n) comparisons for n pairs of both. Before a pair moves it allocates new nodes for all of
+    /// them, clones a key of each leaf and computes summaries of the keys. If one of these fails,
+    /// neither map changes. If either map is empty, it allocates nothing and cannot fail. It returns
+    /// `Full` exactly if both together have more than `usize::MAX` pairs.
+    pub fn append(&mut self, other: &mut Self) -> Result<(), AppendError>
         ensures ok { OnOk result (AllMove (put_pair K.cmp) self.old other.old self.new other.new) }
-        ensures err { IfErr result (MovesPairs K.cmp self.old other.old self.new other.new) }
-        ensures kind { IfErr result (IsMoveFailure K.cmp usize.MAX self.new other.new) }
-        ensures empty { other.old ≡ [] → IsOk result }
+        ensures full { (result ≡ Err Full) ↔ (usize.MAX < length self.old + length other.old) }
+        ensures infallible { (self.old ≡ []) ⊎ (other.old ≡ []) → IsOk result }
+        ensures unchanged { OnErr result ((self.new ≡ self.old) × (other.new ≡ other.old)) }
     {
-        'moves: loop {
-            match other.pop_first() {
-                Ok(Some((k, v))) => match self.insert(k, v) {
-                    Ok(_) => {}
-                    Err(refusal) => return Err(MoveError::NotStored(refusal)),
-                },
-                Ok(None) => return Ok(()),
-                Err(_) => return Err(MoveError::NotTaken),
-            }
-        }
+        self.inner.append(&mut other.inner)
     }
 
     /// Moves the pairs whose key is not below `k` to a map of their own.

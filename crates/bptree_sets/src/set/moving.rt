@@ -1,18 +1,18 @@
 //! One key that is handed out or takes another's place, and many keys at once.
-ghost use Rattle.std.specs.Prelude.{◌≡◌, ◌++◌, [], false, IsOk, IsTrue, IfOk, IfErr, OnErr, OnOk, Ok, Some, None};
+ghost use Rattle.std.specs.Prelude.{◌≡◌, ◌↔◌, ◌⊎◌, ◌+◌, ◌<◌, [], false, length, Err, IsOk, IsTrue, IfOk, IfErr, OnErr, OnOk, Ok, Some, None};
 ghost use Rattle.std.specs.Iterator.{IsFiniteIterable as AreFinite};
 ghost use Rattle.std.specs.Option.{option_map};
 ghost use Rattle.bptree_tree.specs.Refusal.{pair_of};
+ghost use Rattle.bptree_tree.specs.declared.AppendError.TheVariants.{Full};
 ghost use Rattle.bptree_keys.specs.Keys.{AllInfallible};
 ghost use Rattle.bptree_maps.specs.Keys.{holds, with_key};
-ghost use Rattle.bptree_maps.specs.Moving.{Moves, AllMove, Extends, ExtendsUpTo, IsKeyMoveFailure, MovesKeys};
+ghost use Rattle.bptree_maps.specs.Moving.{AllMove, Extends, ExtendsUpTo};
 ghost use Rattle.bptree_maps.specs.Splitting.{SplitsKeysOff};
 ghost use Rattle.bptree_maps.specs.KeyChanges.{IsKeyFailureOf, ReplacesKey, TakesKey};
 
 use crate::set::BPlusTreeSet;
 use bptree_keys::key::Key;
-use bptree_maps::refusals::MoveError;
-use bptree_tree::{InsertError, ReplaceError};
+use bptree_tree::{AppendError, InsertError, ReplaceError};
 use std::alloc::AllocError;
 
 // The key of a pair, where there is one.
@@ -83,29 +83,20 @@ impl<K: Key> BPlusTreeSet<K> {
         Ok(())
     }
 
-    /// Moves all keys of another set here, one after another, as `insert` does: of two equal keys
-    /// this set's stays, and the other's is dropped.
+    /// Moves all keys of another set here. Of two equal keys this set's stays, and the other's is
+    /// dropped.
     ///
-    /// It costs a removal and an insertion a key. If one fails, the first keys have moved, and the
-    /// others are still in the other set; a key that was removed and not stored is returned in the
-    /// error. The error is `Full` if this set as it is left has `usize::MAX` keys. If the other set
-    /// is empty, nothing fails.
-    pub fn append(&mut self, other: &mut Self) -> Result<(), MoveError<K, ()>>
+    /// O(n) comparisons for n keys of both. Before a key moves it allocates new nodes for all of
+    /// them, and clones a key of each leaf. If one of these fails, neither set changes. If either set
+    /// is empty, it allocates nothing and cannot fail. It returns `Full` exactly if both together
+    /// have more than `usize::MAX` keys.
+    pub fn append(&mut self, other: &mut Self) -> Result<(), AppendError>
         ensures ok { OnOk result (AllMove (with_key K.cmp) self.old other.old self.new other.new) }
-        ensures err { IfErr result (MovesKeys K.cmp self.old other.old self.new other.new) }
-        ensures kind { IfErr result (IsKeyMoveFailure K.cmp usize.MAX self.new other.new) }
-        ensures empty { other.old ≡ [] → IsOk result }
+        ensures full { (result ≡ Err Full) ↔ (usize.MAX < length self.old + length other.old) }
+        ensures infallible { (self.old ≡ []) ⊎ (other.old ≡ []) → IsOk result }
+        ensures unchanged { OnErr result ((self.new ≡ self.old) × (other.new ≡ other.old)) }
     {
-        'moves: loop {
-            match other.pop_first() {
-                Ok(Some(k)) => match self.insert(k) {
-                    Ok(_) => {}
-                    Err(refusal) => return Err(MoveError::NotStored(refusal)),
-                },
-                Ok(None) => return Ok(()),
-                Err(_) => return Err(MoveError::NotTaken),
-            }
-        }
+        self.map.append(&mut other.map)
     }
 
     /// Moves the keys that are not below `k` to a set of their own.

@@ -1,4 +1,4 @@
-use Rattle.std.proofs.Common.{◌≡◌, ◌∙◌, ◌+◌, ◌<◌, length, arith, ap, sym}
+use Rattle.std.proofs.Common.{◌≡◌, ◌∙◌, length, arith, ap, sym}
 use Rattle.bptree_bulk.proofs.Cuts.{cut_made}
 use Rattle.bptree_bulk.proofs.Filled.{least_leaves, present_leaves}
 use Rattle.bptree_bulk.proofs.Placed.{all_pairs, is_at}

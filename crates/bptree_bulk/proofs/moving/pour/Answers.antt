@@ -2,7 +2,7 @@ use Rattle.std.proofs.Common.{◌≡◌, ◌∙◌, ◌∷◌, ◌++◌, length,
 use Rattle.std.specs.Option.{option_to_list}
 use Rattle.std.specs.Vec.Iter.{into_iter_items}
 use Rattle.bptree_building.proofs.Standing.{counted_on}
-use Rattle.bptree_bulk.proofs.Passed.{pour_one, poured_len, poured_one, rest_one}
+use Rattle.bptree_bulk.proofs.Passed.{poured_len, poured_one, rest_one}
 use Rattle.bptree_bulk.proofs.moving.pour.Goals as goal
 
 pub pour_leaf-requires : goal.pour_leaf-requires

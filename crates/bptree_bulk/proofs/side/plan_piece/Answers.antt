@@ -1,9 +1,8 @@
-use Rattle.std.proofs.Common.{◌≡◌, ◌∙◌, ◌<◌, ap, arith, subst, sym, Some}
+use Rattle.std.proofs.Common.{◌≡◌, ◌∙◌, ap, arith, subst, sym, Some}
 use Rattle.std.specs.Map.{keys_of}
 use Rattle.std.specs.Option.{option_copied}
 use Rattle.std.proofs.lemmas.Result.{IfOk-weaker}
 use Rattle.bptree_bulk.proofs.Segments.{has_first, is_some, piece, piece_len}
-use Rattle.bptree_bulk.specs.Cut.{first_key}
 use Rattle.bptree_keys.specs.Ranges.{between, part}
 use Rattle.bptree_shape.specs.Leaves.{pairs_of}
 use Rattle.bptree_bulk.proofs.side.plan_piece.Goals as goal

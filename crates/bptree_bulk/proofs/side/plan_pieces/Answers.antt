@@ -1,4 +1,4 @@
-use Rattle.std.proofs.Common.{◌≡◌, ◌+◌, ◌-◌, ◌++◌, ◌∷◌, [], List, ap, arith, drop, length, length-append, refl, subst, sym, take}
+use Rattle.std.proofs.Common.{◌≡◌, ◌+◌, ◌-◌, ◌++◌, ◌∷◌, [], ap, arith, drop, length, length-append, refl, subst, sym, take}
 use Rattle.std.proofs.lemmas.Result.{IfOk-weaker}
 use Rattle.bptree_building.specs.Rooms.{ArePlanned}
 use Rattle.bptree_bulk.proofs.Passed.{filled_two}

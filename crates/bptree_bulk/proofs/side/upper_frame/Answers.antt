@@ -1,8 +1,8 @@
-use Rattle.std.proofs.Common.{◌≡◌, ◌∙◌, ◌++◌, ◌-◌, [], ap, arith, drop, length, map, subst, sym, take}
+use Rattle.std.proofs.Common.{◌≡◌, ◌∙◌, ◌++◌, ◌-◌, [], ap, arith, drop, length, subst, sym, take}
 use Rattle.std.specs.List.{AllByRecursion}
 use Rattle.std.proofs.lemmas.List.{take_rest}
 use Rattle.std.proofs.lemmas.Result.{IfOk-weaker}
-use Rattle.bptree_building.specs.Rooms.{pairs_under, IsFilledAt, IsPresentAt}
+use Rattle.bptree_building.specs.Rooms.{IsFilledAt, IsPresentAt}
 use Rattle.bptree_bulk.specs.Cut.{pieces, upper_parts}
 use Rattle.bptree_bulk.proofs.Filled.{filled_leaves, least_leaves, present_leaves}
 use Rattle.bptree_bulk.proofs.Placed.{all_pairs}

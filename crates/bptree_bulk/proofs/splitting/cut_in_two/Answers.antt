@@ -1,4 +1,4 @@
-use Rattle.std.proofs.Common.{◌∙◌, ap, arith, drop, length, length-append, subst, sym, take}
+use Rattle.std.proofs.Common.{ap, arith, drop, length, length-append, subst, sym, take}
 use Rattle.std.proofs.lemmas.List.{take-append-drop}
 use Rattle.bptree_keys.specs.Contents.{IsAscending}
 use Rattle.bptree_shape.proofs.Ordered.{ascending_after}

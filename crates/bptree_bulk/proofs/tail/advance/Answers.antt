@@ -1,5 +1,5 @@
 use Rattle.std.proofs.Common.{◌≡◌, ◌∙◌, ◌<◌, ap, arith, length, sym}
-use Rattle.bptree_bulk.specs.Tail.{place_of}
+use Rattle.bptree_bulk.specs.Positions.{place_of}
 use Rattle.bptree_ranges.proofs.Ranged.{reached}
 use Rattle.bptree_shape.specs.Shape.{leaf_pairs, pairs_at}
 use Rattle.bptree_bulk.proofs.tail.advance.Goals as goal

@@ -1,5 +1,5 @@
 use Rattle.std.proofs.Common.{◌≡◌, ◌+◌}
-use Rattle.bptree_bulk.specs.Tail.{place_of, IsAtPair}
+use Rattle.bptree_bulk.specs.Positions.{place_of, IsAtPair}
 use Rattle.bptree_bulk.proofs.tail.advance.Given as goal
 
 abbrev pub invariant-leaves : goal.invariant-leaves

@@ -1,7 +1,7 @@
 use Rattle.std.proofs.Common.{◌≡◌, ◌∙◌, ◌++◌, ◌<◌, ap, arith, drop, length, sym}
 use Rattle.bptree_building.proofs.Standing.{drop_all}
 use Rattle.bptree_bulk.specs.Cut.{first_key}
-use Rattle.bptree_bulk.specs.Tail.{place_of}
+use Rattle.bptree_bulk.specs.Positions.{place_of}
 use Rattle.bptree_bulk.proofs.Cuts.{key_here}
 use Rattle.bptree_bulk.proofs.Tails.{from_place}
 use Rattle.bptree_shape.specs.Leaves.{pairs_of}

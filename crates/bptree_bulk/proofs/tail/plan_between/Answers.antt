@@ -4,7 +4,7 @@ use Rattle.std.specs.Option.{option_copied}
 use Rattle.std.proofs.lemmas.Result.{IfOk-weaker}
 use Rattle.bptree_bulk.proofs.Segments.{has_first, is_some, piece, piece_len}
 use Rattle.bptree_bulk.specs.Cut.{first_key}
-use Rattle.bptree_bulk.specs.Tail.{place_of}
+use Rattle.bptree_bulk.specs.Positions.{place_of}
 use Rattle.bptree_keys.specs.Ranges.{between, part}
 use Rattle.bptree_ranges.proofs.Ranged.{reached}
 use Rattle.bptree_bulk.proofs.tail.plan_between.Goals as goal

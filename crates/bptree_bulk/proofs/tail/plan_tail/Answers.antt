@@ -1,9 +1,11 @@
-use Rattle.std.proofs.Common.{◌≡◌, ◌∙◌, ◌+◌, ◌-◌, ◌∷◌, ◌++◌, ◌<◌, [], ap, arith, drop, length, length-append, subst, sym, take}
+use Rattle.std.proofs.Common.{◌≡◌, ◌+◌, ◌-◌, ◌∷◌, ◌++◌, [], ap, arith, drop, length, length-append, subst, sym, take}
 use Rattle.std.proofs.lemmas.List.{length-drop, take-append-drop}
 use Rattle.std.specs.List.{AllByRecursion}
 use Rattle.bptree_building.proofs.Standing.{drop_all}
-use Rattle.bptree_bulk.specs.Tail.{place_of, AreParts, IsEmptyLeaf, IsSize}
-use Rattle.bptree_bulk.proofs.Tails.{all_parts, by_size, part_next, sized}
+use Rattle.std.proofs.lemmas.Result.{IfOk-weaker}
+use Rattle.bptree_bulk.specs.Filling.{AreParts, IsEmptyLeaf, IsSize}
+use Rattle.bptree_bulk.specs.Positions.{place_of}
+use Rattle.bptree_bulk.proofs.Tails.{by_size, part_next, sized}
 use Rattle.bptree_keys.specs.Contents.{IsAscending}
 use Rattle.bptree_keys.specs.Ranges.{part}
 use Rattle.bptree_keys.proofs.PieceLemmas.{AllByRecursion-append}
@@ -34,17 +36,27 @@ parts-preserved g c =
       as_many = omega (arith, inv.as_many, ap length c.in_ok-push.ensures.items, length-append c.parts.rooms.items (c.in_ok-room.room ∷ []), length-append inv.parts (these ∷ []));
     }
 
-pub frame-requires : goal.frame-requires
-frame-requires g c =
+pub filling_of-requires : goal.filling_of-requires
+filling_of-requires g c =
     let tree = c.args.tree.now in
     let all = tree.contents in
     let inv = c.parts.invariant in
     let n = place_of g.S.NodeStore.slots tree c.args.at in
     let none = drop_all all (place_of g.S.NodeStore.slots tree c.parts.from) (omega (arith, inv.sum, c.parts-test.false)) in
-    let are = subst (AreParts (drop n all) inv.parts) none inv.are in
-    let long = length-drop n all in
-    let ascending = ascending_after g.met.S.K.Ord.total (take n all) (drop n all) (subst (IsAscending g.S.K.Ord.cmp) (sym (take-append-drop n all)) c.recall.ensures.ascending) in
-    (inv.parts, all_parts g.S.K.Ord.cmp g.S.Argument.Argument.is_summary (g.S.NodeStore.slots c.parts.plan.store) c.parts.plan.ids.items c.parts.plan.trees.items (drop n all) inv.parts are (omega (arith, long, c.requires.count, c.requires.some)) ascending (omega (arith, long, c.recall.ensures.fits)) inv.planned)
+    let long = length-drop n all in (
+      drop n all,
+      record {
+        parts = inv.parts;
+        are = subst (AreParts (drop n all) inv.parts) none inv.are;
+        planned = inv.planned;
+        empty = inv.empty;
+        as_many = inv.as_many;
+        count_is = omega (arith, long, c.requires.count);
+        some = c.requires.some;
+        ascending = ascending_after g.met.S.K.Ord.total (take n all) (drop n all) (subst (IsAscending g.S.K.Ord.cmp) (sym (take-append-drop n all)) c.recall.ensures.ascending);
+        few = omega (arith, c.requires.count, c.recall.ensures.fits);
+      },
+    )
 
 pub returns-clause-tail : goal.returns-clause-tail
 returns-clause-tail g c =
@@ -53,17 +65,15 @@ returns-clause-tail g c =
     let inv = c.parts.invariant in
     let n = place_of g.S.NodeStore.slots tree c.args.at in
     let none = drop_all all (place_of g.S.NodeStore.slots tree c.parts.from) (omega (arith, inv.sum, c.parts-test.false)) in
-    let are = subst (AreParts (drop n all) inv.parts) none inv.are in
     let long = length-drop n all in
-    let ascending = ascending_after g.met.S.K.Ord.total (take n all) (drop n all) (subst (IsAscending g.S.K.Ord.cmp) (sym (take-append-drop n all)) c.recall.ensures.ascending) in
-    let planned = all_parts g.S.K.Ord.cmp g.S.Argument.Argument.is_summary (g.S.NodeStore.slots c.parts.plan.store) c.parts.plan.ids.items c.parts.plan.trees.items (drop n all) inv.parts are (omega (arith, long, c.requires.count, c.requires.some)) ascending (omega (arith, long, c.recall.ensures.fits)) inv.planned in
-    record {
+    IfOk-weaker c.filling_of.result _ _ (λ _ filling. filling (drop n all) (record {
       parts = inv.parts;
-      are = are;
-      framed = c.in_ok-frame.ensures inv.parts planned;
+      are = subst (AreParts (drop n all) inv.parts) none inv.are;
+      planned = inv.planned;
       empty = inv.empty;
       as_many = inv.as_many;
-      leaves = (c.in_ok-leaves.ensures.items, c.in_ok-leaves.ensures.len, omega (arith, c.in_ok-leaves.ensures.exact, c.len.ensures, inv.as_many));
-      count = omega (arith, long, c.requires.count);
-      ascending = ascending;
-    }
+      count_is = omega (arith, long, c.requires.count);
+      some = c.requires.some;
+      ascending = ascending_after g.met.S.K.Ord.total (take n all) (drop n all) (subst (IsAscending g.S.K.Ord.cmp) (sym (take-append-drop n all)) c.recall.ensures.ascending);
+      few = omega (arith, c.requires.count, c.recall.ensures.fits);
+    })) c.filling_of.ensures.filling

@@ -1,7 +1,8 @@
 use Rattle.std.proofs.Common.{◌≡◌, ◌+◌, List, drop, length}
 use Rattle.std.specs.List.{AllByRecursion}
 use Rattle.bptree_building.specs.Rooms.{ArePlanned}
-use Rattle.bptree_bulk.specs.Tail.{place_of, AreParts, IsAtPair, IsEmptyLeaf}
+use Rattle.bptree_bulk.specs.Filling.{AreParts, IsEmptyLeaf}
+use Rattle.bptree_bulk.specs.Positions.{place_of, IsAtPair}
 use Rattle.bptree_bulk.proofs.tail.plan_tail.Given as goal
 
 abbrev pub invariant-parts : goal.invariant-parts

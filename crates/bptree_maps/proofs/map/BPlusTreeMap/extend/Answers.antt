@@ -1,5 +1,5 @@
 use Rattle.std.proofs.Common.{refl}
-use Rattle.bptree_maps.specs.Moving.{put_pair}
+use Rattle.bptree_bulk.specs.Weave.{put_pair}
 use Rattle.bptree_maps.proofs.MovingLemmas.{put_on}
 use Rattle.bptree_tree.proofs.FailureLemmas.{failure_of}
 use Rattle.bptree_maps.proofs.map.BPlusTreeMap.extend.Goals as goal

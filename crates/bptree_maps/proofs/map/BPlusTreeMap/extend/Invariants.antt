@@ -1,6 +1,6 @@
 -- The pairs that came so far are put.
 use Rattle.std.proofs.Common.{◌≡◌}
-use Rattle.bptree_maps.specs.Moving.{put_all, put_pair}
+use Rattle.bptree_bulk.specs.Weave.{put_all, put_pair}
 use Rattle.bptree_maps.proofs.map.BPlusTreeMap.extend.Given as goal
 
 abbrev pub invariant-loop-k : goal.invariant-loop-k

@@ -1,12 +1,15 @@
-use Rattle.bptree_maps.specs.Keys.{with_key}
-use Rattle.bptree_maps.proofs.MovingLemmas.{moves_on, none_left}
+use Rattle.std.proofs.Common.{◌∙◌, ap}
+use Rattle.std.proofs.lemmas.Result.{IfOk-weaker}
+use Rattle.std.specs.Map.{keys_of}
+use Rattle.bptree_bulk.specs.Weave.{put_pair}
+use Rattle.bptree_maps.specs.Moving.{AllMove}
+use Rattle.bptree_maps.proofs.MovingLemmas.{keys_put_all}
 use Rattle.bptree_sets.proofs.set.BPlusTreeSet.append.Goals as goal
 
-pub moves-preserved : goal.moves-preserved
-moves-preserved g c = moves_on (with_key g.K.Ord.cmp) c.args.self.now c.args.other.now c.moves.self c.moves.other c.pop_first.new.self c.insert.new.self c.in-Ok-Some.k c.moves.invariant (rw c.in-Ok-Some.field-0-is at c.in-Ok-Some.ensures.ok) c.in-Ok.ensures.ok.1
-
--- of an empty set no key is taken, and that does not fail
-pub returns-in-Err-clause-empty : goal.returns-in-Err-clause-empty
-returns-in-Err-clause-empty g c = λ none.
-    let never = c.in-Err.ensures.empty (none_left (with_key g.K.Ord.cmp) c.args.self.now c.args.other.now c.moves.self c.moves.other c.moves.invariant none) in
-    cc
+pub returns-clause-ok : goal.returns-clause-ok
+returns-clause-ok g c =
+    let cmp = g.K.Ord.cmp in
+    let l = c.self.inside.map in
+    let m = c.other.inside.map in
+    IfOk-weaker c.append.result (λ _. AllMove (put_pair cmp) l m c.append.new.self c.append.new.other) _
+    (λ _ ok. rw (← c.self.view_is, ← c.other.view_is) (ap keys_of ok.0 ∙ keys_put_all cmp l m, ap keys_of ok.1)) c.append.ensures.ok

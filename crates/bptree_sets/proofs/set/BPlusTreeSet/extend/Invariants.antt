@@ -1,7 +1,7 @@
 -- The keys that came so far are in.
 use Rattle.std.proofs.Common.{◌≡◌}
 use Rattle.bptree_maps.specs.Keys.{with_key}
-use Rattle.bptree_maps.specs.Moving.{put_all}
+use Rattle.bptree_bulk.specs.Weave.{put_all}
 use Rattle.bptree_sets.proofs.set.BPlusTreeSet.extend.Given as goal
 
 abbrev pub invariant-loop-k : goal.invariant-loop-k

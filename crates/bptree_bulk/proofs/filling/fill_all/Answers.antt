@@ -3,9 +3,9 @@ use Rattle.std.specs.List.{AllByRecursion}
 use Rattle.std.specs.Option.{option_to_list}
 use Rattle.std.specs.Vec.Iter.{into_iter_items}
 use Rattle.bptree_building.specs.Rooms.{parts_of}
-use Rattle.bptree_bulk.specs.Tail.{AreParts, IsEmptyLeaf, IsSize}
-use Rattle.bptree_bulk.proofs.Tails.{filled_more, next_part, no_part, IsFilling}
-use Rattle.bptree_bulk.proofs.tail.fill_all.Goals as goal
+use Rattle.bptree_bulk.specs.Filling.{AreParts, IsEmptyLeaf, IsSize}
+use Rattle.bptree_bulk.proofs.Tails.{filled_more, next_part, no_part, IsPartlyFilled}
+use Rattle.bptree_bulk.proofs.filling.fill_all.Goals as goal
 
 pub rooms-preserved : goal.rooms-preserved
 rooms-preserved g c =
@@ -26,7 +26,7 @@ rooms-preserved g c =
       room = omega (arith, inv.room, ap length rooms, c.fill_piece.ensures.len, c.fill_piece.ensures.capacity);
       filled = λ all dealt.
           let whole = parts_of c.args.leaves.now.items ++ all in
-          subst (λ l. IsFilling l whole (parts_of c.fill_piece.new.leaves.items)) (sym rest)
+          subst (λ l. IsPartlyFilled l whole (parts_of c.fill_piece.new.leaves.items)) (sym rest)
           (filled_more items whole (parts_of c.rooms.leaves.items) (parts_of c.fill_piece.new.leaves.items) c.size_of-size.result (inv.filled all dealt) size some c.fill_piece.ensures.leaves);
     }
 

@@ -3,9 +3,9 @@ use Rattle.std.specs.Prelude.{vec_capacity, vec_len}
 use Rattle.std.specs.List.{AllByRecursion}
 use Rattle.std.specs.Vec.Iter.{into_iter_items, into_iter_len}
 use Rattle.bptree_building.specs.Rooms.{parts_of}
-use Rattle.bptree_bulk.specs.Tail.{AreParts, IsEmptyLeaf}
-use Rattle.bptree_bulk.proofs.Tails.{IsFilling}
-use Rattle.bptree_bulk.proofs.tail.fill_all.Given as goal
+use Rattle.bptree_bulk.specs.Filling.{AreParts, IsEmptyLeaf}
+use Rattle.bptree_bulk.proofs.Tails.{IsPartlyFilled}
+use Rattle.bptree_bulk.proofs.filling.fill_all.Given as goal
 
 abbrev pub invariant-rooms : goal.invariant-rooms
 invariant-rooms g l = record {
@@ -15,7 +15,7 @@ invariant-rooms g l = record {
   are : AreParts (into_iter_items l.pairs) parts [];
   as_many : length (into_iter_items l.rooms) ≡ length parts;
   room : vec_len l.leaves + length (into_iter_items l.rooms) ≤ vec_capacity l.leaves;
-  filled : (all : List (List (g.row.K.Denot × g.row.V.Denot))) → AreParts (into_iter_items l.fn.pairs) all [] → IsFilling (into_iter_items l.pairs) (parts_of l.fn.leaves.items ++ all) (parts_of l.leaves.items);
+  filled : (all : List (List (g.row.K.Denot × g.row.V.Denot))) → AreParts (into_iter_items l.fn.pairs) all [] → IsPartlyFilled (into_iter_items l.pairs) (parts_of l.fn.leaves.items ++ all) (parts_of l.leaves.items);
 }
 
 abbrev pub decreases-rooms : goal.decreases-rooms

@@ -1,0 +1,53 @@
+-- Pairs that move one by one to the leaves of a new tree.
+use Rattle.std.specs.Prelude.{◌≡◌, ℕ, ◌<◌, ◌≤◌, ◌^◌, List, [], ◌∷◌, length, take, drop}
+use Rattle.std.specs.List.{AllByRecursion}
+use Rattle.std.specs.declared.alloc.Global.{Global}
+use Rattle.std.specs.declared.boxed.Box.{Box}
+use Rattle.std.specs.declared.cmp.Ordering.{Ordering}
+use Rattle.bptree_building.specs.Rooms.{ArePlanned, IsFrame}
+use Rattle.bptree_building.specs.declared.plan.Plan.{Plan}
+use Rattle.bptree_bulk.specs.Split.{HasRoomFor}
+use Rattle.bptree_bulk.specs.declared.filling.Filling.{Filling}
+use Rattle.bptree_keys.specs.Contents.{IsAscending}
+use Rattle.bptree_nodes.specs.Inner.{Inner}
+use Rattle.bptree_nodes.specs.Leaf.{Leaf}
+use Rattle.bptree_nodes.specs.Slot.{Slots}
+
+-- how many of so many pairs the next leaf takes
+pub record IsSize (left size : ℕ) : Type 0 where
+  pub all : left ≤ 64 → size ≡ left
+  pub half : 64 < left → left ≤ 128 → size ≡ 32
+  pub full : 128 < left → size ≡ 64
+
+-- the parts are the first of these pairs, each for one leaf, and the rest is behind them
+abbrev pub AreParts : {X : Type 0} → List X → List (List X) → List X → Type 0
+AreParts l [] rest = l ≡ rest
+AreParts l (p ∷ ps) rest = (n : ℕ) × IsSize (length l) n × (0 < length l) × (p ≡ take n l) × AreParts (drop n l) ps rest
+
+-- a leaf without a pair
+abbrev pub IsEmptyLeaf : {K V : Type 0} → Box (Leaf K V) Global → Type 0
+IsEmptyLeaf leaf = leaf.value.pairs ≡ []
+
+module _ {S K V A : Type 0} (cmp : K → K → Ordering) (is_summary : A → List K → Type 0) (slots : S → Slots (Inner K A) (Leaf K V)) where
+  -- a leaf is planned for each part of these pairs, which are so many, and as many empty leaves are there
+  pub record IsLaidOut (plan : Plan S K V A) (rooms : List (Box (Leaf K V) Global)) (count : ℕ) (pairs : List (K × V)) : Type 0 where
+    pub parts : List (List (K × V))
+    pub are : AreParts pairs parts []
+    pub planned : ArePlanned cmp is_summary (slots plan.store) plan.ids.items plan.trees.items parts
+    pub empty : AllByRecursion IsEmptyLeaf rooms
+    pub as_many : length rooms ≡ length parts
+    pub count_is : count ≡ length pairs
+    pub some : 0 < count
+    pub ascending : IsAscending cmp pairs
+    pub few : count < 2 ^ 64
+
+  -- everything is found to move these pairs to a tree of their own
+  pub record IsFilling (filling : Filling S K V A) (pairs : List (K × V)) : Type 0 where
+    pub parts : List (List (K × V))
+    pub are : AreParts pairs parts []
+    pub framed : IsFrame cmp is_summary (slots filling.frame.store) filling.frame.ids.items filling.frame.built parts
+    pub empty : AllByRecursion IsEmptyLeaf filling.rooms.items
+    pub as_many : length filling.rooms.items ≡ length parts
+    pub leaves : HasRoomFor (length parts) filling.leaves
+    pub count : filling.count ≡ length pairs
+    pub ascending : IsAscending cmp pairs

@@ -1,0 +1,27 @@
+-- Positions in a tree at which a pair is.
+use Rattle.std.specs.Prelude.{◌≡◌, ℕ, ◌+◌, ◌<◌, List, drop, length}
+use Rattle.bptree_keys.specs.declared.node_id.Position.{Position}
+use Rattle.bptree_nodes.specs.Inner.{Inner}
+use Rattle.bptree_nodes.specs.Leaf.{Leaf}
+use Rattle.bptree_nodes.specs.Slot.{Slots}
+use Rattle.bptree_ranges.specs.Ranges.{place_on, IsSettled}
+use Rattle.bptree_shape.specs.NodeTree.{NodeTree}
+
+module _ {S K V A : Type 0} (slots : S → Slots (Inner K A) (Leaf K V)) (tree : NodeTree S K V A) where
+  -- how many pairs are before a position
+  abbrev pub place_of : Position → ℕ
+  place_of at = place_on (slots tree.store) tree.height tree.root at
+
+  -- the pairs from a position on
+  abbrev pub rest_of : Position → List (K × V)
+  rest_of at = drop (place_of at) tree.contents
+
+  -- a pair is at the position, or it is the end of all
+  abbrev pub IsAtPair : Position → Type 0
+  IsAtPair at = IsSettled (slots tree.store) tree.height tree.root (place_of at) at
+
+  -- a position is so many pairs behind another, but for those that are missing at the end of all
+  pub record IsBehind (from : Position) (count : ℕ) (at : Position) (missing : ℕ) : Type 0 where
+    pub settled : IsAtPair at
+    pub sum : place_of at + missing ≡ place_of from + count
+    pub end : 0 < missing → place_of at ≡ length tree.contents

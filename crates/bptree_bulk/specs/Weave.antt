@@ -1,0 +1,104 @@
+-- Two lists of pairs that become one, step by step.
+use Rattle.std.specs.Prelude.{◌≡◌, Option, Some, None, List, [], ◌∷◌, ◌++◌, length, take, drop}
+use Rattle.std.specs.declared.cmp.Ordering.{Ordering}
+use Rattle.std.specs.declared.cmp.Ordering.TheVariants.{Less, Equal, Greater}
+use Rattle.bptree_bulk.specs.Filling.{IsFilling}
+use Rattle.bptree_bulk.specs.Positions.{rest_of, IsAtPair}
+use Rattle.bptree_bulk.specs.Split.{HasRoomFor}
+use Rattle.bptree_bulk.specs.declared.weaving.Places.{Places}
+use Rattle.bptree_bulk.specs.declared.weaving.Source.{Source}
+use Rattle.bptree_bulk.specs.declared.weaving.Source.TheVariants.{First, Second, Both}
+use Rattle.bptree_bulk.specs.declared.weaving.Weave.{Weave}
+use Rattle.bptree_keys.specs.Contents.{put}
+use Rattle.bptree_nodes.specs.Inner.{Inner}
+use Rattle.bptree_nodes.specs.Leaf.{Leaf}
+use Rattle.bptree_nodes.specs.Slot.{Slots}
+use Rattle.bptree_shape.specs.NodeTree.{NodeTree}
+
+-- with a pair put: its key's value is the pair's
+abbrev pub put_pair : {K V : Type 0} → (K → K → Ordering) → List (K × V) → K × V → List (K × V)
+put_pair cmp l pair = put cmp l pair.0 pair.1
+
+-- with the members of another list put, one after another
+abbrev pub put_all : {X : Type 0} → (List X → X → List X) → List X → List X → List X
+put_all put_one l [] = l
+put_all put_one l (x ∷ xs) = put_all put_one (put_one l x) xs
+
+-- where the next pair comes from, by the order of both next keys
+abbrev pub source_by : Ordering → Source
+source_by Less = First
+source_by Equal = Both
+source_by Greater = Second
+
+module _ {K V : Type 0} where
+  -- where the next pair comes from, if there is one
+  abbrev pub next_source : (K → K → Ordering) → List (K × V) → List (K × V) → Option Source
+  next_source cmp [] [] = None
+  next_source cmp [] (q ∷ b) = Some Second
+  next_source cmp (p ∷ a) [] = Some First
+  next_source cmp (p ∷ a) (q ∷ b) = Some (source_by (cmp p.0 q.0))
+
+  -- what a step leaves of the first list, and of the second
+  abbrev pub first_rest : Source → List (K × V) → List (K × V)
+  first_rest First l = drop 1 l
+  first_rest Second l = l
+  first_rest Both l = drop 1 l
+
+  abbrev pub second_rest : Source → List (K × V) → List (K × V)
+  second_rest First l = l
+  second_rest Second l = drop 1 l
+  second_rest Both l = drop 1 l
+
+  -- a key of the first list with a value of the second
+  abbrev pub with_second : List (K × V) → List (K × V) → List (K × V)
+  with_second [] b = []
+  with_second (p ∷ a) [] = []
+  with_second (p ∷ a) (q ∷ b) = (p.0, q.1) ∷ []
+
+  -- the pair of a step
+  abbrev pub step_pair : Source → List (K × V) → List (K × V) → List (K × V)
+  step_pair First a b = take 1 a
+  step_pair Second a b = take 1 b
+  step_pair Both a b = with_second a b
+
+  -- the pairs of all steps
+  abbrev pub woven : List Source → List (K × V) → List (K × V) → List (K × V)
+  woven [] a b = []
+  woven (s ∷ steps) a b = step_pair s a b ++ woven steps (first_rest s a) (second_rest s b)
+
+  -- the steps go from two lists to what is left of them
+  abbrev pub Goes : (K → K → Ordering) → List Source → List (K × V) → List (K × V) → List (K × V) → List (K × V) → Type 0
+  Goes cmp [] a b a' b' = (a ≡ a') × (b ≡ b')
+  Goes cmp (s ∷ steps) a b a' b' = (next_source cmp a b ≡ Some s) × Goes cmp steps (first_rest s a) (second_rest s b) a' b'
+
+  -- the steps take all of both lists
+  abbrev pub Weaves : (K → K → Ordering) → List Source → List (K × V) → List (K × V) → Type 0
+  Weaves cmp steps a b = Goes cmp steps a b [] []
+
+module _ {S K V A : Type 0} (slots : S → Slots (Inner K A) (Leaf K V)) (first second : NodeTree S K V A) where
+  -- a pair is at both positions, or they are the end
+  abbrev pub ArePlaces : Places → Type 0
+  ArePlaces at = IsAtPair slots first at.first × IsAtPair slots second at.second
+
+  -- the pairs from there on are these
+  abbrev pub Leaves : Places → List (K × V) → List (K × V) → Type 0
+  Leaves at a b = (rest_of slots first at.first ≡ a) × (rest_of slots second at.second ≡ b)
+
+  module _ (cmp : K → K → Ordering) where
+    -- the next pair is of this source
+    abbrev pub IsNext : Places → Source → Type 0
+    IsNext at source = next_source cmp (rest_of slots first at.first) (rest_of slots second at.second) ≡ Some source
+
+    -- so many steps lead from one to the other
+    abbrev pub Leads : List Source → Places → Places → Type 0
+    Leads steps from to = Goes cmp steps (rest_of slots first from.first) (rest_of slots second from.second) (rest_of slots first to.first) (rest_of slots second to.second)
+
+  -- the pairs of the steps from there on
+  abbrev pub woven_from : List Source → Places → List (K × V)
+  woven_from steps at = woven steps (rest_of slots first at.first) (rest_of slots second at.second)
+
+  -- everything is found to make one tree of both
+  pub record IsWeave (cmp : K → K → Ordering) (is_summary : A → List K → Type 0) (weave : Weave S K V A) : Type 0 where
+    pub weaves : Weaves cmp weave.steps.items first.contents second.contents
+    pub fills : IsFilling cmp is_summary slots weave.filling (woven weave.steps.items first.contents second.contents)
+    pub room : HasRoomFor (length weave.steps.items) weave.filling.pairs

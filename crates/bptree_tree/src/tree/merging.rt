@@ -1,0 +1,312 @@
+//! Two trees that become one.
+ghost use Rattle.std.specs.Prelude.{◌≡◌, ◌↔◌, ◌+◌, ◌<◌, ◌≤◌, ◌++◌, ◌∷◌, ◌⊎◌, ◌^◌, [], true, Err, List, Some, length, reverse, vec_capacity, vec_len, IfErr, IsOk, OnErr, OnOk};
+ghost use Rattle.bptree_ascent.specs.NodeTree.{IsWhole};
+ghost use Rattle.bptree_bulk.specs.Weave.{first_rest, next_source, put_all, put_pair, second_rest, step_pair, woven, IsWeave, Weaves};
+ghost use Rattle.bptree_keys.specs.Contents.{IsAscending};
+ghost use Rattle.bptree_keys.specs.Keys.{AllInfallible};
+ghost use Rattle.bptree_tree.specs.Undoing.{CanUndo, CanUndoAll};
+ghost use Rattle.bptree_tree.specs.declared.tree.merging.Undo.{Undo};
+ghost use Rattle.bptree_tree.specs.declared.AppendError.TheVariants.{Full};
+
+use crate::tree::{BPlusTree, IntoIter};
+use crate::{AppendError, InsertError};
+use bptree_arguments::argument::Argument;
+use bptree_bulk::filling::plant_filling;
+use bptree_bulk::tail::{plan_all, plant_tail};
+use bptree_bulk::weaving::{Source, Weave, plan_weave};
+use bptree_keys::key::Key;
+use bptree_stores::node_stores::NodeStore;
+use std::alloc::AllocError;
+use std::mem;
+
+// What takes back a pair that was put.
+#[derive(Drop)]
+enum Undo<K, V> {
+    // The pair was inserted. This key equals its key.
+    Inserted(K),
+    // The value of a present key was replaced: the key that came with the new value, and the old one.
+    Replaced(K, V),
+}
+
+// The next pair of two trees.
+fn next_pair<S: NodeStore>(
+    source: Source,
+    first: &mut IntoIter<S>,
+    second: &mut IntoIter<S>,
+) -> (S::K, S::V)
+    requires { next_source S.K.cmp first.old second.old ≡ Some source }
+    ensures pair { result ∷ [] ≡ step_pair source first.old second.old }
+    ensures first { first.new ≡ first_rest source first.old }
+    ensures second { second.new ≡ second_rest source second.old }
+{
+    match source {
+        Source::First => first.next().unwrap(),
+        Source::Second => second.next().unwrap(),
+        Source::Both => {
+            let (k, _) = first.next().unwrap();
+            let (_, v) = second.next().unwrap();
+            (k, v)
+        }
+    }
+}
+
+// Moves all pairs of two trees behind others.
+fn weave_pairs<S: NodeStore>(
+    steps: &[Source],
+    first: IntoIter<S>,
+    second: IntoIter<S>,
+    pairs: &mut Vec<(S::K, S::V)>,
+)
+    requires weaves { Weaves S.K.cmp steps.now first second }
+    requires room { vec_len pairs.old + length steps.now ≤ vec_capacity pairs.old }
+    ensures { pairs.new.items ≡ pairs.old.items ++ woven steps.now first second }
+{
+    let mut first = first;
+    let mut second = second;
+    let mut i = 0;
+    'steps: while i < steps.len() {
+        pairs.push_reserved(next_pair(steps[i], &mut first, &mut second));
+        i += 1;
+    }
+}
+
+// Moves the pairs that are left behind others, the greatest first.
+fn move_back<S: NodeStore>(rest: IntoIter<S>, pairs: &mut Vec<(S::K, S::V)>)
+    requires room { vec_len pairs.old + length rest ≤ vec_capacity pairs.old }
+    ensures moved { pairs.new.items ≡ pairs.old.items ++ reverse rest }
+    ensures len { vec_len pairs.new ≡ vec_len pairs.old + length rest }
+    ensures capacity { vec_capacity pairs.new ≡ vec_capacity pairs.old }
+{
+    let mut rest = rest;
+    'pairs: while let Some(pair) = rest.next_back() {
+        pairs.push_reserved(pair);
+    }
+}
+
+impl<S: NodeStore> BPlusTree<S> {
+    // Recalls what holds of every tree. It does nothing, in constant time, and never fails.
+    #[inline(always)]
+    fn recall_whole(&self)
+        ensures fits { length self.now.contents < 2 ^ 64 }
+        ensures ascending { IsAscending S.K.cmp self.now.contents }
+        ensures whole { IsWhole S.K.cmp S.Argument.is_summary S.slots self.now }
+    {
+        self.nodes.recall();
+    }
+
+    // Moves the pairs of two trees to the leaves that were found for them.
+    fn of_weave(first: Self, second: Self, weave: Weave<S>) -> Self
+        requires { IsWeave S.slots first second S.K.cmp S.Argument.is_summary weave }
+        ensures contents { result.contents ≡ put_all (put_pair S.K.cmp) first.contents second.contents }
+        ensures whole { IsWhole S.K.cmp S.Argument.is_summary S.slots result }
+    {
+        let Weave { steps, filling } = weave;
+        let mut filling = filling;
+        weave_pairs(
+            &steps,
+            first.into_iter(),
+            second.into_iter(),
+            &mut filling.pairs,
+        );
+        BPlusTree::of_nodes(plant_filling(filling))
+    }
+
+    // Puts a pair, and notes how to take it back. If that fails, the pair is returned.
+    fn put_noted(
+        &mut self,
+        k: S::K,
+        v: S::V,
+        undo: &mut Vec<Undo<S::K, S::V>>,
+    ) -> Result<(), (S::K, S::V)>
+        requires infallible { AllInfallible S.K.is_infallible }
+        requires room { vec_len undo.old < vec_capacity undo.old }
+        ensures whole { IsWhole S.K.cmp S.Argument.is_summary S.slots self.new }
+        ensures ok { OnOk result (self.new.contents ≡ put_pair S.K.cmp self.old.contents (k, v)) }
+        ensures noted { OnOk result ((entry : Undo S.K S.V) × (undo.new.items ≡ undo.old.items ++ entry ∷ []) × CanUndo S.K.cmp entry (k, v) self.old.contents) }
+        ensures capacity { vec_capacity undo.new ≡ vec_capacity undo.old }
+        ensures returned { IfErr result (λ pair. pair ≡ (k, v)) }
+        ensures unchanged { OnErr result ((self.new.contents ≡ self.old.contents) × (undo.new.items ≡ undo.old.items)) }
+    {
+        self.nodes.recall();
+        match self.get_mut(&k) {
+            Some(value) => {
+                let old = mem::replace(value, v);
+                undo.push_reserved(Undo::Replaced(k, old));
+                self.nodes.recall();
+                return Ok(());
+            }
+            None => {}
+        }
+        let Ok(copy) = k.clone() else { unreachable!() };
+        match self.insert(k, v) {
+            Ok(_) => {
+                undo.push_reserved(Undo::Inserted(copy));
+                Ok(())
+            }
+            Err(InsertError::OutOfMemory(k, v)) => Err((k, v)),
+            Err(InsertError::Full(k, v)) => Err((k, v)),
+        }
+    }
+
+    // Takes back the pair that was put last.
+    fn undo_last(&mut self, entry: Undo<S::K, S::V>) -> (S::K, S::V)
+        requires infallible { S.Argument.needs_no_memory × AllInfallible S.K.is_infallible }
+        requires put { (pair : S.K × S.V) × (l : List (S.K × S.V)) × IsAscending S.K.cmp l × CanUndo S.K.cmp entry pair l × (self.old.contents ≡ put_pair S.K.cmp l pair) }
+        ensures whole { IsWhole S.K.cmp S.Argument.is_summary S.slots self.new }
+        ensures pair { (pair : S.K × S.V) (l : List (S.K × S.V)) → IsAscending S.K.cmp l → CanUndo S.K.cmp entry pair l → self.old.contents ≡ put_pair S.K.cmp l pair → result ≡ pair }
+        ensures undone { (pair : S.K × S.V) (l : List (S.K × S.V)) → IsAscending S.K.cmp l → CanUndo S.K.cmp entry pair l → self.old.contents ≡ put_pair S.K.cmp l pair → self.new.contents ≡ l }
+    {
+        match entry {
+            Undo::Inserted(k) => {
+                let removed = self.remove_entry(&k).unwrap();
+                removed.unwrap()
+            }
+            Undo::Replaced(k, old) => {
+                let v = mem::replace(self.get_mut(&k).unwrap(), old);
+                self.nodes.recall();
+                (k, v)
+            }
+        }
+    }
+
+    // Takes back all pairs that were put, and moves them behind others, the last one first.
+    fn take_back(&mut self, undo: Vec<Undo<S::K, S::V>>, pairs: &mut Vec<(S::K, S::V)>)
+        requires infallible { S.Argument.needs_no_memory × AllInfallible S.K.is_infallible }
+        requires put { (moved : List (S.K × S.V)) × (l : List (S.K × S.V)) × IsAscending S.K.cmp l × CanUndoAll S.K.cmp undo.items moved l self.old.contents }
+        requires room { vec_len pairs.old + length undo.items ≤ vec_capacity pairs.old }
+        ensures whole { IsWhole S.K.cmp S.Argument.is_summary S.slots self.new }
+        ensures undone { (moved : List (S.K × S.V)) (l : List (S.K × S.V)) → IsAscending S.K.cmp l → CanUndoAll S.K.cmp undo.items moved l self.old.contents → (self.new.contents ≡ l) × (pairs.new.items ≡ pairs.old.items ++ reverse moved) }
+    {
+        let mut undo = undo;
+        'undo: while let Some(entry) = undo.pop() {
+            pairs.push_reserved(self.undo_last(entry));
+        }
+        self.nodes.recall();
+    }
+
+    // Puts the pairs that are left one by one, and notes how to take each back. It returns the pair
+    // that could not be put, if there is one.
+    fn put_each(
+        &mut self,
+        rest: &mut IntoIter<S>,
+        undo: &mut Vec<Undo<S::K, S::V>>,
+    ) -> Result<(), (S::K, S::V)>
+        requires infallible { AllInfallible S.K.is_infallible }
+        requires none { undo.old.items ≡ [] }
+        requires room { length rest.old ≤ vec_capacity undo.old }
+        ensures whole { IsWhole S.K.cmp S.Argument.is_summary S.slots self.new }
+        ensures ok { OnOk result (self.new.contents ≡ put_all (put_pair S.K.cmp) self.old.contents rest.old) }
+        ensures err { IfErr result (λ pair. (moved : List (S.K × S.V)) × (rest.old ≡ moved ++ pair ∷ rest.new) × CanUndoAll S.K.cmp undo.new.items moved self.old.contents self.new.contents × (length undo.new.items ≡ length moved)) }
+    {
+        'pairs: while let Some((k, v)) = rest.next() {
+            match self.put_noted(k, v, undo) {
+                Ok(()) => {}
+                Err(pair) => {
+                    self.recall_whole();
+                    return Err(pair);
+                }
+            }
+        }
+        self.recall_whole();
+        Ok(())
+    }
+
+    // Puts the pairs of a small tree one by one. If one fails, all are taken back.
+    fn append_few(&mut self, other: &mut Self) -> Result<(), AllocError>
+        requires infallible { S.Argument.needs_no_memory × AllInfallible S.K.is_infallible }
+        requires some { 0 < length other.old.contents }
+        ensures ok { OnOk result (self.new.contents ≡ put_all (put_pair S.K.cmp) self.old.contents other.old.contents) }
+        ensures emptied { OnOk result (other.new.contents ≡ []) }
+        ensures whole { IsWhole S.K.cmp S.Argument.is_summary S.slots self.new }
+        ensures other_whole { IsWhole S.K.cmp S.Argument.is_summary S.slots other.new }
+        ensures unchanged { OnErr result ((self.new.contents ≡ self.old.contents) × (other.new.contents ≡ other.old.contents)) }
+    {
+        self.recall_whole();
+        other.recall_whole();
+        let alloc = other.nodes.store.allocator();
+        let empty = BPlusTree::new(S::empty(alloc))?;
+        let mut undo = Vec::with_capacity(alloc, other.len())?;
+        let mut tail = plan_all(&other.nodes)?;
+        let mut rest = mem::replace(other, empty).into_iter();
+        match self.put_each(&mut rest, &mut undo) {
+            Ok(()) => Ok(()),
+            Err(pair) => {
+                move_back(rest, &mut tail.pairs);
+                tail.pairs.push_reserved(pair);
+                self.take_back(undo, &mut tail.pairs);
+                *other = BPlusTree::of_nodes(plant_tail(tail));
+                Err(AllocError)
+            }
+        }
+    }
+
+    // Whether another tree has so few pairs that they move one by one: below a sixteenth of these,
+    // where no removal can fail.
+    fn takes_few(&self, other: &Self) -> bool
+        ensures { result ≡ true → S.Argument.needs_no_memory × AllInfallible S.K.is_infallible }
+    {
+        S::K::clones_never_fail() && S::Argument::never_fails() && other.len() < self.len() / 16
+    }
+
+    /// Moves all pairs of another tree here. Of two equal keys this tree's key stays, and it takes the
+    /// other's value.
+    ///
+    /// O(n) comparisons for n pairs of both. Before a pair moves it allocates new nodes for all of
+    /// them, clones a key of each leaf and computes summaries of the keys. If one of these fails,
+    /// neither tree changes. If the other tree has fewer than a sixteenth of this one's pairs and no
+    /// removal can fail, as `clones_never_fail` and `never_fails` say, it inserts these one by one;
+    /// if one fails, it takes back those before it. If either tree is empty, it takes no memory and
+    /// cannot fail. It returns `Full` exactly if both together have more than `usize::MAX` pairs.
+    pub fn append(&mut self, other: &mut Self) -> Result<(), AppendError>
+        ensures ok { OnOk result (self.new.contents ≡ put_all (put_pair S.K.cmp) self.old.contents other.old.contents) }
+        ensures emptied { OnOk result (other.new.contents ≡ []) }
+        ensures whole { IsWhole S.K.cmp S.Argument.is_summary S.slots self.new }
+        ensures other_whole { IsWhole S.K.cmp S.Argument.is_summary S.slots other.new }
+        ensures full { (result ≡ Err Full) ↔ (usize.MAX < length self.old.contents + length other.old.contents) }
+        ensures infallible { (self.old.contents ≡ []) ⊎ (other.old.contents ≡ []) → IsOk result }
+        ensures unchanged { OnErr result ((self.new.contents ≡ self.old.contents) × (other.new.contents ≡ other.old.contents)) }
+    {
+        self.recall_whole();
+        other.recall_whole();
+        if other.is_empty() {
+            return Ok(());
+        }
+        if self.is_empty() {
+            mem::swap(self, other);
+            return Ok(());
+        }
+        if self.len() > usize::MAX - other.len() {
+            return Err(AppendError::Full);
+        }
+        let moved = if self.takes_few(other) {
+            self.append_few(other)
+        } else {
+            self.weave(other)
+        };
+        match moved {
+            Ok(()) => Ok(()),
+            Err(_) => Err(AppendError::OutOfMemory),
+        }
+    }
+
+    // The same where neither is empty, and both have no more than the greatest number of pairs.
+    fn weave(&mut self, other: &mut Self) -> Result<(), AllocError>
+        requires some { 0 < length self.old.contents }
+        requires few { length self.old.contents + length other.old.contents < 2 ^ 64 }
+        ensures ok { OnOk result (self.new.contents ≡ put_all (put_pair S.K.cmp) self.old.contents other.old.contents) }
+        ensures emptied { OnOk result (other.new.contents ≡ []) }
+        ensures whole { IsWhole S.K.cmp S.Argument.is_summary S.slots self.new }
+        ensures other_whole { IsWhole S.K.cmp S.Argument.is_summary S.slots other.new }
+        ensures unchanged { OnErr result ((self.new ≡ self.old) × (other.new ≡ other.old)) }
+    {
+        self.recall_whole();
+        other.recall_whole();
+        let spare = BPlusTree::new(S::empty(self.nodes.store.allocator()))?;
+        let empty = BPlusTree::new(S::empty(other.nodes.store.allocator()))?;
+        let weave = plan_weave(&self.nodes, &other.nodes)?;
+        let first = mem::replace(self, spare);
+        let second = mem::replace(other, empty);
+        *self = BPlusTree::of_weave(first, second, weave);
+        Ok(())
+    }
+}
