@@ -1,3 +1,4 @@
 pub mod Layer
 pub mod Steps
 pub mod Rooms
+pub mod Plans

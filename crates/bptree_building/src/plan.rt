@@ -1,9 +1,8 @@
 //! What is found for a tree before any leaf moves to it.
-ghost use Rattle.std.specs.Prelude.{◌<◌, ◌≤◌, ◌++◌, ◌∷◌, List, [], length, map, IfOk};
+ghost use Rattle.std.specs.Prelude.{◌<◌, [], length, map, OnOk};
 ghost use Rattle.std.specs.List.{AllByRecursion};
-ghost use Rattle.std.specs.Map.{keys_of};
-ghost use Rattle.bptree_ascent.specs.Change.{StartsAt};
-ghost use Rattle.bptree_building.specs.Rooms.{pairs_under, ArePlanned, AreAllPlanned, IsFilledAt, IsFrame};
+ghost use Rattle.bptree_building.specs.Plans.{Adds, AddsAny, AddsParts, FramesPlan, Plans, PlansSome};
+ghost use Rattle.bptree_building.specs.Rooms.{pairs_under, IsFilledAt};
 ghost use Rattle.bptree_keys.specs.Contents.{IsAscending};
 ghost use Rattle.bptree_nodes.specs.Slot.{IsEmpty};
 
@@ -28,7 +27,7 @@ pub struct Plan<S: NodeStore> {
 /// A plan of no leaf, in an empty store. It takes no memory.
 pub fn empty_plan<S: NodeStore>(store: S) -> Plan<S>
     requires { IsEmpty (S.slots store) }
-    ensures { ArePlanned S.K.cmp S.Argument.is_summary (S.slots result.store) result.ids.items result.trees.items [] }
+    ensures { Plans S.K.cmp S.Argument.is_summary S.slots result [] }
 {
     let alloc = store.allocator();
     Plan {
@@ -47,7 +46,7 @@ pub fn plan_part<S: NodeStore>(
     first: S::K,
     summary: S::Argument,
 ) -> Result<(), AllocError>
-    ensures { IfOk result (λ _. (parts : List (List (S.K × S.V))) (part : List (S.K × S.V)) → ArePlanned S.K.cmp S.Argument.is_summary (S.slots plan.old.store) plan.old.ids.items plan.old.trees.items parts → length part ≤ 64 → StartsAt S.K.cmp first part → S.Argument.is_summary summary (keys_of part) → ArePlanned S.K.cmp S.Argument.is_summary (S.slots plan.new.store) plan.new.ids.items plan.new.trees.items (parts ++ part ∷ [])) }
+    ensures { AddsAny S.K.cmp S.Argument.is_summary S.slots first summary plan.old plan.new result }
 {
     add_room(
         &mut plan.store,
@@ -68,7 +67,7 @@ pub fn plan_leaf<S: NodeStore>(
 ) -> Result<(), AllocError>
     requires some { 0 < length leaf.now.pairs }
     requires ascending { IsAscending S.K.cmp leaf.now.pairs }
-    ensures { IfOk result (λ _. (parts : List (List (S.K × S.V))) → ArePlanned S.K.cmp S.Argument.is_summary (S.slots plan.old.store) plan.old.ids.items plan.old.trees.items parts → ArePlanned S.K.cmp S.Argument.is_summary (S.slots plan.new.store) plan.new.ids.items plan.new.trees.items (parts ++ leaf.now.pairs ∷ [])) }
+    ensures { Adds S.K.cmp S.Argument.is_summary S.slots plan.old plan.new leaf.now.pairs result }
 {
     leaf.recall();
     let summary = S::Argument::from_leaf(leaf.keys())?;
@@ -85,7 +84,7 @@ pub fn plan_leaves<S: NodeStore>(
     ids: &[LeafNodeId],
 ) -> Result<(), AllocError>
     requires { AllByRecursion (IsFilledAt S.K.cmp (S.slots store.now)) ids.now }
-    ensures { IfOk result (λ _. (parts : List (List (S.K × S.V))) → ArePlanned S.K.cmp S.Argument.is_summary (S.slots plan.old.store) plan.old.ids.items plan.old.trees.items parts → ArePlanned S.K.cmp S.Argument.is_summary (S.slots plan.new.store) plan.new.ids.items plan.new.trees.items (parts ++ map (pairs_under (S.slots store.now)) ids.now)) }
+    ensures { OnOk result (AddsParts S.K.cmp S.Argument.is_summary S.slots plan.old plan.new (map (pairs_under (S.slots store.now)) ids.now)) }
 {
     let mut i = 0;
     'ids: while i < ids.len() {
@@ -98,8 +97,8 @@ pub fn plan_leaves<S: NodeStore>(
 
 /// A frame for the leaves that were planned, which are all of a tree.
 pub fn frame<S: NodeStore>(plan: Plan<S>) -> Result<Frame<S>, AllocError>
-    requires { (parts : List (List (S.K × S.V))) × AreAllPlanned S.K.cmp S.Argument.is_summary (S.slots plan.store) plan.ids.items plan.trees.items parts }
-    ensures { IfOk result (λ frame. (parts : List (List (S.K × S.V))) → AreAllPlanned S.K.cmp S.Argument.is_summary (S.slots plan.store) plan.ids.items plan.trees.items parts → IsFrame S.K.cmp S.Argument.is_summary (S.slots frame.store) frame.ids.items frame.built parts) }
+    requires { PlansSome S.K.cmp S.Argument.is_summary S.slots plan }
+    ensures { FramesPlan S.K.cmp S.Argument.is_summary S.slots plan result }
 {
     let Plan {
         mut store,

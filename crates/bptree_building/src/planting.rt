@@ -1,6 +1,7 @@
 //! Leaves that come to stand below a tree that is whole but for them.
 ghost use Rattle.std.specs.Prelude.{◌≡◌, length, slice_get};
 ghost use Rattle.bptree_building.specs.Layer.{Builds};
+ghost use Rattle.bptree_building.specs.Plans.{Frames};
 ghost use Rattle.bptree_building.specs.Rooms.{joined, parts_of, IsFrame, IsPlanted};
 ghost use Rattle.bptree_keys.specs.Contents.{IsAscending};
 ghost use Rattle.bptree_nodes.specs.Slot.{Held};
@@ -79,7 +80,7 @@ pub fn plant<S: NodeStore>(
     leaves: Vec<Box<LeafNode<S::K, S::V>>>,
     len: usize,
 ) -> Nodes<S>
-    requires framed { IsFrame S.K.cmp S.Argument.is_summary (S.slots frame.store) frame.ids.items frame.built (parts_of leaves.items) }
+    requires framed { Frames S.K.cmp S.Argument.is_summary S.slots frame (parts_of leaves.items) }
     requires ascending { IsAscending S.K.cmp (joined (parts_of leaves.items)) }
     requires len { len ≡ length (joined (parts_of leaves.items)) }
     ensures contents { result.contents ≡ joined (parts_of leaves.items) }

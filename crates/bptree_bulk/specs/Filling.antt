@@ -1,17 +1,20 @@
 -- Pairs that move one by one to the leaves of a new tree.
-use Rattle.std.specs.Prelude.{◌≡◌, ℕ, ◌<◌, ◌≤◌, ◌^◌, List, [], ◌∷◌, length, take, drop}
+use Rattle.std.specs.Prelude.{◌≡◌, ℕ, ◌<◌, ◌≤◌, ◌^◌, ◌++◌, List, [], ◌∷◌, length, take, drop, Result, IfOk}
 use Rattle.std.specs.List.{AllByRecursion}
 use Rattle.std.specs.declared.alloc.Global.{Global}
 use Rattle.std.specs.declared.boxed.Box.{Box}
 use Rattle.std.specs.declared.cmp.Ordering.{Ordering}
-use Rattle.bptree_building.specs.Rooms.{ArePlanned, IsFrame}
+use Rattle.bptree_building.specs.Rooms.{parts_of, ArePlanned, IsFrame}
 use Rattle.bptree_building.specs.declared.plan.Plan.{Plan}
+use Rattle.bptree_bulk.specs.Positions.{rest_of}
 use Rattle.bptree_bulk.specs.Split.{HasRoomFor}
 use Rattle.bptree_bulk.specs.declared.filling.Filling.{Filling}
 use Rattle.bptree_keys.specs.Contents.{IsAscending}
+use Rattle.bptree_keys.specs.declared.node_id.Position.{Position}
 use Rattle.bptree_nodes.specs.Inner.{Inner}
 use Rattle.bptree_nodes.specs.Leaf.{Leaf}
 use Rattle.bptree_nodes.specs.Slot.{Slots}
+use Rattle.bptree_shape.specs.NodeTree.{NodeTree}
 
 -- how many of so many pairs the next leaf takes
 pub record IsSize (left size : ℕ) : Type 0 where
@@ -27,6 +30,14 @@ AreParts l (p ∷ ps) rest = (n : ℕ) × IsSize (length l) n × (0 < length l) 
 -- a leaf without a pair
 abbrev pub IsEmptyLeaf : {K V : Type 0} → Box (Leaf K V) Global → Type 0
 IsEmptyLeaf leaf = leaf.value.pairs ≡ []
+
+-- an empty leaf is there for each part of these pairs
+abbrev pub HaveRooms : {K V : Type 0} → List (K × V) → List (Box (Leaf K V) Global) → Type 0
+HaveRooms {K} {V} pairs rooms = (parts : List (List (K × V))) × AreParts pairs parts [] × (length rooms ≡ length parts)
+
+-- leaves of the parts of these pairs come behind others
+abbrev pub TakeParts : {K V : Type 0} → List (K × V) → List (Box (Leaf K V) Global) → List (Box (Leaf K V) Global) → Type 0
+TakeParts {K} {V} pairs old new = (parts : List (List (K × V))) → AreParts pairs parts [] → parts_of new ≡ parts_of old ++ parts
 
 module _ {S K V A : Type 0} (cmp : K → K → Ordering) (is_summary : A → List K → Type 0) (slots : S → Slots (Inner K A) (Leaf K V)) where
   -- a leaf is planned for each part of these pairs, which are so many, and as many empty leaves are there
@@ -51,3 +62,19 @@ module _ {S K V A : Type 0} (cmp : K → K → Ordering) (is_summary : A → Lis
     pub leaves : HasRoomFor (length parts) filling.leaves
     pub count : filling.count ≡ length pairs
     pub ascending : IsAscending cmp pairs
+
+  -- the leaves of a plan are for some pairs, which are so many
+  abbrev pub AreLaidOut : Plan S K V A → List (Box (Leaf K V) Global) → ℕ → Type 0
+  AreLaidOut plan rooms count = (pairs : List (K × V)) × IsLaidOut plan rooms count pairs
+
+  -- a call that succeeded finds everything to move the pairs that the leaves of a plan are for
+  abbrev pub Fills : {E : Type 0} → Plan S K V A → List (Box (Leaf K V) Global) → ℕ → Result (Filling S K V A) E → Type 0
+  Fills plan rooms count result = IfOk result (λ filling. (pairs : List (K × V)) → IsLaidOut plan rooms count pairs → IsFilling filling pairs)
+
+  module _ (tree : NodeTree S K V A) where
+    -- the pairs that move are those of a tree from a position on, or all of them
+    abbrev pub FillsFrom : Position → Filling S K V A → Type 0
+    FillsFrom at filling = IsFilling filling (rest_of slots tree at)
+
+    abbrev pub FillsAll : Filling S K V A → Type 0
+    FillsAll filling = IsFilling filling tree.contents

@@ -1,10 +1,13 @@
 -- Positions in a tree at which a pair is.
-use Rattle.std.specs.Prelude.{◌≡◌, ℕ, ◌+◌, ◌<◌, List, drop, length}
+use Rattle.std.specs.Prelude.{◌≡◌, ℕ, ◌+◌, ◌-◌, ◌<◌, ◌++◌, List, drop, length}
+use Rattle.bptree_keys.specs.Ranges.{part}
+use Rattle.bptree_keys.specs.declared.node_id.LeafNodeId.{LeafNodeId}
 use Rattle.bptree_keys.specs.declared.node_id.Position.{Position}
 use Rattle.bptree_nodes.specs.Inner.{Inner}
 use Rattle.bptree_nodes.specs.Leaf.{Leaf}
 use Rattle.bptree_nodes.specs.Slot.{Slots}
 use Rattle.bptree_ranges.specs.Ranges.{place_on, IsSettled}
+use Rattle.bptree_shape.specs.Leaves.{pairs_of}
 use Rattle.bptree_shape.specs.NodeTree.{NodeTree}
 
 module _ {S K V A : Type 0} (slots : S → Slots (Inner K A) (Leaf K V)) (tree : NodeTree S K V A) where
@@ -19,6 +22,22 @@ module _ {S K V A : Type 0} (slots : S → Slots (Inner K A) (Leaf K V)) (tree :
   -- a pair is at the position, or it is the end of all
   abbrev pub IsAtPair : Position → Type 0
   IsAtPair at = IsSettled (slots tree.store) tree.height tree.root (place_of at) at
+
+  -- pairs are before a position, and one is at it or behind it
+  abbrev pub IsInside : Position → Type 0
+  IsInside at = (0 < place_of at) × (place_of at < length tree.contents)
+
+  -- the pairs from one position up to another
+  abbrev pub part_to : Position → Position → List (K × V)
+  part_to from to = part tree.contents (place_of from) (place_of to - place_of from)
+
+  -- so many pairs are from a position on
+  abbrev pub IsRest : Position → ℕ → Type 0
+  IsRest at count = place_of at + count ≡ length tree.contents
+
+  -- the pairs of these leaves are the last ones
+  abbrev pub AreLast : List LeafNodeId → Type 0
+  AreLast ids = (before : List (K × V)) × (tree.contents ≡ before ++ pairs_of (slots tree.store) ids)
 
   -- a position is so many pairs behind another, but for those that are missing at the end of all
   pub record IsBehind (from : Position) (count : ℕ) (at : Position) (missing : ℕ) : Type 0 where

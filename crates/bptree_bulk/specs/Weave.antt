@@ -1,6 +1,7 @@
 -- Two lists of pairs that become one, step by step.
 use Rattle.std.specs.Prelude.{◌≡◌, Option, Some, None, List, [], ◌∷◌, ◌++◌, length, take, drop}
 use Rattle.std.specs.declared.cmp.Ordering.{Ordering}
+use Rattle.std.specs.declared.vec.Vec.{Vec}
 use Rattle.std.specs.declared.cmp.Ordering.TheVariants.{Less, Equal, Greater}
 use Rattle.bptree_bulk.specs.Filling.{IsFilling}
 use Rattle.bptree_bulk.specs.Positions.{rest_of, IsAtPair}
@@ -9,7 +10,7 @@ use Rattle.bptree_bulk.specs.declared.weaving.Places.{Places}
 use Rattle.bptree_bulk.specs.declared.weaving.Source.{Source}
 use Rattle.bptree_bulk.specs.declared.weaving.Source.TheVariants.{First, Second, Both}
 use Rattle.bptree_bulk.specs.declared.weaving.Weave.{Weave}
-use Rattle.bptree_keys.specs.Contents.{put}
+use Rattle.bptree_keys.specs.Contents.{put, IsAscending}
 use Rattle.bptree_nodes.specs.Inner.{Inner}
 use Rattle.bptree_nodes.specs.Leaf.{Leaf}
 use Rattle.bptree_nodes.specs.Slot.{Slots}
@@ -85,17 +86,37 @@ module _ {S K V A : Type 0} (slots : S → Slots (Inner K A) (Leaf K V)) (first 
   Leaves at a b = (rest_of slots first at.first ≡ a) × (rest_of slots second at.second ≡ b)
 
   module _ (cmp : K → K → Ordering) where
+    -- where the next pair comes from, if there is one
+    abbrev pub next_from : Places → Option Source
+    next_from at = next_source cmp (rest_of slots first at.first) (rest_of slots second at.second)
+
     -- the next pair is of this source
     abbrev pub IsNext : Places → Source → Type 0
-    IsNext at source = next_source cmp (rest_of slots first at.first) (rest_of slots second at.second) ≡ Some source
+    IsNext at source = next_from at ≡ Some source
 
     -- so many steps lead from one to the other
     abbrev pub Leads : List Source → Places → Places → Type 0
     Leads steps from to = Goes cmp steps (rest_of slots first from.first) (rest_of slots second from.second) (rest_of slots first to.first) (rest_of slots second to.second)
 
+    -- so many steps lead somewhere
+    abbrev pub LeadsOn : List Source → Places → Type 0
+    LeadsOn steps from = (to : List (K × V) × List (K × V)) × Goes cmp steps (rest_of slots first from.first) (rest_of slots second from.second) to.0 to.1
+
+    -- the steps take all pairs of both
+    abbrev pub WeavesAll : {Z : Type 0} → Vec Source Z → Type 0
+    WeavesAll steps = Weaves cmp steps.items first.contents second.contents
+
+  -- the pair of a step there
+  abbrev pub pair_from : Source → Places → List (K × V)
+  pair_from source at = step_pair source (rest_of slots first at.first) (rest_of slots second at.second)
+
   -- the pairs of the steps from there on
   abbrev pub woven_from : List Source → Places → List (K × V)
   woven_from steps at = woven steps (rest_of slots first at.first) (rest_of slots second at.second)
+
+  -- their keys ascend
+  abbrev pub AscendsFrom : (K → K → Ordering) → List Source → Places → Type 0
+  AscendsFrom cmp steps at = IsAscending cmp (woven_from steps at)
 
   -- everything is found to make one tree of both
   pub record IsWeave (cmp : K → K → Ordering) (is_summary : A → List K → Type 0) (weave : Weave S K V A) : Type 0 where

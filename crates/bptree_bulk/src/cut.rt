@@ -4,7 +4,9 @@ ghost use Rattle.std.specs.List.{AllByRecursion};
 ghost use Rattle.std.specs.Option.{option_copied};
 ghost use Rattle.bptree_building.specs.Rooms.{IsPresentAt};
 ghost use Rattle.bptree_bulk.specs.Cut.{cut_at, first_key, BeginsBorder, EndsBorder, IsCut, IsHalf};
-ghost use Rattle.bptree_ranges.specs.Ranges.{ahead, place_on, IsPlaceOn};
+ghost use Rattle.bptree_bulk.specs.Positions.{place_of, IsInside};
+ghost use Rattle.bptree_ranges.specs.InTree.{HasPlace};
+ghost use Rattle.bptree_ranges.specs.Ranges.{ahead};
 ghost use Rattle.bptree_shape.specs.Leaves.{pairs_of, StandsIn};
 ghost use Rattle.bptree_shape.specs.Shape.{leaves_at};
 
@@ -104,10 +106,10 @@ fn leaf_behind<S: NodeStore>(store: &S, ids: &[LeafNodeId], i: usize) -> (usize,
 /// O(n / 32) for n pairs. It takes no memory and cannot fail.
 pub(crate) fn cut_before<S: NodeStore>(tree: &Nodes<S>, ids: &[LeafNodeId], at: Position) -> Cut
     requires ids { ids.now ≡ leaves_at (S.slots tree.now.store) tree.now.height tree.now.root }
-    requires place { IsPlaceOn (S.slots tree.now.store) tree.now.height tree.now.root at.leaf at.slot }
-    requires inside { (0 < place_on (S.slots tree.now.store) tree.now.height tree.now.root at) × (place_on (S.slots tree.now.store) tree.now.height tree.now.root at < length tree.now.contents) }
+    requires place { HasPlace S.slots tree.now at }
+    requires inside { IsInside S.slots tree.now at }
     ensures cut { IsCut (S.slots tree.now.store) ids.now result }
-    ensures place { cut_at (S.slots tree.now.store) ids.now result ≡ place_on (S.slots tree.now.store) tree.now.height tree.now.root at }
+    ensures place { cut_at (S.slots tree.now.store) ids.now result ≡ place_of S.slots tree.now at }
 {
     tree.recall();
     let here = tree.store.get_leaf(at.leaf).len();

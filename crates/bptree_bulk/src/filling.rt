@@ -1,9 +1,8 @@
 //! Pairs that move one by one to the leaves of a new tree.
-ghost use Rattle.std.specs.Prelude.{◌≡◌, ◌+◌, ◌≤◌, ◌++◌, [], List, length, vec_capacity, vec_len, IfOk};
+ghost use Rattle.std.specs.Prelude.{◌≡◌, ◌+◌, ◌≤◌, length, vec_capacity, vec_len, IfOk};
 ghost use Rattle.std.specs.List.{AllByRecursion};
 ghost use Rattle.std.specs.Vec.Iter.{into_iter_items, into_iter_len};
-ghost use Rattle.bptree_building.specs.Rooms.{parts_of};
-ghost use Rattle.bptree_bulk.specs.Filling.{AreParts, IsEmptyLeaf, IsFilling, IsLaidOut, IsSize};
+ghost use Rattle.bptree_bulk.specs.Filling.{AreLaidOut, Fills, HaveRooms, IsEmptyLeaf, IsFilling, IsSize, TakeParts};
 ghost use Rattle.bptree_bulk.specs.Split.{HasRoomFor};
 ghost use Rattle.bptree_shape.specs.NodeTree.{IsWhole};
 
@@ -51,8 +50,8 @@ pub(crate) fn filling_of<S: NodeStore>(
     rooms: Vec<Box<LeafNode<S::K, S::V>>>,
     count: usize,
 ) -> Result<Filling<S>, AllocError>
-    requires { (pairs : List (S.K × S.V)) × IsLaidOut S.K.cmp S.Argument.is_summary S.slots plan rooms.items count pairs }
-    ensures filling { IfOk result (λ filling. (pairs : List (S.K × S.V)) → IsLaidOut S.K.cmp S.Argument.is_summary S.slots plan rooms.items count pairs → IsFilling S.K.cmp S.Argument.is_summary S.slots filling pairs) }
+    requires { AreLaidOut S.K.cmp S.Argument.is_summary S.slots plan rooms.items count }
+    ensures filling { Fills S.K.cmp S.Argument.is_summary S.slots plan rooms.items count result }
     ensures room { IfOk result (λ filling. HasRoomFor filling.count filling.pairs) }
 {
     let alloc = plan.store.allocator();
@@ -76,9 +75,9 @@ fn fill_all<K: Key, V: Drop>(
 )
     requires counted { into_iter_len pairs ≡ length (into_iter_items pairs) }
     requires empty { AllByRecursion IsEmptyLeaf (into_iter_items rooms) }
-    requires parts { (parts : List (List (K × V))) × AreParts (into_iter_items pairs) parts [] × (length (into_iter_items rooms) ≡ length parts) }
+    requires parts { HaveRooms (into_iter_items pairs) (into_iter_items rooms) }
     requires room { vec_len leaves.old + length (into_iter_items rooms) ≤ vec_capacity leaves.old }
-    ensures { (parts : List (List (K × V))) → AreParts (into_iter_items pairs) parts [] → parts_of leaves.new.items ≡ parts_of leaves.old.items ++ parts }
+    ensures { TakeParts (into_iter_items pairs) leaves.old.items leaves.new.items }
 {
     let mut pairs = pairs;
     let mut rooms = rooms;

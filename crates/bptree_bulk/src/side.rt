@@ -1,8 +1,11 @@
 //! What is found for one side of a cut while the tree is only read.
-ghost use Rattle.std.specs.Prelude.{◌≡◌, ◌+◌, ◌<◌, ◌≤◌, ◌++◌, ◌∷◌, [], List, length, IfOk};
+ghost use Rattle.std.specs.Prelude.{◌≡◌, ◌+◌, ◌<◌, ◌≤◌, length, IfOk, OnOk};
 ghost use Rattle.std.specs.List.{AllByRecursion};
-ghost use Rattle.bptree_building.specs.Rooms.{ArePlanned, IsFrame, IsPresentAt};
-ghost use Rattle.bptree_bulk.specs.Cut.{from_cut, lower_parts, pieces, upper_parts, IsCut, IsHalf};
+ghost use Rattle.bptree_building.specs.Plans.{Adds, AddsParts};
+ghost use Rattle.bptree_building.specs.Rooms.{IsPresentAt};
+ghost use Rattle.bptree_bulk.specs.Cut.{pieces, IsCut, IsHalf};
+ghost use Rattle.bptree_bulk.specs.Positions.{AreLast};
+ghost use Rattle.bptree_bulk.specs.Split.{FramesLower, FramesUpper};
 ghost use Rattle.bptree_keys.specs.Ranges.{part};
 ghost use Rattle.bptree_shape.specs.Leaves.{pairs_of};
 ghost use Rattle.bptree_shape.specs.Shape.{leaves_at};
@@ -25,9 +28,10 @@ fn plan_piece<S: NodeStore>(
     count: usize,
 ) -> Result<(), AllocError>
     requires present { AllByRecursion (IsPresentAt (S.slots tree.now.store)) ids.now }
-    requires last { (before : List (S.K × S.V)) × (tree.now.contents ≡ before ++ pairs_of (S.slots tree.now.store) ids.now) }
-    requires count { (0 < count) × (count ≤ 64) × (from + count ≤ length (pairs_of (S.slots tree.now.store) ids.now)) }
-    ensures { IfOk result (λ _. (parts : List (List (S.K × S.V))) → ArePlanned S.K.cmp S.Argument.is_summary (S.slots plan.old.store) plan.old.ids.items plan.old.trees.items parts → ArePlanned S.K.cmp S.Argument.is_summary (S.slots plan.new.store) plan.new.ids.items plan.new.trees.items (parts ++ part (pairs_of (S.slots tree.now.store) ids.now) from count ∷ [])) }
+    requires last { AreLast S.slots tree.now ids.now }
+    requires count { (0 < count) × (count ≤ 64) }
+    requires within { from + count ≤ length (pairs_of (S.slots tree.now.store) ids.now) }
+    ensures { Adds S.K.cmp S.Argument.is_summary S.slots plan.old plan.new (part (pairs_of (S.slots tree.now.store) ids.now) from count) result }
 {
     tree.recall();
     let first = key_at(&tree.store, ids, from).unwrap();
@@ -47,10 +51,11 @@ fn plan_pieces<S: NodeStore>(
     half: usize,
 ) -> Result<(), AllocError>
     requires present { AllByRecursion (IsPresentAt (S.slots tree.now.store)) ids.now }
-    requires last { (before : List (S.K × S.V)) × (tree.now.contents ≡ before ++ pairs_of (S.slots tree.now.store) ids.now) }
-    requires count { (0 < count) × (from + count ≤ length (pairs_of (S.slots tree.now.store) ids.now)) }
+    requires last { AreLast S.slots tree.now ids.now }
+    requires count { 0 < count }
+    requires within { from + count ≤ length (pairs_of (S.slots tree.now.store) ids.now) }
     requires half { IsHalf count half }
-    ensures { IfOk result (λ _. (parts : List (List (S.K × S.V))) → ArePlanned S.K.cmp S.Argument.is_summary (S.slots plan.old.store) plan.old.ids.items plan.old.trees.items parts → ArePlanned S.K.cmp S.Argument.is_summary (S.slots plan.new.store) plan.new.ids.items plan.new.trees.items (parts ++ pieces half (part (pairs_of (S.slots tree.now.store) ids.now) from count))) }
+    ensures { OnOk result (AddsParts S.K.cmp S.Argument.is_summary S.slots plan.old plan.new (pieces half (part (pairs_of (S.slots tree.now.store) ids.now) from count))) }
 {
     tree.recall();
     if half == 0 {
@@ -71,7 +76,7 @@ pub(crate) fn lower_frame<S: NodeStore>(
 ) -> Result<Frame<S>, AllocError>
     requires ids { ids.now ≡ leaves_at (S.slots tree.now.store) tree.now.height tree.now.root }
     requires cut { IsCut (S.slots tree.now.store) ids.now cut }
-    ensures { IfOk result (λ frame. IsFrame S.K.cmp S.Argument.is_summary (S.slots frame.store) frame.ids.items frame.built (lower_parts (S.slots tree.now.store) ids.now cut)) }
+    ensures { IfOk result (FramesLower S.K.cmp S.Argument.is_summary S.slots tree.now ids.now cut) }
 {
     tree.recall();
     let mut plan = empty_plan(S::empty(tree.store.allocator()));
@@ -95,7 +100,7 @@ pub(crate) fn upper_frame<S: NodeStore>(
 ) -> Result<Frame<S>, AllocError>
     requires ids { ids.now ≡ leaves_at (S.slots tree.now.store) tree.now.height tree.now.root }
     requires cut { IsCut (S.slots tree.now.store) ids.now cut }
-    ensures { IfOk result (λ frame. IsFrame S.K.cmp S.Argument.is_summary (S.slots frame.store) frame.ids.items frame.built (upper_parts (S.slots tree.now.store) ids.now cut)) }
+    ensures { IfOk result (FramesUpper S.K.cmp S.Argument.is_summary S.slots tree.now ids.now cut) }
 {
     tree.recall();
     let mut plan = empty_plan(S::empty(tree.store.allocator()));

@@ -1,10 +1,9 @@
 //! A tree that is cut in two.
-ghost use Rattle.std.specs.Prelude.{IsTrue, ◌↔◌, ◌≡◌, ◌<◌, ◌+◌, ◌^◌, ℕ, List, length, take, drop, IfOk};
+ghost use Rattle.std.specs.Prelude.{IsTrue, ◌↔◌, ◌≡◌, ◌<◌, ◌+◌, ◌^◌, length, IfOk};
 ghost use Rattle.bptree_bulk.specs.Cutting.{IsCutting};
-ghost use Rattle.bptree_bulk.specs.Split.{HasRoom, IsReady, IsSplit};
-ghost use Rattle.bptree_keys.specs.Contents.{IsAscending};
+ghost use Rattle.bptree_bulk.specs.Positions.{place_of};
+ghost use Rattle.bptree_bulk.specs.Split.{AreLower, AreUpper, CanStand, HasPairs, HasRoom, IsSplitAt, IsSplitSomewhere, ReadiesLower, ReadiesUpper};
 ghost use Rattle.bptree_ranges.specs.InTree.{HasPlace, StartsAt};
-ghost use Rattle.bptree_ranges.specs.Ranges.{place_on, IsPlaceOn};
 ghost use Rattle.bptree_shape.specs.NodeTree.{IsWhole};
 
 use crate::cut::{Cut, cut_before};
@@ -66,10 +65,10 @@ fn side_of<S: NodeStore>(frame: Frame<S>, count: usize) -> Result<Side<S>, Alloc
 /// O(n / 32) for n pairs. It clones the first key of each leaf and computes a summary of its keys,
 /// and fails where one of these or an allocation fails.
 pub fn plan_split<S: NodeStore>(tree: &Nodes<S>, at: Position) -> Result<Split<S>, AllocError>
-    requires place { IsPlaceOn (S.slots tree.now.store) tree.now.height tree.now.root at.leaf at.slot }
-    requires first { 0 < place_on (S.slots tree.now.store) tree.now.height tree.now.root at }
-    requires last { place_on (S.slots tree.now.store) tree.now.height tree.now.root at < length tree.now.contents }
-    ensures { IfOk result (IsSplit S.K.cmp S.Argument.is_summary S.slots tree.now (place_on (S.slots tree.now.store) tree.now.height tree.now.root at)) }
+    requires place { HasPlace S.slots tree.now at }
+    requires first { 0 < place_of S.slots tree.now at }
+    requires last { place_of S.slots tree.now at < length tree.now.contents }
+    ensures { IfOk result (IsSplitAt S.K.cmp S.Argument.is_summary S.slots tree.now at) }
 {
     let ids = leaf_ids(tree)?;
     let cut = cut_before(tree, &ids, at);
@@ -97,9 +96,9 @@ struct Ready<S: NodeStore> {
 
 // Moves all leaves out of a tree, and gives each side its own.
 fn deal<S: NodeStore>(tree: Nodes<S>, split: Split<S>) -> (Ready<S>, Ready<S>)
-    requires { (n : ℕ) × IsSplit S.K.cmp S.Argument.is_summary S.slots tree n split }
-    ensures lower { (n : ℕ) → IsSplit S.K.cmp S.Argument.is_summary S.slots tree n split → IsReady S.K.cmp S.Argument.is_summary S.slots result.0 (take n tree.contents) }
-    ensures upper { (n : ℕ) → IsSplit S.K.cmp S.Argument.is_summary S.slots tree n split → IsReady S.K.cmp S.Argument.is_summary S.slots result.1 (drop n tree.contents) }
+    requires { IsSplitSomewhere S.K.cmp S.Argument.is_summary S.slots tree split }
+    ensures lower { ReadiesLower S.K.cmp S.Argument.is_summary S.slots tree split result.0 }
+    ensures upper { ReadiesUpper S.K.cmp S.Argument.is_summary S.slots tree split result.1 }
 {
     tree.recall();
     let Split {
@@ -141,8 +140,8 @@ fn deal<S: NodeStore>(tree: Nodes<S>, split: Split<S>) -> (Ready<S>, Ready<S>)
 
 // The tree of a frame with its leaves.
 fn stand<S: NodeStore>(ready: Ready<S>) -> Nodes<S>
-    requires { (pairs : List (S.K × S.V)) × IsReady S.K.cmp S.Argument.is_summary S.slots ready pairs × IsAscending S.K.cmp pairs × (length pairs < 2 ^ 64) }
-    ensures contents { (pairs : List (S.K × S.V)) → IsReady S.K.cmp S.Argument.is_summary S.slots ready pairs → result.contents ≡ pairs }
+    requires { CanStand S.K.cmp S.Argument.is_summary S.slots ready }
+    ensures contents { HasPairs S.K.cmp S.Argument.is_summary S.slots ready result.contents }
     ensures whole { IsWhole S.K.cmp S.Argument.is_summary S.slots result }
 {
     let len = pairs_in(&ready.leaves);
@@ -154,9 +153,9 @@ fn stand<S: NodeStore>(ready: Ready<S>) -> Nodes<S>
 /// O(n / 32) for n pairs: only the pairs of three leaves move to other leaves. It takes no memory
 /// and cannot fail.
 pub fn cut_in_two<S: NodeStore>(tree: Nodes<S>, split: Split<S>) -> (Nodes<S>, Nodes<S>)
-    requires { (n : ℕ) × IsSplit S.K.cmp S.Argument.is_summary S.slots tree n split }
-    ensures lower { (n : ℕ) → IsSplit S.K.cmp S.Argument.is_summary S.slots tree n split → result.0.contents ≡ take n tree.contents }
-    ensures upper { (n : ℕ) → IsSplit S.K.cmp S.Argument.is_summary S.slots tree n split → result.1.contents ≡ drop n tree.contents }
+    requires { IsSplitSomewhere S.K.cmp S.Argument.is_summary S.slots tree split }
+    ensures lower { AreLower S.K.cmp S.Argument.is_summary S.slots tree split result.0.contents }
+    ensures upper { AreUpper S.K.cmp S.Argument.is_summary S.slots tree split result.1.contents }
     ensures lower_whole { IsWhole S.K.cmp S.Argument.is_summary S.slots result.0 }
     ensures upper_whole { IsWhole S.K.cmp S.Argument.is_summary S.slots result.1 }
 {

@@ -1,13 +1,12 @@
 //! The last pairs of a tree, which move one by one to a tree of their own.
-ghost use Rattle.std.specs.Prelude.{◌≡◌, ◌+◌, ◌-◌, ◌<◌, ◌≤◌, ◌++◌, ◌∷◌, [], List, length, drop, reverse, IfOk, IfSome};
+ghost use Rattle.std.specs.Prelude.{◌≡◌, ◌+◌, ◌<◌, ◌≤◌, length, reverse, IfOk, IfSome};
 ghost use Rattle.std.specs.Option.{option_copied};
-ghost use Rattle.bptree_building.specs.Rooms.{ArePlanned};
+ghost use Rattle.bptree_building.specs.Plans.{Adds};
 ghost use Rattle.bptree_bulk.specs.Cut.{first_key};
-ghost use Rattle.bptree_bulk.specs.Filling.{IsFilling};
-ghost use Rattle.bptree_bulk.specs.Positions.{place_of, rest_of, IsAtPair, IsBehind};
+ghost use Rattle.bptree_bulk.specs.Filling.{FillsAll, FillsFrom, IsFilling};
+ghost use Rattle.bptree_bulk.specs.Positions.{part_to, place_of, rest_of, IsAtPair, IsBehind, IsRest};
 ghost use Rattle.bptree_bulk.specs.Split.{HasRoomFor};
 ghost use Rattle.bptree_keys.specs.Keys.{AllInfallible};
-ghost use Rattle.bptree_keys.specs.Ranges.{part};
 ghost use Rattle.bptree_shape.specs.NodeTree.{IsWhole};
 
 use crate::filling::{Filling, filling_of, plant_filling, size_of};
@@ -68,7 +67,7 @@ fn advance<S: NodeStore>(tree: &Nodes<S>, at: Position, count: usize) -> (Positi
 // The key of the pair at a position, if one is there.
 pub(crate) fn key_from<'a, S: NodeStore>(tree: &'a Nodes<S>, at: Position) -> Option<&'a S::K>
     requires { IsAtPair S.slots tree.now at }
-    ensures { option_copied result ≡ first_key (drop (place_of S.slots tree.now at) tree.now.contents) }
+    ensures { option_copied result ≡ first_key (rest_of S.slots tree.now at) }
 {
     tree.recall();
     let leaf = tree.store.get_leaf(at.leaf);
@@ -90,7 +89,7 @@ fn plan_between<S: NodeStore>(
     requires to { IsAtPair S.slots tree.now to }
     requires some { place_of S.slots tree.now from < place_of S.slots tree.now to }
     requires most { place_of S.slots tree.now to ≤ place_of S.slots tree.now from + 64 }
-    ensures { IfOk result (λ _. (parts : List (List (S.K × S.V))) → ArePlanned S.K.cmp S.Argument.is_summary (S.slots plan.old.store) plan.old.ids.items plan.old.trees.items parts → ArePlanned S.K.cmp S.Argument.is_summary (S.slots plan.new.store) plan.new.ids.items plan.new.trees.items (parts ++ part tree.now.contents (place_of S.slots tree.now from) (place_of S.slots tree.now to - place_of S.slots tree.now from) ∷ [])) }
+    ensures { Adds S.K.cmp S.Argument.is_summary S.slots plan.old plan.new (part_to S.slots tree.now from to) result }
 {
     tree.recall();
     let first = key_from(tree, from).unwrap();
@@ -106,7 +105,7 @@ fn plan_between<S: NodeStore>(
 /// O(n / 1024) for n pairs. It takes no memory and cannot fail.
 pub(crate) fn few_from<S: NodeStore>(tree: &Nodes<S>, at: Position) -> Option<usize>
     requires { IsAtPair S.slots tree.now at }
-    ensures count { IfSome result (λ count. place_of S.slots tree.now at + count ≡ length tree.now.contents) }
+    ensures count { IfSome result (IsRest S.slots tree.now at) }
     ensures sure { IfSome result (λ _. S.Argument.needs_no_memory × AllInfallible S.K.is_infallible) }
 {
     tree.recall();
@@ -132,8 +131,8 @@ pub(crate) fn plan_tail<S: NodeStore>(
 ) -> Result<Filling<S>, AllocError>
     requires at { IsAtPair S.slots tree.now at }
     requires some { 0 < count }
-    requires count { place_of S.slots tree.now at + count ≡ length tree.now.contents }
-    ensures tail { IfOk result (λ tail. IsFilling S.K.cmp S.Argument.is_summary S.slots tail (drop (place_of S.slots tree.now at) tree.now.contents)) }
+    requires count { IsRest S.slots tree.now at count }
+    ensures tail { IfOk result (FillsFrom S.K.cmp S.Argument.is_summary S.slots tree.now at) }
     ensures room { IfOk result (λ tail. HasRoomFor tail.count tail.pairs) }
 {
     tree.recall();
@@ -159,7 +158,7 @@ pub(crate) fn plan_tail<S: NodeStore>(
 /// It costs and fails as `plan_tail` does.
 pub fn plan_all<S: NodeStore>(tree: &Nodes<S>) -> Result<Filling<S>, AllocError>
     requires { 0 < length tree.now.contents }
-    ensures filling { IfOk result (λ filling. IsFilling S.K.cmp S.Argument.is_summary S.slots filling tree.now.contents) }
+    ensures filling { IfOk result (FillsAll S.K.cmp S.Argument.is_summary S.slots tree.now) }
     ensures room { IfOk result (λ filling. HasRoomFor (length tree.now.contents) filling.pairs) }
 {
     let filling = plan_tail(tree, start_of(tree), tree.len())?;

@@ -1,10 +1,9 @@
 //! Two trees whose pairs become those of one.
-ghost use Rattle.std.specs.Prelude.{◌≡◌, ◌+◌, ◌<◌, ◌≤◌, ◌^◌, ◌++◌, ◌∷◌, [], List, length, drop, take, vec_capacity, IfOk};
+ghost use Rattle.std.specs.Prelude.{◌≡◌, ◌+◌, ◌<◌, ◌≤◌, ◌^◌, ◌∷◌, [], length, drop, take, vec_capacity, IfOk, OnOk};
 ghost use Rattle.std.specs.Map.{keys_of};
-ghost use Rattle.bptree_building.specs.Rooms.{ArePlanned};
+ghost use Rattle.bptree_building.specs.Plans.{AddsParts};
 ghost use Rattle.bptree_bulk.specs.Positions.{place_of, rest_of, IsAtPair};
-ghost use Rattle.bptree_bulk.specs.Weave.{first_rest, next_source, second_rest, source_by, step_pair, woven_from, ArePlaces, IsNext, Goes, IsWeave, Leads, Weaves};
-ghost use Rattle.bptree_keys.specs.Contents.{IsAscending};
+ghost use Rattle.bptree_bulk.specs.Weave.{first_rest, next_from, pair_from, second_rest, source_by, woven_from, ArePlaces, AscendsFrom, IsNext, IsWeave, Leads, LeadsOn, WeavesAll};
 
 use crate::filling::{Filling, filling_of, size_of};
 use crate::tail::{key_from, start_of};
@@ -85,7 +84,7 @@ fn source_of<K: Key>(first: &K, second: &K) -> Source
 // Where the next pair comes from, if there is one.
 fn source_at<S: NodeStore>(first: &Nodes<S>, second: &Nodes<S>, at: Places) -> Option<Source>
     requires { ArePlaces S.slots first.now second.now at }
-    ensures { result ≡ next_source S.K.cmp (rest_of S.slots first.now at.first) (rest_of S.slots second.now at.second) }
+    ensures { result ≡ next_from S.slots first.now second.now S.K.cmp at }
 {
     match (key_from(first, at.first), key_from(second, at.second)) {
         (None, None) => None,
@@ -133,7 +132,7 @@ fn next_key<'a, S: NodeStore>(
 ) -> &'a [S::K]
     requires at { ArePlaces S.slots first.now second.now at }
     requires next { IsNext S.slots first.now second.now S.K.cmp at source }
-    ensures { result.now ≡ keys_of (step_pair source (rest_of S.slots first.now at.first) (rest_of S.slots second.now at.second)) }
+    ensures { result.now ≡ keys_of (pair_from S.slots first.now second.now source at) }
 {
     match source {
         Source::First => key_slice(first, at.first),
@@ -145,7 +144,7 @@ fn next_key<'a, S: NodeStore>(
 // Where each pair of two trees comes from, in the order of their keys.
 fn steps_of<S: NodeStore>(first: &Nodes<S>, second: &Nodes<S>) -> Result<Vec<Source>, AllocError>
     requires { length first.now.contents + length second.now.contents < 2 ^ 64 }
-    ensures { IfOk result (λ steps. Weaves S.K.cmp steps.items first.now.contents second.now.contents) }
+    ensures { IfOk result (WeavesAll S.slots first.now second.now S.K.cmp) }
 {
     let alloc = first.store.allocator();
     let mut steps = Vec::with_capacity(alloc, first.len() + second.len())?;
@@ -171,14 +170,14 @@ fn plan_steps<S: NodeStore>(
     sums: &mut Vec<S::Argument>,
 ) -> Result<Places, AllocError>
     requires at { ArePlaces S.slots first.now second.now from }
-    requires lead { (to : List (S.K × S.V) × List (S.K × S.V)) × Goes S.K.cmp steps.now (rest_of S.slots first.now from.first) (rest_of S.slots second.now from.second) to.0 to.1 }
+    requires lead { LeadsOn S.slots first.now second.now S.K.cmp steps.now from }
     requires count { (0 < length steps.now) × (length steps.now ≤ 64) }
-    requires ascending { IsAscending S.K.cmp (woven_from S.slots first.now second.now steps.now from) }
+    requires ascending { AscendsFrom S.slots first.now second.now S.K.cmp steps.now from }
     requires room { 64 ≤ vec_capacity sums.old }
     ensures room { 64 ≤ vec_capacity sums.new }
     ensures at { IfOk result (ArePlaces S.slots first.now second.now) }
     ensures leads { IfOk result (Leads S.slots first.now second.now S.K.cmp steps.now from) }
-    ensures planned { IfOk result (λ _. (parts : List (List (S.K × S.V))) → ArePlanned S.K.cmp S.Argument.is_summary (S.slots plan.old.store) plan.old.ids.items plan.old.trees.items parts → ArePlanned S.K.cmp S.Argument.is_summary (S.slots plan.new.store) plan.new.ids.items plan.new.trees.items (parts ++ woven_from S.slots first.now second.now steps.now from ∷ [])) }
+    ensures planned { OnOk result (AddsParts S.K.cmp S.Argument.is_summary S.slots plan.old plan.new (woven_from S.slots first.now second.now steps.now from ∷ [])) }
 {
     sums.clear();
     let mut at = from;

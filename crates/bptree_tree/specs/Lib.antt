@@ -1,3 +1,4 @@
+pub mod Appending
 pub mod Chain
 pub mod Changes
 pub mod Cursor
@@ -8,6 +9,7 @@ pub mod NodeRows
 pub mod Pages
 pub mod Rows
 pub mod Selected
+pub mod Splitting
 pub mod Undoing
 pub mod Updating
 pub mod Whole

@@ -1,11 +1,11 @@
 //! Two trees that become one.
-ghost use Rattle.std.specs.Prelude.{◌≡◌, ◌↔◌, ◌+◌, ◌<◌, ◌≤◌, ◌++◌, ◌∷◌, ◌⊎◌, ◌^◌, [], true, Err, List, Some, length, reverse, vec_capacity, vec_len, IfErr, IsOk, OnErr, OnOk};
+ghost use Rattle.std.specs.Prelude.{◌≡◌, ◌↔◌, ◌+◌, ◌<◌, ◌≤◌, ◌++◌, ◌∷◌, ◌⊎◌, ◌^◌, [], true, Err, Some, length, reverse, vec_capacity, vec_len, IfErr, IsOk, OnErr, OnOk};
 ghost use Rattle.bptree_ascent.specs.NodeTree.{IsWhole};
-ghost use Rattle.bptree_bulk.specs.Weave.{first_rest, next_source, put_all, put_pair, second_rest, step_pair, woven, IsWeave, Weaves};
+ghost use Rattle.bptree_bulk.specs.Weave.{first_rest, next_source, put_pair, second_rest, step_pair, woven, IsWeave, Weaves};
 ghost use Rattle.bptree_keys.specs.Contents.{IsAscending};
 ghost use Rattle.bptree_keys.specs.Keys.{AllInfallible};
-ghost use Rattle.bptree_tree.specs.Undoing.{CanUndo, CanUndoAll};
-ghost use Rattle.bptree_tree.specs.declared.tree.merging.Undo.{Undo};
+ghost use Rattle.bptree_tree.specs.Appending.{appended, Appends};
+ghost use Rattle.bptree_tree.specs.Undoing.{Notes, Returns, StopsAt, Undoes, UndoesAll, WasPut, WerePut};
 ghost use Rattle.bptree_tree.specs.declared.AppendError.TheVariants.{Full};
 
 use crate::tree::{BPlusTree, IntoIter};
@@ -97,7 +97,7 @@ impl<S: NodeStore> BPlusTree<S> {
     // Moves the pairs of two trees to the leaves that were found for them.
     fn of_weave(first: Self, second: Self, weave: Weave<S>) -> Self
         requires { IsWeave S.slots first second S.K.cmp S.Argument.is_summary weave }
-        ensures contents { result.contents ≡ put_all (put_pair S.K.cmp) first.contents second.contents }
+        ensures contents { result.contents ≡ appended S.K.cmp first.contents second.contents }
         ensures whole { IsWhole S.K.cmp S.Argument.is_summary S.slots result }
     {
         let Weave { steps, filling } = weave;
@@ -122,10 +122,11 @@ impl<S: NodeStore> BPlusTree<S> {
         requires room { vec_len undo.old < vec_capacity undo.old }
         ensures whole { IsWhole S.K.cmp S.Argument.is_summary S.slots self.new }
         ensures ok { OnOk result (self.new.contents ≡ put_pair S.K.cmp self.old.contents (k, v)) }
-        ensures noted { OnOk result ((entry : Undo S.K S.V) × (undo.new.items ≡ undo.old.items ++ entry ∷ []) × CanUndo S.K.cmp entry (k, v) self.old.contents) }
+        ensures noted { OnOk result (Notes S.K.cmp (k, v) self.old.contents undo.old undo.new) }
         ensures capacity { vec_capacity undo.new ≡ vec_capacity undo.old }
         ensures returned { IfErr result (λ pair. pair ≡ (k, v)) }
-        ensures unchanged { OnErr result ((self.new.contents ≡ self.old.contents) × (undo.new.items ≡ undo.old.items)) }
+        ensures unchanged { OnErr result (self.new.contents ≡ self.old.contents) }
+        ensures unnoted { OnErr result (undo.new.items ≡ undo.old.items) }
     {
         self.nodes.recall();
         match self.get_mut(&k) {
@@ -151,10 +152,10 @@ impl<S: NodeStore> BPlusTree<S> {
     // Takes back the pair that was put last.
     fn undo_last(&mut self, entry: Undo<S::K, S::V>) -> (S::K, S::V)
         requires infallible { S.Argument.needs_no_memory × AllInfallible S.K.is_infallible }
-        requires put { (pair : S.K × S.V) × (l : List (S.K × S.V)) × IsAscending S.K.cmp l × CanUndo S.K.cmp entry pair l × (self.old.contents ≡ put_pair S.K.cmp l pair) }
+        requires put { WasPut S.K.cmp entry self.old.contents }
         ensures whole { IsWhole S.K.cmp S.Argument.is_summary S.slots self.new }
-        ensures pair { (pair : S.K × S.V) (l : List (S.K × S.V)) → IsAscending S.K.cmp l → CanUndo S.K.cmp entry pair l → self.old.contents ≡ put_pair S.K.cmp l pair → result ≡ pair }
-        ensures undone { (pair : S.K × S.V) (l : List (S.K × S.V)) → IsAscending S.K.cmp l → CanUndo S.K.cmp entry pair l → self.old.contents ≡ put_pair S.K.cmp l pair → self.new.contents ≡ l }
+        ensures pair { Returns S.K.cmp entry self.old.contents result }
+        ensures undone { Undoes S.K.cmp entry self.old.contents self.new.contents }
     {
         match entry {
             Undo::Inserted(k) => {
@@ -172,10 +173,10 @@ impl<S: NodeStore> BPlusTree<S> {
     // Takes back all pairs that were put, and moves them behind others, the last one first.
     fn take_back(&mut self, undo: Vec<Undo<S::K, S::V>>, pairs: &mut Vec<(S::K, S::V)>)
         requires infallible { S.Argument.needs_no_memory × AllInfallible S.K.is_infallible }
-        requires put { (moved : List (S.K × S.V)) × (l : List (S.K × S.V)) × IsAscending S.K.cmp l × CanUndoAll S.K.cmp undo.items moved l self.old.contents }
+        requires put { WerePut S.K.cmp undo.items self.old.contents }
         requires room { vec_len pairs.old + length undo.items ≤ vec_capacity pairs.old }
         ensures whole { IsWhole S.K.cmp S.Argument.is_summary S.slots self.new }
-        ensures undone { (moved : List (S.K × S.V)) (l : List (S.K × S.V)) → IsAscending S.K.cmp l → CanUndoAll S.K.cmp undo.items moved l self.old.contents → (self.new.contents ≡ l) × (pairs.new.items ≡ pairs.old.items ++ reverse moved) }
+        ensures undone { UndoesAll S.K.cmp undo self.old self.new pairs.old pairs.new }
     {
         let mut undo = undo;
         'undo: while let Some(entry) = undo.pop() {
@@ -195,8 +196,8 @@ impl<S: NodeStore> BPlusTree<S> {
         requires none { undo.old.items ≡ [] }
         requires room { length rest.old ≤ vec_capacity undo.old }
         ensures whole { IsWhole S.K.cmp S.Argument.is_summary S.slots self.new }
-        ensures ok { OnOk result (self.new.contents ≡ put_all (put_pair S.K.cmp) self.old.contents rest.old) }
-        ensures err { IfErr result (λ pair. (moved : List (S.K × S.V)) × (rest.old ≡ moved ++ pair ∷ rest.new) × CanUndoAll S.K.cmp undo.new.items moved self.old.contents self.new.contents × (length undo.new.items ≡ length moved)) }
+        ensures ok { OnOk result (self.new.contents ≡ appended S.K.cmp self.old.contents rest.old) }
+        ensures err { IfErr result (StopsAt S.K.cmp undo.new self.old self.new rest.old rest.new) }
     {
         'pairs: while let Some((k, v)) = rest.next() {
             match self.put_noted(k, v, undo) {
@@ -215,11 +216,12 @@ impl<S: NodeStore> BPlusTree<S> {
     fn append_few(&mut self, other: &mut Self) -> Result<(), AllocError>
         requires infallible { S.Argument.needs_no_memory × AllInfallible S.K.is_infallible }
         requires some { 0 < length other.old.contents }
-        ensures ok { OnOk result (self.new.contents ≡ put_all (put_pair S.K.cmp) self.old.contents other.old.contents) }
+        ensures ok { OnOk result (Appends S.K.cmp self.old other.old self.new) }
         ensures emptied { OnOk result (other.new.contents ≡ []) }
         ensures whole { IsWhole S.K.cmp S.Argument.is_summary S.slots self.new }
         ensures other_whole { IsWhole S.K.cmp S.Argument.is_summary S.slots other.new }
-        ensures unchanged { OnErr result ((self.new.contents ≡ self.old.contents) × (other.new.contents ≡ other.old.contents)) }
+        ensures unchanged { OnErr result (self.new.contents ≡ self.old.contents) }
+        ensures other_unchanged { OnErr result (other.new.contents ≡ other.old.contents) }
     {
         self.recall_whole();
         other.recall_whole();
@@ -258,13 +260,14 @@ impl<S: NodeStore> BPlusTree<S> {
     /// if one fails, it takes back those before it. If either tree is empty, it takes no memory and
     /// cannot fail. It returns `Full` exactly if both together have more than `usize::MAX` pairs.
     pub fn append(&mut self, other: &mut Self) -> Result<(), AppendError>
-        ensures ok { OnOk result (self.new.contents ≡ put_all (put_pair S.K.cmp) self.old.contents other.old.contents) }
+        ensures ok { OnOk result (Appends S.K.cmp self.old other.old self.new) }
         ensures emptied { OnOk result (other.new.contents ≡ []) }
         ensures whole { IsWhole S.K.cmp S.Argument.is_summary S.slots self.new }
         ensures other_whole { IsWhole S.K.cmp S.Argument.is_summary S.slots other.new }
         ensures full { (result ≡ Err Full) ↔ (usize.MAX < length self.old.contents + length other.old.contents) }
         ensures infallible { (self.old.contents ≡ []) ⊎ (other.old.contents ≡ []) → IsOk result }
-        ensures unchanged { OnErr result ((self.new.contents ≡ self.old.contents) × (other.new.contents ≡ other.old.contents)) }
+        ensures unchanged { OnErr result (self.new.contents ≡ self.old.contents) }
+        ensures other_unchanged { OnErr result (other.new.contents ≡ other.old.contents) }
     {
         self.recall_whole();
         other.recall_whole();
@@ -293,7 +296,7 @@ impl<S: NodeStore> BPlusTree<S> {
     fn weave(&mut self, other: &mut Self) -> Result<(), AllocError>
         requires some { 0 < length self.old.contents }
         requires few { length self.old.contents + length other.old.contents < 2 ^ 64 }
-        ensures ok { OnOk result (self.new.contents ≡ put_all (put_pair S.K.cmp) self.old.contents other.old.contents) }
+        ensures ok { OnOk result (Appends S.K.cmp self.old other.old self.new) }
         ensures emptied { OnOk result (other.new.contents ≡ []) }
         ensures whole { IsWhole S.K.cmp S.Argument.is_summary S.slots self.new }
         ensures other_whole { IsWhole S.K.cmp S.Argument.is_summary S.slots other.new }

@@ -1,8 +1,8 @@
 //! A tree that is cut in two at a key.
-ghost use Rattle.std.specs.Prelude.{◌≡◌, ◌+◌, ◌-◌, ◌≤◌, ◌++◌, length, take, drop, reverse, vec_capacity, vec_len, IfOk, OnErr};
+ghost use Rattle.std.specs.Prelude.{◌≡◌, ◌+◌, ◌≤◌, ◌++◌, length, reverse, vec_capacity, vec_len, IfOk, OnErr};
 ghost use Rattle.bptree_ascent.specs.NodeTree.{IsWhole};
-ghost use Rattle.bptree_bulk.specs.Split.{PartsAt};
 ghost use Rattle.bptree_keys.specs.Keys.{AllInfallible};
+ghost use Rattle.bptree_tree.specs.Splitting.{but_last, last_of, CutsAt};
 
 use crate::tree::BPlusTree;
 use bptree_bulk::splitting::{Cutting, cut_in_two, plan_at_key};
@@ -18,8 +18,8 @@ impl<S: NodeStore> BPlusTree<S> {
         requires some { count ≤ length self.old.contents }
         requires room { vec_len pairs.old + count ≤ vec_capacity pairs.old }
         ensures whole { IsWhole S.K.cmp S.Argument.is_summary S.slots self.new }
-        ensures kept { self.new.contents ≡ take (length self.old.contents - count) self.old.contents }
-        ensures moved { pairs.new.items ≡ pairs.old.items ++ reverse (drop (length self.old.contents - count) self.old.contents) }
+        ensures kept { self.new.contents ≡ but_last count self.old.contents }
+        ensures moved { pairs.new.items ≡ pairs.old.items ++ reverse (last_of count self.old.contents) }
     {
         let mut left = count;
         'pairs: while left > 0 {
@@ -41,7 +41,7 @@ impl<S: NodeStore> BPlusTree<S> {
     /// and `never_fails` say, it removes these one by one. Where all pairs stay or all move, it
     /// allocates one leaf and moves none.
     pub fn split_off(&mut self, k: &S::K) -> Result<Self, AllocError>
-        ensures ok { IfOk result (λ there. PartsAt S.K.cmp k.now self.old.contents self.new.contents there.contents) }
+        ensures ok { IfOk result (CutsAt S.K.cmp k.now self.old self.new) }
         ensures whole { IsWhole S.K.cmp S.Argument.is_summary S.slots self.new }
         ensures there { IfOk result (IsWhole S.K.cmp S.Argument.is_summary S.slots) }
         ensures unchanged { OnErr result (self.new ≡ self.old) }

@@ -11,7 +11,7 @@ pub unwrap-first-requires : goal.unwrap-first-requires
 unwrap-first-requires g c =
     let same : c.tree.inside.store ≡ c.args.tree.now.store = ap (λ t. t.store) c.tree.view_is in
     let l = pairs_of (g.S.NodeStore.slots c.args.tree.now.store) c.args.ids.now in
-    let first = has_first l c.args.from (omega (arith, c.requires.count)) in
+    let first = has_first l c.args.from (omega (arith, c.requires.count, c.requires.within)) in
     is_some c.key_at.result first.0 ((rw same at c.key_at.ensures) ∙ first.1)
 
 pub returns : goal.returns
@@ -21,8 +21,8 @@ returns g c =
     let all = c.args.tree.now.contents in
     let cmp = g.S.K.Ord.cmp in
     let first = sym (rw same at c.key_at.ensures) ∙ ap option_copied c.unwrap-first.ensures in
-    let these = piece g.met.S.K.Ord.total l c.requires.last.0 c.args.from c.args.count all c.requires.last.1 c.recall.ensures.ascending c.requires.count.0 c.requires.count.2 c.unwrap-first.result.now first in
-    let long = piece_len g.met.S.K.Ord.total l c.requires.last.0 c.args.from c.args.count all c.requires.last.1 c.recall.ensures.ascending c.requires.count.0 c.requires.count.2 in
+    let these = piece g.met.S.K.Ord.total l c.requires.last.0 c.args.from c.args.count all c.requires.last.1 c.recall.ensures.ascending c.requires.count.0 c.requires.within c.unwrap-first.result.now first in
+    let long = piece_len g.met.S.K.Ord.total l c.requires.last.0 c.args.from c.args.count all c.requires.last.1 c.recall.ensures.ascending c.requires.count.0 c.requires.within in
     let summed = subst (λ after. g.S.Argument.Argument.is_summary c.in_ok-summary.summary (keys_of (between cmp all (Some c.unwrap-first.result.now) after))) (rw same at c.key_at-after.ensures) c.in_ok-summary.ensures in
     IfOk-weaker c.plan_part.result _ _ (λ _ planned parts before.
     planned parts (part l c.args.from c.args.count) before (omega (arith, c.requires.count, long))

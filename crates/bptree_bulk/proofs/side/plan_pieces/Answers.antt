@@ -11,7 +11,7 @@ pub overflow_add-from : goal.overflow_add-from
 overflow_add-from g c =
     let l = pairs_of (g.S.NodeStore.slots c.args.tree.now.store) c.args.ids.now in
     let half = c.requires.half.two (omega (arith, c.if-half-eq0.false)) in
-    omega (arith, half.2, c.requires.count.1, ap length c.requires.last.1, length-append c.requires.last.0 l, c.recall.ensures.fits)
+    omega (arith, half.2, c.requires.within, ap length c.requires.last.1, length-append c.requires.last.0 l, c.recall.ensures.fits)
 
 pub returns : goal.returns
 returns g c =

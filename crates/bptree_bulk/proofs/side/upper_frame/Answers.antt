@@ -39,9 +39,13 @@ plan_pieces-requires-clause-last g c =
 
 pub plan_pieces-requires-clause-count : goal.plan_pieces-requires-clause-count
 plan_pieces-requires-clause-count g c =
+    c.requires.cut.above_some
+
+pub plan_pieces-requires-clause-within : goal.plan_pieces-requires-clause-within
+plan_pieces-requires-clause-within g c =
     let slots = g.S.NodeStore.slots c.args.tree.now.store in
     let ids = c.args.ids.now in
-    (c.requires.cut.above_some, omega (arith, within_rest slots ids c.args.cut c.requires.cut, ap (λ xs. length (pairs_of slots xs)) (take_rest ids c.args.cut.from)))
+    omega (arith, within_rest slots ids c.args.cut c.requires.cut, ap (λ xs. length (pairs_of slots xs)) (take_rest ids c.args.cut.from))
 
 pub frame-requires : goal.frame-requires
 frame-requires g c =

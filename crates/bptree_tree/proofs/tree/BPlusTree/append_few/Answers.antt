@@ -37,6 +37,11 @@ returns-in-Ok-clause-ok g c = c.in-Ok.ensures.ok ∙ ap (put_all (put_pair g.S.K
 pub returns-in-Err-clause-unchanged : goal.returns-in-Err-clause-unchanged
 returns-in-Err-clause-unchanged g c =
     let err = c.in-Err.ensures.err in
+    (c.take_back.ensures.undone err.0 c.args.self.now.contents c.recall_whole.ensures.ascending err.2).0
+
+pub returns-in-Err-clause-other_unchanged : goal.returns-in-Err-clause-other_unchanged
+returns-in-Err-clause-other_unchanged g c =
+    let err = c.in-Err.ensures.err in
     let moved = err.0 in
     let rest = c.put_each.new.rest in
     let pair = c.in-Err.pair in
@@ -44,7 +49,5 @@ returns-in-Err-clause-unchanged g c =
     let undone = c.take_back.ensures.undone moved c.args.self.now.contents c.recall_whole.ensures.ascending err.2 in
     let back = undone.1 ∙ ap (λ l. l ++ reverse moved) (c.push_reserved.ensures.items ∙ ap (λ l. l ++ pair ∷ []) c.move_back.ensures.moved) in
     let all = all_back moved rest pair c.in_ok-tail.tail.pairs.items items c.in_ok-tail.ensures.room.0 back in
-    let whole : reverse items ≡ c.args.other.now.contents = all ∙ (sym err.1 ∙ (c.into_iter-rest.ensures.rest ∙ ap (λ t. t.contents) c.replace.ensures.value)) in (
-      undone.0,
-      ap (λ i. i.nodes.contents) c.drop-in-Err-2.view_is ∙ (ap (λ t. t.contents) c.drop-in-Err.view_is ∙ (ap (λ t. t.contents) c.of_nodes.ensures ∙ (c.plant_tail.ensures.contents ∙ whole))),
-    )
+    let whole : reverse items ≡ c.args.other.now.contents = all ∙ (sym err.1 ∙ (c.into_iter-rest.ensures.rest ∙ ap (λ t. t.contents) c.replace.ensures.value)) in
+    ap (λ i. i.nodes.contents) c.drop-in-Err-2.view_is ∙ (ap (λ t. t.contents) c.drop-in-Err.view_is ∙ (ap (λ t. t.contents) c.of_nodes.ensures ∙ (c.plant_tail.ensures.contents ∙ whole)))
