@@ -1,13 +1,12 @@
 //! Two trees whose keys count their comparisons and whose values count their drops; and a map and a
 //! set of one key.
 
-use crate::calls::{report_back, report_if_ok};
+use crate::calls::{report_if_ok, report_inserted, write};
 use crate::counted::{Counted, Counts, counted_pair, no_counts, report_counts, report_left};
 use crate::nodes;
 use crate::record::Record;
 use crate::subject::{Subject, no_call};
-use crate::trees::{Both, exchange, new_tree, replace, tree_of, two_trees};
-use crate::walk::{report_both_ends, walk};
+use crate::trees::{Both, exchange, new_tree, replace, take_pairs, tree_of, two_trees, walk_pairs};
 use crate::words::{Report, Words};
 use bptree_arguments::argument::CloneArgument;
 use bptree_keys::key::Key;
@@ -34,13 +33,7 @@ where
     let Ok((key, value)) = counted_pair(&trees.counts, record.a, record.b) else {
         return false;
     };
-    match trees.both.here.insert(key, value) {
-        Ok(old) => {
-            old.report(words);
-            true
-        }
-        Err(error) => report_back(error, words),
-    }
+    report_inserted(trees.both.here.insert(key, value), words)
 }
 
 fn remove<S: NodeStore>(trees: &mut Counting<S>, record: &Record, words: &mut Words) -> bool
@@ -63,15 +56,7 @@ where
     let Ok((key, value)) = counted_pair::<S::K, S::V>(&trees.counts, record.a, record.b) else {
         return false;
     };
-    match trees.both.here.get_mut(&key) {
-        Some(at) => {
-            words.add(1);
-            at.report(words);
-            *at = value;
-        }
-        None => words.add(0),
-    }
-    true
+    write(trees.both.here.get_mut(&key), value, words)
 }
 
 fn change<S: NodeStore>(trees: &mut Counting<S>, record: &Record, words: &mut Words) -> bool
@@ -153,7 +138,7 @@ where
     };
     let before = trees.counts.dropped.get();
     let mut pairs = mem::replace(&mut trees.both.there, empty).into_iter();
-    report_both_ends(&mut pairs, record.a, words);
+    take_pairs(&mut pairs, true, record, words);
     words.add(trees.counts.dropped.get().wrapping_sub(before));
     true
 }
@@ -188,9 +173,8 @@ fn put_in_map<K: Key + Counted, V: Counted>(
         let Ok((key, value)) = counted_pair(counts, 7, turn) else {
             return false;
         };
-        match map.insert(key, value) {
-            Ok(old) => old.report(words),
-            Err(error) => return report_back(error, words),
+        if !report_inserted(map.insert(key, value), words) {
+            return false;
         }
         map.len().report(words);
         report_left(counts, words);
@@ -222,9 +206,8 @@ fn put_in_set<K: Key + Counted>(
         let Ok(key) = K::counted(counts, 7) else {
             return false;
         };
-        match set.insert(key) {
-            Ok(is_new) => is_new.report(words),
-            Err(error) => return report_back(error, words),
+        if !report_inserted(set.insert(key), words) {
+            return false;
         }
         set.len().report(words);
         report_left(counts, words);
@@ -278,9 +261,9 @@ where
         match record.family() {
             0 => change(self, record, words),
             1 => read(self, record, words),
-            2 => walk(self.both.here.iter(), record, words),
+            2 => walk_pairs(self.both.here.iter(), record, words),
             3 => whole(alloc, self, record, words),
-            5 => nodes::call(&self.both.here, record, words),
+            5 => nodes::call(&self.both.here, record.member(), record.a, words),
             12 => count::<S::K, S::V>(alloc, &self.counts, record, words),
             _ => no_call(words),
         }

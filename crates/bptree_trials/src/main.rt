@@ -26,6 +26,7 @@ mod samples;
 mod says;
 mod sets;
 mod shards;
+mod sides;
 mod streams;
 mod subject;
 mod trees;
@@ -38,9 +39,9 @@ use crate::forgetful::Forgetful;
 use crate::maps::{Maps, Special};
 use crate::marked::Marked;
 use crate::owned::Owned;
-use crate::parts::Parts;
+use crate::parts::{Made, Parts};
 use crate::record::{RECORD, Record};
-use crate::samples::Sample;
+use crate::samples::{Sample, SampleSummary};
 use crate::sets::Sets;
 use crate::shards::{Map, Sharded};
 use crate::streams::Input;
@@ -52,6 +53,7 @@ use bptree_arguments::group::GroupCount;
 use bptree_keys::key::Tuple2;
 use bptree_script::output::Output;
 use bptree_stores::node_store_vec::NodeStoreVec;
+use bptree_stores::node_stores::CloneStore;
 use std::alloc::Global;
 use std::io::{Read, Write};
 use std::process::ExitCode;
@@ -124,50 +126,48 @@ fn serve<T: Subject, R: Read, W: Write>(alloc: Global, reader: &mut R, writer: &
     false
 }
 
-// Calls on the subject of a form, with keys of one type and summaries of another.
-fn on_form<K: Sample, A: Special<K>, R: Read, W: Write>(
+// Calls on what stands on a store. One function names the store, since each that does is dear to
+// prove.
+fn on_store<S: CloneStore<V = u64> + Made, R: Read, W: Write>(
+    alloc: Global,
+    form: u64,
+    reader: &mut R,
+    writer: &mut W,
+) -> bool
+where
+    S::K: Sample,
+    S::Argument: SampleSummary<S::K>,
+{
+    if form == 6 {
+        serve::<Parts<S>, R, W>(alloc, reader, writer)
+    } else {
+        serve::<Trees<S>, R, W>(alloc, reader, writer)
+    }
+}
+
+fn on_trees<K: Sample, A: SampleSummary<K>, R: Read, W: Write>(
     alloc: Global,
     form: u64,
     reader: &mut R,
     writer: &mut W,
 ) -> bool {
-    match form {
-        0 => serve::<Trees<NodeStoreVec<K, u64, A>>, R, W>(alloc, reader, writer),
-        2 => serve::<Maps<K, A>, R, W>(alloc, reader, writer),
-        3 => serve::<Sets<K>, R, W>(alloc, reader, writer),
-        4 => serve::<Plain<NodeStoreVec<K, u64>>, R, W>(alloc, reader, writer),
-        _ => serve::<Sharded<Map<K>>, R, W>(alloc, reader, writer),
-    }
+    on_store::<NodeStoreVec<K, u64, A>, R, W>(alloc, form, reader, writer)
 }
 
-fn on_numbers<R: Read, W: Write>(alloc: Global, form: u64, reader: &mut R, writer: &mut W) -> bool {
-    match form {
-        1 => serve::<Trees<Forgetful<NodeStoreVec<u64, u64, Count>>>, R, W>(alloc, reader, writer),
-        6 => serve::<Parts<u64, Count>, R, W>(alloc, reader, writer),
-        7 => serve::<Owned, R, W>(alloc, reader, writer),
-        8 => serve::<Input, R, W>(alloc, reader, writer),
-        _ => on_form::<u64, Count, R, W>(alloc, form, reader, writer),
-    }
+fn on_forgetful<S: CloneStore<V = u64>, R: Read, W: Write>(
+    alloc: Global,
+    reader: &mut R,
+    writer: &mut W,
+) -> bool
+where
+    S::K: Sample,
+    S::Argument: SampleSummary<S::K>,
+{
+    serve::<Trees<Forgetful<S>>, R, W>(alloc, reader, writer)
 }
 
-fn on_texts<R: Read, W: Write>(alloc: Global, form: u64, reader: &mut R, writer: &mut W) -> bool {
-    on_form::<String, Count, R, W>(alloc, form, reader, writer)
-}
-
-fn on_parts_of_pairs<R: Read, W: Write>(alloc: Global, reader: &mut R, writer: &mut W) -> bool {
-    serve::<Parts<(String, u64), GroupCount<Tuple2<String>>>, R, W>(alloc, reader, writer)
-}
-
-fn on_pairs<R: Read, W: Write>(alloc: Global, form: u64, reader: &mut R, writer: &mut W) -> bool {
-    if form == 6 {
-        on_parts_of_pairs(alloc, reader, writer)
-    } else {
-        on_form::<(String, u64), GroupCount<Tuple2<String>>, R, W>(alloc, form, reader, writer)
-    }
-}
-
-fn on_counted<R: Read, W: Write>(alloc: Global, reader: &mut R, writer: &mut W) -> bool {
-    serve::<Counting<NodeStoreVec<CountedKey, CountedValue>>, R, W>(alloc, reader, writer)
+fn on_plain<K: Sample, R: Read, W: Write>(alloc: Global, reader: &mut R, writer: &mut W) -> bool {
+    serve::<Plain<NodeStoreVec<K, u64>>, R, W>(alloc, reader, writer)
 }
 
 fn on_maps<K: Sample, A: Special<K>, R: Read, W: Write>(
@@ -178,12 +178,41 @@ fn on_maps<K: Sample, A: Special<K>, R: Read, W: Write>(
     serve::<Maps<K, A>, R, W>(alloc, reader, writer)
 }
 
-fn on_trees<K: Sample, A: Special<K>, R: Read, W: Write>(
+// Calls on the subject of a form, with keys of one type and summaries of another.
+fn on_form<K: Sample, A: Special<K>, R: Read, W: Write>(
     alloc: Global,
+    form: u64,
     reader: &mut R,
     writer: &mut W,
 ) -> bool {
-    serve::<Trees<NodeStoreVec<K, u64, A>>, R, W>(alloc, reader, writer)
+    match form {
+        0 | 6 => on_trees::<K, A, R, W>(alloc, form, reader, writer),
+        2 => on_maps::<K, A, R, W>(alloc, reader, writer),
+        3 => serve::<Sets<K>, R, W>(alloc, reader, writer),
+        4 => on_plain::<K, R, W>(alloc, reader, writer),
+        _ => serve::<Sharded<Map<K>>, R, W>(alloc, reader, writer),
+    }
+}
+
+fn on_numbers<R: Read, W: Write>(alloc: Global, form: u64, reader: &mut R, writer: &mut W) -> bool {
+    match form {
+        1 => on_forgetful::<NodeStoreVec<u64, u64, Count>, R, W>(alloc, reader, writer),
+        7 => serve::<Owned, R, W>(alloc, reader, writer),
+        8 => serve::<Input, R, W>(alloc, reader, writer),
+        _ => on_form::<u64, Count, R, W>(alloc, form, reader, writer),
+    }
+}
+
+fn on_texts<R: Read, W: Write>(alloc: Global, form: u64, reader: &mut R, writer: &mut W) -> bool {
+    on_form::<String, Count, R, W>(alloc, form, reader, writer)
+}
+
+fn on_pairs<R: Read, W: Write>(alloc: Global, form: u64, reader: &mut R, writer: &mut W) -> bool {
+    on_form::<(String, u64), GroupCount<Tuple2<String>>, R, W>(alloc, form, reader, writer)
+}
+
+fn on_counted<R: Read, W: Write>(alloc: Global, reader: &mut R, writer: &mut W) -> bool {
+    serve::<Counting<NodeStoreVec<CountedKey, CountedValue>>, R, W>(alloc, reader, writer)
 }
 
 fn on_couples<R: Read, W: Write>(alloc: Global, reader: &mut R, writer: &mut W) -> bool {
@@ -191,7 +220,7 @@ fn on_couples<R: Read, W: Write>(alloc: Global, reader: &mut R, writer: &mut W) 
 }
 
 fn on_marked<R: Read, W: Write>(alloc: Global, reader: &mut R, writer: &mut W) -> bool {
-    on_trees::<Marked, Count, R, W>(alloc, reader, writer)
+    on_trees::<Marked, Count, R, W>(alloc, 0, reader, writer)
 }
 
 // The form of each kind, and its keys: 0 for numbers, 1 for texts and 2 for pairs. Numbers that

@@ -1,196 +1,206 @@
 //! Two maps.
 
 use crate::calls::{
-    Calls, Queried, Removed, change_queried, read_queried, report_if_ok, report_rank_of,
+    report_if_ok, report_inserted, report_rank_of, report_replaced, write, write_found,
 };
 use crate::cursors::report_found;
 use crate::record::Record;
 use crate::samples::{Group, Sample, SampleSummary};
+use crate::sides::{drain_side, walk_side};
 use crate::subject::{Subject, no_call};
 use crate::trees::{bound_of, replace, report_visit, says_of};
-use crate::walk::{Steps, bounds, drain, pairs_of, walk, walk_if};
+use crate::walk::{Steps, bounds, drain, pairs_of, report_step, walk};
 use crate::words::{Report, Words};
 use crate::{moving, nodes};
 use bptree_arguments::count::Count;
 use bptree_arguments::group::GroupCount;
 use bptree_arguments::group_size::ExtractGroupSize;
-use bptree_maps::map::{BPlusTreeMap, Iter, Keys, Values};
-use bptree_tree::{InsertError, ReplaceError, SelectError};
+use bptree_maps::map::{BPlusTreeMap, Iter};
 use std::alloc::{AllocError, Global};
 use std::cmp::Ordering;
 use std::mem;
 
-impl<K: Sample, A: SampleSummary<K>> Calls for BPlusTreeMap<K, u64, A> {
-    type Key = K;
+// Looks at the tree of a map. The calls on it all come here, since each function that names the store
+// of a map is dear to prove.
+fn look<K: Sample, A: SampleSummary<K>>(
+    map: &BPlusTreeMap<K, u64, A>,
+    member: u64,
+    number: u64,
+    words: &mut Words,
+) -> bool {
+    nodes::call(map.tree(), member, number, words)
+}
 
-    fn put(&mut self, key: K, value: u64) -> Result<Option<u64>, InsertError<K, u64>> {
-        self.insert(key, value)
-    }
-
-    fn take(&mut self, key: &K) -> Result<Option<u64>, AllocError> {
-        self.remove(key)
-    }
-
-    fn take_entry(&mut self, key: &K) -> Removed<K> {
-        self.remove_entry(key)
-    }
-
-    fn take_first(&mut self) -> Removed<K> {
-        self.pop_first()
-    }
-
-    fn take_last(&mut self) -> Removed<K> {
-        self.pop_last()
-    }
-
-    fn swap_key(&mut self, key: K) -> Result<K, ReplaceError<K>> {
-        self.replace_key(key)
-    }
-
-    fn empty(&mut self) -> Result<(), AllocError> {
-        self.clear()
-    }
-
-    fn value_mut(&mut self, key: &K) -> Option<&mut u64> {
-        self.get_mut(key)
-    }
-
-    fn value(&self, key: &K) -> Option<&u64> {
-        self.get(key)
-    }
-
-    fn value_counted(&self, key: &K) -> (Option<&u64>, usize) {
-        self.get_counted(key)
-    }
-
-    fn entry(&self, key: &K) -> Option<(&K, &u64)> {
-        self.get_key_value(key)
-    }
-
-    fn has(&self, key: &K) -> bool {
-        self.contains_key(key)
-    }
-
-    fn ends(&self) -> (Option<(&K, &u64)>, Option<(&K, &u64)>) {
-        (self.first_key_value(), self.last_key_value())
-    }
-
-    fn size(&self) -> (usize, (bool, usize)) {
-        (self.len(), (self.is_empty(), self.tree().height()))
+// Puts a key into the map, in place of one that equals it if that is asked.
+fn put<K: Sample, A: SampleSummary<K>>(
+    alloc: Global,
+    map: &mut BPlusTreeMap<K, u64, A>,
+    record: &Record,
+    words: &mut Words,
+) -> bool {
+    let Ok(key) = K::sample(alloc, record.a) else {
+        return false;
+    };
+    if record.member() == 0 {
+        report_inserted(map.insert(key, record.b), words)
+    } else {
+        report_replaced(map.replace_key(key), words)
     }
 }
 
-impl<K: Sample, A: SampleSummary<K>> Queried for BPlusTreeMap<K, u64, A> {
-    type Summary = A;
-
-    fn take_found(&mut self, alloc: Global, number: u64, index: u64) -> Removed<K> {
-        let query = A::query(alloc, number, index)?;
-        self.remove_by_argument(query)
+// The other changes that name a key.
+fn change_at<K: Sample, A: SampleSummary<K>>(
+    alloc: Global,
+    map: &mut BPlusTreeMap<K, u64, A>,
+    record: &Record,
+    words: &mut Words,
+) -> bool {
+    let Ok(key) = K::sample(alloc, record.a) else {
+        return false;
+    };
+    match record.member() {
+        1 => report_if_ok(map.remove(&key), words),
+        2 => report_if_ok(map.remove_entry(&key), words),
+        _ => write(map.get_mut(&key), record.b, words),
     }
+}
 
-    fn found_mut(
-        &mut self,
-        alloc: Global,
-        number: u64,
-        index: u64,
-    ) -> Result<&mut u64, SelectError> {
-        match A::query(alloc, number, index) {
-            Ok(query) => self.get_mut_by_argument(query),
-            Err(_) => Err(SelectError::OutOfMemory),
+// The changes that need a query.
+fn change_found<K: Sample, A: SampleSummary<K>>(
+    alloc: Global,
+    map: &mut BPlusTreeMap<K, u64, A>,
+    record: &Record,
+    words: &mut Words,
+) -> bool {
+    let index = if record.member() == 6 {
+        record.b
+    } else {
+        record.c
+    };
+    let Ok(query) = A::query(alloc, record.a, index) else {
+        return false;
+    };
+    if record.member() == 6 {
+        report_if_ok(map.remove_by_argument(query), words)
+    } else {
+        write_found(map.get_mut_by_argument(query), record.b, words)
+    }
+}
+
+fn change<K: Sample, A: SampleSummary<K>>(
+    alloc: Global,
+    map: &mut BPlusTreeMap<K, u64, A>,
+    record: &Record,
+    words: &mut Words,
+) -> bool {
+    match record.member() {
+        0 | 9 => put(alloc, map, record, words),
+        1 | 2 | 7 => change_at(alloc, map, record, words),
+        3 => report_if_ok(map.pop_first(), words),
+        4 => report_if_ok(map.pop_last(), words),
+        5 => report_if_ok(map.clear(), words),
+        6 | 8 => change_found(alloc, map, record, words),
+        _ => no_call(words),
+    }
+}
+
+// The reads that name a key.
+fn read_at<K: Sample, A: SampleSummary<K>>(
+    alloc: Global,
+    map: &BPlusTreeMap<K, u64, A>,
+    record: &Record,
+    words: &mut Words,
+) -> bool {
+    let Ok(key) = K::sample(alloc, record.a) else {
+        return false;
+    };
+    match record.member() {
+        0 => map.get(&key).report(words),
+        1 => map.get_counted(&key).report(words),
+        2 => map.get_key_value(&key).report(words),
+        _ => map.contains_key(&key).report(words),
+    }
+    true
+}
+
+fn found<K: Sample, A: SampleSummary<K>>(
+    alloc: Global,
+    map: &BPlusTreeMap<K, u64, A>,
+    record: &Record,
+    words: &mut Words,
+) -> bool {
+    let Ok(query) = A::query(alloc, record.a, record.b) else {
+        return false;
+    };
+    report_if_ok(map.get_by_argument(query), words)
+}
+
+fn rank<K: Sample, A: SampleSummary<K>>(
+    alloc: Global,
+    map: &BPlusTreeMap<K, u64, A>,
+    record: &Record,
+    words: &mut Words,
+) -> bool {
+    let Ok(key) = K::sample(alloc, record.a) else {
+        return false;
+    };
+    report_rank_of::<K, A>(map.rank_by_argument(&key), words)
+}
+
+fn read<K: Sample, A: SampleSummary<K>>(
+    alloc: Global,
+    map: &BPlusTreeMap<K, u64, A>,
+    record: &Record,
+    words: &mut Words,
+) -> bool {
+    match record.member() {
+        0..=3 => return read_at(alloc, map, record, words),
+        4 => (map.first_key_value(), map.last_key_value()).report(words),
+        5 => {
+            (map.len(), map.is_empty()).report(words);
+            return look(map, nodes::HEIGHT, 0, words);
         }
+        6 => return found(alloc, map, record, words),
+        7 => return rank(alloc, map, record, words),
+        8 => map.root_argument().report(words),
+        _ => return no_call(words),
     }
-
-    fn found(
-        &self,
-        alloc: Global,
-        number: u64,
-        index: u64,
-    ) -> Result<Option<(&K, &u64)>, AllocError> {
-        let query = A::query(alloc, number, index)?;
-        self.get_by_argument(query)
-    }
-
-    fn report_rank(&self, key: &K, words: &mut Words) -> bool {
-        report_rank_of::<K, A>(self.rank_by_argument(key), words)
-    }
-
-    fn summary(&self) -> &A {
-        self.root_argument()
-    }
+    true
 }
 
 impl<'a, K: Sample, A: SampleSummary<K>> Steps for Iter<'a, K, u64, A> {
-    fn step(&mut self, is_back: bool, words: &mut Words) {
-        let item = if is_back {
-            self.next_back()
+    fn step(&mut self, is_back: bool, is_reported: bool, words: &mut Words) -> bool {
+        if is_back {
+            report_step(self.next_back(), is_reported, words)
         } else {
-            self.next()
-        };
-        item.report(words);
-    }
-
-    fn report_left(&self, words: &mut Words) {
-        self.len().report(words);
-    }
-
-    fn report_hint(&self, words: &mut Words) {
-        self.size_hint().report(words);
-    }
-
-    fn report_rest(&mut self, words: &mut Words) {
-        while let Some(item) = self.next() {
-            item.report(words);
+            report_step(self.next(), is_reported, words)
         }
+    }
+
+    fn left(&self) -> (usize, (usize, Option<usize>)) {
+        (self.len(), self.size_hint())
     }
 }
 
-impl<'a, K: Sample, A: SampleSummary<K>> Steps for Keys<'a, K, u64, A> {
-    fn step(&mut self, is_back: bool, words: &mut Words) {
-        let item = if is_back {
-            self.next_back()
-        } else {
-            self.next()
-        };
-        item.report(words);
-    }
-
-    fn report_left(&self, words: &mut Words) {
-        self.len().report(words);
-    }
-
-    fn report_hint(&self, words: &mut Words) {
-        self.size_hint().report(words);
-    }
-
-    fn report_rest(&mut self, words: &mut Words) {
-        while let Some(item) = self.next() {
-            item.report(words);
-        }
-    }
+// Walks over pairs of a map. The calls that lend pairs all come here, since each function that says
+// what such an iterator does is dear to prove.
+fn walk_pairs<K: Sample, A: SampleSummary<K>>(
+    pairs: Iter<'_, K, u64, A>,
+    record: &Record,
+    words: &mut Words,
+) -> bool {
+    walk(pairs, record, words)
 }
 
-impl<'a, K: Sample, A: SampleSummary<K>> Steps for Values<'a, K, u64, A> {
-    fn step(&mut self, is_back: bool, words: &mut Words) {
-        let item = if is_back {
-            self.next_back()
-        } else {
-            self.next()
-        };
-        item.report(words);
-    }
-
-    fn report_left(&self, words: &mut Words) {
-        self.len().report(words);
-    }
-
-    fn report_hint(&self, words: &mut Words) {
-        self.size_hint().report(words);
-    }
-
-    fn report_rest(&mut self, words: &mut Words) {
-        while let Some(item) = self.next() {
-            item.report(words);
-        }
+// Walks over pairs if they are lent.
+fn walk_if<K: Sample, A: SampleSummary<K>>(
+    pairs: Result<Iter<'_, K, u64, A>, AllocError>,
+    record: &Record,
+    words: &mut Words,
+) -> bool {
+    match pairs {
+        Ok(pairs) => walk_pairs(pairs, record, words),
+        Err(_) => false,
     }
 }
 
@@ -244,6 +254,19 @@ fn range_of<K: Sample, A: SampleSummary<K>>(
     }
 }
 
+// The pairs in a range of keys, which is given as such.
+fn part_within<K: Sample, A: SampleSummary<K>>(
+    alloc: Global,
+    map: &BPlusTreeMap<K, u64, A>,
+    record: &Record,
+    words: &mut Words,
+) -> bool {
+    match bounds::<K>(alloc, record) {
+        Ok((lo, hi)) => walk_pairs(range_of(map, lo, hi, record.d & 8 == 8), record, words),
+        Err(_) => false,
+    }
+}
+
 // The parts between the bounds of a record. If the lower bound is included, half of the records use
 // a range of keys, and the others two bounds.
 fn part_between<K: Sample, A: SampleSummary<K>>(
@@ -252,18 +275,18 @@ fn part_between<K: Sample, A: SampleSummary<K>>(
     record: &Record,
     words: &mut Words,
 ) -> bool {
+    if record.member() == 2 && (record.d & 4) | (record.a & 1) == 0 {
+        return part_within(alloc, map, record, words);
+    }
     let Ok((lo, hi)) = bounds::<K>(alloc, record) else {
         return false;
     };
     match record.member() {
-        1 => walk(map.range(lo.as_ref(), hi.as_ref()), record, words),
-        2 if (record.d & 4) | (record.a & 1) == 0 => {
-            walk(range_of(map, lo, hi, record.d & 8 == 8), record, words)
-        }
+        1 => walk_pairs(map.range(lo.as_ref(), hi.as_ref()), record, words),
         2 => {
             let from = bound_of(&lo, record.d & 4 == 0);
             let to = bound_of(&hi, record.d & 8 == 8);
-            walk(map.range_bounds(from, to), record, words)
+            walk_pairs(map.range_bounds(from, to), record, words)
         }
         _ => report_if_ok(map.range_argument(lo.as_ref(), hi.as_ref()), words),
     }
@@ -304,12 +327,12 @@ fn part<K: Sample, A: SampleSummary<K>>(
     words: &mut Words,
 ) -> bool {
     match record.member() {
-        0 => walk(map.iter(), record, words),
+        0 => walk_pairs(map.iter(), record, words),
         1 | 2 | 4 => part_between(alloc, map, record, words),
         3 => range_found(alloc, map, record, words),
         5 => summary_of_part(alloc, map, record, words),
-        6 => walk(map.keys(), record, words),
-        7 => walk(map.values(), record, words),
+        6 => walk_side(map.keys(), record, words),
+        7 => walk_side(map.values(), record, words),
         _ => no_call(words),
     }
 }
@@ -336,8 +359,8 @@ fn drain_map<K: Sample, A: SampleSummary<K>>(
 ) -> bool {
     match record.member() {
         3 => drain(map.into_iter(), record, words),
-        5 => drain(map.into_keys(), record, words),
-        _ => drain(map.into_values(), record, words),
+        5 => drain_side(map.into_keys(), record, words),
+        _ => drain_side(map.into_values(), record, words),
     }
 }
 
@@ -442,12 +465,12 @@ impl<K: Sample, A: Special<K>> Subject for Maps<K, A> {
     fn call(&mut self, alloc: Global, record: &Record, words: &mut Words) -> bool {
         let map = &mut self.here;
         match record.family() {
-            0 => change_queried(alloc, map, record, words),
-            1 => read_queried(alloc, map, record, words),
+            0 => change(alloc, map, record, words),
+            1 => read(alloc, map, record, words),
             2 => part(alloc, map, record, words),
             3 => whole(alloc, self, record, words),
             4 => cursor(alloc, map, record, words),
-            5 => nodes::call(map.tree(), record, words),
+            5 => look(map, record.member(), record.a, words),
             7 => report_visit(map.descend_visit(says_of(record)), words),
             8 => moving::call(alloc, self, record, words),
             9 | 10 => A::call(alloc, map, record, words),
@@ -496,15 +519,7 @@ fn set_at<K: Sample>(
     record: &Record,
     words: &mut Words,
 ) -> bool {
-    match map.get_mut_at(record.a as usize) {
-        Ok(at) => {
-            Some(*at).report(words);
-            *at = record.b;
-        }
-        Err(SelectError::NotFound) => words.add(0),
-        Err(SelectError::OutOfMemory) => return false,
-    }
-    true
+    write_found(map.get_mut_at(record.a as usize), record.b, words)
 }
 
 fn get_at<K: Sample>(

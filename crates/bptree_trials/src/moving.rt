@@ -1,6 +1,6 @@
 //! Calls that change many pairs of maps at once.
 
-use crate::calls::report_back;
+use crate::calls::{report_back, report_if_ok, report_inserted};
 use crate::maps::Maps;
 use crate::record::Record;
 use crate::samples::{Sample, SampleSummary};
@@ -19,10 +19,7 @@ fn extend<K: Sample, A: SampleSummary<K>>(
     let Ok(pairs) = pairs_of::<K>(alloc, record.a, record.b, record.c) else {
         return false;
     };
-    match map.extend(pairs) {
-        Ok(()) => true,
-        Err(error) => report_back(error, words),
-    }
+    report_inserted(map.extend(pairs), words)
 }
 
 fn append<K: Sample, A: SampleSummary<K>>(maps: &mut Maps<K, A>) -> bool {
@@ -110,24 +107,13 @@ fn between<K: Sample, A: SampleSummary<K>>(
         return false;
     };
     if record.member() == 4 {
-        return report_removed(map.remove_range(lo.as_ref(), hi.as_ref()), words);
+        return report_if_ok(map.remove_range(lo.as_ref(), hi.as_ref()), words);
     }
     let more = record.c;
     map.update_range(lo.as_ref(), hi.as_ref(), |_key: &K, value: &mut u64| {
         *value = value.wrapping_add(more);
     });
     true
-}
-
-/// Reports how many pairs or keys were removed.
-pub fn report_removed(answer: Result<usize, AllocError>, words: &mut Words) -> bool {
-    match answer {
-        Ok(many) => {
-            many.report(words);
-            true
-        }
-        Err(_) => false,
-    }
 }
 
 fn upsert<K: Sample, A: SampleSummary<K>>(
@@ -137,17 +123,12 @@ fn upsert<K: Sample, A: SampleSummary<K>>(
     words: &mut Words,
 ) -> bool {
     let more = record.c;
-    match map.upsert_with(
+    let answer = map.upsert_with(
         key,
         record.b,
         |value: &mut u64| *value = value.wrapping_add(more),
-    ) {
-        Ok(is_new) => {
-            is_new.report(words);
-            true
-        }
-        Err(error) => report_back(error, words),
-    }
+    );
+    report_inserted(answer, words)
 }
 
 fn get_or_insert<K: Sample, A: SampleSummary<K>>(

@@ -1,6 +1,5 @@
 //! The nodes of a tree, and what holds of its store.
 
-use crate::record::Record;
 use crate::subject::no_call;
 use crate::words::{Report, Words};
 use bptree_keys::node_id::{InnerNodeId, LeafNodeId, NodeId};
@@ -202,21 +201,25 @@ where
     true
 }
 
-/// The calls that look at nodes.
-pub fn call<S: CloneStore>(tree: &BPlusTree<S>, record: &Record, words: &mut Words) -> bool
+/// The call that reports the height alone.
+pub const HEIGHT: u64 = 6;
+
+/// The calls that look at nodes, and at the node of a number.
+pub fn call<S: CloneStore>(tree: &BPlusTree<S>, member: u64, number: u64, words: &mut Words) -> bool
 where
     S::K: Report,
     S::V: Report + Clone,
     S::Argument: Report,
 {
     let store = tree.node_store();
-    match record.member() {
+    match member {
         0 => report_state(tree, words),
         1 => report_shape(tree, words),
         2 => is_tidy(store).report(words),
-        3 => store.cache_leaf(LeafNodeId::from_usize(record.a as usize)),
-        4 => return report_one_leaf(store, record.a, words),
-        5 => return report_one_inner(store, record.a, words),
+        3 => store.cache_leaf(LeafNodeId::from_usize(number as usize)),
+        4 => return report_one_leaf(store, number, words),
+        5 => return report_one_inner(store, number, words),
+        HEIGHT => tree.height().report(words),
         7 => return is_cloned(store, words),
         _ => return no_call(words),
     }

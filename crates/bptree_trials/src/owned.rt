@@ -1,11 +1,10 @@
 //! Keys and values that take memory, so that a leak or a second drop of one is seen from outside.
 
-use crate::calls::report_if_ok;
+use crate::calls::{report_if_ok, report_inserted};
 use crate::levels;
 use crate::printed::{report_orders, report_text};
 use crate::record::Record;
 use crate::samples::Sample;
-use crate::sets::insert;
 use crate::subject::{Subject, no_call};
 use crate::walk::keys_of;
 use crate::words::{Report, Words};
@@ -63,7 +62,7 @@ fn gather_set(alloc: Global, many: u64) -> Result<BPlusTreeSet<String>, AllocErr
 fn insert_again(alloc: Global, set: &mut BPlusTreeSet<String>, words: &mut Words) -> bool {
     set.len().report(words);
     match String::sample(alloc, 0) {
-        Ok(key) => insert(set, key, words),
+        Ok(key) => report_inserted(set.insert(key), words),
         Err(_) => false,
     }
 }

@@ -8,7 +8,7 @@ use crate::samples::Sample;
 use crate::subject::{Subject, no_call};
 use crate::trees::replace;
 use crate::words::{Report, Words};
-use bptree_arguments::argument::{Argument, CloneArgument};
+use bptree_arguments::argument::Argument;
 use bptree_keys::node_id::{LeafNodeId, NodeId};
 use bptree_nodes::inner_node::InnerNode;
 use bptree_nodes::leaf_node::LeafNode;
@@ -16,10 +16,28 @@ use bptree_stores::node_store_vec::NodeStoreVec;
 use bptree_stores::node_stores::{CloneStore, NodeStore, new_empty_leaf};
 use std::alloc::{AllocError, Global};
 
+/// The two ways to make a store by its own functions.
+pub trait Made: Drop + Sized {
+    fn made(alloc: Global) -> Self;
+
+    /// One with room for so many numbers of each kind.
+    fn with_room(alloc: Global, many: usize) -> Result<Self, AllocError>;
+}
+
+impl<K: Sample, A: Argument<K>> Made for NodeStoreVec<K, u64, A> {
+    fn made(alloc: Global) -> Self {
+        NodeStoreVec::new(alloc)
+    }
+
+    fn with_room(alloc: Global, many: usize) -> Result<Self, AllocError> {
+        NodeStoreVec::with_capacity(alloc, many)
+    }
+}
+
 /// A store.
 #[derive(Drop)]
-pub struct Parts<K: Sample, A: Argument<K>> {
-    store: NodeStoreVec<K, u64, A>,
+pub struct Parts<S: NodeStore> {
+    store: S,
 }
 
 // Reports whether no leaf has a number that is reserved. Then releases it.
@@ -77,9 +95,9 @@ fn add_inner<S: NodeStore>(alloc: Global, store: &mut S, words: &mut Words) -> b
     true
 }
 
-fn change<K: Sample, A: Argument<K>>(
+fn change<S: NodeStore + Made>(
     alloc: Global,
-    store: &mut NodeStoreVec<K, u64, A>,
+    store: &mut S,
     record: &Record,
     words: &mut Words,
 ) -> bool {
@@ -88,9 +106,9 @@ fn change<K: Sample, A: Argument<K>>(
         1 => reserve_inner(store, words),
         2 => add_leaf(store, words),
         3 => add_inner(alloc, store, words),
-        4 => replace(store, NodeStoreVec::with_capacity(alloc, record.a as usize)),
+        4 => replace(store, S::with_room(alloc, record.a as usize)),
         5 => reserve_both(store, words),
-        6 => replace(store, Ok(NodeStoreVec::new(alloc))),
+        6 => replace(store, Ok(S::made(alloc))),
         _ => no_call(words),
     }
 }
@@ -195,10 +213,15 @@ where
     true
 }
 
-impl<K: Sample, A: CloneArgument<K> + Report> Subject for Parts<K, A> {
-    fn begin(alloc: Global) -> Result<Parts<K, A>, AllocError> {
+impl<S: CloneStore + Made> Subject for Parts<S>
+where
+    S::K: Sample,
+    S::V: Report + Clone,
+    S::Argument: Report,
+{
+    fn begin(alloc: Global) -> Result<Self, AllocError> {
         Ok(Parts {
-            store: NodeStoreVec::new(alloc),
+            store: S::made(alloc),
         })
     }
 
@@ -209,7 +232,7 @@ impl<K: Sample, A: CloneArgument<K> + Report> Subject for Parts<K, A> {
                 self.store.is_empty().report(words);
                 true
             }
-            (1, member) => report_node::<K>(alloc, member, words),
+            (1, member) => report_node::<S::K>(alloc, member, words),
             (5, member) => report_store(&self.store, member, words),
             _ => no_call(words),
         }

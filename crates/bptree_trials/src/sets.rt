@@ -1,17 +1,18 @@
 //! Two sets.
 ghost use Rattle.std.specs.Iterator.{IsFinite};
 
-use crate::calls::{report_back, report_if_ok};
+use crate::calls::{report_if_ok, report_inserted};
 use crate::maps::report_order;
 use crate::moving::{keep_split, report_retained};
 use crate::nodes;
 use crate::record::Record;
 use crate::samples::Sample;
+use crate::sides::{drain_side, walk_side};
 use crate::subject::{Subject, no_call};
 use crate::trees::{bound_of, replace};
-use crate::walk::{Steps, bounds, drain, keys_of, walk};
+use crate::walk::{bounds, keys_of};
 use crate::words::{Report, Words};
-use bptree_sets::set::{BPlusTreeSet, Iter};
+use bptree_sets::set::BPlusTreeSet;
 use std::alloc::{AllocError, Global};
 use std::mem;
 
@@ -22,28 +23,6 @@ type Set<K> = BPlusTreeSet<K>;
 pub struct Sets<K: Sample> {
     here: Set<K>,
     there: Set<K>,
-}
-
-/// Inserts a key, and reports whether no key equalled it.
-pub fn insert<K: Sample>(set: &mut Set<K>, key: K, words: &mut Words) -> bool {
-    match set.insert(key) {
-        Ok(is_new) => {
-            is_new.report(words);
-            true
-        }
-        Err(error) => report_back(error, words),
-    }
-}
-
-// Replaces a key, and reports the one that left.
-fn replace_key<K: Sample>(set: &mut Set<K>, key: K, words: &mut Words) -> bool {
-    match set.replace(key) {
-        Ok(gone) => {
-            gone.report(words);
-            true
-        }
-        Err(error) => report_back(error, words),
-    }
 }
 
 // The changes that name a key.
@@ -57,10 +36,10 @@ fn change_at<K: Sample>(
         return false;
     };
     match record.member() {
-        0 => insert(set, key, words),
+        0 => report_inserted(set.insert(key), words),
         1 => report_if_ok(set.remove(&key), words),
         2 => report_if_ok(set.take(&key), words),
-        _ => replace_key(set, key, words),
+        _ => report_inserted(set.replace(key), words),
     }
 }
 
@@ -97,28 +76,18 @@ fn read<K: Sample>(alloc: Global, set: &Set<K>, record: &Record, words: &mut Wor
     true
 }
 
-impl<'a, K: Sample> Steps for Iter<'a, K> {
-    fn step(&mut self, is_back: bool, words: &mut Words) {
-        let item = if is_back {
-            self.next_back()
-        } else {
-            self.next()
-        };
-        item.report(words);
-    }
-
-    fn report_left(&self, words: &mut Words) {
-        self.len().report(words);
-    }
-
-    fn report_hint(&self, words: &mut Words) {
-        self.size_hint().report(words);
-    }
-
-    fn report_rest(&mut self, words: &mut Words) {
-        while let Some(item) = self.next() {
-            item.report(words);
-        }
+// The keys in a range of keys, which is given as such.
+fn part_within<K: Sample>(alloc: Global, set: &Set<K>, record: &Record, words: &mut Words) -> bool {
+    let Ok((lo, hi)) = bounds::<K>(alloc, record) else {
+        return false;
+    };
+    let (Some(lo), Some(hi)) = (lo, hi) else {
+        return false;
+    };
+    if record.d & 8 == 8 {
+        walk_side(set.range_within(lo..=hi), record, words)
+    } else {
+        walk_side(set.range_within(lo..hi), record, words)
     }
 }
 
@@ -130,30 +99,23 @@ fn part_between<K: Sample>(
     record: &Record,
     words: &mut Words,
 ) -> bool {
+    if record.member() != 1 && record.d & 7 == 3 && record.a & 1 == 0 {
+        return part_within(alloc, set, record, words);
+    }
     let Ok((lo, hi)) = bounds::<K>(alloc, record) else {
         return false;
     };
     if record.member() == 1 {
-        return walk(set.range(lo.as_ref(), hi.as_ref()), record, words);
-    }
-    if record.d & 7 == 3 && record.a & 1 == 0 {
-        let (Some(lo), Some(hi)) = (lo, hi) else {
-            return false;
-        };
-        return if record.d & 8 == 8 {
-            walk(set.range_within(lo..=hi), record, words)
-        } else {
-            walk(set.range_within(lo..hi), record, words)
-        };
+        return walk_side(set.range(lo.as_ref(), hi.as_ref()), record, words);
     }
     let from = bound_of(&lo, record.d & 4 == 0);
     let to = bound_of(&hi, record.d & 8 == 8);
-    walk(set.range_bounds(from, to), record, words)
+    walk_side(set.range_bounds(from, to), record, words)
 }
 
 fn part<K: Sample>(alloc: Global, set: &Set<K>, record: &Record, words: &mut Words) -> bool {
     match record.member() {
-        0 => walk(set.iter(), record, words),
+        0 => walk_side(set.iter(), record, words),
         1 | 2 => part_between(alloc, set, record, words),
         _ => no_call(words),
     }
@@ -171,7 +133,7 @@ fn drain_set<K: Sample>(
     words: &mut Words,
 ) -> bool {
     match BPlusTreeSet::new(alloc) {
-        Ok(empty) => drain(mem::replace(set, empty).into_iter(), record, words),
+        Ok(empty) => drain_side(mem::replace(set, empty).into_iter(), record, words),
         Err(_) => false,
     }
 }
@@ -201,10 +163,7 @@ fn extend<K: Sample>(alloc: Global, set: &mut Set<K>, record: &Record, words: &m
     let Ok(keys) = keys_of::<K>(alloc, record.a, record.b, record.c) else {
         return false;
     };
-    match set.extend(keys) {
-        Ok(()) => true,
-        Err(error) => report_back(error, words),
-    }
+    report_inserted(set.extend(keys), words)
 }
 
 fn append<K: Sample>(sets: &mut Sets<K>) -> bool {
@@ -353,7 +312,7 @@ impl<K: Sample> Subject for Sets<K> {
             1 => read(alloc, &self.here, record, words),
             2 => part(alloc, &self.here, record, words),
             3 => whole(alloc, self, record, words),
-            5 => nodes::call(self.here.tree(), record, words),
+            5 => nodes::call(self.here.tree(), record.member(), record.a, words),
             8 => move_keys(alloc, self, record, words),
             11 => join(self, record.member(), words),
             _ => no_call(words),

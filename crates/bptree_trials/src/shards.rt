@@ -1,6 +1,6 @@
 //! A map over shards, and the functions that choose shards.
 
-use crate::calls::{report_back, report_if_ok};
+use crate::calls::{report_if_ok, report_inserted};
 use crate::record::Record;
 use crate::samples::Sample;
 use crate::subject::{Subject, no_call};
@@ -54,22 +54,12 @@ impl<S: Shard<V = u64>> Sharded<S>
 where
     S::K: Sample,
 {
-    fn put(&mut self, key: S::K, value: u64, words: &mut Words) -> bool {
-        match self.whole.put(key, value) {
-            Ok(old) => {
-                old.report(words);
-                true
-            }
-            Err(error) => report_back(error, words),
-        }
-    }
-
     fn change(&mut self, alloc: Global, record: &Record, words: &mut Words) -> bool {
         let Ok(key) = S::K::sample(alloc, record.a) else {
             return false;
         };
         match record.member() {
-            0 => self.put(key, record.b, words),
+            0 => report_inserted(self.whole.put(key, record.b), words),
             1 => report_if_ok(self.whole.del(&key), words),
             _ => no_call(words),
         }
@@ -151,6 +141,18 @@ where
             _ => no_call(words),
         }
     }
+
+    // The calls on the shards that there are. They stand apart from those that name a map, since a
+    // function that names it is dear to prove for each call.
+    fn on_shards(&mut self, alloc: Global, record: &Record, words: &mut Words) -> bool {
+        match record.family() {
+            0 => self.change(alloc, record, words),
+            1 => self.read(alloc, record, words),
+            2 => self.part(alloc, record, words),
+            8 => self.move_bounds(alloc, record, words),
+            _ => no_call(words),
+        }
+    }
 }
 
 impl Report for Part {
@@ -227,13 +229,9 @@ impl<K: Sample> Subject for Sharded<Map<K>> {
 
     fn call(&mut self, alloc: Global, record: &Record, words: &mut Words) -> bool {
         match record.family() {
-            0 => self.change(alloc, record, words),
-            1 => self.read(alloc, record, words),
-            2 => self.part(alloc, record, words),
             3 if record.member() == 4 => replace(&mut self.whole, begun(alloc, record)),
-            8 => self.move_bounds(alloc, record, words),
             9 => choose(record, words),
-            _ => no_call(words),
+            _ => self.on_shards(alloc, record, words),
         }
     }
 }

@@ -1,131 +1,223 @@
 //! Two trees, a cursor and a list of commands.
 
 use crate::calls::{
-    Calls, Queried, Removed, change, change_queried, read, read_queried, report_if_ok,
-    report_rank_of,
+    report_if_ok, report_inserted, report_rank_of, report_replaced, write, write_found,
 };
 use crate::commands::{self, Held};
 use crate::record::Record;
 use crate::samples::{Sample, SampleSummary};
 use crate::says::{Say, Says};
 use crate::subject::{Subject, no_call};
-use crate::walk::{Steps, bounds, drain, pairs_of, walk, walk_if};
+use crate::walk::{Steps, bounds, pairs_of, report_step, take_items, walk};
 use crate::words::{Report, Words};
 use crate::{cursors, nodes};
 use bptree_arguments::argument::CloneArgument;
 use bptree_arguments::visit::DescendError;
 use bptree_loading::loading::in_load_order;
 use bptree_stores::node_stores::{CloneStore, NodeStore};
+use bptree_tree::BPlusTree;
 use bptree_tree::cursor::Cursor;
 use bptree_tree::iterator::Iter;
-use bptree_tree::{BPlusTree, InsertError, ReplaceError, SelectError};
+use bptree_tree::tree::IntoIter;
 use std::alloc::{AllocError, Global};
 use std::mem;
 use std::ops::Bound;
 
-impl<S: NodeStore<V = u64>> Calls for BPlusTree<S>
+// Puts a key into the tree, in place of one that equals it if that is asked.
+fn put<S: NodeStore<V = u64>>(
+    alloc: Global,
+    tree: &mut BPlusTree<S>,
+    record: &Record,
+    words: &mut Words,
+) -> bool
 where
     S::K: Sample,
 {
-    type Key = S::K;
-
-    fn put(&mut self, key: S::K, value: u64) -> Result<Option<u64>, InsertError<S::K, u64>> {
-        self.insert(key, value)
-    }
-
-    fn take(&mut self, key: &S::K) -> Result<Option<u64>, AllocError> {
-        self.remove(key)
-    }
-
-    fn take_entry(&mut self, key: &S::K) -> Removed<S::K> {
-        self.remove_entry(key)
-    }
-
-    fn take_first(&mut self) -> Removed<S::K> {
-        self.pop_first()
-    }
-
-    fn take_last(&mut self) -> Removed<S::K> {
-        self.pop_last()
-    }
-
-    fn swap_key(&mut self, key: S::K) -> Result<S::K, ReplaceError<S::K>> {
-        self.replace_key(key)
-    }
-
-    fn empty(&mut self) -> Result<(), AllocError> {
-        self.clear()
-    }
-
-    fn value_mut(&mut self, key: &S::K) -> Option<&mut u64> {
-        self.get_mut(key)
-    }
-
-    fn value(&self, key: &S::K) -> Option<&u64> {
-        self.get(key)
-    }
-
-    fn value_counted(&self, key: &S::K) -> (Option<&u64>, usize) {
-        self.get_counted(key)
-    }
-
-    fn entry(&self, key: &S::K) -> Option<(&S::K, &u64)> {
-        self.get_key_value(key)
-    }
-
-    fn has(&self, key: &S::K) -> bool {
-        self.contains_key(key)
-    }
-
-    fn ends(&self) -> (Option<(&S::K, &u64)>, Option<(&S::K, &u64)>) {
-        (self.first(), self.last())
-    }
-
-    fn size(&self) -> (usize, (bool, usize)) {
-        (self.len(), (self.is_empty(), self.height()))
+    let Ok(key) = S::K::sample(alloc, record.a) else {
+        return false;
+    };
+    if record.member() == 0 {
+        report_inserted(tree.insert(key, record.b), words)
+    } else {
+        report_replaced(tree.replace_key(key), words)
     }
 }
 
-impl<S: NodeStore<V = u64>> Queried for BPlusTree<S>
+// The other changes that name a key.
+fn change_at<S: NodeStore<V = u64>>(
+    alloc: Global,
+    tree: &mut BPlusTree<S>,
+    record: &Record,
+    words: &mut Words,
+) -> bool
+where
+    S::K: Sample,
+{
+    let Ok(key) = S::K::sample(alloc, record.a) else {
+        return false;
+    };
+    match record.member() {
+        1 => report_if_ok(tree.remove(&key), words),
+        2 => report_if_ok(tree.remove_entry(&key), words),
+        _ => write(tree.get_mut(&key), record.b, words),
+    }
+}
+
+// The changes that need a query.
+fn change_found<S: NodeStore<V = u64>>(
+    alloc: Global,
+    tree: &mut BPlusTree<S>,
+    record: &Record,
+    words: &mut Words,
+) -> bool
 where
     S::K: Sample,
     S::Argument: SampleSummary<S::K>,
 {
-    type Summary = S::Argument;
-
-    fn take_found(&mut self, alloc: Global, number: u64, index: u64) -> Removed<S::K> {
-        let query = S::Argument::query(alloc, number, index)?;
-        self.remove_by_argument(query)
+    let index = if record.member() == 6 {
+        record.b
+    } else {
+        record.c
+    };
+    let Ok(query) = S::Argument::query(alloc, record.a, index) else {
+        return false;
+    };
+    if record.member() == 6 {
+        report_if_ok(tree.remove_by_argument(query), words)
+    } else {
+        write_found(tree.get_mut_by_argument(query), record.b, words)
     }
+}
 
-    fn found_mut(
-        &mut self,
-        alloc: Global,
-        number: u64,
-        index: u64,
-    ) -> Result<&mut u64, SelectError> {
-        match S::Argument::query(alloc, number, index) {
-            Ok(query) => self.get_mut_by_argument(query),
-            Err(_) => Err(SelectError::OutOfMemory),
+// The changes that need no query.
+fn change<S: NodeStore<V = u64>>(
+    alloc: Global,
+    tree: &mut BPlusTree<S>,
+    record: &Record,
+    words: &mut Words,
+) -> bool
+where
+    S::K: Sample,
+{
+    match record.member() {
+        0 | 9 => put(alloc, tree, record, words),
+        1 | 2 | 7 => change_at(alloc, tree, record, words),
+        3 => report_if_ok(tree.pop_first(), words),
+        4 => report_if_ok(tree.pop_last(), words),
+        5 => report_if_ok(tree.clear(), words),
+        _ => no_call(words),
+    }
+}
+
+// All changes.
+fn change_queried<S: NodeStore<V = u64>>(
+    alloc: Global,
+    tree: &mut BPlusTree<S>,
+    record: &Record,
+    words: &mut Words,
+) -> bool
+where
+    S::K: Sample,
+    S::Argument: SampleSummary<S::K>,
+{
+    match record.member() {
+        6 | 8 => change_found(alloc, tree, record, words),
+        _ => change(alloc, tree, record, words),
+    }
+}
+
+// The reads that name a key.
+fn read_at<S: NodeStore<V = u64>>(
+    alloc: Global,
+    tree: &BPlusTree<S>,
+    record: &Record,
+    words: &mut Words,
+) -> bool
+where
+    S::K: Sample,
+{
+    let Ok(key) = S::K::sample(alloc, record.a) else {
+        return false;
+    };
+    match record.member() {
+        0 => tree.get(&key).report(words),
+        1 => tree.get_counted(&key).report(words),
+        2 => tree.get_key_value(&key).report(words),
+        _ => tree.contains_key(&key).report(words),
+    }
+    true
+}
+
+fn found<S: NodeStore<V = u64>>(
+    alloc: Global,
+    tree: &BPlusTree<S>,
+    record: &Record,
+    words: &mut Words,
+) -> bool
+where
+    S::K: Sample,
+    S::Argument: SampleSummary<S::K>,
+{
+    let Ok(query) = S::Argument::query(alloc, record.a, record.b) else {
+        return false;
+    };
+    report_if_ok(tree.get_by_argument(query), words)
+}
+
+fn rank<S: NodeStore<V = u64>>(
+    alloc: Global,
+    tree: &BPlusTree<S>,
+    record: &Record,
+    words: &mut Words,
+) -> bool
+where
+    S::K: Sample,
+    S::Argument: SampleSummary<S::K>,
+{
+    let Ok(key) = S::K::sample(alloc, record.a) else {
+        return false;
+    };
+    report_rank_of::<S::K, S::Argument>(tree.rank_by_argument(&key), words)
+}
+
+// The reads that need no query.
+fn read<S: NodeStore<V = u64>>(
+    alloc: Global,
+    tree: &BPlusTree<S>,
+    record: &Record,
+    words: &mut Words,
+) -> bool
+where
+    S::K: Sample,
+{
+    match record.member() {
+        0..=3 => return read_at(alloc, tree, record, words),
+        4 => (tree.first(), tree.last()).report(words),
+        5 => (tree.len(), (tree.is_empty(), tree.height())).report(words),
+        _ => return no_call(words),
+    }
+    true
+}
+
+// All reads.
+fn read_queried<S: NodeStore<V = u64>>(
+    alloc: Global,
+    tree: &BPlusTree<S>,
+    record: &Record,
+    words: &mut Words,
+) -> bool
+where
+    S::K: Sample,
+    S::Argument: SampleSummary<S::K>,
+{
+    match record.member() {
+        6 => found(alloc, tree, record, words),
+        7 => rank(alloc, tree, record, words),
+        8 => {
+            tree.root_argument().report(words);
+            true
         }
-    }
-
-    fn found(
-        &self,
-        alloc: Global,
-        number: u64,
-        index: u64,
-    ) -> Result<Option<(&S::K, &u64)>, AllocError> {
-        let query = S::Argument::query(alloc, number, index)?;
-        self.get_by_argument(query)
-    }
-
-    fn report_rank(&self, key: &S::K, words: &mut Words) -> bool {
-        report_rank_of::<S::K, S::Argument>(self.rank_by_argument(key), words)
-    }
-
-    fn summary(&self) -> &S::Argument {
-        self.root_argument()
+        _ => read(alloc, tree, record, words),
     }
 }
 
@@ -134,28 +226,27 @@ where
     S::K: Report,
     S::V: Report,
 {
-    fn step(&mut self, is_back: bool, words: &mut Words) {
-        let item = if is_back {
-            self.next_back()
+    fn step(&mut self, is_back: bool, is_reported: bool, words: &mut Words) -> bool {
+        if is_back {
+            report_step(self.next_back(), is_reported, words)
         } else {
-            self.next()
-        };
-        item.report(words);
-    }
-
-    fn report_left(&self, words: &mut Words) {
-        self.len().report(words);
-    }
-
-    fn report_hint(&self, words: &mut Words) {
-        self.size_hint().report(words);
-    }
-
-    fn report_rest(&mut self, words: &mut Words) {
-        while let Some(item) = self.next() {
-            item.report(words);
+            report_step(self.next(), is_reported, words)
         }
     }
+
+    fn left(&self) -> (usize, (usize, Option<usize>)) {
+        (self.len(), self.size_hint())
+    }
+}
+
+/// Walks over pairs of a tree. The calls that lend pairs all come here, since each function that says
+/// what such an iterator does is dear to prove.
+pub fn walk_pairs<S: NodeStore>(pairs: Iter<'_, S>, record: &Record, words: &mut Words) -> bool
+where
+    S::K: Report,
+    S::V: Report,
+{
+    walk(pairs, record, words)
 }
 
 fn range<S: NodeStore<V = u64>>(
@@ -170,7 +261,7 @@ where
     let Ok((lo, hi)) = bounds::<S::K>(alloc, record) else {
         return false;
     };
-    walk(tree.range(lo.as_ref(), hi.as_ref()), record, words)
+    walk_pairs(tree.range(lo.as_ref(), hi.as_ref()), record, words)
 }
 
 /// A bound of a range: the key is in it or not, where there is a key.
@@ -196,7 +287,7 @@ where
     };
     let lo = bound_of(&lo, record.d & 4 == 0);
     let hi = bound_of(&hi, record.d & 8 == 8);
-    walk(tree.range_bounds(lo, hi), record, words)
+    walk_pairs(tree.range_bounds(lo, hi), record, words)
 }
 
 fn range_found<S: NodeStore<V = u64>>(
@@ -213,7 +304,10 @@ where
         return false;
     };
     let many = (record.d >> 16) as usize;
-    walk_if(tree.range_by_argument(query, many), record, words)
+    match tree.range_by_argument(query, many) {
+        Ok(pairs) => walk_pairs(pairs, record, words),
+        Err(_) => false,
+    }
 }
 
 fn summary_between<S: NodeStore<V = u64>>(
@@ -263,7 +357,7 @@ where
     S::Argument: Report,
 {
     match record.member() {
-        0 => walk(tree.iter(), record, words),
+        0 => walk_pairs(tree.iter(), record, words),
         1 => range(alloc, tree, record, words),
         2 => range_bounds(alloc, tree, record, words),
         4 => summary_between(alloc, tree, record, words),
@@ -335,6 +429,20 @@ pub fn two_trees<S: NodeStore>(alloc: Global) -> Result<Both<S>, AllocError> {
     Ok(Both { here, there })
 }
 
+/// Takes pairs of a tree that is taken apart, in one of two ways.
+pub fn take_pairs<S: NodeStore>(
+    pairs: &mut IntoIter<S>,
+    is_in_turn: bool,
+    record: &Record,
+    words: &mut Words,
+)
+where
+    S::K: Report,
+    S::V: Report,
+{
+    take_items(pairs, is_in_turn, record, words);
+}
+
 fn drain_there<S: NodeStore<V = u64>>(
     alloc: Global,
     both: &mut Both<S>,
@@ -346,8 +454,9 @@ where
 {
     match new_tree(alloc) {
         Ok(empty) => {
-            let tree = mem::replace(&mut both.there, empty);
-            drain(tree.into_iter(), record, words)
+            let mut pairs = mem::replace(&mut both.there, empty).into_iter();
+            take_pairs(&mut pairs, false, record, words);
+            true
         }
         Err(_) => false,
     }
@@ -457,7 +566,7 @@ where
             2 => part_queried(alloc, tree, record, words),
             3 => whole(alloc, &mut self.both, record, words),
             4 => cursors::call_queried(alloc, tree, &mut self.cursor, record, words),
-            5 => nodes::call(tree, record, words),
+            5 => nodes::call(tree, record.member(), record.a, words),
             6 => commands::call(alloc, tree, &mut self.commands, record, words),
             7 => report_visit(tree.descend_visit(says_of(record)), words),
             _ => no_call(words),
@@ -492,7 +601,7 @@ where
             2 => part(alloc, tree, record, words),
             3 => whole(alloc, &mut self.both, record, words),
             4 => cursors::call(alloc, tree, &mut self.cursor, record, words),
-            5 => nodes::call(tree, record, words),
+            5 => nodes::call(tree, record.member(), record.a, words),
             _ => no_call(words),
         }
     }

@@ -90,8 +90,8 @@ where
     upper.report(words);
 }
 
-/// Takes `many` items from each end in turn, and reports them and how many are left before and after.
-pub fn report_both_ends<I: DoubleEndedIterator + ExactSizeIterator>(
+// Takes `many` items from each end in turn, and reports them and how many are left before and after.
+fn report_both_ends<I: DoubleEndedIterator + ExactSizeIterator>(
     items: &mut I,
     many: u64,
     words: &mut Words,
@@ -125,27 +125,46 @@ where
 /// in `Iterator`: if the items are references, each call of such a function needs a proof about their
 /// lifetimes.
 pub trait Steps: Clone + Drop {
-    /// Takes an item from an end, and reports it if there is one.
-    fn step(&mut self, is_back: bool, words: &mut Words);
+    /// Takes an item from an end, and reports it. If it is `told`, a 1 stands before it, or a 0 alone
+    /// if there is none. Returns whether there was an item.
+    fn step(&mut self, is_back: bool, is_reported: bool, words: &mut Words) -> bool;
 
-    /// Reports how many items are left.
-    fn report_left(&self, words: &mut Words);
+    /// How many items are left, and the bounds of how many are.
+    fn left(&self) -> (usize, (usize, Option<usize>));
+}
 
-    /// Reports the bounds of how many items are left.
-    fn report_hint(&self, words: &mut Words);
-
-    /// Takes all items, and reports them.
-    fn report_rest(&mut self, words: &mut Words);
+/// Reports an item, as a step does.
+pub fn report_step<T: Report + Drop>(
+    item: Option<T>,
+    is_reported: bool,
+    words: &mut Words,
+) -> bool {
+    let is_there = item.is_some();
+    if is_reported {
+        words.add(is_there as u64);
+    }
+    if let Some(item) = item {
+        item.report(words);
+    }
+    is_there
 }
 
 // Takes items from both ends as the record says, and reports them and how many are left.
 fn take_steps<I: Steps>(items: &mut I, record: &Record, words: &mut Words) {
-    items.report_left(words);
+    items.left().0.report(words);
     for step in 0..(record.d >> 8) & 255 {
-        items.step((record.c >> (step & 63)) & 1 == 1, words);
+        items.step((record.c >> (step & 63)) & 1 == 1, true, words);
     }
-    items.report_left(words);
-    items.report_hint(words);
+    items.left().report(words);
+}
+
+// Takes all items from the front, and reports them.
+fn take_rest<I: Steps>(items: &mut I, words: &mut Words) {
+    for _ in 0..u64::MAX {
+        if !items.step(false, false, words) {
+            return;
+        }
+    }
 }
 
 /// Takes items from both ends, reports them, and then the rest of a clone, behind which there is no
@@ -156,17 +175,29 @@ pub fn walk<I: Steps>(items: I, record: &Record, words: &mut Words) -> bool {
     let Ok(mut rest) = items.clone() else {
         return false;
     };
-    rest.report_rest(words);
-    rest.step(true, words);
-    items.report_left(words);
+    take_rest(&mut rest, words);
+    rest.step(true, true, words);
+    items.left().0.report(words);
     true
 }
 
-/// Does the same if the iterator was made.
-pub fn walk_if<I: Steps>(items: Result<I, AllocError>, record: &Record, words: &mut Words) -> bool {
-    match items {
-        Ok(items) => walk(items, record, words),
-        Err(_) => false,
+/// Takes items and reports them: as many from each end as the record says, in turn, or by the steps of
+/// the record and then the others. It is one function since what shows an iterator to two pays twice.
+pub fn take_items<I: DoubleEndedIterator + ExactSizeIterator>(
+    items: &mut I,
+    is_in_turn: bool,
+    record: &Record,
+    words: &mut Words,
+)
+where
+    I::Item: Report + Drop,
+    requires { (x : I) → I.can_next x × I.can_next_back x }
+{
+    if is_in_turn {
+        report_both_ends(items, record.a, words);
+    } else {
+        report_steps(items, record, words);
+        report_all(items, words);
     }
 }
 
@@ -181,7 +212,6 @@ where
     requires { (x : I) → I.can_next x × I.can_next_back x }
 {
     let mut items = items;
-    report_steps(&mut items, record, words);
-    report_all(&mut items, words);
+    take_items(&mut items, false, record, words);
     true
 }

@@ -1,0 +1,50 @@
+//! Iterators over the keys or the values of maps, and over the keys of sets.
+
+use crate::record::Record;
+use crate::walk::{Steps, drain, report_step, walk};
+use crate::words::{Report, Words};
+use bptree_arguments::argument::Argument;
+use bptree_keys::key::Key;
+use bptree_maps::map::{IntoSideIter, LentSide, Side, SideIter};
+
+impl<'a, K: Key, V: Drop, A: Argument<K>, Z: LentSide<K, V>> Steps for SideIter<'a, K, V, A, Z>
+where
+    Z::Part: Report,
+{
+    fn step(&mut self, is_back: bool, is_reported: bool, words: &mut Words) -> bool {
+        if is_back {
+            report_step(self.next_back(), is_reported, words)
+        } else {
+            report_step(self.next(), is_reported, words)
+        }
+    }
+
+    fn left(&self) -> (usize, (usize, Option<usize>)) {
+        (self.len(), self.size_hint())
+    }
+}
+
+/// Walks over keys or values that are lent. Those of maps and sets all come here, since each function
+/// that says what such an iterator does is dear to prove.
+pub fn walk_side<K: Key, V: Drop, A: Argument<K>, Z: LentSide<K, V>>(
+    items: SideIter<'_, K, V, A, Z>,
+    record: &Record,
+    words: &mut Words,
+) -> bool
+where
+    Z::Part: Report,
+{
+    walk(items, record, words)
+}
+
+/// Takes keys or values that are owned from both ends and then the others, and reports them.
+pub fn drain_side<K: Key, V: Drop, A: Argument<K>, Z: Side<K, V>>(
+    items: IntoSideIter<K, V, A, Z>,
+    record: &Record,
+    words: &mut Words,
+) -> bool
+where
+    Z::Part: Report + Drop,
+{
+    drain(items, record, words)
+}
