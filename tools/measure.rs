@@ -95,18 +95,13 @@ fn both(sorted: &[u64]) {
     tell("map", "intersection", start, many, sum);
 }
 
-// Whether keys are there; keys and values alone; and all pairs from the front, and from the back.
-// The key that stands in the middle of all.
-fn middle_of(keys: &[u64]) -> u64 {
+// The upper half of the pairs leaves and comes back, for each pair that moves; then every second pair leaves, for each pair;
+// and of the others the half in the middle is removed, for each pair removed.
+fn halves(mut map: BTreeMap<u64, u64>, keys: &[u64]) {
     let mut sorted = keys.to_vec();
     sorted.sort_unstable();
-    sorted[sorted.len() / 2]
-}
-
-// The upper half of the pairs leaves and comes back, for each pair that moves; and then every second pair leaves, for each
-// pair.
-fn halves(mut map: BTreeMap<u64, u64>, middle: u64) {
     let many = map.len();
+    let (middle, lo, hi) = (sorted[many / 2], sorted[many / 4], sorted[many - many / 4]);
     let start = Instant::now();
     let mut half = map.split_off(&middle);
     let moved = half.len();
@@ -117,8 +112,12 @@ fn halves(mut map: BTreeMap<u64, u64>, middle: u64) {
     let start = Instant::now();
     map.retain(|key, _| *key % 4 == 1);
     tell("map", "retain", start, many, map.len() as u64);
+    let start = Instant::now();
+    let gone = map.extract_if(lo..hi, |_, _| true).count();
+    tell("map", "removerange", start, gone, map.len() as u64);
 }
 
+// Whether keys are there; keys and values alone; and all pairs from the front, and from the back.
 fn ends(keys: &[u64], others: &[u64]) {
     let mut map: BTreeMap<u64, u64> = keys.iter().map(|key| (*key, *key)).collect();
     let start = Instant::now();
@@ -140,7 +139,7 @@ fn ends(keys: &[u64], others: &[u64]) {
     }
     tell("map", "values", start, keys.len(), sum);
     let mut other = map.clone();
-    halves(map.clone(), middle_of(keys));
+    halves(map.clone(), keys);
     let start = Instant::now();
     let mut sum = 0u64;
     while let Some((key, _)) = map.pop_first() {

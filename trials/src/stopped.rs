@@ -1,5 +1,5 @@
 //! What a call may leave that can stop in the middle: which pairs have moved, which is in hand, and
-//! which stayed.
+//! which stayed. And which calls go on in another way if memory is refused.
 
 use crate::kind::Kind;
 use crate::model::pairs::Pairs;
@@ -7,28 +7,33 @@ use crate::model::Model;
 use crate::record::Record;
 use crate::words::Reply;
 
+// Whether a removal can fail.
+fn removals_can_fail(kind: &Kind) -> bool {
+    kind.has_large_keys() || kind.has_groups()
+}
+
 // Whether a call is an append that inserts few pairs one by one, and takes them back if one fails. The
 // pairs are then those from before it, but the nodes need not be.
 fn takes_back(model: &Model, record: &Record) -> bool {
     let is_append = (record.family(), record.member()) == (8, 1);
-    let can_fail = model.kind.has_large_keys() || model.kind.has_groups();
-    is_append && !can_fail && model.there.len() < model.here.len() / 16
+    is_append && !removals_can_fail(&model.kind) && model.there.len() < model.here.len() / 16
+}
+
+/// Whether a call is a removal of a range that removes the pairs one by one if memory is refused. It
+/// then succeeds, and the pairs are those after a call of which nothing is refused, but the nodes need
+/// not be.
+pub fn goes_on(model: &Model, record: &Record) -> bool {
+    let is_removal = (record.family(), record.member()) == (8, 4) && !model.kind.is_shards();
+    is_removal && !removals_can_fail(&model.kind)
 }
 
 /// Whether a call can stop in the middle, or leaves other nodes if it fails.
 pub fn can_stop(model: &Model, record: &Record) -> bool {
     let (family, member) = (record.family(), record.member());
     match family {
-        8 if !model.kind.is_shards() => matches!(member, 0 | 3 | 4) || takes_back(model, record),
+        8 if !model.kind.is_shards() => matches!(member, 0 | 3) || takes_back(model, record),
         _ => false,
     }
-}
-
-// The pairs of a list but those from one place up to another.
-fn without(kind: Kind, pairs: &Pairs, from: usize, to: usize) -> Pairs {
-    let mut rest = pairs.part(0, from);
-    rest.extend(pairs.part(to, pairs.len()));
-    Pairs::gathered(kind, rest)
 }
 
 /// A model, and what a call left and replied.
@@ -36,24 +41,18 @@ struct Stop<'a> {
     model: &'a Model,
     record: &'a Record,
     reply: &'a Reply,
-    // How many pairs the call left.
-    left: usize,
 }
 
 /// What a model is after a call that stopped. An error says what is not as it may be.
-pub fn after(model: &Model, record: &Record, reply: &Reply, left: usize) -> Result<Model, String> {
+pub fn after(model: &Model, record: &Record, reply: &Reply) -> Result<Model, String> {
     let stop = Stop {
         model,
         record,
         reply,
-        left,
     };
     let member = record.member();
     if takes_back(model, record) {
         return stop.has(&[], model.clone());
-    }
-    if record.family() == 8 && member == 4 {
-        return stop.removed();
     }
     if reply.len == 0 {
         // A key, or a list of them, was not made.
@@ -128,18 +127,5 @@ impl Stop<'_> {
         let kept = kept.into_iter().filter(|pair| model.stays(record, *pair));
         after.here = Pairs::gathered(model.kind, kept);
         self.has(&words, after)
-    }
-
-    // The first of the pairs between the bounds have left.
-    fn removed(&self) -> Result<Model, String> {
-        let mut after = self.model.clone();
-        let (from, to) = after.between(self.record);
-        let gone = after.here.len().checked_sub(self.left);
-        let gone = gone.ok_or("there are more than before")?;
-        if from + gone > to || gone > 0 && from + gone == to {
-            return Err(format!("{gone} have left"));
-        }
-        after.here = without(after.kind, &after.here, from, from + gone);
-        self.has(&[], after)
     }
 }

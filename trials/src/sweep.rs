@@ -6,7 +6,7 @@ use crate::process::{Process, Program};
 use crate::record::{calls, Record};
 use crate::scenario::{Scenario, Step};
 use crate::shapes::{met, Shape};
-use crate::stopped::{after, can_stop};
+use crate::stopped::{after, can_stop, goes_on};
 use crate::words::Reply;
 use std::collections::BTreeMap;
 
@@ -183,10 +183,6 @@ impl Trial {
         }
         Ok(())
     }
-
-    fn len(&mut self) -> Told<usize> {
-        Ok(self.ask(crate::record::call(1, 5, &[]))?.word(0) as usize)
-    }
 }
 
 fn is_answered(record: &Record, answer: &Answer, reply: &Reply) -> Told<()> {
@@ -324,7 +320,9 @@ impl Sweep<'_> {
             }
             let is_hint = reply.is_done();
             hints += u64::from(is_hint);
-            let looked = if is_hint && hints <= step.hints {
+            let looked = if is_hint && goes_on(&start, &step.record) {
+                self.is_made(step, whole, &reply, &asked)
+            } else if is_hint && hints <= step.hints {
                 self.is_whole(step, whole, &reply, &asked)
             } else {
                 self.look(step, whole, &reply, &before)
@@ -382,15 +380,28 @@ impl Sweep<'_> {
         Ok(())
     }
 
-    // A call that was made has the reply and the state of one of which nothing was refused.
-    fn is_whole(&mut self, step: &Step, whole: &Whole, reply: &Reply, asked: &Model) -> Told<()> {
+    // A call that was made has the reply of one of which nothing was refused.
+    fn is_replied(&mut self, step: &Step, whole: &Whole, reply: &Reply, asked: &Model) -> Told<()> {
         self.trial.model = asked.clone();
         if let Some(answer) = self.trial.model.answer(&step.record) {
             is_answered(&step.record, &answer, reply)?;
         }
-        if *reply != whole.reply {
-            return Err("the reply is not that of a call that was not refused".to_string());
+        if *reply == whole.reply {
+            Ok(())
+        } else {
+            Err("the reply is not that of a call that was not refused".to_string())
         }
+    }
+
+    // It has that reply, and the pairs are those of such a call.
+    fn is_made(&mut self, step: &Step, whole: &Whole, reply: &Reply, asked: &Model) -> Told<()> {
+        self.is_replied(step, whole, reply, asked)?;
+        self.trial.has_pairs_of_model()
+    }
+
+    // It has that reply, and the state is that of such a call.
+    fn is_whole(&mut self, step: &Step, whole: &Whole, reply: &Reply, asked: &Model) -> Told<()> {
+        self.is_replied(step, whole, reply, asked)?;
         if self.trial.state()? != whole.state {
             return Err("the state is not that behind a call that was not refused".to_string());
         }
@@ -416,8 +427,7 @@ impl Sweep<'_> {
             return Err(format!("status {}", reply.status));
         }
         if can_stop(&self.trial.model, &record) {
-            let left = self.trial.len()?;
-            self.trial.model = after(&self.trial.model, &record, reply, left)?;
+            self.trial.model = after(&self.trial.model, &record, reply)?;
             return self.trial.has_pairs_of_model();
         }
         self.is_handed_back(&record, whole, reply)?;

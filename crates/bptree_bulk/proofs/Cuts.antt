@@ -11,7 +11,6 @@ use Rattle.bptree_keys.specs.declared.node_id.LeafNodeId.{LeafNodeId}
 use Rattle.bptree_nodes.specs.Inner.{Inner}
 use Rattle.bptree_nodes.specs.Leaf.{Leaf}
 use Rattle.bptree_nodes.specs.Slot.{Slots}
-use Rattle.bptree_ranges.specs.Ranges.{ahead}
 use Rattle.bptree_shape.specs.Leaves.{pairs_of}
 use Rattle.bptree_shape.specs.Shape.{leaf_pairs}
 use Rattle.bptree_shape.proofs.Walk.{flat-append}
@@ -25,20 +24,6 @@ module _ {K V : Type 0} where
 
 pub drop_past : {X : Type 0} (xs ys : List X) (n : ℕ) → length xs ≤ n → drop n (xs ++ ys) ≡ drop (n - length xs) ys
 drop_past xs ys n within = let parts : n ≡ length xs + (n - length xs) = omega (arith, within) in ap (λ m. drop m (xs ++ ys)) parts ∙ drop-append-add xs ys (n - length xs)
-
--- how many leaves are before one
-module _ (n : ℕ) where
-  pub ahead_here : (ids : List LeafNodeId) (i : ℕ) (d : LeafNodeId) → i < length ids → (slice_index_or ids i d).0 ≡ n → length (ahead n (drop i ids)) ≡ 0
-  ahead_here ids i d within same = ap (λ l. length (ahead n l)) (drop_on ids i d within) ∙ first (slice_index_or ids i d) (drop (i + 1) ids) same
-    where
-      first : (x : LeafNodeId) (xs : List LeafNodeId) → x.0 ≡ n → length (ahead n (x ∷ xs)) ≡ 0
-      first x xs is = elim (eqb_tells x.0 n) [ inl here ↦ rw here.0 refl | inr other ↦ absurd (other.1 is) ]
-
-  pub ahead_next : (ids : List LeafNodeId) (i : ℕ) (d : LeafNodeId) → i < length ids → ((slice_index_or ids i d).0 ≡ n → ⊥) → length (ahead n (drop i ids)) ≡ 1 + length (ahead n (drop (i + 1) ids))
-  ahead_next ids i d within apart = ap (λ l. length (ahead n l)) (drop_on ids i d within) ∙ first (slice_index_or ids i d) (drop (i + 1) ids) apart
-    where
-      first : (x : LeafNodeId) (xs : List LeafNodeId) → (x.0 ≡ n → ⊥) → length (ahead n (x ∷ xs)) ≡ 1 + length (ahead n xs)
-      first x xs other = elim (eqb_tells x.0 n) [ inl here ↦ absurd (other here.1) | inr far ↦ rw far.0 (omega arith) ]
 
 module _ {K V A : Type 0} (slots : Slots (Inner K A) (Leaf K V)) where
   pub pairs_on : (xs ys : List LeafNodeId) → pairs_of slots (xs ++ ys) ≡ pairs_of slots xs ++ pairs_of slots ys

@@ -32,26 +32,31 @@ module _ {X Y : Type 0} (f : X → Y) where
   map_long [] = refl
   map_long (x ∷ xs) = ap suc (map_long xs)
 
-module _ {K V A : Type 0} (slots : Slots (Inner K A) (Leaf K V)) (ids : List LeafNodeId) (cut : Cut) (is : IsCut slots ids cut) (boxes : List (Box (Leaf K V) Global)) (all : parts_of boxes ≡ map (pairs_under slots) ids) where
-  abbrev pairs_in : Box (Leaf K V) Global → List (K × V)
-  pairs_in leaf = leaf.value.pairs
+abbrev pub pairs_in : {K V : Type 0} → Box (Leaf K V) Global → List (K × V)
+pairs_in leaf = leaf.value.pairs
 
-  parts_taken : (n : ℕ) → parts_of (take n boxes) ≡ map (pairs_under slots) (take n ids)
+-- the leaves that were under some numbers
+module _ {K V A : Type 0} (slots : Slots (Inner K A) (Leaf K V)) (ids : List LeafNodeId) (boxes : List (Box (Leaf K V) Global)) (all : parts_of boxes ≡ map (pairs_under slots) ids) where
+  pub parts_taken : (n : ℕ) → parts_of (take n boxes) ≡ map (pairs_under slots) (take n ids)
   parts_taken n = map_taken pairs_in n boxes ∙ (ap (take n) all ∙ sym (map_taken (pairs_under slots) n ids))
 
-  parts_dropped : (n : ℕ) → parts_of (drop n boxes) ≡ map (pairs_under slots) (drop n ids)
+  pub parts_dropped : (n : ℕ) → parts_of (drop n boxes) ≡ map (pairs_under slots) (drop n ids)
   parts_dropped n = map_dropped pairs_in n boxes ∙ (ap (drop n) all ∙ sym (map_dropped (pairs_under slots) n ids))
 
   pub as_long : length boxes ≡ length ids
   as_long = sym (map_long pairs_in boxes) ∙ (ap length all ∙ map_long (pairs_under slots) ids)
 
+  -- the pairs of the next leaves from one on
+  pub poured_part : (from count : ℕ) → joined (parts_of (take count (drop from boxes))) ≡ pairs_of slots (take count (drop from ids))
+  poured_part from count =
+      let these : parts_of (take count (drop from boxes)) ≡ map (pairs_under slots) (take count (drop from ids)) =
+      map_taken pairs_in count (drop from boxes) ∙ (ap (take count) (parts_dropped from) ∙ sym (map_taken (pairs_under slots) count (drop from ids))) in
+      ap joined these ∙ joined_leaves slots (take count (drop from ids))
+
+module _ {K V A : Type 0} (slots : Slots (Inner K A) (Leaf K V)) (ids : List LeafNodeId) (cut : Cut) (is : IsCut slots ids cut) (boxes : List (Box (Leaf K V) Global)) (all : parts_of boxes ≡ map (pairs_under slots) ids) where
   -- the pairs of the border's leaves
   pub poured_border : joined (parts_of (take (cut.to - cut.from) (drop cut.from boxes))) ≡ border slots ids cut is
-  poured_border =
-      let count = cut.to - cut.from in
-      let these : parts_of (take count (drop cut.from boxes)) ≡ map (pairs_under slots) (take count (drop cut.from ids)) =
-      map_taken pairs_in count (drop cut.from boxes) ∙ (ap (take count) (parts_dropped cut.from) ∙ sym (map_taken (pairs_under slots) count (drop cut.from ids))) in
-      ap joined these ∙ joined_leaves slots (take count (drop cut.from ids))
+  poured_border = poured_part slots ids boxes all cut.from (cut.to - cut.from)
 
   abbrev pub last : List (K × V)
   last = pairs_of slots (drop cut.to ids)
@@ -72,7 +77,7 @@ module _ {K V A : Type 0} (slots : Slots (Inner K A) (Leaf K V)) (ids : List Lea
   lower_dealt none one two pairs empty first are second =
       let moved : one ≡ take cut.from boxes = first ∙ ap (λ m. m ++ take cut.from boxes) empty in
       second
-      ∙ (ap (λ m. m ++ pieces cut.below_half (take cut.below pairs)) (ap parts_of moved ∙ parts_taken cut.from)
+      ∙ (ap (λ m. m ++ pieces cut.below_half (take cut.below pairs)) (ap parts_of moved ∙ parts_taken slots ids boxes all cut.from)
       ∙ ap (λ m. map (pairs_under slots) (take cut.from ids) ++ pieces cut.below_half m) (ap (take cut.below) are ∙ below_same))
 
   -- the leaves of the upper side
@@ -80,12 +85,12 @@ module _ {K V A : Type 0} (slots : Slots (Inner K A) (Leaf K V)) (ids : List Lea
       → rest ≡ drop (cut.to - cut.from) (drop cut.from boxes) → count ≡ length ids - cut.to → two ≡ one ++ take count rest → parts_of two ≡ upper_parts slots ids cut
   upper_dealt none one two rest items pairs count empty are behind' first rest_is count_is second =
       let same : drop (cut.to - cut.from) (drop cut.from boxes) ≡ drop cut.to boxes = drop_more cut.from (cut.to - cut.from) boxes ∙ ap (λ n. drop n boxes) (omega (arith, is.order)) in
-      let left : take count rest ≡ drop cut.to boxes = ap (take count) (rest_is ∙ same) ∙ (ap (λ n. take n (drop cut.to boxes)) (count_is ∙ ap (λ n. n - cut.to) (sym as_long)) ∙ take_rest boxes cut.to) in
+      let left : take count rest ≡ drop cut.to boxes = ap (take count) (rest_is ∙ same) ∙ (ap (λ n. take n (drop cut.to boxes)) (count_is ∙ ap (λ n. n - cut.to) (sym (as_long slots ids boxes all))) ∙ take_rest boxes cut.to) in
       let given : take cut.above items ≡ part (l slots ids cut is) cut.below cut.above = ap (take cut.above) (behind' ∙ ap (drop cut.below) are) ∙ above_same in
       ap parts_of (second ∙ ap (λ m. one ++ m) left)
       ∙ (map_on pairs_in one (drop cut.to boxes)
       ∙ (ap (λ m. m ++ parts_of (drop cut.to boxes)) (first ∙ (ap (λ m. parts_of m ++ pieces cut.above_half (take cut.above items)) empty ∙ ap (pieces cut.above_half) given))
-      ∙ ap (λ m. pieces cut.above_half (part (l slots ids cut is) cut.below cut.above) ++ m) (parts_dropped cut.to)))
+      ∙ ap (λ m. pieces cut.above_half (part (l slots ids cut is) cut.below cut.above) ++ m) (parts_dropped slots ids boxes all cut.to)))
 
 -- what both sides have
 module _ {K V A : Type 0} (slots : Slots (Inner K A) (Leaf K V)) (ids : List LeafNodeId) (cut : Cut) (is : IsCut slots ids cut) (n : ℕ) (place : cut_at slots ids cut ≡ n) where

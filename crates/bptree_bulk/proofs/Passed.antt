@@ -4,6 +4,7 @@ use Rattle.std.proofs.lemmas.List.{drop-take}
 use Rattle.std.specs.declared.alloc.Global.{Global}
 use Rattle.std.specs.declared.boxed.Box.{Box}
 use Rattle.bptree_building.specs.Rooms.{joined, parts_of}
+use Rattle.bptree_bulk.specs.Moving.{poured}
 use Rattle.bptree_bulk.specs.Cut.{pieces}
 use Rattle.bptree_nodes.specs.Leaf.{Leaf}
 
@@ -22,14 +23,10 @@ module _ {X : Type 0} where
   drop_one zero x l some = absurd (omega (arith, some))
   drop_one (suc n) x l some = ap (λ m. drop m l) (one_less n)
 
-  -- one member more has moved
-  pub moved_one : (n : ℕ) (x : X) (to items items' : List X) → 0 < n → items ≡ x ∷ items' → to ++ take n items ≡ (to ++ x ∷ []) ++ take (n - 1) items'
-  moved_one n x to items items' some first = ap (λ l. to ++ take n l) first ∙ (ap (λ l. to ++ l) (take_one n x items' some) ∙ sym (append_assoc to (x ∷ []) (take (n - 1) items')))
-
   pub rest_one : (n : ℕ) (x : X) (items items' : List X) → 0 < n → items ≡ x ∷ items' → drop n items ≡ drop (n - 1) items'
   rest_one n x items items' some first = ap (drop n) first ∙ drop_one n x items' some
 
-  take_take : (n m : ℕ) (l : List X) → take n (take (n + m) l) ≡ take n l
+  pub take_take : (n m : ℕ) (l : List X) → take n (take (n + m) l) ≡ take n l
   take_take zero m l = refl
   take_take (suc n) m [] = ap (λ k. take (suc n) (take {A = X} k [])) (one_more n m)
   take_take (suc n) m (x ∷ l) = ap (λ k. take (suc n) (take k (x ∷ l))) (one_more n m) ∙ ap (λ r. x ∷ r) (take_take n m l)
@@ -54,10 +51,6 @@ module _ {X : Type 0} where
       ∙ (append_assoc before (take half l ∷ []) (take (count - half) (drop half l) ∷ []) ∙ ap (λ p. before ++ p) (sym (two_pieces half count l some within))))
 
 module _ {K V : Type 0} where
-  -- the pairs of the next leaves
-  abbrev pub poured : ℕ → List (Box (Leaf K V) Global) → List (K × V)
-  poured n leaves = joined (parts_of (take n leaves))
-
   pub pour_one : (n : ℕ) (leaf : Box (Leaf K V) Global) (leaves leaves' : List (Box (Leaf K V) Global)) → 0 < n → leaves ≡ leaf ∷ leaves' → poured n leaves ≡ leaf.value.pairs ++ poured (n - 1) leaves'
   pour_one n leaf leaves leaves' some first = ap (poured n) first ∙ ap (λ l. joined (parts_of l)) (take_one n leaf leaves' some)
 

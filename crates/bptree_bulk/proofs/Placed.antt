@@ -18,13 +18,14 @@ use Rattle.bptree_shape.specs.Shape.{leaf_pairs, leaves_at, pairs_at, stands, Is
 use Rattle.bptree_shape.proofs.Down.{pairs_of_leaves}
 use Rattle.bptree_shape.proofs.Hinted.{count_leaves}
 
-module _ {K V A : Type 0} {cmp : K → K → Ordering} (is_summary : A → List K → Type 0) (slots : Slots (Inner K A) (Leaf K V)) (h : ℕ) (root : NodeId) (shape : IsWellShaped cmp is_summary slots h root) (ids : List LeafNodeId) (are : ids ≡ leaves_at slots h root) where
-  pub record IsAt (leaf : LeafNodeId) (i : ℕ) : Type 0 where
-    pub start_is : pairs_before slots ids i ≡ start slots h root leaf
-    pub next : pairs_before slots ids (i + 1) ≡ pairs_before slots ids i + length (pairs_under slots leaf)
-    pub within : i + 1 ≤ length ids
+-- the leaf is among these numbers, with so many before it
+pub record IsAt {K V A : Type 0} (slots : Slots (Inner K A) (Leaf K V)) (h : ℕ) (root : NodeId) (ids : List LeafNodeId) (leaf : LeafNodeId) (i : ℕ) : Type 0 where
+  pub start_is : pairs_before slots ids i ≡ start slots h root leaf
+  pub next : pairs_before slots ids (i + 1) ≡ pairs_before slots ids i + length (pairs_under slots leaf)
+  pub within : i + 1 ≤ length ids
 
-  pub is_at : (leaf : LeafNodeId) (in' : StandsIn slots h root leaf) (i : ℕ) → i ≡ length (ahead leaf.0 ids) → IsAt leaf i
+module _ {K V A : Type 0} {cmp : K → K → Ordering} (is_summary : A → List K → Type 0) (slots : Slots (Inner K A) (Leaf K V)) (h : ℕ) (root : NodeId) (shape : IsWellShaped cmp is_summary slots h root) (ids : List LeafNodeId) (are : ids ≡ leaves_at slots h root) where
+  pub is_at : (leaf : LeafNodeId) (in' : StandsIn slots h root leaf) (i : ℕ) → i ≡ length (ahead leaf.0 ids) → IsAt slots h root ids leaf i
   is_at leaf in' i at =
       let same : i ≡ length in'.before = at ∙ (ap (λ l. length (ahead leaf.0 l)) are ∙ ap length (ahead_of is_summary slots h root shape leaf in')) in
       let here = at_leaf slots ids in'.before leaf in'.after (are ∙ in'.leaves) in

@@ -53,12 +53,25 @@ module _ {X : Type 0} where
   pub all_dropped : (P : X → Type 0) (n : ℕ) (xs : List X) → AllByRecursion P xs → AllByRecursion P (drop n xs)
   all_dropped P n xs all = AllByRecursion-right P (take n xs) (drop n xs) (subst (AllByRecursion P) (sym (take-append-drop n xs)) all)
 
+  -- what holds of several members holds of the first of them, and of the last, where some are taken only of several
+  pub several_taken : (P : X → Type 0) (n : ℕ) (xs : List X) → (1 < length xs → AllByRecursion P xs) → (0 < n → 1 < length xs) → AllByRecursion P (take n xs)
+  several_taken P n xs all several = elim (eqb_tells n 0) [
+    | inl none ↦ subst (λ m. AllByRecursion P (take m xs)) (sym none.1) tt
+    | inr some ↦ all_taken P n xs (all (several (omega (arith, some.1))))
+  ]
+
+  pub several_dropped : (P : X → Type 0) (n : ℕ) (xs : List X) → n ≤ length xs → (1 < length xs → AllByRecursion P xs) → (n < length xs → 1 < length xs) → AllByRecursion P (drop n xs)
+  several_dropped P n xs within all several = elim (eqb_tells n (length xs)) [
+    | inl end ↦ subst (AllByRecursion P) (sym (ap (λ m. drop m xs) end.1 ∙ drop-length xs)) tt
+    | inr more ↦ all_dropped P n xs (all (several (omega (arith, more.1, within))))
+  ]
+
 module _ {K V A : Type 0} (slots : Slots (Inner K A) (Leaf K V)) where
   pub joined_leaves : (xs : List LeafNodeId) → joined (map (pairs_under slots) xs) ≡ pairs_of slots xs
   joined_leaves [] = refl
   joined_leaves (x ∷ xs) = ap (λ l. pairs_under slots x ++ l) (joined_leaves xs)
 
-  enough_leaves : (xs : List LeafNodeId) → AllByRecursion (λ (id : LeafNodeId). 16 ≤ length (pairs_under slots id)) xs → AllByRecursion (λ (p : List (K × V)). 16 ≤ length p) (map (pairs_under slots) xs)
+  pub enough_leaves : (xs : List LeafNodeId) → AllByRecursion (λ (id : LeafNodeId). 16 ≤ length (pairs_under slots id)) xs → AllByRecursion (λ (p : List (K × V)). 16 ≤ length p) (map (pairs_under slots) xs)
   enough_leaves [] all = tt
   enough_leaves (x ∷ xs) all = (all.0, enough_leaves xs all.1)
 
@@ -66,7 +79,7 @@ module _ {K V A : Type 0} (slots : Slots (Inner K A) (Leaf K V)) where
     pub split_at : (n : ℕ) → pairs_of slots ids ≡ pairs_of slots (take n ids) ++ pairs_of slots (drop n ids)
     split_at n = ap (pairs_of slots) (sym (take-append-drop n ids)) ∙ pairs_on slots (take n ids) (drop n ids)
 
-    split_len : (n : ℕ) → length (pairs_of slots ids) ≡ pairs_before slots ids n + length (pairs_of slots (drop n ids))
+    pub split_len : (n : ℕ) → length (pairs_of slots ids) ≡ pairs_before slots ids n + length (pairs_of slots (drop n ids))
     split_len n = ap length (split_at n) ∙ length-append (pairs_of slots (take n ids)) (pairs_of slots (drop n ids))
 
     module _ (cut : Cut) (is : IsCut slots ids cut) where
@@ -94,8 +107,11 @@ module _ {K V A : Type 0} (slots : Slots (Inner K A) (Leaf K V)) where
           ∙ (pairs_on slots (take (cut.to - cut.from) (drop cut.from ids)) (drop (cut.to - cut.from) (drop cut.from ids)) ∙ ap (λ xs. border ++ pairs_of slots xs) (sym behind))
 
       -- the pairs from the cut on are at least the border's
-      pub within_rest : cut.below + cut.above ≤ length l
+      within_rest : cut.below + cut.above ≤ length l
       within_rest = omega (arith, border_len, ap length from_border, length-append border (pairs_of slots (drop cut.to ids)))
+
+      pub within_slice : cut.below + cut.above ≤ length (pairs_of slots (take (length ids - cut.from) (drop cut.from ids)))
+      within_slice = omega (arith, within_rest, ap (λ xs. length (pairs_of slots xs)) (take_rest ids cut.from))
 
       parts_are : part l 0 cut.below ++ part l cut.below cut.above ≡ border
       parts_are =
@@ -137,25 +153,13 @@ module _ {K V A : Type 0} (slots : Slots (Inner K A) (Leaf K V)) where
         | inr other ↦ omega (arith, is.order, other.1)
       ]
 
-      pub several_before : 0 < cut.from → 1 < length ids
-      several_before some = omega (arith, some, between_ends, is.within)
-
-      pub several_behind : cut.to < length ids → 1 < length ids
-      several_behind more = omega (arith, more, between_ends)
-
       -- what holds of all leaves where there are several holds of those before the border, and of those behind it
       module _ (P : LeafNodeId → Type 0) (all : 1 < length ids → AllByRecursion P ids) where
         pub all_before : AllByRecursion P (take cut.from ids)
-        all_before = elim (eqb_tells cut.from 0) [
-          | inl none ↦ subst (λ n. AllByRecursion P (take n ids)) (sym none.1) tt
-          | inr some ↦ all_taken P cut.from ids (all (several_before (omega (arith, some.1))))
-        ]
+        all_before = several_taken P cut.from ids all (λ some. omega (arith, some, between_ends, is.within))
 
         pub all_behind : AllByRecursion P (drop cut.to ids)
-        all_behind = elim (eqb_tells cut.to (length ids)) [
-          | inl end ↦ subst (AllByRecursion P) (sym (ap (λ n. drop n ids) end.1 ∙ drop-length ids)) tt
-          | inr more ↦ all_dropped P cut.to ids (all (several_behind (omega (arith, more.1, is.within))))
-        ]
+        all_behind = several_dropped P cut.to ids is.within all (λ more. omega (arith, more, between_ends))
 
       module _ (full : 1 < length ids → AllByRecursion (λ (id : LeafNodeId). 16 ≤ length (pairs_under slots id)) ids) where
         abbrev IsEnough : List (K × V) → Type 0
@@ -205,16 +209,3 @@ module _ {K V A : Type 0} (slots : Slots (Inner K A) (Leaf K V)) where
             ascending = ascending_after total (joined (lower_parts slots ids cut)) (joined (upper_parts slots ids cut)) (subst (IsAscending cmp) sides_are_all ascending);
             few = omega (arith, few, ap length sides_are_all, length-append (joined (lower_parts slots ids cut)) (joined (upper_parts slots ids cut)));
           }
-
--- what is planned for a slice of the leaves, from one on, is planned for the rest of all
-module _ {K V A : Type 0} (cmp : K → K → Ordering) (is_summary : A → List K → Type 0) (slots new : Slots (Inner K A) (Leaf K V)) (own : List LeafNodeId) (trees : List (Subtree K A)) (ids : List LeafNodeId) (cut : Cut) where
-  abbrev pub slice_from : List LeafNodeId
-  slice_from = take (length ids - cut.from) (drop cut.from ids)
-
-  pub lower_of : ArePlanned cmp is_summary new own trees (map (pairs_under slots) (take cut.from ids) ++ pieces cut.below_half (part (pairs_of slots slice_from) 0 cut.below)) → ArePlanned cmp is_summary new own trees (lower_parts slots ids cut)
-  lower_of planned = subst (λ xs. ArePlanned cmp is_summary new own trees (map (pairs_under slots) (take cut.from ids) ++ pieces cut.below_half (part (pairs_of slots xs) 0 cut.below))) (take_rest ids cut.from) planned
-
-  pub upper_of : ArePlanned cmp is_summary new own trees (pieces cut.above_half (part (pairs_of slots slice_from) cut.below cut.above) ++ map (pairs_under slots) (take (length ids - cut.to) (drop cut.to ids))) → ArePlanned cmp is_summary new own trees (upper_parts slots ids cut)
-  upper_of planned =
-      subst (λ xs. ArePlanned cmp is_summary new own trees (pieces cut.above_half (part (from_cut slots ids cut) cut.below cut.above) ++ map (pairs_under slots) xs)) (take_rest ids cut.to)
-      (subst (λ xs. ArePlanned cmp is_summary new own trees (pieces cut.above_half (part (pairs_of slots xs) cut.below cut.above) ++ map (pairs_under slots) (take (length ids - cut.to) (drop cut.to ids)))) (take_rest ids cut.from) planned)

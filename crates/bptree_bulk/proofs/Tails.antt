@@ -1,5 +1,5 @@
 -- The parts of pairs that move one by one.
-use Rattle.std.proofs.Common.{◌≡◌, ◌∙◌, ◌+◌, ◌-◌, ◌<◌, ◌≤◌, ◌^◌, ℕ, min, inl, inr, sym, ap, subst, refl, List, [], ◌∷◌, ◌++◌, length, take, drop, arith, append_assoc}
+use Rattle.std.proofs.Common.{◌≡◌, ◌∙◌, ◌+◌, ◌-◌, ◌<◌, ◌≤◌, ℕ, min, inl, inr, sym, ap, subst, refl, List, [], ◌∷◌, ◌++◌, length, take, drop, arith, append_assoc}
 use Rattle.std.proofs.Math.Nat.{eq-or-lt_of_le}
 use Rattle.std.proofs.Math.Seq.{drop-append-add}
 use Rattle.std.proofs.lemmas.List.{length-drop, length-take-le, take-append-drop}
@@ -7,9 +7,10 @@ use Rattle.std.specs.declared.cmp.Ordering.{Ordering}
 use Rattle.std.specs.List.{AllByRecursion}
 use Rattle.std.specs.declared.alloc.Global.{Global}
 use Rattle.std.specs.declared.boxed.Box.{Box}
-use Rattle.bptree_building.specs.Rooms.{joined, parts_of, AreAllPlanned, ArePlanned}
-use Rattle.bptree_building.specs.declared.subtree.Subtree.{Subtree}
-use Rattle.bptree_bulk.specs.Filling.{AreParts, IsFilling, IsSize}
+use Rattle.bptree_building.specs.Plans.{PlansAll}
+use Rattle.bptree_building.specs.Rooms.{joined, parts_of}
+use Rattle.bptree_building.specs.declared.plan.Plan.{Plan}
+use Rattle.bptree_bulk.specs.Filling.{AreParts, IsFilling, IsLaidOut, IsSize}
 use Rattle.bptree_bulk.specs.declared.filling.Filling.{Filling}
 use Rattle.bptree_bulk.proofs.Segments.{drop_more}
 use Rattle.bptree_keys.specs.Contents.{IsAscending}
@@ -64,7 +65,7 @@ module _ {X : Type 0} where
   joined_parts l [] are = sym are
   joined_parts l (p ∷ ps) (n, size, some, is, are) = ap (λ m. m ++ joined ps) is ∙ (ap (λ m. take n l ++ m) (joined_parts (drop n l) ps are) ∙ take-append-drop n l)
 
-  parts_enough : (l : List X) (ps : List (List X)) → AreParts l ps [] → (0 < length l → 16 ≤ length l) → AllByRecursion (λ (p : List X). 16 ≤ length p) ps
+  pub parts_enough : (l : List X) (ps : List (List X)) → AreParts l ps [] → (0 < length l → 16 ≤ length l) → AllByRecursion (λ (p : List X). 16 ≤ length p) ps
   parts_enough l [] are enough = tt
   parts_enough l (p ∷ ps) (n, size, some, is, are) enough =
       let s = sized (length l) n size in
@@ -73,14 +74,14 @@ module _ {X : Type 0} where
         parts_enough (drop n l) ps are (λ more. omega (arith, length-drop n l, s.later (omega (arith, more, length-drop n l)))),
       )
 
-  parts_several : (l : List X) (ps : List (List X)) → AreParts l ps [] → 1 < length ps → AllByRecursion (λ (p : List X). 16 ≤ length p) ps
+  pub parts_several : (l : List X) (ps : List (List X)) → AreParts l ps [] → 1 < length ps → AllByRecursion (λ (p : List X). 16 ≤ length p) ps
   parts_several l [] are several = absurd (omega (arith, several))
   parts_several l (p ∷ []) are several = absurd (omega (arith, several))
   parts_several l (p ∷ q ∷ ps) (n, size, some, is, are) several =
       let later = (sized (length l) n size).later (omega (arith, are.2, length-drop n l)) in
       parts_enough l (p ∷ q ∷ ps) (n, size, some, is, are) (λ more. omega (arith, later))
 
-  parts_some : (l : List X) (ps : List (List X)) → AreParts l ps [] → 0 < length l → 0 < length ps
+  pub parts_some : (l : List X) (ps : List (List X)) → AreParts l ps [] → 0 < length l → 0 < length ps
   parts_some l [] are some = absurd (omega (arith, ap length are, some))
   parts_some l (p ∷ ps) are some = omega arith
 
@@ -103,12 +104,18 @@ module _ {X : Type 0} where
   no_part items [] are none = refl
   no_part items (p ∷ ps) (n, size, some, is, are) none = absurd (omega (arith, some, none))
 
-module _ {K V A : Type 0} (cmp : K → K → Ordering) (is_summary : A → List K → Type 0) (slots : Slots (Inner K A) (Leaf K V)) (ids : List LeafNodeId) (trees : List (Subtree K A)) where
-  -- the parts of some pairs are all the leaves of a tree
-  pub all_parts : (l : List (K × V)) (ps : List (List (K × V))) → AreParts l ps [] → 0 < length l → IsAscending cmp l → length l < 2 ^ 64 → ArePlanned cmp is_summary slots ids trees ps → AreAllPlanned cmp is_summary slots ids trees ps
-  all_parts l ps are some ascending few planned =
-      let all = joined_parts l ps are in
-      record { planned = planned; some = parts_some l ps are some; many = parts_several l ps are; ascending = subst (IsAscending cmp) (sym all) ascending; few = omega (arith, ap length all, few) }
+-- the parts of pairs that are laid out are all the leaves of a tree
+pub all_laid : {S K V A : Type 0} {cmp : K → K → Ordering} {is_summary : A → List K → Type 0} {slots : S → Slots (Inner K A) (Leaf K V)} {plan : Plan S K V A} {rooms : List (Box (Leaf K V) Global)} {count : ℕ} {pairs : List (K × V)}
+    (laid : IsLaidOut cmp is_summary slots plan rooms count pairs) → PlansAll cmp is_summary slots plan laid.parts
+all_laid {cmp = cmp} {pairs = pairs} laid =
+    let all = joined_parts pairs laid.parts laid.are in
+    record {
+      planned = laid.planned;
+      some = parts_some pairs laid.parts laid.are (omega (arith, laid.count_is, laid.some));
+      many = parts_several pairs laid.parts laid.are;
+      ascending = subst (IsAscending cmp) (sym all) laid.ascending;
+      few = omega (arith, ap length all, laid.count_is, laid.few);
+    }
 
 module _ {K V A : Type 0} {cmp : K → K → Ordering} (is_summary : A → List K → Type 0) (slots : Slots (Inner K A) (Leaf K V)) (h : ℕ) (root : NodeId) (shape : IsWellShaped cmp is_summary slots h root) where
   -- the pairs from a position on are those of its leaf, and then others

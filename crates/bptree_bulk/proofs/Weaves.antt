@@ -12,8 +12,9 @@ use Rattle.bptree_bulk.specs.declared.weaving.Source.{Source}
 use Rattle.bptree_bulk.specs.declared.weaving.Source.TheVariants.{First, Second, Both}
 use Rattle.bptree_keys.specs.Contents.{put, IsAscending}
 use Rattle.bptree_keys.proofs.Around.{put_around}
-use Rattle.bptree_keys.proofs.Ascending.{all_pairs, equal_parts, greater_after}
+use Rattle.bptree_keys.proofs.Ascending.{all_after, all_pairs, equal_parts, greater_after, greater_turned}
 use Rattle.bptree_keys.proofs.Laws.{put_ascending}
+use Rattle.bptree_keys.proofs.PieceLemmas.{AllByRecursion-left, AllByRecursion-right}
 
 pub put_one_more : {X : Type 0} (put_one : List X → X → List X) (l xs : List X) (x : X) → put_all put_one l (xs ++ x ∷ []) ≡ put_one (put_all put_one l xs) x
 put_one_more put_one l [] x = refl
@@ -169,6 +170,22 @@ module _ {K V : Type 0} (cmp : K → K → Ordering) (total : IsTotalOrder cmp) 
   pub put_none : (b : List (K × V)) → IsAscending cmp b → put_all (put_pair cmp) [] b ≡ b
   put_none [] up = refl
   put_none (q ∷ b) up = ap (λ m. put_all (put_pair cmp) m b) (put_before q [] tt) ∙ (behind q [] b (below_all q b up) ∙ ap (λ m. q ∷ m) (put_none b (sorted_tail cmp q.0 (keys_of b) up)))
+
+  -- pairs whose keys are above all others come behind them
+  pub put_above : (a b : List (K × V)) → IsAscending cmp (a ++ b) → put_all (put_pair cmp) a b ≡ a ++ b
+  put_above [] b up = put_none b up
+  put_above (p ∷ a) b up =
+      let above = AllByRecursion-right (λ (q : K × V). cmp p.0 q.0 ≡ Less) a b (below_all p (a ++ b) up) in
+      behind p a b above ∙ ap (λ m. p ∷ m) (put_above a b (sorted_tail cmp p.0 (keys_of (a ++ b)) up))
+
+  -- and those whose keys are below all others come before them
+  pub put_below : (a b : List (K × V)) → IsAscending cmp (b ++ a) → put_all (put_pair cmp) a b ≡ b ++ a
+  put_below a [] up = refl
+  put_below a (q ∷ b) up =
+      let below = sorted_head cmp q.0 (keys_of (b ++ a)) up in
+      let greater = all_pairs (λ key. cmp q.0 key ≡ Less) (λ key. cmp key q.0 ≡ Greater) (greater_turned cmp total q.0) a (all_after (λ key. cmp q.0 key ≡ Less) b a below) in
+      let above = AllByRecursion-left (λ (p : K × V). cmp q.0 p.0 ≡ Less) b a (below_all q (b ++ a) up) in
+      ap (λ m. put_all (put_pair cmp) m b) (put_before q a greater) ∙ (behind q a b above ∙ ap (λ m. q ∷ m) (put_below a b (sorted_tail cmp q.0 (keys_of (b ++ a)) up)))
 
   pub put_all_ascends : (a b : List (K × V)) → IsAscending cmp a → IsAscending cmp (put_all (put_pair cmp) a b)
   put_all_ascends a [] up = up

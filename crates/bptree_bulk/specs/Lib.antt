@@ -1,6 +1,11 @@
+pub mod Around
 pub mod Cut
 pub mod Split
 pub mod Positions
+pub mod Removing
 pub mod Filling
+pub mod Gap
+pub mod Joining
+pub mod Moving
 pub mod Cutting
 pub mod Weave

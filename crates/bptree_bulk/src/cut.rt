@@ -38,8 +38,8 @@ fn half_of(count: usize) -> usize
     if count <= LEAF_CAPACITY { 0 } else { count / 2 }
 }
 
-// Where a leaf is among others.
-fn index_of(ids: &[LeafNodeId], id: LeafNodeId) -> usize
+/// Where a leaf is among others.
+pub(crate) fn index_of(ids: &[LeafNodeId], id: LeafNodeId) -> usize
     ensures { result ≡ length (ahead id.0 ids.now) }
 {
     let mut i = 0;
@@ -76,8 +76,8 @@ pub(crate) fn key_at<'a, S: NodeStore>(
     None
 }
 
-// The leaf before an index, if there is one: where the border begins, and how many pairs it adds.
-fn leaf_before<S: NodeStore>(store: &S, ids: &[LeafNodeId], i: usize) -> (usize, usize)
+/// The leaf before an index, if there is one: where the border begins, and how many pairs it adds.
+pub(crate) fn leaf_before<S: NodeStore>(store: &S, ids: &[LeafNodeId], i: usize) -> (usize, usize)
     requires present { AllByRecursion (IsPresentAt (S.slots store.now)) ids.now }
     requires within { i ≤ length ids.now }
     ensures { BeginsBorder (S.slots store.now) ids.now i result.0 result.1 }
@@ -88,8 +88,8 @@ fn leaf_before<S: NodeStore>(store: &S, ids: &[LeafNodeId], i: usize) -> (usize,
     (i - 1, store.get_leaf(ids[i - 1]).len())
 }
 
-// The leaf behind an index, if there is one: where the border ends, and how many pairs it adds.
-fn leaf_behind<S: NodeStore>(store: &S, ids: &[LeafNodeId], i: usize) -> (usize, usize)
+/// The leaf behind an index, if there is one: where the border ends, and how many pairs it adds.
+pub(crate) fn leaf_behind<S: NodeStore>(store: &S, ids: &[LeafNodeId], i: usize) -> (usize, usize)
     requires present { AllByRecursion (IsPresentAt (S.slots store.now)) ids.now }
     requires within { i < length ids.now }
     ensures { EndsBorder (S.slots store.now) ids.now (i + 1) result.0 result.1 }

@@ -67,8 +67,8 @@ pub(crate) fn filling_of<S: NodeStore>(
     })
 }
 
-// Fills empty leaves with pairs, and puts them behind others.
-fn fill_all<K: Key, V: Drop>(
+/// Fills empty leaves with pairs, and puts them behind others.
+pub(crate) fn fill_all<K: Key, V: Drop>(
     pairs: IntoIter<(K, V)>,
     rooms: IntoIter<Box<LeafNode<K, V>>>,
     leaves: &mut Vec<Box<LeafNode<K, V>>>,
@@ -77,7 +77,9 @@ fn fill_all<K: Key, V: Drop>(
     requires empty { AllByRecursion IsEmptyLeaf (into_iter_items rooms) }
     requires parts { HaveRooms (into_iter_items pairs) (into_iter_items rooms) }
     requires room { vec_len leaves.old + length (into_iter_items rooms) ≤ vec_capacity leaves.old }
-    ensures { TakeParts (into_iter_items pairs) leaves.old.items leaves.new.items }
+    ensures leaves { TakeParts (into_iter_items pairs) leaves.old.items leaves.new.items }
+    ensures len { vec_len leaves.new ≡ vec_len leaves.old + length (into_iter_items rooms) }
+    ensures capacity { vec_capacity leaves.new ≡ vec_capacity leaves.old }
 {
     let mut pairs = pairs;
     let mut rooms = rooms;

@@ -3,6 +3,8 @@ ghost use Rattle.std.specs.Prelude.{◌≡◌, ◌+◌, ◌<◌, ◌≤◌, ◌^
 ghost use Rattle.std.specs.Vec.Iter.{into_iter_items, into_iter_len};
 ghost use Rattle.bptree_building.specs.Rooms.{joined, parts_of};
 ghost use Rattle.bptree_bulk.specs.Cut.{pieces, IsHalf};
+ghost use Rattle.bptree_bulk.specs.Gap.{without_part};
+ghost use Rattle.bptree_bulk.specs.Moving.{poured, poured_around};
 
 use bptree_keys::key::Key;
 use bptree_nodes::leaf_node::LeafNode;
@@ -47,14 +49,73 @@ pub(crate) fn pour<K: Key, V: Drop>(
 )
     requires counted { into_iter_len leaves.old ≡ length (into_iter_items leaves.old) }
     requires some { count ≤ length (into_iter_items leaves.old) }
-    requires room { vec_len pairs.old + length (joined (parts_of (take count (into_iter_items leaves.old)))) ≤ vec_capacity pairs.old }
-    ensures moved { pairs.new.items ≡ pairs.old.items ++ joined (parts_of (take count (into_iter_items leaves.old))) }
+    requires room { vec_len pairs.old + length (poured count (into_iter_items leaves.old)) ≤ vec_capacity pairs.old }
+    ensures moved { pairs.new.items ≡ pairs.old.items ++ poured count (into_iter_items leaves.old) }
     ensures rest { into_iter_items leaves.new ≡ drop count (into_iter_items leaves.old) }
     ensures counted { into_iter_len leaves.new ≡ length (into_iter_items leaves.new) }
 {
     let mut left = count;
     'leaves: while left > 0 {
         pour_leaf(leaves.next().unwrap(), pairs);
+        left -= 1;
+    }
+}
+
+// Moves the pairs of a leaf behind others, but for those from one index up to another.
+fn pour_leaf_around<K: Key, V: Drop>(
+    leaf: Box<LeafNode<K, V>>,
+    before: usize,
+    behind: usize,
+    pairs: &mut Vec<(K, V)>,
+)
+    requires order { before ≤ behind }
+    requires room { vec_len pairs.old + length (without_part before behind leaf.value.pairs) ≤ vec_capacity pairs.old }
+    ensures moved { pairs.new.items ≡ pairs.old.items ++ without_part before behind leaf.value.pairs }
+    ensures len { vec_len pairs.new ≡ vec_len pairs.old + length (without_part before behind leaf.value.pairs) }
+    ensures capacity { vec_capacity pairs.new ≡ vec_capacity pairs.old }
+{
+    let mut before = before;
+    let mut behind = behind;
+    let mut items = LeafNode::into_pairs(leaf);
+    'items: while let Some(pair) = items.next() {
+        if before > 0 {
+            before -= 1;
+            behind -= 1;
+            pairs.push_reserved(pair);
+        } else if behind > 0 {
+            behind -= 1;
+        } else {
+            pairs.push_reserved(pair);
+        }
+    }
+}
+
+/// Moves the pairs of the next `count` leaves behind others, but for those from one index up to
+/// another. These are dropped.
+pub(crate) fn pour_around<K: Key, V: Drop>(
+    leaves: &mut IntoIter<Box<LeafNode<K, V>>>,
+    count: usize,
+    before: usize,
+    behind: usize,
+    pairs: &mut Vec<(K, V)>,
+)
+    requires counted { into_iter_len leaves.old ≡ length (into_iter_items leaves.old) }
+    requires some { count ≤ length (into_iter_items leaves.old) }
+    requires order { before ≤ behind }
+    requires room { vec_len pairs.old + length (poured_around before behind count (into_iter_items leaves.old)) ≤ vec_capacity pairs.old }
+    ensures moved { pairs.new.items ≡ pairs.old.items ++ poured_around before behind count (into_iter_items leaves.old) }
+    ensures rest { into_iter_items leaves.new ≡ drop count (into_iter_items leaves.old) }
+    ensures counted { into_iter_len leaves.new ≡ length (into_iter_items leaves.new) }
+{
+    let mut before = before;
+    let mut behind = behind;
+    let mut left = count;
+    'leaves: while left > 0 {
+        let leaf = leaves.next().unwrap();
+        let len = leaf.as_ref().len();
+        pour_leaf_around(leaf, before, behind, pairs);
+        before = before.saturating_sub(len);
+        behind = behind.saturating_sub(len);
         left -= 1;
     }
 }

@@ -19,8 +19,8 @@ use bptree_shape::nodes::Nodes;
 use bptree_stores::node_stores::NodeStore;
 use std::alloc::AllocError;
 
-// Plans a leaf behind others, for `count` pairs of some of the tree's last leaves.
-fn plan_piece<S: NodeStore>(
+/// Plans a leaf behind others, for `count` pairs of some of the tree's last leaves.
+pub(crate) fn plan_piece<S: NodeStore>(
     plan: &mut Plan<S>,
     tree: &Nodes<S>,
     ids: &[LeafNodeId],

@@ -1,7 +1,7 @@
 //! A tree that is cut in two.
 ghost use Rattle.std.specs.Prelude.{IsTrue, ◌↔◌, ◌≡◌, ◌<◌, ◌+◌, ◌^◌, length, IfOk};
 ghost use Rattle.bptree_bulk.specs.Cutting.{IsCutting};
-ghost use Rattle.bptree_bulk.specs.Positions.{place_of};
+ghost use Rattle.bptree_bulk.specs.Positions.{place_of, IsAtPair};
 ghost use Rattle.bptree_bulk.specs.Split.{AreLower, AreUpper, CanStand, HasPairs, HasRoom, IsSplitAt, IsSplitSomewhere, ReadiesLower, ReadiesUpper};
 ghost use Rattle.bptree_ranges.specs.InTree.{HasPlace, StartsAt};
 ghost use Rattle.bptree_shape.specs.NodeTree.{IsWhole};
@@ -87,11 +87,11 @@ pub fn plan_split<S: NodeStore>(tree: &Nodes<S>, at: Position) -> Result<Split<S
     })
 }
 
-// The nodes above the leaves of a tree, and these leaves.
+/// The nodes above the leaves of a tree, and these leaves.
 #[derive(Drop)]
-struct Ready<S: NodeStore> {
-    frame: Frame<S>,
-    leaves: Vec<Box<LeafNode<S::K, S::V>>>,
+pub(crate) struct Ready<S: NodeStore> {
+    pub(crate) frame: Frame<S>,
+    pub(crate) leaves: Vec<Box<LeafNode<S::K, S::V>>>,
 }
 
 // Moves all leaves out of a tree, and gives each side its own.
@@ -138,8 +138,8 @@ fn deal<S: NodeStore>(tree: Nodes<S>, split: Split<S>) -> (Ready<S>, Ready<S>)
     (lower, upper)
 }
 
-// The tree of a frame with its leaves.
-fn stand<S: NodeStore>(ready: Ready<S>) -> Nodes<S>
+/// The tree of a frame with its leaves.
+pub(crate) fn stand<S: NodeStore>(ready: Ready<S>) -> Nodes<S>
     requires { CanStand S.K.cmp S.Argument.is_summary S.slots ready }
     ensures contents { HasPairs S.K.cmp S.Argument.is_summary S.slots ready result.contents }
     ensures whole { IsWhole S.K.cmp S.Argument.is_summary S.slots result }
@@ -177,8 +177,10 @@ pub enum Cutting<S: NodeStore> {
     Last(Filling<S>),
 }
 
-// Whether a position is before all pairs.
-fn is_start<S: NodeStore>(tree: &Nodes<S>, at: Position) -> bool
+/// Whether a position is before all pairs.
+///
+/// O(log n). It takes no memory and cannot fail.
+pub fn is_start<S: NodeStore>(tree: &Nodes<S>, at: Position) -> bool
     requires { HasPlace S.slots tree.now at }
     ensures { IsTrue result ↔ StartsAt S.slots tree.now at }
 {
@@ -187,6 +189,17 @@ fn is_start<S: NodeStore>(tree: &Nodes<S>, at: Position) -> bool
         return false;
     }
     tree.first_leaf() == at.leaf
+}
+
+/// Whether a position is behind all pairs.
+///
+/// O(1). It takes no memory and cannot fail.
+pub fn is_end<S: NodeStore>(tree: &Nodes<S>, at: Position) -> bool
+    requires { IsAtPair S.slots tree.now at }
+    ensures { IsTrue result ↔ (place_of S.slots tree.now at ≡ length tree.now.contents) }
+{
+    tree.recall();
+    at.slot == tree.store.get_leaf(at.leaf).len()
 }
 
 /// Finds all that is needed to cut a tree in two before the first pair whose key is not below `k`.

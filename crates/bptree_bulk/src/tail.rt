@@ -1,5 +1,5 @@
 //! The last pairs of a tree, which move one by one to a tree of their own.
-ghost use Rattle.std.specs.Prelude.{◌≡◌, ◌+◌, ◌<◌, ◌≤◌, length, reverse, IfOk, IfSome};
+ghost use Rattle.std.specs.Prelude.{◌≡◌, ◌+◌, ◌<◌, ◌≤◌, length, reverse, IfOk, IfSome, IsTrue};
 ghost use Rattle.std.specs.Option.{option_copied};
 ghost use Rattle.bptree_building.specs.Plans.{Adds};
 ghost use Rattle.bptree_bulk.specs.Cut.{first_key};
@@ -20,6 +20,7 @@ use bptree_ranges::summaries::summary_between;
 use bptree_shape::nodes::Nodes;
 use bptree_stores::node_stores::NodeStore;
 use std::alloc::AllocError;
+use std::cmp::Ordering;
 
 // The position of the first pair.
 pub(crate) fn start_of<S: NodeStore>(tree: &Nodes<S>) -> Position
@@ -118,6 +119,28 @@ pub(crate) fn few_from<S: NodeStore>(tree: &Nodes<S>, at: Position) -> Option<us
         return None;
     }
     Some(most - short)
+}
+
+/// Whether so few pairs are from a position up to a key that they are removed one by one: at most a
+/// thirty-second of all, where no removal can fail. If no key is given, up to the end.
+///
+/// O(n / 1024) for n pairs. It takes no memory and cannot fail.
+pub fn removes_few<S: NodeStore>(tree: &Nodes<S>, from: Position, hi: Option<&S::K>) -> bool
+    requires { IsAtPair S.slots tree.now from }
+    ensures { IsTrue result → S.Argument.needs_no_memory × AllInfallible S.K.is_infallible }
+{
+    if !(S::K::clones_never_fail() && S::Argument::never_fails()) {
+        return false;
+    }
+    let (at, short) = advance(tree, from, tree.len() / 32);
+    if short > 0 {
+        return true;
+    }
+    match (key_from(tree, at), hi) {
+        (None, _) => true,
+        (Some(_), None) => false,
+        (Some(k), Some(hi)) => !matches!(k.cmp(hi), Ordering::Less),
+    }
 }
 
 /// Finds all that is needed to move the last `count` pairs of a tree, which begin at a position.

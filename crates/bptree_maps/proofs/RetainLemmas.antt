@@ -14,9 +14,7 @@ use Rattle.bptree_keys.specs.Contents.{IsAscending, put}
 use Rattle.bptree_keys.proofs.Ascending.{all_before, all_after, all_joined, ascending_cons, ascending_with_value, equal_parts}
 use Rattle.bptree_keys.proofs.Parted.{put_gap}
 use Rattle.bptree_keys.specs.Ranges.{between}
-use Rattle.bptree_tree.specs.RangeRemoval.{FirstsLeft}
 use Rattle.bptree_maps.specs.Keys.{with_key}
-use Rattle.bptree_maps.specs.RetainedKeys.{FirstKeysLeft}
 use Rattle.bptree_maps.specs.Retaining.{CallsAtPair, IsRetained, IsRetainedUpTo}
 use Rattle.bptree_maps.proofs.KeyLemmas.{keys_between-is, keys_outside-is, keys_put}
 use Rattle.bptree_maps.proofs.KeyLemmas.{keys_append}
@@ -133,11 +131,3 @@ module _ {K : Type 0} {cmp : K → K → Ordering} (total : IsTotalOrder cmp) (k
   keys_without =
       let left = ascending_without total (as_pairs kept) (k, tt) (as_pairs rest) ascending in
       rw (keys_append (as_pairs kept) (as_pairs rest), keys_back kept, keys_back rest) at left
-
--- the first pairs between two keys left, and so did their keys
-pub first_keys_left : {K V : Type 0} (cmp : K → K → Ordering) (lo hi : Option K) (old new : List (K × V)) → FirstsLeft cmp lo hi old new → FirstKeysLeft cmp lo hi (keys_of old) (keys_of new)
-first_keys_left cmp lo hi old new left = (
-  keys_of left.0,
-  sym (keys_between-is cmp old lo hi) ∙ ap keys_of left.1 ∙ keys_append left.0 (between cmp new lo hi) ∙ ap (λ l. keys_of left.0 ++ l) (keys_between-is cmp new lo hi),
-  sym (keys_outside-is cmp new lo hi) ∙ ap keys_of left.2 ∙ keys_outside-is cmp old lo hi,
-)

@@ -22,11 +22,6 @@ module _ {K : Type 0} (cmp : K → K → Ordering) where
   abbrev pub keys_outside : List K → Option K → Option K → List K
   keys_outside keys lo hi = filter (λ key. not (not (falls_short cmp lo key) && stays_below cmp hi key)) keys
 
-  -- the first ones of the keys between two keys left, and all others stayed
-  abbrev pub FirstKeysLeft : Option K → Option K → List K → List K → Type 0
-  FirstKeysLeft lo hi old new =
-      (gone : List K) × (keys_between cmp old lo hi ≡ gone ++ keys_between cmp new lo hi) × (keys_outside new lo hi ≡ keys_outside old lo hi)
-
   -- where no key is between the ends, 0 is returned and nothing changes
   abbrev pub KeepsAllIfNoKey : {E : Type 0} → Option K → Option K → List K → List K → Result ℕ E → Type 0
   KeepsAllIfNoKey lo hi old new result = keys_between cmp old lo hi ≡ [] → (result ≡ Ok 0) × (new ≡ old)

@@ -1,9 +1,11 @@
+pub mod BelowLemmas
 pub mod ChainLemmas
 pub mod Cloned
 pub mod Counted
 pub mod EndLemmas
 pub mod EntryLemmas
 pub mod FailureLemmas
+pub mod GapLemmas
 pub mod Heights
 pub mod LastTaken
 pub mod LentAt

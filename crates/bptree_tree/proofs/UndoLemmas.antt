@@ -124,30 +124,23 @@ module _ {K V : Type 0} (cmp : K → K → Ordering) where
     pub firsts : List (K × V)
     pub pair : K × V
     pub list : List (K × V)
+    pub up : IsAscending cmp list
     pub are : ps ≡ firsts ++ pair ∷ []
     pub all : CanUndoAll cmp es firsts l list
     pub can : CanUndo cmp e pair list
     pub put : new ≡ put_pair cmp list pair
 
-  pub last_undone : (es : List (Undo K V)) (e : Undo K V) (ps l new : List (K × V)) → CanUndoAll cmp (es ++ e ∷ []) ps l new → LastUndone es e ps l new
-  last_undone [] e [] l new all = absurd all
-  last_undone [] e (p ∷ []) l new all = record { firsts = []; pair = p; list = l; are = refl; all = refl; can = all.0; put = all.1 }
-  last_undone [] e (p ∷ q ∷ ps) l new all = absurd all.1
-  last_undone (d ∷ es) e [] l new all = absurd all
-  last_undone (d ∷ es) e (p ∷ ps) l new all =
-      let rest = last_undone es e ps (put_pair cmp l p) new all.1 in
-      record { firsts = p ∷ rest.firsts; pair = rest.pair; list = rest.list; are = ap (λ m. p ∷ m) rest.are; all = (all.0, rest.all); can = rest.can; put = rest.put }
+  last_undone : IsTotalOrder cmp → (es : List (Undo K V)) (e : Undo K V) (ps l new : List (K × V)) → IsAscending cmp l → CanUndoAll cmp (es ++ e ∷ []) ps l new → LastUndone es e ps l new
+  last_undone total [] e [] l new up all = absurd all
+  last_undone total [] e (p ∷ []) l new up all = record { firsts = []; pair = p; list = l; up = up; are = refl; all = refl; can = all.0; put = all.1 }
+  last_undone total [] e (p ∷ q ∷ ps) l new up all = absurd all.1
+  last_undone total (d ∷ es) e [] l new up all = absurd all
+  last_undone total (d ∷ es) e (p ∷ ps) l new up all =
+      let rest = last_undone total es e ps (put_pair cmp l p) new (put_ascending cmp total l up p.0 p.1) all.1 in
+      record { firsts = p ∷ rest.firsts; pair = rest.pair; list = rest.list; up = rest.up; are = ap (λ m. p ∷ m) rest.are; all = (all.0, rest.all); can = rest.can; put = rest.put }
 
-  -- where none is noted, none was put
-  pub none_undone : (ps l new : List (K × V)) → CanUndoAll cmp [] ps l new → (ps ≡ []) × (new ≡ l)
-  none_undone [] l new all = (refl, all)
-  none_undone (p ∷ ps) l new all = absurd all
-
-  pub undo_ascends : (total : IsTotalOrder cmp) (es : List (Undo K V)) (ps l new : List (K × V)) → IsAscending cmp l → CanUndoAll cmp es ps l new → IsAscending cmp new
-  undo_ascends total [] [] l new up all = subst (IsAscending cmp) (sym all) up
-  undo_ascends total [] (p ∷ ps) l new up all = absurd all
-  undo_ascends total (e ∷ es) [] l new up all = absurd all
-  undo_ascends total (e ∷ es) (p ∷ ps) l new up all = undo_ascends total es ps (put_pair cmp l p) new (put_ascending cmp total l up p.0 p.1) all.1
+  pub last_of : IsTotalOrder cmp → {all es : List (Undo K V)} {e : Undo K V} → all ≡ es ++ e ∷ [] → (ps l new : List (K × V)) → IsAscending cmp l → CanUndoAll cmp all ps l new → LastUndone es e ps l new
+  last_of total {es = es} {e = e} is ps l new up can = last_undone total es e ps l new up (subst (λ es. CanUndoAll cmp es ps l new) is can)
 
 -- the pairs that came back, the last one first, are all
 pub all_back : {X : Type 0} (moved rest : List X) (p : X) (front back : List X) → front ≡ [] → back ≡ ((front ++ reverse rest) ++ p ∷ []) ++ reverse moved → reverse back ≡ moved ++ p ∷ rest

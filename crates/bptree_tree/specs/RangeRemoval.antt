@@ -1,7 +1,16 @@
 -- The pairs between two keys that leave.
-use Rattle.std.specs.Prelude.{◌≡◌, ℕ, Bool, true, false, not, ◌&&◌, Option, List, [], ◌∷◌, ◌++◌, filter, Result, Ok}
+use Rattle.std.specs.Prelude.{◌≡◌, ℕ, Bool, true, false, not, ◌&&◌, Option, None, Some, List, [], ◌∷◌, filter, length, Result, Ok}
 use Rattle.std.specs.declared.cmp.Ordering.{Ordering}
+use Rattle.bptree_bulk.specs.Gap.{without_part}
+use Rattle.bptree_bulk.specs.Positions.{place_of}
+use Rattle.bptree_bulk.specs.Removing.{IsRemovalBetween}
+use Rattle.bptree_bulk.specs.declared.removing.Removal.{Removal}
 use Rattle.bptree_keys.specs.Ranges.{falls_short, stays_below, between}
+use Rattle.bptree_keys.specs.declared.node_id.Position.{Position}
+use Rattle.bptree_nodes.specs.Inner.{Inner}
+use Rattle.bptree_nodes.specs.Leaf.{Leaf}
+use Rattle.bptree_nodes.specs.Slot.{Slots}
+use Rattle.bptree_shape.specs.NodeTree.{NodeTree}
 use Rattle.std.specs.Borrow.{Bor}
 use Rattle.std.specs.Option.{option_copied}
 
@@ -16,17 +25,10 @@ module _ {K V : Type 0} (cmp : K → K → Ordering) where
     FirstLeaves false old new = (between cmp old lo hi ≡ []) × (new ≡ old)
     FirstLeaves true old new = (pair : K × V) × (between cmp old lo hi ≡ pair ∷ between cmp new lo hi) × (outside new lo hi ≡ outside old lo hi)
 
-    -- the first ones of the pairs between two keys left, and all others stayed
-    abbrev pub FirstsLeft : List (K × V) → List (K × V) → Type 0
-    FirstsLeft old new = (gone : List (K × V)) × (between cmp old lo hi ≡ gone ++ between cmp new lo hi) × (outside new lo hi ≡ outside old lo hi)
-
   module _ (lo hi : Option (Bor K)) where
     -- the same of ends that are lent
     abbrev pub FirstBetweenLeaves : List (K × V) → List (K × V) → Bool → Type 0
     FirstBetweenLeaves old new found = FirstLeaves (option_copied lo) (option_copied hi) found old new
-
-    abbrev pub FirstsBetweenLeft : List (K × V) → List (K × V) → Type 0
-    FirstsBetweenLeft old new = FirstsLeft (option_copied lo) (option_copied hi) old new
 
     -- what is left are the pairs that are not between the ends
     abbrev pub KeepsOutside : List (K × V) → List (K × V) → Type 0
@@ -39,3 +41,12 @@ module _ {K V : Type 0} (cmp : K → K → Ordering) where
     -- where no pair is between the ends, 0 is returned and nothing changes
     abbrev pub KeepsAllIfNone : {E : Type 0} → List (K × V) → List (K × V) → Result ℕ E → Type 0
     KeepsAllIfNone old new result = between cmp old (option_copied lo) (option_copied hi) ≡ [] → (result ≡ Ok 0) × (new ≡ old)
+
+-- the pairs from one position up to another left a tree
+abbrev pub DropsBetween : {S K V A : Type 0} → (S → Slots (Inner K A) (Leaf K V)) → Position → Position → NodeTree S K V A → NodeTree S K V A → Type 0
+DropsBetween slots lo hi old new = new.contents ≡ without_part (place_of slots old lo) (place_of slots old hi) old.contents
+
+-- everything is found to drop the pairs from one position up to another, or these are all
+abbrev pub PlansDrop : {S K V A : Type 0} → (K → K → Ordering) → (A → List K → Type 0) → (S → Slots (Inner K A) (Leaf K V)) → NodeTree S K V A → Position → Position → Option (Removal S K V A) → Type 0
+PlansDrop cmp is_summary slots tree lo hi None = (place_of slots tree lo ≡ 0) × (place_of slots tree hi ≡ length tree.contents)
+PlansDrop cmp is_summary slots tree lo hi (Some removal) = IsRemovalBetween cmp is_summary slots tree lo hi removal

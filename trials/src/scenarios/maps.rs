@@ -85,6 +85,25 @@ fn moved(many: u64, takes_memory: bool) -> Vec<Step> {
     all
 }
 
+// From a map of many pairs those between two keys are removed: in the middle, at both ends, all, few,
+// none, those of one leaf, and all but one.
+fn ranges_removed(many: u64) -> Vec<Step> {
+    let half = many / 2;
+    let ranges = [
+        (Some(many / 4), Some(many - many / 4)),
+        (None, Some(half)),
+        (Some(half), None),
+        (None, None),
+        (Some(20), Some(23)),
+        (Some(half), Some(half)),
+        (Some(10), Some(33)),
+        (Some(1), Some(many)),
+        (None, Some(many - 1)),
+    ];
+    let steps = ranges.map(|ends| [quiet(calls::load(many, 0)), swept(call(8, 4, &range(ends)))]);
+    steps.concat()
+}
+
 // A map with the even numbers is asked for the bounds of the first key, of the 64th, which is the
 // last of a full leaf, and of the last one, each with the number behind it.
 fn bounded(many: u64) -> Vec<Step> {
@@ -198,6 +217,8 @@ pub fn all(sort: &Sort) -> Vec<Scenario> {
             let end = format!(", {word}moved between maps");
             let steps = moved(many, sort.takes_memory());
             all.push(scenario(&end, steps).ending(many as usize + 5));
+            let end = format!(", {word}ranges removed");
+            all.push(scenario(&end, ranges_removed(many)).ending(1));
         }
         let many = if many == 150 { 400 } else { many };
         let end = format!(", {word}bounded{memory}");

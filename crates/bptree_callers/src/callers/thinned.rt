@@ -1,5 +1,5 @@
 //! Callers that keep some pairs or keys, or take out those between two keys.
-ghost use Rattle.std.specs.Prelude.{◌≡◌, ◌==◌, [], filter, map as each, not, Ok, Some, OnOk};
+ghost use Rattle.std.specs.Prelude.{◌≡◌, ◌==◌, [], filter, map as each, not, Ok, Some, OnErr, OnOk};
 ghost use Rattle.bptree_callers.specs.Numbers.{halved};
 ghost use Rattle.bptree_keys.specs.Contents.{has};
 ghost use Rattle.bptree_keys.specs.Ranges.{between};
@@ -15,8 +15,8 @@ use bptree_stores::node_stores::NodeStore;
 use bptree_tree::BPlusTree;
 use std::alloc::AllocError;
 
-// Between two keys no pair is left, and the second one is as it was. Where there is no pair, nothing
-// fails and nothing changes.
+// Between two keys no pair is left, and the second one is as it was. If there is no pair, nothing
+// fails. If it fails, nothing changes.
 fn empties_a_part_of_a_tree<S: NodeStore>(
     tree: &mut BPlusTree<S>,
     lo: &S::K,
@@ -25,6 +25,7 @@ fn empties_a_part_of_a_tree<S: NodeStore>(
     ensures between { OnOk result (between_keys S.K.cmp tree.new.contents lo.now hi.now ≡ []) }
     ensures end { OnOk result (AgreesOn S.K.cmp tree.old.contents tree.new.contents hi.now) }
     ensures none { between_keys S.K.cmp tree.old.contents lo.now hi.now ≡ [] → (result ≡ Ok 0) × (tree.new.contents ≡ tree.old.contents) }
+    ensures unchanged { OnErr result (tree.new.contents ≡ tree.old.contents) }
 {
     tree.remove_range(Some(lo), Some(hi))
 }
@@ -38,6 +39,7 @@ fn empties_a_part<K: Key, V: Drop, A: Argument<K>>(
     ensures between { OnOk result (between_keys K.cmp map.new lo.now hi.now ≡ []) }
     ensures end { OnOk result (has K.cmp map.new hi.now ≡ has K.cmp map.old hi.now) }
     ensures none { between_keys K.cmp map.old lo.now hi.now ≡ [] → (result ≡ Ok 0) × (map.new ≡ map.old) }
+    ensures unchanged { OnErr result (map.new ≡ map.old) }
 {
     map.remove_range(Some(lo), Some(hi))
 }
@@ -51,6 +53,7 @@ fn empties_a_part_of_a_set<K: Key>(
     ensures between { OnOk result (keys_between K.cmp set.new (Some lo.now) (Some hi.now) ≡ []) }
     ensures end { OnOk result (holds K.cmp set.new hi.now ≡ holds K.cmp set.old hi.now) }
     ensures none { keys_between K.cmp set.old (Some lo.now) (Some hi.now) ≡ [] → (result ≡ Ok 0) × (set.new ≡ set.old) }
+    ensures unchanged { OnErr result (set.new ≡ set.old) }
 {
     set.remove_range(Some(lo), Some(hi))
 }

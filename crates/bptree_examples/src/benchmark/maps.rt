@@ -103,24 +103,38 @@ fn retain(report: Report<'_>, map: &mut Plain) -> bool {
     true
 }
 
-// The upper half of a map's pairs leaves and comes back, and every second pair leaves.
-fn move_pairs(report: Report<'_>, map: &mut Plain, middle: u64) -> bool {
-    match split_off(report, map, middle) {
-        Some(mut half) => append(report, map, &mut half) && retain(report, map),
-        None => false,
-    }
+// The pairs between two keys are removed, for each pair removed.
+fn remove_range(report: Report<'_>, map: &mut Plain, lo: u64, hi: u64) -> bool {
+    let clock = report.start("removerange");
+    let Ok(gone) = map.remove_range(Some(&lo), Some(&hi)) else {
+        return false;
+    };
+    clock.stop(gone, map.len() as u64);
+    true
 }
 
-fn middle_of(sorted: &[u64]) -> u64 {
-    match sorted.get(sorted.len() / 2) {
+fn key_at(sorted: &[u64], place: usize) -> u64 {
+    match sorted.get(place) {
         Some(key) => *key,
         None => 0,
     }
 }
 
+// The upper half of a map's pairs leaves and comes back, every second pair leaves, and of the others
+// the half in the middle.
+fn move_pairs(report: Report<'_>, map: &mut Plain, sorted: &[u64]) -> bool {
+    let many = sorted.len();
+    let Some(mut half) = split_off(report, map, key_at(sorted, many / 2)) else {
+        return false;
+    };
+    let lo = key_at(sorted, many / 4);
+    let hi = key_at(sorted, many - many / 4);
+    append(report, map, &mut half) && retain(report, map) && remove_range(report, map, lo, hi)
+}
+
 fn move_and_leave(report: Report<'_>, numbers: Numbers<'_>) -> bool {
     match made(report, numbers.keys) {
-        Ok(mut map) => move_pairs(report, &mut map, middle_of(numbers.sorted)),
+        Ok(mut map) => move_pairs(report, &mut map, numbers.sorted),
         Err(_) => false,
     }
 }

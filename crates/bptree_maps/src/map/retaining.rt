@@ -2,7 +2,7 @@
 ghost use Rattle.std.specs.Prelude.{◌≡◌, length, IfErr, IfOk, OnErr, OnOk};
 ghost use Rattle.bptree_ascent.specs.Failing.{OkIs};
 ghost use Rattle.bptree_maps.specs.Retaining.{IsRetained, IsRetainRefused};
-ghost use Rattle.bptree_tree.specs.RangeRemoval.{outside, FirstsBetweenLeft, KeepsAllIfNone, KeepsOutside};
+ghost use Rattle.bptree_tree.specs.RangeRemoval.{outside, KeepsAllIfNone, KeepsOutside};
 ghost use Rattle.bptree_tree.specs.Entries.{pairs_between};
 
 use super::{BPlusTreeMap, IntoIter};
@@ -49,11 +49,15 @@ impl<K: Key, V: Drop, A: Argument<K>> BPlusTreeMap<K, V, A> {
     }
 
     /// Removes the pairs whose key is not below `lo` and is below `hi`, where they are given, and
-    /// answers how many there were.
+    /// returns how many there were. If it fails, nothing changes.
     ///
-    /// It costs a removal a pair, and a search for its key and for each end that is given. If one
-    /// fails, the first of the pairs have left, and nothing else has changed. If there is no such
-    /// pair, nothing fails and nothing changes.
+    /// It searches for both ends in O(log n) comparisons. Then each leaf on either side stays as it
+    /// is, but for a few at the gap: O(n / 32) for n pairs, and O(1) for each pair that is removed.
+    /// Before that it allocates the nodes above the leaves, clones the first key of each leaf and
+    /// computes a summary of its keys, and it fails if one of these does. If no removal can fail, as
+    /// `clones_never_fail` and `never_fails` say, it does not fail: it removes the pairs one by one
+    /// where at most n / 32 are removed or where memory is refused. If there is no such pair, it
+    /// takes no memory and cannot fail. If all pairs are removed, it allocates one leaf.
     pub fn remove_range<'b>(
         &mut self,
         lo: Option<&'b K>,
@@ -62,7 +66,7 @@ impl<K: Key, V: Drop, A: Argument<K>> BPlusTreeMap<K, V, A> {
         ensures rest { IfOk result (λ _. KeepsOutside K.cmp lo.entry hi.entry self.old self.new) }
         ensures count { OkIs result (length (pairs_between K.cmp self.old lo.entry hi.entry)) }
         ensures empty { KeepsAllIfNone K.cmp lo.entry hi.entry self.old self.new result }
-        ensures err { OnErr result (FirstsBetweenLeft K.cmp lo.entry hi.entry self.old self.new) }
+        ensures err { OnErr result (self.new ≡ self.old) }
     {
         self.inner.remove_range(lo, hi)
     }

@@ -4,7 +4,7 @@ ghost use Rattle.std.specs.Fn.{CalledAt};
 ghost use Rattle.std.specs.List.Retain.{IsFiltered};
 ghost use Rattle.std.specs.Option.{option_copied as given};
 ghost use Rattle.bptree_maps.specs.Keys.{keys_between};
-ghost use Rattle.bptree_maps.specs.RetainedKeys.{keys_outside, FirstKeysLeft, IsKeyRetainRefused, KeepsAllIfNoKey};
+ghost use Rattle.bptree_maps.specs.RetainedKeys.{keys_outside, IsKeyRetainRefused, KeepsAllIfNoKey};
 ghost use Rattle.bptree_tree.specs.Refusal.{pair_of};
 
 use super::{BPlusTreeSet, IntoIter};
@@ -57,11 +57,15 @@ impl<K: Key> BPlusTreeSet<K> {
     }
 
     /// Removes the keys that are not below `lo` and are below `hi`, where they are given, and
-    /// answers how many there were.
+    /// returns how many there were. If it fails, nothing changes.
     ///
-    /// It costs a removal a key, and a search for it and for each end that is given. If one fails,
-    /// the first of the keys have left, and nothing else has changed. If there is no such key,
-    /// nothing fails and nothing changes.
+    /// It searches for both ends in O(log n) comparisons. Then each leaf on either side stays as it
+    /// is, but for a few at the gap: O(n / 32) for n keys, and O(1) for each key that is removed.
+    /// Before that it allocates the nodes above the leaves, clones the first key of each leaf and
+    /// computes a summary of its keys, and it fails if one of these does. If no removal can fail, as
+    /// `clones_never_fail` and `never_fails` say, it does not fail: it removes the keys one by one
+    /// where at most n / 32 are removed or where memory is refused. If there is no such key, it
+    /// takes no memory and cannot fail. If all keys are removed, it allocates one leaf.
     pub fn remove_range<'b>(
         &mut self,
         lo: Option<&'b K>,
@@ -70,7 +74,7 @@ impl<K: Key> BPlusTreeSet<K> {
         ensures rest { IfOk result (λ _. self.new ≡ keys_outside K.cmp self.old (given lo.entry) (given hi.entry)) }
         ensures count { IfOk result (λ n. n ≡ length (keys_between K.cmp self.old (given lo.entry) (given hi.entry))) }
         ensures empty { KeepsAllIfNoKey K.cmp (given lo.entry) (given hi.entry) self.old self.new result }
-        ensures err { OnErr result (FirstKeysLeft K.cmp (given lo.entry) (given hi.entry) self.old self.new) }
+        ensures err { OnErr result (self.new ≡ self.old) }
     {
         self.map.remove_range(lo, hi)
     }

@@ -1,5 +1,5 @@
 //! Two trees that become one.
-ghost use Rattle.std.specs.Prelude.{◌≡◌, ◌↔◌, ◌+◌, ◌<◌, ◌≤◌, ◌++◌, ◌∷◌, ◌⊎◌, ◌^◌, [], true, Err, Some, length, reverse, vec_capacity, vec_len, IfErr, IsOk, OnErr, OnOk};
+ghost use Rattle.std.specs.Prelude.{◌≡◌, ◌↔◌, ◌+◌, ◌<◌, ◌≤◌, ◌++◌, ◌∷◌, ◌⊎◌, ◌^◌, [], true, Err, Some, length, reverse, vec_capacity, vec_len, IfErr, IsOk, IsTrue, OnErr, OnOk};
 ghost use Rattle.bptree_ascent.specs.NodeTree.{IsWhole};
 ghost use Rattle.bptree_bulk.specs.Weave.{first_rest, next_source, put_pair, second_rest, step_pair, woven, IsWeave, Weaves};
 ghost use Rattle.bptree_keys.specs.Contents.{IsAscending};
@@ -12,11 +12,13 @@ use crate::tree::{BPlusTree, IntoIter};
 use crate::{AppendError, InsertError};
 use bptree_arguments::argument::Argument;
 use bptree_bulk::filling::plant_filling;
+use bptree_bulk::joining::{join, plan_join};
 use bptree_bulk::tail::{plan_all, plant_tail};
 use bptree_bulk::weaving::{Source, Weave, plan_weave};
 use bptree_keys::key::Key;
 use bptree_stores::node_stores::NodeStore;
 use std::alloc::AllocError;
+use std::cmp::Ordering;
 use std::mem;
 
 // What takes back a pair that was put.
@@ -250,15 +252,30 @@ impl<S: NodeStore> BPlusTree<S> {
         S::K::clones_never_fail() && S::Argument::never_fails() && other.len() < self.len() / 16
     }
 
+    // Whether each key of this tree is below each key of another.
+    fn is_below(&self, other: &Self) -> bool
+        ensures { IsTrue result → IsAscending S.K.cmp (self.now.contents ++ other.now.contents) }
+    {
+        self.recall_whole();
+        other.recall_whole();
+        match (self.last(), other.first()) {
+            (Some((last, _)), Some((first, _))) => matches!(last.cmp(first), Ordering::Less),
+            _ => false,
+        }
+    }
+
     /// Moves all pairs of another tree here. Of two equal keys this tree's key stays, and it takes the
     /// other's value.
     ///
     /// O(n) comparisons for n pairs of both. Before a pair moves it allocates new nodes for all of
     /// them, clones a key of each leaf and computes summaries of the keys. If one of these fails,
-    /// neither tree changes. If the other tree has fewer than a sixteenth of this one's pairs and no
-    /// removal can fail, as `clones_never_fail` and `never_fails` say, it inserts these one by one;
-    /// if one fails, it takes back those before it. If either tree is empty, it takes no memory and
-    /// cannot fail. It returns `Full` exactly if both together have more than `usize::MAX` pairs.
+    /// neither tree changes. Where each key of one tree is below each key of the other and both have
+    /// at least 16 pairs, each leaf moves as it is, in O(n / 32): it compares the keys at the ends
+    /// alone, and allocates the nodes above the leaves. If the other tree has fewer than a sixteenth
+    /// of this one's pairs and no removal can fail, as `clones_never_fail` and `never_fails` say, it
+    /// inserts these one by one instead; if one fails, it takes back those before it. If either tree
+    /// is empty, it takes no memory and cannot fail. It returns `Full` exactly if both together have
+    /// more than `usize::MAX` pairs.
     pub fn append(&mut self, other: &mut Self) -> Result<(), AppendError>
         ensures ok { OnOk result (Appends S.K.cmp self.old other.old self.new) }
         ensures emptied { OnOk result (other.new.contents ≡ []) }
@@ -284,7 +301,7 @@ impl<S: NodeStore> BPlusTree<S> {
         let moved = if self.takes_few(other) {
             self.append_few(other)
         } else {
-            self.weave(other)
+            self.move_all(other)
         };
         match moved {
             Ok(()) => Ok(()),
@@ -292,7 +309,56 @@ impl<S: NodeStore> BPlusTree<S> {
         }
     }
 
-    // The same where neither is empty, and both have no more than the greatest number of pairs.
+    // The same where neither is empty, and both have no more than the greatest number of pairs. Whole
+    // leaves move where they can.
+    fn move_all(&mut self, other: &mut Self) -> Result<(), AllocError>
+        requires some { 0 < length self.old.contents }
+        requires few { length self.old.contents + length other.old.contents < 2 ^ 64 }
+        ensures ok { OnOk result (Appends S.K.cmp self.old other.old self.new) }
+        ensures emptied { OnOk result (other.new.contents ≡ []) }
+        ensures whole { IsWhole S.K.cmp S.Argument.is_summary S.slots self.new }
+        ensures other_whole { IsWhole S.K.cmp S.Argument.is_summary S.slots other.new }
+        ensures unchanged { OnErr result ((self.new ≡ self.old) × (other.new ≡ other.old)) }
+    {
+        if self.len() < 16 || other.len() < 16 {
+            return self.weave(other);
+        }
+        if self.is_below(other) {
+            return self.join(other);
+        }
+        if other.is_below(self) {
+            other.join(self)?;
+            mem::swap(self, other);
+            return Ok(());
+        }
+        self.weave(other)
+    }
+
+    // Moves all leaves of another tree behind those of this one, as they are. Each key of this tree is
+    // below each key of the other, and both have at least 16 pairs.
+    fn join(&mut self, other: &mut Self) -> Result<(), AllocError>
+        requires below { IsAscending S.K.cmp (self.old.contents ++ other.old.contents) }
+        requires first { 16 ≤ length self.old.contents }
+        requires second { 16 ≤ length other.old.contents }
+        requires few { length self.old.contents + length other.old.contents < 2 ^ 64 }
+        ensures ok { OnOk result (self.new.contents ≡ self.old.contents ++ other.old.contents) }
+        ensures emptied { OnOk result (other.new.contents ≡ []) }
+        ensures whole { IsWhole S.K.cmp S.Argument.is_summary S.slots self.new }
+        ensures other_whole { IsWhole S.K.cmp S.Argument.is_summary S.slots other.new }
+        ensures unchanged { OnErr result ((self.new ≡ self.old) × (other.new ≡ other.old)) }
+    {
+        self.recall_whole();
+        other.recall_whole();
+        let spare = BPlusTree::new(S::empty(self.nodes.store.allocator()))?;
+        let empty = BPlusTree::new(S::empty(other.nodes.store.allocator()))?;
+        let joint = plan_join(&self.nodes, &other.nodes)?;
+        let first = mem::replace(self, spare);
+        let second = mem::replace(other, empty);
+        *self = BPlusTree::of_nodes(join(first.nodes, second.nodes, joint));
+        Ok(())
+    }
+
+    // The same as `move_all`, pair by pair.
     fn weave(&mut self, other: &mut Self) -> Result<(), AllocError>
         requires some { 0 < length self.old.contents }
         requires few { length self.old.contents + length other.old.contents < 2 ^ 64 }

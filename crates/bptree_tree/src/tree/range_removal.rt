@@ -1,21 +1,31 @@
 //! Removal of the pairs between two keys.
-ghost use Rattle.std.specs.Prelude.{◌≡◌, length, IfOk, OnErr};
+ghost use Rattle.std.specs.Prelude.{◌≡◌, ◌<◌, length, IfOk, OnErr, OnOk};
+ghost use Rattle.bptree_ascent.specs.Failing.{NeverFails, OkIs};
+ghost use Rattle.bptree_bulk.specs.Positions.{place_of, IsAtPair};
+ghost use Rattle.bptree_keys.specs.Keys.{AllInfallible};
 ghost use Rattle.bptree_keys.specs.Ranges.{between};
-ghost use Rattle.bptree_tree.specs.RangeRemoval.{FindsNoneBetween, FirstBetweenLeaves, FirstsBetweenLeft, KeepsAllIfNone, KeepsOutside};
-ghost use Rattle.bptree_tree.specs.Whole.{IsWhole, IsUntouched};
 ghost use Rattle.bptree_tree.specs.Entries.{pairs_between};
+ghost use Rattle.bptree_tree.specs.RangeRemoval.{DropsBetween, FindsNoneBetween, FirstBetweenLeaves, KeepsAllIfNone, KeepsOutside, PlansDrop};
+ghost use Rattle.bptree_tree.specs.Whole.{IsWhole, IsUntouched};
 
 use crate::tree::BPlusTree;
 use crate::tree::ranges::pairs_from;
+use bptree_arguments::argument::Argument;
+use bptree_bulk::removing::{Removal, cut_out, plan_removal};
+use bptree_bulk::splitting::{is_end, is_start};
+use bptree_bulk::tail::removes_few;
 use bptree_keys::entry_ref::VisitStack;
-use bptree_ranges::ranges::part_between;
+use bptree_keys::key::Key;
+use bptree_keys::node_id::Position;
+use bptree_ranges::ranges::{part_between, places_between};
 use bptree_rebalancing::statistics::Statistic;
 use bptree_removal::removal;
 use bptree_shape::nodes::Nodes;
 use bptree_stores::node_stores::NodeStore;
 use std::alloc::AllocError;
+use std::mem;
 
-// Removes the first pair between two ends from the nodes of a tree. It answers whether there was
+// Removes the first pair between two ends from the nodes of a tree. It returns whether there was
 // one.
 fn drop_first_of<'b, S: NodeStore>(
     tree: &mut Nodes<S>,
@@ -27,6 +37,7 @@ fn drop_first_of<'b, S: NodeStore>(
     ensures ok { IfOk result (FirstBetweenLeaves S.K.cmp lo.entry hi.entry tree.old.contents tree.new.contents) }
     ensures empty { FindsNoneBetween S.K.cmp lo.entry hi.entry tree.old.contents result }
     ensures unchanged { OnErr result (IsUntouched S.slots tree.new tree.old) }
+    ensures infallible { NeverFails S.Argument.needs_no_memory S.K.is_infallible result }
 {
     tree.recall();
     let Some((k, _)) = pairs_from(tree, part_between(tree, lo, hi)).next() else {
@@ -40,45 +51,111 @@ fn drop_first_of<'b, S: NodeStore>(
     Ok(true)
 }
 
+// Finds all that is needed to drop the pairs from one position up to another, or nothing if these
+// are all.
+fn plan_drop<S: NodeStore>(
+    tree: &Nodes<S>,
+    lo: Position,
+    hi: Position,
+) -> Result<Option<Removal<S>>, AllocError>
+    requires lo { IsAtPair S.slots tree.now lo }
+    requires hi { IsAtPair S.slots tree.now hi }
+    requires order { place_of S.slots tree.now lo < place_of S.slots tree.now hi }
+    ensures { IfOk result (PlansDrop S.K.cmp S.Argument.is_summary S.slots tree.now lo hi) }
+{
+    tree.recall();
+    if is_start(tree, lo) && is_end(tree, hi) {
+        return Ok(None);
+    }
+    let removal = plan_removal(tree, lo, hi)?;
+    Ok(Some(removal))
+}
+
 impl<S: NodeStore> BPlusTree<S> {
-    // Removes the pair with the least key that is not below `lo` and is below `hi`, where they are
-    // given. It answers whether there was one.
-    fn drop_first_between<'b>(
-        &mut self,
-        lo: Option<&'b S::K>,
-        hi: Option<&'b S::K>,
-    ) -> Result<bool, AllocError>
+    // Removes the pairs between two keys one by one, and returns how many there were.
+    fn remove_each<'b>(&mut self, lo: Option<&'b S::K>, hi: Option<&'b S::K>) -> usize
+        requires sure { S.Argument.needs_no_memory × AllInfallible S.K.is_infallible }
         ensures whole { IsWhole S.K.cmp S.Argument.is_summary S.slots self.new }
-        ensures ok { IfOk result (FirstBetweenLeaves S.K.cmp lo.entry hi.entry self.old.contents self.new.contents) }
-        ensures empty { FindsNoneBetween S.K.cmp lo.entry hi.entry self.old.contents result }
-        ensures unchanged { OnErr result (IsUntouched S.slots self.new self.old) }
-        ensures err { OnErr result (self.new.contents ≡ self.old.contents) }
+        ensures rest { KeepsOutside S.K.cmp lo.entry hi.entry self.old.contents self.new.contents }
+        ensures count { result ≡ length (pairs_between S.K.cmp self.old.contents lo.entry hi.entry) }
     {
-        drop_first_of(&mut self.nodes, lo, hi, &mut self.statistic)
+        self.nodes.recall();
+        let mut gone = 0;
+        'pairs: while drop_first_of(&mut self.nodes, lo, hi, &mut self.statistic).unwrap() {
+            gone += 1;
+        }
+        gone
+    }
+
+    // Drops the pairs from one position up to another, of which there is one.
+    fn drop_between(&mut self, lo: Position, hi: Position) -> Result<(), AllocError>
+        requires lo { IsAtPair S.slots self.old lo }
+        requires hi { IsAtPair S.slots self.old hi }
+        requires order { place_of S.slots self.old lo < place_of S.slots self.old hi }
+        ensures whole { IsWhole S.K.cmp S.Argument.is_summary S.slots self.new }
+        ensures ok { OnOk result (DropsBetween S.slots lo hi self.old self.new) }
+        ensures unchanged { OnErr result (self.new ≡ self.old) }
+    {
+        let spare = BPlusTree::new(S::empty(self.nodes.store.allocator()))?;
+        match plan_drop(&self.nodes, lo, hi)? {
+            None => {
+                let _all = mem::replace(self, spare);
+                Ok(())
+            }
+            Some(removal) => {
+                let BPlusTree {
+                    nodes,
+                    statistic,
+                    path,
+                } = mem::replace(self, spare);
+                *self = BPlusTree {
+                    nodes: cut_out(nodes, removal),
+                    statistic,
+                    path,
+                };
+                Ok(())
+            }
+        }
     }
 
     /// Removes the pairs whose key is not below `lo` and is below `hi`, where they are given, and
-    /// answers how many there were.
+    /// returns how many there were. If it fails, nothing changes.
     ///
-    /// It costs a removal a pair, and a search for its key and for each end that is given. If one
-    /// fails, the first of the pairs are removed and nothing else has changed. If there is no such
-    /// pair, nothing fails and nothing changes.
+    /// It searches for both ends in O(log n) comparisons. Then each leaf on either side stays as it
+    /// is, but for a few at the gap: O(n / 32) for n pairs, and O(1) for each pair that is dropped.
+    /// Before that it allocates the nodes above the leaves, clones the first key of each leaf and
+    /// computes a summary of its keys, and it fails if one of these does. If no removal can fail, as
+    /// `clones_never_fail` and `never_fails` say, it does not fail: it removes the pairs one by one
+    /// where at most n / 32 are removed or where memory is refused. If there is no such pair, it
+    /// takes no memory and cannot fail. If all pairs are removed, it allocates one leaf.
     pub fn remove_range<'b>(
         &mut self,
         lo: Option<&'b S::K>,
         hi: Option<&'b S::K>,
     ) -> Result<usize, AllocError>
         ensures whole { IsWhole S.K.cmp S.Argument.is_summary S.slots self.new }
-        ensures rest { IfOk result (λ _. KeepsOutside S.K.cmp lo.entry hi.entry self.old.contents self.new.contents) }
-        ensures count { IfOk result (λ n. n ≡ length (pairs_between S.K.cmp self.old.contents lo.entry hi.entry)) }
+        ensures rest { OnOk result (KeepsOutside S.K.cmp lo.entry hi.entry self.old.contents self.new.contents) }
+        ensures count { OkIs result (length (pairs_between S.K.cmp self.old.contents lo.entry hi.entry)) }
         ensures empty { KeepsAllIfNone S.K.cmp lo.entry hi.entry self.old.contents self.new.contents result }
-        ensures err { OnErr result (FirstsBetweenLeft S.K.cmp lo.entry hi.entry self.old.contents self.new.contents) }
+        ensures unchanged { OnErr result (self.new ≡ self.old) }
     {
         self.nodes.recall();
-        let mut gone = 0;
-        'pairs: while self.drop_first_between(lo, hi)? {
-            gone += 1;
+        let Some(_) = pairs_from(&self.nodes, part_between(&self.nodes, lo, hi)).next() else {
+            return Ok(0);
+        };
+        let (from, to) = places_between(&self.nodes, lo, hi);
+        if removes_few(&self.nodes, from, hi) {
+            return Ok(self.remove_each(lo, hi));
         }
-        Ok(gone)
+        let len = self.len();
+        match self.drop_between(from, to) {
+            Ok(()) => Ok(len - self.len()),
+            Err(_) => {
+                if S::K::clones_never_fail() && S::Argument::never_fails() {
+                    return Ok(self.remove_each(lo, hi));
+                }
+                Err(AllocError)
+            }
+        }
     }
 }

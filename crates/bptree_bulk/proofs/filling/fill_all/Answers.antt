@@ -24,14 +24,22 @@ rooms-preserved g c =
       are = subst (λ l. AreParts l next.0 []) (sym rest) next.2;
       as_many = omega (arith, ap length rooms, inv.as_many, ap length next.1);
       room = omega (arith, inv.room, ap length rooms, c.fill_piece.ensures.len, c.fill_piece.ensures.capacity);
+      len = omega (arith, inv.len, ap length rooms, c.fill_piece.ensures.len);
+      capacity = c.fill_piece.ensures.capacity ∙ inv.capacity;
       filled = λ all dealt.
           let whole = parts_of c.args.leaves.now.items ++ all in
           subst (λ l. IsPartlyFilled l whole (parts_of c.fill_piece.new.leaves.items)) (sym rest)
           (filled_more items whole (parts_of c.rooms.leaves.items) (parts_of c.fill_piece.new.leaves.items) c.size_of-size.result (inv.filled all dealt) size some c.fill_piece.ensures.leaves);
     }
 
-pub returns : goal.returns
-returns g c = λ all dealt.
+pub returns-clause-leaves : goal.returns-clause-leaves
+returns-clause-leaves g c = λ all dealt.
     let filling = c.rooms.invariant.filled all dealt in
     let none = no_part (into_iter_items c.rooms.pairs) filling.rest filling.are (omega (arith, c.rooms-test.false, c.len.ensures, c.rooms.invariant.counted)) in
     sym (filling.sum ∙ (ap (λ l. parts_of c.rooms.leaves.items ++ l) none ∙ append-nil (parts_of c.rooms.leaves.items)))
+
+pub returns-clause-len : goal.returns-clause-len
+returns-clause-len g c =
+    let inv = c.rooms.invariant in
+    let none = no_part (into_iter_items c.rooms.pairs) inv.parts inv.are (omega (arith, c.rooms-test.false, c.len.ensures, inv.counted)) in
+    omega (arith, inv.len, inv.as_many, ap length none)

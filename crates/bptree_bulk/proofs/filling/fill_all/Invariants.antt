@@ -15,6 +15,8 @@ invariant-rooms g l = record {
   are : AreParts (into_iter_items l.pairs) parts [];
   as_many : length (into_iter_items l.rooms) ≡ length parts;
   room : vec_len l.leaves + length (into_iter_items l.rooms) ≤ vec_capacity l.leaves;
+  len : vec_len l.leaves + length (into_iter_items l.rooms) ≡ vec_len l.fn.leaves + length (into_iter_items l.fn.rooms);
+  capacity : vec_capacity l.leaves ≡ vec_capacity l.fn.leaves;
   filled : (all : List (List (g.row.K.Denot × g.row.V.Denot))) → AreParts (into_iter_items l.fn.pairs) all [] → IsPartlyFilled (into_iter_items l.pairs) (parts_of l.fn.leaves.items ++ all) (parts_of l.leaves.items);
 }
 

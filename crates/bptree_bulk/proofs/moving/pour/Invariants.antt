@@ -1,7 +1,7 @@
 use Rattle.std.proofs.Common.{◌≡◌, ◌+◌, ◌≤◌, ◌++◌, length, drop}
 use Rattle.std.specs.Prelude.{vec_capacity, vec_len}
 use Rattle.std.specs.Vec.Iter.{into_iter_items, into_iter_len}
-use Rattle.bptree_bulk.proofs.Passed.{poured}
+use Rattle.bptree_bulk.specs.Moving.{poured}
 use Rattle.bptree_bulk.proofs.moving.pour.Given as goal
 
 abbrev pub invariant-leaves : goal.invariant-leaves

@@ -1,84 +1,42 @@
-use Rattle.std.proofs.Common.{◌≡◌, ◌∙◌, ◌++◌, ◌-◌, [], ap, arith, drop, length, subst, sym, take}
-use Rattle.std.specs.List.{AllByRecursion}
+use Rattle.std.proofs.Common.{◌≡◌, [], ap, arith}
 use Rattle.std.proofs.lemmas.List.{take_rest}
 use Rattle.std.proofs.lemmas.Result.{IfOk-weaker}
-use Rattle.bptree_building.specs.Rooms.{IsFilledAt, IsPresentAt}
-use Rattle.bptree_bulk.specs.Cut.{pieces, upper_parts}
-use Rattle.bptree_bulk.proofs.Filled.{filled_leaves, least_leaves, present_leaves}
-use Rattle.bptree_bulk.proofs.Placed.{all_pairs}
-use Rattle.bptree_bulk.proofs.Sides.{all_behind, all_dropped, upper_of, upper_planned, slice_from, split_at, within_rest}
-use Rattle.bptree_keys.specs.Contents.{IsAscending}
-use Rattle.bptree_keys.specs.Ranges.{part}
-use Rattle.bptree_shape.specs.Leaves.{pairs_of}
+use Rattle.bptree_building.specs.Plans.{PlansAll}
+use Rattle.bptree_building.specs.Rooms.{IsFilledAt}
+use Rattle.bptree_bulk.specs.Cut.{upper_parts}
+use Rattle.bptree_bulk.proofs.OwnLeaves.{all_read, own_filled, rest_last, rest_present}
+use Rattle.bptree_bulk.proofs.SidePlans.{upper_plan}
+use Rattle.bptree_bulk.proofs.Sides.{all_behind, within_slice}
+use Rattle.bptree_bulk.proofs.side.upper_frame.Given.{Over}
+use Rattle.bptree_bulk.proofs.side.upper_frame.Goals.{In_ok-plan_leaves}
 use Rattle.bptree_bulk.proofs.side.upper_frame.Goals as goal
 
 pub plan_leaves-requires : goal.plan_leaves-requires
 plan_leaves-requires g c =
     let tree = c.args.tree.now in
-    let slots = g.S.NodeStore.slots in
-    let cmp = g.S.K.Ord.cmp in
-    let same : c.tree.inside.store ≡ tree.store = ap (λ t. t.store) c.tree.view_is in
-    let filled = filled_leaves cmp (slots tree.store) g.S.Argument.Argument.is_summary tree.height tree.root c.recall.ensures.whole.shape c.args.ids.now c.requires.ids in
-    subst (λ store. AllByRecursion (IsFilledAt cmp (slots store)) (take (length c.args.ids.now - c.args.cut.to) (drop c.args.cut.to c.args.ids.now))) (sym same) (subst (AllByRecursion (IsFilledAt cmp (slots tree.store))) (sym (take_rest c.args.ids.now c.args.cut.to)) (all_behind (slots tree.store) c.args.ids.now c.args.cut c.requires.cut (IsFilledAt cmp (slots tree.store)) filled))
+    let cut = c.args.cut in
+    let P = IsFilledAt g.S.K.Ord.cmp in
+    all_read g.S.NodeStore.slots (ap (λ t. t.store) c.tree.view_is) (take_rest c.args.ids.now cut.to) P (all_behind (g.S.NodeStore.slots tree.store) c.args.ids.now cut c.requires.cut (P (g.S.NodeStore.slots tree.store)) (own_filled c.recall.ensures.whole c.requires.ids))
 
-pub plan_pieces-requires-clause-present : goal.plan_pieces-requires-clause-present
-plan_pieces-requires-clause-present g c =
-    let tree = c.args.tree.now in
-    let slots = g.S.NodeStore.slots tree.store in
-    let present = present_leaves g.S.K.Ord.cmp slots g.S.Argument.Argument.is_summary tree.height tree.root c.recall.ensures.whole.shape c.args.ids.now c.requires.ids in
-    subst (AllByRecursion (IsPresentAt slots)) (sym (take_rest c.args.ids.now c.args.cut.from)) (all_dropped (IsPresentAt slots) c.args.cut.from c.args.ids.now present)
+pub plan_pieces-requires : goal.plan_pieces-requires
+plan_pieces-requires g c = record {
+  present = rest_present c.recall.ensures.whole c.requires.ids c.args.cut.from (take_rest c.args.ids.now c.args.cut.from);
+  last = rest_last c.recall.ensures.whole c.requires.ids c.args.cut.from (take_rest c.args.ids.now c.args.cut.from);
+  count = c.requires.cut.above_some;
+  within = omega (arith, within_slice (g.S.NodeStore.slots c.args.tree.now.store) c.args.ids.now c.args.cut c.requires.cut);
+  half = c.requires.cut.above_half;
+}
 
-pub plan_pieces-requires-clause-last : goal.plan_pieces-requires-clause-last
-plan_pieces-requires-clause-last g c =
-    let tree = c.args.tree.now in
-    let slots = g.S.NodeStore.slots tree.store in
-    let ids = c.args.ids.now in
-    let first = pairs_of slots (take c.args.cut.from ids) in
-    let all = all_pairs g.S.Argument.Argument.is_summary slots tree.height tree.root c.recall.ensures.whole.shape ids c.requires.ids in
-    (first, c.recall.ensures.whole.contents ∙ (sym all ∙ (split_at slots ids c.args.cut.from ∙ ap (λ xs. first ++ pairs_of slots xs) (sym (take_rest ids c.args.cut.from)))))
-
-pub plan_pieces-requires-clause-count : goal.plan_pieces-requires-clause-count
-plan_pieces-requires-clause-count g c =
-    c.requires.cut.above_some
-
-pub plan_pieces-requires-clause-within : goal.plan_pieces-requires-clause-within
-plan_pieces-requires-clause-within g c =
-    let slots = g.S.NodeStore.slots c.args.tree.now.store in
-    let ids = c.args.ids.now in
-    omega (arith, within_rest slots ids c.args.cut c.requires.cut, ap (λ xs. length (pairs_of slots xs)) (take_rest ids c.args.cut.from))
+-- the leaves of the upper side are planned
+planned : (g : Over) (c : In_ok-plan_leaves g) → PlansAll g.S.K.Ord.cmp g.S.Argument.Argument.is_summary g.S.NodeStore.slots c.plan_leaves.new.plan (upper_parts (g.S.NodeStore.slots c.args.tree.now.store) c.args.ids.now c.args.cut)
+planned g c =
+    let same : c.tree.inside.store ≡ c.args.tree.now.store = ap (λ t. t.store) c.tree.view_is in
+    upper_plan c.recall.ensures.whole g.met.S.K.Ord.total c.recall.ensures.ascending c.recall.ensures.fits c.requires.ids c.requires.cut c.plan_leaves.new.plan
+    ((rw same at c.in_ok-plan_leaves.ensures) _ (c.in_ok-plan_pieces.ensures [] c.empty_plan-plan.ensures))
 
 pub frame-requires : goal.frame-requires
-frame-requires g c =
-    let tree = c.args.tree.now in
-    let slots = g.S.NodeStore.slots in
-    let cmp = g.S.K.Ord.cmp in
-    let is_summary = g.S.Argument.Argument.is_summary in
-    let ids = c.args.ids.now in
-    let same : c.tree.inside.store ≡ tree.store = ap (λ t. t.store) c.tree.view_is in
-    let shape = c.recall.ensures.whole.shape in
-    let all = sym (all_pairs is_summary (slots tree.store) tree.height tree.root shape ids c.requires.ids) in
-    let contents = c.recall.ensures.whole.contents ∙ all in
-    let plan = c.plan_leaves.new.plan in
-    let first = c.in_ok-plan_pieces.ensures [] c.empty_plan-plan.ensures in
-    let planned = upper_of cmp is_summary (slots tree.store) (slots plan.store) plan.ids.items plan.trees.items ids c.args.cut ((rw same at c.in_ok-plan_leaves.ensures) (pieces c.args.cut.above_half (part (pairs_of (slots tree.store) (slice_from cmp is_summary (slots tree.store) (slots plan.store) plan.ids.items plan.trees.items ids c.args.cut)) c.args.cut.below c.args.cut.above)) first) in (
-      upper_parts (slots tree.store) ids c.args.cut,
-      upper_planned (slots tree.store) ids c.args.cut c.requires.cut (least_leaves cmp (slots tree.store) is_summary tree.height tree.root shape ids c.requires.ids) g.met.S.K.Ord.total is_summary (subst (IsAscending cmp) contents c.recall.ensures.ascending) (omega (arith, c.recall.ensures.fits, ap length contents)) (slots plan.store) plan.ids.items plan.trees.items planned,
-    )
+frame-requires g c = (upper_parts (g.S.NodeStore.slots c.args.tree.now.store) c.args.ids.now c.args.cut, planned g c)
 
 pub returns : goal.returns
 returns g c =
-    let tree = c.args.tree.now in
-    let slots = g.S.NodeStore.slots in
-    let cmp = g.S.K.Ord.cmp in
-    let is_summary = g.S.Argument.Argument.is_summary in
-    let ids = c.args.ids.now in
-    let same : c.tree.inside.store ≡ tree.store = ap (λ t. t.store) c.tree.view_is in
-    let shape = c.recall.ensures.whole.shape in
-    let all = sym (all_pairs is_summary (slots tree.store) tree.height tree.root shape ids c.requires.ids) in
-    let contents = c.recall.ensures.whole.contents ∙ all in
-    let plan = c.plan_leaves.new.plan in
-    let first = c.in_ok-plan_pieces.ensures [] c.empty_plan-plan.ensures in
-    let planned = upper_of cmp is_summary (slots tree.store) (slots plan.store) plan.ids.items plan.trees.items ids c.args.cut ((rw same at c.in_ok-plan_leaves.ensures) (pieces c.args.cut.above_half (part (pairs_of (slots tree.store) (slice_from cmp is_summary (slots tree.store) (slots plan.store) plan.ids.items plan.trees.items ids c.args.cut)) c.args.cut.below c.args.cut.above)) first) in
-    IfOk-weaker c.frame.result _ _ (λ _ framed.
-    framed (upper_parts (slots tree.store) ids c.args.cut)
-    (upper_planned (slots tree.store) ids c.args.cut c.requires.cut (least_leaves cmp (slots tree.store) is_summary tree.height tree.root shape ids c.requires.ids) g.met.S.K.Ord.total is_summary (subst (IsAscending cmp) contents c.recall.ensures.ascending) (omega (arith, c.recall.ensures.fits, ap length contents)) (slots plan.store) plan.ids.items plan.trees.items planned)) c.frame.ensures
+    IfOk-weaker c.frame.result _ _ (λ _ framed. framed (upper_parts (g.S.NodeStore.slots c.args.tree.now.store) c.args.ids.now c.args.cut) (planned g (goal.at.returns g c).In_ok-plan_leaves)) c.frame.ensures

@@ -3,13 +3,15 @@ use Rattle.std.proofs.lemmas.List.{length-drop, take-append-drop}
 use Rattle.std.specs.List.{AllByRecursion}
 use Rattle.bptree_building.proofs.Standing.{drop_all}
 use Rattle.std.proofs.lemmas.Result.{IfOk-weaker}
-use Rattle.bptree_bulk.specs.Filling.{AreParts, IsEmptyLeaf, IsSize}
-use Rattle.bptree_bulk.specs.Positions.{place_of}
+use Rattle.bptree_bulk.specs.Filling.{AreParts, IsEmptyLeaf, IsLaidOut, IsSize}
+use Rattle.bptree_bulk.specs.Positions.{place_of, rest_of}
 use Rattle.bptree_bulk.proofs.Tails.{by_size, part_next, sized}
 use Rattle.bptree_keys.specs.Contents.{IsAscending}
 use Rattle.bptree_keys.specs.Ranges.{part}
 use Rattle.bptree_keys.proofs.PieceLemmas.{AllByRecursion-append}
 use Rattle.bptree_shape.proofs.Ordered.{ascending_after}
+use Rattle.bptree_bulk.proofs.tail.plan_tail.Given.{Over}
+use Rattle.bptree_bulk.proofs.tail.plan_tail.Goals.{After-parts}
 use Rattle.bptree_bulk.proofs.tail.plan_tail.Goals as goal
 
 pub parts-preserved : goal.parts-preserved
@@ -36,44 +38,28 @@ parts-preserved g c =
       as_many = omega (arith, inv.as_many, ap length c.in_ok-push.ensures.items, length-append c.parts.rooms.items (c.in_ok-room.room ∷ []), length-append inv.parts (these ∷ []));
     }
 
-pub filling_of-requires : goal.filling_of-requires
-filling_of-requires g c =
+-- the leaves of the parts are all those of the pairs from the position on
+laid : (g : Over) (c : After-parts g) → IsLaidOut g.S.K.Ord.cmp g.S.Argument.Argument.is_summary g.S.NodeStore.slots c.parts.plan c.parts.rooms.items c.args.count (rest_of g.S.NodeStore.slots c.args.tree.now c.args.at)
+laid g c =
     let tree = c.args.tree.now in
     let all = tree.contents in
     let inv = c.parts.invariant in
     let n = place_of g.S.NodeStore.slots tree c.args.at in
-    let none = drop_all all (place_of g.S.NodeStore.slots tree c.parts.from) (omega (arith, inv.sum, c.parts-test.false)) in
-    let long = length-drop n all in (
-      drop n all,
-      record {
-        parts = inv.parts;
-        are = subst (AreParts (drop n all) inv.parts) none inv.are;
-        planned = inv.planned;
-        empty = inv.empty;
-        as_many = inv.as_many;
-        count_is = omega (arith, long, c.requires.count);
-        some = c.requires.some;
-        ascending = ascending_after g.met.S.K.Ord.total (take n all) (drop n all) (subst (IsAscending g.S.K.Ord.cmp) (sym (take-append-drop n all)) c.recall.ensures.ascending);
-        few = omega (arith, c.requires.count, c.recall.ensures.fits);
-      },
-    )
-
-pub returns-clause-tail : goal.returns-clause-tail
-returns-clause-tail g c =
-    let tree = c.args.tree.now in
-    let all = tree.contents in
-    let inv = c.parts.invariant in
-    let n = place_of g.S.NodeStore.slots tree c.args.at in
-    let none = drop_all all (place_of g.S.NodeStore.slots tree c.parts.from) (omega (arith, inv.sum, c.parts-test.false)) in
-    let long = length-drop n all in
-    IfOk-weaker c.filling_of.result _ _ (λ _ filling. filling (drop n all) (record {
+    record {
       parts = inv.parts;
-      are = subst (AreParts (drop n all) inv.parts) none inv.are;
+      are = subst (AreParts (drop n all) inv.parts) (drop_all all (place_of g.S.NodeStore.slots tree c.parts.from) (omega (arith, inv.sum, c.parts-test.false))) inv.are;
       planned = inv.planned;
       empty = inv.empty;
       as_many = inv.as_many;
-      count_is = omega (arith, long, c.requires.count);
+      count_is = omega (arith, length-drop n all, c.requires.count);
       some = c.requires.some;
       ascending = ascending_after g.met.S.K.Ord.total (take n all) (drop n all) (subst (IsAscending g.S.K.Ord.cmp) (sym (take-append-drop n all)) c.recall.ensures.ascending);
       few = omega (arith, c.requires.count, c.recall.ensures.fits);
-    })) c.filling_of.ensures.filling
+    }
+
+pub filling_of-requires : goal.filling_of-requires
+filling_of-requires g c = (rest_of g.S.NodeStore.slots c.args.tree.now c.args.at, laid g c)
+
+pub returns-clause-tail : goal.returns-clause-tail
+returns-clause-tail g c =
+    IfOk-weaker c.filling_of.result _ _ (λ _ filling. filling (rest_of g.S.NodeStore.slots c.args.tree.now c.args.at) (laid g (goal.at.returns-clause-tail g c).After-parts)) c.filling_of.ensures.filling

@@ -5,7 +5,6 @@ use Rattle.std.specs.Map.{keys_of}
 use Rattle.std.specs.Option.{option_copied}
 use Rattle.bptree_keys.specs.Ranges.{between}
 use Rattle.bptree_maps.proofs.KeyLemmas.{empty_keys, keys_between-is, keys_outside-is}
-use Rattle.bptree_maps.proofs.RetainLemmas.{first_keys_left}
 use Rattle.bptree_sets.proofs.set.BPlusTreeSet.remove_range.Goals as goal
 
 pub returns-clause-rest : goal.returns-clause-rest
@@ -19,13 +18,7 @@ returns-clause-count g c =
     rw (← c.self.view_is) (IfOk-weaker c.remove_range.result _ _ (λ n is. is ∙ sym (length-keys_of (between g.K.Ord.cmp old lo hi)) ∙ ap length (keys_between-is g.K.Ord.cmp old lo hi)) c.remove_range.ensures.count)
 
 pub returns-clause-err : goal.returns-clause-err
-returns-clause-err g c =
-    let cmp = g.K.Ord.cmp in
-    let old = c.self.inside.map in
-    let new = c.remove_range.new.self in
-    let lo = option_copied c.args.lo in
-    let hi = option_copied c.args.hi in
-    rw (← c.self.view_is) (on_err_weaker c.remove_range.result (first_keys_left cmp lo hi old new) c.remove_range.ensures.err)
+returns-clause-err g c = rw (← c.self.view_is) (on_err_weaker c.remove_range.result (ap keys_of) c.remove_range.ensures.err)
 
 pub returns-clause-empty : goal.returns-clause-empty
 returns-clause-empty g c =
