@@ -1,7 +1,8 @@
 """Times of the calls beside `sortedcontainers.SortedDict`, if that is installed.
 
-For each number of pairs in the arguments it prints a line for each call, in nanoseconds: the least
-of some turns. `len` shows what a call costs that only crosses into the library and back.
+For each number of pairs in the arguments, and for keys of `int` and of `str`, it prints a line for
+each call, in nanoseconds: the least of some turns. `len` shows what a call costs that does nothing.
+A key that is looked up is not the object that is stored, as if it came from elsewhere.
 """
 
 import random
@@ -19,11 +20,12 @@ except ImportError:
 TURNS = 5
 
 
-def figures(make, rank, place, n):
+def figures(make, kind, n):
     dice = random.Random(7)
-    keys = dice.sample(range(2**62), n)
-    others = dice.sample(keys, n)
-    pairs = [(key, key >> 7) for key in keys]
+    numbers = dice.sample(range(2**62), n)
+    keys = numbers if kind == "int" else [f"user:{number:019d}" for number in numbers]
+    others = [key + 0 if kind == "int" else "".join(list(key)) for key in dice.sample(keys, n)]
+    pairs = [(key, number) for key, number in zip(keys, numbers)]
     least = {}
 
     def took(call, start, calls):
@@ -45,11 +47,11 @@ def figures(make, rank, place, n):
         took("get", start, n)
         start = time.perf_counter_ns()
         for key in others:
-            rank(full, key)
+            full.bisect_left(key)
         took("rank", start, n)
         start = time.perf_counter_ns()
         for at in range(0, n, 7):
-            place(full, at)
+            full.peekitem(at)
         took("at", start, (n + 6) // 7)
         start = time.perf_counter_ns()
         for key in others[: n // 64]:
@@ -61,31 +63,26 @@ def figures(make, rank, place, n):
             pass
         took("iteration, a pair", start, n)
         start = time.perf_counter_ns()
+        for _ in full.items():
+            pass
+        took("iteration of items, a pair", start, n)
+        start = time.perf_counter_ns()
         full.values().tolist() if make is SortedMap else list(full.values())
         took("values, a pair", start, n)
         start = time.perf_counter_ns()
         for key in others:
             del full[key]
         took("del", start, n)
-    map_ = SortedMap()
+    map_ = make()
     start = time.perf_counter_ns()
     for _ in range(100000):
         len(map_)
-    if make is SortedMap:
-        took("len, which only crosses over", start, 100000)
+    took("len", start, 100000)
     return least
 
 
 for n in map(int, sys.argv[1:]):
-    for name, make, rank, place in [
-        ("python", SortedMap, SortedMap.rank, SortedMap.peekitem),
-        (
-            "SortedDict",
-            SortedDict,
-            lambda map_, key: map_.bisect_left(key),
-            lambda map_, at: map_.peekitem(at),
-        ),
-    ]:
-        if make:
-            for call, each in figures(make, rank, place, n).items():
-                print(n, name, call, f"{each:.0f}")
+    for kind in ("int", "str"):
+        for make in filter(None, (SortedMap, SortedDict)):
+            for call, each in figures(make, kind, n).items():
+                print(n, kind, make.__name__, call, f"{each:.0f}")

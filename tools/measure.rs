@@ -154,7 +154,59 @@ fn ends(keys: &[u64], others: &[u64]) {
     tell("map", "poplast", start, keys.len(), sum);
 }
 
-// A map of so many pairs in no order, and nothing else.
+// Pairs that come one by one and at once, one for a hundred that are there, in a mixed order and
+// sorted; and two maps of every second key that become one.
+fn come(sorted: &[u64], others: &[u64]) {
+    let half = half_of(sorted, 0);
+    let few = || others.iter().take(sorted.len() / 200).map(|key| (*key & (u64::MAX - 1), *key));
+    for (call, at_once, in_order) in [
+        ("insertfew", false, false),
+        ("extendfew", true, false),
+        ("insertsorted", false, true),
+        ("extendsorted", true, true),
+    ] {
+        let mut map = half.clone();
+        let mut pairs: Vec<(u64, u64)> = few().collect();
+        let many = pairs.len();
+        if in_order {
+            pairs.sort_unstable();
+        }
+        let start = Instant::now();
+        if at_once {
+            map.extend(pairs);
+        } else {
+            for (key, value) in pairs {
+                map.insert(key, value);
+            }
+        }
+        tell("map", call, start, many, map.len() as u64);
+    }
+    let (mut first, mut second) = (half, half_of(sorted, 1));
+    let start = Instant::now();
+    first.append(&mut second);
+    tell("map", "weave", start, sorted.len(), first.len() as u64);
+}
+
+fn half_of(sorted: &[u64], first: usize) -> BTreeMap<u64, u64> {
+    sorted.iter().skip(first).step_by(2).map(|key| (*key, *key)).collect()
+}
+
+// Look-ups of keys of two parts, in groups of 500.
+fn look_up_pairs(places: &[u64]) {
+    let key = |number: u64| (number / 500, number % 500);
+    let map: BTreeMap<(u64, u64), u64> = places.iter().map(|number| (key(*number), *number)).collect();
+    let again = shuffled(places);
+    let start = Instant::now();
+    let mut sum = 0u64;
+    for number in &again {
+        if let Some(value) = map.get(&key(*number)) {
+            sum = sum.wrapping_add(*value);
+        }
+    }
+    tell("map", "pairget", start, again.len(), sum);
+}
+
+// A map of so many pairs in random order, and nothing else.
 fn fill(pairs: usize) {
     let mut map = BTreeMap::new();
     let mut state = 0x9e37_79b9_7f4a_7c15;
@@ -255,6 +307,8 @@ fn main() {
             texts(&keys, &others);
             both(&sorted);
             ends(&keys, &others);
+            come(&sorted, &others);
+            look_up_pairs(&places);
         }
     }
 }

@@ -1,477 +1,537 @@
-"""An ordered map from numbers to numbers, with the index of each key, over a proved library.
+"""Sorted maps and sets of any key, with the index of each key, over a proved library.
 
-    >>> scores = SortedMap({30: 3, 10: 1, 20: 2})
-    >>> list(scores), scores[20], scores.peekitem(0), scores.bisect_left(25)
-    ([10, 20, 30], 2, (10, 1), 2)
+    >>> ages = SortedMap(bob=42, ada=36)
+    >>> list(ages), ages["ada"], ages.peekitem(0), ages.bisect_left("b")
+    (['ada', 'bob'], 36, ('ada', 36), 1)
+    >>> SortedSet([2.5, 1, 2])[1:]
+    [2, 2.5]
 
-Keys and values are whole numbers from 0 to 2**64 - 1. A call takes O(log n), whatever the key.
+A key is ``None``, a number (``bool``, ``int`` of any size, ``float``), a ``str``, a ``bytes``, a
+``date``, a ``datetime`` or a ``tuple`` of these. A value is any object.
 """
 
-from __future__ import annotations
-
-import ctypes
-import operator
-from array import array
-from bisect import bisect
+import os
+import sys
 from collections.abc import (
     ItemsView,
-    Iterable,
-    Iterator,
     KeysView,
     Mapping,
     MutableMapping,
+    MutableSet,
+    Sequence,
+    Set,
     ValuesView,
 )
-from itertools import chain
-from typing import Any, Callable, TypeVar, overload
+from copyreg import __newobj__
+from reprlib import recursive_repr
+from types import GenericAlias
 
-from . import _library
+if not getattr(sys, "_is_gil_enabled", lambda: True)():
+    raise ImportError("sweep_bptree needs an interpreter with a global lock")
 
-__all__ = ["SortedMap"]
+# `tools/faces build` puts the compiled part beside the library for C.
+if os.environ.get("SWEEP_BPTREE_LIBRARY"):
+    __path__.append(os.path.dirname(os.path.abspath(os.environ["SWEEP_BPTREE_LIBRARY"])))
 
-_T = TypeVar("_T")
+from . import _native  # noqa: E402
+from ._native import EmptyError  # noqa: E402, F401
 
-_call = _library.functions()
-_new, _free, _clear, _load = (_call[name] for name in ("new", "free", "clear", "load"))
-_len, _contains, _get, _at = (_call[name] for name in ("len", "contains", "get", "at"))
-_rank, _put, _del, _remove_at = (_call[name] for name in ("rank", "put", "del", "remove_at"))
-_range, _range_back, _range_len = (_call[name] for name in ("range", "range_back", "range_len"))
-_put_many = _call["put_many"]
-# What a call writes to is made for that call. An object that two threads share would give one of
-# them the other's result, since the interpreter may switch between the call and the read.
-_Word, _Size, _Pair = ctypes.c_uint64, ctypes.c_size_t, _library.Pair
-_GREATEST = (1 << 64) - 1
-# a range of 64 keys fits a block with the key behind it
-_BLOCK = 80
-_NO_WORDS = bytes(16 * _BLOCK)
-_ABSENT: Any = object()
+__all__ = ["SortedMap", "SortedSet"]
+
+_KEYS, _VALUES, _ITEMS = range(3)
 
 
-def _word(number: int) -> int:
-    """The number, if it fits. ctypes itself cuts a number to its lowest bits and says nothing."""
-    number = operator.index(number)
-    if 0 <= number <= _GREATEST:
-        return number
-    raise OverflowError(f"{number} is not from 0 to 2**64 - 1")
+class SortedMap(_native.Map):
+    """A mapping in the ascending order of its keys, with the methods of ``dict`` and of
+    ``sortedcontainers.SortedDict``.
 
+        >>> scores = SortedMap({30: "c", 10: "a", 20: "b"})
+        >>> scores[20], list(scores), list(scores.irange(15)), scores.keys()[-1]
+        ('b', [10, 20, 30], [20, 30], 30)
 
-def _key(key: object) -> int | None:
-    """The key as a number that a map can hold, or ``None`` if no map can hold the key."""
-    try:
-        number = operator.index(key)  # type: ignore[arg-type]
-    except TypeError:
-        return None
-    return number if 0 <= number <= _GREATEST else None
+    - Keys that Python finds equal are one key: 1, 1.0 and True. The one that was stored first stays,
+      as in a ``dict``. An instance of a subclass counts as what it is a subclass of.
+    - Kinds are ordered: None, numbers, strs, bytes, dates, datetimes without a time zone, those with
+      one, tuples. Within a kind the order is Python's. Datetimes with a time zone are ordered, and
+      are equal, by their instant.
+    - An object with an ``__index__`` is stored as that int. To store anything else raises
+      ``TypeError``, and a NaN ``ValueError``. To look it up finds nothing, as an absent key.
+    - There is no ``key=``: the order is that of the keys themselves.
+    - An iterator continues from the key that it returned last, whatever changes meanwhile.
 
-
-def _place(index: int, length: int) -> int:
-    """The index from 0 on, for one that may count from the end."""
-    place = operator.index(index)
-    place += length if place < 0 else 0
-    if 0 <= place < length:
-        return place
-    raise IndexError("list index out of range")
-
-
-def _words_of(pairs: Mapping[int, int] | Iterable[tuple[int, int]]) -> array[int]:
-    """The keys and values of the pairs in turn."""
-    if isinstance(pairs, SortedMap):
-        return pairs._words()
-    if isinstance(pairs, Mapping):
-        pairs = pairs.items()
-    return array("Q", chain.from_iterable(_twos(pairs)))
-
-
-def _twos(pairs: Iterable[tuple[int, int]]) -> Iterator[tuple[int, int]]:
-    """The pairs, if each has two members."""
-    return ((key, value) for key, value in pairs)
-
-
-class SortedMap(MutableMapping[int, int]):
-    """A mapping of whole numbers in the ascending order of its keys.
-
-    The methods have the names of ``dict`` and of ``sortedcontainers.SortedDict``. They differ:
-
-    - A key or a value is stored if it is an int from 0 to 2**64 - 1, or has such an ``__index__``.
-      To store another int raises ``OverflowError``, and anything else ``TypeError``.
-    - To look up what can't be stored finds nothing: ``in`` is false, ``get`` returns the default,
-      ``[]``, ``del`` and ``pop`` raise ``KeyError``. This includes 1.0, and an object with no hash.
-    - ``rank``, the bisections, ``range_len`` and ``irange`` take any int.
-    - ``setdefault`` and ``fromkeys`` have the default 0 and not ``None``.
-    - ``popitem`` and ``peekitem`` take an index, and ``update`` takes no keywords.
-    - An iterator copies pairs in blocks of 64 and continues from the last key of each. A change
-      meanwhile raises nothing; an iterator may miss what changes in its current block.
+    A look-up, a change, an index and a rank take O(log n). While all keys are ints from -2**63 to
+    2**63 - 1, or from 0 to 2**64 - 1, they are kept as numbers, and take less time and memory. The
+    first other key moves all pairs, in O(n).
 
     If an allocation fails, a call raises ``MemoryError`` and the map is unchanged. ``update`` alone
-    differs: the pairs before the one that failed are stored.
-
-    Several threads may use one map. Each call of the library keeps the interpreter's lock, and its
-    result is in memory of that call. A method is one step to other threads, with these exceptions:
-    ``setdefault`` looks up and then stores, ``islice`` finds both ends first, ``range_len`` with a
-    maximum above 2**64 - 1 reads twice, and iterators, views, ``==`` and ``|`` read several times.
-    A build of Python without that lock can't import this module.
+    may keep the pairs before the one that failed. Several threads may use one map: each call of a
+    method in C is one step to other threads, unless it runs code of the caller, such as that of a
+    time zone.
     """
 
-    __slots__ = ("_map", "_ref", "__weakref__")
+    __slots__ = ("__weakref__",)
+    __class_getitem__ = classmethod(GenericAlias)
 
-    def __new__(cls, *_args: object, **_keywords: object) -> SortedMap:
-        self = super().__new__(cls)
-        self._map = _library.Handle()
-        self._ref = ctypes.byref(self._map)
-        if not _new(self._ref):
-            raise MemoryError
-        return self
-
-    def __init__(self, pairs: Mapping[int, int] | Iterable[tuple[int, int]] = ()) -> None:
-        if self:
-            # (a second call of this method)
-            self.update(pairs)
-            return
-        words = _words_of(pairs)
-        if words and not _load(self._ref, words.buffer_info()[0], len(words) // 2):
-            raise MemoryError
-
-    def __del__(self, free: Callable[..., None] = _free) -> None:
-        # (a constructor that failed may have left no handle, or one that holds no map)
-        handle = getattr(self, "_map", None)
-        if handle is not None and handle.at:
-            free(self._ref)
+    def __init__(self, pairs=(), /, **keywords):
+        self.update(pairs, **keywords)
 
     @classmethod
-    def fromkeys(cls, keys: Iterable[int], value: int = 0) -> SortedMap:
-        """A map of these keys, each with the same value, which is 0 by default."""
-        return cls((key, value) for key in keys)
+    def fromkeys(cls, keys, value=None, /):
+        """A map of these keys, each with the same value.
 
-    def copy(self) -> SortedMap:
-        """A map of its own with the same pairs."""
-        return type(self)(self)
+        >>> SortedMap.fromkeys("ba", 0)
+        SortedMap({'a': 0, 'b': 0})
+        """
+        made = cls()
+        if type(made) is SortedMap:
+            made._store([(key, value) for key in keys])
+        else:
+            for key in keys:
+                made[key] = value
+        return made
+
+    def update(self, pairs=(), /, **keywords):
+        """Stores the pairs of a mapping or of an iterable, and the keywords, one after another.
+
+        If one of them can't be stored, an error is raised and the map is unchanged. If an
+        allocation fails, ``MemoryError`` is raised, and the pairs before the one that failed may be
+        stored. An empty map is filled at once: its pairs are all stored or none of them, unless some
+        keys are equal. O(m log(n + m)) for m pairs.
+
+        >>> ages = SortedMap(ada=36)
+        >>> ages.update({"bob": 42}, cid=3)
+        >>> ages
+        SortedMap({'ada': 36, 'bob': 42, 'cid': 3})
+        """
+        if type(pairs) is dict:
+            pairs = pairs.items()
+        elif keywords or not isinstance(pairs, _native.Map):
+            if hasattr(pairs, "keys"):
+                pairs = [(key, pairs[key]) for key in pairs.keys()]
+            else:
+                pairs = [(key, value) for key, value in pairs]
+        self._store([*pairs, *keywords.items()] if keywords else pairs)
+
+    def copy(self):
+        """A map with the same pairs. O(n), with no look-up.
+
+        >>> ages = SortedMap(ada=36)
+        >>> other = ages.copy()
+        >>> other["ada"] = 37
+        >>> ages
+        SortedMap({'ada': 36})
+        """
+        made = type(self).__new__(type(self))
+        made._store(self)
+        if _state(self):
+            made.__dict__.update(self.__dict__)
+        return made
 
     __copy__ = copy
 
-    def __len__(self) -> int:
-        return _len(self._ref)
+    def keys(self):
+        """A view of the keys in their order, which takes an index or a slice too.
 
-    def __bool__(self) -> bool:
-        return _len(self._ref) > 0
-
-    def __contains__(self, key: object) -> bool:
-        word = _key(key)
-        return word is not None and _contains(self._ref, word)
-
-    def __getitem__(self, key: int) -> int:
-        word, value = _key(key), _Word()
-        if word is None or not _get(self._ref, word, value):
-            raise KeyError(key)
-        return value.value
-
-    @overload
-    def get(self, key: object) -> int | None: ...
-
-    @overload
-    def get(self, key: object, default: _T) -> int | _T: ...
-
-    def get(self, key: object, default: Any = None) -> Any:
-        """The value at the key, or the default."""
-        word, value = _key(key), _Word()
-        if word is None or not _get(self._ref, word, value):
-            return default
-        return value.value
-
-    def __setitem__(self, key: int, value: int) -> None:
-        if _put(self._ref, _word(key), _word(value), _Word()) == _library.REFUSED:
-            raise MemoryError
-
-    def __delitem__(self, key: int) -> None:
-        self.pop(key)
-
-    @overload
-    def pop(self, key: object) -> int: ...
-
-    @overload
-    def pop(self, key: object, default: _T) -> int | _T: ...
-
-    def pop(self, key: object, default: Any = _ABSENT) -> Any:
-        """Removes the key and returns its value, or the default if the key is absent."""
-        word, value = _key(key), _Word()
-        code = _library.NONE if word is None else _del(self._ref, word, value)
-        if code == _library.FOUND:
-            return value.value
-        if code == _library.REFUSED:
-            raise MemoryError
-        if default is _ABSENT:
-            raise KeyError(key)
-        return default
-
-    def peekitem(self, index: int = -1) -> tuple[int, int]:
-        """The pair at an index in the order of the keys: the last pair by default."""
-        pair = _Pair()
-        # (again if another thread removed a pair after the length was read)
-        while not _at(self._ref, _place(index, _len(self._ref)), pair):
-            pass
-        return pair.key, pair.value
-
-    def popitem(self, index: int = -1) -> tuple[int, int]:
-        """Removes and returns the pair at an index in key order: the last by default."""
-        pair, code = _Pair(), _library.NONE
-        # (again if another thread removed a pair after the length was read)
-        while code == _library.NONE:
-            length = _len(self._ref)
-            if not length:
-                raise KeyError("popitem(): map is empty")
-            code = _remove_at(self._ref, _place(index, length), pair)
-        if code == _library.REFUSED:
-            raise MemoryError
-        return pair.key, pair.value
-
-    def clear(self) -> None:
-        """Removes all pairs."""
-        if not _clear(self._ref):
-            raise MemoryError
-
-    def setdefault(self, key: int, default: int = 0) -> int:
-        """The value at the key. If the key is absent, the default is stored there first.
-
-        The default is 0 by default, and not ``None``. If another thread stores a value at the key
-        between the look-up and the store, the default replaces that value.
+        >>> SortedMap(a=1, b=2).keys()[0]
+        'a'
         """
-        value = self.get(key, _ABSENT)
-        if value is _ABSENT:
-            self[key] = default
-            return operator.index(default)
-        return value
-
-    def update(self, pairs: Mapping[int, int] | Iterable[tuple[int, int]] = (), /) -> None:
-        """Stores these pairs one after another, so that of equal keys the last one stays.
-
-        If one of them can't be stored for its type or size, an error is raised and the map is
-        unchanged. If an allocation fails, ``MemoryError`` is raised, and the pairs before the one
-        that failed are stored. Other threads see none of the pairs or all that are stored.
-        """
-        words = _words_of(pairs)
-        keys, values = words[::2], words[1::2]
-        count = len(keys)
-        at_keys, at_values = keys.buffer_info()[0], values.buffer_info()[0]
-        if _put_many(self._ref, at_keys, count, at_values, count) < count:
-            raise MemoryError
-
-    def _words(self) -> array[int]:
-        """All keys and values in turn, in the order of the keys."""
-        while True:
-            # (room for one more: the array is full if another thread added pairs meanwhile)
-            room = _len(self._ref) + 1
-            words = array("Q", bytes(16 * room))
-            count = _range(self._ref, 0, words.buffer_info()[0], room)
-            if count < room:
-                del words[2 * count :]
-                return words
-
-    def rank(self, key: int) -> int:
-        """The number of keys smaller than an int."""
-        key = operator.index(key)
-        if key > _GREATEST:
-            return _len(self._ref)
-        size = _Size()
-        _rank(self._ref, max(key, 0), size)
-        return size.value
-
-    bisect_left = rank
-
-    def bisect_right(self, key: int) -> int:
-        """The number of keys not greater than an int."""
-        key = operator.index(key)
-        if key < 0:
-            return 0
-        if key > _GREATEST:
-            return _len(self._ref)
-        size = _Size()
-        return _rank(self._ref, key, size) + size.value
-
-    bisect = bisect_right
-
-    def index(self, key: int) -> int:
-        """The index of a key. It raises ``ValueError`` if the key is absent."""
-        word, size = _key(key), _Size()
-        if word is None or not _rank(self._ref, word, size):
-            raise ValueError(f"{key!r} is not in the map")
-        return size.value
-
-    def range_len(self, minimum: int, maximum: int) -> int:
-        """The number of keys that are at least the minimum and less than the maximum."""
-        low, high = max(operator.index(minimum), 0), max(operator.index(maximum), 0)
-        if low > _GREATEST:
-            return 0
-        if high > _GREATEST:
-            size = _Size()
-            _rank(self._ref, low, size)
-            return max(_len(self._ref) - size.value, 0)
-        return _range_len(self._ref, low, high)
-
-    def _blocks(
-        self, copy: Callable[..., int], start: int, end: int, step: int
-    ) -> Iterator[tuple[array[int], list[int]]]:
-        """The pairs from a key to the end, both included: blocks of words, each with its keys."""
-        block = array("Q", _NO_WORDS)
-        at = block.buffer_info()[0]
-        while True:
-            count = copy(self._ref, start, at, _BLOCK)
-            keys = block[: 2 * count : 2].tolist()
-            last = keys[-1] if count else end
-            if (end - last) * step < 0:
-                # (the range ends in this block)
-                kept = bisect(keys, end) if step > 0 else bisect([-key for key in keys], -end)
-                del keys[kept:]
-            yield block, keys
-            if count < _BLOCK or (end - last) * step <= 0:
-                return
-            start = last + step
-
-    def _within(
-        self,
-        minimum: int | None,
-        maximum: int | None,
-        inclusive: tuple[bool, bool],
-        reverse: bool,
-    ) -> Iterator[tuple[array[int], list[int]]]:
-        """The blocks of the pairs between two keys, of which ``inclusive`` includes each or not."""
-        low = 0 if minimum is None else operator.index(minimum) + (not inclusive[0])
-        high = _GREATEST if maximum is None else operator.index(maximum) - (not inclusive[1])
-        low, high = max(low, 0), min(high, _GREATEST)
-        if low > high:
-            return iter(())
-        if reverse:
-            return self._blocks(_range_back, high, low, -1)
-        return self._blocks(_range, low, high, 1)
-
-    def irange_items(
-        self,
-        minimum: int | None = None,
-        maximum: int | None = None,
-        inclusive: tuple[bool, bool] = (True, True),
-        reverse: bool = False,
-    ) -> Iterator[tuple[int, int]]:
-        """The pairs between two keys, of which ``inclusive`` includes each or not."""
-        blocks = self._within(minimum, maximum, inclusive, reverse)
-        return chain.from_iterable(zip(keys, block[1::2]) for block, keys in blocks)
-
-    def irange(
-        self,
-        minimum: int | None = None,
-        maximum: int | None = None,
-        inclusive: tuple[bool, bool] = (True, True),
-        reverse: bool = False,
-    ) -> Iterator[int]:
-        """The keys between two keys, of which ``inclusive`` includes each or not."""
-        blocks = self._within(minimum, maximum, inclusive, reverse)
-        return chain.from_iterable(keys for _, keys in blocks)
-
-    def islice(
-        self, start: int | None = None, stop: int | None = None, reverse: bool = False
-    ) -> Iterator[int]:
-        """The keys of a slice of indices."""
-        low, high, _ = slice(start, stop).indices(len(self))
-        if low >= high:
-            return iter(())
-        return self.irange(self.peekitem(low)[0], self.peekitem(high - 1)[0], reverse=reverse)
-
-    def __iter__(self) -> Iterator[int]:
-        return self.irange()
-
-    def __reversed__(self) -> Iterator[int]:
-        return self.irange(reverse=True)
-
-    def keys(self) -> Keys:
-        """A view of the keys in their order, which takes an index or a slice too."""
         return Keys(self)
 
-    def values(self) -> Values:
-        """A view of the values in the order of their keys, which takes an index or a slice too."""
+    def values(self):
+        """A view of the values in the order of their keys, which takes an index or a slice too.
+
+        >>> SortedMap(a=1, b=2).values()[:]
+        [1, 2]
+        """
         return Values(self)
 
-    def items(self) -> Items:
-        """A view of the pairs in the order of their keys, which takes an index or a slice too."""
+    def items(self):
+        """A view of the pairs in the order of their keys, which takes an index or a slice too.
+
+        >>> SortedMap(a=1, b=2).items()[-1]
+        ('b', 2)
+        """
         return Items(self)
 
-    def __eq__(self, other: object) -> bool:
+    def __eq__(self, other):
         if isinstance(other, SortedMap):
-            return self._words() == other._words()
-        return dict(self.items()) == other if isinstance(other, Mapping) else NotImplemented
+            return self is other or len(self) == len(other) and self._list(_ITEMS) == other._list(_ITEMS)
+        return dict(self._list(_ITEMS)) == other if isinstance(other, Mapping) else NotImplemented
 
-    __hash__ = None  # type: ignore[assignment]
+    __hash__ = None
 
-    def __or__(self, other: Mapping[int, int]) -> SortedMap:
+    def __or__(self, other):
         if not isinstance(other, Mapping):
             return NotImplemented
         both = self.copy()
         both.update(other)
         return both
 
-    def __ior__(self, other: Mapping[int, int] | Iterable[tuple[int, int]]) -> SortedMap:
+    def __ror__(self, other):
+        if not isinstance(other, Mapping):
+            return NotImplemented
+        both = type(self)(other)
+        both.update(self)
+        return both
+
+    def __ior__(self, other):
         self.update(other)
         return self
 
-    def __reduce__(self) -> tuple[type[SortedMap], tuple[list[tuple[int, int]]]]:
-        return type(self), (list(self.items()),)
+    def __reduce__(self):
+        return __newobj__, (type(self),), _state(self), None, iter(self._list(_ITEMS))
 
-    def __repr__(self) -> str:
-        return f"{type(self).__name__}({dict(self.items())!r})"
+    @recursive_repr("SortedMap(...)")
+    def __repr__(self):
+        return f"{type(self).__name__}({dict(self._list(_ITEMS))!r})"
 
 
-class _View:
+MutableMapping.register(SortedMap)
+
+
+def _state(self):
+    """The attributes of an instance of a subclass, or None."""
+    return getattr(self, "__dict__", None) or None
+
+
+class _View(Sequence):
     """What the three views share: an index or a slice, and the reverse order."""
 
     __slots__ = ()
-    _mapping: SortedMap
+    _what = _KEYS
 
-    def _of(self, pair: tuple[int, int]) -> Any:
-        return pair
+    def __getitem__(self, index):
+        return self._mapping._at(self._what, index)
 
-    def __getitem__(self, index: Any) -> Any:
-        if isinstance(index, slice):
-            return self.tolist()[index]
-        return self._of(self._mapping.peekitem(index))
+    def __iter__(self):
+        return self._mapping._walk(self._what, False)
 
-    def tolist(self) -> list[Any]:
-        raise NotImplementedError
+    def __reversed__(self):
+        return self._mapping._walk(self._what, True)
 
-    def __reversed__(self) -> Iterator[Any]:
-        return map(self._of, self._mapping.irange_items(reverse=True))
+    def tolist(self):
+        """All members of the view, as they are at one moment.
 
-    def __iter__(self) -> Iterator[Any]:
-        return map(self._of, self._mapping.irange_items())
+        >>> SortedMap(a=1, b=2).values().tolist()
+        [1, 2]
+        """
+        return self._mapping._list(self._what)
 
 
-class Keys(_View, KeysView[int]):
+class Keys(_View, KeysView):
+    """The keys of a map in their order.
+
+    >>> keys = SortedMap(a=1, b=2).keys()
+    >>> keys[1], keys[:1], keys & {"b", "c"}
+    ('b', ['a'], {'b'})
+    """
+
     __slots__ = ()
+    __contains__ = KeysView.__contains__
 
-    def _of(self, pair: tuple[int, int]) -> int:
-        return pair[0]
+    def index(self, key, start=None, stop=None, /):
+        """The index of a key. O(log n).
 
-    def __iter__(self) -> Iterator[int]:
-        return iter(self._mapping)
+        >>> SortedMap(a=1, b=2).keys().index("b")
+        1
+        """
+        return self._mapping.index(key, start, stop)
 
-    def tolist(self) -> list[int]:
-        """All keys, copied at once."""
-        return self._mapping._words().tolist()[::2]
+    def count(self, key, /):
+        """1 if the key is there, and else 0. O(log n).
+
+        >>> SortedMap(a=1, b=2).keys().count("b")
+        1
+        """
+        return int(key in self._mapping)
 
 
-class Values(_View, ValuesView[int]):
+class Values(_View, ValuesView):
+    """The values of a map in the order of their keys.
+
+    >>> values = SortedMap(a=1, b=2).values()
+    >>> values[1], values[::-1], values.index(2)
+    (2, [2, 1], 1)
+    """
+
     __slots__ = ()
+    _what = _VALUES
 
-    def _of(self, pair: tuple[int, int]) -> int:
-        return pair[1]
-
-    def tolist(self) -> list[int]:
-        """All values, copied at once."""
-        return self._mapping._words().tolist()[1::2]
+    def __contains__(self, value):
+        return any(it is value or it == value for it in self)
 
 
-class Items(_View, ItemsView[int, int]):
+class Items(_View, ItemsView):
+    """The pairs of a map in the order of their keys.
+
+    >>> items = SortedMap(a=1, b=2).items()
+    >>> items[0], ("b", 2) in items, items.index(("b", 2))
+    (('a', 1), True, 1)
+    """
+
     __slots__ = ()
+    _what = _ITEMS
 
-    def __iter__(self) -> Iterator[tuple[int, int]]:
-        return self._mapping.irange_items()
+    def __contains__(self, pair):
+        return isinstance(pair, tuple) and len(pair) == 2 and ItemsView.__contains__(self, pair)
 
-    def tolist(self) -> list[tuple[int, int]]:
-        """All pairs, copied at once."""
-        words = self._mapping._words().tolist()
-        return list(zip(words[::2], words[1::2]))
+    def index(self, pair, start=None, stop=None, /):
+        """The index of a pair. O(log n).
+
+        >>> SortedMap(a=1, b=2).items().index(("b", 2))
+        1
+        """
+        if pair not in self:
+            raise ValueError(f"{pair!r} is not there")
+        return self._mapping.index(pair[0], start, stop)
+
+    def count(self, pair, /):
+        """1 if the pair is there, and else 0. O(log n).
+
+        >>> SortedMap(a=1, b=2).items().count(("b", 3))
+        0
+        """
+        return int(pair in self)
+
+
+def _container(keys):
+    """A set, a mapping or a view as it is, and of any other iterable a set of its members."""
+    return keys if isinstance(keys, (Set, Mapping)) else set(keys)
+
+
+class SortedSet(_native.Set):
+    """A set in the ascending order of its keys, with the methods of ``set`` and of
+    ``sortedcontainers.SortedSet``.
+
+        >>> primes = SortedSet([5, 2, 3])
+        >>> primes[0], primes[1:], 4 in primes, primes | {7}, list(primes.irange(3))
+        (2, [3, 5], False, SortedSet([2, 3, 5, 7]), [3, 5])
+
+    Its keys, their order, failures and threads are as of a ``SortedMap``. A method that takes other
+    sets takes any iterables. An operator takes sets alone. ``update`` alone may keep some of the
+    keys if an allocation fails.
+    """
+
+    __slots__ = ("__weakref__",)
+    __class_getitem__ = classmethod(GenericAlias)
+
+    def __init__(self, keys=(), /):
+        self.update(keys)
+
+    def _of(self, keys):
+        """A set of the same type of these keys."""
+        made = type(self).__new__(type(self))
+        made._store(keys)
+        return made
+
+    def copy(self):
+        """A set of the same keys. O(n), with no look-up.
+
+        >>> SortedSet("ba").copy()
+        SortedSet(['a', 'b'])
+        """
+        made = self._of(self)
+        if _state(self):
+            made.__dict__.update(self.__dict__)
+        return made
+
+    __copy__ = copy
+
+    def update(self, *others):
+        """Adds the keys of these iterables.
+
+        >>> numbers = SortedSet([2])
+        >>> numbers.update([1, 2], {3: None})
+        >>> numbers
+        SortedSet([1, 2, 3])
+        """
+        for other in others:
+            self._store(other)
+
+    def union(self, *others):
+        """A set of the keys of this set and of these iterables.
+
+        >>> SortedSet([2]).union([1], [3])
+        SortedSet([1, 2, 3])
+        """
+        made = self._of(self)
+        made.update(*others)
+        return made
+
+    def intersection(self, *others):
+        """A set of the keys that are also in each of these iterables.
+
+        >>> SortedSet([1, 2, 3]).intersection([2, 3], [3, 4])
+        SortedSet([3])
+        """
+        kept = self._list(_KEYS)
+        for other in map(_container, others):
+            kept = [key for key in kept if key in other]
+        return self._of(kept)
+
+    def difference(self, *others):
+        """A set of the keys that are in none of these iterables.
+
+        >>> SortedSet([1, 2, 3]).difference([2], [4])
+        SortedSet([1, 3])
+        """
+        kept = self._list(_KEYS)
+        for other in map(_container, others):
+            kept = [key for key in kept if key not in other]
+        return self._of(kept)
+
+    def symmetric_difference(self, other, /):
+        """A set of the keys that are in this set or in an iterable, and not in both.
+
+        >>> SortedSet([1, 2]).symmetric_difference([2, 3])
+        SortedSet([1, 3])
+        """
+        other = self._of(other)
+        return self.difference(other).union(other.difference(self))
+
+    def intersection_update(self, *others):
+        """Removes the keys that are not in each of these iterables. It changes all or nothing.
+
+        >>> numbers = SortedSet([1, 2, 3])
+        >>> numbers.intersection_update([2, 4])
+        >>> numbers
+        SortedSet([2])
+        """
+        self._swap(self.intersection(*others))
+
+    def difference_update(self, *others):
+        """Removes the keys that are in one of these iterables. It changes all or nothing.
+
+        >>> numbers = SortedSet([1, 2, 3])
+        >>> numbers.difference_update([2, 4])
+        >>> numbers
+        SortedSet([1, 3])
+        """
+        self._swap(self.difference(*others))
+
+    def symmetric_difference_update(self, other, /):
+        """Removes the keys that are in an iterable too, and adds its other keys. It changes all or
+        nothing.
+
+        >>> numbers = SortedSet([1, 2])
+        >>> numbers.symmetric_difference_update([2, 3])
+        >>> numbers
+        SortedSet([1, 3])
+        """
+        self._swap(self.symmetric_difference(other))
+
+    def issubset(self, other, /):
+        """Whether each key of this set is in an iterable.
+
+        >>> SortedSet([1, 2]).issubset([1, 2, 3])
+        True
+        """
+        other = _container(other)
+        return all(key in other for key in self)
+
+    def issuperset(self, other, /):
+        """Whether each member of an iterable is in this set.
+
+        >>> SortedSet([1, 2]).issuperset([1])
+        True
+        """
+        return all(key in self for key in other)
+
+    def isdisjoint(self, other, /):
+        """Whether no member of an iterable is in this set.
+
+        >>> SortedSet([1, 2]).isdisjoint([3])
+        True
+        """
+        return not any(key in self for key in other)
+
+    def __or__(self, other):
+        return self.union(other) if isinstance(other, Set) else NotImplemented
+
+    def __and__(self, other):
+        return self.intersection(other) if isinstance(other, Set) else NotImplemented
+
+    def __sub__(self, other):
+        return self.difference(other) if isinstance(other, Set) else NotImplemented
+
+    def __xor__(self, other):
+        return self.symmetric_difference(other) if isinstance(other, Set) else NotImplemented
+
+    __ror__, __rand__, __rxor__ = __or__, __and__, __xor__
+
+    def __rsub__(self, other):
+        return self._of(other).difference(self) if isinstance(other, Set) else NotImplemented
+
+    def __ior__(self, other):
+        if not isinstance(other, Set):
+            return NotImplemented
+        self.update(other)
+        return self
+
+    def __iand__(self, other):
+        if not isinstance(other, Set):
+            return NotImplemented
+        self.intersection_update(other)
+        return self
+
+    def __isub__(self, other):
+        if not isinstance(other, Set):
+            return NotImplemented
+        self.difference_update(other)
+        return self
+
+    def __ixor__(self, other):
+        if not isinstance(other, Set):
+            return NotImplemented
+        self.symmetric_difference_update(other)
+        return self
+
+    def __eq__(self, other):
+        if not isinstance(other, Set):
+            return NotImplemented
+        return self is other or len(self) == len(other) and self.issubset(other)
+
+    def __le__(self, other):
+        if not isinstance(other, Set):
+            return NotImplemented
+        return len(self) <= len(other) and self.issubset(other)
+
+    def __lt__(self, other):
+        if not isinstance(other, Set):
+            return NotImplemented
+        return len(self) < len(other) and self.issubset(other)
+
+    def __ge__(self, other):
+        if not isinstance(other, Set):
+            return NotImplemented
+        return len(self) >= len(other) and self.issuperset(other)
+
+    def __gt__(self, other):
+        if not isinstance(other, Set):
+            return NotImplemented
+        return len(self) > len(other) and self.issuperset(other)
+
+    __hash__ = None
+
+    def __delitem__(self, index):
+        """Removes the key at an index, or those at a slice of indices."""
+        for key in self[index] if isinstance(index, slice) else [self[index]]:
+            self.remove(key)
+
+    def __reduce__(self):
+        return _set_of, (type(self), self._list(_KEYS)), _state(self)
+
+    @recursive_repr("SortedSet(...)")
+    def __repr__(self):
+        return f"{type(self).__name__}({self._list(_KEYS)!r})"
+
+
+def _set_of(cls, keys):
+    """What a pickle of a set calls."""
+    made = cls.__new__(cls)
+    made._store(keys)
+    return made
+
+
+MutableSet.register(SortedSet)
+Sequence.register(SortedSet)

@@ -1,4 +1,7 @@
-"""Eight threads that call each public method of one map, each thread at keys of its own."""
+"""Eight threads that call each public method of one map, each thread at keys of its own.
+
+Each row runs over a map of numbers, and over one that was moved to a map of byte strings.
+"""
 
 import copy
 import itertools
@@ -8,13 +11,13 @@ import threading
 import time
 import unittest
 
-from sweep_bptree import SortedMap
+from sweep_bptree import SortedMap, _native
 
 THREADS = 8
 # A thread's keys are 1000 * (its number + 1) + 1 and on, and a key's value is 10 times the key.
 EACH = 40
 # How long the threads call one method, unless one of them gets a wrong result before.
-SECONDS = 0.2
+SECONDS = 0.1
 
 
 def base(thread):
@@ -145,8 +148,8 @@ def reads_equality(map_, thread, turn):
 
 
 def reads_or(map_, thread, turn):
-    both = map_ | {base(thread): thread}
-    alike((both[base(thread)], len(both)), (thread, len(ALL) + 1))
+    for both in (map_ | {base(thread): thread}, {base(thread): thread} | map_):
+        alike((both[base(thread)], len(both)), (thread, len(ALL) + 1))
 
 
 def reads_repr(map_, thread, turn):
@@ -236,7 +239,7 @@ def changes_popitem(map_, thread, turn):
 
 # The methods of each row; each of the class is in one (test_each_method_is_in_the_table).
 TABLE = {
-    reads_length: ["__len__", "__bool__"],
+    reads_length: ["__len__"],
     reads_item: ["__getitem__"],
     reads_by_get: ["get"],
     reads_in: ["__contains__"],
@@ -255,9 +258,9 @@ TABLE = {
     reads_keys: ["keys"],
     reads_values: ["values"],
     reads_items: ["items"],
-    reads_copy: ["__new__", "__init__", "__del__", "copy", "__copy__", "__reduce__"],
+    reads_copy: ["__new__", "__init__", "copy", "__copy__", "__reduce__"],
     reads_equality: ["__eq__"],
-    reads_or: ["__or__"],
+    reads_or: ["__or__", "__ror__"],
     reads_repr: ["__repr__"],
     reads_fromkeys: ["fromkeys"],
     changes_item: ["__setitem__"],
@@ -277,9 +280,9 @@ class Threads(unittest.TestCase):
         self.addCleanup(sys.setswitchinterval, sys.getswitchinterval())
         sys.setswitchinterval(1e-6)
 
-    def run_row(self, row):
+    def run_row(self, row, map_):
         """Calls a row in all threads at once; the first wrong result of any thread, or None."""
-        map_, wrong, start = full(), [], threading.Barrier(THREADS)
+        wrong, start = [], threading.Barrier(THREADS)
         end = time.monotonic() + SECONDS
 
         def work(thread):
@@ -302,7 +305,16 @@ class Threads(unittest.TestCase):
     def test_each_method_by_eight_threads(self):
         for row in TABLE:
             with self.subTest(row.__name__):
-                self.assertIsNone(self.run_row(row))
+                self.assertIsNone(self.run_row(row, full()))
+
+    def test_each_method_of_a_map_of_byte_strings(self):
+        for row in TABLE:
+            map_ = full()
+            # (the ints stay, and are held as byte strings)
+            map_["x"] = 1
+            del map_["x"]
+            with self.subTest(row.__name__):
+                self.assertIsNone(self.run_row(row, map_))
 
     def test_each_pair_is_popped_once(self):
         map_, popped = full(), [[] for _ in range(THREADS)]
@@ -324,11 +336,12 @@ class Threads(unittest.TestCase):
     def test_each_method_is_in_the_table(self):
         methods = {
             name
-            for name, it in vars(SortedMap).items()
+            for of in (_native.Sorted, _native.Map, SortedMap)
+            for name, it in vars(of).items()
             if (callable(it) or isinstance(it, classmethod))
             and (not name.startswith("_") or name.startswith("__"))
         }
-        self.assertEqual(methods, set(itertools.chain(*TABLE.values())))
+        self.assertEqual(methods - {"__class_getitem__"}, set(itertools.chain(*TABLE.values())))
 
 
 if __name__ == "__main__":

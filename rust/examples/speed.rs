@@ -2,7 +2,7 @@
 //! each call, the least time of some turns in nanoseconds a call.
 use std::collections::BTreeMap;
 use std::time::Instant;
-use sweep_bptree_proved::{Map, OutOfMemory};
+use sweep_bptree_proved::{Map, NumberMap, OutOfMemory};
 
 fn shuffle(keys: &mut [u64], state: &mut u64) {
     for i in (1..keys.len()).rev() {
@@ -23,6 +23,32 @@ fn took(least: &mut BTreeMap<String, f64>, call: &str, start: Instant, n: usize)
     *known = known.min(each);
 }
 
+// Texts of 16 letters, with numbers as their values.
+fn texts(least: &mut BTreeMap<String, f64>, keys: &[u64]) -> Result<u64, OutOfMemory> {
+    let n = keys.len();
+    let texts: Vec<String> = keys.iter().map(|key| format!("{key:016x}")).collect();
+    let (given, mut map) = (texts.clone(), Map::new()?);
+    let start = Instant::now();
+    for text in given {
+        map.insert(text, 7u64)?;
+    }
+    took(least, "rust text insert", start, n);
+    let (given, mut plain) = (texts.clone(), BTreeMap::new());
+    let start = Instant::now();
+    for text in given {
+        plain.insert(text, 7u64);
+    }
+    took(least, "BTreeMap text insert", start, n);
+    let wanted: Vec<&str> = texts.iter().rev().map(String::as_str).collect();
+    let start = Instant::now();
+    let sum = wanted.iter().filter_map(|text| map.get(*text)).sum::<u64>();
+    took(least, "rust text get", start, n);
+    let start = Instant::now();
+    let other = wanted.iter().filter_map(|text| plain.get(*text)).sum::<u64>();
+    took(least, "BTreeMap text get", start, n);
+    Ok(sum - other)
+}
+
 fn main() -> Result<(), OutOfMemory> {
     for n in std::env::args().skip(1).filter_map(|it| it.parse::<usize>().ok()) {
         let mut state = 0x9e37_79b9_7f4a_7c15;
@@ -30,7 +56,7 @@ fn main() -> Result<(), OutOfMemory> {
         let (mut least, mut sum) = (BTreeMap::new(), 0u64);
         for _ in 0..5 {
             shuffle(&mut keys, &mut state);
-            let (mut map, mut plain) = (Map::new()?, BTreeMap::new());
+            let (mut map, mut plain) = (NumberMap::new()?, BTreeMap::new());
             let start = Instant::now();
             for key in &keys {
                 map.insert(*key, 7)?;
@@ -69,6 +95,7 @@ fn main() -> Result<(), OutOfMemory> {
                 plain.remove(key);
             }
             took(&mut least, "BTreeMap remove", start, n);
+            sum = sum.wrapping_add(texts(&mut least, &keys)?);
         }
         for (call, each) in least {
             println!("{n} {call} {each:.1}");

@@ -13,6 +13,7 @@ pub struct Pair {
     pub value: u64,
 }
 
+pub const ABSENT: u32 = 0;
 pub const FOUND: u32 = 1;
 pub const REFUSED: u32 = 2;
 
@@ -39,4 +40,20 @@ extern "C" {
     pub fn bptree_range(map: &mut Handle, from: u64, out: *mut Pair, n: usize) -> usize;
     pub fn bptree_range_back(map: &mut Handle, from: u64, out: *mut Pair, n: usize) -> usize;
     pub fn bptree_page(map: &mut Handle, number: usize, out: *mut Pair, n: usize) -> usize;
+
+    pub fn bptree_dict_new(dict: *mut Handle) -> bool;
+    pub fn bptree_dict_free(dict: *mut Handle);
+    pub fn bptree_dict_len(dict: *mut Handle) -> usize;
+    pub fn bptree_dict_get(dict: *mut Handle, key: *const u8, n: usize, value: *mut u64) -> bool;
+    pub fn bptree_dict_rank(dict: *mut Handle, key: *const u8, n: usize, rank: *mut usize) -> bool;
+    pub fn bptree_dict_put(
+        dict: *mut Handle,
+        key: *const u8,
+        n: usize,
+        value: u64,
+        old: *mut u64,
+    ) -> u32;
+    pub fn bptree_dict_del(dict: *mut Handle, key: *const u8, n: usize, old: *mut u64) -> u32;
+    pub fn bptree_dict_remove_at(dict: *mut Handle, place: usize, old: *mut u64) -> u32;
+    pub fn bptree_dict_values(dict: *mut Handle, place: usize, out: *mut u64, n: usize) -> usize;
 }

@@ -1,7 +1,7 @@
 //! Calls in no order beside a `BTreeMap`.
 use std::collections::BTreeMap;
 use std::ops::Bound;
-use sweep_bptree_proved::{Map, OutOfMemory};
+use sweep_bptree_proved::{NumberMap, OutOfMemory};
 
 struct Dice(u64);
 
@@ -53,7 +53,7 @@ fn last(plain: &BTreeMap<u64, u64>) -> Option<(u64, u64)> {
 #[test]
 fn answers_alike() -> Result<(), OutOfMemory> {
     let mut dice = Dice(0x9e37_79b9_7f4a_7c15);
-    let mut map = Map::new()?;
+    let mut map = NumberMap::new()?;
     let mut plain = BTreeMap::new();
     for turn in 0..200_000 {
         let key = dice.key();
@@ -70,7 +70,9 @@ fn answers_alike() -> Result<(), OutOfMemory> {
                 };
                 assert_eq!(map.get_at(place), at);
                 assert_eq!(map.remove_at(place)?, at);
-                at.map(|(k, v)| assert_eq!(plain.remove(&k), Some(v)));
+                if let Some((key, value)) = at {
+                    assert_eq!(plain.remove(&key), Some(value));
+                }
             }
         }
         assert_eq!(map.get(key), plain.get(&key).copied());
@@ -123,7 +125,7 @@ fn answers_alike() -> Result<(), OutOfMemory> {
 
 #[test]
 fn loads_nothing() -> Result<(), OutOfMemory> {
-    let mut map = Map::from_pairs(&[(1, 10)])?;
+    let mut map = NumberMap::from_pairs(&[(1, 10)])?;
     map.load(&[])?;
     assert!(map.is_empty());
     assert_eq!((map.page(0, 8)?, map.page(0, 0)?), (vec![], vec![]));
@@ -132,7 +134,7 @@ fn loads_nothing() -> Result<(), OutOfMemory> {
 
 #[test]
 fn goes_to_another_thread() -> Result<(), OutOfMemory> {
-    let mut map = Map::from_pairs(&[(2, 20), (1, 10), (2, 21)])?;
+    let mut map = NumberMap::from_pairs(&[(2, 20), (1, 10), (2, 21)])?;
     let pairs = std::thread::spawn(move || map.iter().collect::<Vec<_>>()).join().unwrap();
     assert_eq!(pairs, [(1, 10), (2, 21)]);
     Ok(())

@@ -274,7 +274,8 @@ impl Drawing {
             0..=5 => {
                 let from = self.dice.below(300);
                 let end = from + self.dice.below(30);
-                call(8, 0, &[from, end, self.dice.below(4)])
+                let member = self.dice.one_of(&[0, 9, 10]);
+                call(8, member, &[from, end, self.dice.below(4)])
             }
             6..=12 => call(8, 2, &[key]),
             13..=23 => call(8, 1, &[]),

@@ -48,7 +48,7 @@ impl Answer {
         Answer { words, loose }
     }
 
-    /// Whether a reply has these words, and stands for a call that was made.
+    /// Whether a reply has these words, and is that of a call that was made.
     pub fn is_met(&self, reply: &Reply) -> bool {
         let (len, digest) = (self.words.len() as u64, reply.digest);
         if reply.status != 0 || reply.len != len {

@@ -10,7 +10,7 @@ struct Level {
     merged: u64,
 }
 
-/// The height of a tree, with what is told of its leaves and of its inner nodes.
+/// The height of a tree, with the report of its leaves and of its inner nodes.
 #[derive(Clone, Copy, Debug, Default)]
 pub struct Shape {
     pub height: u64,

@@ -12,11 +12,19 @@ fn removals_can_fail(kind: &Kind) -> bool {
     kind.has_large_keys() || kind.has_groups()
 }
 
-// Whether a call is an append that inserts few pairs one by one, and takes them back if one fails. The
-// pairs are then those from before it, but the nodes need not be.
+// Whether a call is an append, or an extension by all of some pairs, that inserts few pairs one by one
+// and takes them back if one fails. The pairs are then those from before it, but the nodes need not
+// be.
 fn takes_back(model: &Model, record: &Record) -> bool {
-    let is_append = (record.family(), record.member()) == (8, 1);
-    is_append && !removals_can_fail(&model.kind) && model.there.len() < model.here.len() / 16
+    let come = match (record.family(), record.member()) {
+        (8, 1) => model.there.len(),
+        (8, 9 | 10) => {
+            let pairs = model.turns(record.a, record.b, record.c);
+            Pairs::gathered(model.kind, pairs).len()
+        }
+        _ => return false,
+    };
+    !removals_can_fail(&model.kind) && come < model.here.len() / 16
 }
 
 /// Whether a call is a removal of a range that removes the pairs one by one if memory is refused. It

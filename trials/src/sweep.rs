@@ -32,7 +32,7 @@ fn fault(error: std::io::Error) -> String {
     format!("the program does not answer: {error}")
 }
 
-/// What is told of all that a subject has: a reply to each question.
+/// The report of all that a subject has: a reply to each question.
 #[derive(Clone, Debug, PartialEq, Eq)]
 struct State(Vec<(u64, u64, u64)>);
 
@@ -79,7 +79,7 @@ impl Trial {
         self.process.ask(records).map_err(fault)
     }
 
-    // What is told of all, once it was seen to be tidy.
+    // The report of all, if it is tidy.
     fn state(&mut self) -> Told<State> {
         let records = questions(&self.model);
         let replies = self.ask_all(&records)?;

@@ -61,7 +61,8 @@ pub(crate) fn pour<K: Key, V: Drop>(
     }
 }
 
-// Moves the pairs of a leaf behind others, but for those from one index up to another.
+// Moves the pairs of a leaf behind others, but for those from one index up to another. A leaf of
+// which none stays is dropped as it is.
 fn pour_leaf_around<K: Key, V: Drop>(
     leaf: Box<LeafNode<K, V>>,
     before: usize,
@@ -74,6 +75,9 @@ fn pour_leaf_around<K: Key, V: Drop>(
     ensures len { vec_len pairs.new ≡ vec_len pairs.old + length (without_part before behind leaf.value.pairs) }
     ensures capacity { vec_capacity pairs.new ≡ vec_capacity pairs.old }
 {
+    if before == 0 && behind >= leaf.as_ref().len() {
+        return;
+    }
     let mut before = before;
     let mut behind = behind;
     let mut items = LeafNode::into_pairs(leaf);

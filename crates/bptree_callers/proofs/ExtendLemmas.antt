@@ -31,7 +31,7 @@ neither false b e = (refl, e)
 
 module _ {K V : Type 0} {cmp : K → K → Ordering} (total : IsTotalOrder cmp) where
   -- a key that does not come has the value that it had
-  kept_value : (l pairs : List (K × V)) (k : K) → IsAscending cmp l → has cmp pairs k ≡ false → value cmp (put_all (put_pair cmp) l pairs) k ≡ value cmp l k
+  pub kept_value : (l pairs : List (K × V)) (k : K) → IsAscending cmp l → has cmp pairs k ≡ false → value cmp (put_all (put_pair cmp) l pairs) k ≡ value cmp l k
   kept_value l [] k ascending absent = refl
   kept_value l (p ∷ pairs) k ascending absent =
       let (other, rest) = neither (is_eq (cmp p.0 k)) (has cmp pairs k) absent in
@@ -82,7 +82,7 @@ module _ {K : Type 0} {cmp : K → K → Ordering} (total : IsTotalOrder cmp) wh
       ∙ ap (λ b. is_eq (cmp k j) || b) (holds_keys cmp (pairs_of keys) j ∙ ap (λ l. holds cmp l j) (keys_pairs keys))
 
   -- a key is there that was there or came
-  holds_all : (keys more : List K) (j : K) → IsStrictlySortedBy cmp keys → holds cmp (put_all (with_key cmp) keys more) j ≡ holds cmp keys j || holds cmp more j
+  pub holds_all : (keys more : List K) (j : K) → IsStrictlySortedBy cmp keys → holds cmp (put_all (with_key cmp) keys more) j ≡ holds cmp keys j || holds cmp more j
   holds_all keys [] j sorted = or_none (holds cmp keys j)
   holds_all keys (k ∷ more) j sorted =
       holds_all (with_key cmp keys k) more j (still_sorted keys k sorted) ∙ ap (λ b. b || holds cmp more j) (holds_one_more keys k j sorted) ∙ swapped (is_eq (cmp k j)) (holds cmp keys j) (holds cmp more j)

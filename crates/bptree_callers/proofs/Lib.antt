@@ -3,6 +3,7 @@ pub mod CloneSizes
 pub mod EntryLemmas
 pub mod ExtendLemmas
 pub mod GatherLemmas
+pub mod GatheredPuts
 pub mod PartLemmas
 pub mod Passing
 pub mod RetainedLemmas

@@ -153,6 +153,11 @@ module _ {K V : Type 0} where
     PutsLastOfEach pairs new =
         (before after : List (K × V)) → (pair : K × V) → pairs ≡ before ++ pair ∷ after → has cmp after pair.0 ≡ false → value cmp new pair.0 ≡ Some pair.1
 
+    -- the same, of a clone of that value
+    abbrev pub PutsCloneOfLast : (V → V → Type 0) → List (K × V) → List (K × V) → Type 0
+    PutsCloneOfLast is_clone pairs new =
+        (before after : List (K × V)) → (pair : K × V) → pairs ≡ before ++ pair ∷ after → has cmp after pair.0 ≡ false → IsSomeAnd (value cmp new pair.0) (is_clone pair.1)
+
     -- at each key stands the value of the last pair with an equal key
     abbrev pub HasLastValues : List (K × V) → List (K × V) → Type 0
     HasLastValues pairs new = (k : K) → value cmp new k ≡ last_value cmp pairs k

@@ -7,6 +7,7 @@ mod counted;
 mod groups;
 mod loaded;
 mod maps;
+mod moves;
 mod numbers;
 mod ordered;
 mod strings;
@@ -60,6 +61,7 @@ fn round(rt: &HostRuntime, numbers: Numbers<'_>) -> bool {
         && strings::take::<BPlusTree<NodeStoreVec<String, u64>>>(plain, numbers)
         && strings::take::<BTreeMap<String, u64>>(kit, numbers)
         && maps::take(plain, numbers)
+        && moves::take(plain, numbers)
         && union::take(plain, numbers)
 }
 

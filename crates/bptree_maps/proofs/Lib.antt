@@ -1,4 +1,5 @@
 pub mod AddingLemmas
+pub mod ExtendingLemmas
 pub mod KeyLemmas
 pub mod MovingLemmas
 pub mod PlaceLemmas

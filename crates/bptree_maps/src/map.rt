@@ -33,6 +33,7 @@ ghost use Rattle.bptree_tree.specs.Whole.{ArePairsCloned};
 
 mod borrowed;
 mod bounds;
+mod extending;
 mod iter;
 mod moving;
 mod owned;

@@ -13,17 +13,17 @@ use Rattle.bptree_shape.specs.Shape.{leaf_pairs, inner_keys, inner_children}
 use Rattle.bptree_rebalancing.specs.declared.rotate_merge.Sibling.{Sibling}
 use Rattle.bptree_rebalancing.specs.declared.rotate_merge.Sibling.TheVariants.{Left, Right}
 
--- which sibling gives, if one has more than the minimum, and the slot of the separator between the two
+-- which sibling gives, if one has more than the most to merge with, and the slot of the separator between the two
 abbrev pub ChosenSibling : ℕ → Bool → ℕ → ℕ → ℕ → Option Sibling → Type 0
-ChosenSibling place gives after minimum slot (Some Left) = (gives ≡ true) × (suc slot ≡ place)
-ChosenSibling place gives after minimum slot (Some Right) = (minimum < after) × (slot ≡ place)
-ChosenSibling place gives after minimum slot None = (gives ≡ false) × (after ≤ minimum) × ((suc slot ≡ place) ⊎ ((slot ≡ place) × (place ≡ 0)))
+ChosenSibling place gives after most slot (Some Left) = (gives ≡ true) × (suc slot ≡ place)
+ChosenSibling place gives after most slot (Some Right) = (most < after) × (slot ≡ place)
+ChosenSibling place gives after most slot None = (gives ≡ false) × (after ≤ most) × ((suc slot ≡ place) ⊎ ((slot ≡ place) × (place ≡ 0)))
 
--- the same by the sizes of the children: a sibling that gives has more than 16, and one to merge with has no more
+-- the same by the sizes of the children: a sibling that gives has more than 16, and one to merge with has at most 48
 abbrev pub ChoosesSibling : (ℕ → ℕ) → ℕ → ℕ → Option Sibling → Type 0
 ChoosesSibling size place slot (Some Left) = (suc slot ≡ place) × (16 < size slot)
 ChoosesSibling size place slot (Some Right) = (slot ≡ place) × (16 < size (suc slot))
-ChoosesSibling size place slot None = ((suc slot ≡ place) × (size slot ≤ 16)) ⊎ ((slot ≡ place) × (place ≡ 0) × (size (suc slot) ≤ 16))
+ChoosesSibling size place slot None = ((suc slot ≡ place) × (size slot ≤ 48)) ⊎ ((slot ≡ place) × (place ≡ 0) × (size (suc slot) ≤ 48))
 
 module _ {K V A : Type 0} (slots : Slots (Inner K A) (Leaf K V)) where
   -- how many keys or pairs a node has

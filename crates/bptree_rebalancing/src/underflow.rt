@@ -1,6 +1,6 @@
 //! Underflow in a tree that stands in a store: which sibling a node rotates or merges with, and
 //! inner nodes that are rebalanced up the path.
-ghost use Rattle.std.specs.Prelude.{◌≡◌, ◌<◌, ◌+◌, IsOk, OnErr, IsTrue};
+ghost use Rattle.std.specs.Prelude.{◌≡◌, ◌<◌, ◌≤◌, ◌+◌, IsOk, OnErr, IsTrue};
 ghost use Rattle.bptree_keys.specs.declared.node_id.NodeId.TheVariants as kind;
 ghost use Rattle.bptree_ascent.specs.Failing.{NeverFails};
 ghost use Rattle.bptree_nodes.specs.Slot.{IsPresent};
@@ -28,14 +28,31 @@ pub(crate) enum Level {
     Inner,
 }
 
-impl Level {
-    // The least number of pairs or keys of a node that is no root.
-    fn minimum(self) -> usize
-        ensures { result ≡ 16 }
+/// When a leaf that underflows merges with its sibling.
+///
+/// Where pairs leave one after another at an end of a tree, early merges save most rotations.
+#[derive(Clone, Copy, PartialEq, Eq)]
+pub enum Merging {
+    /// If the sibling has at most 16 pairs. Else the sibling gives one of its pairs.
+    Late,
+    /// If the sibling has at most 48 pairs. The pairs of both then fit in one leaf, with room for
+    /// one more. Else the sibling gives one of its pairs.
+    Early,
+}
+
+// The greatest number of pairs of a sibling in an early merge. With the 15 pairs of the leaf that
+// underflows they fit in one leaf.
+const EARLY_MERGE_MOST: usize = 48;
+
+impl Merging {
+    // The greatest number of pairs of a sibling to merge with.
+    fn most(self) -> usize
+        ensures least { 16 ≤ result }
+        ensures most { result ≤ 48 }
     {
         match self {
-            Level::Leaf => LEAF_MINIMUM,
-            Level::Inner => INNER_MINIMUM,
+            Merging::Late => LEAF_MINIMUM,
+            Merging::Early => EARLY_MERGE_MOST,
         }
     }
 }
@@ -50,20 +67,20 @@ fn merged(slot: usize, place: usize) -> Rebalanced {
 }
 
 // The slot of the separator between a child that underflows and its sibling, and which of the two
-// gives, if one can; else they merge.
+// gives. If neither gives, they merge.
 type SiblingChoice = (usize, Option<Sibling>);
 
 // The sibling that is chosen for a child at an index. `gives` is whether the sibling before it
 // gives, `after` the number of pairs or keys of the sibling after it, or 0 if there is none, and
-// `minimum` the least number of these in a node of the children's level.
-fn choose_sibling(place: usize, gives: bool, after: usize, minimum: usize) -> SiblingChoice
+// `most` the greatest number of these in a sibling to merge with.
+fn choose_sibling(place: usize, gives: bool, after: usize, most: usize) -> SiblingChoice
     requires { IsTrue gives → 0 < place }
-    ensures { ChosenSibling place gives after minimum result.0 result.1 }
+    ensures { ChosenSibling place gives after most result.0 result.1 }
 {
     if gives {
         return (place - 1, Some(Sibling::Left));
     }
-    if after > minimum {
+    if after > most {
         return (place, Some(Sibling::Right));
     }
     if place > 0 {
@@ -89,32 +106,48 @@ fn child_len<S: NodeStore>(store: &S, id: InnerNodeId, place: usize) -> usize
     }
 }
 
-// Chooses the sibling that the child at an index of a node rotates or merges with. The one before
-// the child gives if it can. Of leaves, it must also have more pairs than the one behind.
-fn sibling<S: NodeStore>(store: &S, id: InnerNodeId, place: usize, level: Level) -> SiblingChoice
+// Chooses the sibling that the child at an index of a node rotates or merges with. A sibling of
+// more than `most` pairs or keys can give one. If neither sibling can, the child merges. The one
+// before the child gives if it can. Of leaves, it must also have more pairs than the one behind.
+fn sibling<S: NodeStore>(
+    store: &S,
+    id: InnerNodeId,
+    place: usize,
+    level: Level,
+    most: usize,
+) -> SiblingChoice
     requires children { NodesBelow (S.slots store.now) id }
     requires long { HasOneChildMore (S.slots store.now) id }
     requires place { HasPlaceBelow (S.slots store.now) id place }
+    requires least { 16 ≤ most }
+    requires most { most ≤ 48 }
     ensures { ChoosesSibling (size_below (S.slots store.now) id) place result.0 result.1 }
 {
-    let minimum = level.minimum();
     let after = child_len(store, id, place + 1);
     if place == 0 {
-        return choose_sibling(place, false, after, minimum);
+        return choose_sibling(place, false, after, most);
     }
     let before = child_len(store, id, place - 1);
-    let gives = before > minimum && (level == Level::Inner || before > after);
-    choose_sibling(place, gives, after, minimum)
+    let gives = before > most && (level == Level::Inner || before > after);
+    choose_sibling(place, gives, after, most)
 }
 
-// Which sibling the leaf at a place of a node rotates or merges with.
-fn leaf_sibling<S: NodeStore>(store: &S, id: InnerNodeId, place: usize) -> SiblingChoice
+// Which sibling the leaf at a place of a node rotates or merges with. It merges with one of at most
+// `most` pairs.
+fn leaf_sibling<S: NodeStore>(
+    store: &S,
+    id: InnerNodeId,
+    place: usize,
+    most: usize,
+) -> SiblingChoice
     requires children { LeavesBelow (S.slots store.now) id }
     requires long { HasOneChildMore (S.slots store.now) id }
     requires place { HasPlaceBelow (S.slots store.now) id place }
+    requires least { 16 ≤ most }
+    requires most { most ≤ 48 }
     ensures { ChoosesSibling (size_below (S.slots store.now) id) place result.0 result.1 }
 {
-    sibling(store, id, place, Level::Leaf)
+    sibling(store, id, place, Level::Leaf, most)
 }
 
 // Carries a node's new summary up the path above it, if the node may have underflowed. Then it
@@ -139,7 +172,7 @@ fn ascend_underflow<S: NodeStore>(
     let Some((parent, place, _)) = path.pop() else {
         return Ok(summary);
     };
-    let (slot, giver) = sibling(store, parent, place, Level::Inner);
+    let (slot, giver) = sibling(store, parent, place, Level::Inner, INNER_MINIMUM);
     let (left, right) = inners_at(store, parent, slot);
     match giver {
         Some(giver) => {
@@ -174,16 +207,17 @@ fn ascend_underflow<S: NodeStore>(
 }
 
 /// Rebalances a leaf that underflowed, a child of the given node: it rotates a pair or merges with
-/// its sibling. Nodes on the path above that underflow by a merge are rebalanced in turn. `whole` is
-/// the summary that the whole tree had before. Returns a summary of all keys. It takes O(log n)
-/// steps, and allocates only a clone of a separator and the summaries. If it fails, the store is
-/// unchanged.
+/// its sibling. `merging` says up to how many pairs of the sibling the two merge. Nodes on the path
+/// above that underflow by a merge are rebalanced in turn. `whole` is the summary that the whole
+/// tree had before. Returns a summary of all keys. It takes O(log n) steps, and allocates only a
+/// clone of a separator and the summaries. If it fails, the store is unchanged.
 pub fn rebalance_leaf<S: NodeStore>(
     store: &mut S,
     path: &mut VisitStack,
     whole: &S::Argument,
     id: InnerNodeId,
     place: usize,
+    merging: Merging,
     statistic: &mut Statistic,
 ) -> Result<S::Argument, AllocError>
     requires { LeafUnderflowFrom S.K.cmp S.Argument.is_summary (S.slots store.old) path.old whole.now id place }
@@ -191,7 +225,7 @@ pub fn rebalance_leaf<S: NodeStore>(
     ensures refused { OnErr result (S.slots store.new ≡ S.slots store.old) }
     ensures infallible { NeverFails S.Argument.needs_no_memory S.K.is_infallible result }
 {
-    let (slot, giver) = leaf_sibling(store, id, place);
+    let (slot, giver) = leaf_sibling(store, id, place, merging.most());
     let (left, right) = leaves_at(store, id, slot);
     match giver {
         Some(giver) => {

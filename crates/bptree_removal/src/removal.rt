@@ -20,7 +20,7 @@ use bptree_keys::end::End;
 use bptree_keys::entry_ref::VisitStack;
 use bptree_keys::node_id::{LeafNodeId, NodeId, Position};
 use bptree_rebalancing::statistics::Statistic;
-use bptree_rebalancing::underflow::rebalance_leaf;
+use bptree_rebalancing::underflow::{Merging, rebalance_leaf};
 use bptree_shape::descent::{end_index, find_path};
 use bptree_shape::nodes::Nodes;
 use bptree_stores::node_stores::NodeStore;
@@ -90,14 +90,15 @@ fn take_in_place<S: NodeStore>(
     }
 }
 
-// Removes the pair at a slot from the leaf at the end of a path. Returns the pair and a summary of
-// all keys.
+// Removes the pair at a slot from the leaf at the end of a path. If the leaf underflows, `merging`
+// says when it merges with its sibling. Returns the pair and a summary of all keys.
 fn take_out<S: NodeStore>(
     store: &mut S,
     path: &mut VisitStack,
     whole: &S::Argument,
     leaf: LeafNodeId,
     slot: usize,
+    merging: Merging,
     statistic: &mut Statistic,
 ) -> Result<((S::K, S::V), S::Argument), AllocError>
     requires { HasPair S.K.cmp S.Argument.is_summary (S.slots store.old) path.old whole.now leaf slot }
@@ -112,7 +113,7 @@ fn take_out<S: NodeStore>(
         return take_in_place(store, path, whole, leaf, slot);
     };
     let pair = take_pair(store, leaf, slot);
-    match rebalance_leaf(store, path, whole, id, place, statistic) {
+    match rebalance_leaf(store, path, whole, id, place, merging, statistic) {
         Ok(top) => Ok((pair, top)),
         Err(refusal) => {
             put_pair(store, leaf, slot, pair);
@@ -166,12 +167,13 @@ pub fn find_entry<S: NodeStore>(
     }
 }
 
-/// Removes the pair at a position from a tree, and returns it. `find_entry` returns the position,
-/// and leaves in `path` the inner nodes on the way there. If it fails, the tree is unchanged.
-pub fn take_entry<S: NodeStore>(
+// Removes the pair at a position from a tree, as `take_entry` does. If its leaf underflows,
+// `merging` says when it merges with its sibling.
+fn take_entry_by<S: NodeStore>(
     tree: &mut Nodes<S>,
     path: &mut VisitStack,
     at: Position,
+    merging: Merging,
     statistic: &mut Statistic,
 ) -> Result<(S::K, S::V), AllocError>
     requires { (k : S.K) × IsEntryIn S.slots S.K.cmp S.Argument.is_summary tree.old path.old k at }
@@ -186,6 +188,7 @@ pub fn take_entry<S: NodeStore>(
         &tree.summary,
         at.leaf,
         at.slot,
+        merging,
         statistic,
     )?;
     let (root, height) = shrink_root(&mut tree.store, tree.root, tree.height);
@@ -194,6 +197,25 @@ pub fn take_entry<S: NodeStore>(
     tree.len -= 1;
     tree.summary = summary;
     Ok(pair)
+}
+
+/// Removes the pair at a position from a tree, and returns it. `find_entry` returns the position,
+/// and leaves in `path` the inner nodes on the way there. A leaf that underflows merges with its
+/// sibling only if neither sibling has more than 16 pairs. It takes O(log n) steps, and allocates
+/// only a clone of a separator and the summaries. If it fails, the tree is unchanged.
+pub fn take_entry<S: NodeStore>(
+    tree: &mut Nodes<S>,
+    path: &mut VisitStack,
+    at: Position,
+    statistic: &mut Statistic,
+) -> Result<(S::K, S::V), AllocError>
+    requires { (k : S.K) × IsEntryIn S.slots S.K.cmp S.Argument.is_summary tree.old path.old k at }
+    ensures taken { TakesAt S.slots S.K.cmp S.Argument.is_summary tree.old tree.new path.old at result }
+    ensures whole { IsWhole S.K.cmp S.Argument.is_summary S.slots tree.new }
+    ensures refused { OnErr result (IsUntouched S.slots tree.new tree.old) }
+    ensures infallible { NeverFails S.Argument.needs_no_memory S.K.is_infallible result }
+{
+    take_entry_by(tree, path, at, Merging::Late, statistic)
 }
 
 /// Removes the pair whose key equals `k` from a tree, if there is one, and returns it with the key
@@ -219,8 +241,11 @@ pub fn remove_entry<S: NodeStore>(
     }
 }
 
-/// Removes the pair at an end of a tree, if there is one, and returns it. No key is compared or cloned on the way down. If there is none, it allocates
-/// nothing. If it fails, the tree is unchanged. `path` is as for `remove_entry`.
+/// Removes the pair at an end of a tree, if there is one, and returns it. No key is compared or
+/// cloned on the way down. A leaf that underflows merges with its sibling if that has at most 48
+/// pairs. So a loop over this call seldom rotates. It takes O(log n) steps, and allocates what
+/// `take_entry` does. If there is no pair, it allocates nothing. If it fails, the tree is unchanged.
+/// `path` is as for `remove_entry`.
 pub fn remove_end<S: NodeStore>(
     tree: &mut Nodes<S>,
     path: &mut VisitStack,
@@ -241,7 +266,8 @@ pub fn remove_end<S: NodeStore>(
         return Ok(None);
     }
     let slot = end_index(len, end);
-    Ok(Some(take_entry(tree, path, Position { leaf, slot }, statistic)?))
+    let at = Position { leaf, slot };
+    Ok(Some(take_entry_by(tree, path, at, Merging::Early, statistic)?))
 }
 
 /// Removes a pair that the argument may find for the query from a tree, if it finds one. If it

@@ -1,5 +1,6 @@
 mod BesideNothing
 pub mod EntryKeys
+pub mod ExtendingLemmas
 pub mod MemberLemmas
 pub mod ReplaceLemmas
 pub mod SiftLemmas

@@ -14,6 +14,7 @@ use Rattle.std.specs.Map.Iter.{TakesFirst}
 use Rattle.std.specs.Ordering.{is_eq}
 use Rattle.bptree_keys.proofs.Ascending.{greater_turned, less_turned}
 use Rattle.bptree_maps.specs.Keys.{holds, key_found, keys_within, keys_without, without_key, IsDisjoint, IsSubset}
+use Rattle.bptree_maps.proofs.ExtendingLemmas.{holds_equal}
 use Rattle.bptree_maps.proofs.KeyLemmas.{without_ascending, without_holds, without_length}
 
 -- what is left after the first of ascending keys ascends
@@ -44,11 +45,6 @@ true_if_not_false true is = refl
 true_if_not_false false is = absurd (true≢false is)
 
 module _ {K : Type 0} (cmp : K → K → Ordering) (total : IsTotalOrder cmp) where
-  -- equal keys are held alike
-  pub holds_equal : (keys : List K) (j k : K) → cmp j k ≡ Equal → holds cmp keys j ≡ holds cmp keys k
-  holds_equal [] j k same = refl
-  holds_equal (key ∷ keys) j k same = rw (alike_right total j k key same, holds_equal keys j k same) refl
-
   -- the first key of a list is held by it
   pub holds_first : (k : K) (keys : List K) → holds cmp (k ∷ keys) k ≡ true
   holds_first k keys = ap (λ o. is_eq o || holds cmp keys k) (tied_itself total k)
@@ -83,10 +79,10 @@ module _ {K : Type 0} (cmp : K → K → Ordering) (total : IsTotalOrder cmp) wh
   module _ (others : List K) where
     -- whether equal keys are held, or not held, is the same
     held_alike : (j k : K) → cmp j k ≡ Equal → holds cmp others j ≡ holds cmp others k
-    held_alike = holds_equal others
+    held_alike = holds_equal total others
 
     lacked_alike : (j k : K) → cmp j k ≡ Equal → not (holds cmp others j) ≡ not (holds cmp others k)
-    lacked_alike j k same = ap not (holds_equal others j k same)
+    lacked_alike j k same = ap not (holds_equal total others j k same)
 
     pub holds_within : (keys : List K) (k : K) → holds cmp (keys_within cmp keys others) k ≡ (holds cmp keys k && holds cmp others k)
     holds_within = holds_filter (λ key. holds cmp others key) held_alike

@@ -19,6 +19,7 @@ ghost use Rattle.bptree_keys.specs.Keys.{AllInfallible};
 mod borrowed;
 mod bounds;
 mod difference;
+mod extending;
 mod intersection;
 mod joined;
 mod laws;

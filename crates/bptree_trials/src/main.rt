@@ -126,8 +126,8 @@ fn serve<T: Subject, R: Read, W: Write>(alloc: Global, reader: &mut R, writer: &
     false
 }
 
-// Calls on what stands on a store. One function names the store, since each that does is dear to
-// prove.
+// Calls on a tree, a map or a set over a store. One function names the store, since each one that
+// does is expensive to prove.
 fn on_store<S: CloneStore<V = u64> + Made, R: Read, W: Write>(
     alloc: Global,
     form: u64,

@@ -182,8 +182,8 @@ impl<'a, K: Sample, A: SampleSummary<K>> Steps for Iter<'a, K, u64, A> {
     }
 }
 
-// Walks over pairs of a map. The calls that lend pairs all come here, since each function that says
-// what such an iterator does is dear to prove.
+// Walks over pairs of a map. All calls that return such an iterator come here, since each function
+// that says what it does is expensive to prove.
 fn walk_pairs<K: Sample, A: SampleSummary<K>>(
     pairs: Iter<'_, K, u64, A>,
     record: &Record,
@@ -192,7 +192,7 @@ fn walk_pairs<K: Sample, A: SampleSummary<K>>(
     walk(pairs, record, words)
 }
 
-// Walks over pairs if they are lent.
+// Walks over pairs if there is an iterator.
 fn walk_if<K: Sample, A: SampleSummary<K>>(
     pairs: Result<Iter<'_, K, u64, A>, AllocError>,
     record: &Record,

@@ -22,6 +22,22 @@ fn extend<K: Sample, A: SampleSummary<K>>(
     report_inserted(map.extend(pairs), words)
 }
 
+// Puts all pairs of a vector or a slice, or none.
+fn extend_by_all<K: Sample, A: SampleSummary<K>>(
+    alloc: Global,
+    map: &mut BPlusTreeMap<K, u64, A>,
+    record: &Record,
+) -> bool {
+    let Ok(pairs) = pairs_of::<K>(alloc, record.a, record.b, record.c) else {
+        return false;
+    };
+    if record.member() == 9 {
+        map.extend_from_vec(pairs).is_ok()
+    } else {
+        map.extend_from_slice(&pairs).is_ok()
+    }
+}
+
 fn append<K: Sample, A: SampleSummary<K>>(maps: &mut Maps<K, A>) -> bool {
     maps.here.append(&mut maps.there).is_ok()
 }
@@ -180,6 +196,7 @@ pub fn call<K: Sample, A: SampleSummary<K>>(
         4 | 6 => between(alloc, &mut maps.here, record, words),
         5 => add_to_each(&mut maps.here, record.a),
         7 | 8 => entry(alloc, &mut maps.here, record, words),
+        9 | 10 => extend_by_all(alloc, &mut maps.here, record),
         _ => no_call(words),
     }
 }

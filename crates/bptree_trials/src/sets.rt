@@ -166,6 +166,18 @@ fn extend<K: Sample>(alloc: Global, set: &mut Set<K>, record: &Record, words: &m
     report_inserted(set.extend(keys), words)
 }
 
+// Puts all keys of a vector or a slice, or none.
+fn extend_by_all<K: Sample>(alloc: Global, set: &mut Set<K>, record: &Record) -> bool {
+    let Ok(keys) = keys_of::<K>(alloc, record.a, record.b, record.c) else {
+        return false;
+    };
+    if record.member() == 9 {
+        set.extend_from_vec(keys).is_ok()
+    } else {
+        set.extend_from_slice(&keys).is_ok()
+    }
+}
+
 fn append<K: Sample>(sets: &mut Sets<K>) -> bool {
     sets.here.append(&mut sets.there).is_ok()
 }
@@ -216,6 +228,7 @@ fn move_keys<K: Sample>(
         2 => split_off(alloc, sets, record),
         3 => retain(&mut sets.here, record, words),
         4 => remove_range(alloc, &mut sets.here, record, words),
+        9 | 10 => extend_by_all(alloc, &mut sets.here, record),
         _ => no_call(words),
     }
 }

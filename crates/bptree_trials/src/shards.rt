@@ -191,8 +191,8 @@ fn find_full(lengths: &[usize], shard: usize, member: u64, words: &mut Words) ->
     true
 }
 
-// The calls that are given bounds or lengths. In `d` a number stands from bit 8 on, and another one
-// from bit 32 on.
+// The calls that are given bounds or lengths. `d` has a number from bit 8 on, and another one from
+// bit 32 on.
 fn choose(record: &Record, words: &mut Words) -> bool {
     let numbers = [record.a as usize, record.b as usize, record.c as usize];
     let numbers = used(&numbers, record.d);

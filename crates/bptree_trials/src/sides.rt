@@ -24,8 +24,8 @@ where
     }
 }
 
-/// Walks over keys or values that are lent. Those of maps and sets all come here, since each function
-/// that says what such an iterator does is dear to prove.
+/// Walks over borrowed keys or values. Those of maps and sets all come here, since each function that
+/// says what such an iterator does is expensive to prove.
 pub fn walk_side<K: Key, V: Drop, A: Argument<K>, Z: LentSide<K, V>>(
     items: SideIter<'_, K, V, A, Z>,
     record: &Record,

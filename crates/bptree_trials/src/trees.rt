@@ -239,8 +239,8 @@ where
     }
 }
 
-/// Walks over pairs of a tree. The calls that lend pairs all come here, since each function that says
-/// what such an iterator does is dear to prove.
+/// Walks over pairs of a tree. All calls that return such an iterator come here, since each function
+/// that says what it does is expensive to prove.
 pub fn walk_pairs<S: NodeStore>(pairs: Iter<'_, S>, record: &Record, words: &mut Words) -> bool
 where
     S::K: Report,

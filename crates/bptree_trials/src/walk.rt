@@ -125,8 +125,8 @@ where
 /// in `Iterator`: if the items are references, each call of such a function needs a proof about their
 /// lifetimes.
 pub trait Steps: Clone + Drop {
-    /// Takes an item from an end, and reports it. If it is `told`, a 1 stands before it, or a 0 alone
-    /// if there is none. Returns whether there was an item.
+    /// Takes an item from an end. If `is_reported`, reports a 1 and the item, or a 0 if there is none.
+    /// Returns whether there was an item.
     fn step(&mut self, is_back: bool, is_reported: bool, words: &mut Words) -> bool;
 
     /// How many items are left, and the bounds of how many are.

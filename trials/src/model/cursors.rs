@@ -5,7 +5,7 @@ use crate::record::Record;
 use crate::words::{number, option};
 
 impl Model {
-    // The cursor stands on a pair, where there is one. Its key is told, and its value if asked for.
+    // Moves the cursor to a pair, if there is one. Reports its key, and its value if asked for.
     fn stands(&mut self, pair: Option<(u64, u64)>, with_value: bool) -> Option<Answer> {
         let (key, value) = match pair {
             Some(pair) => pair,

@@ -19,7 +19,7 @@ impl Model {
     pub(super) fn move_pairs(&mut self, record: &Record) -> Option<Answer> {
         let Record { a, b, c, .. } = *record;
         match record.member() {
-            0 => {
+            0 | 9 | 10 => {
                 for (key, value) in self.turns(a, b, c) {
                     self.here.put(key, value);
                 }

@@ -7,7 +7,7 @@ use crate::record::Record;
 use std::cmp::Ordering;
 use std::mem;
 
-/// The number that stands for an ordering.
+/// The number of an ordering.
 pub(super) fn word_of(ordering: Ordering) -> u64 {
     match ordering {
         Ordering::Less => 0,

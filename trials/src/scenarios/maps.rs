@@ -104,6 +104,61 @@ fn ranges_removed(many: u64) -> Vec<Step> {
     steps.concat()
 }
 
+/// How many pairs a map is loaded with, the word for that, its height after all, and the pairs that
+/// leave: from the back or the front, how many of them quietly, and how many of them behind these are
+/// swept. The first leaf and then the last one get 16 pairs. The next pair that leaves makes two
+/// leaves one where both fit in one, and else the leaf takes a pair from the other.
+type Pops = (u64, &'static str, u64, &'static [(bool, u64, u64)]);
+
+const POPS: [Pops; 3] = [
+    (65, "few ", 0, &[(false, 17, 2), (true, 0, 1)]),
+    (150, "", 1, &[(false, 48, 2), (true, 27, 2)]),
+    (
+        4161,
+        "many ",
+        2,
+        &[(false, 48, 2), (false, 14, 1), (true, 16, 1)],
+    ),
+];
+
+// Pairs leave a map at its ends.
+fn popped(many: u64, height: u64, ends: &[(bool, u64, u64)]) -> Vec<Step> {
+    let mut all = vec![quiet(calls::load(many, 0))];
+    for (is_back, before, then) in ends {
+        let pop = if *is_back {
+            calls::pop_last()
+        } else {
+            calls::pop_first()
+        };
+        all.extend((0..*before).map(|_| quiet(pop)));
+        all.extend((0..*then).map(|_| swept(pop)));
+    }
+    all.push(quiet(calls::iter()).leaving_height(height));
+    all
+}
+
+/// Pairs come all at once, from a vector and from a slice: none; half of what is there and some new
+/// ones; five, of which three are new; and 120 in another order with 100 keys.
+pub fn extended(many: u64) -> Vec<Step> {
+    let lists = [
+        [0, 0, 0],
+        [many / 2, many + 10, 0],
+        [many + 8, many + 13, 0],
+        [0, 120, 1],
+    ];
+    let mut all = Vec::new();
+    for member in [9, 10] {
+        all.push(quiet(calls::load(many, 0)));
+        all.extend(lists.map(|list| swept(call(8, member, &list))));
+    }
+    all
+}
+
+/// How many pairs there are after `extended`.
+pub fn extended_len(many: u64) -> usize {
+    (many as usize + 13).max(100)
+}
+
 // A map with the even numbers is asked for the bounds of the first key, of the 64th, which is the
 // last of a full leaf, and of the last one, each with the number behind it.
 fn bounded(many: u64) -> Vec<Step> {
@@ -219,6 +274,8 @@ pub fn all(sort: &Sort) -> Vec<Scenario> {
             all.push(scenario(&end, steps).ending(many as usize + 5));
             let end = format!(", {word}ranges removed");
             all.push(scenario(&end, ranges_removed(many)).ending(1));
+            let end = format!(", {word}extended at once");
+            all.push(scenario(&end, extended(many)).ending(extended_len(many)));
         }
         let many = if many == 150 { 400 } else { many };
         let end = format!(", {word}bounded{memory}");
@@ -226,6 +283,17 @@ pub fn all(sort: &Sort) -> Vec<Scenario> {
         let left = many as usize - 8 - if many > 64 { 48 } else { 0 };
         let end = format!("{}, {word}pointed at{memory}", sort.counted_keys);
         all.push(Scenario::new(&end, sort.counted, pointed(many)).ending(left));
+    }
+    for (many, word, height, ends) in POPS {
+        if !sort.takes_memory() || many < 4000 {
+            let end = format!(", {word}popped{memory}");
+            let left = many
+                - ends
+                    .iter()
+                    .map(|(_, before, then)| before + then)
+                    .sum::<u64>();
+            all.push(scenario(&end, popped(many, height, ends)).ending(left as usize));
+        }
     }
     let counted_name = format!("{}, counted{}", sort.counted_keys, sort.quiet());
     all.push(Scenario::new(&counted_name, sort.counted, counted()).ending(5000));

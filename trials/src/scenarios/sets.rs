@@ -1,6 +1,6 @@
 //! Sets, and maps over shards.
 
-use super::maps::{first_to_leave, halved, SIZES};
+use super::maps::{extended, extended_len, first_to_leave, halved, SIZES};
 use super::Sort;
 use crate::record::{call, calls, LOWER, UPPER};
 use crate::scenario::{quiet, swept, Scenario, Step};
@@ -98,6 +98,8 @@ pub fn all(sort: &Sort) -> Vec<Scenario> {
         if !sort.takes_memory() || many < 4000 {
             let name = format!("{keys}, {word}moved between sets");
             all.push(scenario(name, moved(many)).ending(many as usize - 17));
+            let name = format!("{keys}, {word}keys extended at once");
+            all.push(scenario(name, extended(many)).ending(extended_len(many)));
         }
     }
     for (many, word) in [(256, "few "), (384, ""), (8576, "many ")] {

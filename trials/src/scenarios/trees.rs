@@ -208,8 +208,8 @@ pub fn all(sort: &Sort) -> Vec<Scenario> {
     let walked_end = format!(", walked{}", sort.quiet_summary());
     vec![
         scenario(", full root, high", full_root(270_400, 2)).ending(270_401),
-        scenario(", a rotation, high", high(270_401, 1057)).ending(269_341),
-        scenario(", a merge, high", high(270_401, 2081)).ending(268_317),
+        scenario(", a rotation, high", high(270_401, 1026)).ending(269_372),
+        scenario(", a merge, high", high(270_401, 2049)).ending(268_349),
         scenario(", full leaf", full_leaf()).ending(65),
         scenario(", full root", full_root(4160, 1)).ending(4161),
         scenario(", emptied", emptied()).ending(0),

@@ -1,9 +1,10 @@
 //! Callers that move many pairs or keys at once, and one that hands a key out.
-ghost use Rattle.std.specs.Prelude.{◌≡◌, ◌≢◌, ◌+◌, ◌-◌, ◌^◌, ◌<◌, ◌≤◌, ◌∷◌, [], true, false, length, IfErr, IfOk, OnErr, OnOk, None, Some};
+ghost use Rattle.std.specs.Prelude.{◌≡◌, ◌≢◌, ◌+◌, ◌-◌, ◌^◌, ◌<◌, ◌≤◌, ◌∷◌, [], true, false, length, Err, IfErr, IfOk, OnErr, OnOk, None, Some};
 ghost use Rattle.bptree_keys.specs.Contents.{has, put};
 ghost use Rattle.bptree_maps.specs.Keys.{holds, key_found};
 ghost use Rattle.bptree_tree.specs.Refusal.{pair_of};
-ghost use Rattle.bptree_callers.specs.Words.{HoldsEither, KeepsOthers, MovesOne, MovesOneKey, PutsLastOfEach};
+ghost use Rattle.bptree_tree.specs.declared.AppendError.TheVariants.{Full};
+ghost use Rattle.bptree_callers.specs.Words.{HoldsEither, KeepsOthers, MovesOne, MovesOneKey, PutsCloneOfLast, PutsLastOfEach};
 
 use bptree_arguments::argument::Argument;
 use bptree_keys::key::Key;
@@ -196,6 +197,89 @@ fn extend_with_keys_is_full<K: Key>(set: &mut BPlusTreeSet<K>, keys: Vec<K>) -> 
         Err(InsertError::Full(..)) => Some(true),
         Err(InsertError::OutOfMemory(..)) => Some(false),
         Ok(()) => None,
+    }
+}
+
+// Of the pairs of a vector the last one of each key stays, and other keys have the values they had. If
+// the call fails, the map is as it was. `Full` means that both have too many pairs together.
+fn puts_a_vector<K: Key, V: Drop, A: Argument<K>>(
+    map: &mut BPlusTreeMap<K, V, A>,
+    pairs: Vec<(K, V)>,
+) -> Result<(), AppendError>
+    ensures last { OnOk result (PutsLastOfEach K.cmp pairs.items map.new) }
+    ensures others { OnOk result (KeepsOthers K.cmp pairs.items map.old map.new) }
+    ensures failed { OnErr result (map.new ≡ map.old) }
+    ensures full { result ≡ Err Full → 2 ^ 64 - 1 < length map.old + length pairs.items }
+{
+    map.recall();
+    map.extend_from_vec(pairs)
+}
+
+// The same of clones of the pairs of a slice.
+fn puts_a_slice<K: Key, V: Clone + Drop, A: Argument<K>>(
+    map: &mut BPlusTreeMap<K, V, A>,
+    pairs: &[(K, V)],
+) -> Result<(), AppendError>
+    ensures last { OnOk result (PutsCloneOfLast K.cmp V.is_clone pairs.now map.new) }
+    ensures others { OnOk result (KeepsOthers K.cmp pairs.now map.old map.new) }
+    ensures failed { OnErr result (map.new ≡ map.old) }
+    ensures full { result ≡ Err Full → 2 ^ 64 - 1 < length map.old + length pairs.now }
+{
+    map.recall();
+    map.extend_from_slice(pairs)
+}
+
+// A set then holds what it held and the keys of a vector. If the call fails, it is as it was. `Full`
+// means that both have too many keys together.
+fn puts_keys_of_a_vector<K: Key>(set: &mut BPlusTreeSet<K>, keys: Vec<K>) -> Result<(), AppendError>
+    ensures held { OnOk result (HoldsEither K.cmp set.old keys.items set.new) }
+    ensures failed { OnErr result (set.new ≡ set.old) }
+    ensures full { result ≡ Err Full → 2 ^ 64 - 1 < length set.old + length keys.items }
+{
+    set.recall();
+    set.extend_from_vec(keys)
+}
+
+// The same of clones of the keys of a slice.
+fn puts_keys_of_a_slice<K: Key>(set: &mut BPlusTreeSet<K>, keys: &[K]) -> Result<(), AppendError>
+    ensures held { OnOk result (HoldsEither K.cmp set.old keys.now set.new) }
+    ensures failed { OnErr result (set.new ≡ set.old) }
+    ensures full { result ≡ Err Full → 2 ^ 64 - 1 < length set.old + length keys.now }
+{
+    set.recall();
+    set.extend_from_slice(keys)
+}
+
+// Of an empty slice and an empty vector nothing is put: that never fails, and nothing changes.
+fn puts_no_pairs<K: Key, V: Clone + Drop, A: Argument<K>>(
+    map: &mut BPlusTreeMap<K, V, A>,
+    pairs: Vec<(K, V)>,
+)
+    requires { pairs.items ≡ [] }
+    ensures { map.new ≡ map.old }
+{
+    match map.extend_from_slice(pairs.as_slice()) {
+        Ok(()) => {}
+        Err(_) => unreachable!(),
+    }
+    match map.extend_from_vec(pairs) {
+        Ok(()) => {}
+        Err(_) => unreachable!(),
+    }
+}
+
+// The same of a set.
+fn puts_no_keys<K: Key>(set: &mut BPlusTreeSet<K>, keys: Vec<K>)
+    requires { keys.items ≡ [] }
+    ensures { set.new ≡ set.old }
+{
+    match set.extend_from_slice(keys.as_slice()) {
+        Ok(()) => {}
+        Err(_) => unreachable!(),
+    }
+    match set.extend_from_vec(keys) {
+        Ok(()) => {}
+        Err(_) => unreachable!(),
     }
 }
 

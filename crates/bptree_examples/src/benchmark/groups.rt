@@ -91,7 +91,7 @@ where
     S::Argument: SearchArgument<Pair, Query = (Tuple2<u64>, usize)>,
     S::Argument: RankArgument<Pair, Rank = Option<(Tuple2<u64>, usize)>>,
 {
-    read_each(report, "get", &Get, tree, numbers)
+    read_each(report, "pairget", &Get, tree, numbers)
         && read_each(report, "at", &At, tree, numbers)
         && read_each(report, "rank", &Rank, tree, numbers)
         && read_each(report, "page", &Page, tree, numbers)

@@ -16,8 +16,8 @@ end_path-leaf-requires-clause-room g c =
     let low = low_tree g.S.K.Ord.cmp g.S.Argument.Argument.is_summary (g.S.NodeStore.slots c.tree.inside.store) c.tree.inside.height c.tree.inside.root c.tree.invariant.0 (few_of c.tree.inside.len _ c.tree.invariant.1 (omega arith)) in
     omega (arith, low, ap length c.clear.ensures)
 
-pub take_entry-requires : goal.take_entry-requires
-take_entry-requires g c =
+pub take_entry_by-requires : goal.take_entry_by-requires
+take_entry_by-requires g c =
     let total = g.met.S.K.Ord.total in
     let sum = g.S.Argument.Argument.is_summary in
     let tree = c.tree.inside in
@@ -57,11 +57,11 @@ returns-clause-removed g c =
     let here : slice_get (leaf_pairs (old.leaf leaf.0)) slot ≡ slice_get (pairs_at old tree.height tree.root) place = rw (c.get_leaf.ensures, stands) at in
     let pair = pair_there total sum old tree.height tree.root c.tree.invariant.0 few leaf slot within c.clear.new.self c.end_path-leaf.new.path c.clear.ensures (c.end_path-leaf.ensures.way slot) in
     let there = entry_there total sum old tree.height tree.root c.tree.invariant.0 few leaf slot within c.clear.new.self c.end_path-leaf.new.path c.clear.ensures (c.end_path-leaf.ensures.way slot) in
-    let taken = c.in_ok-take_entry.ensures.taken pair.0.0 (rw (← c.tree.view_is) there) in
+    let taken = c.in_ok-take_entry_by.ensures.taken pair.0.0 (rw (← c.tree.view_is) there) in
     rw (← c.tree.view_is) (left_there total sum old tree.height tree.root c.tree.invariant.0 few leaf slot within c.clear.new.self c.end_path-leaf.new.path c.clear.ensures (c.end_path-leaf.ensures.way slot) _ _ place here (rw (← c.tree.view_is) at taken.0) taken.1 (rw (← c.tree.view_is) at taken.2))
 
-pub returns-in_err-take_entry-clause-empty : goal.returns-in_err-take_entry-clause-empty
-returns-in_err-take_entry-clause-empty g c empty =
+pub returns-in_err-take_entry_by-clause-empty : goal.returns-in_err-take_entry_by-clause-empty
+returns-in_err-take_entry_by-clause-empty g c empty =
     let tree = c.tree.inside in
     let node = c.get_leaf.result.now in
     let at = end_pair g.S.K.Ord.cmp (g.S.NodeStore.slots tree.store) tree.height tree.root c.tree.invariant.0.tree c.end_path-leaf.result node c.get_leaf.ensures (is_back c.args.end) c.end_path-leaf.ensures.leaf in

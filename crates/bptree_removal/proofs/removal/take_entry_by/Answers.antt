@@ -1,7 +1,7 @@
 use Rattle.std.proofs.Common.{arith, refl}
 use Rattle.bptree_removal.proofs.EndPaths.{there_of, taken_from, entry_taken}
 use Rattle.bptree_removal.proofs.OneFewer.{one_fewer, place_within}
-use Rattle.bptree_removal.proofs.removal.take_entry.Goals as goal
+use Rattle.bptree_removal.proofs.removal.take_entry_by.Goals as goal
 
 pub take_out-requires : goal.take_out-requires
 take_out-requires g c =

@@ -1,0 +1,1288 @@
+/* The compiled part of the package sweep_bptree: maps and sets of any key over the maps of
+   sweep_bptree.h. The interpreter's lock is held over each call, and results are in memory of the
+   call, so that calls of several threads take turns.
+
+   While all keys are ints of 64 bits, the map of numbers holds them, each with its value's address.
+   The first other key moves all pairs to the map of byte strings. That holds the bytes of each key
+   (keys.h) and the address of an entry: the key object and its value.
+
+   Code of the caller runs where a key is encoded, where a reference is dropped, and where an object
+   is made that the garbage collector tracks. So a key is encoded before the map is read, references
+   are dropped after the map is whole again, and what is read from a map is held before an object is
+   made. */
+#include "keys.h"
+#include "sweep_bptree.h"
+#include <string.h>
+
+enum { BLOCK = 64, FIRST_BLOCK = 8 };
+
+/* What holds the pairs: nothing, one of the two ranges of 64 bits, or the map of byte strings. */
+typedef enum { HOLDS_NONE, HOLDS_SIGNED, HOLDS_UNSIGNED, HOLDS_ANY } Holder;
+
+/* What an iterator or a list has. */
+enum { KEYS, VALUES, ITEMS };
+
+typedef struct Map {
+    PyObject_HEAD
+    Holder holder;
+    bool has_values;  /* false: a set */
+    uint64_t version; /* grows by each change */
+    bptree numbers;
+    bptree_dict any;
+} Map;
+
+/* A key and its value, which is NULL in a set. */
+typedef struct Entry {
+    PyObject *key, *value;
+} Entry;
+
+static PyTypeObject *map_type, *set_type, *walk_type;
+/* A KeyError, as popitem raises it where there is no pair. It is a TypeError too, as dict raises it
+   where an index is given. */
+static PyObject *empty_error;
+
+static bool is_signed(const Map *map) { return map->holder == HOLDS_SIGNED; }
+static bool is_of_numbers(const Map *map) { return map->holder == HOLDS_SIGNED || map->holder == HOLDS_UNSIGNED; }
+static uint64_t word_of(const void *at) { return (uint64_t)(uintptr_t)at; }
+static PyObject *object_at(uint64_t word) { return (PyObject *)(uintptr_t)word; }
+static Entry *entry_at(uint64_t word) { return (Entry *)(uintptr_t)word; }
+
+static size_t length_of(Map *map) {
+    if (map->holder == HOLDS_NONE) return 0;
+    return map->holder == HOLDS_ANY ? bptree_dict_len(&map->any) : bptree_len(&map->numbers);
+}
+
+static int no_memory(void) {
+    PyErr_NoMemory();
+    return -1;
+}
+
+static Entry *make_entry(PyObject *key, PyObject *value) {
+    Entry *entry = PyMem_Malloc(sizeof *entry);
+    if (!entry) {
+        PyErr_NoMemory();
+        return NULL;
+    }
+    Py_INCREF(key);
+    Py_XINCREF(value);
+    *entry = (Entry){key, value};
+    return entry;
+}
+
+static void drop_entry(Entry *entry) {
+    Entry old = *entry;
+    PyMem_Free(entry);
+    Py_DECREF(old.key);
+    Py_XDECREF(old.value);
+}
+
+/* ---- what holds the pairs */
+
+/* Frees the two maps, and no reference. */
+static void free_holder(Map *map) {
+    if (is_of_numbers(map)) bptree_free(&map->numbers);
+    if (map->holder == HOLDS_ANY) bptree_dict_free(&map->any);
+    map->holder = HOLDS_NONE;
+}
+
+/* Takes the pairs out of a map, which is empty then. */
+static Map take_out(Map *map) {
+    Map old = *map;
+    map->holder = HOLDS_NONE;
+    map->numbers = (bptree){0};
+    map->any = (bptree_dict){0};
+    map->version++;
+    return old;
+}
+
+/* The values or entries from an index on, as words. */
+static size_t words_from(Map *map, size_t place, uint64_t *words, size_t n) {
+    bptree_pair first, pairs[BLOCK];
+    if (map->holder == HOLDS_NONE) return 0;
+    if (map->holder == HOLDS_ANY) return bptree_dict_values(&map->any, place, words, n);
+    if (!bptree_at(&map->numbers, place, &first)) return 0;
+    size_t count = bptree_range(&map->numbers, first.key, pairs, n < BLOCK ? n : BLOCK);
+    for (size_t i = 0; i < count; i++) words[i] = pairs[i].value;
+    return count;
+}
+
+/* Drops the references of pairs that were taken out, and frees what held them. */
+static void drop_all(Map *old) {
+    uint64_t words[BLOCK];
+    for (size_t place = 0, n; (n = words_from(old, place, words, BLOCK)); place += n) {
+        for (size_t i = 0; i < n; i++) {
+            if (old->holder == HOLDS_ANY) drop_entry(entry_at(words[i]));
+            else Py_XDECREF(object_at(words[i]));
+        }
+    }
+    free_holder(old);
+}
+
+/* An array of n members of a size. NULL with an exception if there is no memory. */
+static void *make_array(size_t n, size_t size) {
+    void *array = n <= PY_SSIZE_T_MAX / size ? PyMem_Malloc(n ? n * size : 1) : NULL;
+    if (!array) PyErr_NoMemory();
+    return array;
+}
+
+/* All pairs of a map of numbers. */
+static bptree_pair *all_pairs(Map *map, size_t n) {
+    bptree_pair *pairs = make_array(n, sizeof *pairs);
+    if (pairs) bptree_range(&map->numbers, 0, pairs, n);
+    return pairs;
+}
+
+/* Makes these pairs what a map holds, and neither takes nor drops a reference. */
+static int load_numbers(Map *map, Holder holder, const bptree_pair *pairs, size_t n) {
+    bptree numbers = {0};
+    if (!bptree_new(&numbers)) return no_memory();
+    if (!bptree_load(&numbers, pairs, n)) {
+        bptree_free(&numbers);
+        return no_memory();
+    }
+    free_holder(map);
+    map->numbers = numbers;
+    map->holder = holder;
+    map->version++;
+    return 0;
+}
+
+/* The bytes of keys, one key after another, and a record of each with its entry. */
+typedef struct Batch {
+    Bytes bytes;
+    bptree_record *records;
+    size_t n;
+} Batch;
+
+static int batch_begin(Batch *batch, size_t room) {
+    bytes_begin(&batch->bytes);
+    batch->n = 0;
+    batch->records = make_array(room, sizeof *batch->records);
+    return batch->records ? 0 : -1;
+}
+
+/* The results are those of key_encode. */
+static int batch_add(Batch *batch, PyObject *key, PyObject *value) {
+    size_t begun = batch->bytes.n;
+    int result = key_encode(&batch->bytes, key);
+    Entry *entry = result ? NULL : make_entry(key, value);
+    if (!entry) return result ? result : KEY_FAILED;
+    batch->records[batch->n++] = (bptree_record){batch->bytes.n - begun, word_of(entry)};
+    return KEY_GOOD;
+}
+
+static void batch_end(Batch *batch, bool with_entries) {
+    for (size_t i = 0; i < batch->n && with_entries; i++) drop_entry(entry_at(batch->records[i].value));
+    bytes_end(&batch->bytes);
+    PyMem_Free(batch->records);
+}
+
+/* Makes a batch what a map holds, and drops no reference of what it held. 1: some keys are equal,
+   and nothing has changed. */
+static int batch_load(Batch *batch, Map *map) {
+    bptree_dict any = {0};
+    if (!bptree_dict_new(&any)) return no_memory();
+    bool is_loaded = bptree_dict_load(&any, batch->bytes.at, batch->bytes.n, batch->records, batch->n);
+    if (!is_loaded || bptree_dict_len(&any) < batch->n) {
+        bptree_dict_free(&any);
+        return is_loaded ? 1 : no_memory();
+    }
+    free_holder(map);
+    map->any = any;
+    map->holder = HOLDS_ANY;
+    map->version++;
+    return 0;
+}
+
+/* Moves all pairs of a map of numbers to a map of byte strings. On failure nothing has changed. */
+static int widen(Map *map) {
+    size_t n = length_of(map);
+    bptree_pair *pairs = is_of_numbers(map) ? all_pairs(map, n) : make_array(0, 1);
+    if (!pairs) return -1;
+    Batch batch;
+    int result = batch_begin(&batch, n);
+    for (size_t i = 0; i < n && !result; i++) {
+        PyObject *key = key_of_word(pairs[i].key, is_signed(map));
+        result = key ? batch_add(&batch, key, object_at(pairs[i].value)) : -1;
+        Py_XDECREF(key);
+    }
+    if (!result) result = batch_load(&batch, map);
+    batch_end(&batch, result != 0);
+    /* (each entry has a reference to its value that the map of numbers had before) */
+    for (size_t i = 0; i < n && !result; i++) Py_XDECREF(object_at(pairs[i].value));
+    PyMem_Free(pairs);
+    return result;
+}
+
+/* Makes room for an int of 64 bits that is outside the map's range. 1: the map has keys of both
+   ranges then, and nothing has changed. */
+static int shift(Map *map) {
+    bptree_pair end;
+    size_t n = length_of(map);
+    bool was_signed = is_signed(map), is_there = was_signed ? bptree_first(&map->numbers, &end) : bptree_last(&map->numbers, &end);
+    if (is_there && end.key >> 63 != was_signed) return 1;
+    bptree_pair *pairs = all_pairs(map, n);
+    for (size_t i = 0; pairs && i < n; i++) pairs[i].key ^= UINT64_C(1) << 63;
+    int result = pairs ? load_numbers(map, was_signed ? HOLDS_UNSIGNED : HOLDS_SIGNED, pairs, n) : -1;
+    PyMem_Free(pairs);
+    return result;
+}
+
+/* ---- one key */
+
+/* Where a key is: a spot in a map of numbers, its bytes in a map of byte strings, or nowhere. */
+enum { AT_WORD = SPOT_AT, BEFORE_WORD = SPOT_BEFORE, BEHIND_ALL = SPOT_BEHIND, BY_BYTES, NO_KEY };
+
+/* Returns one of these, or -1 with an exception. Code of the caller may run before the map is read,
+   and not after. */
+static int locate(Map *map, PyObject *key, Bytes *bytes, uint64_t *word) {
+    bytes_begin(bytes);
+    if (PyLong_CheckExact(key) && is_of_numbers(map)) return key_spot_of_int(key, is_signed(map), word);
+    int result = key_encode(bytes, key);
+    if (result) return result == KEY_NONE ? NO_KEY : -1;
+    if (map->holder == HOLDS_NONE) return BEHIND_ALL;
+    return map->holder == HOLDS_ANY ? BY_BYTES : key_spot(bytes, is_signed(map), word);
+}
+
+/* 1: the word of the value or the entry. 0: the key is absent. -1: an exception. */
+static int find(Map *map, PyObject *key, uint64_t *found) {
+    Bytes bytes;
+    uint64_t word;
+    int where = locate(map, key, &bytes, &word), result = where < 0 ? -1 : 0;
+    if (where == AT_WORD) result = bptree_get(&map->numbers, word, found);
+    if (where == BY_BYTES) result = bptree_dict_get(&map->any, bytes.at, bytes.n, found);
+    bytes_end(&bytes);
+    return result;
+}
+
+/* The value of a word that `find` wrote, borrowed. */
+static PyObject *value_of(const Map *map, uint64_t word) { return map->holder == HOLDS_ANY ? entry_at(word)->value : object_at(word); }
+
+/* How many keys are smaller, and whether the key is there. -1: an exception. */
+static Py_ssize_t rank_of(Map *map, PyObject *key, bool *is_there) {
+    Bytes bytes;
+    uint64_t word;
+    size_t smaller = 0;
+    int where = locate(map, key, &bytes, &word);
+    *is_there = false;
+    if (where == AT_WORD) *is_there = bptree_rank(&map->numbers, word, &smaller);
+    if (where == BEFORE_WORD) bptree_rank(&map->numbers, word, &smaller);
+    if (where == BEHIND_ALL) smaller = length_of(map);
+    if (where == BY_BYTES) *is_there = bptree_dict_rank(&map->any, bytes.at, bytes.n, &smaller);
+    if (where == NO_KEY) key_raise(&bytes);
+    bytes_end(&bytes);
+    return where < 0 || where == NO_KEY ? -1 : (Py_ssize_t)smaller;
+}
+
+/* Stores at a word of the map of numbers. */
+static int put_word(Map *map, uint64_t word, PyObject *value) {
+    uint64_t old = 0;
+    uint32_t code = bptree_put(&map->numbers, word, word_of(value), &old);
+    if (code == BPTREE_REFUSED) return no_memory();
+    map->version++;
+    Py_XINCREF(value);
+    if (code == BPTREE_FOUND) Py_XDECREF(object_at(old));
+    return 0;
+}
+
+static int put_bytes(Map *map, const Bytes *bytes, PyObject *key, PyObject *value) {
+    uint64_t old = 0;
+    Entry *entry = make_entry(key, value);
+    if (!entry) return -1;
+    uint32_t code = bptree_dict_put(&map->any, bytes->at, bytes->n, word_of(entry), &old);
+    if (code == BPTREE_REFUSED) {
+        drop_entry(entry);
+        return no_memory();
+    }
+    map->version++;
+    if (code == BPTREE_FOUND) {
+        /* the key that was there stays, as in a dict */
+        Entry *gone = entry_at(old);
+        PyObject *given = entry->key;
+        entry->key = gone->key;
+        gone->key = given;
+        drop_entry(gone);
+    }
+    return 0;
+}
+
+/* Stores a pair whose key is an int itself in a map of none or of numbers. 1: it has to be widened,
+   and nothing has changed. */
+static int put_int(Map *map, PyObject *key, PyObject *value) {
+    uint64_t word;
+    bool is_fresh = map->holder == HOLDS_NONE, fits_signed = key_spot_of_int(key, true, &word) == SPOT_AT;
+    if (is_fresh) {
+        if (!fits_signed && key_spot_of_int(key, false, &word) != SPOT_AT) return 1;
+        if (!bptree_new(&map->numbers)) return no_memory();
+        map->holder = fits_signed ? HOLDS_SIGNED : HOLDS_UNSIGNED;
+    } else if (key_spot_of_int(key, is_signed(map), &word) != SPOT_AT) {
+        if (key_spot_of_int(key, !is_signed(map), &word) != SPOT_AT) return 1;
+        int result = shift(map);
+        if (result) return result;
+    }
+    int result = put_word(map, word, value);
+    if (result && is_fresh) free_holder(map);
+    return result;
+}
+
+/* Stores a pair. On failure there is an exception, and the pairs are as before. */
+static int put(Map *map, PyObject *key, PyObject *value) {
+    uint64_t word;
+    if (PyLong_CheckExact(key) && is_of_numbers(map) && key_spot_of_int(key, is_signed(map), &word) == SPOT_AT) {
+        return put_word(map, word, value);
+    }
+    if (key_is_by_index(key)) {
+        PyObject *number = PyNumber_Index(key);
+        int result = number ? put(map, number, value) : -1;
+        Py_XDECREF(number);
+        return result;
+    }
+    if (PyLong_CheckExact(key) && map->holder != HOLDS_ANY) {
+        int result = put_int(map, key, value);
+        if (result <= 0) return result;
+    }
+    Bytes bytes;
+    int where = locate(map, key, &bytes, &word), result;
+    if (where == NO_KEY) key_raise(&bytes);
+    if (where < 0 || where == NO_KEY) result = -1;
+    else if (where == AT_WORD && bptree_contains(&map->numbers, word)) result = put_word(map, word, value);
+    else {
+        /* (to encode a large int makes objects, so the map is looked at again after that) */
+        result = bytes.n ? 0 : key_encode(&bytes, key);
+        if (!result && map->holder != HOLDS_ANY) result = widen(map);
+        if (!result) result = put_bytes(map, &bytes, key, value);
+    }
+    bytes_end(&bytes);
+    return result;
+}
+
+/* 1: the key is gone, and *value is the caller's. 0: it was absent. -1: an exception. */
+static int take(Map *map, PyObject *key, PyObject **value) {
+    Bytes bytes;
+    uint64_t word, old = 0;
+    int where = locate(map, key, &bytes, &word);
+    uint32_t code = BPTREE_NONE;
+    if (where == AT_WORD) code = bptree_del(&map->numbers, word, &old);
+    if (where == BY_BYTES) code = bptree_dict_del(&map->any, bytes.at, bytes.n, &old);
+    bytes_end(&bytes);
+    if (code == BPTREE_REFUSED) return no_memory();
+    if (where < 0) return -1;
+    if (code == BPTREE_NONE) return 0;
+    map->version++;
+    if (map->holder == HOLDS_ANY) {
+        Entry *entry = entry_at(old);
+        *value = entry->value;
+        entry->value = NULL;
+        drop_entry(entry);
+    } else *value = object_at(old);
+    return 1;
+}
+
+/* ---- pairs by their index */
+
+/* What is at an index, of which there is one: the references are the caller's. The value of a set
+   is NULL. Makes nothing that the garbage collector tracks. */
+static int hold_at(Map *map, size_t place, PyObject **key, PyObject **value) {
+    if (map->holder == HOLDS_ANY) {
+        uint64_t word = 0;
+        bptree_dict_values(&map->any, place, &word, 1);
+        *key = entry_at(word)->key;
+        *value = entry_at(word)->value;
+        Py_INCREF(*key);
+    } else {
+        bptree_pair pair = {0, 0};
+        bptree_at(&map->numbers, place, &pair);
+        *key = key_of_word(pair.key, is_signed(map));
+        *value = object_at(pair.value);
+        if (!*key) return -1;
+    }
+    Py_XINCREF(*value);
+    return 0;
+}
+
+/* Makes a pair of two references that are the caller's, and are not then. */
+static PyObject *pair_of(PyObject *key, PyObject *value) {
+    PyObject *pair = key && value ? PyTuple_Pack(2, key, value) : NULL;
+    Py_XDECREF(key);
+    Py_XDECREF(value);
+    return pair;
+}
+
+/* The key, value or pair of two references that are the caller's, and are not then. */
+static PyObject *part_of(int what, PyObject *key, PyObject *value) {
+    if (what == ITEMS) return pair_of(key, value);
+    Py_XDECREF(what == KEYS ? value : key);
+    return what == KEYS ? key : value;
+}
+
+static PyObject *part_at(Map *map, int what, size_t place) {
+    PyObject *key, *value;
+    return hold_at(map, place, &key, &value) ? NULL : part_of(what, key, value);
+}
+
+/* The index from 0 on, of one that may count from the end. -1: an IndexError. */
+static Py_ssize_t place_of(Map *map, PyObject *index) {
+    Py_ssize_t place = index ? PyNumber_AsSsize_t(index, PyExc_IndexError) : -1, length = (Py_ssize_t)length_of(map);
+    if (place == -1 && PyErr_Occurred()) return -1;
+    if (place < 0) place += length;
+    if (place >= 0 && place < length) return place;
+    PyErr_SetString(PyExc_IndexError, "list index out of range");
+    return -1;
+}
+
+/* Removes what is at an index, of which there is one. The references are the caller's. */
+static int take_at(Map *map, size_t place, PyObject **key, PyObject **value) {
+    uint64_t old = 0;
+    bptree_pair pair;
+    if (map->holder == HOLDS_ANY) {
+        if (bptree_dict_remove_at(&map->any, place, &old) != BPTREE_FOUND) return no_memory();
+        Entry *entry = entry_at(old);
+        *key = entry->key;
+        *value = entry->value;
+        PyMem_Free(entry);
+    } else {
+        bptree_at(&map->numbers, place, &pair);
+        if (!(*key = key_of_word(pair.key, is_signed(map)))) return -1;
+        bptree_remove_at(&map->numbers, place, &pair);
+        *value = object_at(pair.value);
+    }
+    map->version++;
+    return 0;
+}
+
+/* The keys, values or pairs from an index to another one, as they are at one moment. */
+static PyObject *list_of(Map *map, int what, size_t from, size_t to) {
+    size_t length = length_of(map), n = to > length ? length : to;
+    n = n > from ? n - from : 0;
+    PyObject **held = make_array(2 * n, sizeof *held), *list = NULL;
+    size_t count = 0, done = 0;
+    if (!held) return NULL;
+    /* (in blocks, with no object made that is tracked) */
+    bptree_pair pairs[BLOCK], first;
+    uint64_t words[BLOCK];
+    for (bool is_good = true; count < n && is_good;) {
+        size_t more = n - count < BLOCK ? n - count : BLOCK;
+        if (map->holder == HOLDS_ANY) bptree_dict_values(&map->any, from + count, words, more);
+        else {
+            bptree_at(&map->numbers, from + count, &first);
+            bptree_range(&map->numbers, first.key, pairs, more);
+        }
+        for (size_t i = 0; i < more && is_good; i++) {
+            bool is_any = map->holder == HOLDS_ANY;
+            PyObject *key = NULL, *value = is_any ? entry_at(words[i])->value : object_at(pairs[i].value);
+            if (what != VALUES) {
+                key = is_any ? entry_at(words[i])->key : key_of_word(pairs[i].key, is_signed(map));
+                if (is_any) Py_INCREF(key);
+                if (!(is_good = key)) break;
+            }
+            if (what == KEYS) value = NULL;
+            Py_XINCREF(value);
+            held[2 * count] = key;
+            held[2 * count++ + 1] = value;
+        }
+    }
+    if (count == n) list = PyList_New((Py_ssize_t)n);
+    for (bool is_good = list; done < n && is_good; done++) {
+        PyObject *part = part_of(what, held[2 * done], held[2 * done + 1]);
+        is_good = part && !PyList_SetItem(list, (Py_ssize_t)done, part);
+        if (!is_good) Py_CLEAR(list);
+    }
+    for (; done < count; done++) {
+        Py_XDECREF(held[2 * done]);
+        Py_XDECREF(held[2 * done + 1]);
+    }
+    PyMem_Free(held);
+    return list;
+}
+
+/* The keys, values or pairs at a slice of indices. */
+static PyObject *list_of_slice(Map *map, int what, PyObject *slice) {
+    Py_ssize_t from, to, step;
+    if (PySlice_Unpack(slice, &from, &to, &step)) return NULL;
+    Py_ssize_t n = PySlice_AdjustIndices((Py_ssize_t)length_of(map), &from, &to, step);
+    if (step == 1 || !n) return list_of(map, what, (size_t)from, (size_t)(from + n));
+    Py_ssize_t low = step > 0 ? from : from + (n - 1) * step, high = step > 0 ? from + (n - 1) * step : from;
+    PyObject *between = list_of(map, what, (size_t)low, (size_t)high + 1);
+    PyObject *number = between ? PyLong_FromSsize_t(step) : NULL;
+    PyObject *every = number ? PySlice_New(NULL, NULL, number) : NULL, *list = every ? PyObject_GetItem(between, every) : NULL;
+    Py_XDECREF(every);
+    Py_XDECREF(number);
+    Py_XDECREF(between);
+    return list;
+}
+
+/* ---- iterators */
+
+/* The keys from one key on to another one, with an index of both while the map is unchanged. After
+   a change the iterator goes on from the key that it returned last. So a block of pairs needs no
+   references: it is read only while the map is unchanged. */
+typedef struct Walk {
+    PyObject_HEAD
+    Map *map; /* NULL: the end was reached */
+    int what;
+    bool is_back, is_start_in, is_bound_in, is_start_word, is_word_signed;
+    uint64_t version, start_word; /* start_word: the key to go on from, in place of `start` */
+    PyObject *start, *bound;      /* the key to go on from, and the last one: NULL for none */
+    size_t place, end;            /* the indices that are not in a block yet */
+    size_t at, count, room;       /* of the block: the next pair, how many; how many the next takes */
+    bptree_pair pairs[BLOCK];     /* of a map of byte strings the values are the entries */
+} Walk;
+
+/* How many keys are below an end of a range, or all or none of them if there is no such end. */
+static Py_ssize_t count_below(Map *map, PyObject *end, bool is_in, Py_ssize_t without) {
+    bool is_there;
+    if (!end) return without;
+    Py_INCREF(end);
+    Py_ssize_t count = rank_of(map, end, &is_there);
+    Py_DECREF(end);
+    return count < 0 ? -1 : count + (is_there && is_in);
+}
+
+/* Finds the indices of both ends. Returns -1 with an exception. To encode a key may run code that
+   uses this iterator. */
+static int walk_find(Walk *walk, Map *map) {
+    if (walk->is_start_word) {
+        if (!(walk->start = key_of_word(walk->start_word, walk->is_word_signed))) return -1;
+        walk->is_start_word = false;
+    }
+    PyObject *low = walk->is_back ? walk->bound : walk->start, *high = walk->is_back ? walk->start : walk->bound;
+    bool is_low_out = walk->is_back ? !walk->is_bound_in : !walk->is_start_in;
+    bool is_high_in = walk->is_back ? walk->is_start_in : walk->is_bound_in;
+    Py_XINCREF(high);
+    Py_ssize_t from = count_below(map, low, is_low_out, 0);
+    Py_ssize_t to = from < 0 ? -1 : count_below(map, high, is_high_in, PY_SSIZE_T_MAX);
+    Py_XDECREF(high);
+    if (to < 0) return -1;
+    walk->place = (size_t)from;
+    walk->end = (size_t)to;
+    walk->version = map->version;
+    walk->at = walk->count = 0;
+    walk->room = FIRST_BLOCK;
+    return 0;
+}
+
+/* Reads the next block. Returns whether there is one. */
+static bool walk_read(Walk *walk) {
+    Map *map = walk->map;
+    size_t length = length_of(map);
+    if (walk->end > length) walk->end = length;
+    size_t n = walk->end > walk->place ? walk->end - walk->place : 0;
+    n = n < walk->room ? n : walk->room;
+    walk->at = walk->count = 0;
+    walk->room = walk->room * 2 < BLOCK ? walk->room * 2 : BLOCK;
+    if (!n) return false;
+    size_t place = walk->is_back ? walk->end - n : walk->place;
+    if (map->holder == HOLDS_ANY) {
+        /* (entries and keys lie anywhere in memory, so they are asked for early) */
+        uint64_t words[BLOCK];
+        walk->count = bptree_dict_values(&map->any, place, words, n);
+        for (size_t i = 0; i < walk->count; i++) {
+            walk->pairs[walk->is_back ? walk->count - 1 - i : i].value = words[i];
+            __builtin_prefetch(entry_at(words[i]));
+        }
+    } else {
+        bptree_pair first = {0, 0};
+        bptree_at(&map->numbers, walk->is_back ? walk->end - 1 : place, &first);
+        walk->count = walk->is_back ? bptree_range_back(&map->numbers, first.key, walk->pairs, n)
+                                    : bptree_range(&map->numbers, first.key, walk->pairs, n);
+    }
+    if (walk->is_back) walk->end -= walk->count;
+    else walk->place += walk->count;
+    return walk->count > 0;
+}
+
+static PyObject *walk_next(PyObject *self) {
+    Walk *walk = (Walk *)self;
+    Map *map = walk->map;
+    if (!map) return NULL;
+    if (walk->version != map->version) {
+        Py_INCREF((PyObject *)map);
+        int result = walk_find(walk, map);
+        Py_DECREF((PyObject *)map);
+        if (result) return NULL;
+    }
+    /* (the search may have run code that reached the end of this iterator) */
+    if (!walk->map || (walk->at == walk->count && !walk_read(walk))) {
+        Py_CLEAR(walk->map);
+        return NULL;
+    }
+    bptree_pair pair = walk->pairs[walk->at++];
+    PyObject *key = NULL, *value = NULL, *old = walk->start;
+    if (map->holder == HOLDS_ANY) {
+        key = entry_at(pair.value)->key;
+        value = entry_at(pair.value)->value;
+        if (walk->at + 3 < walk->count) __builtin_prefetch(entry_at(walk->pairs[walk->at + 3].value)->key);
+        Py_INCREF(key);
+        Py_INCREF(key);
+        walk->start = key;
+        walk->is_start_word = false;
+    } else {
+        key = walk->what == VALUES ? NULL : key_of_word(pair.key, is_signed(map));
+        value = object_at(pair.value);
+        if (!key && walk->what != VALUES) {
+            walk->at--;
+            return NULL;
+        }
+        walk->start = NULL;
+        walk->start_word = pair.key;
+        walk->is_word_signed = is_signed(map);
+        walk->is_start_word = true;
+    }
+    walk->is_start_in = false;
+    Py_XINCREF(value);
+    Py_XDECREF(old);
+    return part_of(walk->what, key, value);
+}
+
+static int walk_traverse(PyObject *self, visitproc visit, void *arg) {
+    Walk *walk = (Walk *)self;
+    Py_VISIT(Py_TYPE(self));
+    Py_VISIT((PyObject *)walk->map);
+    Py_VISIT(walk->start);
+    Py_VISIT(walk->bound);
+    return 0;
+}
+
+static int walk_clear(PyObject *self) {
+    Walk *walk = (Walk *)self;
+    Py_CLEAR(walk->map);
+    Py_CLEAR(walk->start);
+    Py_CLEAR(walk->bound);
+    return 0;
+}
+
+static void walk_dealloc(PyObject *self) {
+    PyTypeObject *type = Py_TYPE(self);
+    PyObject_GC_UnTrack(self);
+    walk_clear(self);
+    PyObject_GC_Del(self);
+    Py_DECREF(type);
+}
+
+/* An iterator from one end to the other, each of them a key or NULL. */
+static Walk *walk_over(Map *map, int what, bool is_back, PyObject *low, bool is_low_in, PyObject *high, bool is_high_in) {
+    Walk *walk = PyObject_GC_New(Walk, walk_type);
+    if (!walk) return NULL;
+    PyObject *start = is_back ? high : low, *bound = is_back ? low : high;
+    Py_INCREF((PyObject *)map);
+    Py_XINCREF(start);
+    Py_XINCREF(bound);
+    walk->map = map;
+    walk->what = what;
+    walk->is_back = is_back;
+    walk->start = start;
+    walk->bound = bound;
+    walk->is_start_in = is_back ? is_high_in : is_low_in;
+    walk->is_bound_in = is_back ? is_low_in : is_high_in;
+    walk->is_start_word = walk->is_word_signed = false;
+    walk->start_word = 0;
+    PyObject_GC_Track((PyObject *)walk);
+    if (!walk_find(walk, map)) return walk;
+    Py_DECREF((PyObject *)walk);
+    return NULL;
+}
+
+/* ---- arguments */
+
+/* Writes the arguments of a call to `found`: NULL for each that is not given. They are named in
+   `names`, of which the first `least` must be given and may not be named. */
+static int arguments(const char *call, PyObject *const *given, Py_ssize_t n, PyObject *keywords, const char *const *names, Py_ssize_t least, PyObject **found) {
+    Py_ssize_t most = 0, named = keywords ? PyTuple_Size(keywords) : 0;
+    for (; names[most]; most++) found[most] = most < n ? given[most] : NULL;
+    if (n > most || n < least) {
+        PyErr_Format(PyExc_TypeError, "%s() takes from %zd to %zd arguments, and %zd were given", call, least, most, n);
+        return -1;
+    }
+    for (Py_ssize_t i = 0; i < named; i++) {
+        PyObject *name = PyTuple_GetItem(keywords, i);
+        Py_ssize_t at = least;
+        while (at < most && PyUnicode_CompareWithASCIIString(name, names[at])) at++;
+        if (at == most || found[at]) {
+            PyErr_Format(PyExc_TypeError, at == most ? "%s() has no argument %R to be named" : "%s() got the argument %R twice", call, name);
+            return -1;
+        }
+        found[at] = given[n + i];
+    }
+    return 0;
+}
+
+#define ARGUMENTS PyObject *self, PyObject *const *given, Py_ssize_t n, PyObject *keywords
+#define TAKE(call, least, ...) \
+    static const char *const names[] = {__VA_ARGS__, NULL}; \
+    PyObject *found[sizeof names / sizeof *names]; \
+    if (arguments(call, given, n, keywords, names, least, found)) return NULL
+
+/* ---- what maps and sets share */
+
+/* (subclasses in Python alone are made: their deallocation bounds the depth of maps in maps) */
+static PyObject *make(PyTypeObject *type, bool has_values) {
+    if (type == map_type || type == set_type) return PyErr_Format(PyExc_TypeError, "only a subclass in Python is made");
+    allocfunc allocate = (allocfunc)PyType_GetSlot(type, Py_tp_alloc);
+    Map *map = (Map *)allocate(type, 0);
+    if (map) map->has_values = has_values;
+    return (PyObject *)map;
+}
+
+static int shared_traverse(PyObject *self, visitproc visit, void *arg) {
+    Map *map = (Map *)self;
+    uint64_t words[BLOCK];
+    Py_VISIT(Py_TYPE(self));
+    if (is_of_numbers(map) && !map->has_values) return 0;
+    for (size_t place = 0, n; (n = words_from(map, place, words, BLOCK)); place += n) {
+        for (size_t i = 0; i < n; i++) {
+            if (map->holder == HOLDS_ANY) Py_VISIT(entry_at(words[i])->key);
+            Py_VISIT(map->holder == HOLDS_ANY ? entry_at(words[i])->value : object_at(words[i]));
+        }
+    }
+    return 0;
+}
+
+static int shared_clear(PyObject *self) {
+    Map old = take_out((Map *)self);
+    drop_all(&old);
+    return 0;
+}
+
+static void shared_dealloc(PyObject *self) {
+    PyTypeObject *type = Py_TYPE(self);
+    PyObject_GC_UnTrack(self);
+    shared_clear(self);
+    freefunc release = (freefunc)PyType_GetSlot(type, Py_tp_free);
+    release(self);
+    Py_DECREF(type);
+}
+
+static Py_ssize_t shared_length(PyObject *self) { return (Py_ssize_t)length_of((Map *)self); }
+
+static int shared_contains(PyObject *self, PyObject *key) {
+    uint64_t word;
+    return find((Map *)self, key, &word);
+}
+
+static PyObject *shared_iter(PyObject *self) { return (PyObject *)walk_over((Map *)self, KEYS, false, NULL, true, NULL, true); }
+
+static PyObject *shared_reversed(PyObject *self, PyObject *none) {
+    (void)none;
+    return (PyObject *)walk_over((Map *)self, KEYS, true, NULL, true, NULL, true);
+}
+
+static PyObject *shared_clear_call(PyObject *self, PyObject *none) {
+    (void)none;
+    shared_clear(self);
+    Py_RETURN_NONE;
+}
+
+static PyObject *rank_or_behind(PyObject *self, PyObject *key, bool is_behind) {
+    Py_ssize_t count = count_below((Map *)self, key, is_behind, 0);
+    return count < 0 ? NULL : PyLong_FromSsize_t(count);
+}
+
+static PyObject *shared_rank(PyObject *self, PyObject *key) { return rank_or_behind(self, key, false); }
+
+static PyObject *shared_bisect_right(PyObject *self, PyObject *key) { return rank_or_behind(self, key, true); }
+
+static PyObject *shared_index(ARGUMENTS) {
+    TAKE("index", 1, "key", "start", "stop");
+    Map *map = (Map *)self;
+    uint64_t word;
+    Py_ssize_t bounds[2] = {0, PY_SSIZE_T_MAX};
+    for (int i = 0; i < 2; i++) {
+        if (!found[1 + i] || found[1 + i] == Py_None) continue;
+        bounds[i] = PyNumber_AsSsize_t(found[1 + i], NULL);
+        if (bounds[i] == -1 && PyErr_Occurred()) return NULL;
+        if (bounds[i] < 0) bounds[i] += (Py_ssize_t)length_of(map);
+    }
+    int result = find(map, found[0], &word);
+    bool is_there = false;
+    Py_ssize_t rank = result > 0 ? rank_of(map, found[0], &is_there) : 0;
+    if (result < 0 || rank < 0) return NULL;
+    if (is_there && rank >= bounds[0] && rank < bounds[1]) return PyLong_FromSsize_t(rank);
+    PyErr_Format(PyExc_ValueError, "%R is not there", found[0]);
+    return NULL;
+}
+
+static PyObject *shared_range_len(ARGUMENTS) {
+    TAKE("range_len", 0, "minimum", "maximum");
+    Map *map = (Map *)self;
+    PyObject *low = found[0] == Py_None ? NULL : found[0], *high = found[1] == Py_None ? NULL : found[1];
+    Py_ssize_t from = count_below(map, low, false, 0);
+    Py_ssize_t to = from < 0 ? -1 : count_below(map, high, false, (Py_ssize_t)length_of(map));
+    return to < 0 ? NULL : PyLong_FromSsize_t(to > from ? to - from : 0);
+}
+
+static int truth(PyObject *object, bool *is_true) {
+    int result = object ? PyObject_IsTrue(object) : *is_true;
+    *is_true = result > 0;
+    return result < 0 ? -1 : 0;
+}
+
+/* The iterator of irange and irange_items. */
+static PyObject *some(PyObject *self, PyObject *const *found, int what) {
+    bool is_in[2] = {true, true}, is_back = false;
+    PyObject *both = found[2] ? PySequence_Tuple(found[2]) : NULL;
+    if (found[2] && !both) return NULL;
+    if (both && PyTuple_Size(both) != 2) {
+        Py_DECREF(both);
+        PyErr_SetString(PyExc_ValueError, "inclusive has two members");
+        return NULL;
+    }
+    int result = truth(found[3], &is_back);
+    for (int i = 0; i < 2 && both && !result; i++) result = truth(PyTuple_GetItem(both, i), &is_in[i]);
+    Py_XDECREF(both);
+    PyObject *low = found[0] == Py_None ? NULL : found[0], *high = found[1] == Py_None ? NULL : found[1];
+    return result ? NULL : (PyObject *)walk_over((Map *)self, what, is_back, low, is_in[0], high, is_in[1]);
+}
+
+static PyObject *shared_irange(ARGUMENTS) {
+    TAKE("irange", 0, "minimum", "maximum", "inclusive", "reverse");
+    return some(self, found, KEYS);
+}
+
+static PyObject *shared_islice(ARGUMENTS) {
+    TAKE("islice", 0, "start", "stop", "reverse");
+    Map *map = (Map *)self;
+    bool is_back = false;
+    Py_ssize_t from, to, step;
+    PyObject *slice = truth(found[2], &is_back) ? NULL : PySlice_New(found[0], found[1], NULL);
+    int result = slice ? PySlice_Unpack(slice, &from, &to, &step) : -1;
+    Py_XDECREF(slice);
+    if (result) return NULL;
+    bool is_some = PySlice_AdjustIndices((Py_ssize_t)length_of(map), &from, &to, step) > 0;
+    PyObject *low = is_some ? part_at(map, KEYS, (size_t)from) : NULL;
+    PyObject *high = low ? part_at(map, KEYS, (size_t)to - 1) : NULL;
+    Walk *walk = is_some && !high ? NULL : walk_over(map, KEYS, is_back, low, true, high, true);
+    if (walk && !is_some) Py_CLEAR(walk->map);
+    Py_XDECREF(low);
+    Py_XDECREF(high);
+    return (PyObject *)walk;
+}
+
+static int what_of(const Map *map, PyObject *what) {
+    long number = PyLong_AsLong(what);
+    if (number >= KEYS && number <= (map->has_values ? ITEMS : KEYS)) return (int)number;
+    if (!PyErr_Occurred()) PyErr_SetString(PyExc_TypeError, "0, 1 and 2 stand for keys, values and items");
+    return -1;
+}
+
+static PyObject *shared_list(PyObject *self, PyObject *given) {
+    int what = what_of((Map *)self, given);
+    return what < 0 ? NULL : list_of((Map *)self, what, 0, PY_SSIZE_T_MAX);
+}
+
+static PyObject *shared_walk(ARGUMENTS) {
+    TAKE("_walk", 2, "what", "reverse");
+    bool is_back = false;
+    int what = what_of((Map *)self, found[0]);
+    if (what < 0 || truth(found[1], &is_back)) return NULL;
+    return (PyObject *)walk_over((Map *)self, what, is_back, NULL, true, NULL, true);
+}
+
+/* What is at an index or a slice of them. */
+static PyObject *part_by(Map *map, int what, PyObject *index) {
+    if (PySlice_Check(index)) return list_of_slice(map, what, index);
+    Py_ssize_t place = place_of(map, index);
+    return place < 0 ? NULL : part_at(map, what, (size_t)place);
+}
+
+static PyObject *shared_at(ARGUMENTS) {
+    TAKE("_at", 2, "what", "index");
+    int what = what_of((Map *)self, found[0]);
+    return what < 0 ? NULL : part_by((Map *)self, what, found[1]);
+}
+
+static PyObject *shared_swap(PyObject *self, PyObject *given) {
+    if (!PyObject_TypeCheck(given, Py_TYPE(self))) return PyErr_Format(PyExc_TypeError, "_swap() takes an object of the same type");
+    Map *map = (Map *)self, *other = (Map *)given, old = *map;
+    map->holder = other->holder, map->numbers = other->numbers, map->any = other->any, map->version++;
+    other->holder = old.holder, other->numbers = old.numbers, other->any = old.any, other->version++;
+    Py_RETURN_NONE;
+}
+
+/* ---- many keys at once */
+
+/* Copies all pairs of another map or set into an empty one. */
+static int copy_any(Map *map, Map *from) {
+    size_t n = length_of(from);
+    Batch batch;
+    int result = batch_begin(&batch, n);
+    while (batch.n < n && !result) {
+        Bytes *bytes = &batch.bytes;
+        size_t more = bptree_dict_page(&from->any, batch.n, bytes->at + bytes->n, bytes->room - bytes->n, batch.records + batch.n, n - batch.n);
+        if (!more) result = bytes_grow(bytes, bytes->room - bytes->n + 1);
+        for (; more && !result; more--) {
+            bptree_record *record = &batch.records[batch.n];
+            Entry *entry = entry_at(record->value), *copy = make_entry(entry->key, map->has_values ? entry->value : NULL);
+            if (!copy) result = -1;
+            else {
+                record->value = word_of(copy);
+                bytes->n += record->length;
+                batch.n++;
+            }
+        }
+    }
+    if (!result) result = batch_load(&batch, map);
+    batch_end(&batch, result != 0);
+    return result;
+}
+
+/* The same, whatever holds them. The other one has values if this one has. */
+static int copy_all(Map *map, Map *from) {
+    size_t n = length_of(from);
+    if (!n) return 0;
+    if (from->holder == HOLDS_ANY) return copy_any(map, from);
+    bptree_pair *pairs = all_pairs(from, n);
+    for (size_t i = 0; pairs && i < n && !map->has_values; i++) pairs[i].value = 0;
+    int result = pairs ? load_numbers(map, from->holder, pairs, n) : -1;
+    for (size_t i = 0; i < n && !result; i++) Py_XINCREF(object_at(pairs[i].value));
+    PyMem_Free(pairs);
+    return result;
+}
+
+static PyObject *key_of(const Map *map, PyObject *members, Py_ssize_t at) {
+    PyObject *member = PyTuple_GetItem(members, at);
+    return map->has_values ? PyTuple_GetItem(member, 0) : member;
+}
+
+static PyObject *value_in(const Map *map, PyObject *members, Py_ssize_t at) {
+    return map->has_values ? PyTuple_GetItem(PyTuple_GetItem(members, at), 1) : NULL;
+}
+
+/* All members of an iterable in a tuple: of a map they must be pairs. Each key is one, or stands for
+   one, and is_by_index says that some stand for one. */
+static PyObject *members_of(const Map *map, PyObject *given, bool *is_by_index) {
+    PyObject *members = PySequence_Tuple(given);
+    Bytes bytes;
+    bytes_begin(&bytes);
+    int result = members ? 0 : -1;
+    for (Py_ssize_t i = 0, n = members ? PyTuple_Size(members) : 0; i < n && !result; i++) {
+        PyObject *member = PyTuple_GetItem(members, i);
+        if (map->has_values && !(PyTuple_CheckExact(member) && PyTuple_Size(member) == 2)) {
+            PyErr_SetString(PyExc_TypeError, "a member is no tuple of a key and a value");
+            result = -1;
+        } else {
+            *is_by_index |= key_is_by_index(key_of(map, members, i));
+            result = key_check(&bytes, key_of(map, members, i));
+        }
+        if (result == KEY_NONE) key_raise(&bytes);
+    }
+    bytes_end(&bytes);
+    if (result) Py_CLEAR(members);
+    return members;
+}
+
+/* Loads members into an empty map of numbers. 1: they don't fit into one, and nothing has changed. */
+static int load_ints(Map *map, PyObject *members, Py_ssize_t n, bool as_signed) {
+    bptree_pair *pairs = make_array((size_t)n, sizeof *pairs);
+    uint64_t words[BLOCK];
+    int result = pairs ? 0 : -1;
+    for (Py_ssize_t i = 0; i < n && !result; i++) {
+        PyObject *key = key_of(map, members, i);
+        if (!PyLong_CheckExact(key) || key_spot_of_int(key, as_signed, &pairs[i].key) != SPOT_AT) result = 1;
+        pairs[i].value = word_of(value_in(map, members, i));
+    }
+    if (!result) result = load_numbers(map, as_signed ? HOLDS_SIGNED : HOLDS_UNSIGNED, pairs, (size_t)n);
+    PyMem_Free(pairs);
+    for (size_t place = 0, more; !result && (more = words_from(map, place, words, BLOCK)); place += more) {
+        for (size_t i = 0; i < more; i++) Py_XINCREF(object_at(words[i]));
+    }
+    return result;
+}
+
+/* Loads members into an empty map of byte strings. 1: some keys are equal, and nothing has changed. */
+static int load_any(Map *map, PyObject *members, Py_ssize_t n) {
+    Batch batch;
+    int result = batch_begin(&batch, (size_t)n);
+    for (Py_ssize_t i = 0; i < n && !result; i++) {
+        result = batch_add(&batch, key_of(map, members, i), value_in(map, members, i));
+        if (result == KEY_NONE) key_raise(&batch.bytes);
+        if (result) result = -1;
+    }
+    /* (the keys may have run code) */
+    if (!result) result = length_of(map) ? 1 : batch_load(&batch, map);
+    batch_end(&batch, result != 0);
+    return result;
+}
+
+static PyObject *shared_store(PyObject *self, PyObject *given) {
+    Map *map = (Map *)self;
+    bool is_map = PyObject_TypeCheck(given, map_type);
+    if (!length_of(map) && (is_map || (!map->has_values && PyObject_TypeCheck(given, set_type)))) {
+        if (copy_all(map, (Map *)given)) return NULL;
+        Py_RETURN_NONE;
+    }
+    PyObject *list = is_map ? list_of((Map *)given, map->has_values ? ITEMS : KEYS, 0, PY_SSIZE_T_MAX) : NULL;
+    bool is_by_index = false;
+    PyObject *members = list || !is_map ? members_of(map, list ? list : given, &is_by_index) : NULL;
+    Py_XDECREF(list);
+    if (!members) return NULL;
+    Py_ssize_t n = PyTuple_Size(members);
+    int result = 1;
+    if (n > 1 && !is_by_index && !length_of(map)) {
+        result = load_ints(map, members, n, true);
+        if (result > 0) result = load_ints(map, members, n, false);
+        if (result > 0) result = load_any(map, members, n);
+    }
+    if (result > 0) {
+        result = 0;
+        for (Py_ssize_t i = 0; i < n && !result; i++) result = put(map, key_of(map, members, i), value_in(map, members, i));
+    }
+    Py_DECREF(members);
+    if (result) return NULL;
+    Py_RETURN_NONE;
+}
+
+/* ---- maps */
+
+static PyObject *map_new(PyTypeObject *type, PyObject *arguments, PyObject *keywords) {
+    (void)arguments, (void)keywords;
+    return make(type, true);
+}
+
+/* The value at a key with a reference that is the caller's; the default if the key is absent, or if
+   there is none a KeyError. */
+static PyObject *value_at(Map *map, PyObject *key, PyObject *otherwise) {
+    uint64_t word;
+    int result = find(map, key, &word);
+    if (result < 0) return NULL;
+    PyObject *value = result ? value_of(map, word) : otherwise;
+    if (!value) PyErr_SetObject(PyExc_KeyError, key);
+    Py_XINCREF(value);
+    return value;
+}
+
+static PyObject *map_subscript(PyObject *self, PyObject *key) { return value_at((Map *)self, key, NULL); }
+
+static int map_assign(PyObject *self, PyObject *key, PyObject *value) {
+    if (value) return put((Map *)self, key, value);
+    int result = take((Map *)self, key, &value);
+    if (result > 0) Py_XDECREF(value);
+    if (!result) PyErr_SetObject(PyExc_KeyError, key);
+    return result > 0 ? 0 : -1;
+}
+
+static PyObject *map_get(ARGUMENTS) {
+    TAKE("get", 1, "key", "default");
+    return value_at((Map *)self, found[0], found[1] ? found[1] : Py_None);
+}
+
+static PyObject *map_pop(ARGUMENTS) {
+    TAKE("pop", 1, "key", "default");
+    PyObject *value = NULL;
+    int result = take((Map *)self, found[0], &value);
+    if (result) return value;
+    if (!found[1]) PyErr_SetObject(PyExc_KeyError, found[0]);
+    Py_XINCREF(found[1]);
+    return found[1];
+}
+
+static PyObject *map_setdefault(ARGUMENTS) {
+    TAKE("setdefault", 1, "key", "default");
+    PyObject *otherwise = found[1] ? found[1] : Py_None;
+    uint64_t word;
+    int result = find((Map *)self, found[0], &word);
+    PyObject *value = result > 0 ? value_of((Map *)self, word) : otherwise;
+    Py_INCREF(value);
+    if (!result) result = put((Map *)self, found[0], value);
+    if (result >= 0) return value;
+    Py_DECREF(value);
+    return NULL;
+}
+
+static PyObject *map_peekitem(ARGUMENTS) {
+    TAKE("peekitem", 0, "index");
+    Py_ssize_t place = place_of((Map *)self, found[0]);
+    return place < 0 ? NULL : part_at((Map *)self, ITEMS, (size_t)place);
+}
+
+static PyObject *map_popitem(ARGUMENTS) {
+    TAKE("popitem", 0, "index");
+    PyObject *key, *value, *pair = PyTuple_New(2);
+    Py_ssize_t place = -1;
+    if (!pair) return NULL;
+    if (length_of((Map *)self)) place = place_of((Map *)self, found[0]);
+    else PyErr_SetString(empty_error, "popitem(): map is empty");
+    if (place < 0 || take_at((Map *)self, (size_t)place, &key, &value)) {
+        Py_DECREF(pair);
+        return NULL;
+    }
+    PyTuple_SetItem(pair, 0, key);
+    PyTuple_SetItem(pair, 1, value);
+    return pair;
+}
+
+static PyObject *map_irange_items(ARGUMENTS) {
+    TAKE("irange_items", 0, "minimum", "maximum", "inclusive", "reverse");
+    return some(self, found, ITEMS);
+}
+
+/* ---- sets */
+
+static PyObject *set_new(PyTypeObject *type, PyObject *arguments, PyObject *keywords) {
+    (void)arguments, (void)keywords;
+    return make(type, false);
+}
+
+static PyObject *set_add(PyObject *self, PyObject *key) {
+    if (put((Map *)self, key, NULL)) return NULL;
+    Py_RETURN_NONE;
+}
+
+static PyObject *set_discard(PyObject *self, PyObject *key) {
+    PyObject *none;
+    if (take((Map *)self, key, &none) < 0) return NULL;
+    Py_RETURN_NONE;
+}
+
+static PyObject *set_remove(PyObject *self, PyObject *key) {
+    if (map_assign(self, key, NULL)) return NULL;
+    Py_RETURN_NONE;
+}
+
+static PyObject *set_pop(ARGUMENTS) {
+    TAKE("pop", 0, "index");
+    PyObject *key, *none;
+    Py_ssize_t place = place_of((Map *)self, found[0]);
+    return place < 0 || take_at((Map *)self, (size_t)place, &key, &none) ? NULL : key;
+}
+
+static PyObject *set_count(PyObject *self, PyObject *key) {
+    int result = shared_contains(self, key);
+    return result < 0 ? NULL : PyLong_FromLong(result);
+}
+
+static PyObject *set_subscript(PyObject *self, PyObject *index) { return part_by((Map *)self, KEYS, index); }
+
+/* ---- the types */
+
+#define PLAIN(name, call, flags, doc) {name, call, flags, PyDoc_STR(doc)}
+#define NAMED(name, call, doc) {name, (PyCFunction)(void (*)(void))call, METH_FASTCALL | METH_KEYWORDS, PyDoc_STR(doc)}
+
+static PyMethodDef shared_methods[] = {
+    PLAIN("rank", shared_rank, METH_O, "rank($self, key, /)\n--\n\n"
+        "The number of keys that are less than a key, which need not be there. O(log n).\n\n"
+        ">>> SortedSet([10, 20, 30]).rank(20), SortedMap(a=1, b=2).rank('c')\n(1, 2)"),
+    PLAIN("bisect_left", shared_rank, METH_O, "bisect_left($self, key, /)\n--\n\n"
+        "The number of keys that are less than a key, as `rank`. O(log n).\n\n"
+        ">>> SortedSet([10, 20, 30]).bisect_left(20.5)\n2"),
+    PLAIN("bisect_right", shared_bisect_right, METH_O, "bisect_right($self, key, /)\n--\n\n"
+        "The number of keys that are not greater than a key. O(log n).\n\n"
+        ">>> SortedSet([10, 20, 30]).bisect_right(20)\n2"),
+    PLAIN("bisect", shared_bisect_right, METH_O, "bisect($self, key, /)\n--\n\n"
+        "The number of keys that are not greater than a key, as `bisect_right`. O(log n).\n\n"
+        ">>> SortedMap(a=1, b=2).bisect('a')\n1"),
+    NAMED("index", shared_index, "index($self, key, /, start=None, stop=None)\n--\n\n"
+        "The index of a key. It raises ValueError if the key is absent, or if its index is outside the\n"
+        "given ones. O(log n).\n\n>>> SortedSet([10, 20, 30]).index(20)\n1"),
+    NAMED("range_len", shared_range_len, "range_len($self, minimum=None, maximum=None)\n--\n\n"
+        "The number of keys that are at least the minimum and less than the maximum. None is no bound.\n"
+        "O(log n).\n\n>>> SortedSet([10, 20, 30]).range_len(10, 30)\n2"),
+    NAMED("irange", shared_irange, "irange($self, minimum=None, maximum=None, inclusive=(True, True), reverse=False)\n--\n\n"
+        "An iterator over the keys between two keys. `inclusive` says for each whether it is included.\n"
+        "None is no bound. O(log n) to begin, and O(1) a key.\n\n"
+        ">>> list(SortedSet([10, 20, 30]).irange(10, 30, (True, False), reverse=True))\n[20, 10]"),
+    NAMED("islice", shared_islice, "islice($self, start=None, stop=None, reverse=False)\n--\n\n"
+        "An iterator over the keys of a slice of indices. O(log n) to begin, and O(1) a key.\n\n"
+        ">>> list(SortedSet('abcd').islice(1, 3))\n['b', 'c']"),
+    PLAIN("clear", shared_clear_call, METH_NOARGS, "clear($self, /)\n--\n\nRemoves all keys. It never fails. O(n).\n\n"
+        ">>> numbers = SortedSet([1, 2])\n>>> numbers.clear()\n>>> len(numbers)\n0"),
+    PLAIN("__reversed__", shared_reversed, METH_NOARGS, "__reversed__($self, /)\n--\n\nAn iterator over the keys, the greatest one first."),
+    PLAIN("_list", shared_list, METH_O, "All keys (0), values (1) or pairs (2), as they are at one moment."),
+    NAMED("_walk", shared_walk, "An iterator over all keys (0), values (1) or pairs (2)."),
+    NAMED("_at", shared_at, "The key (0), value (1) or pair (2) at an index, or a list of those at a slice."),
+    PLAIN("_store", shared_store, METH_O, "Stores all pairs, or all keys, of an iterable."),
+    PLAIN("_swap", shared_swap, METH_O, "Exchanges all pairs with those of another object of the type."),
+    {NULL, NULL, 0, NULL},
+};
+
+static PyMethodDef map_methods[] = {
+    NAMED("get", map_get, "get($self, key, /, default=None)\n--\n\nThe value at a key, or the default if the key is absent. O(log n).\n\n"
+        ">>> SortedMap(a=1).get('a'), SortedMap(a=1).get('b', 0)\n(1, 0)"),
+    NAMED("pop", map_pop, "pop($self, key, /, default=<unrepresentable>)\n--\n\n"
+        "Removes a key and returns its value. If the key is absent it returns the default, or raises\n"
+        "KeyError if none is given. O(log n).\n\n>>> SortedMap(a=1).pop('a')\n1"),
+    NAMED("setdefault", map_setdefault, "setdefault($self, key, /, default=None)\n--\n\n"
+        "The value at a key. If the key is absent, the default is stored there first. O(log n).\n\n"
+        ">>> SortedMap(a=1).setdefault('b', 2)\n2"),
+    NAMED("peekitem", map_peekitem, "peekitem($self, index=-1)\n--\n\n"
+        "The pair at an index in the order of the keys: the last one by default. It raises IndexError\n"
+        "if there is none. O(log n).\n\n>>> SortedMap(a=1, b=2).peekitem(0)\n('a', 1)"),
+    NAMED("popitem", map_popitem, "popitem($self, index=-1)\n--\n\n"
+        "Removes the pair at an index and returns it: the last one by default. It raises KeyError if\n"
+        "the map is empty, and IndexError if there is no such index. O(log n).\n\n"
+        ">>> SortedMap(a=1, b=2).popitem()\n('b', 2)"),
+    NAMED("irange_items", map_irange_items,
+        "irange_items($self, minimum=None, maximum=None, inclusive=(True, True), reverse=False)\n--\n\n"
+        "An iterator over the pairs between two keys, as `irange`.\n\n"
+        ">>> list(SortedMap(a=1, b=2, c=3).irange_items('b'))\n[('b', 2), ('c', 3)]"),
+    {NULL, NULL, 0, NULL},
+};
+
+static PyMethodDef set_methods[] = {
+    PLAIN("add", set_add, METH_O, "add($self, key, /)\n--\n\nAdds a key. If an equal one is there, that one stays. O(log n).\n\n"
+        ">>> numbers = SortedSet([1, 3])\n>>> numbers.add(2)\n>>> numbers\nSortedSet([1, 2, 3])"),
+    PLAIN("discard", set_discard, METH_O, "discard($self, key, /)\n--\n\nRemoves a key if it is there. O(log n).\n\n"
+        ">>> numbers = SortedSet([1, 3])\n>>> numbers.discard(3)\n>>> numbers\nSortedSet([1])"),
+    PLAIN("remove", set_remove, METH_O, "remove($self, key, /)\n--\n\nRemoves a key. It raises KeyError if the key is absent. O(log n).\n\n"
+        ">>> numbers = SortedSet([1, 3])\n>>> numbers.remove(1)\n>>> numbers\nSortedSet([3])"),
+    NAMED("pop", set_pop, "pop($self, index=-1)\n--\n\n"
+        "Removes the key at an index and returns it: the greatest one by default. It raises IndexError\n"
+        "if there is none. O(log n).\n\n>>> SortedSet([1, 3]).pop(0)\n1"),
+    PLAIN("count", set_count, METH_O, "count($self, key, /)\n--\n\n1 if the key is there, and else 0. O(log n).\n\n>>> SortedSet([1, 3]).count(3)\n1"),
+    {NULL, NULL, 0, NULL},
+};
+
+#define SLOT(name, call) {Py_##name, (void *)call}
+
+static PyType_Slot shared_slots[] = {
+    SLOT(tp_doc, "What SortedMap and SortedSet share."), SLOT(tp_dealloc, shared_dealloc), SLOT(tp_traverse, shared_traverse),
+    SLOT(tp_clear, shared_clear), SLOT(tp_methods, shared_methods), SLOT(tp_iter, shared_iter), SLOT(sq_contains, shared_contains),
+    SLOT(mp_length, shared_length), SLOT(tp_hash, PyObject_HashNotImplemented), {0, NULL},
+};
+static PyType_Slot map_slots[] = {
+    SLOT(tp_doc, "The compiled part of SortedMap."), SLOT(tp_new, map_new), SLOT(tp_traverse, shared_traverse), SLOT(tp_clear, shared_clear),
+    SLOT(tp_methods, map_methods), SLOT(mp_subscript, map_subscript), SLOT(mp_ass_subscript, map_assign), {0, NULL},
+};
+static PyType_Slot set_slots[] = {
+    SLOT(tp_doc, "The compiled part of SortedSet."), SLOT(tp_new, set_new), SLOT(tp_traverse, shared_traverse), SLOT(tp_clear, shared_clear),
+    SLOT(tp_methods, set_methods), SLOT(mp_subscript, set_subscript), {0, NULL},
+};
+static PyType_Slot walk_slots[] = {
+    SLOT(tp_doc, "An iterator over keys, values or pairs."), SLOT(tp_dealloc, walk_dealloc), SLOT(tp_traverse, walk_traverse),
+    SLOT(tp_clear, walk_clear), SLOT(tp_iter, PyObject_SelfIter), SLOT(tp_iternext, walk_next), {0, NULL},
+};
+
+enum { OPEN = Py_TPFLAGS_DEFAULT | Py_TPFLAGS_HAVE_GC | Py_TPFLAGS_BASETYPE, CLOSED = Py_TPFLAGS_DEFAULT | Py_TPFLAGS_HAVE_GC | Py_TPFLAGS_DISALLOW_INSTANTIATION };
+
+static PyType_Spec shared_spec = {"sweep_bptree._native.Sorted", sizeof(Map), 0, CLOSED | Py_TPFLAGS_BASETYPE, shared_slots};
+/* (each is larger than what both are of, so that no class can be of both) */
+static PyType_Spec map_spec = {"sweep_bptree._native.Map", sizeof(Map) + sizeof(void *), 0, OPEN, map_slots};
+static PyType_Spec set_spec = {"sweep_bptree._native.Set", sizeof(Map) + sizeof(void *), 0, OPEN, set_slots};
+static PyType_Spec walk_spec = {"sweep_bptree._native.Walk", sizeof(Walk), 0, CLOSED, walk_slots};
+
+static int module_begin(PyObject *module) {
+    /* (the types are this process's only ones, so a second interpreter may not have the module) */
+    if (walk_type) {
+        PyErr_SetString(PyExc_ImportError, "sweep_bptree can be imported once in a process");
+        return -1;
+    }
+    PyObject *bases = PyTuple_Pack(2, PyExc_KeyError, PyExc_TypeError);
+    empty_error = bases ? PyErr_NewExceptionWithDoc("sweep_bptree.EmptyError", "There is no pair to remove.", bases, NULL) : NULL;
+    Py_XDECREF(bases);
+    if (!empty_error || PyModule_AddObjectRef(module, "EmptyError", empty_error) || keys_begin()) return -1;
+    PyObject *shared = PyType_FromSpec(&shared_spec);
+    int result = shared ? PyModule_AddObjectRef(module, "Sorted", shared) : -1;
+    if (!result) map_type = (PyTypeObject *)PyType_FromSpecWithBases(&map_spec, shared);
+    if (!result) set_type = (PyTypeObject *)PyType_FromSpecWithBases(&set_spec, shared);
+    Py_XDECREF(shared);
+    if (!map_type || !set_type || PyModule_AddObjectRef(module, "Map", (PyObject *)map_type)) return -1;
+    if (PyModule_AddObjectRef(module, "Set", (PyObject *)set_type)) return -1;
+    walk_type = (PyTypeObject *)PyType_FromSpec(&walk_spec);
+    return walk_type ? 0 : -1;
+}
+
+static PyModuleDef_Slot module_slots[] = {{Py_mod_exec, (void *)module_begin}, {0, NULL}};
+static struct PyModuleDef module_definition = {
+    PyModuleDef_HEAD_INIT, "_native", PyDoc_STR("The compiled part of sweep_bptree."), 0, NULL, module_slots, NULL, NULL, NULL,
+};
+
+PyMODINIT_FUNC PyInit__native(void) { return PyModuleDef_Init(&module_definition); }
