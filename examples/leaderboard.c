@@ -25,9 +25,9 @@ static uint64_t points_of(const uint8_t *bytes) {
 /* Adds points. False: an allocation failed, and then the player may have left the board. */
 static bool score(bptree_dict *board, uint32_t player, uint64_t more) {
     key before = key_of(points[player], player), after = key_of(points[player] + more, player);
-    if (bptree_dict_del(board, before.bytes, KEY, &old) == BPTREE_REFUSED) return false;
+    if (bptree_dict_del(board, before.bytes, KEY, &old) == BPTREE_NO_MEMORY) return false;
     points[player] += more;
-    return bptree_dict_put(board, after.bytes, KEY, player, &old) != BPTREE_REFUSED;
+    return bptree_dict_put(board, after.bytes, KEY, player, &old) != BPTREE_NO_MEMORY;
 }
 
 static void show(bptree_dict *board, uint32_t player) {
@@ -49,7 +49,7 @@ int main(void) {
     show(&board, 3);
     key from = key_of(100, 0), to = key_of(251, 0), leaves = key_of(points[5], 5);
     printf("%zu players have 100 to 250 points\n", bptree_dict_range_len(&board, from.bytes, KEY, to.bytes, KEY));
-    if (bptree_dict_del(&board, leaves.bytes, KEY, &old) == BPTREE_REFUSED) return 1;
+    if (bptree_dict_del(&board, leaves.bytes, KEY, &old) == BPTREE_NO_MEMORY) return 1;
     show(&board, 3);
     bptree_dict_free(&board);
     return 0;

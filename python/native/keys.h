@@ -32,7 +32,7 @@ void bytes_end(Bytes *bytes);
 /* Makes room for more bytes. Returns KEY_FAILED if there is no memory, and nothing has changed. */
 int bytes_grow(Bytes *bytes, size_t more);
 
-/* Whether an object stands for the int that its __index__ returns. */
+/* Whether an object is stored as the int that its __index__ returns. */
 bool key_is_by_index(PyObject *key);
 /* Appends the bytes of a key. May run code of a time zone or of an __index__. */
 int key_encode(Bytes *bytes, PyObject *key);

@@ -277,11 +277,11 @@ static Py_ssize_t rank_of(Map *map, PyObject *key, bool *is_there) {
 /* Stores at a word of the map of numbers. */
 static int put_word(Map *map, uint64_t word, PyObject *value) {
     uint64_t old = 0;
-    uint32_t code = bptree_put(&map->numbers, word, word_of(value), &old);
-    if (code == BPTREE_REFUSED) return no_memory();
+    bptree_result code = bptree_put(&map->numbers, word, word_of(value), &old);
+    if (code == BPTREE_NO_MEMORY) return no_memory();
     map->version++;
     Py_XINCREF(value);
-    if (code == BPTREE_FOUND) Py_XDECREF(object_at(old));
+    if (code == BPTREE_REPLACED) Py_XDECREF(object_at(old));
     return 0;
 }
 
@@ -289,13 +289,13 @@ static int put_bytes(Map *map, const Bytes *bytes, PyObject *key, PyObject *valu
     uint64_t old = 0;
     Entry *entry = make_entry(key, value);
     if (!entry) return -1;
-    uint32_t code = bptree_dict_put(&map->any, bytes->at, bytes->n, word_of(entry), &old);
-    if (code == BPTREE_REFUSED) {
+    bptree_result code = bptree_dict_put(&map->any, bytes->at, bytes->n, word_of(entry), &old);
+    if (code == BPTREE_NO_MEMORY) {
         drop_entry(entry);
         return no_memory();
     }
     map->version++;
-    if (code == BPTREE_FOUND) {
+    if (code == BPTREE_REPLACED) {
         /* the key that was there stays, as in a dict */
         Entry *gone = entry_at(old);
         PyObject *given = entry->key;
@@ -361,13 +361,13 @@ static int take(Map *map, PyObject *key, PyObject **value) {
     Bytes bytes;
     uint64_t word, old = 0;
     int where = locate(map, key, &bytes, &word);
-    uint32_t code = BPTREE_NONE;
+    bptree_result code = BPTREE_ABSENT;
     if (where == AT_WORD) code = bptree_del(&map->numbers, word, &old);
     if (where == BY_BYTES) code = bptree_dict_del(&map->any, bytes.at, bytes.n, &old);
     bytes_end(&bytes);
-    if (code == BPTREE_REFUSED) return no_memory();
+    if (code == BPTREE_NO_MEMORY) return no_memory();
     if (where < 0) return -1;
-    if (code == BPTREE_NONE) return 0;
+    if (code == BPTREE_ABSENT) return 0;
     map->version++;
     if (map->holder == HOLDS_ANY) {
         Entry *entry = entry_at(old);
@@ -435,7 +435,7 @@ static int take_at(Map *map, size_t place, PyObject **key, PyObject **value) {
     uint64_t old = 0;
     bptree_pair pair;
     if (map->holder == HOLDS_ANY) {
-        if (bptree_dict_remove_at(&map->any, place, &old) != BPTREE_FOUND) return no_memory();
+        if (bptree_dict_remove_at(&map->any, place, &old) != BPTREE_REMOVED) return no_memory();
         Entry *entry = entry_at(old);
         *key = entry->key;
         *value = entry->value;
@@ -860,7 +860,7 @@ static PyObject *shared_islice(ARGUMENTS) {
 static int what_of(const Map *map, PyObject *what) {
     long number = PyLong_AsLong(what);
     if (number >= KEYS && number <= (map->has_values ? ITEMS : KEYS)) return (int)number;
-    if (!PyErr_Occurred()) PyErr_SetString(PyExc_TypeError, "0, 1 and 2 stand for keys, values and items");
+    if (!PyErr_Occurred()) PyErr_SetString(PyExc_TypeError, "0, 1 or 2 is wanted: keys, values or items");
     return -1;
 }
 
@@ -947,8 +947,8 @@ static PyObject *value_in(const Map *map, PyObject *members, Py_ssize_t at) {
     return map->has_values ? PyTuple_GetItem(PyTuple_GetItem(members, at), 1) : NULL;
 }
 
-/* All members of an iterable in a tuple: of a map they must be pairs. Each key is one, or stands for
-   one, and is_by_index says that some stand for one. */
+/* All members of an iterable in a tuple: of a map they must be pairs. Each key is one, or an object
+   whose __index__ returns one, and is_by_index says that some are such objects. */
 static PyObject *members_of(const Map *map, PyObject *given, bool *is_by_index) {
     PyObject *members = PySequence_Tuple(given);
     Bytes bytes;

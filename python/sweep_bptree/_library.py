@@ -7,11 +7,14 @@ import os
 import sys
 from typing import Any
 
-__all__ = ["Handle", "Pair", "NONE", "FOUND", "REFUSED", "functions"]
+__all__ = ["Handle", "Pair", "ABSENT", "REMOVED", "NO_MEMORY", "ADDED", "REPLACED", "functions"]
 
-NONE = 0
-FOUND = 1
-REFUSED = 2
+# The results of calls that change a map, as the header numbers them.
+ABSENT = 0
+REMOVED = 1
+NO_MEMORY = 2
+ADDED = 3
+REPLACED = 4
 
 
 class Handle(ctypes.Structure):
@@ -35,7 +38,7 @@ def functions() -> dict[str, Any]:
     """Loads the library, and returns its functions by their names without the prefix."""
     if not getattr(sys, "_is_gil_enabled", lambda: True)():
         raise ImportError("sweep_bptree needs an interpreter with a global lock")
-    # A PyDLL keeps the interpreter's lock while a call runs, so that one call at a time uses a map.
+    # A PyDLL keeps the interpreter's lock while a call runs, so that no call uses a map while another changes it.
     library = ctypes.PyDLL(_path())
     handle, word, size = ctypes.POINTER(Handle), ctypes.c_uint64, ctypes.c_size_t
     boolean, code, array = ctypes.c_bool, ctypes.c_uint32, ctypes.c_void_p

@@ -4,7 +4,12 @@ use sweep_bptree_proved::{OutOfMemory, Set};
 
 type Board = Set<(u64, usize)>;
 
-fn score(board: &mut Board, points: &mut [u64], player: usize, more: u64) -> Result<(), OutOfMemory> {
+fn score(
+    board: &mut Board,
+    points: &mut [u64],
+    player: usize,
+    more: u64,
+) -> Result<(), OutOfMemory> {
     board.remove(&(points[player], player))?;
     points[player] += more;
     board.insert((points[player], player))?;

@@ -1,11 +1,10 @@
 //! A map of any ordered keys and any values.
 
 use crate::key::OrderedKey;
-use crate::raw::{self, Handle, ABSENT, FOUND};
+use crate::raw::{self, Handle, ABSENT, ADDED, REMOVED, REPLACED};
 use crate::OutOfMemory;
 use std::alloc::Layout;
 use std::borrow::Borrow;
-use std::cell::UnsafeCell;
 use std::fmt;
 use std::iter::FusedIterator;
 use std::marker::PhantomData;
@@ -83,19 +82,23 @@ unsafe fn entry_at<K, V>(address: u64) -> Entry<K, V> {
 /// If an allocation fails, a call returns an error and changes nothing. The traits `Clone`,
 /// `Default`, `Extend` and `FromIterator` can't return an error: they panic.
 ///
-/// A map can be sent to another thread if its keys and values can. Threads can't share it, since each
-/// call of the C library uses the handle alone.
+/// A map can be sent to another thread if its keys and values can, and threads can share it if they
+/// can share its keys and values.
 pub struct Map<K, V> {
-    // It holds a map from `Map::new` until `drop`, and is copied nowhere. No call of the C library
-    // calls back, so that none begins while another runs on the same thread; and the cell makes the
-    // map not `Sync`. Each value in the map is the address of an entry that the map owns.
-    handle: UnsafeCell<Handle>,
+    // It holds a map from `Map::new` until `drop`, and is copied nowhere. Calls of the C library that
+    // read write nothing, so that several may run at once. Each value in the map is the address of an
+    // entry that the map owns.
+    handle: Handle,
     owned: PhantomData<Box<(K, V)>>,
 }
 
 // SAFETY: the map is blocks of the C library's heap and of the global allocator, which any thread may
 // free, and it owns the keys and values in them.
 unsafe impl<K: Send, V: Send> Send for Map<K, V> {}
+
+// SAFETY: with `&self` a map is only read. A read of the C library writes neither to the map nor to
+// its handle, and else gives out references to keys and values.
+unsafe impl<K: Sync, V: Sync> Sync for Map<K, V> {}
 
 fn new_handle() -> Result<Handle, OutOfMemory> {
     let mut handle = Handle { at: ptr::null_mut() };
@@ -109,13 +112,13 @@ fn new_handle() -> Result<Handle, OutOfMemory> {
 impl<K, V> Map<K, V> {
     /// A map with no pairs. It allocates one leaf.
     pub fn new() -> Result<Map<K, V>, OutOfMemory> {
-        Ok(Map { handle: UnsafeCell::new(new_handle()?), owned: PhantomData })
+        Ok(Map { handle: new_handle()?, owned: PhantomData })
     }
 
     /// The number of pairs. O(1).
     pub fn len(&self) -> usize {
         // SAFETY: the handle holds a map.
-        unsafe { raw::bptree_dict_len(self.handle.get()) }
+        unsafe { raw::bptree_dict_len(&self.handle) }
     }
 
     /// Whether there are no pairs. O(1).
@@ -133,7 +136,7 @@ impl<K, V> Map<K, V> {
     // The entries of the indexes from one on, as many as the block has room for.
     fn copy_entries(&self, from: usize, block: &mut [u64]) -> usize {
         // SAFETY: the handle holds a map, and the block has as many numbers as it says.
-        unsafe { raw::bptree_dict_values(self.handle.get(), from, block.as_mut_ptr(), block.len()) }
+        unsafe { raw::bptree_dict_values(&self.handle, from, block.as_mut_ptr(), block.len()) }
     }
 
     fn entry_of_index(&self, index: usize) -> Option<Entry<K, V>> {
@@ -171,7 +174,7 @@ impl<K, V> Map<K, V> {
     pub fn remove_at(&mut self, index: usize) -> Result<Option<(K, V)>, OutOfMemory> {
         let mut old = 0;
         // SAFETY: the handle holds a map.
-        let done = unsafe { raw::bptree_dict_remove_at(self.handle.get_mut(), index, &mut old) };
+        let done = unsafe { raw::bptree_dict_remove_at(&mut self.handle, index, &mut old) };
         self.take_out(done, old)
     }
 
@@ -191,7 +194,7 @@ impl<K, V> Map<K, V> {
     fn take_out(&mut self, done: u32, old: u64) -> Result<Option<(K, V)>, OutOfMemory> {
         match done {
             // SAFETY: the entry was in the map, which has it no longer.
-            FOUND => Ok(Some(unsafe { free(entry_at(old)) })),
+            REMOVED => Ok(Some(unsafe { free(entry_at(old)) })),
             ABSENT => Ok(None),
             _ => Err(OutOfMemory),
         }
@@ -230,7 +233,7 @@ impl<K: OrderedKey, V> Map<K, V> {
             // SAFETY: the handle holds a map, and `bytes` has as many bytes as it says.
             unsafe {
                 let (at, len) = (bytes.as_ptr(), bytes.len());
-                raw::bptree_dict_get(self.handle.get(), at, len, &mut found)
+                raw::bptree_dict_get(&self.handle, at, len, &mut found)
             }
         });
         // SAFETY: a value in the map is the address of an entry.
@@ -282,7 +285,7 @@ impl<K: OrderedKey, V> Map<K, V> {
             // SAFETY: the handle holds a map, and `bytes` has as many bytes as it says.
             unsafe {
                 let (at, len) = (bytes.as_ptr(), bytes.len());
-                raw::bptree_dict_rank(self.handle.get(), at, len, &mut rank)
+                raw::bptree_dict_rank(&self.handle, at, len, &mut rank)
             }
         });
         match is_there {
@@ -301,7 +304,7 @@ impl<K: OrderedKey, V> Map<K, V> {
             Ok(entry) => entry,
             Err((key, value)) => return Err(InsertError { key, value }),
         };
-        let (handle, mut old) = (self.handle.get_mut(), 0);
+        let (handle, mut old) = (&mut self.handle, 0);
         // SAFETY: the entry is new, and no one else has it yet.
         let done = unsafe { new.as_ref() }.0.with_bytes(|bytes| {
             // SAFETY: the handle holds a map, and `bytes` has as many bytes as it says.
@@ -311,8 +314,8 @@ impl<K: OrderedKey, V> Map<K, V> {
             }
         });
         match done {
-            ABSENT => Ok(None),
-            FOUND => {
+            ADDED => Ok(None),
+            REPLACED => {
                 // SAFETY: the map has the new entry in place of the old one, and both are apart.
                 let (_, value) = unsafe {
                     let old = entry_at::<K, V>(old);
@@ -366,7 +369,7 @@ impl<K: OrderedKey, V> Map<K, V> {
     where
         K: Borrow<Q>,
     {
-        let (handle, mut old) = (self.handle.get_mut(), 0);
+        let (handle, mut old) = (&mut self.handle, 0);
         let done = key.with_bytes(|bytes| {
             // SAFETY: the handle holds a map, and `bytes` has as many bytes as it says.
             unsafe {
@@ -630,7 +633,7 @@ impl<K, V> Drop for IntoIter<K, V> {
     fn drop(&mut self) {
         self.map.free_entries(mem::replace(&mut self.left, 0..0));
         // SAFETY: the handle holds a map, and nothing uses it behind this.
-        unsafe { raw::bptree_dict_free(self.map.handle.get_mut()) }
+        unsafe { raw::bptree_dict_free(&mut self.map.handle) }
     }
 }
 
@@ -657,7 +660,7 @@ impl<K, V> Drop for Map<K, V> {
     fn drop(&mut self) {
         self.free_entries(0..self.len());
         // SAFETY: the handle holds a map, and nothing uses it behind this.
-        unsafe { raw::bptree_dict_free(self.handle.get_mut()) }
+        unsafe { raw::bptree_dict_free(&mut self.handle) }
     }
 }
 

@@ -1,6 +1,6 @@
 //! An ordered map from numbers to numbers.
 
-use crate::raw::{self, Handle, Pair, FOUND, REFUSED};
+use crate::raw::{self, Handle, Pair, ABSENT, ADDED, REMOVED, REPLACED};
 use crate::OutOfMemory;
 use std::fmt;
 use std::ops::{Bound, RangeBounds};
@@ -9,8 +9,7 @@ use std::ops::{Bound, RangeBounds};
 ///
 /// The calls have the names of `BTreeMap`'s, of which `entry`, `keys`, `values`, `retain`, `extend`
 /// and others are missing. If an allocation fails, a call returns `OutOfMemory` and changes nothing.
-/// The calls that read take `&mut self` too, since one call at a time uses a map. It can be sent to
-/// another thread.
+/// It can be sent to another thread, and threads can share it.
 ///
 /// ```
 /// use sweep_bptree_proved::NumberMap;
@@ -26,13 +25,18 @@ use std::ops::{Bound, RangeBounds};
 /// ```
 pub struct NumberMap {
     // It holds a map from `NumberMap::new` until `drop`, and is copied nowhere. The safety of the calls
-    // below rests on this, and on `&mut self`: no other call uses the handle meanwhile.
+    // below rests on this, and on `&mut self` of those that change the map: no other call uses the
+    // handle meanwhile.
     handle: Handle,
 }
 
 // SAFETY: the map is a block of the C library's heap, which any thread may free, and holds nothing
-// that belongs to a thread. It is not `Sync`, by its pointer.
+// that belongs to a thread.
 unsafe impl Send for NumberMap {}
+
+// SAFETY: with `&self` a map is only read, and a read of the C library writes neither to the map nor
+// to its handle.
+unsafe impl Sync for NumberMap {}
 
 impl NumberMap {
     /// A map with no pairs.
@@ -40,6 +44,16 @@ impl NumberMap {
         let mut handle = Handle { at: std::ptr::null_mut() };
         // SAFETY: the handle holds no map.
         match unsafe { raw::bptree_new(&mut handle) } {
+            true => Ok(NumberMap { handle }),
+            false => Err(OutOfMemory),
+        }
+    }
+
+    /// A copy of the map. O(n).
+    pub fn try_clone(&self) -> Result<NumberMap, OutOfMemory> {
+        let mut handle = Handle { at: std::ptr::null_mut() };
+        // SAFETY: the map's handle holds a map, and the other one holds none.
+        match unsafe { raw::bptree_clone(&self.handle, &mut handle) } {
             true => Ok(NumberMap { handle }),
             false => Err(OutOfMemory),
         }
@@ -75,27 +89,27 @@ impl NumberMap {
     }
 
     /// The number of pairs.
-    pub fn len(&mut self) -> usize {
+    pub fn len(&self) -> usize {
         // SAFETY: the handle holds a map.
-        unsafe { raw::bptree_len(&mut self.handle) }
+        unsafe { raw::bptree_len(&self.handle) }
     }
 
     /// Whether there are no pairs.
-    pub fn is_empty(&mut self) -> bool {
+    pub fn is_empty(&self) -> bool {
         self.len() == 0
     }
 
     /// Whether a key is there.
-    pub fn contains_key(&mut self, key: u64) -> bool {
+    pub fn contains_key(&self, key: u64) -> bool {
         // SAFETY: the handle holds a map.
-        unsafe { raw::bptree_contains(&mut self.handle, key) }
+        unsafe { raw::bptree_contains(&self.handle, key) }
     }
 
     /// The value at a key.
-    pub fn get(&mut self, key: u64) -> Option<u64> {
+    pub fn get(&self, key: u64) -> Option<u64> {
         let mut value = 0;
         // SAFETY: the handle holds a map, and `value` is a local value.
-        unsafe { raw::bptree_get(&mut self.handle, key, &mut value) }.then_some(value)
+        unsafe { raw::bptree_get(&self.handle, key, &mut value) }.then_some(value)
     }
 
     /// Stores a value at a key, and returns the value that was there. It never fails for a key that
@@ -104,9 +118,9 @@ impl NumberMap {
         let mut old = 0;
         // SAFETY: the handle holds a map, and `old` is a local value.
         match unsafe { raw::bptree_put(&mut self.handle, key, value, &mut old) } {
-            FOUND => Ok(Some(old)),
-            REFUSED => Err(OutOfMemory),
-            _ => Ok(None),
+            ADDED => Ok(None),
+            REPLACED => Ok(Some(old)),
+            _ => Err(OutOfMemory),
         }
     }
 
@@ -115,16 +129,16 @@ impl NumberMap {
         let mut old = 0;
         // SAFETY: the handle holds a map, and `old` is a local value.
         match unsafe { raw::bptree_del(&mut self.handle, key, &mut old) } {
-            FOUND => Ok(Some(old)),
-            REFUSED => Err(OutOfMemory),
-            _ => Ok(None),
+            REMOVED => Ok(Some(old)),
+            ABSENT => Ok(None),
+            _ => Err(OutOfMemory),
         }
     }
 
     // The pair that a call writes. The handle that the call gets holds a map.
-    fn pair_of(&mut self, call: impl FnOnce(&mut Handle, &mut Pair) -> bool) -> Option<(u64, u64)> {
+    fn pair_of(&self, call: impl FnOnce(&Handle, &mut Pair) -> bool) -> Option<(u64, u64)> {
         let mut pair = Pair::default();
-        call(&mut self.handle, &mut pair).then_some((pair.key, pair.value))
+        call(&self.handle, &mut pair).then_some((pair.key, pair.value))
     }
 
     // The same of a call that removes the pair.
@@ -134,62 +148,62 @@ impl NumberMap {
     ) -> Result<Option<(u64, u64)>, OutOfMemory> {
         let mut pair = Pair::default();
         match call(&mut self.handle, &mut pair) {
-            FOUND => Ok(Some((pair.key, pair.value))),
-            REFUSED => Err(OutOfMemory),
-            _ => Ok(None),
+            REMOVED => Ok(Some((pair.key, pair.value))),
+            ABSENT => Ok(None),
+            _ => Err(OutOfMemory),
         }
     }
 
     /// The pair with the least key.
-    pub fn first_key_value(&mut self) -> Option<(u64, u64)> {
+    pub fn first_key_value(&self) -> Option<(u64, u64)> {
         // SAFETY: `pair_of` gives a handle that holds a map, and a pair of its own.
         self.pair_of(|map, pair| unsafe { raw::bptree_first(map, pair) })
     }
 
     /// The pair with the greatest key.
-    pub fn last_key_value(&mut self) -> Option<(u64, u64)> {
+    pub fn last_key_value(&self) -> Option<(u64, u64)> {
         // SAFETY: `pair_of` gives a handle that holds a map, and a pair of its own.
         self.pair_of(|map, pair| unsafe { raw::bptree_last(map, pair) })
     }
 
     /// The pair with the least greater key.
-    pub fn next(&mut self, key: u64) -> Option<(u64, u64)> {
+    pub fn next(&self, key: u64) -> Option<(u64, u64)> {
         // SAFETY: `pair_of` gives a handle that holds a map, and a pair of its own.
         self.pair_of(|map, pair| unsafe { raw::bptree_next(map, key, pair) })
     }
 
     /// The pair with the greatest smaller key.
-    pub fn prev(&mut self, key: u64) -> Option<(u64, u64)> {
+    pub fn prev(&self, key: u64) -> Option<(u64, u64)> {
         // SAFETY: `pair_of` gives a handle that holds a map, and a pair of its own.
         self.pair_of(|map, pair| unsafe { raw::bptree_prev(map, key, pair) })
     }
 
     /// The pair at an index in the order of the keys, from 0 on.
-    pub fn get_at(&mut self, place: usize) -> Option<(u64, u64)> {
+    pub fn get_at(&self, index: usize) -> Option<(u64, u64)> {
         // SAFETY: `pair_of` gives a handle that holds a map, and a pair of its own.
-        self.pair_of(|map, pair| unsafe { raw::bptree_at(map, place, pair) })
+        self.pair_of(|map, pair| unsafe { raw::bptree_at(map, index, pair) })
     }
 
     /// The number of smaller keys: `Ok` if the key itself is there.
-    pub fn rank(&mut self, key: u64) -> Result<usize, usize> {
+    pub fn rank(&self, key: u64) -> Result<usize, usize> {
         let mut rank = 0;
         // SAFETY: the handle holds a map, and `rank` is a local value.
-        match unsafe { raw::bptree_rank(&mut self.handle, key, &mut rank) } {
+        match unsafe { raw::bptree_rank(&self.handle, key, &mut rank) } {
             true => Ok(rank),
             false => Err(rank),
         }
     }
 
     /// The number of keys that are at least `from` and less than `to`.
-    pub fn range_len(&mut self, from: u64, to: u64) -> usize {
+    pub fn range_len(&self, from: u64, to: u64) -> usize {
         // SAFETY: the handle holds a map.
-        unsafe { raw::bptree_range_len(&mut self.handle, from, to) }
+        unsafe { raw::bptree_range_len(&self.handle, from, to) }
     }
 
     /// Removes and returns the pair at an index.
-    pub fn remove_at(&mut self, place: usize) -> Result<Option<(u64, u64)>, OutOfMemory> {
+    pub fn remove_at(&mut self, index: usize) -> Result<Option<(u64, u64)>, OutOfMemory> {
         // SAFETY: `removed` gives a handle that holds a map, and a pair of its own.
-        self.removed(|map, pair| unsafe { raw::bptree_remove_at(map, place, pair) })
+        self.removed(|map, pair| unsafe { raw::bptree_remove_at(map, index, pair) })
     }
 
     /// Removes and returns the pair with the least key.
@@ -205,7 +219,7 @@ impl NumberMap {
     }
 
     /// The pairs of a page of `size`, of which the first is 0.
-    pub fn page(&mut self, number: usize, size: usize) -> Result<Vec<(u64, u64)>, OutOfMemory> {
+    pub fn page(&self, number: usize, size: usize) -> Result<Vec<(u64, u64)>, OutOfMemory> {
         let (mut out, mut pairs) = (Vec::new(), Vec::new());
         let room = size.min(self.len());
         out.try_reserve_exact(room).map_err(|_| OutOfMemory)?;
@@ -213,20 +227,20 @@ impl NumberMap {
         // (a page that takes all pairs is the first one)
         let number = if room < size && number > 0 { usize::MAX } else { number };
         // SAFETY: the handle holds a map, and `out` has `room` pairs.
-        let count = unsafe { raw::bptree_page(&mut self.handle, number, out.as_mut_ptr(), room) };
+        let count = unsafe { raw::bptree_page(&self.handle, number, out.as_mut_ptr(), room) };
         pairs.try_reserve_exact(count).map_err(|_| OutOfMemory)?;
         pairs.extend(out[..count].iter().map(|pair| (pair.key, pair.value)));
         Ok(pairs)
     }
 
     /// All pairs in the order of their keys.
-    pub fn iter(&mut self) -> NumberIter<'_> {
+    pub fn iter(&self) -> NumberIter<'_> {
         self.range(..)
     }
 
     /// The pairs whose keys are in a range, in the order of their keys, from both ends. They are
     /// copied in blocks.
-    pub fn range(&mut self, range: impl RangeBounds<u64>) -> NumberIter<'_> {
+    pub fn range(&self, range: impl RangeBounds<u64>) -> NumberIter<'_> {
         let from = match range.start_bound() {
             Bound::Included(&key) => Some(key),
             Bound::Excluded(&key) => key.checked_add(1),
@@ -272,7 +286,7 @@ impl Block {
 
 /// The pairs of a range that are left, in the order of their keys.
 pub struct NumberIter<'a> {
-    map: &'a mut NumberMap,
+    map: &'a NumberMap,
     // The least and the greatest key that may still be returned.
     left: Option<(u64, u64)>,
     ahead: Block,
@@ -287,8 +301,7 @@ impl Iterator for NumberIter<'_> {
         if self.ahead.at == self.ahead.count {
             let out = self.ahead.pairs.as_mut_ptr();
             // SAFETY: the handle holds a map, and `out` has `BLOCK` pairs.
-            self.ahead.count =
-                unsafe { raw::bptree_range(&mut self.map.handle, from, out, BLOCK) };
+            self.ahead.count = unsafe { raw::bptree_range(&self.map.handle, from, out, BLOCK) };
             self.ahead.at = 0;
         }
         let copied = &self.ahead.pairs[..self.ahead.count];
@@ -306,8 +319,7 @@ impl DoubleEndedIterator for NumberIter<'_> {
         if self.behind.at == self.behind.count {
             let out = self.behind.pairs.as_mut_ptr();
             // SAFETY: the handle holds a map, and `out` has `BLOCK` pairs.
-            self.behind.count =
-                unsafe { raw::bptree_range_back(&mut self.map.handle, to, out, BLOCK) };
+            self.behind.count = unsafe { raw::bptree_range_back(&self.map.handle, to, out, BLOCK) };
             self.behind.at = 0;
         }
         let copied = &self.behind.pairs[..self.behind.count];
@@ -321,7 +333,7 @@ impl DoubleEndedIterator for NumberIter<'_> {
 
 impl std::iter::FusedIterator for NumberIter<'_> {}
 
-impl<'a> IntoIterator for &'a mut NumberMap {
+impl<'a> IntoIterator for &'a NumberMap {
     type Item = (u64, u64);
     type IntoIter = NumberIter<'a>;
 

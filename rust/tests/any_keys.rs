@@ -3,7 +3,7 @@ use std::collections::{BTreeMap, BTreeSet};
 use std::fmt::Debug;
 use std::ops::Bound;
 use std::rc::Rc;
-use sweep_bptree_proved::{Map, OrderedKey, Set};
+use sweep_bptree_proved::{Map, NumberMap, OrderedKey, Set};
 
 struct Dice(u64);
 
@@ -256,4 +256,38 @@ fn maps_go_to_other_threads() {
     let map: Map<String, Vec<u32>> = (0..100).map(|n| (n.to_string(), vec![n])).collect();
     let sum = std::thread::spawn(move || map.values().map(|list| list[0]).sum::<u32>());
     assert_eq!(sum.join().unwrap(), 4950);
+}
+
+// Threads share maps and sets that they read, and what they find is what one thread finds.
+#[test]
+fn threads_share_what_they_read() {
+    fn is_shared<T: Send + Sync>(_: &T) {}
+    const PAIRS: u64 = 20_000;
+    let texts: Map<String, u64> = (0..PAIRS).map(|i| (format!("{i:06}"), i)).collect();
+    let keys: Set<(u64, u32)> = (0..PAIRS).map(|i| (i / 2, (i % 2) as u32)).collect();
+    let numbers =
+        NumberMap::from_pairs(&(0..PAIRS).map(|i| (3 * i, i)).collect::<Vec<_>>()).unwrap();
+    is_shared(&texts);
+    is_shared(&keys);
+    is_shared(&numbers);
+    std::thread::scope(|scope| {
+        for first in 0..4 {
+            let (texts, keys, numbers) = (&texts, &keys, &numbers);
+            scope.spawn(move || {
+                for i in (first..PAIRS).step_by(3) {
+                    let index = i as usize;
+                    assert_eq!(texts.get(format!("{i:06}").as_str()), Some(&i));
+                    assert_eq!(texts.rank(format!("{i:06}x").as_str()), Err(index + 1));
+                    assert_eq!(keys.get_at(index), Some(&(i / 2, (i % 2) as u32)));
+                    assert_eq!((numbers.get(3 * i), numbers.get(3 * i + 1)), (Some(i), None));
+                    assert_eq!(numbers.get_at(index), Some((3 * i, i)));
+                }
+                assert_eq!(texts.values().copied().sum::<u64>(), PAIRS * (PAIRS - 1) / 2);
+                assert_eq!(
+                    numbers.iter().rev().map(|(_, i)| i).sum::<u64>(),
+                    PAIRS * (PAIRS - 1) / 2
+                );
+            });
+        }
+    });
 }

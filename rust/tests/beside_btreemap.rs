@@ -1,4 +1,4 @@
-//! Calls in no order beside a `BTreeMap`.
+//! Calls in random order beside a `BTreeMap`.
 use std::collections::BTreeMap;
 use std::ops::Bound;
 use sweep_bptree_proved::{NumberMap, OutOfMemory};
@@ -60,8 +60,14 @@ fn answers_alike() -> Result<(), OutOfMemory> {
         match dice.roll(9) {
             0..=3 => assert_eq!(map.insert(key, turn)?, plain.insert(key, turn)),
             4..=5 => assert_eq!(map.remove(key)?, plain.remove(&key)),
-            6 => assert_eq!(map.pop_first()?, first(&plain).and_then(|(key, _)| plain.remove_entry(&key))),
-            7 => assert_eq!(map.pop_last()?, last(&plain).and_then(|(key, _)| plain.remove_entry(&key))),
+            6 => assert_eq!(
+                map.pop_first()?,
+                first(&plain).and_then(|(key, _)| plain.remove_entry(&key))
+            ),
+            7 => assert_eq!(
+                map.pop_last()?,
+                last(&plain).and_then(|(key, _)| plain.remove_entry(&key))
+            ),
             _ => {
                 let place = dice.roll(plain.len() as u64 + 2) as usize;
                 let at = match turn % 16 {
@@ -134,8 +140,22 @@ fn loads_nothing() -> Result<(), OutOfMemory> {
 
 #[test]
 fn goes_to_another_thread() -> Result<(), OutOfMemory> {
-    let mut map = NumberMap::from_pairs(&[(2, 20), (1, 10), (2, 21)])?;
+    let map = NumberMap::from_pairs(&[(2, 20), (1, 10), (2, 21)])?;
     let pairs = std::thread::spawn(move || map.iter().collect::<Vec<_>>()).join().unwrap();
     assert_eq!(pairs, [(1, 10), (2, 21)]);
+    Ok(())
+}
+
+// A copy does not change with the map that it was made of.
+#[test]
+fn copies_are_apart() -> Result<(), OutOfMemory> {
+    let pairs: Vec<_> = (0..5000).map(|key| (key, key + 1)).collect();
+    let mut map = NumberMap::from_pairs(&pairs)?;
+    let mut copy = map.try_clone()?;
+    while map.pop_last()?.is_some() {}
+    assert_eq!(copy.iter().collect::<Vec<_>>(), pairs);
+    copy.insert(9000, 1)?;
+    assert_eq!((map.len(), copy.len()), (0, 5001));
+    assert_eq!(NumberMap::new()?.try_clone()?.len(), 0);
     Ok(())
 }

@@ -50,7 +50,7 @@ class InProcess:
     """A map by the functions for C."""
 
     def __init__(self, library):
-        self._found = library.REFUSED, library.FOUND
+        self._results = library.NO_MEMORY, library.REPLACED, library.REMOVED
         self._call = library.functions()
         self._map = library.Handle()
         self._ref = byref(self._map)
@@ -97,7 +97,7 @@ class InProcess:
         beside = {b"next": call["next"], b"prev": call["prev"]}
         pair, number, size = self._pair, self._number, self._size
         pair_ref, number_ref, size_ref = byref(pair), byref(number), byref(size)
-        refused, found = self._found
+        no_memory, replaced, removed = self._results
         answers = []
         say = answers.append
         for line in text.split(b"\n")[:-1]:
@@ -107,14 +107,14 @@ class InProcess:
                 say(b"%d" % number.value if get(ref, int(words[1]), number_ref) else b"none")
             elif name == b"put":
                 code = put(ref, int(words[1]), int(words[2]), number_ref)
-                if code == refused:
+                if code == no_memory:
                     raise OutOfMemory("memory was refused for a pair")
-                say(b"old %d" % number.value if code == found else b"new")
+                say(b"old %d" % number.value if code == replaced else b"new")
             elif name == b"del":
                 code = delete(ref, int(words[1]), number_ref)
-                if code == refused:
+                if code == no_memory:
                     raise OutOfMemory("memory was refused for a removal")
-                say(b"gone %d" % number.value if code == found else b"none")
+                say(b"gone %d" % number.value if code == removed else b"none")
             elif name == b"rank":
                 is_in = rank(ref, int(words[1]), size_ref)
                 say(b"in %d" % size.value if is_in else b"out %d" % size.value)

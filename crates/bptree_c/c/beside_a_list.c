@@ -87,37 +87,37 @@ static void change(bptree *map) {
     case 0: case 1: case 2:
         if (len == MOST && !there) return;
         code = bptree_put(map, key, value, &old);
-        alike(code, there ? BPTREE_FOUND : BPTREE_NONE, "put");
+        alike(code, there ? BPTREE_REPLACED : BPTREE_ADDED, "put");
         alike(old, was, "put, old value");
         put(key, value);
         return;
     case 3: case 4:
         code = bptree_del(map, key, &old);
-        alike(code, there ? BPTREE_FOUND : BPTREE_NONE, "del");
+        alike(code, there ? BPTREE_REMOVED : BPTREE_ABSENT, "del");
         alike(old, was, "del, old value");
         if (there) take_out(at);
         return;
     case 5:
         code = bptree_remove_at(map, place, &pair);
-        alike(code, place < len ? BPTREE_FOUND : BPTREE_NONE, "remove_at");
-        alike_found(code == BPTREE_FOUND, &pair, place < len, place, "remove_at");
+        alike(code, place < len ? BPTREE_REMOVED : BPTREE_ABSENT, "remove_at");
+        alike_found(code == BPTREE_REMOVED, &pair, place < len, place, "remove_at");
         if (place < len) take_out(place);
         return;
     case 6:
         code = bptree_pop_first(map, &pair);
-        alike(code, len ? BPTREE_FOUND : BPTREE_NONE, "pop_first");
-        alike_found(code == BPTREE_FOUND, &pair, len > 0, 0, "pop_first");
+        alike(code, len ? BPTREE_REMOVED : BPTREE_ABSENT, "pop_first");
+        alike_found(code == BPTREE_REMOVED, &pair, len > 0, 0, "pop_first");
         if (len) take_out(0);
         return;
     default:
         code = bptree_pop_last(map, &pair);
-        alike(code, len ? BPTREE_FOUND : BPTREE_NONE, "pop_last");
-        alike_found(code == BPTREE_FOUND, &pair, len > 0, len - 1, "pop_last");
+        alike(code, len ? BPTREE_REMOVED : BPTREE_ABSENT, "pop_last");
+        alike_found(code == BPTREE_REMOVED, &pair, len > 0, len - 1, "pop_last");
         if (len) len--;
     }
 }
 
-static void ask(bptree *map) {
+static void ask(const bptree *map) {
     uint64_t key = any_key(), to = any_key(), value = 77;
     size_t at = smaller(key), place = roll(len + 2), rank = 7;
     size_t above = at + is_there(key), end = smaller(to);
@@ -145,7 +145,7 @@ static void copied(bptree_pair *out, size_t room, size_t count, size_t first, si
     }
 }
 
-static void ask_for_many(bptree *map) {
+static void ask_for_many(const bptree *map) {
     bptree_pair out[ROOM];
     size_t room = roll(ROOM + 1), number = roll(len / (room + 1) + 2);
     uint64_t key = any_key();
@@ -224,6 +224,22 @@ static void load(bptree *map) {
     free(given);
 }
 
+/* A copy has the map's pairs, and keeps them if the map changes. */
+static void copy_it(bptree *map) {
+    bptree copy = {0};
+    bptree_pair pair;
+    uint64_t old;
+    alike(bptree_clone(map, &copy), true, "clone");
+    if (bptree_first(map, &pair)) alike(bptree_del(map, pair.key, &old), BPTREE_REMOVED, "del beside a copy");
+    alike(bptree_len(&copy), len, "len of a copy");
+    for (size_t i = 0; i < len; i++) {
+        alike(bptree_at(&copy, i, &pair), true, "at of a copy");
+        alike_pairs(pair, plain[i], "at of a copy");
+    }
+    bptree_free(&copy);
+    if (len) alike(bptree_put(map, plain[0].key, plain[0].value, &old), BPTREE_ADDED, "put beside a copy");
+}
+
 int main(void) {
     bptree map = {0};
     alike(bptree_new(&map), true, "new");
@@ -233,6 +249,7 @@ int main(void) {
         if (call % 64 == 0) ask_for_many(&map), ask_for_each(&map);
         if (call % 1024 == 0) ask_for_none(&map);
         if (call % 40000 == 39999) load(&map);
+        if (call % 30000 == 0) copy_it(&map);
         if (call % 150000 == 149999) alike(bptree_clear(&map), true, "clear"), len = 0;
     }
     for (size_t i = 0; i < len; i++) {
@@ -241,6 +258,7 @@ int main(void) {
         alike_pairs(pair, plain[i], "at the end");
     }
     load_none(&map);
+    copy_it(&map);
     ask_for_none(&map);
     bptree_free(&map);
     alike(map.at == NULL, true, "free");

@@ -58,12 +58,12 @@ static void change(bptree_bytes *set, const string *key) {
     bool there = at < len && !compared(&plain[at], key);
     if (roll(5) < 3) {
         if (len == MOST && !there) return;
-        alike(bptree_bytes_insert(set, key->bytes, key->n), there ? BPTREE_FOUND : BPTREE_NONE, "insert");
+        alike(bptree_bytes_insert(set, key->bytes, key->n), there ? BPTREE_REPLACED : BPTREE_ADDED, "insert");
         if (there) return;
         memmove(plain + at + 1, plain + at, (len++ - at) * sizeof *plain);
         plain[at] = *key;
     } else {
-        alike(bptree_bytes_remove(set, key->bytes, key->n), there ? BPTREE_FOUND : BPTREE_NONE, "remove");
+        alike(bptree_bytes_remove(set, key->bytes, key->n), there ? BPTREE_REMOVED : BPTREE_ABSENT, "remove");
         if (there) memmove(plain + at, plain + at + 1, (--len - at) * sizeof *plain);
     }
 }
@@ -86,15 +86,15 @@ static void told_of(bool is_there, size_t at, bool answer, const char *call) {
     blank();
 }
 
-static void ask_for_keys(bptree_bytes *set, const string *key) {
+static void ask_for_keys(const bptree_bytes *set, const string *key) {
     size_t at = smaller(key), place = roll(len + 2);
     size_t above = at + (at < len && !compared(&plain[at], key));
     blank();
     told_of(len > 0, 0, bptree_bytes_first(set, out, room, &told), "first");
     told_of(len > 0, len - 1, bptree_bytes_last(set, out, room, &told), "last");
     told_of(place < len, place, bptree_bytes_at(set, place, out, room, &told), "at");
-    told_of(above < len, above, bptree_bytes_next(set, key->bytes, key->n, out, room, &told) == BPTREE_FOUND, "next");
-    told_of(at > 0, at - 1, bptree_bytes_prev(set, key->bytes, key->n, out, room, &told) == BPTREE_FOUND, "prev");
+    told_of(above < len, above, bptree_bytes_next(set, key->bytes, key->n, out, room, &told), "next");
+    told_of(at > 0, at - 1, bptree_bytes_prev(set, key->bytes, key->n, out, room, &told), "prev");
 }
 
 /* The empty key by NULL, and an array of length 0 by NULL: whether the key is in the set, and the
@@ -104,29 +104,29 @@ static void ask_with_null(bptree_bytes *set) {
     size_t at = smaller(&empty), rank = 77;
     bool there = at < len && !compared(&plain[at], &empty);
     size_t above = at + there;
-    alike(bptree_bytes_contains(set, NULL, 0), there ? BPTREE_FOUND : BPTREE_NONE, "contains of NULL");
-    alike(bptree_bytes_rank(set, NULL, 0, &rank), there ? BPTREE_FOUND : BPTREE_NONE, "rank of NULL");
+    alike(bptree_bytes_contains(set, NULL, 0), there, "contains of NULL");
+    alike(bptree_bytes_rank(set, NULL, 0, &rank), there, "rank of NULL");
     alike(rank, 0, "rank of NULL");
     blank(), room = 0;
     told_of(len > 0, 0, bptree_bytes_first(set, NULL, 0, &told), "first into NULL"), room = 0;
     told_of(len > 0, len - 1, bptree_bytes_last(set, NULL, 0, &told), "last into NULL"), room = 0;
     told_of(len > 0, 0, bptree_bytes_at(set, 0, NULL, 0, &told), "at into NULL"), room = 0;
-    told_of(above < len, above, bptree_bytes_next(set, NULL, 0, NULL, 0, &told) == BPTREE_FOUND, "next of NULL");
-    told_of(false, 0, bptree_bytes_prev(set, NULL, 0, NULL, 0, &told) == BPTREE_FOUND, "prev of NULL");
-    alike(bptree_bytes_remove(set, NULL, 0), there ? BPTREE_FOUND : BPTREE_NONE, "remove of NULL");
-    alike(bptree_bytes_contains(set, NULL, 0), BPTREE_NONE, "contains of NULL");
-    alike(bptree_bytes_insert(set, NULL, 0), BPTREE_NONE, "insert of NULL");
-    alike(bptree_bytes_insert(set, NULL, 0), BPTREE_FOUND, "insert of NULL");
-    alike(bptree_bytes_contains(set, empty.bytes, 0), BPTREE_FOUND, "contains of no bytes");
-    if (!there) alike(bptree_bytes_remove(set, empty.bytes, 0), BPTREE_FOUND, "remove of no bytes");
+    told_of(above < len, above, bptree_bytes_next(set, NULL, 0, NULL, 0, &told), "next of NULL");
+    told_of(false, 0, bptree_bytes_prev(set, NULL, 0, NULL, 0, &told), "prev of NULL");
+    alike(bptree_bytes_remove(set, NULL, 0), there ? BPTREE_REMOVED : BPTREE_ABSENT, "remove of NULL");
+    alike(bptree_bytes_contains(set, NULL, 0), false, "contains of NULL");
+    alike(bptree_bytes_insert(set, NULL, 0), BPTREE_ADDED, "insert of NULL");
+    alike(bptree_bytes_insert(set, NULL, 0), BPTREE_REPLACED, "insert of NULL");
+    alike(bptree_bytes_contains(set, empty.bytes, 0), true, "contains of no bytes");
+    if (!there) alike(bptree_bytes_remove(set, empty.bytes, 0), BPTREE_REMOVED, "remove of no bytes");
 }
 
-static void ask(bptree_bytes *set, const string *key) {
+static void ask(const bptree_bytes *set, const string *key) {
     size_t at = smaller(key), rank = 7;
     bool there = at < len && !compared(&plain[at], key);
     alike(bptree_bytes_len(set), len, "len");
-    alike(bptree_bytes_contains(set, key->bytes, key->n), there ? BPTREE_FOUND : BPTREE_NONE, "contains");
-    alike(bptree_bytes_rank(set, key->bytes, key->n, &rank), there ? BPTREE_FOUND : BPTREE_NONE, "rank, there");
+    alike(bptree_bytes_contains(set, key->bytes, key->n), there, "contains");
+    alike(bptree_bytes_rank(set, key->bytes, key->n, &rank), there, "rank, there");
     alike(rank, at, "rank");
 }
 
@@ -142,7 +142,7 @@ int main(void) {
         if (call == CALLS / 2) alike(bptree_bytes_clear(&set), true, "clear"), len = 0, ask_with_null(&set);
     }
     bptree_bytes_free(&set);
-    alike(set.at == NULL, true, "free");
+    alike(set.keys.at == NULL, true, "free");
     puts("ok");
     return 0;
 }

@@ -120,16 +120,17 @@ static void with_null(bptree_dict *dict) {
     must(bptree_dict_range_len(dict, NULL, 0, (const uint8_t *)"\0", 1) == (size_t)there);
     must(bptree_dict_values(dict, 0, NULL, 0) == 0);
     must(bptree_dict_page(dict, 0, NULL, 0, NULL, 0) == 0);
+    must(bptree_dict_page_back(dict, 1, NULL, 0, NULL, 0) == 0);
     bptree_record record = {NO_LENGTH, NO_VALUE};
     must(bptree_dict_page(dict, 0, NULL, 0, &record, 1) == (size_t)there);
     must(record.length == (there ? 0 : NO_LENGTH) && record.value == (there ? was : NO_VALUE));
-    must(bptree_dict_del(dict, NULL, 0, &old) == (there ? BPTREE_FOUND : BPTREE_NONE));
+    must(bptree_dict_del(dict, NULL, 0, &old) == (there ? BPTREE_REMOVED : BPTREE_ABSENT));
     must(old == (there ? was : NO_OLD) && !bptree_dict_contains(dict, NULL, 0));
     old = NO_OLD;
-    must(bptree_dict_put(dict, NULL, 0, 8, &old) == BPTREE_NONE && old == NO_OLD);
-    must(bptree_dict_put(dict, NULL, 0, 9, &old) == BPTREE_FOUND && old == 8);
-    if (there) must(bptree_dict_put(dict, empty.at, 0, was, &old) == BPTREE_FOUND && old == 9);
-    else must(bptree_dict_remove_at(dict, 0, &old) == BPTREE_FOUND && old == 9);
+    must(bptree_dict_put(dict, NULL, 0, 8, &old) == BPTREE_ADDED && old == NO_OLD);
+    must(bptree_dict_put(dict, NULL, 0, 9, &old) == BPTREE_REPLACED && old == 8);
+    if (there) must(bptree_dict_put(dict, empty.at, 0, was, &old) == BPTREE_REPLACED && old == 9);
+    else must(bptree_dict_remove_at(dict, 0, &old) == BPTREE_REMOVED && old == 9);
     must(bptree_dict_len(dict) == count);
 }
 
@@ -151,24 +152,38 @@ int main(void) {
         if (step % 64 == 0) with_null(&dict);
         if (step % 4000 == 3999) load(&dict), i = place(&k, &there);
         blank();
-        switch (draw(9)) {
+        switch (draw(10)) {
         case 0: case 1: case 2:
             if (count == MOST) break;
             value = draw(1000);
             closed = there;
-            must(bptree_dict_put(&dict, k.at, k.n, value, &old) == (there ? BPTREE_FOUND : BPTREE_NONE));
+            must(bptree_dict_put(&dict, k.at, k.n, value, &old) == (there ? BPTREE_REPLACED : BPTREE_ADDED));
             closed = 0;
             must(old == (there ? values[i] : NO_OLD));
             put_at(i, there, &k, value);
             break;
         case 3: case 4:
-            must(bptree_dict_del(&dict, k.at, k.n, &old) == (there ? BPTREE_FOUND : BPTREE_NONE));
+            must(bptree_dict_del(&dict, k.at, k.n, &old) == (there ? BPTREE_REMOVED : BPTREE_ABSENT));
             must(old == (there ? values[i] : NO_OLD));
             if (there) take_out(i);
             break;
+        case 9: {
+            size_t p = step % 2 ? count - 1 : 0, room = draw(WHOLE + 1);
+            bptree_result code = step % 2 ? bptree_dict_pop_last(&dict, out, room, &len, &found) : bptree_dict_pop_first(&dict, out, room, &len, &found);
+            must(code == (count == 0 ? BPTREE_ABSENT : keys[p].n > room ? BPTREE_NO_ROOM : BPTREE_REMOVED));
+            if (code == BPTREE_NO_ROOM) {
+                must(len == keys[p].n && found == NO_VALUE);
+                for (size_t q = 0; q < WHOLE; q++) must(out[q] == 0x55);
+                must(bptree_dict_len(&dict) == count);
+            } else {
+                found_is(code == BPTREE_REMOVED, count > 0, p, room);
+            }
+            if (code == BPTREE_REMOVED) take_out(p);
+            break;
+        }
         case 8: {
             size_t p = draw(count + 3);
-            must(bptree_dict_remove_at(&dict, p, &old) == (p < count ? BPTREE_FOUND : BPTREE_NONE));
+            must(bptree_dict_remove_at(&dict, p, &old) == (p < count ? BPTREE_REMOVED : BPTREE_ABSENT));
             must(old == (p < count ? values[p] : NO_OLD));
             if (p < count) take_out(p);
             break;
@@ -211,6 +226,18 @@ int main(void) {
             must(got == want);
             for (size_t q = used; q < sizeof bytes; q++) must(bytes[q] == 0x55);
             for (size_t q = got; q < 60; q++) must(records[q].length == NO_LENGTH && records[q].value == NO_VALUE + q);
+            memset(bytes, 0x55, sizeof bytes);
+            for (size_t q = 0; q < 60; q++) records[q] = (bptree_record){NO_LENGTH, NO_VALUE + q};
+            size_t end = p < count ? p : count;
+            got = bptree_dict_page_back(&dict, p, bytes, room, records, n), used = want = 0;
+            while (want < n && want < end && used + keys[end - 1 - want].n <= room) {
+                size_t q = end - 1 - want;
+                must(want < got && records[want].length == keys[q].n && records[want].value == values[q] && !memcmp(bytes + used, keys[q].at, keys[q].n));
+                used += keys[q].n; want++;
+            }
+            must(got == want);
+            for (size_t q = used; q < sizeof bytes; q++) must(bytes[q] == 0x55);
+            for (size_t q = got; q < 60; q++) must(records[q].length == NO_LENGTH && records[q].value == NO_VALUE + q);
             got = bptree_dict_values(&dict, p, some, n);
             must(got == (p >= count ? 0 : count - p < n ? count - p : n));
             for (size_t q = 0; q < 60; q++) must(some[q] == (q < got ? values[p + q] : q));
@@ -218,7 +245,11 @@ int main(void) {
         }
         }
     }
+    bptree_dict copy = {0};
+    must(bptree_dict_clone(&dict, &copy) && bptree_dict_len(&copy) == count);
     must(bptree_dict_clear(&dict) && bptree_dict_len(&dict) == 0);
+    for (size_t p = 0; p < count; p++) blank(), found_is(bptree_dict_at(&copy, p, out, WHOLE, &len, &found), 1, p, WHOLE);
+    bptree_dict_free(&copy);
     count = 0;
     with_null(&dict);
     load_null(&dict);

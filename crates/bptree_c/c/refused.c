@@ -55,26 +55,26 @@ static void blank(void) { old = 77, pair = (bptree_pair){7, 78}; }
 static bool is_blank(void) { return old == 77 && pair.key == 7 && pair.value == 78; }
 
 /* Whether the map holds as many pairs as before, and the same. */
-static bool is_as_it_was(bptree *map, size_t len) {
+static bool is_as_it_was(const bptree *map, size_t len) {
     return bptree_range(map, 0, after, PAIRS + 1) == len && !memcmp(before, after, len * sizeof *before);
 }
 
 /* Makes a call again and again, each time with its next allocation failing, until none did. So many
    of its allocations are for room that the call can do without. */
-static void refuse_all_but(int hints, bptree *map, uint32_t (*call)(bptree *), const char *name) {
+static void refuse_all_but(int hints, bptree *map, bptree_result (*call)(bptree *), const char *name) {
     for (long request = 0;; request++) {
         size_t len = bptree_range(map, 0, before, PAIRS + 1);
         long were = refusals;
         blank();
         until_refusal = request;
-        uint32_t answer = call(map);
+        bptree_result answer = call(map);
         until_refusal = -1;
-        must(answer == BPTREE_FOUND || is_blank(), name);
+        must(answer == BPTREE_REMOVED || answer == BPTREE_REPLACED || is_blank(), name);
         if (refusals == were) {
-            must(answer != BPTREE_REFUSED, name);
+            must(answer != BPTREE_NO_MEMORY, name);
             return;
         }
-        if (answer != BPTREE_REFUSED) {
+        if (answer != BPTREE_NO_MEMORY) {
             must(hints-- > 0, name);
             continue;
         }
@@ -82,109 +82,74 @@ static void refuse_all_but(int hints, bptree *map, uint32_t (*call)(bptree *), c
     }
 }
 
-static void refuse_each(bptree *map, uint32_t (*call)(bptree *), const char *name) {
-    refuse_all_but(0, map, call, name);
-}
-
-static uint32_t put(bptree *map) { return bptree_put(map, key, key, &old); }
-static uint32_t del(bptree *map) { return bptree_del(map, key, &old); }
-static uint32_t remove_at(bptree *map) { return bptree_remove_at(map, key, &pair); }
-static uint32_t pop_first(bptree *map) { return bptree_pop_first(map, &pair); }
-static uint32_t pop_last(bptree *map) { return bptree_pop_last(map, &pair); }
-static uint32_t clear(bptree *map) { return bptree_clear(map) ? BPTREE_NONE : BPTREE_REFUSED; }
-static uint32_t load(bptree *map) { return bptree_load(map, given, key) ? BPTREE_NONE : BPTREE_REFUSED; }
-
-/* The same of a set of byte strings, each of four bytes. */
-typedef uint8_t string[4];
-
-static string name, beside, strings_before[STRINGS], strings_after[STRINGS];
-static size_t told;
-
-static size_t list(bptree_bytes *set, string *into) {
-    size_t many = bptree_bytes_len(set), n;
-    for (size_t i = 0; i < many; i++) must(bptree_bytes_at(set, i, into[i], sizeof *into, &n) && n == sizeof *into, "at");
-    return many;
-}
-
-static void refuse_each_of_strings(bptree_bytes *set, uint32_t (*call)(bptree_bytes *), const char *what) {
+/* A copy of which each allocation fails in turn: nothing of it is left then. */
+static void refuse_clone(const bptree *map) {
+    size_t len = bptree_range(map, 0, before, PAIRS + 1);
     for (long request = 0;; request++) {
-        size_t many = list(set, strings_before);
-        long were = refusals;
-        told = 77, memset(beside, 0x55, sizeof beside);
+        bptree copy = {0};
+        long were = refusals, held = blocks;
         until_refusal = request;
-        uint32_t answer = call(set);
+        bool made = bptree_clone(map, &copy);
         until_refusal = -1;
-        must((answer == BPTREE_REFUSED) == (refusals != were), what);
-        must(answer != BPTREE_REFUSED || (told == 77 && !memcmp(beside, "UUUU", sizeof beside)), what);
-        if (refusals == were) return;
-        must(list(set, strings_after) == many && !memcmp(strings_before, strings_after, many * sizeof *strings_before), what);
+        must(made == (copy.at != NULL) && made == (refusals == were), "clone");
+        must(is_as_it_was(map, len), "clone changes no map");
+        if (!made) {
+            must(blocks == held, "clone keeps nothing");
+            continue;
+        }
+        must(is_as_it_was(&copy, len), "clone has the pairs");
+        bptree_free(&copy);
+        must(blocks == held, "memory is left by a clone");
+        return;
     }
 }
 
-static uint32_t insert_name(bptree_bytes *set) { return bptree_bytes_insert(set, name, sizeof name); }
-static uint32_t has_name(bptree_bytes *set) { return bptree_bytes_contains(set, name, sizeof name); }
-static uint32_t rank_of_name(bptree_bytes *set) { return bptree_bytes_rank(set, name, sizeof name, &told); }
-static uint32_t after_name(bptree_bytes *set) { return bptree_bytes_next(set, name, sizeof name, beside, sizeof beside, &told); }
-static uint32_t before_name(bptree_bytes *set) { return bptree_bytes_prev(set, name, sizeof name, beside, sizeof beside, &told); }
-static uint32_t remove_name(bptree_bytes *set) { return bptree_bytes_remove(set, name, sizeof name); }
-static uint32_t clear_names(bptree_bytes *set) { return bptree_bytes_clear(set) ? BPTREE_NONE : BPTREE_REFUSED; }
+static void refuse_each(bptree *map, bptree_result (*call)(bptree *), const char *name) {
+    refuse_all_but(0, map, call, name);
+}
+
+static bptree_result put(bptree *map) { return bptree_put(map, key, key, &old); }
+static bptree_result del(bptree *map) { return bptree_del(map, key, &old); }
+static bptree_result remove_at(bptree *map) { return bptree_remove_at(map, key, &pair); }
+static bptree_result pop_first(bptree *map) { return bptree_pop_first(map, &pair); }
+static bptree_result pop_last(bptree *map) { return bptree_pop_last(map, &pair); }
+static bptree_result clear(bptree *map) { return bptree_clear(map) ? BPTREE_ADDED : BPTREE_NO_MEMORY; }
+static bptree_result load(bptree *map) { return bptree_load(map, given, key) ? BPTREE_ADDED : BPTREE_NO_MEMORY; }
+
+/* The same of a map from byte strings, here of four bytes each. */
+typedef uint8_t string[4];
+
+static string name;
 
 static void name_it(size_t number) {
     for (size_t i = 0; i < sizeof name; i++) name[i] = (uint8_t)((number * 7919) % STRINGS >> 4 * (sizeof name - 1 - i));
 }
 
-static void strings(void) {
-    bptree_bytes set = {0};
-    for (long request = 0; !set.at; request++) {
-        until_refusal = request;
-        bool made = bptree_bytes_new(&set);
-        until_refusal = -1;
-        must(made == (set.at != NULL) && (made || blocks == 0), "new of strings");
-    }
-    for (size_t i = 0; i < STRINGS; i++) name_it(i), refuse_each_of_strings(&set, insert_name, "insert");
-    must(bptree_bytes_len(&set) == STRINGS, "insert");
-    for (size_t i = 0; i < STRINGS; i += 50) {
-        name_it(i);
-        refuse_each_of_strings(&set, insert_name, "insert of a key that is there");
-        refuse_each_of_strings(&set, has_name, "contains");
-        refuse_each_of_strings(&set, rank_of_name, "rank");
-        refuse_each_of_strings(&set, after_name, "next");
-        refuse_each_of_strings(&set, before_name, "prev");
-    }
-    for (size_t i = 0; i < STRINGS - 20; i++) name_it(i), refuse_each_of_strings(&set, remove_name, "remove");
-    must(bptree_bytes_len(&set) == 20, "remove");
-    refuse_each_of_strings(&set, clear_names, "clear of strings");
-    must(bptree_bytes_len(&set) == 0, "clear of strings");
-    bptree_bytes_free(&set);
-    must(blocks == 0, "memory is left by strings");
-}
-
-/* The same of a map of byte strings. */
 static uint8_t bytes_before[STRINGS * 4], bytes_after[STRINGS * 4], bytes_given[STRINGS * 4];
 static bptree_record records_before[STRINGS + 1], records_after[STRINGS + 1], records_given[STRINGS];
-static size_t place;
+static size_t place, told;
 
-static size_t list_dict(bptree_dict *dict, uint8_t *bytes, bptree_record *records) {
+static size_t list_dict(const bptree_dict *dict, uint8_t *bytes, bptree_record *records) {
     size_t many = bptree_dict_page(dict, 0, bytes, STRINGS * 4, records, STRINGS + 1);
     must(many == bptree_dict_len(dict), "page of a map of strings");
     return many;
 }
 
 /* So many of the call's allocations are for what it can do without. */
-static void refuse_each_of_dict(int hints, bptree_dict *dict, uint32_t (*call)(bptree_dict *), const char *what) {
+static void refuse_each_of_dict(int hints, bptree_dict *dict, bptree_result (*call)(bptree_dict *), const char *what) {
     for (long request = 0;; request++) {
         size_t many = list_dict(dict, bytes_before, records_before);
         long were = refusals;
         blank();
         until_refusal = request;
-        uint32_t answer = call(dict);
+        bptree_result answer = call(dict);
         until_refusal = -1;
-        must(answer == BPTREE_FOUND || is_blank(), what);
+        must(answer == BPTREE_REMOVED || answer == BPTREE_REPLACED || is_blank(), what);
         if (refusals == were) {
-            must(answer != BPTREE_REFUSED, what);
+            must(answer != BPTREE_NO_MEMORY, what);
             return;
         }
-        if (answer != BPTREE_REFUSED) {
+        if (answer != BPTREE_NO_MEMORY) {
             must(hints-- > 0, what);
             continue;
         }
@@ -194,14 +159,44 @@ static void refuse_each_of_dict(int hints, bptree_dict *dict, uint32_t (*call)(b
     }
 }
 
-static uint32_t put_name(bptree_dict *dict) { return bptree_dict_put(dict, name, sizeof name, place, &old); }
-static uint32_t del_name(bptree_dict *dict) { return bptree_dict_del(dict, name, sizeof name, &old); }
-static uint32_t remove_place(bptree_dict *dict) { return bptree_dict_remove_at(dict, place, &old); }
-static uint32_t clear_dict(bptree_dict *dict) { return bptree_dict_clear(dict) ? BPTREE_NONE : BPTREE_REFUSED; }
+static void refuse_clone_of_dict(const bptree_dict *dict) {
+    size_t many = list_dict(dict, bytes_before, records_before);
+    for (long request = 0;; request++) {
+        bptree_dict copy = {0};
+        long were = refusals, held = blocks;
+        until_refusal = request;
+        bool made = bptree_dict_clone(dict, &copy);
+        until_refusal = -1;
+        must(made == (copy.at != NULL) && made == (refusals == were), "clone of strings");
+        if (!made) {
+            must(blocks == held, "clone of strings keeps nothing");
+            continue;
+        }
+        must(list_dict(&copy, bytes_after, records_after) == many, "clone of strings");
+        must(!memcmp(bytes_before, bytes_after, many * 4), "clone of strings");
+        must(!memcmp(records_before, records_after, many * sizeof *records_before), "clone of strings");
+        bptree_dict_free(&copy);
+        must(blocks == held, "memory is left by a clone of strings");
+        return;
+    }
+}
 
-static uint32_t load_dict(bptree_dict *dict) {
+static bptree_result put_name(bptree_dict *dict) { return bptree_dict_put(dict, name, sizeof name, place, &old); }
+static bptree_result del_name(bptree_dict *dict) { return bptree_dict_del(dict, name, sizeof name, &old); }
+static bptree_result remove_place(bptree_dict *dict) { return bptree_dict_remove_at(dict, place, &old); }
+static bptree_result pop_first_name(bptree_dict *dict) {
+    string out;
+    return bptree_dict_pop_first(dict, out, sizeof out, &told, &old);
+}
+static bptree_result pop_last_name(bptree_dict *dict) {
+    string out;
+    return bptree_dict_pop_last(dict, out, sizeof out, &told, &old);
+}
+static bptree_result clear_dict(bptree_dict *dict) { return bptree_dict_clear(dict) ? BPTREE_ADDED : BPTREE_NO_MEMORY; }
+
+static bptree_result load_dict(bptree_dict *dict) {
     bool done = bptree_dict_load(dict, bytes_given, 4 * place, records_given, place);
-    return done ? BPTREE_NONE : BPTREE_REFUSED;
+    return done ? BPTREE_ADDED : BPTREE_NO_MEMORY;
 }
 
 static void dict_of_strings(void) {
@@ -214,6 +209,7 @@ static void dict_of_strings(void) {
     }
     for (place = 0; place < STRINGS; place++) name_it(place), refuse_each_of_dict(0, &dict, put_name, "put of a string");
     must(bptree_dict_len(&dict) == STRINGS, "put of a string");
+    refuse_clone_of_dict(&dict);
     for (size_t i = 0; i < STRINGS; i += 50) {
         name_it(i);
         /* (the copy of a key that is there is not needed) */
@@ -222,6 +218,9 @@ static void dict_of_strings(void) {
     for (size_t i = 0; i < 200; i++) name_it(i), refuse_each_of_dict(0, &dict, del_name, "del of a string");
     for (place = 300; place > 0; place--) refuse_each_of_dict(0, &dict, remove_place, "remove_at of strings");
     must(bptree_dict_len(&dict) == STRINGS - 500, "removals of strings");
+    for (size_t i = 0; i < 45; i++) refuse_each_of_dict(0, &dict, pop_first_name, "pop_first of strings");
+    for (size_t i = 0; i < 45; i++) refuse_each_of_dict(0, &dict, pop_last_name, "pop_last of strings");
+    must(bptree_dict_len(&dict) == STRINGS - 590, "removals of strings");
     for (size_t i = 0; i < STRINGS; i++) {
         name_it(i);
         memcpy(bytes_given + 4 * i, name, sizeof name);
@@ -236,6 +235,8 @@ static void dict_of_strings(void) {
     place = 0;
     refuse_each_of_dict(0, &dict, del_name, "del of no string");
     refuse_each_of_dict(0, &dict, remove_place, "remove_at of no string");
+    refuse_each_of_dict(0, &dict, pop_first_name, "pop_first of no string");
+    refuse_each_of_dict(0, &dict, pop_last_name, "pop_last of no string");
     must(refusals == were, "allocations of an empty map of strings");
     bptree_dict_free(&dict);
     must(blocks == 0, "memory is left by a map of strings");
@@ -275,6 +276,7 @@ int main(void) {
     /* From one leaf up to three layers of nodes, and down again. */
     for (key = 1; key <= PAIRS; key++) refuse_each(&map, put, "put");
     must(bptree_len(&map) == PAIRS, "put");
+    refuse_clone(&map);
     for (key = PAIRS; key > PAIRS - 900; key -= 3) refuse_each(&map, del, "del");
     for (key = 2000; key > 1500; key--) refuse_each(&map, remove_at, "remove_at");
     for (int i = 0; i < 400; i++) refuse_each(&map, pop_first, "pop_first");
@@ -284,6 +286,7 @@ int main(void) {
     must(bptree_len(&map) == PAIRS, "load");
     refuse_each(&map, clear, "clear");
     must(bptree_len(&map) == 0, "clear");
+    refuse_clone(&map);
     /* An empty map allocates nothing for what is not there. */
     long were = refusals;
     refuse_each(&map, pop_first, "pop_first of none");
@@ -292,7 +295,6 @@ int main(void) {
     must(refusals == were, "requests of an empty map");
     bptree_free(&map);
     must(blocks == 0, "memory is left");
-    strings();
     dict_of_strings();
     put_many();
     printf("%ld allocations failed\nok\n", refusals);

@@ -1,6 +1,8 @@
+pub mod BackLemmas
 pub mod BatchLemmas
-pub mod ByteLemmas
+pub mod CloneLemmas
 pub mod CopyLemmas
 pub mod Handles
+pub mod NeighbourLemmas
 pub mod PageLemmas
 pub mod Values

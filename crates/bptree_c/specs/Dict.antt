@@ -9,25 +9,25 @@ abbrev pub Pairs : Type 0
 Pairs = List (List ℕ × ℕ)
 
 -- what a call writes for a pair, by what an array, its key's length and a number hold before and after the call: the array begins with as many of the key's bytes as it takes, and the rest of it is unchanged; then the key's whole length, and the value. Without a pair nothing is written
-abbrev pub IsToldPair : Option (List ℕ × ℕ) → Bool → List ℕ × ℕ × ℕ → List ℕ × ℕ × ℕ → Type 0
-IsToldPair None found old new = (found ≡ false) × (new ≡ old)
-IsToldPair (Some pair) found old new = (found ≡ true) × (new ≡ (take (length old.0) pair.0 ++ drop (length pair.0) old.0, length pair.0, pair.1))
+abbrev pub WritesPair : Option (List ℕ × ℕ) → Bool → List ℕ × ℕ × ℕ → List ℕ × ℕ × ℕ → Type 0
+WritesPair None found old new = (found ≡ false) × (new ≡ old)
+WritesPair (Some pair) found old new = (found ≡ true) × (new ≡ (take (length old.0) pair.0 ++ drop (length pair.0) old.0, length pair.0, pair.1))
 
 -- an array, a key's length and a value are unchanged if no pair is found
 abbrev pub WritesOnlyIf : Bool → List ℕ → ℕ → ℕ → List ℕ → ℕ → ℕ → Type 0
 WritesOnlyIf found out len value new_out new_len new_value =
     found ≡ false → (new_out ≡ out) × (new_len ≡ len) × (new_value ≡ value)
 
--- the value that was at the key is returned, and the new one is put there, or the pair is removed
+-- the value that was at the key, or none, and the list with the new value there, or without the key
 abbrev pub IsPutIn : Pairs → List ℕ → ℕ → Option ℕ → Option Pairs → Type 0
-IsPutIn old key new told held = (value by_bytes old key ≡ told) × (held ≡ Some (put by_bytes old key new))
+IsPutIn old key new was held = (value by_bytes old key ≡ was) × (held ≡ Some (put by_bytes old key new))
 
-abbrev pub IsGoneFrom : Pairs → List ℕ → Option ℕ → Option Pairs → Type 0
-IsGoneFrom old key told held = (value by_bytes old key ≡ told) × (held ≡ Some (del by_bytes old key))
+abbrev pub IsRemovedKey : Pairs → List ℕ → Option ℕ → Option Pairs → Type 0
+IsRemovedKey old key was held = (value by_bytes old key ≡ was) × (held ≡ Some (del by_bytes old key))
 
 -- the pair at an index is removed, and its value returned
 abbrev pub IsRemovedAt : Pairs → ℕ → Option Pairs → ℕ → Type 0
-IsRemovedAt old i new told = (slice_get (values_of old) i ≡ Some told) × (new ≡ Some (remove old i))
+IsRemovedAt old i new was = (slice_get (values_of old) i ≡ Some was) × (new ≡ Some (remove old i))
 
 abbrev pub TakesValueAt : Pairs → ℕ → Pairs → Option ℕ → Type 0
-TakesValueAt old i new told = (told ≡ slice_get (values_of old) i) × (new ≡ remove old i)
+TakesValueAt old i new was = (was ≡ slice_get (values_of old) i) × (new ≡ remove old i)

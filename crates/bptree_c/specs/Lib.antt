@@ -1,8 +1,10 @@
 pub mod Batch
 pub mod ByteKeys
 pub mod Dict
+pub mod DictEnds
 pub mod DictPages
 pub mod Ends
 pub mod Held
+pub mod Lending
 pub mod Pairs
-pub mod Popped
+pub mod Results

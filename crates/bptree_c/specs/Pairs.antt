@@ -15,15 +15,15 @@ abbrev pub pairs_gathered : List Pair → List (ℕ × ℕ)
 pairs_gathered given = gather nat_cmp (map as_tuple given)
 
 -- the result is true if there is a pair, which is then what C reads; if there is none, what C reads is unchanged
-abbrev pub IsAnswered : Option (ℕ × ℕ) → Bool → Pair → Pair → Type 0
-IsAnswered found answer old new =
-    MatchOption found ((answer ≡ false) × (new ≡ old)) (λ pair. (answer ≡ true) × (pair ≡ as_tuple new))
+abbrev pub IsWritten : Option (ℕ × ℕ) → Bool → Pair → Pair → Type 0
+IsWritten found result old new =
+    MatchOption found ((result ≡ false) × (new ≡ old)) (λ pair. (result ≡ true) × (pair ≡ as_tuple new))
 
--- the first pairs of the list, as many as the array takes, stand at its beginning, and the rest of the array is as it was
+-- the first pairs of the list, as many as the array takes, are at its beginning, and the rest of the array is unchanged
 abbrev pub IsCopied : List (ℕ × ℕ) → List Pair → List Pair → ℕ → Type 0
 IsCopied l old new count =
     (count ≡ length (take (length old) l)) × (new ≡ map as_pair (take (length old) l) ++ drop count old)
 
--- the first pair of the list has left it, or there was none
+-- the first pair was taken off the list, or there was none
 abbrev pub IsTaken : List (ℕ × ℕ) → Option Pair → List (ℕ × ℕ) → Type 0
 IsTaken old taken new = MatchOption taken (old ≡ []) (λ pair. old ≡ as_tuple pair ∷ new)

@@ -1,19 +1,18 @@
 //! The calls of a map from byte strings to numbers. A look-up compares the caller's bytes in place:
 //! it does not allocate and never fails.
-ghost use Rattle.std.specs.Prelude.{◌≡◌, ◌≢◌, ◌≤◌, ◌-◌, ℕ, List, [], Some, None, Ok, IfOk, OnErr, IsOk, IsTrue, false, length, slice_get};
+ghost use Rattle.std.specs.Prelude.{◌≡◌, ◌≢◌, ◌≤◌, ◌++◌, ℕ, List, [], Some, None, Ok, IfOk, OnErr, IsOk, IsTrue, false, length, slice_get, take, drop};
 ghost use Rattle.std.specs.Map.{keys_of};
 ghost use Rattle.std.specs.Map.Iter.{deref_pair};
 ghost use Rattle.std.specs.Option.{option_map};
 ghost use Rattle.bptree_arguments.specs.CountLaws.{count_below};
 ghost use Rattle.bptree_c.specs.ByteKeys.{by_bytes};
-ghost use Rattle.bptree_c.specs.Dict.{Pairs, IsToldPair, WritesOnlyIf, IsPutIn, IsGoneFrom};
+ghost use Rattle.bptree_c.specs.Dict.{Pairs, WritesPair, WritesOnlyIf, IsPutIn, IsRemovedKey};
 ghost use Rattle.bptree_keys.specs.Contents.{has, last_member, next, previous, value};
 ghost use Rattle.bptree_tree.specs.Changes.{Puts, Removes};
 
-use crate::byte_set::copy;
 use crate::bytes::{Bytes, View};
 use crate::dict_handle::{Dict, DictHandle};
-use crate::writing::told_value;
+use crate::results::{removed_value, stored_value};
 use bptree_maps::map::BPlusTreeMap;
 use bptree_probes::changing::{remove_by, replace_by};
 use bptree_probes::reading::{get_by, has_by, next_by, previous_by, rank_by};
@@ -24,7 +23,7 @@ use std::alloc::{AllocError, Global};
 pub extern "C" fn bptree_dict_new(alloc: Global, dict: &mut DictHandle) -> bool
     requires closed { dict.old.held ≡ None }
     ensures made { IsTrue result → dict.new.held ≡ Some [] }
-    ensures refused { result ≡ false → dict.new.held ≡ None }
+    ensures no_memory { result ≡ false → dict.new.held ≡ None }
 {
     let pairs = match BPlusTreeMap::new(alloc) {
         Ok(pairs) => pairs,
@@ -39,7 +38,41 @@ pub extern "C" fn bptree_dict_new(alloc: Global, dict: &mut DictHandle) -> bool
     }
 }
 
-/// Frees a map. The handle then holds none.
+/// Makes a copy of a map in a handle that holds none. It is false if an allocation fails; then that
+/// handle holds none. O(n).
+#[unsafe(no_mangle)]
+pub extern "C" fn bptree_dict_clone(
+    alloc: Global,
+    dict: &mut DictHandle,
+    to: &mut DictHandle,
+) -> bool
+    ghost pairs: { Pairs }
+    requires open { dict.old.held ≡ Some pairs }
+    requires closed { to.old.held ≡ None }
+    ensures kept { dict.new.held ≡ Some pairs }
+    ensures made { IsTrue result → to.new.held ≡ Some pairs }
+    ensures no_memory { result ≡ false → to.new.held ≡ None }
+{
+    match copy_of(alloc, dict.peek()) {
+        Ok(whole) => {
+            to.give(whole);
+            true
+        }
+        Err(_) => false,
+    }
+}
+
+fn copy_of(alloc: Global, dict: &Dict) -> Result<Box<Dict>, AllocError>
+    ensures { IfOk result (λ copy. copy.value ≡ dict.now) }
+{
+    let pairs = dict.pairs.clone()?;
+    match Box::new(alloc, Dict { pairs }) {
+        Ok(whole) => Ok(whole),
+        Err(_) => Err(AllocError),
+    }
+}
+
+/// Frees a map. The handle then holds none. O(n).
 #[unsafe(no_mangle)]
 pub extern "C" fn bptree_dict_free(alloc: Global, dict: &mut DictHandle)
     ghost pairs: { Pairs }
@@ -52,54 +85,41 @@ pub extern "C" fn bptree_dict_free(alloc: Global, dict: &mut DictHandle)
 /// Removes all pairs. It allocates one node first, and is false if that fails; then the map is
 /// unchanged.
 #[unsafe(no_mangle)]
-pub extern "C" fn bptree_dict_clear(alloc: Global, dict: &mut DictHandle) -> bool
+pub extern "C" fn bptree_dict_clear(dict: &mut DictHandle) -> bool
     ghost pairs: { Pairs }
     requires open { dict.old.held ≡ Some pairs }
     ensures cleared { IsTrue result → dict.new.held ≡ Some [] }
-    ensures refused { result ≡ false → dict.new.held ≡ Some pairs }
+    ensures no_memory { result ≡ false → dict.new.held ≡ Some pairs }
 {
-    let mut whole = dict.take(alloc);
-    let answer = whole.pairs.clear();
-    dict.give(whole);
-    answer.is_ok()
+    dict.peek().pairs.clear().is_ok()
 }
 
-/// The number of pairs.
+/// The number of pairs. O(1).
 #[unsafe(no_mangle)]
-pub extern "C" fn bptree_dict_len(alloc: Global, dict: &mut DictHandle) -> usize
+pub extern "C" fn bptree_dict_len(dict: &mut DictHandle) -> usize
     ghost pairs: { Pairs }
     requires open { dict.old.held ≡ Some pairs }
     ensures kept { dict.new.held ≡ Some pairs }
     ensures len { result ≡ length pairs }
 {
-    let whole = dict.take(alloc);
-    let len = whole.pairs.len();
-    dict.give(whole);
-    len
+    dict.peek().pairs.len()
 }
 
-/// Whether a key is there.
+/// Whether a key is there. O(log n).
 #[unsafe(no_mangle)]
-pub extern "C" fn bptree_dict_contains(alloc: Global, dict: &mut DictHandle, key: &[u8]) -> bool
+pub extern "C" fn bptree_dict_contains(dict: &mut DictHandle, key: &[u8]) -> bool
     ghost pairs: { Pairs }
     requires open { dict.old.held ≡ Some pairs }
     ensures kept { dict.new.held ≡ Some pairs }
     ensures there { result ≡ has by_bytes pairs key.now }
 {
-    let whole = dict.take(alloc);
-    let answer = has_by(&whole.pairs, &View { bytes: key });
-    dict.give(whole);
-    answer
+    has_by(&dict.peek().pairs, &View { bytes: key })
 }
 
 /// The value at a key, in `found`. It is false if the key is absent; then `found` is unchanged.
+/// O(log n).
 #[unsafe(no_mangle)]
-pub extern "C" fn bptree_dict_get(
-    alloc: Global,
-    dict: &mut DictHandle,
-    key: &[u8],
-    found: &mut u64,
-) -> bool
+pub extern "C" fn bptree_dict_get(dict: &mut DictHandle, key: &[u8], found: &mut u64) -> bool
     ghost pairs: { Pairs }
     requires open { dict.old.held ≡ Some pairs }
     ensures kept { dict.new.held ≡ Some pairs }
@@ -107,10 +127,7 @@ pub extern "C" fn bptree_dict_get(
     ensures absent { result ≡ false → value by_bytes pairs key.now ≡ None }
     ensures unchanged { result ≡ false → found.new ≡ found.old }
 {
-    let whole = dict.take(alloc);
-    let answer = get_by(&whole.pairs, &View { bytes: key }).copied();
-    dict.give(whole);
-    match answer {
+    match value_in(dict.peek(), key) {
         Some(it) => {
             *found = it;
             true
@@ -119,23 +136,22 @@ pub extern "C" fn bptree_dict_get(
     }
 }
 
-/// The number of smaller keys, in `rank`, and whether the key itself is there.
+fn value_in(dict: &Dict, key: &[u8]) -> Option<u64>
+    ensures { result ≡ value by_bytes dict.now key.now }
+{
+    get_by(&dict.pairs, &View { bytes: key }).copied()
+}
+
+/// The number of smaller keys, in `rank`, and whether the key itself is there. O(log n).
 #[unsafe(no_mangle)]
-pub extern "C" fn bptree_dict_rank(
-    alloc: Global,
-    dict: &mut DictHandle,
-    key: &[u8],
-    rank: &mut usize,
-) -> bool
+pub extern "C" fn bptree_dict_rank(dict: &mut DictHandle, key: &[u8], rank: &mut usize) -> bool
     ghost pairs: { Pairs }
     requires open { dict.old.held ≡ Some pairs }
     ensures kept { dict.new.held ≡ Some pairs }
     ensures rank { rank.new ≡ count_below by_bytes key.now (keys_of pairs) }
     ensures there { result ≡ has by_bytes pairs key.now }
 {
-    let whole = dict.take(alloc);
-    let (is_there, smaller) = rank_in(&whole, key);
-    dict.give(whole);
+    let (is_there, smaller) = rank_in(dict.peek(), key);
     *rank = smaller;
     is_there
 }
@@ -150,9 +166,9 @@ fn rank_in(dict: &Dict, key: &[u8]) -> (bool, usize)
     }
 }
 
-/// Stores a value at a key: 0 if the key is new, and 1 if it had a value, which is then in `old`.
-/// It is 2 if an allocation fails; then the map is unchanged. At 0 and 2 `old` is unchanged. A new
-/// key is copied in. It never fails for a key that is there.
+/// Stores a value at a key: 3 if the key is new, and 4 if it had a value, which is then in `old`.
+/// It is 2 if an allocation fails; then the map is unchanged. At 2 and 3 `old` is unchanged. A new
+/// key is copied in. It never fails for a key that is there. O(log n).
 #[unsafe(no_mangle)]
 pub extern "C" fn bptree_dict_put(
     alloc: Global,
@@ -163,17 +179,14 @@ pub extern "C" fn bptree_dict_put(
 ) -> u32
     ghost pairs: { Pairs }
     requires open { dict.old.held ≡ Some pairs }
-    ensures codes { result ≤ 2 }
-    ensures added { result ≡ 0 → IsPutIn pairs key.now new None dict.new.held }
-    ensures replaced { result ≡ 1 → IsPutIn pairs key.now new (Some old.new) dict.new.held }
-    ensures refused { result ≡ 2 → dict.new.held ≡ Some pairs }
-    ensures unchanged { result ≢ 1 → old.new ≡ old.old }
-    ensures sure { IsTrue (has by_bytes pairs key.now) → result ≤ 1 }
+    ensures codes { (2 ≤ result) × (result ≤ 4) }
+    ensures added { result ≡ 3 → IsPutIn pairs key.now new None dict.new.held }
+    ensures replaced { result ≡ 4 → IsPutIn pairs key.now new (Some old.new) dict.new.held }
+    ensures no_memory { result ≡ 2 → dict.new.held ≡ Some pairs }
+    ensures unchanged { result ≢ 4 → old.new ≡ old.old }
+    ensures sure { IsTrue (has by_bytes pairs key.now) → result ≢ 2 }
 {
-    let mut whole = dict.take(alloc);
-    let answer = put_in(alloc, &mut whole, key, new);
-    dict.give(whole);
-    told_value(answer, old)
+    stored_value(put_in(alloc, dict.peek(), key, new), old)
 }
 
 // The key is copied first, so that one descent serves whether the key is there or not. If the copy
@@ -215,25 +228,17 @@ fn replace_in(dict: &mut Dict, key: &[u8], new: u64) -> Result<Option<u64>, Allo
 /// 2 if a copy of a key fails, which a node may need; then the map is unchanged. It never fails for
 /// a key that is not there. At 0 and 2 `old` is unchanged.
 #[unsafe(no_mangle)]
-pub extern "C" fn bptree_dict_del(
-    alloc: Global,
-    dict: &mut DictHandle,
-    key: &[u8],
-    old: &mut u64,
-) -> u32
+pub extern "C" fn bptree_dict_del(dict: &mut DictHandle, key: &[u8], old: &mut u64) -> u32
     ghost pairs: { Pairs }
     requires open { dict.old.held ≡ Some pairs }
     ensures codes { result ≤ 2 }
-    ensures absent { result ≡ 0 → IsGoneFrom pairs key.now None dict.new.held }
-    ensures removed { result ≡ 1 → IsGoneFrom pairs key.now (Some old.new) dict.new.held }
-    ensures refused { result ≡ 2 → dict.new.held ≡ Some pairs }
+    ensures absent { result ≡ 0 → IsRemovedKey pairs key.now None dict.new.held }
+    ensures removed { result ≡ 1 → IsRemovedKey pairs key.now (Some old.new) dict.new.held }
+    ensures no_memory { result ≡ 2 → dict.new.held ≡ Some pairs }
     ensures unchanged { result ≢ 1 → old.new ≡ old.old }
     ensures sure { has by_bytes pairs key.now ≡ false → result ≡ 0 }
 {
-    let mut whole = dict.take(alloc);
-    let answer = del_in(&mut whole, key);
-    dict.give(whole);
-    told_value(answer, old)
+    removed_value(del_in(dict.peek(), key), old)
 }
 
 fn del_in(dict: &mut Dict, key: &[u8]) -> Result<Option<u64>, AllocError>
@@ -245,8 +250,13 @@ fn del_in(dict: &mut Dict, key: &[u8]) -> Result<Option<u64>, AllocError>
 }
 
 // Whether there is a pair. If there is one, its key is copied and its value written.
-fn told(pair: Option<(&Bytes, &u64)>, out: &mut [u8], len: &mut usize, value: &mut u64) -> bool
-    ensures { IsToldPair (option_map deref_pair pair.entry) result (out.old, len.old, value.old) (out.new, len.new, value.new) }
+fn write_pair(
+    pair: Option<(&Bytes, &u64)>,
+    out: &mut [u8],
+    len: &mut usize,
+    value: &mut u64,
+) -> bool
+    ensures { WritesPair (option_map deref_pair pair.entry) result (out.old, len.old, value.old) (out.new, len.new, value.new) }
 {
     match pair {
         Some((key, it)) => {
@@ -258,12 +268,21 @@ fn told(pair: Option<(&Bytes, &u64)>, out: &mut [u8], len: &mut usize, value: &m
     }
 }
 
+// Copies as many bytes as `out` takes, and returns how many there are.
+pub(crate) fn copy(key: &[u8], out: &mut [u8]) -> usize
+    ensures copied { out.new ≡ take (length out.old) key.now ++ drop (length key.now) out.old }
+    ensures whole { result ≡ length key.now }
+{
+    let count = key.len().min(out.len());
+    out[..count].copy_from_slice(&key[..count]);
+    key.len()
+}
+
 /// The pair with the least key: `out` begins with as many of the key's bytes as it takes, the key's
 /// whole length is in `len`, and the value in `value`. It is false if the map is empty; then
 /// nothing is written.
 #[unsafe(no_mangle)]
 pub extern "C" fn bptree_dict_first(
-    alloc: Global,
     dict: &mut DictHandle,
     out: &mut [u8],
     len: &mut usize,
@@ -272,19 +291,15 @@ pub extern "C" fn bptree_dict_first(
     ghost pairs: { Pairs }
     requires open { dict.old.held ≡ Some pairs }
     ensures kept { dict.new.held ≡ Some pairs }
-    ensures told { IsToldPair (slice_get pairs 0) result (out.old, len.old, value.old) (out.new, len.new, value.new) }
+    ensures written { WritesPair (slice_get pairs 0) result (out.old, len.old, value.old) (out.new, len.new, value.new) }
     ensures unchanged { WritesOnlyIf result out.old len.old value.old out.new len.new value.new }
 {
-    let whole = dict.take(alloc);
-    let answer = told(whole.pairs.first(), out, len, value);
-    dict.give(whole);
-    answer
+    write_pair(dict.peek().pairs.first(), out, len, value)
 }
 
 /// The pair with the greatest key, written as `bptree_dict_first` does.
 #[unsafe(no_mangle)]
 pub extern "C" fn bptree_dict_last(
-    alloc: Global,
     dict: &mut DictHandle,
     out: &mut [u8],
     len: &mut usize,
@@ -293,22 +308,18 @@ pub extern "C" fn bptree_dict_last(
     ghost pairs: { Pairs }
     requires open { dict.old.held ≡ Some pairs }
     ensures kept { dict.new.held ≡ Some pairs }
-    ensures told { IsToldPair (last_member pairs) result (out.old, len.old, value.old) (out.new, len.new, value.new) }
+    ensures written { WritesPair (last_member pairs) result (out.old, len.old, value.old) (out.new, len.new, value.new) }
     ensures unchanged { WritesOnlyIf result out.old len.old value.old out.new len.new value.new }
 {
-    let whole = dict.take(alloc);
-    let answer = told(whole.pairs.last(), out, len, value);
-    dict.give(whole);
-    answer
+    write_pair(dict.peek().pairs.last(), out, len, value)
 }
 
 /// The pair at an index in the order of the keys, from 0 on, written as `bptree_dict_first` does.
 /// It is false past the end; then nothing is written.
 #[unsafe(no_mangle)]
 pub extern "C" fn bptree_dict_at(
-    alloc: Global,
     dict: &mut DictHandle,
-    place: usize,
+    index: usize,
     out: &mut [u8],
     len: &mut usize,
     value: &mut u64,
@@ -316,20 +327,16 @@ pub extern "C" fn bptree_dict_at(
     ghost pairs: { Pairs }
     requires open { dict.old.held ≡ Some pairs }
     ensures kept { dict.new.held ≡ Some pairs }
-    ensures told { IsToldPair (slice_get pairs place) result (out.old, len.old, value.old) (out.new, len.new, value.new) }
+    ensures written { WritesPair (slice_get pairs index) result (out.old, len.old, value.old) (out.new, len.new, value.new) }
     ensures unchanged { WritesOnlyIf result out.old len.old value.old out.new len.new value.new }
 {
-    let whole = dict.take(alloc);
-    let answer = told(whole.pairs.get_at(place), out, len, value);
-    dict.give(whole);
-    answer
+    write_pair(dict.peek().pairs.get_at(index), out, len, value)
 }
 
 /// The pair with the least greater key, written as `bptree_dict_first` does. It is false if there
 /// is none; then nothing is written.
 #[unsafe(no_mangle)]
 pub extern "C" fn bptree_dict_next(
-    alloc: Global,
     dict: &mut DictHandle,
     key: &[u8],
     out: &mut [u8],
@@ -339,19 +346,16 @@ pub extern "C" fn bptree_dict_next(
     ghost pairs: { Pairs }
     requires open { dict.old.held ≡ Some pairs }
     ensures kept { dict.new.held ≡ Some pairs }
-    ensures told { IsToldPair (next by_bytes pairs key.now) result (out.old, len.old, value.old) (out.new, len.new, value.new) }
+    ensures written { WritesPair (next by_bytes pairs key.now) result (out.old, len.old, value.old) (out.new, len.new, value.new) }
     ensures unchanged { WritesOnlyIf result out.old len.old value.old out.new len.new value.new }
 {
-    let whole = dict.take(alloc);
-    let answer = told(next_by(&whole.pairs, &View { bytes: key }), out, len, value);
-    dict.give(whole);
-    answer
+    let found = next_by(&dict.peek().pairs, &View { bytes: key });
+    write_pair(found, out, len, value)
 }
 
 /// The pair with the greatest smaller key, written as `bptree_dict_next` does.
 #[unsafe(no_mangle)]
 pub extern "C" fn bptree_dict_prev(
-    alloc: Global,
     dict: &mut DictHandle,
     key: &[u8],
     out: &mut [u8],
@@ -361,16 +365,9 @@ pub extern "C" fn bptree_dict_prev(
     ghost pairs: { Pairs }
     requires open { dict.old.held ≡ Some pairs }
     ensures kept { dict.new.held ≡ Some pairs }
-    ensures told { IsToldPair (previous by_bytes pairs key.now) result (out.old, len.old, value.old) (out.new, len.new, value.new) }
+    ensures written { WritesPair (previous by_bytes pairs key.now) result (out.old, len.old, value.old) (out.new, len.new, value.new) }
     ensures unchanged { WritesOnlyIf result out.old len.old value.old out.new len.new value.new }
 {
-    let whole = dict.take(alloc);
-    let answer = told(
-        previous_by(&whole.pairs, &View { bytes: key }),
-        out,
-        len,
-        value,
-    );
-    dict.give(whole);
-    answer
+    let found = previous_by(&dict.peek().pairs, &View { bytes: key });
+    write_pair(found, out, len, value)
 }

@@ -40,6 +40,9 @@ impl Model for DictHandle {
 }
 
 impl DictHandle {
+    ghost use Rattle.std.specs.Borrow.{sem};
+    ghost use Rattle.bptree_c.specs.Lending.{LendsDict};
+
     fn empty() -> DictHandle
         ensures { result.held ≡ None }
     {
@@ -66,7 +69,17 @@ impl DictHandle {
         }
     }
 
-    /// Takes the map out. The caller has to return it by `give`.
+    /// The map, which stays in its handle. The handle itself is not written.
+    pub(crate) fn peek(&mut self) -> &mut Dict
+        requires { IsSome self.old.held }
+        ensures* writes_back { sem 𝓛 (LendsDict self.entry result) }
+        ensures value { Some result.now ≡ self.old.held }
+    {
+        let at = self.at as *mut Dict;
+        unsafe { &mut *at }
+    }
+
+    /// Takes the map out of its handle.
     pub(crate) fn take(&mut self, alloc: Global) -> Box<Dict>
         requires { IsSome self.old.held }
         ensures taken { Some result.value ≡ self.old.held }
@@ -77,7 +90,7 @@ impl DictHandle {
             .into_box()
     }
 
-    /// Puts a map in. The handle must be empty.
+    /// Puts a map into a handle that holds none.
     pub(crate) fn give(&mut self, map: Box<Dict>)
         requires { self.old.held ≡ None }
         ensures { self.new.held ≡ Some map.value }

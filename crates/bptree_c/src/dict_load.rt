@@ -8,7 +8,7 @@ ghost use Rattle.bptree_keys.specs.Contents.{gather};
 use crate::bytes::Bytes;
 use crate::dict_handle::{Dict, DictHandle};
 use crate::record::Record;
-use crate::writing::told_value;
+use crate::results::removed_value;
 use bptree_arguments::count::Count;
 use bptree_maps::map::BPlusTreeMap;
 use bptree_probes::changing::value_of;
@@ -27,12 +27,9 @@ pub extern "C" fn bptree_dict_load(
     ghost pairs: { Pairs }
     requires open { dict.old.held ≡ Some pairs }
     ensures all { IsTrue result → dict.new.held ≡ Some (gather by_bytes (pairs_of bytes.now given.now)) }
-    ensures refused { result ≡ false → dict.new.held ≡ Some pairs }
+    ensures unchanged { result ≡ false → dict.new.held ≡ Some pairs }
 {
-    let mut whole = dict.take(alloc);
-    let answer = load_into(alloc, &mut whole, bytes, given);
-    dict.give(whole);
-    answer.is_ok()
+    load_into(alloc, dict.peek(), bytes, given).is_ok()
 }
 
 fn load_into(
@@ -81,31 +78,23 @@ fn copies(alloc: Global, bytes: &[u8], given: &[Record]) -> Result<Vec<(Bytes, u
 /// value is then in `old`, and 0 past the end. It is 2 if a copy of a key fails, which a node may
 /// need; then the map is unchanged. It never fails past the end. At 0 and 2 `old` is unchanged.
 #[unsafe(no_mangle)]
-pub extern "C" fn bptree_dict_remove_at(
-    alloc: Global,
-    dict: &mut DictHandle,
-    place: usize,
-    old: &mut u64,
-) -> u32
+pub extern "C" fn bptree_dict_remove_at(dict: &mut DictHandle, index: usize, old: &mut u64) -> u32
     ghost pairs: { Pairs }
     requires open { dict.old.held ≡ Some pairs }
     ensures codes { result ≤ 2 }
-    ensures past { result ≡ 0 → (length pairs ≤ place) × (dict.new.held ≡ Some pairs) }
-    ensures removed { result ≡ 1 → IsRemovedAt pairs place dict.new.held old.new }
-    ensures refused { result ≡ 2 → dict.new.held ≡ Some pairs }
+    ensures past { result ≡ 0 → (length pairs ≤ index) × (dict.new.held ≡ Some pairs) }
+    ensures removed { result ≡ 1 → IsRemovedAt pairs index dict.new.held old.new }
+    ensures no_memory { result ≡ 2 → dict.new.held ≡ Some pairs }
     ensures unchanged { result ≢ 1 → old.new ≡ old.old }
-    ensures sure { length pairs ≤ place → result ≡ 0 }
+    ensures sure { length pairs ≤ index → result ≡ 0 }
 {
-    let mut whole = dict.take(alloc);
-    let answer = remove_in(&mut whole, place);
-    dict.give(whole);
-    told_value(answer, old)
+    removed_value(remove_in(dict.peek(), index), old)
 }
 
-fn remove_in(dict: &mut Dict, place: usize) -> Result<Option<u64>, AllocError>
-    ensures ok { IfOk result (TakesValueAt dict.old place dict.new) }
-    ensures past { length dict.old ≤ place → (result ≡ Ok None) × (dict.new ≡ dict.old) }
+fn remove_in(dict: &mut Dict, index: usize) -> Result<Option<u64>, AllocError>
+    ensures ok { IfOk result (TakesValueAt dict.old index dict.new) }
+    ensures past { length dict.old ≤ index → (result ≡ Ok None) × (dict.new ≡ dict.old) }
     ensures err { OnErr result (dict.new ≡ dict.old) }
 {
-    value_of(dict.pairs.remove_at(place))
+    value_of(dict.pairs.remove_at(index))
 }

@@ -1,19 +1,18 @@
-//! The map of numbers to numbers with places, and a set of byte strings with places, as functions
-//! for callers in C. `include/sweep_bptree.h` declares them.
+//! A map from numbers to numbers and a map from byte strings to numbers, both with indices, as
+//! functions for callers in C. `include/sweep_bptree.h` declares them.
 //!
-//! A caller keeps a `Handle`: a pointer to a map on the heap, or none. Each function takes the map
-//! out of the handle, calls it, and gives it back; its contract is the map's own, stated again over
-//! the list that the handle holds. A `ByteHandle` is the same of a set.
+//! A caller keeps a `Handle`: a pointer to a map on the heap, or none. Each function calls the map
+//! where it is; its contract is the map's own, stated again over the list that the handle holds. A
+//! call that reads writes neither to the handle nor to the map. A `DictHandle` is the same of a map
+//! from byte strings.
 #![tactic(auto)]
 
 mod batch;
-mod byte_callers;
-mod byte_handle;
-mod byte_set;
 mod bytes;
 mod callers;
 mod dict;
 mod dict_callers;
+mod dict_ends;
 mod dict_handle;
 mod dict_load;
 mod dict_many;
@@ -21,28 +20,27 @@ mod handle;
 mod loose;
 mod making;
 mod many;
+mod number;
 mod pair;
 mod reading;
 mod record;
+mod results;
 mod writing;
 
 pub use batch::{bptree_get_many, bptree_put_many, bptree_rank_many};
-pub use byte_handle::ByteHandle;
-pub use byte_set::{
-    bptree_bytes_at, bptree_bytes_clear, bptree_bytes_contains, bptree_bytes_first,
-    bptree_bytes_free, bptree_bytes_insert, bptree_bytes_last, bptree_bytes_len, bptree_bytes_new,
-    bptree_bytes_next, bptree_bytes_prev, bptree_bytes_rank, bptree_bytes_remove,
-};
 pub use dict::{
-    bptree_dict_at, bptree_dict_clear, bptree_dict_contains, bptree_dict_del, bptree_dict_first,
-    bptree_dict_free, bptree_dict_get, bptree_dict_last, bptree_dict_len, bptree_dict_new,
-    bptree_dict_next, bptree_dict_prev, bptree_dict_put, bptree_dict_rank,
+    bptree_dict_at, bptree_dict_clear, bptree_dict_clone, bptree_dict_contains, bptree_dict_del,
+    bptree_dict_first, bptree_dict_free, bptree_dict_get, bptree_dict_last, bptree_dict_len,
+    bptree_dict_new, bptree_dict_next, bptree_dict_prev, bptree_dict_put, bptree_dict_rank,
 };
+pub use dict_ends::{bptree_dict_pop_first, bptree_dict_pop_last};
 pub use dict_handle::DictHandle;
 pub use dict_load::{bptree_dict_load, bptree_dict_remove_at};
-pub use dict_many::{bptree_dict_page, bptree_dict_range_len, bptree_dict_values};
+pub use dict_many::{
+    bptree_dict_page, bptree_dict_page_back, bptree_dict_range_len, bptree_dict_values,
+};
 pub use handle::Handle;
-pub use making::{bptree_clear, bptree_free, bptree_load, bptree_new};
+pub use making::{bptree_clear, bptree_clone, bptree_free, bptree_load, bptree_new};
 pub use many::{bptree_page, bptree_range, bptree_range_back};
 pub use pair::Pair;
 pub use reading::{

@@ -1,4 +1,4 @@
-//! How a map is made, filled at once, emptied and freed.
+//! How a map is made, copied, filled at once, emptied and freed.
 ghost use Rattle.std.specs.Prelude.{◌≡◌, ℕ, List, [], Some, None, IsTrue, false, IfOk, OnErr, map as each};
 ghost use Rattle.bptree_c.specs.Pairs.{as_tuple, pairs_gathered};
 
@@ -8,12 +8,12 @@ use bptree_arguments::count::Count;
 use bptree_maps::map::BPlusTreeMap;
 use std::alloc::{AllocError, Global};
 
-/// Makes a map with no pairs. It is false where memory is refused; then the handle holds no map.
+/// Makes a map with no pairs. It is false if an allocation fails; then the handle holds no map.
 #[unsafe(no_mangle)]
 pub extern "C" fn bptree_new(alloc: Global, map: &mut Handle) -> bool
     requires closed { map.old.held ≡ None }
     ensures made { IsTrue result → map.new.held ≡ Some [] }
-    ensures refused { result ≡ false → map.new.held ≡ None }
+    ensures no_memory { result ≡ false → map.new.held ≡ None }
 {
     let pairs = match BPlusTreeMap::new(alloc) {
         Ok(pairs) => pairs,
@@ -28,7 +28,37 @@ pub extern "C" fn bptree_new(alloc: Global, map: &mut Handle) -> bool
     }
 }
 
-/// Frees a map. The handle holds none then.
+/// Makes a copy of a map in a handle that holds none. It is false if an allocation fails; then that
+/// handle holds none. O(n).
+#[unsafe(no_mangle)]
+pub extern "C" fn bptree_clone(alloc: Global, map: &mut Handle, to: &mut Handle) -> bool
+    ghost pairs: { List (ℕ × ℕ) }
+    requires open { map.old.held ≡ Some pairs }
+    requires closed { to.old.held ≡ None }
+    ensures kept { map.new.held ≡ Some pairs }
+    ensures made { IsTrue result → to.new.held ≡ Some pairs }
+    ensures no_memory { result ≡ false → to.new.held ≡ None }
+{
+    match copy_of(alloc, map.peek()) {
+        Ok(whole) => {
+            to.give(whole);
+            true
+        }
+        Err(_) => false,
+    }
+}
+
+fn copy_of(alloc: Global, map: &Map) -> Result<Box<Map>, AllocError>
+    ensures { IfOk result (λ copy. copy.value ≡ map.now) }
+{
+    let pairs = map.pairs.clone()?;
+    match Box::new(alloc, Map { pairs }) {
+        Ok(whole) => Ok(whole),
+        Err(_) => Err(AllocError),
+    }
+}
+
+/// Frees a map. The handle then holds none. O(n).
 #[unsafe(no_mangle)]
 pub extern "C" fn bptree_free(alloc: Global, map: &mut Handle)
     ghost pairs: { List (ℕ × ℕ) }
@@ -38,34 +68,29 @@ pub extern "C" fn bptree_free(alloc: Global, map: &mut Handle)
     let _whole = map.take(alloc);
 }
 
-/// Removes all pairs. It is false where the memory of one node is refused; then nothing has
-/// changed.
+/// Removes all pairs. It allocates one node first, and is false if that fails; then the map is
+/// unchanged. O(n).
 #[unsafe(no_mangle)]
-pub extern "C" fn bptree_clear(alloc: Global, map: &mut Handle) -> bool
+pub extern "C" fn bptree_clear(map: &mut Handle) -> bool
     ghost pairs: { List (ℕ × ℕ) }
     requires open { map.old.held ≡ Some pairs }
     ensures cleared { IsTrue result → map.new.held ≡ Some [] }
-    ensures refused { result ≡ false → map.new.held ≡ Some pairs }
+    ensures no_memory { result ≡ false → map.new.held ≡ Some pairs }
 {
-    let mut whole = map.take(alloc);
-    let answer = whole.pairs.clear();
-    map.give(whole);
-    answer.is_ok()
+    map.peek().pairs.clear().is_ok()
 }
 
-/// Puts the given pairs, in any order, in place of what the map held: of equal keys the last is
-/// held. It is false where memory is refused; then nothing has changed.
+/// Replaces what the map holds by the given pairs, in any order: of equal keys the last one stays.
+/// It is false if an allocation fails; then the map is unchanged. O(n log n), and O(n) for sorted
+/// pairs.
 #[unsafe(no_mangle)]
 pub extern "C" fn bptree_load(alloc: Global, map: &mut Handle, given: &[Pair]) -> bool
     ghost pairs: { List (ℕ × ℕ) }
     requires open { map.old.held ≡ Some pairs }
     ensures all { IsTrue result → map.new.held ≡ Some (pairs_gathered given.now) }
-    ensures refused { result ≡ false → map.new.held ≡ Some pairs }
+    ensures no_memory { result ≡ false → map.new.held ≡ Some pairs }
 {
-    let mut whole = map.take(alloc);
-    let answer = load_into(alloc, &mut whole, given);
-    map.give(whole);
-    answer.is_ok()
+    load_into(alloc, map.peek(), given).is_ok()
 }
 
 fn load_into(alloc: Global, map: &mut Map, given: &[Pair]) -> Result<(), AllocError>

@@ -1,69 +1,50 @@
-//! Calls that copy many pairs at once into a caller's array. None of them is ever refused.
-ghost use Rattle.std.specs.Prelude.{◌≡◌, ◌≤◌, ℕ, List, Some, None, length};
+//! Calls that copy many pairs at once into a caller's array. None of them fails.
+ghost use Rattle.std.specs.Prelude.{◌≡◌, ◌≤◌, ℕ, List, Some, None, length, reverse, take};
 ghost use Rattle.std.specs.Ordering.{nat_cmp};
 ghost use Rattle.bptree_c.specs.Ends.{up_to, back_from, turned};
 ghost use Rattle.bptree_c.specs.Pairs.{IsCopied, IsTaken};
 ghost use Rattle.bptree_keys.specs.Ends.{is_back};
-ghost use Rattle.bptree_keys.specs.Ranges.{between};
+ghost use Rattle.bptree_keys.specs.Ranges.{between, part};
 ghost use Rattle.bptree_tree.specs.Pages.{page};
 
 use crate::handle::{Handle, Map};
+use crate::number::Number;
 use crate::pair::Pair;
 use bptree_arguments::count::Count;
 use bptree_keys::end::End;
 use bptree_maps::map::Iter;
-use std::alloc::Global;
-use std::ops::Bound;
+use bptree_probes::reading::{end_by, start_by};
 
-/// Copies the pairs whose keys are not below `from`, in the order of their keys, until the array is
-/// full or there are no more. It gives how many.
+/// Copies the pairs whose keys are at least `from`, in the order of their keys, until the array is
+/// full or there are no more. It returns how many.
 #[unsafe(no_mangle)]
-pub extern "C" fn bptree_range(
-    alloc: Global,
-    map: &mut Handle,
-    from: u64,
-    out: &mut [Pair],
-) -> usize
+pub extern "C" fn bptree_range(map: &mut Handle, from: u64, out: &mut [Pair]) -> usize
     ghost pairs: { List (ℕ × ℕ) }
     requires open { map.old.held ≡ Some pairs }
     ensures kept { map.new.held ≡ Some pairs }
     ensures copied { IsCopied (between nat_cmp pairs (Some from) None) out.old out.new result }
 {
-    let whole = map.take(alloc);
-    let count = copy(whole.pairs.range(Some(&from), None), End::Front, out);
-    map.give(whole);
-    count
+    let pairs = pairs_from(map.peek(), from, out.len());
+    copy(pairs, End::Front, out)
 }
 
-/// Copies the pairs whose keys are not above `from`, from the greatest key down, until the array is
-/// full or there are no more. It gives how many.
+/// Copies the pairs whose keys are at most `from`, from the greatest key down, until the array is
+/// full or there are no more. It returns how many.
 #[unsafe(no_mangle)]
-pub extern "C" fn bptree_range_back(
-    alloc: Global,
-    map: &mut Handle,
-    from: u64,
-    out: &mut [Pair],
-) -> usize
+pub extern "C" fn bptree_range_back(map: &mut Handle, from: u64, out: &mut [Pair]) -> usize
     ghost pairs: { List (ℕ × ℕ) }
     requires open { map.old.held ≡ Some pairs }
     ensures kept { map.new.held ≡ Some pairs }
     ensures copied { IsCopied (back_from pairs from) out.old out.new result }
 {
-    let whole = map.take(alloc);
-    let count = copy(pairs_up_to(&whole, from), End::Back, out);
-    map.give(whole);
-    count
+    let pairs = pairs_up_to(map.peek(), from, out.len());
+    copy(pairs, End::Back, out)
 }
 
-/// Copies the pairs of a page, each page as many as the array takes, and the first page 0. It gives
-/// how many: none past the last page, and none where the array takes none.
+/// Copies the pairs of a page. Each page has as many pairs as the array takes, and the first page is
+/// 0. It returns how many: none past the last page, and none if the array takes none.
 #[unsafe(no_mangle)]
-pub extern "C" fn bptree_page(
-    alloc: Global,
-    map: &mut Handle,
-    number: usize,
-    out: &mut [Pair],
-) -> usize
+pub extern "C" fn bptree_page(map: &mut Handle, number: usize, out: &mut [Pair]) -> usize
     ghost pairs: { List (ℕ × ℕ) }
     requires open { map.old.held ≡ Some pairs }
     ensures kept { map.new.held ≡ Some pairs }
@@ -72,10 +53,8 @@ pub extern "C" fn bptree_page(
     if out.is_empty() {
         return 0;
     }
-    let whole = map.take(alloc);
-    let count = copy(page_in(&whole, number, out.len()), End::Front, out);
-    map.give(whole);
-    count
+    let pairs = page_in(map.peek(), number, out.len());
+    copy(pairs, End::Front, out)
 }
 
 fn page_in(map: &Map, number: usize, size: usize) -> Iter<'_, u64, u64, Count>
@@ -88,11 +67,32 @@ fn page_in(map: &Map, number: usize, size: usize) -> Iter<'_, u64, u64, Count>
     }
 }
 
-fn pairs_up_to(map: &Map, key: u64) -> Iter<'_, u64, u64, Count>
-    ensures { result ≡ up_to map.now key }
+// At most `n` pairs from the least key that is at least `key`.
+fn pairs_from(map: &Map, key: u64, n: usize) -> Iter<'_, u64, u64, Count>
+    ensures { result ≡ take n (between nat_cmp map.now (Some key) None) }
 {
-    map.pairs
-        .range_bounds(Bound::Unbounded, Bound::Included(&key))
+    part_of(map, start_by(&map.pairs, &Number { key }), n)
+}
+
+fn part_of(map: &Map, index: usize, n: usize) -> Iter<'_, u64, u64, Count>
+    ensures { result ≡ part map.now index n }
+{
+    match map.pairs.range_by_argument(index, n) {
+        Ok(pairs) => pairs,
+        Err(_) => unreachable!(),
+    }
+}
+
+// At most `n` pairs up to the greatest key that is at most `key`.
+fn pairs_up_to(map: &Map, key: u64, n: usize) -> Iter<'_, u64, u64, Count>
+    ensures { reverse result ≡ take n (back_from map.now key) }
+{
+    let end = end_by(&map.pairs, &Number { key });
+    if n < end {
+        part_of(map, end - n, n)
+    } else {
+        part_of(map, 0, end)
+    }
 }
 
 // Copies the pairs one after another from an end.

@@ -1,50 +1,47 @@
-//! Calls that read a map. None of them ever fails.
+//! Calls that read a map of numbers. None of them fails, allocates, or writes to the map or to its
+//! handle.
 ghost use Rattle.std.specs.Prelude.{◌≡◌, ℕ, List, Option, Some, None, IsTrue, false, length, slice_get};
 ghost use Rattle.std.specs.Map.{keys_of};
 ghost use Rattle.std.specs.Option.{option_map};
 ghost use Rattle.std.specs.Ordering.{nat_cmp};
 ghost use Rattle.bptree_arguments.specs.CountLaws.{count_below};
-ghost use Rattle.bptree_c.specs.Pairs.{IsAnswered, as_tuple};
+ghost use Rattle.bptree_c.specs.Pairs.{IsWritten, as_tuple};
 ghost use Rattle.bptree_keys.specs.Contents.{has, last_member, value, next, previous};
 ghost use Rattle.bptree_keys.specs.Ranges.{between};
 ghost use Rattle.std.specs.Map.Iter.{deref_pair};
 
 use crate::handle::{Handle, Map};
+use crate::number::Number;
 use crate::pair::Pair;
-use std::alloc::Global;
-use std::ops::Bound;
+use bptree_probes::reading::{next_by, previous_by};
+use bptree_probes::uncached::{get_uncached, has_uncached};
 
-/// The number of pairs.
+/// The number of pairs. O(1).
 #[unsafe(no_mangle)]
-pub extern "C" fn bptree_len(alloc: Global, map: &mut Handle) -> usize
+pub extern "C" fn bptree_len(map: &mut Handle) -> usize
     ghost pairs: { List (ℕ × ℕ) }
     requires open { map.old.held ≡ Some pairs }
     ensures kept { map.new.held ≡ Some pairs }
     ensures len { result ≡ length pairs }
 {
-    let whole = map.take(alloc);
-    let len = whole.pairs.len();
-    map.give(whole);
-    len
+    map.peek().pairs.len()
 }
 
-/// Whether a key is there.
+/// Whether a key is there. O(log n).
 #[unsafe(no_mangle)]
-pub extern "C" fn bptree_contains(alloc: Global, map: &mut Handle, key: u64) -> bool
+pub extern "C" fn bptree_contains(map: &mut Handle, key: u64) -> bool
     ghost pairs: { List (ℕ × ℕ) }
     requires open { map.old.held ≡ Some pairs }
     ensures kept { map.new.held ≡ Some pairs }
     ensures there { result ≡ has nat_cmp pairs key }
 {
-    let whole = map.take(alloc);
-    let answer = whole.pairs.contains_key(&key);
-    map.give(whole);
-    answer
+    has_uncached(&map.peek().pairs, &key)
 }
 
 /// The value at a key, in `found`. It is false if the key is absent; then `found` is unchanged.
+/// O(log n).
 #[unsafe(no_mangle)]
-pub extern "C" fn bptree_get(alloc: Global, map: &mut Handle, key: u64, found: &mut u64) -> bool
+pub extern "C" fn bptree_get(map: &mut Handle, key: u64, found: &mut u64) -> bool
     ghost pairs: { List (ℕ × ℕ) }
     requires open { map.old.held ≡ Some pairs }
     ensures kept { map.new.held ≡ Some pairs }
@@ -52,10 +49,7 @@ pub extern "C" fn bptree_get(alloc: Global, map: &mut Handle, key: u64, found: &
     ensures absent { result ≡ false → value nat_cmp pairs key ≡ None }
     ensures unchanged { result ≡ false → found.new ≡ found.old }
 {
-    let whole = map.take(alloc);
-    let answer = whole.pairs.get(&key).copied();
-    map.give(whole);
-    match answer {
+    match value_in(map.peek(), key) {
         Some(it) => {
             *found = it;
             true
@@ -64,10 +58,16 @@ pub extern "C" fn bptree_get(alloc: Global, map: &mut Handle, key: u64, found: &
     }
 }
 
+pub(crate) fn value_in(map: &Map, key: u64) -> Option<u64>
+    ensures { result ≡ value nat_cmp map.now key }
+{
+    get_uncached(&map.pairs, &key).copied()
+}
+
 /// The pair with the least key, in `pair`. It is false if the map is empty; then `pair` is
-/// unchanged.
+/// unchanged. O(log n).
 #[unsafe(no_mangle)]
-pub extern "C" fn bptree_first(alloc: Global, map: &mut Handle, pair: &mut Pair) -> bool
+pub extern "C" fn bptree_first(map: &mut Handle, pair: &mut Pair) -> bool
     ghost pairs: { List (ℕ × ℕ) }
     requires open { map.old.held ≡ Some pairs }
     ensures kept { map.new.held ≡ Some pairs }
@@ -75,10 +75,7 @@ pub extern "C" fn bptree_first(alloc: Global, map: &mut Handle, pair: &mut Pair)
     ensures empty { result ≡ false → slice_get pairs 0 ≡ None }
     ensures unchanged { result ≡ false → pair.new ≡ pair.old }
 {
-    let whole = map.take(alloc);
-    let answer = first_in(&whole);
-    map.give(whole);
-    is_told(answer, pair)
+    write_pair(first_in(map.peek()), pair)
 }
 
 fn first_in(map: &Map) -> Option<(u64, u64)>
@@ -97,11 +94,11 @@ fn owned(pair: Option<(&u64, &u64)>) -> Option<(u64, u64)>
     }
 }
 
-// Whether there is a pair. It is written if there is one, and else nothing is.
-fn is_told(answer: Option<(u64, u64)>, pair: &mut Pair) -> bool
-    ensures { IsAnswered answer result pair.old pair.new }
+// Whether there is a pair. If there is one it is written, and else nothing is.
+fn write_pair(found: Option<(u64, u64)>, pair: &mut Pair) -> bool
+    ensures { IsWritten found result pair.old pair.new }
 {
-    match answer {
+    match found {
         Some((key, value)) => {
             *pair = Pair { key, value };
             true
@@ -111,9 +108,9 @@ fn is_told(answer: Option<(u64, u64)>, pair: &mut Pair) -> bool
 }
 
 /// The pair with the greatest key, in `pair`. It is false if the map is empty; then `pair` is
-/// unchanged.
+/// unchanged. O(log n).
 #[unsafe(no_mangle)]
-pub extern "C" fn bptree_last(alloc: Global, map: &mut Handle, pair: &mut Pair) -> bool
+pub extern "C" fn bptree_last(map: &mut Handle, pair: &mut Pair) -> bool
     ghost pairs: { List (ℕ × ℕ) }
     requires open { map.old.held ≡ Some pairs }
     ensures kept { map.new.held ≡ Some pairs }
@@ -121,10 +118,7 @@ pub extern "C" fn bptree_last(alloc: Global, map: &mut Handle, pair: &mut Pair) 
     ensures empty { result ≡ false → last_member pairs ≡ None }
     ensures unchanged { result ≡ false → pair.new ≡ pair.old }
 {
-    let whole = map.take(alloc);
-    let answer = last_in(&whole);
-    map.give(whole);
-    is_told(answer, pair)
+    write_pair(last_in(map.peek()), pair)
 }
 
 fn last_in(map: &Map) -> Option<(u64, u64)>
@@ -134,9 +128,9 @@ fn last_in(map: &Map) -> Option<(u64, u64)>
 }
 
 /// The pair with the least greater key, in `pair`. It is false if there is none; then `pair` is
-/// unchanged.
+/// unchanged. O(log n).
 #[unsafe(no_mangle)]
-pub extern "C" fn bptree_next(alloc: Global, map: &mut Handle, key: u64, pair: &mut Pair) -> bool
+pub extern "C" fn bptree_next(map: &mut Handle, key: u64, pair: &mut Pair) -> bool
     ghost pairs: { List (ℕ × ℕ) }
     requires open { map.old.held ≡ Some pairs }
     ensures kept { map.new.held ≡ Some pairs }
@@ -144,26 +138,19 @@ pub extern "C" fn bptree_next(alloc: Global, map: &mut Handle, key: u64, pair: &
     ensures none { result ≡ false → next nat_cmp pairs key ≡ None }
     ensures unchanged { result ≡ false → pair.new ≡ pair.old }
 {
-    let whole = map.take(alloc);
-    let answer = next_in(&whole, key);
-    map.give(whole);
-    is_told(answer, pair)
+    write_pair(next_in(map.peek(), key), pair)
 }
 
 fn next_in(map: &Map, key: u64) -> Option<(u64, u64)>
     ensures { result ≡ next nat_cmp map.now key }
 {
-    owned(
-        map.pairs
-            .range_bounds(Bound::Excluded(&key), Bound::Unbounded)
-            .next(),
-    )
+    owned(next_by(&map.pairs, &Number { key }))
 }
 
 /// The pair with the greatest smaller key, in `pair`. It is false if there is none; then `pair` is
-/// unchanged.
+/// unchanged. O(log n).
 #[unsafe(no_mangle)]
-pub extern "C" fn bptree_prev(alloc: Global, map: &mut Handle, key: u64, pair: &mut Pair) -> bool
+pub extern "C" fn bptree_prev(map: &mut Handle, key: u64, pair: &mut Pair) -> bool
     ghost pairs: { List (ℕ × ℕ) }
     requires open { map.old.held ≡ Some pairs }
     ensures kept { map.new.held ≡ Some pairs }
@@ -171,53 +158,45 @@ pub extern "C" fn bptree_prev(alloc: Global, map: &mut Handle, key: u64, pair: &
     ensures none { result ≡ false → previous nat_cmp pairs key ≡ None }
     ensures unchanged { result ≡ false → pair.new ≡ pair.old }
 {
-    let whole = map.take(alloc);
-    let answer = prev_in(&whole, key);
-    map.give(whole);
-    is_told(answer, pair)
+    write_pair(prev_in(map.peek(), key), pair)
 }
 
 fn prev_in(map: &Map, key: u64) -> Option<(u64, u64)>
     ensures { result ≡ previous nat_cmp map.now key }
 {
-    owned(map.pairs.range(None, Some(&key)).next_back())
+    owned(previous_by(&map.pairs, &Number { key }))
 }
 
 /// The pair at an index in the order of the keys, from 0 on, in `pair`. It is false past the end;
-/// then `pair` is unchanged.
+/// then `pair` is unchanged. O(log n).
 #[unsafe(no_mangle)]
-pub extern "C" fn bptree_at(alloc: Global, map: &mut Handle, place: usize, pair: &mut Pair) -> bool
+pub extern "C" fn bptree_at(map: &mut Handle, index: usize, pair: &mut Pair) -> bool
     ghost pairs: { List (ℕ × ℕ) }
     requires open { map.old.held ≡ Some pairs }
     ensures kept { map.new.held ≡ Some pairs }
-    ensures found { IsTrue result → slice_get pairs place ≡ Some (as_tuple pair.new) }
-    ensures past { result ≡ false → slice_get pairs place ≡ None }
+    ensures found { IsTrue result → slice_get pairs index ≡ Some (as_tuple pair.new) }
+    ensures past { result ≡ false → slice_get pairs index ≡ None }
     ensures unchanged { result ≡ false → pair.new ≡ pair.old }
 {
-    let whole = map.take(alloc);
-    let answer = at_in(&whole, place);
-    map.give(whole);
-    is_told(answer, pair)
+    write_pair(at_in(map.peek(), index), pair)
 }
 
-fn at_in(map: &Map, place: usize) -> Option<(u64, u64)>
-    ensures { result ≡ slice_get map.now place }
+fn at_in(map: &Map, index: usize) -> Option<(u64, u64)>
+    ensures { result ≡ slice_get map.now index }
 {
-    owned(map.pairs.get_at(place))
+    owned(map.pairs.get_at(index))
 }
 
-/// How many keys are smaller, in `rank`, and whether the key itself is there.
+/// The number of smaller keys, in `rank`, and whether the key itself is there. O(log n).
 #[unsafe(no_mangle)]
-pub extern "C" fn bptree_rank(alloc: Global, map: &mut Handle, key: u64, rank: &mut usize) -> bool
+pub extern "C" fn bptree_rank(map: &mut Handle, key: u64, rank: &mut usize) -> bool
     ghost pairs: { List (ℕ × ℕ) }
     requires open { map.old.held ≡ Some pairs }
     ensures kept { map.new.held ≡ Some pairs }
     ensures rank { rank.new ≡ count_below nat_cmp key (keys_of pairs) }
     ensures there { result ≡ has nat_cmp pairs key }
 {
-    let whole = map.take(alloc);
-    let (is_there, smaller) = rank_in(&whole, key);
-    map.give(whole);
+    let (is_there, smaller) = rank_in(map.peek(), key);
     *rank = smaller;
     is_there
 }
@@ -233,16 +212,13 @@ fn rank_in(map: &Map, key: u64) -> (bool, usize)
     }
 }
 
-/// How many keys are not below `from` and are below `to`.
+/// The number of keys that are at least `from` and less than `to`. O(log n).
 #[unsafe(no_mangle)]
-pub extern "C" fn bptree_range_len(alloc: Global, map: &mut Handle, from: u64, to: u64) -> usize
+pub extern "C" fn bptree_range_len(map: &mut Handle, from: u64, to: u64) -> usize
     ghost pairs: { List (ℕ × ℕ) }
     requires open { map.old.held ≡ Some pairs }
     ensures kept { map.new.held ≡ Some pairs }
     ensures len { result ≡ length (between nat_cmp pairs (Some from) (Some to)) }
 {
-    let whole = map.take(alloc);
-    let len = whole.pairs.range_len(Some(&from), Some(&to));
-    map.give(whole);
-    len
+    map.peek().pairs.range_len(Some(&from), Some(&to))
 }

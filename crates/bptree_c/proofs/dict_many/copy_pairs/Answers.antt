@@ -1,18 +1,21 @@
 use Rattle.std.proofs.Common.{◌≡◌, ◌+◌, ℕ, List, ◌∷◌, ◌++◌, Some, length, length-append, drop, sym, ap, ◌∙◌, arith}
 use Rattle.std.proofs.lemmas.List.{length-set}
+use Rattle.bptree_keys.specs.Ends.{is_back}
 use Rattle.bptree_c.specs.DictPages.{as_record, key_bytes}
+use Rattle.bptree_c.specs.Ends.{turned}
+use Rattle.bptree_c.proofs.BackLemmas.{length-turned}
 use Rattle.bptree_c.proofs.PageLemmas.{copied_more, rest_by, here_by, none_by, past_get, written, keys_more}
 use Rattle.bptree_c.proofs.dict_many.copy_pairs.Goals as goal
 
 pub loop-count-preserved : goal.loop-count-preserved
 loop-count-preserved c =
     let i = c.loop-count.invariant in
-    let all = c.args.left in
+    let all = turned (is_back c.args.end) c.args.left in
     let n = c.loop-count.count in
     let used = c.loop-count.used in
     let p : List ℕ × ℕ = (c.in-Some.key.now, c.in-Some.value.now) in
-    let rest = c.next.new.self in
-    let here : drop n all ≡ p ∷ rest = sym i.rest ∙ c.in-Some.ensures.steps in
+    let rest = turned (is_back c.args.end) c.take_entry.new.left in
+    let here : drop n all ≡ p ∷ rest = sym i.rest ∙ c.in-Some.ensures in
     let more = rest_by all n p rest here in
     let room = length-set c.loop-count.out n (as_record p) in
     let grown = keys_more all n p rest here in
@@ -35,16 +38,16 @@ loop-count-preserved c =
 pub returns-then-bytes-used : goal.returns-then-bytes-used
 returns-then-bytes-used c =
     let i = c.loop-count.invariant in
-    let all = c.args.left in
+    let all = turned (is_back c.args.end) c.args.left in
     let n = c.loop-count.count in
     let p : List ℕ × ℕ = (c.in-Some.key.now, c.in-Some.value.now) in
-    let here : drop n all ≡ p ∷ c.next.new.self = sym i.rest ∙ c.in-Some.ensures.steps in
+    let here : drop n all ≡ p ∷ turned (is_back c.args.end) c.take_entry.new.left = sym i.rest ∙ c.in-Some.ensures in
     record {
       within = i.there;
       keys = rw (← i.used_is) i.keys;
       records = i.so_far;
       full = λ pair at.
-          let e : Some pair ≡ Some p = sym at ∙ here_by all n p c.next.new.self here in
+          let e : Some pair ≡ Some p = sym at ∙ here_by all n p (turned (is_back c.args.end) c.take_entry.new.left) here in
           let same : pair ≡ p = cc in
           omega (arith, ap (λ q. length q.0) same, c.if-bytes-used.true, ap length c.as_slice-length.ensures, i.used_is, i.used_in, i.same_bytes);
     }
@@ -52,13 +55,13 @@ returns-then-bytes-used c =
 pub returns-in-None : goal.returns-in-None
 returns-in-None c =
     let i = c.loop-count.invariant in
-    let all = c.args.left in
+    let all = turned (is_back c.args.end) c.args.left in
     let n = c.loop-count.count in
     record {
       within = i.there;
       keys = rw (← i.used_is) i.keys;
       records = i.so_far;
-      full = λ pair at. absurd (past_get all n pair (none_by all n (sym i.rest ∙ c.in-None.ensures.steps.0)) at);
+      full = λ pair at. absurd (past_get all n pair (none_by all n (sym i.rest ∙ c.in-None.ensures)) at);
     }
 
 pub returns : goal.returns
@@ -68,5 +71,5 @@ returns c =
       within = i.there;
       keys = rw (← i.used_is) i.keys;
       records = i.so_far;
-      full = λ pair at. absurd (past_get c.args.left c.loop-count.count pair (omega (arith, c.requires, c.loop-count-test.false, i.same_room)) at);
+      full = λ pair at. absurd (past_get (turned (is_back c.args.end) c.args.left) c.loop-count.count pair (omega (arith, c.requires, length-turned (is_back c.args.end) c.args.left, c.loop-count-test.false, i.same_room)) at);
     }

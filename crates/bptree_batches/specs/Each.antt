@@ -1,0 +1,29 @@
+-- What look-ups of many keys write, key by key.
+use Rattle.std.specs.Prelude.{ℕ, Bool, true, false, List, [], ◌∷◌, map, unwrap_or, if◌then◌else◌}
+use Rattle.std.specs.declared.cmp.Ordering.{Ordering}
+use Rattle.std.specs.Map.{keys_of}
+use Rattle.bptree_arguments.specs.CountLaws.{count_below}
+use Rattle.bptree_keys.specs.Contents.{has, value}
+
+-- each key has its answer in place of the old value at its index, and what is after the keys is unchanged
+abbrev pub answer_each : {K X : Type 0} → (K → X → X) → List K → List X → List X
+answer_each answer [] olds = olds
+answer_each answer (k ∷ ks) [] = []
+answer_each answer (k ∷ ks) (old ∷ olds) = answer k old ∷ answer_each answer ks olds
+
+module _ {K V : Type 0} (cmp : K → K → Ordering) (pairs : List (K × V)) where
+  -- the value at each key that is there, else the old one
+  abbrev pub read_each : List K → List V → List V
+  read_each = answer_each (λ k old. unwrap_or (value cmp pairs k) old)
+
+  -- for each key one value if it is there, and another if not
+  abbrev pub mark_each : {X : Type 0} → X → X → List K → List X
+  mark_each hit miss = map (λ k. if has cmp pairs k then hit else miss)
+
+  -- whether each key is there
+  abbrev pub found_each : List K → List Bool
+  found_each = mark_each true false
+
+  -- how many keys are smaller than each key
+  abbrev pub ranked_each : List K → List ℕ
+  ranked_each = map (λ k. count_below cmp k (keys_of pairs))

@@ -1,0 +1,144 @@
+//! Ranks of groups of a few keys, whose descents of a tree with counts go level by level.
+ghost use Rattle.std.specs.Prelude.{◌≡◌, ◌-◌, ◌<◌, ◌≤◌, List, Ok, length};
+ghost use Rattle.std.specs.List.{AllZip};
+ghost use Rattle.bptree_arguments.specs.CountLaws.{Counted, CountsAtSlot, CountsKeys};
+ghost use Rattle.bptree_arguments.specs.Ranks.{Carries};
+ghost use Rattle.bptree_batches.specs.Each.{ranked_each};
+ghost use Rattle.bptree_batches.specs.RankWays.{IsRankWay, RanksBelow};
+ghost use Rattle.bptree_descents.specs.ByArgument.{IsSubtree};
+ghost use Rattle.bptree_shape.specs.Shape.{pairs_at};
+
+use crate::groups::GROUP;
+use bptree_arguments::count::{Count, total_of};
+use bptree_keys::compares::{Compares, SearchHint};
+use bptree_keys::key::Key;
+use bptree_keys::node_id::NodeId;
+use bptree_stores::node_stores::NodeStore;
+
+// The rank of a key, by the keys before the subtree and the counts of the children before its own.
+fn passed<K: Key>(before: usize, counts: &[Count]) -> usize
+    ensures { (k : K) → Carries CountsKeys K.cmp counts.now Counted before k result }
+{
+    total_of(before, counts)
+}
+
+// The rank of a key, from the keys before the leaf and its slot there.
+fn ranked<K: Key>(before: usize, slot: Result<usize, usize>) -> usize
+    ensures { (k : K) (keys : List K) → CountsAtSlot K.cmp k before keys slot (Ok result) }
+{
+    match slot {
+        Ok(i) => before.saturating_add(i),
+        Err(i) => before.saturating_add(i),
+    }
+}
+
+// The child of an inner node that may hold a key, in the tree of a height below the node, and how
+// many keys are before the child: those before the node, and those of the children between.
+#[inline(always)]
+fn rank_child<S: NodeStore<Argument = Count>>(
+    store: &S,
+    way: (NodeId, usize),
+    height: usize,
+    key: &S::K,
+) -> (NodeId, usize)
+    requires subtree { IsSubtree S.K.cmp CountsKeys (S.slots store.now) height way.0 }
+    requires above { 0 < height }
+    ensures { IsRankWay S.K.cmp (S.slots store.now) height way.0 way.1 (height - 1) key.now result }
+{
+    let (id, before) = way;
+    let node = store.get_inner(id.inner_id_unchecked());
+    let (place, child) = node.locate_child(key);
+    (child, passed::<S::K>(before, &node.arguments()[..place]))
+}
+
+// Writes for each key the leaf that it belongs to, in the tree of a height below `root`, and how
+// many keys are before that leaf. All keys go down one level, and then all of them the next.
+fn descend_ranks<S: NodeStore<Argument = Count>>(
+    store: &S,
+    root: NodeId,
+    height: usize,
+    keys: &[S::K],
+    ways: &mut [(NodeId, usize)],
+)
+    requires subtree { IsSubtree S.K.cmp CountsKeys (S.slots store.now) height root }
+    requires ways { length ways.old ≡ length keys.now }
+    ensures { AllZip (IsRankWay S.K.cmp (S.slots store.now) height root 0 0) keys.now ways.new }
+{
+    let mut filled = 0;
+    'starts: while filled < keys.len() {
+        ways[filled] = (root, 0);
+        filled += 1;
+    }
+    let mut level = height;
+    'levels: while level > 0 {
+        let mut at = 0;
+        'keys: while at < keys.len() {
+            ways[at] = rank_child(store, ways[at], level, &keys[at]);
+            at += 1;
+        }
+        level -= 1;
+    }
+}
+
+// The rank of a key, from its leaf and the keys before that.
+#[inline(always)]
+fn rank_in_leaf<S: NodeStore<Argument = Count>>(
+    store: &S,
+    way: (NodeId, usize),
+    key: &S::K,
+) -> usize
+    requires { IsSubtree S.K.cmp CountsKeys (S.slots store.now) 0 way.0 }
+    ensures { RanksBelow S.K.cmp (S.slots store.now) 0 way.0 key.now way.1 result }
+{
+    let (id, before) = way;
+    let leaf = store.get_leaf(id.leaf_id_unchecked());
+    let mut compares = Compares::new();
+    let slot = leaf.locate_slot_counted(key, SearchHint::Near, &mut compares);
+    ranked::<S::K>(before, slot)
+}
+
+// Writes for each of at most 16 keys how many keys of the tree are smaller.
+fn rank_group<S: NodeStore<Argument = Count>>(
+    store: &S,
+    root: NodeId,
+    height: usize,
+    keys: &[S::K],
+    ranks: &mut [usize],
+)
+    requires subtree { IsSubtree S.K.cmp CountsKeys (S.slots store.now) height root }
+    requires few { length keys.now ≤ 16 }
+    requires ranks { length ranks.old ≡ length keys.now }
+    ensures { ranks.new ≡ ranked_each S.K.cmp (pairs_at (S.slots store.now) height root) keys.now }
+{
+    let mut room = [(root, 0); GROUP];
+    let ways = &mut room[..keys.len()];
+    descend_ranks(store, root, height, keys, ways);
+    let mut at = 0;
+    'keys: while at < keys.len() {
+        ranks[at] = rank_in_leaf(store, ways[at], &keys[at]);
+        at += 1;
+    }
+}
+
+/// Writes for each key how many keys are smaller, of the tree of a height below `root`.
+///
+/// O(k log n) for k keys, in groups of 16 whose descents go side by side. It does not allocate and
+/// never fails.
+pub fn rank_groups<S: NodeStore<Argument = Count>>(
+    store: &S,
+    root: NodeId,
+    height: usize,
+    keys: &[S::K],
+    ranks: &mut [usize],
+)
+    requires subtree { IsSubtree S.K.cmp CountsKeys (S.slots store.now) height root }
+    requires ranks { length ranks.old ≡ length keys.now }
+    ensures { ranks.new ≡ ranked_each S.K.cmp (pairs_at (S.slots store.now) height root) keys.now }
+{
+    let mut at = 0;
+    'groups: while at < keys.len() {
+        let end = at + GROUP.min(keys.len() - at);
+        rank_group(store, root, height, &keys[at..end], &mut ranks[at..end]);
+        at = end;
+    }
+}

@@ -1,0 +1,17 @@
+-- What a handle holds once the map that it lends has been changed.
+use Rattle.std.specs.Prelude.{ℕ, List, Some}
+use Rattle.std.specs.Borrow.{Lends, MutBor, Fml}
+use Rattle.bptree_c.specs.declared.handle.Handle.{Handle}
+use Rattle.bptree_c.specs.declared.dict_handle.DictHandle.{DictHandle}
+use Rattle.bptree_c.specs.contracts.handle.Handle as handle
+use Rattle.bptree_c.specs.contracts.handle.Map as map
+use Rattle.bptree_c.specs.contracts.dict_handle.DictHandle as dict_handle
+use Rattle.bptree_c.specs.contracts.dict_handle.Dict as dict
+use Rattle.bptree_c.specs.Dict.{Pairs}
+
+-- the handle s ends with the pairs that are left behind r
+abbrev pub LendsMap : MutBor Handle → MutBor (List (ℕ × ℕ)) → Fml
+LendsMap s r = Lends handle.the_row map.the_row s r (λ w. record s.now { held = Some w })
+
+abbrev pub LendsDict : MutBor DictHandle → MutBor Pairs → Fml
+LendsDict s r = Lends dict_handle.the_row dict.the_row s r (λ w. record s.now { held = Some w })

@@ -1,0 +1,65 @@
+//! The results of calls that change a map, as `bptree_result` in `sweep_bptree.h` has them, and
+//! what such a call writes.
+ghost use Rattle.std.specs.Prelude.{◌≡◌};
+ghost use Rattle.bptree_c.specs.Results.{HasCode, HasPairCode};
+
+use crate::pair::Pair;
+use std::alloc::AllocError;
+
+/// There was no such key or pair.
+pub(crate) const ABSENT: u32 = 0;
+/// A pair was removed.
+pub(crate) const REMOVED: u32 = 1;
+/// An allocation failed, and nothing has changed.
+pub(crate) const NO_MEMORY: u32 = 2;
+/// A pair with a new key was added.
+pub(crate) const ADDED: u32 = 3;
+/// The value of a key that was there was replaced.
+pub(crate) const REPLACED: u32 = 4;
+/// The key of the pair does not fit into the caller's array, and the map is unchanged.
+pub(crate) const NO_ROOM: u32 = 5;
+
+/// The result of a removal that returned a value. If there was one it is written, and else nothing
+/// is.
+pub(crate) fn removed_value(answer: Result<Option<u64>, AllocError>, old: &mut u64) -> u32
+    ensures { HasCode 0 1 (λ it. it) answer result old.old old.new }
+{
+    match answer {
+        Ok(Some(was)) => {
+            *old = was;
+            REMOVED
+        }
+        Ok(None) => ABSENT,
+        Err(_) => NO_MEMORY,
+    }
+}
+
+/// The result of a removal that returned a pair. If there was one it is written, and else nothing
+/// is.
+pub(crate) fn removed_pair(answer: Result<Option<(u64, u64)>, AllocError>, pair: &mut Pair) -> u32
+    ensures { HasPairCode answer result pair.old pair.new }
+{
+    match answer {
+        Ok(Some((key, value))) => {
+            *pair = Pair { key, value };
+            REMOVED
+        }
+        Ok(None) => ABSENT,
+        Err(_) => NO_MEMORY,
+    }
+}
+
+/// The result of a value that was stored. The old one is written if there was one, and else nothing
+/// is.
+pub(crate) fn stored_value(answer: Result<Option<u64>, AllocError>, old: &mut u64) -> u32
+    ensures { HasCode 3 4 (λ it. it) answer result old.old old.new }
+{
+    match answer {
+        Ok(Some(was)) => {
+            *old = was;
+            REPLACED
+        }
+        Ok(None) => ADDED,
+        Err(_) => NO_MEMORY,
+    }
+}
