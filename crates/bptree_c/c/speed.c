@@ -7,7 +7,7 @@
 #include <stdlib.h>
 #include <time.h>
 
-enum { TURNS = 5, CALLS = 10 };
+enum { TURNS = 5, CALLS = 12, AT_ONCE = 1000 };
 
 static uint64_t dice = 0x9e3779b97f4a7c15;
 
@@ -33,7 +33,8 @@ static void shuffle(uint64_t *keys, size_t n) {
     }
 }
 
-static const char *names[CALLS] = {"insert", "get", "rank", "at", "next", "range of 64, a pair", "remove", "load, a pair"};
+static const char *names[CALLS] = {"insert", "get", "rank", "at", "next", "range of 64, a pair", "remove", "load, a pair",
+    "get of 1000 at once, a key", "rank of 1000 at once, a key"};
 static double least[CALLS];
 
 static void took(int call, double start, size_t n) {
@@ -44,6 +45,9 @@ static void took(int call, double start, size_t n) {
 static uint64_t measure(size_t n) {
     uint64_t *keys = malloc(n * sizeof *keys), sum = 0, old = 0;
     bptree_pair *given = malloc(n * sizeof *given), pair, out[64];
+    static uint64_t values[AT_ONCE];
+    static uint8_t found[AT_ONCE];
+    static size_t ranks[AT_ONCE];
     if (!keys || !given) exit(2);
     for (size_t i = 0; i < n; i++) keys[i] = roll();
     // A turn of few pairs is over before the processor is at its speed, so they get more of them.
@@ -71,6 +75,18 @@ static uint64_t measure(size_t n) {
         start = now();
         for (size_t i = 0; i < n; i += 64) sum += bptree_range(&map, keys[i], out, 64) + out[0].key;
         took(5, start, n);
+        start = now();
+        for (size_t i = 0; i + AT_ONCE <= n; i += AT_ONCE) {
+            bptree_get_many(&map, keys + i, AT_ONCE, values, AT_ONCE, found, AT_ONCE);
+            sum += values[0] + found[AT_ONCE - 1];
+        }
+        took(8, start, n);
+        start = now();
+        for (size_t i = 0; i + AT_ONCE <= n; i += AT_ONCE) {
+            bptree_rank_many(&map, keys + i, AT_ONCE, ranks, AT_ONCE);
+            sum += ranks[0];
+        }
+        took(9, start, n);
         shuffle(keys, n);
         start = now();
         for (size_t i = 0; i < n; i++) sum += bptree_del(&map, keys[i], &old);
