@@ -191,6 +191,32 @@ fn half_of(sorted: &[u64], first: usize) -> BTreeMap<u64, u64> {
     sorted.iter().skip(first).step_by(2).map(|key| (*key, *key)).collect()
 }
 
+// What calls for many keys at once are compared with: each key by itself.
+fn batches(keys: &[u64], others: &[u64]) {
+    let mut map: BTreeMap<u64, u64> = keys.iter().map(|key| (*key, *key)).collect();
+    let start = Instant::now();
+    let sum = get_all(&map, others, u64::MAX);
+    tell("map", "getmany", start, others.len(), sum);
+    let start = Instant::now();
+    let mut sum = 0u64;
+    for key in others {
+        sum = sum.wrapping_add(map.contains_key(key) as u64);
+    }
+    tell("map", "containsmany", start, others.len(), sum);
+    let new: Vec<u64> = others.iter().take(keys.len() / 100).map(|key| *key & (u64::MAX - 1)).collect();
+    let start = Instant::now();
+    for key in &new {
+        map.insert(*key, *key);
+    }
+    tell("map", "insertmany", start, new.len(), map.len() as u64);
+    let start = Instant::now();
+    let mut sum = 0u64;
+    for key in &new {
+        sum += map.remove(key).is_some() as u64;
+    }
+    tell("map", "removemany", start, new.len(), sum);
+}
+
 // Look-ups of keys of two parts, in groups of 500.
 fn look_up_pairs(places: &[u64]) {
     let key = |number: u64| (number / 500, number % 500);
@@ -308,6 +334,7 @@ fn main() {
             both(&sorted);
             ends(&keys, &others);
             come(&sorted, &others);
+            batches(&keys, &others);
             look_up_pairs(&places);
         }
     }

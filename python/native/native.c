@@ -10,26 +10,10 @@
    is made that the garbage collector tracks. So a key is encoded before the map is read, references
    are dropped after the map is whole again, and what is read from a map is held before an object is
    made. */
-#include "keys.h"
-#include "sweep_bptree.h"
+#include "maps.h"
 #include <string.h>
 
 enum { BLOCK = 64, FIRST_BLOCK = 8 };
-
-/* What holds the pairs: nothing, one of the two ranges of 64 bits, or the map of byte strings. */
-typedef enum { HOLDS_NONE, HOLDS_SIGNED, HOLDS_UNSIGNED, HOLDS_ANY } Holder;
-
-/* What an iterator or a list has. */
-enum { KEYS, VALUES, ITEMS };
-
-typedef struct Map {
-    PyObject_HEAD
-    Holder holder;
-    bool has_values;  /* false: a set */
-    uint64_t version; /* grows by each change */
-    bptree numbers;
-    bptree_dict any;
-} Map;
 
 /* A key and its value, which is NULL in a set. */
 typedef struct Entry {
@@ -41,18 +25,14 @@ static PyTypeObject *map_type, *set_type, *walk_type;
    where an index is given. */
 static PyObject *empty_error;
 
-static bool is_signed(const Map *map) { return map->holder == HOLDS_SIGNED; }
-static bool is_of_numbers(const Map *map) { return map->holder == HOLDS_SIGNED || map->holder == HOLDS_UNSIGNED; }
-static uint64_t word_of(const void *at) { return (uint64_t)(uintptr_t)at; }
-static PyObject *object_at(uint64_t word) { return (PyObject *)(uintptr_t)word; }
 static Entry *entry_at(uint64_t word) { return (Entry *)(uintptr_t)word; }
 
-static size_t length_of(Map *map) {
+size_t length_of(Map *map) {
     if (map->holder == HOLDS_NONE) return 0;
     return map->holder == HOLDS_ANY ? bptree_dict_len(&map->any) : bptree_len(&map->numbers);
 }
 
-static int no_memory(void) {
+int no_memory(void) {
     PyErr_NoMemory();
     return -1;
 }
@@ -78,8 +58,7 @@ static void drop_entry(Entry *entry) {
 
 /* ---- what holds the pairs */
 
-/* Frees the two maps, and no reference. */
-static void free_holder(Map *map) {
+void free_holder(Map *map) {
     if (is_of_numbers(map)) bptree_free(&map->numbers);
     if (map->holder == HOLDS_ANY) bptree_dict_free(&map->any);
     map->holder = HOLDS_NONE;
@@ -118,8 +97,7 @@ static void drop_all(Map *old) {
     free_holder(old);
 }
 
-/* An array of n members of a size. NULL with an exception if there is no memory. */
-static void *make_array(size_t n, size_t size) {
+void *make_array(size_t n, size_t size) {
     void *array = n <= PY_SSIZE_T_MAX / size ? PyMem_Malloc(n ? n * size : 1) : NULL;
     if (!array) PyErr_NoMemory();
     return array;
@@ -132,8 +110,7 @@ static bptree_pair *all_pairs(Map *map, size_t n) {
     return pairs;
 }
 
-/* Makes these pairs what a map holds, and neither takes nor drops a reference. */
-static int load_numbers(Map *map, Holder holder, const bptree_pair *pairs, size_t n) {
+int load_numbers(Map *map, Holder holder, const bptree_pair *pairs, size_t n) {
     bptree numbers = {0};
     if (!bptree_new(&numbers)) return no_memory();
     if (!bptree_load(&numbers, pairs, n)) {
@@ -214,9 +191,7 @@ static int widen(Map *map) {
     return result;
 }
 
-/* Makes room for an int of 64 bits that is outside the map's range. 1: the map has keys of both
-   ranges then, and nothing has changed. */
-static int shift(Map *map) {
+int shift(Map *map) {
     bptree_pair end;
     size_t n = length_of(map);
     bool was_signed = is_signed(map), is_there = was_signed ? bptree_first(&map->numbers, &end) : bptree_last(&map->numbers, &end);
@@ -244,8 +219,7 @@ static int locate(Map *map, PyObject *key, Bytes *bytes, uint64_t *word) {
     return map->holder == HOLDS_ANY ? BY_BYTES : key_spot(bytes, is_signed(map), word);
 }
 
-/* 1: the word of the value or the entry. 0: the key is absent. -1: an exception. */
-static int find(Map *map, PyObject *key, uint64_t *found) {
+int find(Map *map, PyObject *key, uint64_t *found) {
     Bytes bytes;
     uint64_t word;
     int where = locate(map, key, &bytes, &word), result = where < 0 ? -1 : 0;
@@ -255,11 +229,11 @@ static int find(Map *map, PyObject *key, uint64_t *found) {
     return result;
 }
 
-/* The value of a word that `find` wrote, borrowed. */
-static PyObject *value_of(const Map *map, uint64_t word) { return map->holder == HOLDS_ANY ? entry_at(word)->value : object_at(word); }
+PyObject *value_of(const Map *map, uint64_t word) { return map->holder == HOLDS_ANY ? entry_at(word)->value : object_at(word); }
 
-/* How many keys are smaller, and whether the key is there. -1: an exception. */
-static Py_ssize_t rank_of(Map *map, PyObject *key, bool *is_there) {
+PyObject *key_of_entry(uint64_t word) { return entry_at(word)->key; }
+
+Py_ssize_t rank_of(Map *map, PyObject *key, bool *is_there) {
     Bytes bytes;
     uint64_t word;
     size_t smaller = 0;
@@ -325,8 +299,7 @@ static int put_int(Map *map, PyObject *key, PyObject *value) {
     return result;
 }
 
-/* Stores a pair. On failure there is an exception, and the pairs are as before. */
-static int put(Map *map, PyObject *key, PyObject *value) {
+int put(Map *map, PyObject *key, PyObject *value) {
     uint64_t word;
     if (PyLong_CheckExact(key) && is_of_numbers(map) && key_spot_of_int(key, is_signed(map), &word) == SPOT_AT) {
         return put_word(map, word, value);
@@ -356,8 +329,7 @@ static int put(Map *map, PyObject *key, PyObject *value) {
     return result;
 }
 
-/* 1: the key is gone, and *value is the caller's. 0: it was absent. -1: an exception. */
-static int take(Map *map, PyObject *key, PyObject **value) {
+int take(Map *map, PyObject *key, PyObject **value) {
     Bytes bytes;
     uint64_t word, old = 0;
     int where = locate(map, key, &bytes, &word);
@@ -450,8 +422,7 @@ static int take_at(Map *map, size_t place, PyObject **key, PyObject **value) {
     return 0;
 }
 
-/* The keys, values or pairs from an index to another one, as they are at one moment. */
-static PyObject *list_of(Map *map, int what, size_t from, size_t to) {
+PyObject *list_of(Map *map, int what, size_t from, size_t to) {
     size_t length = length_of(map), n = to > length ? length : to;
     n = n > from ? n - from : 0;
     PyObject **held = make_array(2 * n, sizeof *held), *list = NULL;
@@ -482,6 +453,8 @@ static PyObject *list_of(Map *map, int what, size_t from, size_t to) {
         }
     }
     if (count == n) list = PyList_New((Py_ssize_t)n);
+    /* (code that runs while a pair is made could find a list that is tracked, and is not full) */
+    if (list) PyObject_GC_UnTrack(list);
     for (bool is_good = list; done < n && is_good; done++) {
         PyObject *part = part_of(what, held[2 * done], held[2 * done + 1]);
         is_good = part && !PyList_SetItem(list, (Py_ssize_t)done, part);
@@ -492,6 +465,7 @@ static PyObject *list_of(Map *map, int what, size_t from, size_t to) {
         Py_XDECREF(held[2 * done + 1]);
     }
     PyMem_Free(held);
+    if (list) PyObject_GC_Track(list);
     return list;
 }
 
@@ -684,9 +658,7 @@ static Walk *walk_over(Map *map, int what, bool is_back, PyObject *low, bool is_
 
 /* ---- arguments */
 
-/* Writes the arguments of a call to `found`: NULL for each that is not given. They are named in
-   `names`, of which the first `least` must be given and may not be named. */
-static int arguments(const char *call, PyObject *const *given, Py_ssize_t n, PyObject *keywords, const char *const *names, Py_ssize_t least, PyObject **found) {
+int arguments(const char *call, PyObject *const *given, Py_ssize_t n, PyObject *keywords, const char *const *names, Py_ssize_t least, PyObject **found) {
     Py_ssize_t most = 0, named = keywords ? PyTuple_Size(keywords) : 0;
     for (; names[most]; most++) found[most] = most < n ? given[most] : NULL;
     if (n > most || n < least) {
@@ -705,12 +677,6 @@ static int arguments(const char *call, PyObject *const *given, Py_ssize_t n, PyO
     }
     return 0;
 }
-
-#define ARGUMENTS PyObject *self, PyObject *const *given, Py_ssize_t n, PyObject *keywords
-#define TAKE(call, least, ...) \
-    static const char *const names[] = {__VA_ARGS__, NULL}; \
-    PyObject *found[sizeof names / sizeof *names]; \
-    if (arguments(call, given, n, keywords, names, least, found)) return NULL
 
 /* ---- what maps and sets share */
 
@@ -801,13 +767,19 @@ static PyObject *shared_index(ARGUMENTS) {
     return NULL;
 }
 
+int indices_between(Map *map, PyObject *minimum, PyObject *maximum, Py_ssize_t *from, Py_ssize_t *to) {
+    PyObject *low = minimum == Py_None ? NULL : minimum, *high = maximum == Py_None ? NULL : maximum;
+    *from = count_below(map, low, false, 0);
+    *to = *from < 0 ? -1 : count_below(map, high, false, (Py_ssize_t)length_of(map));
+    if (*to < 0) return -1;
+    if (*to < *from) *to = *from;
+    return 0;
+}
+
 static PyObject *shared_range_len(ARGUMENTS) {
     TAKE("range_len", 0, "minimum", "maximum");
-    Map *map = (Map *)self;
-    PyObject *low = found[0] == Py_None ? NULL : found[0], *high = found[1] == Py_None ? NULL : found[1];
-    Py_ssize_t from = count_below(map, low, false, 0);
-    Py_ssize_t to = from < 0 ? -1 : count_below(map, high, false, (Py_ssize_t)length_of(map));
-    return to < 0 ? NULL : PyLong_FromSsize_t(to > from ? to - from : 0);
+    Py_ssize_t from, to;
+    return indices_between((Map *)self, found[0], found[1], &from, &to) ? NULL : PyLong_FromSsize_t(to - from);
 }
 
 static int truth(PyObject *object, bool *is_true) {
@@ -1099,6 +1071,8 @@ static PyObject *map_popitem(ARGUMENTS) {
     PyObject *key, *value, *pair = PyTuple_New(2);
     Py_ssize_t place = -1;
     if (!pair) return NULL;
+    /* (the code of an index could find a tuple that is tracked, and is not full) */
+    PyObject_GC_UnTrack(pair);
     if (length_of((Map *)self)) place = place_of((Map *)self, found[0]);
     else PyErr_SetString(empty_error, "popitem(): map is empty");
     if (place < 0 || take_at((Map *)self, (size_t)place, &key, &value)) {
@@ -1107,6 +1081,7 @@ static PyObject *map_popitem(ARGUMENTS) {
     }
     PyTuple_SetItem(pair, 0, key);
     PyTuple_SetItem(pair, 1, value);
+    PyObject_GC_Track(pair);
     return pair;
 }
 
@@ -1154,9 +1129,6 @@ static PyObject *set_subscript(PyObject *self, PyObject *index) { return part_by
 
 /* ---- the types */
 
-#define PLAIN(name, call, flags, doc) {name, call, flags, PyDoc_STR(doc)}
-#define NAMED(name, call, doc) {name, (PyCFunction)(void (*)(void))call, METH_FASTCALL | METH_KEYWORDS, PyDoc_STR(doc)}
-
 static PyMethodDef shared_methods[] = {
     PLAIN("rank", shared_rank, METH_O, "rank($self, key, /)\n--\n\n"
         "The number of keys that are less than a key, which need not be there. O(log n).\n\n"
@@ -1173,6 +1145,23 @@ static PyMethodDef shared_methods[] = {
     NAMED("index", shared_index, "index($self, key, /, start=None, stop=None)\n--\n\n"
         "The index of a key. It raises ValueError if the key is absent, or if its index is outside the\n"
         "given ones. O(log n).\n\n>>> SortedSet([10, 20, 30]).index(20)\n1"),
+    PLAIN("rank_many", shared_rank_many, METH_O, "rank_many($self, keys, /)\n--\n\n"
+        "The number of smaller keys for each key of an array, as an `array.array` of type 'q'. The keys\n"
+        "are 64-bit integers of an object with the buffer protocol. O(m log n) for m keys, and less than\n"
+        "`rank` for each, since 16 keys go down the tree side by side.\n\n"
+        ">>> from array import array\n>>> SortedSet([10, 20, 30]).rank_many(array('q', [25, 10])).tolist()\n[2, 0]"),
+    PLAIN("del_many", shared_del_many, METH_O, "del_many($self, keys, /)\n--\n\n"
+        "Removes the keys of an array, and returns how many were there. The keys are those of\n"
+        "`rank_many`. If an allocation fails, MemoryError is raised and no key is removed, unless some\n"
+        "key of the map is no 64-bit integer: then the keys before the one that failed may be removed.\n"
+        "O(m log(n + m)) for m keys.\n\n"
+        ">>> from array import array\n>>> numbers = SortedSet([10, 20, 30])\n>>> numbers.del_many(array('q', [20, 25, 20])), numbers\n(1, SortedSet([10, 30]))"),
+    NAMED("keys_array", shared_keys_array, "keys_array($self, minimum=None, maximum=None)\n--\n\n"
+        "The keys that are at least the minimum and less than the maximum, as an `array.array` of type\n"
+        "'q', or 'Q' if one of them is above 2**63 - 1. None is no bound. It raises TypeError if one of\n"
+        "these keys is not of type `int` itself, and OverflowError if neither type has room for all.\n"
+        "O(log n), and O(1) a key.\n\n"
+        ">>> SortedSet([10, 20, 30]).keys_array(15).tolist()\n[20, 30]"),
     NAMED("range_len", shared_range_len, "range_len($self, minimum=None, maximum=None)\n--\n\n"
         "The number of keys that are at least the minimum and less than the maximum. None is no bound.\n"
         "O(log n).\n\n>>> SortedSet([10, 20, 30]).range_len(10, 30)\n2"),
@@ -1197,6 +1186,26 @@ static PyMethodDef shared_methods[] = {
 static PyMethodDef map_methods[] = {
     NAMED("get", map_get, "get($self, key, /, default=None)\n--\n\nThe value at a key, or the default if the key is absent. O(log n).\n\n"
         ">>> SortedMap(a=1).get('a'), SortedMap(a=1).get('b', 0)\n(1, 0)"),
+    NAMED("get_many", map_get_many, "get_many($self, keys, /, default=None)\n--\n\n"
+        "A list of the value at each key of an array, or of the default where a key is absent. The keys\n"
+        "are 64-bit integers of an object with the buffer protocol, such as `array.array` or an array of\n"
+        "numpy. O(m log n) for m keys, and less than `get` for each, since 16 keys go down the tree side\n"
+        "by side.\n\n"
+        ">>> from array import array\n>>> SortedMap({1: 'a', 2: 'b'}).get_many(array('q', [2, 3]))\n['b', None]"),
+    NAMED("put_many", map_put_many, "put_many($self, keys, values, /)\n--\n\n"
+        "Stores the value at each key of an array. The keys are those of `get_many`. The values are a\n"
+        "list or a tuple of any objects, or 64-bit integers or floats of an object with the buffer\n"
+        "protocol. Of equal keys the last value stays. If an array is none of these, TypeError or\n"
+        "ValueError is raised and the map is unchanged. If an allocation fails, MemoryError is raised\n"
+        "and the map is unchanged, unless no type of an array has room for all keys, those of the map\n"
+        "and the new ones: then the pairs before the one that failed may be stored. O(m log(n + m)) for\n"
+        "m keys.\n\n"
+        ">>> from array import array\n>>> names = SortedMap({1: 'a'})\n>>> names.put_many(array('q', [2, 1]), ['c', 'b'])\n>>> names\nSortedMap({1: 'b', 2: 'c'})"),
+    NAMED("items_arrays", map_items_arrays, "items_arrays($self, minimum=None, maximum=None)\n--\n\n"
+        "The keys as `keys_array` returns them, and their values: an `array.array` of type 'q' or 'Q' if\n"
+        "all are of type `int` itself, and 'd' if all are of type `float` itself. It raises TypeError if\n"
+        "they are neither, and OverflowError if neither 'q' nor 'Q' has room for all ints.\n\n"
+        ">>> [part.tolist() for part in SortedMap({1: 10, 2: 20, 3: 30}).items_arrays(2)]\n[[2, 3], [20, 30]]"),
     NAMED("pop", map_pop, "pop($self, key, /, default=<unrepresentable>)\n--\n\n"
         "Removes a key and returns its value. If the key is absent it returns the default, or raises\n"
         "KeyError if none is given. O(log n).\n\n>>> SortedMap(a=1).pop('a')\n1"),

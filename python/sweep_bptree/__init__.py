@@ -64,7 +64,8 @@ class SortedMap(_native.Map):
     first other key moves all pairs, in O(n).
 
     If an allocation fails, a call raises ``MemoryError`` and the map is unchanged. ``update`` alone
-    may keep the pairs before the one that failed. Several threads may use one map: each call of a
+    may keep the pairs before the one that failed, and of keys that no array has room for also
+    ``put_many`` and ``del_many``. Several threads may use one map: each call of a
     method in C is one step to other threads, unless it runs code of the caller, such as that of a
     time zone.
     """
@@ -88,6 +89,20 @@ class SortedMap(_native.Map):
         else:
             for key in keys:
                 made[key] = value
+        return made
+
+    @classmethod
+    def from_arrays(cls, keys, values, /):
+        """A map of the keys of an array, each with the value at its index, as `put_many` stores them.
+
+        The keys come in any order. O(n log n), and O(n) if they ascend.
+
+        >>> from array import array
+        >>> SortedMap.from_arrays(array("q", [3, 1]), array("d", [0.5, 1.5]))
+        SortedMap({1: 1.5, 3: 0.5})
+        """
+        made = cls()
+        made.put_many(keys, values)
         return made
 
     def update(self, pairs=(), /, **keywords):
@@ -309,7 +324,7 @@ class SortedSet(_native.Set):
 
     Its keys, their order, failures and threads are as of a ``SortedMap``. A method that takes other
     sets takes any iterables. An operator takes sets alone. ``update`` alone may keep some of the
-    keys if an allocation fails.
+    keys if an allocation fails, and of keys that no array has room for ``del_many`` may remove some.
     """
 
     __slots__ = ("__weakref__",)

@@ -67,7 +67,7 @@ def functions() -> dict[str, Any]:
         ("range", size, [handle, word, array, size]),
         ("range_back", size, [handle, word, array, size]),
         ("page", size, [handle, size, array, size]),
-        ("put_many", size, [handle, array, size, array, size]),
+        ("put_many", boolean, [handle, array, size, array, size]),
     ]:
         function = getattr(library, "bptree_" + name)
         function.restype, function.argtypes = result, arguments

@@ -70,6 +70,10 @@ OBJECT(PySequence_Tuple, (PyObject * from), (from))
 OBJECT(PyLong_FromLongLong, (long long number), (number))
 OBJECT(PyLong_FromUnsignedLongLong, (unsigned long long number), (number))
 OBJECT(PyLong_FromSsize_t, (Py_ssize_t number), (number))
+OBJECT(PyLong_FromSize_t, (size_t number), (number))
+OBJECT(PyFloat_FromDouble, (double number), (number))
+OBJECT(PySequence_Repeat, (PyObject * from, Py_ssize_t n), (from, n))
+OBJECT(PyImport_ImportModule, (const char *name), (name))
 OBJECT(_PyObject_GC_New, (PyTypeObject * type), (type))
 
 /* (the extension makes tuples of two members so, and of no other length) */

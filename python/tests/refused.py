@@ -1,7 +1,8 @@
 """Makes each call again and again, each time with another of its allocations failing.
 
 A call that fails raises MemoryError, and leaves the map, its values and the count of references as
-they were; `update` may keep the pairs before the one that failed. At the end no block is left.
+they were; `update` may keep the pairs before the one that failed, and so may `put_many` and
+`del_many` of keys that no array has room for. At the end no block is left.
 `tools/faces` runs this over an extension that is linked with refuse.c.
 """
 
@@ -9,6 +10,7 @@ import ctypes
 import gc
 import sys
 import unittest
+from array import array
 
 from sweep_bptree import SortedMap, SortedSet, _native
 
@@ -64,6 +66,49 @@ def calls(key):
     ]
 
 
+# Keys that are there and new ones, out of the ranges of some maps, and some of them equal.
+ARRAYS = [
+    array("q", [1003, 5000, 1001, 5000, -5000, 7, 1003]),
+    array("Q", [2**63 + 7, 1003, 2**64 - 1, 2**63 + 7]),
+    array("q", range(900, 1200, 3)),
+    array("Q", range(2**63, 2**63 + 60)),
+    array("q"),
+]
+
+
+def calls_of_arrays(given):
+    """Those that change a map, and those that change none of it."""
+    things = [THING] * len(given)
+    return [
+        lambda map_: map_.put_many(given, things),
+        lambda map_: map_.put_many(given, tuple(things)),
+        lambda map_: map_.put_many(given, given),
+        lambda map_: map_.put_many(given, array("d", [0.5] * len(given))),
+        lambda map_: map_.del_many(given),
+    ], [
+        lambda map_: map_.get_many(given),
+        lambda map_: map_.get_many(given, THING),
+        lambda map_: map_.rank_many(given),
+        lambda map_: map_.keys_array(1, 2**64),
+        lambda map_: map_.keys_array(maximum=2**63) if None not in map_ else None,
+        lambda map_: SortedSet(map_).keys_array(0, 1050),
+        lambda map_: SortedSet(map_).rank_many(given),
+        lambda map_: SortedSet(map_).del_many(given),
+        lambda map_: SortedMap.from_arrays(given, things),
+        lambda map_: SortedMap.from_arrays(given, given).items_arrays(),
+    ]
+
+
+# What has a key of no type of array, or keys of both.
+OTHERS = {
+    "int and str": [*range(1000, 1030), "a"],
+    "int and large": [*range(1000, 1030), 2**63 + 7, 2**80],
+    "both ranges": [-5001, 2**64 - 2, *range(1000, 1030)],
+    "str": KINDS["str"],
+    "tuple": KINDS["tuple"],
+}
+
+
 def walk_and_change(map_, key):
     it = iter(map_.items())
     next(it, None)
@@ -115,6 +160,59 @@ class Refused(unittest.TestCase):
             if not was_refused:
                 return failures
         self.fail("an allocation always fails")
+
+    def test_arrays(self):
+        refusals = 0
+        for kind, keys in [*KINDS.items(), *OTHERS.items()]:
+            for given in ARRAYS:
+                changing, reading = calls_of_arrays(given)
+                # (of other keys a call may keep a part of the pairs)
+                is_whole = kind in ("none", "int", "unsigned") and not (min([*keys, *given], default=0) < 0 and max([*keys, *given]) >= 2**63)
+                for at, call in enumerate(changing * is_whole + reading):
+                    with self.subTest(kind=kind, given=given[:3], call=at):
+                        refusals += self.refuse_each(list(keys), call)
+        self.assertGreater(refusals, 5000)
+
+    def test_arrays_of_a_map_of_other_keys(self):
+        for kind, keys in [*OTHERS.items(), ("unsigned", KINDS["unsigned"])]:
+            for given in ARRAYS:
+                values, pairs = list(range(5000, 5000 + len(given))), [(key, OTHER) for key in keys]
+                puts = [{**dict(pairs), **dict(zip(given, values[:n]))} for n in range(len(given) + 1)]
+                dels = [{key: value for key, value in pairs if key not in given[:n]} for n in range(len(given) + 1)]
+                for call, states in ((lambda: map_.put_many(given, values), puts), (lambda: map_.del_many(given), dels)):
+                    for n in range(100000):
+                        map_ = SortedMap(pairs)
+                        refuse_after(n)
+                        try:
+                            call()
+                            wanted = states[-1:]
+                        except MemoryError:
+                            wanted = states
+                        if not refuse_after(-1):
+                            break
+                        self.assertIn(map_, wanted)
+                    self.assertEqual(map_, states[-1])
+
+    def test_arrays_of_pairs(self):
+        for kind, keys in KINDS.items():
+            keys = [key for key in keys if isinstance(key, int)]
+            for values in ([1000 + at for at in range(80)], [at + 0.5 for at in range(80)], [2**63 + at for at in range(80)], [2**70] * 80):
+                for more in ([], [("a", 1)]):
+                    map_ = SortedMap([*zip(keys, values), *more])
+                    before = map_.items().tolist()
+                    for n in range(1000):
+                        refuse_after(n)
+                        try:
+                            found = map_.items_arrays(0, 2**64)
+                            self.assertEqual([part.tolist() for part in found], [keys, values[: len(keys)]])
+                        except MemoryError:
+                            pass
+                        except OverflowError:
+                            self.assertEqual(values[:1], [2**70])
+                        if not refuse_after(-1):
+                            break
+                        self.assertEqual(map_.items().tolist(), before)
+                    self.assertGreater(n, 4)
 
     def references(self, keys):
         gc.collect(0)

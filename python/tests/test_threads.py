@@ -10,6 +10,7 @@ import sys
 import threading
 import time
 import unittest
+from array import array
 
 from sweep_bptree import SortedMap, _native
 
@@ -160,6 +161,25 @@ def reads_fromkeys(map_, thread, turn):
     alike(list(map_.fromkeys(keys_of(thread), thread).values()), [thread] * EACH)
 
 
+def reads_get_many(map_, thread, turn):
+    keys = array("q", [*keys_of(thread), base(thread)])
+    alike(map_.get_many(keys, -thread), [*(key * 10 for key in keys_of(thread)), -thread])
+
+
+def reads_rank_many(map_, thread, turn):
+    alike(map_.rank_many(array("Q", keys_of(thread))).tolist(), list(range(thread * EACH, thread * EACH + EACH)))
+
+
+def reads_arrays(map_, thread, turn):
+    keys, values = map_.items_arrays(base(thread), base(thread + 1))
+    alike((keys.tolist(), values.tolist()), (keys_of(thread), [key * 10 for key in keys_of(thread)]))
+    alike((map_.keys_array(base(thread), base(thread + 1)), map_.keys_array().tolist()), (keys, ALL))
+
+
+def reads_from_arrays(map_, thread, turn):
+    alike(map_.from_arrays(array("q", keys_of(thread)), array("q", [key * 10 for key in keys_of(thread)])), dict(own_pairs(thread)))
+
+
 # Of a map that all threads change, each at its own keys: what a thread left there, it finds again.
 
 
@@ -199,6 +219,15 @@ def changes_update(map_, thread, turn):
 def changes_ior(map_, thread, turn):
     map_ |= {key: thread + turn for key in keys_of(thread)}
     alike([map_[key] for key in keys_of(thread)], [thread + turn] * EACH)
+
+
+def changes_many(map_, thread, turn):
+    keys = array("q", keys_of(thread))
+    map_.put_many(keys, [thread + turn] * EACH)
+    alike(map_.get_many(keys), [thread + turn] * EACH)
+    alike((map_.del_many(keys), map_.del_many(keys), map_.range_len(base(thread), base(thread + 1))), (EACH, 0, 0))
+    map_.put_many(keys, keys)
+    alike([map_[key] for key in keys], keys_of(thread))
 
 
 def changes_while_others_read(map_, thread, turn):
@@ -263,12 +292,17 @@ TABLE = {
     reads_or: ["__or__", "__ror__"],
     reads_repr: ["__repr__"],
     reads_fromkeys: ["fromkeys"],
+    reads_get_many: ["get_many"],
+    reads_rank_many: ["rank_many"],
+    reads_arrays: ["keys_array", "items_arrays"],
+    reads_from_arrays: ["from_arrays"],
     changes_item: ["__setitem__"],
     changes_del: ["__delitem__"],
     changes_pop: ["pop"],
     changes_setdefault: ["setdefault"],
     changes_update: ["update"],
     changes_ior: ["__ior__"],
+    changes_many: ["put_many", "del_many"],
     changes_while_others_read: [],
     changes_clear: ["clear"],
     changes_popitem: ["popitem"],

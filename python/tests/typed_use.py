@@ -4,8 +4,10 @@
 ``type: ignore`` must have that error and no other. It also runs.
 """
 
+import ctypes
+from array import array
 from collections.abc import Iterator, MutableMapping, MutableSet
-from typing import assert_type
+from typing import Any, assert_type
 
 from sweep_bptree import SortedMap, SortedSet
 
@@ -50,6 +52,34 @@ def of_sets() -> None:
     names.add("c")
 
 
+def of_arrays() -> None:
+    keys = array("q", [3, 1])
+    scores: SortedMap[int, float] = SortedMap()
+    scores.put_many(keys, array("d", [0.5, 1.5]))
+    scores.put_many(array("Q", [2, 4]), [2.5, 3])
+    scores.put_many(memoryview(keys), (0.5, 1.5))
+    scores.put_many(keys, keys)
+    scores.put_many((ctypes.c_int64 * 1)(5), [5.5])
+    scores.put_many(keys, [0.5, 1.5])
+    assert_type(scores.get_many(keys), list[float | None])
+    assert_type(scores.get_many(memoryview(keys), ""), list[float | str])
+    assert_type(scores.get_many(keys, default=b""), list[float | bytes])
+    assert_type(scores.rank_many(keys), "array[int]")
+    assert_type(scores.keys_array(2), "array[int]")
+    assert_type(SortedMap.from_arrays(keys, array("d", [0.5, 1.5])).items_arrays(), "tuple[array[int], array[float]]")
+    assert_type(SortedMap.from_arrays(keys, keys).items_arrays(maximum=3), "tuple[array[int], array[int]]")
+    assert_type(SortedMap.from_arrays(keys, ["a", "b"]), SortedMap[int, str])
+    assert_type(scores.del_many(keys), int)
+    mixed: SortedMap[int | str, object] = SortedMap()
+    mixed.put_many(keys, [1, "b"])
+    mixed.put_many(keys, keys)
+    assert_type(mixed.items_arrays(), "tuple[array[int], array[Any]]")
+    numbers = SortedSet([1, 5])
+    assert_type(numbers.rank_many(keys), "array[int]")
+    assert_type(numbers.del_many(keys), int)
+    assert_type(numbers.keys_array(minimum=1), "array[int]")
+
+
 def refused(ages: SortedMap[str, int], names: SortedSet[str]) -> None:
     ages["a"] = "one"  # type: ignore[assignment]
     ages[1] = 2  # type: ignore[index]
@@ -57,6 +87,23 @@ def refused(ages: SortedMap[str, int], names: SortedSet[str]) -> None:
     ages.peek(0)  # type: ignore[attr-defined]
 
 
+def refused_arrays(names: SortedMap[int, str], ages: SortedMap[str, int], numbers: SortedSet[int]) -> None:
+    keys = array("q", [1])
+    names.get_many([1])  # type: ignore[call-overload]
+    names.get_many(b"12345678")  # type: ignore[call-overload]
+    names.get_many(keys=keys)  # type: ignore[call-overload]
+    names.put_many(array("d", [0.5]), ["a"])  # type: ignore[arg-type]
+    names.put_many(keys, [1])  # type: ignore[list-item]
+    names.put_many(keys, keys)  # type: ignore[arg-type]
+    names.put_many(keys, {"a"})  # type: ignore[arg-type]
+    ages.put_many(keys, [1])  # type: ignore[misc, arg-type]
+    SortedMap.from_arrays([1], ["a"])  # type: ignore[arg-type]
+    numbers.rank_many([1])  # type: ignore[arg-type]
+    numbers.del_many(range(3))  # type: ignore[arg-type]
+    numbers.get_many(keys)  # type: ignore[attr-defined]
+
+
 if __name__ == "__main__":
     of_maps()
     of_sets()
+    of_arrays()

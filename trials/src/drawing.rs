@@ -1,5 +1,6 @@
 //! Calls in random order, each of which depends on the pairs that the calls before it left.
 
+use crate::batch::Batch;
 use crate::dice::Dice;
 use crate::kind::{couple, marked};
 use crate::model::Model;
@@ -332,6 +333,37 @@ impl Drawing {
         }
     }
 
+    /// A call for many keys, or indexes, in some order. Some come twice.
+    fn batch(&mut self) -> Record {
+        let kind = self.model.kind;
+        // Of each call the family, and in the lower four bits the member.
+        let calls: &[u64] = if kind.is_set() {
+            &[0xd1, 0xd2]
+        } else if kind.has_places() {
+            &[0xd0, 0xd1, 0xd2, 0xd3, 0xd4, 0x99, 0x9a]
+        } else {
+            &[0xd0, 0xd1, 0xd2, 0xd3, 0xd4]
+        };
+        let call = self.dice.one_of(calls);
+        let (few, some) = (self.dice.below(64), self.dice.below(400));
+        let any = self.dice.number();
+        // Half of the wide ranges begin where others do.
+        let first = match call {
+            0x9a => self.place(),
+            _ if self.is_wide && self.dice.is_in(50) => self.dice.below(4) << 61,
+            _ => self.key(),
+        };
+        let span = self.dice.below(300) + 1;
+        Batch {
+            many: self.dice.one_of(&[0, 1, 15, 16, 17, few, some]),
+            first,
+            step: self.dice.one_of(&[0, 1, 37, u64::MAX, any]),
+            span: self.dice.one_of(&[span, span, span, 0]),
+            value: any >> 32,
+        }
+        .call(call >> 4, call & 15)
+    }
+
     /// Any call.
     pub fn any(&mut self) -> Record {
         let kind = self.model.kind;
@@ -343,6 +375,7 @@ impl Drawing {
             700..=839 if !kind.is_set() => self.cursor(),
             840..=899 if kind.is_tree() && kind.has_queries() => self.command(),
             840..=889 if kind.is_map() => self.places(),
+            890..=899 if !kind.is_tree() => self.batch(),
             900..=929 => self.node(),
             930..=941 => self.whole(),
             942..=971 if !kind.is_tree() => self.moves(),

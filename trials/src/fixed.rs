@@ -2,6 +2,7 @@
 //! list of commands; shards and their functions; and calls with known answers.
 
 use crate::answers;
+use crate::batch;
 use crate::kind::Kind;
 use crate::known;
 use crate::model::Model;
@@ -87,7 +88,7 @@ impl Talk {
             .try_for_each(|(record, words)| self.has(*record, words))
     }
 
-    fn height(&mut self) -> Result<u64, String> {
+    pub fn height(&mut self) -> Result<u64, String> {
         Ok(self.words(calls::height())?[2])
     }
 
@@ -105,6 +106,7 @@ pub fn all() -> Vec<Case> {
         Case::new("no hint", 3, no_hint),
         Case::new("no hint, two cursors", 3, cursors),
         Case::new("visitors out of range", 0, visitors),
+        Case::new("batches beside single calls", 4, batch::table),
         Case::new("functions of shards", 11, crate::routes::routes),
         Case::new("shards beside a list", 11, shards),
         Case::new("known answers of pages", 4, answers::parts),

@@ -7,6 +7,7 @@
 //! none, and the server is the program bptree. The last line is 'N passed, M failed'.
 
 mod answers;
+mod batch;
 mod cutting;
 mod dice;
 mod drawing;

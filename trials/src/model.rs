@@ -2,6 +2,7 @@
 
 pub mod pairs;
 
+mod batches;
 mod cursors;
 mod moving;
 mod parts;
@@ -120,6 +121,7 @@ impl Model {
             9 => self.place(record),
             10 => self.group(record),
             11 => self.both(record),
+            13 => self.batch(record),
             _ => None,
         }
     }

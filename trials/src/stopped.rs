@@ -1,6 +1,7 @@
 //! What a call may leave that can stop in the middle: which pairs have moved, which is in hand, and
 //! which stayed. And which calls go on in another way if memory is refused.
 
+use crate::batch::Batch;
 use crate::kind::Kind;
 use crate::model::pairs::Pairs;
 use crate::model::Model;
@@ -22,6 +23,7 @@ fn takes_back(model: &Model, record: &Record) -> bool {
             let pairs = model.turns(record.a, record.b, record.c);
             Pairs::gathered(model.kind, pairs).len()
         }
+        (13, 3 | 4) => Pairs::gathered(model.kind, Batch::of(record).pairs()).len(),
         _ => return false,
     };
     !removals_can_fail(&model.kind) && come < model.here.len() / 16
@@ -40,6 +42,8 @@ pub fn can_stop(model: &Model, record: &Record) -> bool {
     let (family, member) = (record.family(), record.member());
     match family {
         8 if !model.kind.is_shards() => matches!(member, 0 | 3) || takes_back(model, record),
+        13 if member == 2 => removals_can_fail(&model.kind),
+        13 => takes_back(model, record),
         _ => false,
     }
 }
@@ -60,14 +64,16 @@ pub fn after(model: &Model, record: &Record, reply: &Reply) -> Result<Model, Str
     };
     let member = record.member();
     if takes_back(model, record) {
-        return stop.has(&[], model.clone());
+        return stop.taken_back();
     }
     if reply.len == 0 {
         // A key, or a list of them, was not made.
-        let takes_memory = model.kind.has_large_keys() || record.family() == 8 && member == 0;
+        let is_listed = record.family() == 13 || record.family() == 8 && member == 0;
+        let takes_memory = model.kind.has_large_keys() || is_listed;
         return stop.is_well(takes_memory, "there are no words", model.clone());
     }
     match (record.family(), member) {
+        (13, _) => stop.removed(),
         (_, 0) => stop.extended(),
         _ => stop.retained(),
     }
@@ -86,6 +92,27 @@ impl Stop<'_> {
     fn has(&self, words: &[u64], after: Model) -> Result<Model, String> {
         let error = format!("the reply has not the words {words:?}");
         self.is_well(self.reply.has(words), &error, after)
+    }
+
+    // Nothing has come. The reply has no words or, of a call that reports what was there before, those
+    // of a call of which nothing is refused.
+    fn taken_back(&self) -> Result<Model, String> {
+        let whole = self.model.clone().answer(self.record).unwrap_or_default();
+        let words = if self.reply.len == 0 {
+            Vec::new()
+        } else {
+            whole.words
+        };
+        self.has(&words, self.model.clone())
+    }
+
+    // So many keys of a batch are removed as the first word says. All behind these in the slice is as
+    // it was.
+    fn removed(&self) -> Result<Model, String> {
+        let mut after = self.model.clone();
+        let keys = Batch::of(self.record).keys();
+        let words = after.remove_first(&keys, self.reply.word(0) as usize);
+        self.has(&words, after)
     }
 
     // The pair, or the key of a set, at a place of the reply.

@@ -457,6 +457,8 @@ impl Sweep<'_> {
             reply.has(&model.key(record.a))
         } else if is_put || is_replaced {
             model.kind.has_large_keys()
+        } else if record.family() == 13 && reply.len > 0 {
+            (reply.len, reply.digest) == (whole.reply.len, whole.reply.digest)
         } else if record.family() == 6 && record.member() == 1 {
             is_part_of(&reply.words, &whole.reply.words, &[11])
         } else {

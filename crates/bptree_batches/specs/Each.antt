@@ -1,7 +1,8 @@
 -- What look-ups of many keys write, key by key.
-use Rattle.std.specs.Prelude.{ℕ, Bool, true, false, List, [], ◌∷◌, map, unwrap_or, if◌then◌else◌}
+use Rattle.std.specs.Prelude.{ℕ, Bool, true, false, List, [], ◌∷◌, Option, map, slice_get, unwrap_or, if◌then◌else◌}
 use Rattle.std.specs.declared.cmp.Ordering.{Ordering}
 use Rattle.std.specs.Map.{keys_of}
+use Rattle.std.specs.Option.{is_some, option_map}
 use Rattle.bptree_arguments.specs.CountLaws.{count_below}
 use Rattle.bptree_keys.specs.Contents.{has, value}
 
@@ -27,3 +28,23 @@ module _ {K V : Type 0} (cmp : K → K → Ordering) (pairs : List (K × V)) whe
   -- how many keys are smaller than each key
   abbrev pub ranked_each : List K → List ℕ
   ranked_each = map (λ k. count_below cmp k (keys_of pairs))
+
+  -- the value at each key, or none
+  abbrev pub values_each : List K → List (Option V)
+  values_each = map (value cmp pairs)
+
+module _ {K V : Type 0} (pairs : List (K × V)) where
+  -- the pair at each index, or none past the end
+  abbrev pub pairs_each : List ℕ → List (Option (K × V))
+  pairs_each = map (slice_get pairs)
+
+  -- the key and the value at each index, else the old ones
+  abbrev pub keys_at_each : List ℕ → List K → List K
+  keys_at_each = answer_each (λ i old. unwrap_or (option_map (λ pair. pair.0) (slice_get pairs i)) old)
+
+  abbrev pub values_at_each : List ℕ → List V → List V
+  values_at_each = answer_each (λ i old. unwrap_or (option_map (λ pair. pair.1) (slice_get pairs i)) old)
+
+  -- for each index one value if there is a pair, and another if not
+  abbrev pub mark_at_each : {X : Type 0} → X → X → List ℕ → List X
+  mark_at_each hit miss = map (λ i. if is_some (slice_get pairs i) then hit else miss)

@@ -1,9 +1,12 @@
-//! Look-ups of many keys at once. The keys of a group go down the tree side by side, so that the
-//! processor waits for the nodes of all of them at once.
+//! Look-ups of many keys at once, in the nodes of a store. The keys of a group go down the tree side
+//! by side, so that the processor waits for the nodes of all of them at once.
 #![tactic(auto)]
 
-mod callers;
-pub mod groups;
+mod copies;
+mod finds;
+mod groups;
+mod leaves;
 pub mod many;
-pub mod ranks;
-pub mod trees;
+mod ranks;
+mod selected;
+mod selects;

@@ -1,71 +1,145 @@
-//! Values and ranks of many keys of a map.
-ghost use Rattle.std.specs.Prelude.{◌≡◌, ◌<◌, ◌^◌, length};
-ghost use Rattle.bptree_batches.specs.Each.{found_each, mark_each, ranked_each, read_each};
+//! Reads of many keys of a tree at once. Groups of 16 keys go down the tree side by side, so that
+//! the processor waits for the nodes of all of them at once: in a large tree this costs about half
+//! of a look-up for each key. Each call leaves the store's cache alone, does not allocate and never
+//! fails.
+ghost use Rattle.std.specs.Prelude.{◌≡◌, ◌<◌, ◌^◌, length, map};
+ghost use Rattle.std.specs.Map.Iter.{deref_pair};
+ghost use Rattle.std.specs.Option.{option_copied, option_map};
+ghost use Rattle.bptree_batches.specs.Each.{keys_at_each, mark_at_each, mark_each, pairs_each, ranked_each, read_each, values_at_each, values_each};
 ghost use Rattle.bptree_keys.specs.Contents.{IsAscending};
 
+use crate::copies::copy_groups;
+use crate::finds::{find_groups, mark_groups};
+use crate::groups::GROUP;
 use crate::ranks::rank_groups;
-use crate::trees::{get_many_in, mark_many_in};
-use bptree_arguments::argument::Argument;
+use crate::selected::copy_index_group;
+use crate::selects::select_groups;
 use bptree_arguments::count::Count;
 use bptree_keys::key::Key;
-use bptree_maps::map::BPlusTreeMap;
+use bptree_shape::nodes::Nodes;
+use bptree_stores::node_store_vec::NodeStoreVec;
+use bptree_stores::node_stores::NodeStore;
 
-/// Writes the value at each given key to `values`, at the key's index, and whether the key is there
-/// to `found`. Where a key is absent, its value is left as it is. Both slices have the length of
-/// `keys`. The keys come in any order, and a key may come more than once.
-///
-/// O(k log n) for k keys, in groups of 16 whose descents go side by side, so that the processor
-/// waits for the nodes of all of them at once: in a large map this costs about half of `get` for
-/// each key. It leaves the store's cache alone, does not allocate and never fails.
-pub fn get_many<K: Key, V: Copy + Drop, A: Argument<K>>(
-    map: &BPlusTreeMap<K, V, A>,
-    keys: &[K],
-    values: &mut [V],
-    found: &mut [bool],
-)
-    requires values { length values.old ≡ length keys.now }
-    requires found { length found.old ≡ length keys.now }
-    ensures values { values.new ≡ read_each K.cmp map.now keys.now values.old }
-    ensures found { found.new ≡ found_each K.cmp map.now keys.now }
+/// Writes a reference to the value at each key to `found`, at the key's index, or `None` where the
+/// key is absent. `found` has the length of `keys`. The keys come in any order, and a key may come
+/// more than once. O(k log n) for k keys: at most 7 comparisons a key and node.
+pub fn get_many<'a, S: NodeStore>(tree: &'a Nodes<S>, keys: &[S::K], found: &mut [Option<&'a S::V>])
+    requires { length found.old ≡ length keys.now }
+    ensures { map option_copied found.new ≡ values_each S.K.cmp tree.now.contents keys.now }
 {
-    get_many_in(map.tree(), keys, values, found);
+    tree.recall();
+    find_groups(&tree.store, tree.root, tree.height, keys, found);
 }
 
-/// Does what `get_many` does, and writes `hit` to `marks` for a key that is there, and else `miss`.
-pub fn mark_many<K: Key, V: Copy + Drop, A: Argument<K>, M: Copy>(
-    map: &BPlusTreeMap<K, V, A>,
+/// Writes `hit` to `marks` for each key that is there, and `miss` for each that is not, at the key's
+/// index. It costs what `get_many` does.
+pub fn mark_many<S: NodeStore, M: Copy>(
+    tree: &Nodes<S>,
+    keys: &[S::K],
+    marks: &mut [M],
+    hit: M,
+    miss: M,
+)
+    requires { length marks.old ≡ length keys.now }
+    ensures { marks.new ≡ mark_each S.K.cmp tree.now.contents hit miss keys.now }
+{
+    tree.recall();
+    mark_groups(&tree.store, tree.root, tree.height, keys, marks, hit, miss);
+}
+
+/// Writes a copy of the value at each key to `values`, at the key's index, and to `marks` what
+/// `mark_many` writes. Where a key is absent, its value is left as it is. It costs what `get_many`
+/// does.
+pub fn copy_many<S: NodeStore, M: Copy>(
+    tree: &Nodes<S>,
+    keys: &[S::K],
+    values: &mut [S::V],
+    marks: &mut [M],
+    hit: M,
+    miss: M,
+)
+where
+    S::V: Copy,
+    requires values { length values.old ≡ length keys.now }
+    requires marks { length marks.old ≡ length keys.now }
+    ensures values { values.new ≡ read_each S.K.cmp tree.now.contents keys.now values.old }
+    ensures marks { marks.new ≡ mark_each S.K.cmp tree.now.contents hit miss keys.now }
+{
+    tree.recall();
+    copy_groups(
+        &tree.store,
+        tree.root,
+        tree.height,
+        keys,
+        values,
+        marks,
+        hit,
+        miss,
+    );
+}
+
+/// Writes the number of smaller keys for each given key to `ranks`, at the key's index. `ranks` has
+/// the length of `keys`. It costs what `get_many` does, and reads the counts on the way.
+pub fn rank_many<K: Key, V: Drop>(
+    tree: &Nodes<NodeStoreVec<K, V, Count>>,
     keys: &[K],
+    ranks: &mut [usize],
+)
+    requires { length ranks.old ≡ length keys.now }
+    ensures ranks { ranks.new ≡ ranked_each K.cmp tree.now.contents keys.now }
+    ensures ascending { IsAscending K.cmp tree.now.contents }
+    ensures fits { length tree.now.contents < 2 ^ 64 }
+{
+    tree.recall();
+    rank_groups(&tree.store, tree.root, tree.height, keys, ranks);
+}
+
+/// Writes references to the pair at each index in the order of the keys to `found`, or `None` past
+/// the last pair. `found` has the length of `indexes`. The indexes come in any order. O(k log n) for
+/// k indexes.
+pub fn get_index_many<'a, K: Key, V: Drop>(
+    tree: &'a Nodes<NodeStoreVec<K, V, Count>>,
+    indexes: &[usize],
+    found: &mut [Option<(&'a K, &'a V)>],
+)
+    requires { length found.old ≡ length indexes.now }
+    ensures { map (option_map deref_pair) found.new ≡ pairs_each tree.now.contents indexes.now }
+{
+    tree.recall();
+    select_groups(&tree.store, tree.root, tree.height, indexes, found);
+}
+
+/// Writes copies of the key and the value at each index, where there is a pair, and to `marks` `hit`
+/// if there is one and `miss` if not. Past the last pair, key and value are left as they are. It
+/// costs what `get_index_many` does.
+pub fn copy_index_many<K: Key + Copy, V: Copy + Drop, M: Copy>(
+    tree: &Nodes<NodeStoreVec<K, V, Count>>,
+    indexes: &[usize],
+    keys: &mut [K],
     values: &mut [V],
     marks: &mut [M],
     hit: M,
     miss: M,
 )
-    requires values { length values.old ≡ length keys.now }
-    requires marks { length marks.old ≡ length keys.now }
-    ensures values { values.new ≡ read_each K.cmp map.now keys.now values.old }
-    ensures marks { marks.new ≡ mark_each K.cmp map.now hit miss keys.now }
+    requires keys { length keys.old ≡ length indexes.now }
+    requires values { length values.old ≡ length indexes.now }
+    requires marks { length marks.old ≡ length indexes.now }
+    ensures keys { keys.new ≡ keys_at_each tree.now.contents indexes.now keys.old }
+    ensures values { values.new ≡ values_at_each tree.now.contents indexes.now values.old }
+    ensures marks { marks.new ≡ mark_at_each tree.now.contents hit miss indexes.now }
 {
-    mark_many_in(map.tree(), keys, values, marks, hit, miss);
-}
-
-/// Writes the number of smaller keys of the map for each given key to `ranks`, at the key's index.
-/// `ranks` has the length of `keys`. The keys come in any order, and a key may come more than once.
-///
-/// O(k log n) for k keys, in groups of 16 whose descents go side by side. It leaves the store's
-/// cache alone, does not allocate and never fails.
-pub fn rank_many<K: Key, V: Drop>(map: &BPlusTreeMap<K, V, Count>, keys: &[K], ranks: &mut [usize])
-    requires { length ranks.old ≡ length keys.now }
-    ensures ranks { ranks.new ≡ ranked_each K.cmp map.now keys.now }
-    ensures ascending { IsAscending K.cmp map.now }
-    ensures fits { length map.now < 2 ^ 64 }
-{
-    let tree = map.tree();
-    tree.recall();
-    rank_groups(
-        tree.node_store(),
-        tree.root_id(),
-        tree.height(),
-        keys,
-        ranks,
-    );
+    let mut at = 0;
+    'groups: while at < indexes.len() {
+        let end = at + GROUP.min(indexes.len() - at);
+        copy_index_group(
+            tree,
+            &indexes[at..end],
+            &mut keys[at..end],
+            &mut values[at..end],
+            &mut marks[at..end],
+            hit,
+            miss,
+        );
+        at = end;
+    }
 }

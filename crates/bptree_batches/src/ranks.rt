@@ -1,16 +1,17 @@
 //! Ranks of groups of a few keys, whose descents of a tree with counts go level by level.
-ghost use Rattle.std.specs.Prelude.{◌≡◌, ◌-◌, ◌<◌, ◌≤◌, List, Ok, length};
+ghost use Rattle.std.specs.Prelude.{◌≡◌, ◌-◌, ◌<◌, ◌≤◌, ℕ, List, Ok, length, map};
 ghost use Rattle.std.specs.List.{AllZip};
 ghost use Rattle.bptree_arguments.specs.CountLaws.{Counted, CountsAtSlot, CountsKeys};
 ghost use Rattle.bptree_arguments.specs.Ranks.{Carries};
 ghost use Rattle.bptree_batches.specs.Each.{ranked_each};
 ghost use Rattle.bptree_batches.specs.RankWays.{IsRankWay, RanksBelow};
+ghost use Rattle.bptree_batches.specs.Slots.{IsSlotIn};
 ghost use Rattle.bptree_descents.specs.ByArgument.{IsSubtree};
 ghost use Rattle.bptree_shape.specs.Shape.{pairs_at};
 
 use crate::groups::GROUP;
+use crate::leaves::locate_group;
 use bptree_arguments::count::{Count, total_of};
-use bptree_keys::compares::{Compares, SearchHint};
 use bptree_keys::key::Key;
 use bptree_keys::node_id::NodeId;
 use bptree_stores::node_stores::NodeStore;
@@ -80,21 +81,31 @@ fn descend_ranks<S: NodeStore<Argument = Count>>(
     }
 }
 
-// The rank of a key, from its leaf and the keys before that.
+// Writes the node of each way.
+fn nodes_of(ways: &[(NodeId, usize)], nodes: &mut [NodeId])
+    requires { length nodes.old ≡ length ways.now }
+    ensures { nodes.new ≡ map (λ (way : NodeId × ℕ). way.0) ways.now }
+{
+    let mut at = 0;
+    'ways: while at < ways.len() {
+        nodes[at] = ways[at].0;
+        at += 1;
+    }
+}
+
+// The rank of a key, from its way and where it is in the leaf.
 #[inline(always)]
 fn rank_in_leaf<S: NodeStore<Argument = Count>>(
     store: &S,
     way: (NodeId, usize),
     key: &S::K,
+    slot: Result<usize, usize>,
 ) -> usize
-    requires { IsSubtree S.K.cmp CountsKeys (S.slots store.now) 0 way.0 }
+    requires subtree { IsSubtree S.K.cmp CountsKeys (S.slots store.now) 0 way.0 }
+    requires slot { IsSlotIn S.K.cmp (S.slots store.now) way.0 key.now slot }
     ensures { RanksBelow S.K.cmp (S.slots store.now) 0 way.0 key.now way.1 result }
 {
-    let (id, before) = way;
-    let leaf = store.get_leaf(id.leaf_id_unchecked());
-    let mut compares = Compares::new();
-    let slot = leaf.locate_slot_counted(key, SearchHint::Near, &mut compares);
-    ranked::<S::K>(before, slot)
+    ranked::<S::K>(way.1, slot)
 }
 
 // Writes for each of at most 16 keys how many keys of the tree are smaller.
@@ -113,9 +124,15 @@ fn rank_group<S: NodeStore<Argument = Count>>(
     let mut room = [(root, 0); GROUP];
     let ways = &mut room[..keys.len()];
     descend_ranks(store, root, height, keys, ways);
+    let mut nodes = [root; GROUP];
+    let nodes = &mut nodes[..keys.len()];
+    nodes_of(ways, nodes);
+    let mut slots = [Err(0); GROUP];
+    let slots = &mut slots[..keys.len()];
+    locate_group(store, nodes, keys, slots);
     let mut at = 0;
     'keys: while at < keys.len() {
-        ranks[at] = rank_in_leaf(store, ways[at], &keys[at]);
+        ranks[at] = rank_in_leaf(store, ways[at], &keys[at], slots[at]);
         at += 1;
     }
 }
@@ -124,7 +141,7 @@ fn rank_group<S: NodeStore<Argument = Count>>(
 ///
 /// O(k log n) for k keys, in groups of 16 whose descents go side by side. It does not allocate and
 /// never fails.
-pub fn rank_groups<S: NodeStore<Argument = Count>>(
+pub(crate) fn rank_groups<S: NodeStore<Argument = Count>>(
     store: &S,
     root: NodeId,
     height: usize,

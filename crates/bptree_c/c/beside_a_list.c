@@ -5,7 +5,7 @@
 #include <stdlib.h>
 #include <string.h>
 
-enum { MOST = 9000, KEYS = 12000, CALLS = 400000, ROOM = 70 };
+enum { MOST = 9000, KEYS = 12000, CALLS = 400000, ROOM = 70, MANY = 700 };
 
 /* What a pair holds before a call, and behind a call that finds none. */
 static const bptree_pair BLANK = {7, 77};
@@ -158,25 +158,161 @@ static void ask_for_many(const bptree *map) {
     }
 }
 
-/* Calls for many keys at once, some of them equal; a value at an absent key is unchanged. */
-static void ask_for_each(bptree *map) {
-    uint64_t keys[ROOM], values[ROOM + 1];
-    uint8_t found[ROOM + 1];
-    size_t ranks[ROOM + 1], n = roll(ROOM + 1);
-    for (size_t i = 0; i <= ROOM; i++) values[i] = 1000 + i, found[i] = 5, ranks[i] = 3000 + i;
-    for (size_t i = 0; i < n; i++) keys[i] = any_key();
+/* What arrays of a call hold before it, and behind its n members. */
+static uint64_t keys[MANY + 1], values[MANY + 1], keys_at[MANY + 1];
+static size_t ranks[MANY + 1], indexes[MANY + 1];
+static uint8_t found[MANY + 1];
+
+static void blank_arrays(void) {
+    for (size_t i = 0; i <= MANY; i++) {
+        values[i] = 1000 + i, keys_at[i] = 2000 + i, ranks[i] = 3000 + i, found[i] = 5;
+    }
+}
+
+/* Calls that read n keys or indexes at once. What is behind the n members, and what belongs to no
+   key or pair, is unchanged. */
+static void read_each(const bptree *map, size_t n) {
+    blank_arrays();
     bptree_get_many(map, keys, n, values, n, found, n);
     bptree_rank_many(map, keys, n, ranks, n);
-    for (size_t i = 0; i <= ROOM; i++) {
+    for (size_t i = 0; i <= MANY; i++) {
         bool there = i < n && is_there(keys[i]);
         alike(found[i], i < n ? there : 5, "get_many, found");
         alike(values[i], there ? plain[smaller(keys[i])].value : 1000 + i, "get_many");
         alike(ranks[i], i < n ? smaller(keys[i]) : 3000 + i, "rank_many");
     }
+    blank_arrays();
+    bptree_contains_many(map, keys, n, found, n);
+    for (size_t i = 0; i <= MANY; i++) alike(found[i], i < n ? is_there(keys[i]) : 5, "contains_many");
+    blank_arrays();
+    bptree_at_many(map, indexes, n, keys_at, n, values, n, found, n);
+    for (size_t i = 0; i <= MANY; i++) {
+        bool there = i < n && indexes[i] < len;
+        alike(found[i], i < n ? there : 5, "at_many, found");
+        alike(keys_at[i], there ? plain[indexes[i]].key : 2000 + i, "at_many, key");
+        alike(values[i], there ? plain[indexes[i]].value : 1000 + i, "at_many, value");
+    }
+}
+
+static void put_each(bptree *map, size_t n) {
+    uint64_t before[MANY];
     if (len + n > MOST) return;
+    memcpy(before, keys, sizeof before);
     for (size_t i = 0; i < n; i++) values[i] = roll(1000000);
-    alike(bptree_put_many(map, keys, n, values, n), n, "put_many");
+    alike(bptree_put_many(map, keys, n, values, n), true, "put_many");
+    alike(memcmp(before, keys, sizeof before), 0, "put_many leaves the keys");
     for (size_t i = 0; i < n; i++) put(keys[i], values[i]);
+    alike(bptree_len(map), len, "len behind put_many");
+}
+
+/* Of a key that comes twice, the second one is not there. */
+static void del_each(bptree *map, size_t n) {
+    blank_arrays();
+    bptree_del_many(map, keys, n, found, n);
+    for (size_t i = 0; i <= MANY; i++) {
+        bool there = i < n && is_there(keys[i]);
+        alike(found[i], i < n ? there : 5, "del_many");
+        if (there) take_out(smaller(keys[i]));
+    }
+    alike(bptree_len(map), len, "len behind del_many");
+}
+
+/* Numbers of keys beside those of a group of 16, and more than a sixteenth of a map's keys. */
+static size_t some_number(void) {
+    static const size_t sizes[] = {0, 1, 2, 15, 16, 17, 31, 32, 33, MANY};
+    size_t most = sizeof sizes / sizeof *sizes, at = roll(most + 2);
+    return at < most ? sizes[at] : roll(MANY + 1);
+}
+
+/* Keys that are there, and any keys: some of them equal, and some of them next to each other. */
+static void choose_keys(size_t n) {
+    uint64_t kinds = roll(4);
+    for (size_t i = 0; i < MANY; i++) {
+        keys[i] = len && roll(4) < kinds ? plain[roll(len)].key : any_key();
+        if (i && roll(6) == 0) keys[i] = keys[roll(i < n ? i : n)];
+        indexes[i] = roll(5) ? roll(len + 2) : roll(2) ? len + roll(2) : SIZE_MAX - roll(2);
+        if (i && roll(6) == 0) indexes[i] = indexes[i - 1];
+    }
+}
+
+static void ask_for_each(bptree *map) {
+    size_t n = some_number();
+    choose_keys(n ? n : 1);
+    read_each(map, n);
+    if (roll(2)) put_each(map, n);
+    else del_each(map, n);
+    read_each(map, n);
+}
+
+/* Copies the pairs from an index on into arrays with room for fewer, as many and more. */
+static void copy_from(const bptree *map, size_t index, size_t room) {
+    size_t left = index < len ? len - index : 0, count;
+    uint64_t *to_keys = malloc((room + 1) * sizeof *to_keys), *to_values = malloc((room + 1) * sizeof *to_values);
+    if (!to_keys || !to_values) exit(2);
+    for (size_t i = 0; i <= room; i++) to_keys[i] = i, to_values[i] = ~(uint64_t)i;
+    count = bptree_copy(map, index, to_keys, room, to_values, room);
+    alike(count, left < room ? left : room, "copy");
+    for (size_t i = 0; i <= room; i++) {
+        bptree_pair as_it_was = {i, ~(uint64_t)i};
+        alike_pairs((bptree_pair){to_keys[i], to_values[i]}, i < count ? plain[index + i] : as_it_was, "copy");
+    }
+    free(to_keys);
+    free(to_values);
+}
+
+static void copy_some(const bptree *map) {
+    size_t index = roll(8) ? roll(len + 3) : SIZE_MAX - roll(2), left = index < len ? len - index : 0;
+    copy_from(map, index, roll(ROOM + 1));
+    copy_from(map, index, left);
+    if (left) copy_from(map, index, left - 1);
+    copy_from(map, index, left + 1 + roll(ROOM));
+}
+
+/* Each index of small maps, with room for fewer pairs, as many and more. */
+static void copy_small_maps(void) {
+    bptree map = {0};
+    alike(bptree_new(&map), true, "new");
+    len = 0;
+    for (uint64_t key = 0; key < 40; key++) {
+        uint64_t old;
+        for (size_t index = 0; index <= len + 1; index++) {
+            for (size_t room = 0; room <= len + 2; room++) copy_from(&map, index, room);
+        }
+        alike(bptree_put(&map, key * 3, key, &old), BPTREE_ADDED, "put");
+        put(key * 3, key);
+    }
+    bptree_free(&map);
+    len = 0;
+}
+
+/* All pairs of a map at once: into an empty map in ascending order, over the same keys in another
+   order, and each key twice; then out of it. */
+static void put_and_del_all(void) {
+    static uint64_t all[MOST], numbers[MOST];
+    static uint8_t were[MOST + 1];
+    bptree map = {0};
+    alike(bptree_new(&map), true, "new");
+    len = 0;
+    for (int turn = 0; turn < 3; turn++) {
+        for (size_t i = 0; i < MOST; i++) {
+            all[i] = turn == 0 ? i * 2 : (turn == 1 ? i : i / 2) * 7919 % MOST * 2;
+            numbers[i] = 10 * i + (size_t)turn;
+        }
+        alike(bptree_put_many(&map, all, MOST, numbers, MOST), true, "put_many of all");
+        for (size_t i = 0; i < MOST; i++) put(all[i], numbers[i]);
+        alike(bptree_len(&map), len, "put_many of all");
+        copy_from(&map, 0, MOST);
+    }
+    for (size_t i = 0; i < MOST; i++) all[i] = (i * 7919) % MOST * 2, were[i] = 5;
+    were[MOST] = 5;
+    bptree_del_many(&map, all, MOST, were, MOST);
+    for (size_t i = 0; i < MOST; i++) alike(were[i], 1, "del_many of all");
+    alike(were[MOST], 5, "del_many of all");
+    alike(bptree_len(&map), 0, "del_many of all");
+    bptree_del_many(&map, all, MOST, were, MOST);
+    for (size_t i = 0; i < MOST; i++) alike(were[i], 0, "del_many of none that is there");
+    bptree_free(&map);
+    len = 0;
 }
 
 /* Arrays of length 0 by NULL, and by a pointer to what is not to be read or written. */
@@ -192,7 +328,12 @@ static void ask_for_none(bptree *map) {
         alike(bptree_page(map, 1, pairs[i], 0), 0, "page of none");
         bptree_get_many(map, words[i], 0, words[i], 0, bytes[i], 0);
         bptree_rank_many(map, words[i], 0, sizes[i], 0);
-        alike(bptree_put_many(map, words[i], 0, words[1 - i], 0), 0, "put_many of none");
+        bptree_contains_many(map, words[i], 0, bytes[i], 0);
+        bptree_at_many(map, sizes[i], 0, words[i], 0, words[1 - i], 0, bytes[i], 0);
+        bptree_del_many(map, words[i], 0, bytes[i], 0);
+        alike(bptree_copy(map, 0, words[i], 0, words[1 - i], 0), 0, "copy of none");
+        alike(bptree_copy(map, SIZE_MAX, words[i], 0, words[1 - i], 0), 0, "copy of none");
+        alike(bptree_put_many(map, words[i], 0, words[1 - i], 0), true, "put_many of none");
         alike(bptree_len(map), len, "len behind arrays of length 0");
     }
     alike_pairs(pair, BLANK, "a pair of no array");
@@ -246,7 +387,9 @@ int main(void) {
     for (int call = 0; call < CALLS; call++) {
         change(&map);
         if (call % 4 == 0) ask(&map);
-        if (call % 64 == 0) ask_for_many(&map), ask_for_each(&map);
+        if (call % 64 == 0) ask_for_many(&map);
+        if (call % 200 == 0) ask_for_each(&map);
+        if (call % 3000 == 0) copy_some(&map);
         if (call % 1024 == 0) ask_for_none(&map);
         if (call % 40000 == 39999) load(&map);
         if (call % 30000 == 0) copy_it(&map);
@@ -262,6 +405,8 @@ int main(void) {
     ask_for_none(&map);
     bptree_free(&map);
     alike(map.at == NULL, true, "free");
+    copy_small_maps();
+    put_and_del_all();
     puts("ok");
     return 0;
 }

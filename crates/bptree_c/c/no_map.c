@@ -32,7 +32,12 @@ static void del(void) { bptree_del(&map, 1, &value); }
 static void pop_last(void) { bptree_pop_last(&map, &pair); }
 static void range(void) { bptree_range(&map, 0, &pair, 1); }
 static void get_many(void) { bptree_get_many(&map, &value, 1, &value, 1, &byte, 1); }
-static void put_many(void) { bptree_put_many(&map, &value, 1, &value, 1); }
+static void contains_many(void) { bptree_contains_many(&map, &value, 1, &byte, 1); }
+static void rank_many(void) { bptree_rank_many(&map, &value, 1, &number, 1); }
+static void at_many(void) { size_t index = 0; bptree_at_many(&map, &index, 1, &value, 1, &pair.value, 1, &byte, 1); }
+static void put_many(void) { bptree_put_many(&map, &value, 1, &pair.value, 1); }
+static void del_many(void) { bptree_del_many(&map, &value, 1, &byte, 1); }
+static void copy(void) { bptree_copy(&map, 0, &value, 1, &pair.value, 1); }
 static void dict_free(void) { bptree_dict_free(&dict); }
 static void dict_clear(void) { bptree_dict_clear(&dict); }
 static void dict_load(void) { bptree_dict_load(&dict, &byte, 1, &record, 1); }
@@ -47,7 +52,8 @@ static void dict_page(void) { bptree_dict_page(&dict, 0, &byte, 1, &record, 1); 
 static void dict_remove_at(void) { bptree_dict_remove_at(&dict, 0, &value); }
 
 static void (*const calls[])(void) = {
-    free_it, clear, load, clone, len, contains, get, first, next, at, rank, put, del, pop_last, range, get_many, put_many,
+    free_it, clear, load, clone, len, contains, get, first, next, at, rank, put, del, pop_last, range, copy, get_many,
+    contains_many, rank_many, at_many, put_many, del_many,
     dict_free, dict_clear, dict_load, dict_clone, dict_len, dict_get, dict_rank, dict_put, dict_del, dict_at, dict_page, dict_remove_at,
 };
 

@@ -242,25 +242,106 @@ static void dict_of_strings(void) {
     must(blocks == 0, "memory is left by a map of strings");
 }
 
-/* Pairs that are stored one after another, until an allocation fails: those before are there. */
-static void put_many(void) {
-    enum { MANY = 500 };
-    uint64_t keys[MANY], values[MANY], found;
-    for (long request = 0;; request++) {
-        bptree map = {0};
-        must(bptree_new(&map), "new");
-        for (uint64_t i = 0; i < MANY; i++) keys[i] = (i * 7919) % 1009, values[i] = i;
-        long were = refusals;
-        until_refusal = request;
-        size_t count = bptree_put_many(&map, keys, MANY, values, MANY);
-        until_refusal = -1;
-        must((count < MANY) == (refusals != were) && bptree_len(&map) == count, "put_many");
-        for (size_t i = 0; i < MANY; i++)
-            must(bptree_get(&map, keys[i], &found) == (i < count) && (i >= count || found == values[i]), "put_many");
-        bptree_free(&map);
-        must(blocks == 0, "memory is left by put_many");
-        if (count == MANY) return;
+/* Pairs that are stored at once: each of the call's allocations fails in turn, and then the map is
+   unchanged and no block is left. Made again with memory the call succeeds. */
+enum { MANY = PAIRS };
+static uint64_t many_keys[MANY], many_values[MANY], copied_keys[MANY], copied_values[MANY];
+
+static size_t after_put_many(bptree_pair *wanted, size_t len, size_t n) {
+    for (size_t i = 0; i < n; i++) {
+        size_t at = 0;
+        while (at < len && wanted[at].key < many_keys[i]) at++;
+        if (at == len || wanted[at].key != many_keys[i]) {
+            memmove(wanted + at + 1, wanted + at, (len - at) * sizeof *wanted);
+            len++;
+        }
+        wanted[at] = (bptree_pair){many_keys[i], many_values[i]};
     }
+    return len;
+}
+
+static void make_even(bptree *map, size_t len) {
+    must(bptree_new(map), "new");
+    for (uint64_t i = 0; i < len; i++) must(bptree_put(map, 2 * i, i, &old) == BPTREE_ADDED, "put");
+}
+
+/* Puts n keys, the first of which is `first`, into a map of the even keys below 2 * len. Returns how
+   many allocations the call makes. One of them is for room that the call can do without. */
+static long put_many(size_t len, size_t n, uint64_t first, uint64_t step) {
+    static bptree_pair wanted[PAIRS + MANY + 1], left[PAIRS + MANY + 1];
+    bptree map = {0};
+    int hints = 1;
+    long made = 0;
+    make_even(&map, len);
+    for (uint64_t i = 0; i < n; i++) {
+        many_keys[i] = copied_keys[i] = first + i * 7919 % (n + 1) * step;
+        many_values[i] = copied_values[i] = 100000 + i;
+        /* (some keys come twice) */
+        if (i % 9 == 8) many_keys[i] = copied_keys[i] = many_keys[i - 3];
+    }
+    for (bool was_refused = true; was_refused; made += was_refused) {
+        size_t count = bptree_range(&map, 0, wanted, PAIRS + MANY + 1);
+        long were = refusals, held = blocks;
+        must(count == len, "pairs before put_many");
+        until_refusal = made;
+        bool is_stored = bptree_put_many(&map, many_keys, n, many_values, n);
+        until_refusal = -1;
+        must(!memcmp(many_keys, copied_keys, sizeof many_keys), "put_many changes no key of its argument");
+        must(!memcmp(many_values, copied_values, sizeof many_values), "put_many changes no value of its argument");
+        was_refused = refusals != were;
+        if (is_stored) count = after_put_many(wanted, count, n);
+        /* (a tree that had some of the pairs for a time may keep more nodes) */
+        else must(was_refused && blocks >= held, "a put_many that fails frees a block of the map");
+        must(bptree_range(&map, 0, left, PAIRS + MANY + 1) == count && bptree_len(&map) == count, "len behind put_many");
+        must(!memcmp(left, wanted, count * sizeof *left), "pairs behind put_many");
+        if (is_stored && was_refused) {
+            must(hints-- > 0, "put_many without memory");
+            bptree_free(&map);
+            make_even(&map, len);
+        }
+    }
+    bptree_free(&map);
+    must(blocks == 0, "memory is left by put_many");
+    return made;
+}
+
+static void put_many_of_each_size(void) {
+    static const size_t lens[] = {0, 1, 500, PAIRS}, numbers[] = {1, 15, 16, 17, 60, 275, 276, MANY};
+    for (size_t i = 0; i < sizeof lens / sizeof *lens; i++) {
+        for (size_t j = 0; j < sizeof numbers / sizeof *numbers; j++) {
+            /* between all keys, over the keys that are there, and behind them */
+            must(put_many(lens[i], numbers[j], 1, 2 * PAIRS / numbers[j]) > 0, "put_many asks for no memory");
+            put_many(lens[i], numbers[j], 0, 2);
+            must(put_many(lens[i], numbers[j], 2 * PAIRS, 3) > 0, "put_many asks for no memory");
+        }
+        must(put_many(lens[i], 0, 0, 0) == 0, "put_many of none asks for memory");
+    }
+}
+
+/* Calls that need no memory: they ask for none. */
+static void many_without_memory(void) {
+    static uint8_t found[PAIRS];
+    static size_t places[PAIRS];
+    bptree map = {0};
+    must(bptree_new(&map), "new");
+    for (uint64_t i = 0; i < PAIRS; i++) {
+        must(bptree_put(&map, i, i, &old) == BPTREE_ADDED, "put");
+        many_keys[i] = i * 7919 % PAIRS, places[i] = i;
+    }
+    long were = refusals;
+    until_refusal = 0;
+    bptree_get_many(&map, many_keys, PAIRS, many_values, PAIRS, found, PAIRS);
+    bptree_contains_many(&map, many_keys, PAIRS, found, PAIRS);
+    bptree_rank_many(&map, many_keys, PAIRS, places, PAIRS);
+    bptree_at_many(&map, places, PAIRS, copied_keys, PAIRS, copied_values, PAIRS, found, PAIRS);
+    must(bptree_copy(&map, 0, copied_keys, PAIRS, copied_values, PAIRS) == PAIRS, "copy");
+    must(bptree_put_many(&map, many_keys, 0, many_values, 0), "put_many of none");
+    bptree_del_many(&map, many_keys, PAIRS, found, PAIRS);
+    until_refusal = -1;
+    must(refusals == were && bptree_len(&map) == 0, "calls for many keys need no memory");
+    for (size_t i = 0; i < PAIRS; i++) must(found[i] == 1, "del_many");
+    bptree_free(&map);
+    must(blocks == 0, "memory is left by calls for many keys");
 }
 
 int main(void) {
@@ -296,7 +377,8 @@ int main(void) {
     bptree_free(&map);
     must(blocks == 0, "memory is left");
     dict_of_strings();
-    put_many();
+    put_many_of_each_size();
+    many_without_memory();
     printf("%ld allocations failed\nok\n", refusals);
     return 0;
 }

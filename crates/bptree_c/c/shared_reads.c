@@ -28,8 +28,8 @@ static void text_of(uint64_t key, uint8_t *text) {
 
 static void read_numbers(size_t i) {
     bptree_pair pair, some[BLOCK];
-    uint64_t key = key_of(i), value, keys[2] = {key, key + 1}, values[2] = {7, 7};
-    size_t rank, ranks[2], left = pairs - i < BLOCK ? pairs - i : BLOCK, before = i + 1 < BLOCK ? i + 1 : BLOCK;
+    uint64_t key = key_of(i), value, keys[2] = {key, key + 1}, values[2] = {7, 7}, some_keys[BLOCK], some_values[BLOCK];
+    size_t rank, ranks[2], indexes[2] = {i, pairs}, left = pairs - i < BLOCK ? pairs - i : BLOCK, before = i + 1 < BLOCK ? i + 1 : BLOCK;
     uint8_t found[2];
     must(bptree_len(numbers) == pairs);
     must(bptree_contains(numbers, key) && !bptree_contains(numbers, key + 1));
@@ -49,6 +49,14 @@ static void read_numbers(size_t i) {
     must(values[0] == i && values[1] == 7 && found[0] == 1 && found[1] == 0);
     bptree_rank_many(numbers, keys, 2, ranks, 2);
     must(ranks[0] == i && ranks[1] == i + 1);
+    found[0] = found[1] = 7;
+    bptree_contains_many(numbers, keys, 2, found, 2);
+    must(found[0] == 1 && found[1] == 0);
+    keys[0] = keys[1] = values[0] = 7, found[0] = found[1] = 7;
+    bptree_at_many(numbers, indexes, 2, keys, 2, values, 2, found, 2);
+    must(keys[0] == key && values[0] == i && found[0] == 1 && keys[1] == 7 && values[1] == 7 && found[1] == 0);
+    must(bptree_copy(numbers, i, some_keys, BLOCK, some_values, BLOCK) == left);
+    must(some_keys[0] == key && some_values[0] == i && some_keys[left - 1] == key_of(i + left - 1) && some_values[left - 1] == i + left - 1);
 }
 
 static void read_texts(size_t i) {

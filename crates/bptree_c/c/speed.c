@@ -7,7 +7,7 @@
 #include <stdlib.h>
 #include <time.h>
 
-enum { TURNS = 5, CALLS = 12, AT_ONCE = 1000 };
+enum { TURNS = 5, CALLS = 17, AT_ONCE = 1000, NEW = 10000 };
 
 static uint64_t dice = 0x9e3779b97f4a7c15;
 
@@ -34,7 +34,9 @@ static void shuffle(uint64_t *keys, size_t n) {
 }
 
 static const char *names[CALLS] = {"insert", "get", "rank", "at", "next", "range of 64, a pair", "remove", "load, a pair",
-    "get of 1000 at once, a key", "rank of 1000 at once, a key"};
+    "get of 1000 at once, a key", "rank of 1000 at once, a key", "contains of 1000 at once, a key", "at of 1000 at once, a key",
+    "put of 10000 new keys at once, a key", "put of 10000 new keys one by one, a key",
+    "del of these at once, a key", "del of these one by one, a key"};
 static double least[CALLS];
 
 static void took(int call, double start, size_t n) {
@@ -42,12 +44,34 @@ static void took(int call, double start, size_t n) {
     if (!least[call] || each < least[call]) least[call] = each;
 }
 
+/* Keys that are not in a map are put into it and removed again: some at once, and others one by one. */
+static uint64_t measure_new(bptree *map) {
+    static uint64_t keys[NEW], others[NEW], values[NEW];
+    static uint8_t found[NEW];
+    uint64_t sum = 0, old = 0;
+    for (size_t i = 0; i < NEW; i++) keys[i] = roll(), others[i] = roll();
+    double start = now();
+    sum += bptree_put_many(map, keys, NEW, values, NEW);
+    took(12, start, NEW);
+    start = now();
+    for (size_t i = 0; i < NEW; i++) sum += bptree_put(map, others[i], i, &old);
+    took(13, start, NEW);
+    shuffle(keys, NEW), shuffle(others, NEW);
+    start = now();
+    bptree_del_many(map, keys, NEW, found, NEW);
+    took(14, start, NEW);
+    start = now();
+    for (size_t i = 0; i < NEW; i++) sum += bptree_del(map, others[i], &old);
+    took(15, start, NEW);
+    return sum + found[0];
+}
+
 static uint64_t measure(size_t n) {
     uint64_t *keys = malloc(n * sizeof *keys), sum = 0, old = 0;
     bptree_pair *given = malloc(n * sizeof *given), pair, out[64];
-    static uint64_t values[AT_ONCE];
+    static uint64_t values[AT_ONCE], found_keys[AT_ONCE];
     static uint8_t found[AT_ONCE];
-    static size_t ranks[AT_ONCE];
+    static size_t ranks[AT_ONCE], indexes[AT_ONCE];
     if (!keys || !given) exit(2);
     for (size_t i = 0; i < n; i++) keys[i] = roll();
     // A turn of few pairs is over before the processor is at its speed, so they get more of them.
@@ -87,6 +111,20 @@ static uint64_t measure(size_t n) {
             sum += ranks[0];
         }
         took(9, start, n);
+        start = now();
+        for (size_t i = 0; i + AT_ONCE <= n; i += AT_ONCE) {
+            bptree_contains_many(&map, keys + i, AT_ONCE, found, AT_ONCE);
+            sum += found[0];
+        }
+        took(10, start, n);
+        start = now();
+        for (size_t i = 0; i + AT_ONCE <= n; i += AT_ONCE) {
+            for (size_t j = 0; j < AT_ONCE; j++) indexes[j] = keys[i + j] % n;
+            bptree_at_many(&map, indexes, AT_ONCE, found_keys, AT_ONCE, values, AT_ONCE, found, AT_ONCE);
+            sum += found_keys[0] + values[0] + found[0];
+        }
+        took(11, start, n);
+        sum += measure_new(&map);
         shuffle(keys, n);
         start = now();
         for (size_t i = 0; i < n; i++) sum += bptree_del(&map, keys[i], &old);

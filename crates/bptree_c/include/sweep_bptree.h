@@ -94,17 +94,30 @@ size_t bptree_range(const bptree *map, uint64_t from, bptree_pair *out, size_t n
 size_t bptree_range_back(const bptree *map, uint64_t from, bptree_pair *out, size_t n);
 /* A page of n pairs: the first page is 0. */
 size_t bptree_page(const bptree *map, size_t number, bptree_pair *out, size_t n);
+/* From the pair at an index, upward: the keys into one array and the values into another. Both have
+   n members, so n_values is n. */
+size_t bptree_copy(const bptree *map, size_t index, uint64_t *keys, size_t n, uint64_t *values, size_t n_values);
 
-/* Calls for n keys at once. Each of their arrays has n members, and every count of such a call is
-   n. */
+/* Calls for n keys or indexes at once. Each of their arrays has n members, and every count of such a
+   call is n. O(n log m) in a map of m pairs; groups of 16 go down the tree side by side, so that a
+   large map takes about half the time of single calls. */
 /* The value at each key that is there, and a 1 in `found`; for the others `values` is unchanged,
    and `found` has a 0. */
 void bptree_get_many(const bptree *map, const uint64_t *keys, size_t n, uint64_t *values, size_t n_values, uint8_t *found, size_t n_found);
+/* A 1 in `found` for each key that is there, and a 0 for the others. */
+void bptree_contains_many(const bptree *map, const uint64_t *keys, size_t n, uint8_t *found, size_t n_found);
 /* How many keys of the map are smaller than each of the keys. */
 void bptree_rank_many(const bptree *map, const uint64_t *keys, size_t n, size_t *ranks, size_t n_ranks);
-/* Stores each value at its key, one after another. Returns how many were stored: n, or if an
-   allocation failed, those before. */
-size_t bptree_put_many(bptree *map, const uint64_t *keys, size_t n, const uint64_t *values, size_t n_values);
+/* The key and the value at each index, and a 1 in `found`; past the last pair `keys` and `values` are
+   unchanged, and `found` has a 0. */
+void bptree_at_many(const bptree *map, const size_t *indexes, size_t n, uint64_t *keys, size_t n_keys, uint64_t *values, size_t n_values, uint8_t *found, size_t n_found);
+/* Stores each value at its key, all of them or none. False: an allocation failed, and nothing has
+   changed. Of equal keys the last value stays. O(n log n) to sort the keys; then O(n log m) if they
+   are fewer than m / 16, and else O(n + m). */
+bool bptree_put_many(bptree *map, const uint64_t *keys, size_t n, const uint64_t *values, size_t n_values);
+/* Removes the keys: a 1 in `found` for each that was there, and a 0 for the others. Of a key that
+   comes twice, the second one is not there. The call needs no memory and never fails. */
+void bptree_del_many(bptree *map, const uint64_t *keys, size_t n, uint8_t *found, size_t n_found);
 
 /* A map from byte strings to 64-bit numbers, or none. Its caller keeps the same three things as of a
    map of numbers, and its calls cost what those do, with comparisons of keys in place of numbers.

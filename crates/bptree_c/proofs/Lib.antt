@@ -1,5 +1,4 @@
 pub mod BackLemmas
-pub mod BatchLemmas
 pub mod CloneLemmas
 pub mod CopyLemmas
 pub mod Handles

@@ -1,12 +1,15 @@
-//! Calls of a map of numbers for many keys at once.
-ghost use Rattle.std.specs.Prelude.{◌≡◌, ◌≤◌, ℕ, List, Some, length, take};
+//! Calls of a map of numbers for many keys or indexes at once. Groups of 16 go down the tree side by
+//! side, so that the processor waits for the nodes of all of them at once.
+ghost use Rattle.std.specs.Prelude.{◌≡◌, ℕ, List, [], Some, true, false, length, if◌then◌else◌};
 ghost use Rattle.std.specs.Ordering.{nat_cmp};
-ghost use Rattle.bptree_batches.specs.Each.{mark_each, ranked_each, read_each};
-ghost use Rattle.bptree_c.specs.Batch.{put_each};
+ghost use Rattle.bptree_batches.specs.Each.{keys_at_each, mark_at_each, mark_each, ranked_each, read_each, values_at_each};
+ghost use Rattle.bptree_c.specs.Batch.{gone_marks, put_columns};
+ghost use Rattle.bptree_keys.specs.Contents.{del, has};
+ghost use Rattle.bptree_maps.specs.Many.{without_each};
 
 use crate::handle::{Handle, Map};
-use crate::writing::put_in;
-use bptree_batches::many::{mark_many, rank_many};
+use crate::writing::del_in;
+use bptree_batches::many::{copy_index_many, copy_many, mark_many};
 
 /// Writes the value at each given key to `values` at the key's index, and 1 to `found` there. For a
 /// key that is absent `values` is unchanged, and `found` gets 0. Each array has the length of
@@ -26,7 +29,20 @@ pub extern "C" fn bptree_get_many(
     ensures values { values.new ≡ read_each nat_cmp pairs keys.now values.old }
     ensures found { found.new ≡ mark_each nat_cmp pairs 1 0 keys.now }
 {
-    mark_many(&map.peek().pairs, keys, values, found, 1, 0);
+    copy_many(map.peek().pairs.tree().nodes(), keys, values, found, 1, 0);
+}
+
+/// Writes 1 to `found` for each given key that is there, at the key's index, and 0 for each that is
+/// not. `found` has the length of `keys`. It costs what `bptree_get_many` does.
+#[unsafe(no_mangle)]
+pub extern "C" fn bptree_contains_many(map: &mut Handle, keys: &[u64], found: &mut [u8])
+    ghost pairs: { List (ℕ × ℕ) }
+    requires open { map.old.held ≡ Some pairs }
+    requires found { length found.old ≡ length keys.now }
+    ensures kept { map.new.held ≡ Some pairs }
+    ensures found { found.new ≡ mark_each nat_cmp pairs 1 0 keys.now }
+{
+    mark_many(map.peek().pairs.tree().nodes(), keys, found, 1, 0);
 }
 
 /// Writes for each given key the number of smaller keys of the map to `ranks`, which has the length
@@ -39,33 +55,95 @@ pub extern "C" fn bptree_rank_many(map: &mut Handle, keys: &[u64], ranks: &mut [
     ensures kept { map.new.held ≡ Some pairs }
     ensures ranks { ranks.new ≡ ranked_each nat_cmp pairs keys.now }
 {
-    rank_many(&map.peek().pairs, keys, ranks);
+    map.peek().pairs.rank_many(keys, ranks);
 }
 
-/// Stores each value at its key, one after another, and returns how many it stored: all, or those
-/// before the first for which an allocation failed. `values` has the length of `keys`.
+/// Writes the key and the value at each index in the order of the keys to `keys` and `values`, and 1
+/// to `found`. Past the last pair `keys` and `values` are unchanged, and `found` gets 0. Each array
+/// has the length of `indexes`. O(k log n) for k indexes.
 #[unsafe(no_mangle)]
-pub extern "C" fn bptree_put_many(map: &mut Handle, keys: &[u64], values: &[u64]) -> usize
+pub extern "C" fn bptree_at_many(
+    map: &mut Handle,
+    indexes: &[usize],
+    keys: &mut [u64],
+    values: &mut [u64],
+    found: &mut [u8],
+)
+    ghost pairs: { List (ℕ × ℕ) }
+    requires open { map.old.held ≡ Some pairs }
+    requires keys { length keys.old ≡ length indexes.now }
+    requires values { length values.old ≡ length indexes.now }
+    requires found { length found.old ≡ length indexes.now }
+    ensures kept { map.new.held ≡ Some pairs }
+    ensures keys { keys.new ≡ keys_at_each pairs indexes.now keys.old }
+    ensures values { values.new ≡ values_at_each pairs indexes.now values.old }
+    ensures found { found.new ≡ mark_at_each pairs 1 0 indexes.now }
+{
+    let nodes = map.peek().pairs.tree().nodes();
+    copy_index_many(nodes, indexes, keys, values, found, 1, 0);
+}
+
+/// Stores each value at its key, all of them or none: false if an allocation failed, and then the map
+/// is unchanged. Of equal keys the last value stays. `values` has the length of `keys`. Storing no
+/// keys never fails.
+///
+/// O(k log k) to sort k keys. Then it stores them one after another in the order of the keys, if they
+/// are fewer than a sixteenth of the map's, in O(k log n). Else it merges both lists in O(n + k).
+#[unsafe(no_mangle)]
+pub extern "C" fn bptree_put_many(map: &mut Handle, keys: &[u64], values: &[u64]) -> bool
     ghost pairs: { List (ℕ × ℕ) }
     requires open { map.old.held ≡ Some pairs }
     requires values { length values.now ≡ length keys.now }
-    ensures within { result ≤ length keys.now }
-    ensures put { map.new.held ≡ Some (put_each pairs (take result keys.now) values.now) }
+    ensures put { result ≡ true → map.new.held ≡ Some (put_columns pairs keys.now values.now) }
+    ensures no_memory { result ≡ false → map.new.held ≡ Some pairs }
+    ensures sure { keys.now ≡ [] → result ≡ true }
 {
     put_all(map.peek(), keys, values)
 }
 
-fn put_all(map: &mut Map, keys: &[u64], values: &[u64]) -> usize
+fn put_all(map: &mut Map, keys: &[u64], values: &[u64]) -> bool
     requires values { length values.now ≡ length keys.now }
-    ensures within { result ≤ length keys.now }
-    ensures put { map.new ≡ put_each map.old (take result keys.now) values.now }
+    ensures put { result ≡ true → map.new ≡ put_columns map.old keys.now values.now }
+    ensures no_memory { result ≡ false → map.new ≡ map.old }
+    ensures sure { keys.now ≡ [] → result ≡ true }
+{
+    map.pairs.extend_from_columns(keys, values).is_ok()
+}
+
+/// Removes the keys, and writes 1 to `found` for each that was there, at the key's index, and 0 for
+/// each that was not. Of a key that comes twice the second one is not there. `found` has the length
+/// of `keys`. It does not allocate and never fails. O(k log n) for k keys.
+#[unsafe(no_mangle)]
+pub extern "C" fn bptree_del_many(map: &mut Handle, keys: &[u64], found: &mut [u8])
+    ghost pairs: { List (ℕ × ℕ) }
+    requires open { map.old.held ≡ Some pairs }
+    requires found { length found.old ≡ length keys.now }
+    ensures left { map.new.held ≡ Some (without_each nat_cmp pairs keys.now) }
+    ensures found { found.new ≡ gone_marks pairs keys.now found.old }
+{
+    del_all(map.peek(), keys, found);
+}
+
+fn del_all(map: &mut Map, keys: &[u64], found: &mut [u8])
+    requires found { length found.old ≡ length keys.now }
+    ensures left { map.new ≡ without_each nat_cmp map.old keys.now }
+    ensures found { found.new ≡ gone_marks map.old keys.now found.old }
 {
     let mut at = 0;
     while at < keys.len() {
-        if put_in(map, keys[at], values[at]).is_err() {
-            return at;
-        }
+        found[at] = del_mark(map, keys[at]);
         at += 1;
     }
-    at
+}
+
+// Removes a key: 1 if it was there, and 0 if not.
+fn del_mark(map: &mut Map, key: u64) -> u8
+    ensures left { map.new ≡ del nat_cmp map.old key }
+    ensures mark { result ≡ (if has nat_cmp map.old key then 1 else 0) }
+{
+    match del_in(map, key) {
+        Ok(Some(_)) => 1,
+        Ok(None) => 0,
+        Err(_) => unreachable!(),
+    }
 }

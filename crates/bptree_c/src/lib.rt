@@ -10,6 +10,7 @@
 mod batch;
 mod bytes;
 mod callers;
+mod columns;
 mod dict;
 mod dict_callers;
 mod dict_ends;
@@ -27,7 +28,11 @@ mod record;
 mod results;
 mod writing;
 
-pub use batch::{bptree_get_many, bptree_put_many, bptree_rank_many};
+pub use batch::{
+    bptree_at_many, bptree_contains_many, bptree_del_many, bptree_get_many, bptree_put_many,
+    bptree_rank_many,
+};
+pub use columns::bptree_copy;
 pub use dict::{
     bptree_dict_at, bptree_dict_clear, bptree_dict_clone, bptree_dict_contains, bptree_dict_del,
     bptree_dict_first, bptree_dict_free, bptree_dict_get, bptree_dict_last, bptree_dict_len,

@@ -74,7 +74,7 @@ fn pairs_from(map: &Map, key: u64, n: usize) -> Iter<'_, u64, u64, Count>
     part_of(map, start_by(&map.pairs, &Number { key }), n)
 }
 
-fn part_of(map: &Map, index: usize, n: usize) -> Iter<'_, u64, u64, Count>
+pub(crate) fn part_of(map: &Map, index: usize, n: usize) -> Iter<'_, u64, u64, Count>
     ensures { result ≡ part map.now index n }
 {
     match map.pairs.range_by_argument(index, n) {

@@ -54,7 +54,7 @@ pub extern "C" fn bptree_del(map: &mut Handle, key: u64, old: &mut u64) -> u32
     removed_value(del_in(map.peek(), key), old)
 }
 
-fn del_in(map: &mut Map, key: u64) -> Result<Option<u64>, AllocError>
+pub(crate) fn del_in(map: &mut Map, key: u64) -> Result<Option<u64>, AllocError>
     ensures ok { IfOk result (Removes nat_cmp key map.old map.new) }
     ensures absent { has nat_cmp map.old key ≡ false → result ≡ Ok None }
     ensures infallible { IsOk result }

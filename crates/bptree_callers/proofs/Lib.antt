@@ -1,3 +1,4 @@
+pub mod AnswersAt
 pub mod BothEnds
 pub mod CloneSizes
 pub mod EntryLemmas

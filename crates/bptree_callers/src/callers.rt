@@ -8,6 +8,7 @@ mod cursors;
 mod equals;
 mod iteration;
 mod loading;
+mod many;
 mod maps;
 mod moves;
 mod nodes;

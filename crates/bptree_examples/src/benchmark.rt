@@ -3,6 +3,7 @@
 //! Steps of a nanosecond or two are timed in functions of their own, which are not inlined, so that
 //! less hangs on where their loops lie.
 
+mod batches;
 mod counted;
 mod groups;
 mod loaded;
@@ -62,6 +63,7 @@ fn round(rt: &HostRuntime, numbers: Numbers<'_>) -> bool {
         && strings::take::<BTreeMap<String, u64>>(kit, numbers)
         && maps::take(plain, numbers)
         && moves::take(plain, numbers)
+        && batches::take(count, numbers)
         && union::take(plain, numbers)
 }
 

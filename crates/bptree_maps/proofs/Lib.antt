@@ -1,6 +1,7 @@
 pub mod AddingLemmas
 pub mod ExtendingLemmas
 pub mod KeyLemmas
+pub mod ManyLemmas
 pub mod MovingLemmas
 pub mod PlaceLemmas
 pub mod PopLemmas

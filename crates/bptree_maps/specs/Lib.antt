@@ -4,6 +4,8 @@ pub mod Hints
 pub mod KeyBounds
 pub mod KeyChanges
 pub mod Keys
+pub mod Many
+pub mod ManyKeys
 pub mod Moving
 pub mod Places
 pub mod Popping

@@ -35,6 +35,7 @@ mod borrowed;
 mod bounds;
 mod extending;
 mod iter;
+mod many;
 mod moving;
 mod owned;
 mod pages;

@@ -23,6 +23,7 @@ mod extending;
 mod intersection;
 mod joined;
 mod laws;
+mod many;
 mod moving;
 mod retaining;
 mod sifted;

@@ -246,6 +246,13 @@ impl<S: NodeStore> BPlusTree<S> {
         &nodes.store
     }
 
+    /// The nodes, with the store that holds them, for reads of many keys at once. O(1).
+    pub fn nodes(&self) -> &Nodes<S>
+        ensures { result.now ≡ self.now }
+    {
+        &self.nodes
+    }
+
     /// The number of the root.
     pub fn root_id(&self) -> NodeId
         ensures { result ≡ self.now.root }

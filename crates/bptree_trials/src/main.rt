@@ -6,6 +6,7 @@
 //! allocation failed in it. A read must not end within a record.
 #![tactic(auto)]
 
+mod batches;
 mod calls;
 mod commands;
 mod counted;

@@ -11,7 +11,7 @@ use crate::subject::{Subject, no_call};
 use crate::trees::{bound_of, replace, report_visit, says_of};
 use crate::walk::{Steps, bounds, drain, pairs_of, report_step, walk};
 use crate::words::{Report, Words};
-use crate::{moving, nodes};
+use crate::{batches, moving, nodes};
 use bptree_arguments::count::Count;
 use bptree_arguments::group::GroupCount;
 use bptree_arguments::group_size::ExtractGroupSize;
@@ -474,6 +474,7 @@ impl<K: Sample, A: Special<K>> Subject for Maps<K, A> {
             7 => report_visit(map.descend_visit(says_of(record)), words),
             8 => moving::call(alloc, self, record, words),
             9 | 10 => A::call(alloc, map, record, words),
+            13 => batches::call(alloc, map, record, words),
             _ => no_call(words),
         }
     }
@@ -559,6 +560,7 @@ impl<K: Sample> Special<K> for Count {
                 true
             }
             8 => report_found(map.cursor_at(record.a as usize), words).is_some(),
+            9 | 10 => batches::call_counted(alloc, map, record, words).unwrap_or(false),
             _ => no_call(words),
         }
     }

@@ -18,6 +18,12 @@ impl Sample for u64 {
     }
 }
 
+impl Sample for usize {
+    fn sample(_alloc: Global, number: u64) -> Result<usize, AllocError> {
+        Ok(number as usize)
+    }
+}
+
 impl Sample for String {
     fn sample(alloc: Global, number: u64) -> Result<String, AllocError> {
         format!(in alloc; "{number:020}")

@@ -4,7 +4,6 @@ ghost use Rattle.std.specs.Iterator.{IsFinite};
 use crate::calls::{report_if_ok, report_inserted};
 use crate::maps::report_order;
 use crate::moving::{keep_split, report_retained};
-use crate::nodes;
 use crate::record::Record;
 use crate::samples::Sample;
 use crate::sides::{drain_side, walk_side};
@@ -12,6 +11,7 @@ use crate::subject::{Subject, no_call};
 use crate::trees::{bound_of, replace};
 use crate::walk::{bounds, keys_of};
 use crate::words::{Report, Words};
+use crate::{batches, nodes};
 use bptree_sets::set::BPlusTreeSet;
 use std::alloc::{AllocError, Global};
 use std::mem;
@@ -328,6 +328,7 @@ impl<K: Sample> Subject for Sets<K> {
             5 => nodes::call(self.here.tree(), record.member(), record.a, words),
             8 => move_keys(alloc, self, record, words),
             11 => join(self, record.member(), words),
+            13 => batches::call_set(alloc, &mut self.here, record, words),
             _ => no_call(words),
         }
     }

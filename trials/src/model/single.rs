@@ -138,6 +138,7 @@ impl Model {
                 let place = self.here.rank(a) as u64 / size;
                 vec![u64::from(self.here.get(a).is_some()), place]
             }
+            9 | 10 => return Some(self.batch_of_places(record)),
             _ => return None,
         };
         Some(Answer::of(words))

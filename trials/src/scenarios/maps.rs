@@ -1,6 +1,7 @@
 //! Maps that are made, changed, moved, and asked for places, groups and summaries.
 
 use super::Sort;
+use crate::batch::Batch;
 use crate::record::{call, calls, steps, Record, LOWER, UPPER};
 use crate::scenario::{quiet, swept, Scenario, Step};
 
@@ -159,6 +160,58 @@ pub fn extended_len(many: u64) -> usize {
     (many as usize + 13).max(100)
 }
 
+/// Keys of a batch are looked for, and leave a map or a set: the last 30, three of them twice.
+pub fn batch_removed(many: u64) -> Vec<Step> {
+    let last = Batch {
+        many: 33,
+        first: many - 30,
+        step: 7,
+        span: 30,
+        value: 0,
+    };
+    let asks = [1, 2].map(|member| swept(last.call(13, member)));
+    [vec![quiet(calls::load(many, 0))], asks.to_vec()].concat()
+}
+
+/// How many pairs or keys there are after `batch_removed`.
+pub fn batch_removed_len(many: u64) -> usize {
+    many as usize - 30
+}
+
+// Pairs of batches come to a map, by both calls: none; five, of which three are new; and the half
+// of what is there with some new ones, in no order.
+fn batches_put(many: u64) -> Vec<Step> {
+    let batch = |(first, end): (u64, u64)| Batch {
+        many: end - first,
+        first,
+        step: 7,
+        span: end - first,
+        value: 5_000,
+    };
+    let batches = [(0, 0), (many - 2, many + 3), (many / 2, many + 10)].map(batch);
+    let mut all = Vec::new();
+    for member in [3, 4] {
+        all.push(quiet(calls::load(many, 0)));
+        all.extend(batches.map(|batch| swept(batch.call(13, member))));
+    }
+    all
+}
+
+// A map with counts is asked for 17 keys or indexes at once, of which eight are past the last pair.
+fn batches_read(many: u64) -> Vec<Step> {
+    let batch = Batch {
+        many: 17,
+        first: many - 8,
+        step: 5,
+        span: 16,
+        value: 0,
+    };
+    let mut all = vec![quiet(calls::load(many, 0))];
+    let asks = [(13, 0), (13, 1), (9, 9), (9, 10)];
+    all.extend(asks.map(|(family, member)| swept(batch.call(family, member))));
+    all
+}
+
 // A map with the even numbers is asked for the bounds of the first key, of the 64th, which is the
 // last of a full leaf, and of the last one, each with the number behind it.
 fn bounded(many: u64) -> Vec<Step> {
@@ -276,7 +329,13 @@ pub fn all(sort: &Sort) -> Vec<Scenario> {
             all.push(scenario(&end, ranges_removed(many)).ending(1));
             let end = format!(", {word}extended at once");
             all.push(scenario(&end, extended(many)).ending(extended_len(many)));
+            let end = format!(", {word}put in batches");
+            all.push(scenario(&end, batches_put(many)).ending(many as usize + 10));
         }
+        let end = format!(", {word}removed in a batch");
+        all.push(scenario(&end, batch_removed(many)).ending(batch_removed_len(many)));
+        let end = format!("{}, {word}read in batches", sort.counted_keys);
+        all.push(Scenario::new(&end, sort.counted, batches_read(many)).ending(many as usize));
         let many = if many == 150 { 400 } else { many };
         let end = format!(", {word}bounded{memory}");
         all.push(scenario(&end, bounded(many)).ending(many as usize));

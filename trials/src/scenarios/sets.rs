@@ -1,5 +1,6 @@
 //! Sets, and maps over shards.
 
+use super::maps::{batch_removed, batch_removed_len};
 use super::maps::{extended, extended_len, first_to_leave, halved, SIZES};
 use super::Sort;
 use crate::record::{call, calls, LOWER, UPPER};
@@ -101,6 +102,8 @@ pub fn all(sort: &Sort) -> Vec<Scenario> {
             let name = format!("{keys}, {word}keys extended at once");
             all.push(scenario(name, extended(many)).ending(extended_len(many)));
         }
+        let name = format!("{keys}, {word}keys removed in a batch");
+        all.push(scenario(name, batch_removed(many)).ending(batch_removed_len(many)));
     }
     for (many, word) in [(256, "few "), (384, ""), (8576, "many ")] {
         let name = format!("{keys}, {word}over shards");

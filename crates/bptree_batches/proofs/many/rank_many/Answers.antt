@@ -5,10 +5,8 @@ use Rattle.bptree_batches.proofs.many.rank_many.Goals as goal
 
 pub rank_groups-requires-clause-subtree : goal.rank_groups-requires-clause-subtree
 rank_groups-requires-clause-subtree g c =
-    let tree = c.tree-tree.result.now in
-    rw (c.node_store.ensures.value, c.root_id.ensures, c.height.ensures.value)
-    (whole_subtree g.met.K.Ord.total CountsKeys _ tree.height tree.root (length tree.contents) c.node_store.ensures.shape (ap length c.node_store.ensures.contents) c.recall.ensures.fits)
+    let whole = c.recall.ensures.whole in
+    rw (← c.tree.view_is) at (whole_subtree g.met.K.Ord.total CountsKeys _ c.args.tree.now.height c.args.tree.now.root (length c.args.tree.now.contents) whole.shape (ap length whole.contents) c.recall.ensures.fits)
 
 pub returns-clause-ranks : goal.returns-clause-ranks
-returns-clause-ranks g c =
-    rw (← c.tree-tree.ensures, c.node_store.ensures.contents) (rw (c.node_store.ensures.value, c.root_id.ensures, c.height.ensures.value) at c.rank_groups.ensures)
+returns-clause-ranks g c = rw (← c.tree.view_is) c.rank_groups.ensures

@@ -1,16 +1,30 @@
-use Rattle.std.proofs.Common.{◌≡◌, get_or, sym, ap, subst, ◌∙◌, arith}
+use Rattle.std.proofs.Common.{◌≡◌, Ok, get_or, sym, ap, subst, ◌∙◌, arith}
 use Rattle.std.specs.Map.{keys_of}
 use Rattle.bptree_arguments.specs.CountLaws.{count_below}
 use Rattle.bptree_keys.specs.declared.node_id.NodeId.TheVariants.{Inner}
 use Rattle.bptree_shape.specs.Shape.{pairs_at}
 use Rattle.bptree_batches.specs.RankWays.{IsRankWay}
+use Rattle.bptree_batches.specs.Slots.{AreLeavesThere}
 use Rattle.bptree_batches.proofs.EachLemmas.{answered_more, all_answered}
+use Rattle.bptree_batches.proofs.RankSlotLemmas.{slot_of_way, ways_end}
 use Rattle.bptree_batches.proofs.RankWayLemmas.{rank_end}
-use Rattle.bptree_batches.proofs.Split.{zip_at}
+use Rattle.bptree_batches.proofs.Split.{zip_at, zip_length}
 use Rattle.bptree_batches.proofs.ranks.rank_group.Goals as goal
 
-pub rank_in_leaf-requires : goal.rank_in_leaf-requires
-rank_in_leaf-requires g c =
+pub locate_group-requires-clause-there : goal.locate_group-requires-clause-there
+locate_group-requires-clause-there g c =
+    let slots = g.S.NodeStore.slots c.args.store.now in
+    subst (AreLeavesThere slots) (sym c.nodes_of.ensures) (ways_end g.met.S.K.Ord.total slots c.args.height c.args.root c.args.keys.now c.descend_ranks.new.ways c.descend_ranks.ensures)
+
+pub rank_in_leaf-requires-clause-slot : goal.rank_in_leaf-requires-clause-slot
+rank_in_leaf-requires-clause-slot g c =
+    let slots = g.S.NodeStore.slots c.args.store.now in
+    let long = zip_length (IsRankWay g.S.K.Ord.cmp slots c.args.height c.args.root 0 0) c.args.keys.now c.descend_ranks.new.ways c.descend_ranks.ensures in
+    slot_of_way g.met.S.K.Ord.total slots c.keys.at c.descend_ranks.new.ways c.nodes_of.new.nodes c.args.keys.now c.locate_group.new.slots (Inner record { 0 = 0 }, 0) (Inner record { 0 = 0 }) c.index-keys-at.result (Ok 0)
+    (omega (arith, c.keys-test.true, long)) c.keys-test.true c.nodes_of.ensures c.index-keys-at.is c.locate_group.ensures
+
+pub rank_in_leaf-requires-clause-subtree : goal.rank_in_leaf-requires-clause-subtree
+rank_in_leaf-requires-clause-subtree g c =
     let slots = g.S.NodeStore.slots c.args.store.now in
     (zip_at (IsRankWay g.S.K.Ord.cmp slots c.args.height c.args.root 0 0) c.keys.at c.args.keys.now c.descend_ranks.new.ways c.index-keys-at.result (Inner record { 0 = 0 }, 0) c.keys-test.true c.descend_ranks.ensures).subtree
 
