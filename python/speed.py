@@ -30,7 +30,6 @@ except ImportError:
     print("numpy is not installed: no rows of it", file=sys.stderr)
 
 TURNS = 5
-TURNS_OF_ARRAYS = 2
 KEYS = 100000  # in an array
 
 
@@ -125,10 +124,11 @@ def figures_of_arrays(calls, of, n):
     """Nanoseconds for each key or pair: the keys that are put are new ones, and they are removed again."""
     dice = random.Random(7)
     numbers = dice.sample(range(2**62), n + KEYS)
-    all_keys, all_values = of("q", numbers[:n]), of("q", range(n))
-    keys, new = of("q", [dice.choice(numbers[:n]) for _ in range(KEYS)]), of("q", numbers[n:])
+    stored, new = numbers[:n], of("q", numbers[n:])
+    all_keys, all_values = of("q", stored), of("q", range(n))
+    keys = of("q", [dice.choice(stored) for _ in range(KEYS)])
     values, least = of("q", range(KEYS)), {}
-    for _ in range(TURNS_OF_ARRAYS):
+    for _ in range(TURNS):
         map_ = None
         for call, run in calls.items():
             is_whole = call.startswith("from")
